@@ -1,0 +1,30 @@
+-- What a format word says, by its bits.
+use Rattle.std.specs.Prelude.{ℕ, ◌*◌, ◌/◌, ◌%◌, ◌^◌, Bool, not, ◌&&◌, if◌then◌else◌, nat_le, ◌==◌}
+use Rattle.lexical_format.specs.Digits.{is_digit_of_radix}
+
+-- the number in `count` bits, of which `from` is the lowest
+abbrev pub bits : ℕ → ℕ → ℕ → ℕ
+bits word from count = (word / 2 ^ from) % 2 ^ count
+
+abbrev pub bit : ℕ → ℕ → Bool
+bit word place = bits word place 1 == 1
+
+abbrev pub separator : ℕ → ℕ
+separator word = bits word 64 8
+
+abbrev pub mantissa_radix : ℕ → ℕ
+mantissa_radix word = bits word 104 8
+
+-- a zero stands for the mantissa radix
+abbrev pub exponent_radix : ℕ → ℕ
+exponent_radix word = if bits word 120 8 == 0 then mantissa_radix word else bits word 120 8
+
+-- the thirteen flags, in place
+abbrev pub separator_flags : ℕ → ℕ
+separator_flags word = bits word 32 13 * 2 ^ 32
+
+-- the mantissa radix has digits, and the separator is none of them
+abbrev pub is_supported : ℕ → Bool
+is_supported word =
+    nat_le 2 (mantissa_radix word) && nat_le (mantissa_radix word) 36
+    && not (is_digit_of_radix (mantissa_radix word) (separator word))

@@ -1,0 +1,176 @@
+//! The format word: the byte that separates digits, the flags that say where such separators are
+//! dropped, and the radixes.
+//!
+//! | Bits | Field |
+//! |---|---|
+//! | 32, 33, 34 | internal: integer, fraction, exponent |
+//! | 35, 36, 37 | leading: integer, fraction, exponent |
+//! | 38, 39, 40 | trailing: integer, fraction, exponent |
+//! | 41, 42, 43 | consecutive: integer, fraction, exponent |
+//! | 44 | special |
+//! | 64 to 71 | separator, a byte; zero means none |
+//! | 104 to 111 | mantissa radix |
+//! | 120 to 127 | exponent radix; zero means the mantissa radix |
+//!
+//! No other bit is read. The names are those of lexical-util's number formats; the places of the
+//! bits are this crate's own. Radix 10 with the separator `_` between the digits of the integer is
+//! `(10 << 104) | (0x5f << 64) | INTEGER_INTERNAL_DIGIT_SEPARATOR`.
+#![tactic(auto)]
+
+ghost use Rattle.std.specs.Prelude.{◌≡◌};
+ghost use Rattle.lexical_format.specs.Word.{bit, separator, mantissa_radix, exponent_radix, separator_flags, is_supported};
+
+mod digit;
+#[cfg(test)]
+mod tests;
+
+pub use digit::{char_is_digit_const, char_to_digit_const};
+
+/// Drops the integer's internal separators: those between digits.
+pub const INTEGER_INTERNAL_DIGIT_SEPARATOR: u128 = 1 << 32;
+/// Drops the fraction's internal separators: those between digits.
+pub const FRACTION_INTERNAL_DIGIT_SEPARATOR: u128 = 1 << 33;
+/// Drops the exponent's internal separators: those between digits.
+pub const EXPONENT_INTERNAL_DIGIT_SEPARATOR: u128 = 1 << 34;
+
+/// Drops the integer's leading separators: those with no digit before them.
+pub const INTEGER_LEADING_DIGIT_SEPARATOR: u128 = 1 << 35;
+/// Drops the fraction's leading separators: those with no digit before them.
+pub const FRACTION_LEADING_DIGIT_SEPARATOR: u128 = 1 << 36;
+/// Drops the exponent's leading separators: those with no digit before them.
+pub const EXPONENT_LEADING_DIGIT_SEPARATOR: u128 = 1 << 37;
+
+/// Drops the integer's trailing separators: those with no digit behind them.
+pub const INTEGER_TRAILING_DIGIT_SEPARATOR: u128 = 1 << 38;
+/// Drops the fraction's trailing separators: those with no digit behind them.
+pub const FRACTION_TRAILING_DIGIT_SEPARATOR: u128 = 1 << 39;
+/// Drops the exponent's trailing separators: those with no digit behind them.
+pub const EXPONENT_TRAILING_DIGIT_SEPARATOR: u128 = 1 << 40;
+
+/// Judges a run of the integer's separators as a single one. Alone it drops nothing.
+pub const INTEGER_CONSECUTIVE_DIGIT_SEPARATOR: u128 = 1 << 41;
+/// Judges a run of the fraction's separators as a single one. Alone it drops nothing.
+pub const FRACTION_CONSECUTIVE_DIGIT_SEPARATOR: u128 = 1 << 42;
+/// Judges a run of the exponent's separators as a single one. Alone it drops nothing.
+pub const EXPONENT_CONSECUTIVE_DIGIT_SEPARATOR: u128 = 1 << 43;
+
+/// Drops every separator of a special value, such as `nan`.
+pub const SPECIAL_DIGIT_SEPARATOR: u128 = 1 << 44;
+
+/// The integer's four flags: bits 32, 35, 38 and 41.
+pub const INTEGER_DIGIT_SEPARATOR_FLAG_MASK: u128 = INTEGER_INTERNAL_DIGIT_SEPARATOR
+    | INTEGER_LEADING_DIGIT_SEPARATOR
+    | INTEGER_TRAILING_DIGIT_SEPARATOR
+    | INTEGER_CONSECUTIVE_DIGIT_SEPARATOR;
+/// The fraction's four flags: bits 33, 36, 39 and 42.
+pub const FRACTION_DIGIT_SEPARATOR_FLAG_MASK: u128 = FRACTION_INTERNAL_DIGIT_SEPARATOR
+    | FRACTION_LEADING_DIGIT_SEPARATOR
+    | FRACTION_TRAILING_DIGIT_SEPARATOR
+    | FRACTION_CONSECUTIVE_DIGIT_SEPARATOR;
+/// The exponent's four flags: bits 34, 37, 40 and 43.
+pub const EXPONENT_DIGIT_SEPARATOR_FLAG_MASK: u128 = EXPONENT_INTERNAL_DIGIT_SEPARATOR
+    | EXPONENT_LEADING_DIGIT_SEPARATOR
+    | EXPONENT_TRAILING_DIGIT_SEPARATOR
+    | EXPONENT_CONSECUTIVE_DIGIT_SEPARATOR;
+/// All thirteen flags: bits 32 to 44.
+pub const DIGIT_SEPARATOR_FLAG_MASK: u128 = 0x1FFF << 32;
+
+/// The word of plain decimal numbers: radix 10, no separator, no flags.
+pub const STANDARD: u128 = 10 << 104;
+
+// No flag belongs to two components, and there is none but these thirteen.
+const _: () = prove!(INTEGER_DIGIT_SEPARATOR_FLAG_MASK & FRACTION_DIGIT_SEPARATOR_FLAG_MASK == 0);
+
+const _: () = prove!(INTEGER_DIGIT_SEPARATOR_FLAG_MASK & EXPONENT_DIGIT_SEPARATOR_FLAG_MASK == 0);
+
+const _: () = prove!(FRACTION_DIGIT_SEPARATOR_FLAG_MASK & EXPONENT_DIGIT_SEPARATOR_FLAG_MASK == 0);
+
+const _: () = prove!(
+    DIGIT_SEPARATOR_FLAG_MASK
+        == INTEGER_DIGIT_SEPARATOR_FLAG_MASK
+            | FRACTION_DIGIT_SEPARATOR_FLAG_MASK
+            | EXPONENT_DIGIT_SEPARATOR_FLAG_MASK
+            | SPECIAL_DIGIT_SEPARATOR
+);
+
+/// What a format word says. Any word may be asked; [`is_supported`] tells whether digits can be
+/// read by it.
+///
+/// This is lexical-util's `NumberFormat`, which has the word as a const parameter in place of a
+/// field.
+#[derive(Clone, Copy, Debug, PartialEq, Eq)]
+pub struct NumberFormat {
+    /// The word itself, with all of its bits.
+    pub word: u128,
+}
+
+impl NumberFormat {
+    /// The format of a word, of any bits. This call is the crate's own.
+    #[inline(always)]
+    pub fn new(word: u128) -> NumberFormat
+        ensures { result.word ≡ word }
+    {
+        NumberFormat { word }
+    }
+
+    /// The byte that separates digits: bits 64 to 71. Zero means that no byte does.
+    #[inline(always)]
+    pub fn digit_separator(&self) -> u8
+        ensures { result ≡ separator self.now.word }
+    {
+        ((self.word >> 64) & 0xFF) as u8
+    }
+
+    /// The mantissa radix: bits 104 to 111.
+    #[inline(always)]
+    pub fn mantissa_radix(&self) -> u32
+        ensures { result ≡ mantissa_radix self.now.word }
+    {
+        ((self.word >> 104) & 0xFF) as u32
+    }
+
+    /// The exponent radix: bits 120 to 127; where they are zero, the mantissa radix.
+    #[inline(always)]
+    pub fn exponent_radix(&self) -> u32
+        ensures { result ≡ exponent_radix self.now.word }
+    {
+        let radix = ((self.word >> 120) & 0xFF) as u32;
+        if radix == 0 {
+            self.mantissa_radix()
+        } else {
+            radix
+        }
+    }
+
+    /// The thirteen flags, bits 32 to 44, each in its place; every other bit of the answer is zero.
+    #[inline(always)]
+    #[tactic(auto, using(crate::proofs::Flags::and_flags))]
+    pub fn digit_separator_flags(&self) -> u128
+        ensures { result ≡ separator_flags self.now.word }
+    {
+        self.word & DIGIT_SEPARATOR_FLAG_MASK
+    }
+
+    /// Whether the separators of special values are dropped: bit 44.
+    #[inline(always)]
+    #[tactic(auto, using(crate::proofs::Flags::special_test))]
+    pub fn special_digit_separator(&self) -> bool
+        ensures { result ≡ bit self.now.word 44 }
+    {
+        self.word & SPECIAL_DIGIT_SEPARATOR != 0
+    }
+}
+
+/// Whether digits can be read by this word: its mantissa radix is 2 to 36, and its separator is no
+/// digit of that radix. A separator of zero, a sign, and each byte from 128 on are fine; flags and
+/// the exponent radix aren't looked at.
+///
+/// This call is the crate's own: whoever reads digits by a word asks it first.
+#[inline(always)]
+pub fn is_supported(word: u128) -> bool
+    ensures { result ≡ is_supported word }
+{
+    let format = NumberFormat::new(word);
+    let radix = format.mantissa_radix();
+    (2..=36).contains(&radix) && !char_is_digit_const(format.digit_separator(), radix)
+}

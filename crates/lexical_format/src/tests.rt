@@ -1,0 +1,191 @@
+use super::*;
+
+const FLAGS: [u128; 13] = [
+    INTEGER_INTERNAL_DIGIT_SEPARATOR,
+    FRACTION_INTERNAL_DIGIT_SEPARATOR,
+    EXPONENT_INTERNAL_DIGIT_SEPARATOR,
+    INTEGER_LEADING_DIGIT_SEPARATOR,
+    FRACTION_LEADING_DIGIT_SEPARATOR,
+    EXPONENT_LEADING_DIGIT_SEPARATOR,
+    INTEGER_TRAILING_DIGIT_SEPARATOR,
+    FRACTION_TRAILING_DIGIT_SEPARATOR,
+    EXPONENT_TRAILING_DIGIT_SEPARATOR,
+    INTEGER_CONSECUTIVE_DIGIT_SEPARATOR,
+    FRACTION_CONSECUTIVE_DIGIT_SEPARATOR,
+    EXPONENT_CONSECUTIVE_DIGIT_SEPARATOR,
+    SPECIAL_DIGIT_SEPARATOR,
+];
+
+fn word_of(mantissa_radix: u8, separator: u8) -> u128 {
+    (u128::from(mantissa_radix) << 104) | (u128::from(separator) << 64)
+}
+
+#[test]
+fn the_flags_are_bits_32_to_44_in_order(rt: HostRuntime) {
+    let mut expected: u128 = 0x1_0000_0000;
+    for flag in FLAGS {
+        assert_eq!(rt; flag, expected);
+        expected = expected.wrapping_mul(2);
+    }
+}
+
+#[test]
+fn each_mask_has_the_bits_of_its_flags(rt: HostRuntime) {
+    assert_eq!(rt; INTEGER_DIGIT_SEPARATOR_FLAG_MASK, 0x249 << 32);
+    assert_eq!(rt; FRACTION_DIGIT_SEPARATOR_FLAG_MASK, 0x492 << 32);
+    assert_eq!(rt; EXPONENT_DIGIT_SEPARATOR_FLAG_MASK, 0x924 << 32);
+    assert_eq!(rt; DIGIT_SEPARATOR_FLAG_MASK, 0x1FFF << 32);
+}
+
+#[test]
+fn a_word_is_read_field_by_field(rt: HostRuntime) {
+    let word = (10 << 104) | (0x5f << 64) | (1 << 32);
+    let format = NumberFormat::new(word);
+    assert_eq!(rt; format, NumberFormat { word });
+    assert_eq!(rt; format.digit_separator(), b'_');
+    assert_eq!(rt; format.mantissa_radix(), 10);
+    assert_eq!(rt; format.exponent_radix(), 10);
+    assert_eq!(rt;
+        format.digit_separator_flags(),
+        INTEGER_INTERNAL_DIGIT_SEPARATOR
+    );
+    assert!(rt; !format.special_digit_separator());
+    assert!(rt; is_supported(word));
+}
+
+#[test]
+fn the_standard_word_has_radix_10_and_nothing_else(rt: HostRuntime) {
+    let format = NumberFormat::new(STANDARD);
+    assert_eq!(rt; format.digit_separator(), 0);
+    assert_eq!(rt; format.mantissa_radix(), 10);
+    assert_eq!(rt; format.exponent_radix(), 10);
+    assert_eq!(rt; format.digit_separator_flags(), 0);
+    assert!(rt; !format.special_digit_separator());
+    assert!(rt; is_supported(STANDARD));
+}
+
+#[test]
+fn a_word_of_ones_has_every_flag_and_no_bit_beside_them(rt: HostRuntime) {
+    let format = NumberFormat::new(u128::MAX);
+    assert_eq!(rt; format.digit_separator(), 0xFF);
+    assert_eq!(rt; format.mantissa_radix(), 255);
+    assert_eq!(rt; format.exponent_radix(), 255);
+    assert_eq!(rt; format.digit_separator_flags(), 0x1FFF << 32);
+    assert!(rt; format.special_digit_separator());
+    assert!(rt; !is_supported(u128::MAX));
+}
+
+#[test]
+fn a_zero_exponent_radix_stands_for_the_mantissa_radix(rt: HostRuntime) {
+    let hexadecimal = word_of(16, b'_');
+    assert_eq!(rt; NumberFormat::new(hexadecimal).exponent_radix(), 16);
+    assert_eq!(rt;
+        NumberFormat::new(hexadecimal | (10 << 120)).exponent_radix(),
+        10
+    );
+    assert_eq!(rt;
+        NumberFormat::new(hexadecimal | (10 << 120)).mantissa_radix(),
+        16
+    );
+}
+
+#[test]
+fn a_radix_has_to_be_2_to_36(rt: HostRuntime) {
+    for radix in 0..=u8::MAX {
+        let expected = !matches!(radix, 0 | 1 | 37..=255);
+        assert_eq!(rt;
+            is_supported(word_of(radix, b'_')),
+            expected,
+            "radix {radix}"
+        );
+    }
+}
+
+#[test]
+fn a_separator_may_be_no_digit(rt: HostRuntime) {
+    for (radix, separator, expected) in [
+        (16, b'a', false),
+        (10, b'9', false),
+        (2, b'9', true),
+        (10, b'+', true),
+        (10, 0xFF, true),
+        (10, 0, true),
+    ] {
+        let word = word_of(radix, separator);
+        assert_eq!(rt;
+            is_supported(word),
+            expected,
+            "{separator} in radix {radix}"
+        );
+        assert_eq!(rt;
+            is_supported(word | DIGIT_SEPARATOR_FLAG_MASK),
+            expected,
+            "with flags"
+        );
+    }
+}
+
+#[test]
+fn digits_end_at_their_borders(rt: HostRuntime) {
+    for (byte, expected) in [
+        (b'/', None),
+        (b'0', Some(0)),
+        (b'9', Some(9)),
+        (b':', None),
+        (b'@', None),
+        (b'A', Some(10)),
+        (b'Z', Some(35)),
+        (b'[', None),
+        (b'`', None),
+        (b'a', Some(10)),
+        (b'z', Some(35)),
+        (b'{', None),
+        (0x80, None),
+        (0xFF, None),
+    ] {
+        for radix in [36, 37, u32::MAX] {
+            assert_eq!(rt;
+                char_to_digit_const(byte, radix),
+                expected,
+                "{byte} in {radix}"
+            );
+            assert_eq!(rt;
+                char_is_digit_const(byte, radix),
+                expected.is_some(),
+                "{byte} in {radix}"
+            );
+        }
+        assert_eq!(rt; char_to_digit_const(byte, 0), None, "{byte} in radix 0");
+        assert!(rt; !char_is_digit_const(byte, 0), "{byte} in radix 0");
+    }
+}
+
+#[test]
+fn a_digit_is_below_its_radix(rt: HostRuntime) {
+    for (radix, byte, expected) in [
+        (1, b'0', Some(0)),
+        (1, b'1', None),
+        (2, b'1', Some(1)),
+        (2, b'2', None),
+        (10, b'9', Some(9)),
+        (10, b'A', None),
+        (10, b'a', None),
+        (16, b'F', Some(15)),
+        (16, b'G', None),
+        (16, b'f', Some(15)),
+        (16, b'g', None),
+        (35, b'Z', None),
+        (35, b'z', None),
+    ] {
+        assert_eq!(rt;
+            char_to_digit_const(byte, radix),
+            expected,
+            "{byte} in {radix}"
+        );
+        assert_eq!(rt;
+            char_is_digit_const(byte, radix),
+            expected.is_some(),
+            "{byte} in {radix}"
+        );
+    }
+}
