@@ -1,0 +1,12 @@
+pub mod Runs
+pub mod Drain
+pub mod Grants
+pub mod Looking
+pub mod Sides
+pub mod Spans
+pub mod Owing
+pub mod Supported
+pub mod Walk
+pub mod Items
+pub mod Zeros
+pub mod Headline

@@ -1,0 +1,233 @@
+-- The call table: what each call answers, and the state that it leaves. No row scans, steps or loops.
+use Rattle.std.specs.Prelude.{◌≡◌, ℕ, ◌+◌, ◌≤◌, ◌==◌, ◌&&◌, ◌||◌, Bool, true, false, not, if◌then◌else◌, nat_lt, nat_le, List, [], ◌∷◌, length, drop, count_by, slice_get, slice_index, Option, Some, None, is_none, is_some, MatchOption, option_copied}
+use Rattle.std.specs.Borrow.{Bor}
+use Rattle.std.specs.Int.{w32, w64}
+use Rattle.lexical_format.specs.Word.{separator}
+use Rattle.lexical_digits.specs.declared.skip.component.Component.{Component}
+use Rattle.lexical_digits.specs.declared.skip.component.Component.TheVariants.{Integer, Fraction, Exponent, Special}
+use Rattle.lexical_digits.specs.Separators.{is_digit, is_separator, place, drain, zeros, past_zeros}
+use Rattle.lexical_digits.specs.State.{State, with_cursor, rule, own, with_own, has_no_separator, is_contiguous, counts, raised, saturating, count_after, count_of_all, current_count, cut_end, cut}
+use Rattle.lexical_digits.specs.Cursor.{passes, byte_if, is_value, next_number}
+
+-- ---- what the iterator of a component finds and leaves
+
+-- the place, and the byte there
+unfoldable pub place_of : Component → State → ℕ
+place_of k s = place (rule k s) s.buffer s.cursor (own k s)
+
+abbrev pub peeked : Component → State → Option ℕ
+peeked k s = slice_get s.buffer (place_of k s)
+
+-- `peek` moves the cursor to the place
+abbrev pub settled : Component → State → State
+settled k s = with_cursor s (place_of k s)
+
+-- a read that is not counted passes the byte there
+abbrev pub passed : Component → State → State
+passed k s = with_cursor s (place_of k s + 1)
+
+-- `increment_count`
+abbrev pub counted : Component → State → State
+counted k s = with_own k s (raised (own k s))
+
+-- `next` passes the byte at the place, and counts a digit
+unfoldable pub taken : Component → State → State
+taken k s =
+    let p = place_of k s in
+    if nat_lt p (length s.buffer)
+    then with_cursor (with_own k s (count_after (rule k s) (counts k s.word) (slice_index s.buffer p) (own k s))) (p + 1)
+    else settled k s
+
+-- the bytes that `next` answers until None, and the state that it leaves then
+abbrev pub drain_of : Component → State → List ℕ
+drain_of k s = drain (rule k s) s.buffer s.cursor (own k s)
+
+abbrev pub own_after : Component → State → ℕ
+own_after k s = if counts k s.word then saturating (own k s) (count_by (is_digit (rule k s)) (drop s.cursor s.buffer)) else own k s
+
+unfoldable pub drained : Component → State → State
+drained k s = with_cursor (with_own k s (own_after k s)) (length s.buffer)
+
+-- zeros that are read one after another, each counted, and the state past them
+abbrev pub zeros_of : Component → State → ℕ
+zeros_of k s = zeros (rule k s) s.buffer s.cursor (own k s)
+
+abbrev pub past_zeros_of : Component → State → State
+past_zeros_of k s = with_cursor (with_own k s (saturating (own k s) (zeros_of k s))) (past_zeros (rule k s) s.buffer s.cursor (own k s))
+
+-- `take_n`: the view, and what is left
+unfoldable pub view : Component → State → ℕ → Option State
+view k s n = if is_contiguous k s.word then Some (cut s (cut_end s n)) else None
+
+unfoldable pub after_view : Component → State → ℕ → State
+after_view k s n = if is_contiguous k s.word then with_cursor s (cut_end s n) else s
+
+-- A call of `next` from s to t: it answers the byte at the place and leaves `taken`; what it answers is the first of what
+-- the filter keeps, or None where that is nothing; the whole drain leaves the same state from s and from t.
+pub record Takes (k : Component) (s t : State) (result : Option (Bor ℕ)) : Type 0 where
+  pub byte : option_copied result ≡ peeked k s
+  pub takes : t ≡ taken k s
+  pub drains : MatchOption result ((drain_of k s ≡ []) × (drain_of k t ≡ [])) (λ item. drain_of k s ≡ item.now ∷ drain_of k t)
+  pub leaves : drained k t ≡ drained k s
+  pub ends : MatchOption result (t ≡ drained k s) (λ item. s.cursor ≤ t.cursor)
+
+-- ---- calls by their names
+
+-- what is called: a `Bytes`, or the iterator of a component over it
+pub data Part : Type 0 where
+  OnBytes : Part
+  On : Component → Part
+
+pub data Call : Type 0 where
+  AsSlice : Call
+  GetBuffer : Call
+  BufferLength : Call
+  IsBufferEmpty : Call
+  Cursor : Call
+  SetCursor : ℕ → Call
+  CurrentCount : Call
+  IsContiguous : Call
+  First : Call
+  FirstIsCased : ℕ → Call
+  FirstIsUncased : ℕ → Call
+  FirstIs : ℕ → Bool → Call
+  StepBy : ℕ → Call
+  Step : Call
+  PeekU32 : Call
+  PeekU64 : Call
+  IsConsumed : Call
+  IncrementCount : Call
+  Peek : Call
+  TryRead : Call
+  Next : Call
+  PeekIsCased : ℕ → Call
+  PeekIsUncased : ℕ → Call
+  PeekIs : ℕ → Bool → Call
+  ReadIfEqual : ℕ → Call
+  ReadIfNever : Call
+  ReadIfValueCased : ℕ → Call
+  ReadIfValueUncased : ℕ → Call
+  ReadIfValue : ℕ → Bool → Call
+  SkipZeros : Call
+  IsDigit : ℕ → Call
+  IsSign : ℕ → Call
+  IsDigitSeparator : ℕ → Call
+  TakeN : ℕ → Call
+
+-- `Span` has both ends in the buffer, and `View` the length and cursor of a view
+pub data Answer : Type 0 where
+  Span : ℕ → ℕ → Answer
+  Count : ℕ → Answer
+  Flag : Bool → Answer
+  Done : Answer
+  Byte : Option ℕ → Answer
+  Four : Option ℕ → Answer
+  Eight : Option ℕ → Answer
+  View : Option (ℕ × ℕ) → Answer
+  Refused : Answer
+
+-- an answer, and the state left
+pub record Row : Type 0 where
+  pub answer : Answer
+  pub state : State
+
+abbrev pub row : Answer → State → Row
+row a s = record { answer = a; state = s }
+
+-- ---- the rows of every part
+
+abbrev pub contiguous_on : Part → State → Bool
+contiguous_on OnBytes s = has_no_separator s.word
+contiguous_on (On k) s = is_contiguous k s.word
+
+abbrev pub count_on : Part → State → ℕ
+count_on OnBytes s = count_of_all s
+count_on (On k) s = current_count k s
+
+-- the byte at the cursor
+abbrev pub first : State → Option ℕ
+first s = slice_get s.buffer s.cursor
+
+-- a step stays in the buffer; where bytes may be passed over, it goes one byte at most, and not over a separator
+abbrev pub may_step : Part → ℕ → State → Bool
+may_step part n s =
+    nat_le (s.cursor + n) (length s.buffer)
+    && (contiguous_on part s || (n == 0) || ((n == 1) && not (passes (is_separator (separator s.word)) (first s))))
+
+-- a call within its condition, and else a refusal that changes nothing
+abbrev pub within : Bool → State → State → Row
+within true s t = row Done t
+within false s t = row Refused s
+
+-- a read of the byte at the place where it passes
+abbrev pub read_where : Component → State → Option ℕ → Row
+read_where k s read = row (Byte read) (if is_some read then passed k s else settled k s)
+
+abbrev pub told_view : Option State → Option (ℕ × ℕ)
+told_view None = None
+told_view (Some s) = Some (length s.buffer, s.cursor)
+
+-- ---- the table
+
+-- `take_n` is on the components that count
+abbrev pub view_row : Component → ℕ → State → Row
+view_row Special n s = row Refused s
+view_row Integer n s = row (View (told_view (view Integer s n))) (after_view Integer s n)
+view_row Fraction n s = row (View (told_view (view Fraction s n))) (after_view Fraction s n)
+view_row Exponent n s = row (View (told_view (view Exponent s n))) (after_view Exponent s n)
+
+-- the calls that every part has
+abbrev pub shared_row : Part → Call → State → Row
+shared_row part AsSlice s = row (Span s.cursor (length s.buffer)) s
+shared_row part GetBuffer s = row (Span 0 (length s.buffer)) s
+shared_row part BufferLength s = row (Count (length s.buffer)) s
+shared_row part IsBufferEmpty s = row (Flag (s.cursor == length s.buffer)) s
+shared_row part Cursor s = row (Count s.cursor) s
+shared_row part (SetCursor i) s = within (nat_le i (length s.buffer)) s (with_cursor s i)
+shared_row part CurrentCount s = row (Count (count_on part s)) s
+shared_row part IsContiguous s = row (Flag (contiguous_on part s)) s
+shared_row part First s = row (Byte (first s)) s
+shared_row part (FirstIsCased v) s = row (Flag (passes (is_value v true) (first s))) s
+shared_row part (FirstIsUncased v) s = row (Flag (passes (is_value v false) (first s))) s
+shared_row part (FirstIs v is_cased) s = row (Flag (passes (is_value v is_cased) (first s))) s
+shared_row part (StepBy n) s = within (may_step part n s) s (with_cursor s (s.cursor + n))
+shared_row part Step s = within (may_step part 1 s) s (with_cursor s (s.cursor + 1))
+shared_row part PeekU32 s = row (Four (next_number w32 (contiguous_on part s) (drop s.cursor s.buffer))) s
+shared_row part PeekU64 s = row (Eight (next_number w64 (contiguous_on part s) (drop s.cursor s.buffer))) s
+shared_row part call s = row Refused s
+
+-- and the calls that the iterators alone have
+abbrev pub row_of : Part → Call → State → Row
+row_of (On k) IsConsumed s = row (Flag (is_none (peeked k s))) (settled k s)
+row_of (On k) IncrementCount s = row Done (counted k s)
+row_of (On k) Peek s = row (Byte (peeked k s)) (settled k s)
+row_of (On k) TryRead s = read_where k s (peeked k s)
+row_of (On k) Next s = row (Byte (peeked k s)) (taken k s)
+row_of (On k) (PeekIsCased v) s = row (Flag (passes (is_value v true) (peeked k s))) (settled k s)
+row_of (On k) (PeekIsUncased v) s = row (Flag (passes (is_value v false) (peeked k s))) (settled k s)
+row_of (On k) (PeekIs v is_cased) s = row (Flag (passes (is_value v is_cased) (peeked k s))) (settled k s)
+row_of (On k) (ReadIfEqual v) s = read_where k s (byte_if (is_value v true) (peeked k s))
+row_of (On k) ReadIfNever s = read_where k s None
+row_of (On k) (ReadIfValueCased v) s = read_where k s (byte_if (is_value v true) (peeked k s))
+row_of (On k) (ReadIfValueUncased v) s = read_where k s (byte_if (is_value v false) (peeked k s))
+row_of (On k) (ReadIfValue v is_cased) s = read_where k s (byte_if (is_value v is_cased) (peeked k s))
+row_of (On k) SkipZeros s = row (Count (zeros_of k s)) (past_zeros_of k s)
+row_of (On k) (IsDigit v) s = row (Flag (is_digit (rule k s) v)) s
+row_of (On k) (IsSign v) s = row (Flag ((v == 43) || (v == 45))) s
+row_of (On k) (IsDigitSeparator v) s = row (Flag (is_separator (separator s.word) v)) s
+row_of (On k) (TakeN n) s = view_row k n s
+row_of part call s = shared_row part call s
+
+-- ---- a run of calls
+
+-- one after another: each answer, and the state in the end
+pub record Ran : Type 0 where
+  pub answers : List Answer
+  pub state : State
+
+abbrev pub run_of : State → List (Part × Call) → Ran
+run_of s [] = record { answers = []; state = s }
+run_of s (call ∷ calls) =
+    let first = row_of call.0 call.1 s in
+    let rest = run_of first.state calls in
+    record { answers = first.answer ∷ rest.answers; state = rest.state }

@@ -1,0 +1,129 @@
+-- Remembered runs of separators, and what looking at bytes costs.
+use Rattle.std.specs.Prelude.{◌≡◌, ⊤, ℕ, zero, suc, ◌+◌, ◌-◌, ◌*◌, ◌^◌, ◌<◌, ◌≤◌, min, Bool, true, false, not, ◌&&◌, if◌then◌else◌, nat_lt, nat_le, Option, Some, None, is_some, List, length, slice_get, ℤ, pos, ◌-ℤ◌, ◌+ℤ◌, ◌≤ℤ◌}
+use Rattle.std.specs.Option.{option_map_or}
+use Rattle.std.specs.Borrow.{Bor}
+use Rattle.lexical_digits.specs.declared.skip.decision.Rule.{Rule}
+use Rattle.lexical_digits.specs.declared.skip.decision.Run.{Run}
+use Rattle.lexical_digits.specs.declared.skip.component.Component.{Component}
+use Rattle.lexical_digits.specs.Separators.{class, is_separator, left_side, right_side, kept, place}
+use Rattle.lexical_digits.specs.State.{State, IsState, rule}
+use Rattle.lexical_digits.specs.CallTable.{peeked, Takes}
+
+-- ---- a remembered run
+
+-- whether a position holds that separator, whatever the digits are
+unfoldable pub separator_at : ℕ → List ℕ → ℕ → Bool
+separator_at separator buffer q = option_map_or (is_separator separator) (slice_get buffer q) false
+
+-- a maximal run: separators stand at from..to, at least one, with none before and none behind them
+pub record IsRun (separator : ℕ) (buffer : List ℕ) (from to : ℕ) : Type 0 where
+  pub some : from < to
+  pub within : to ≤ length buffer
+  pub all : (k : ℕ) → from ≤ k → k < to → separator_at separator buffer k ≡ true
+  pub before : (k : ℕ) → k + 1 ≡ from → separator_at separator buffer k ≡ false
+  pub behind : separator_at separator buffer to ≡ false
+
+abbrev pub IsRunOrNone : ℕ → List ℕ → Option Run → Type 0
+IsRunOrNone separator buffer None = ⊤
+IsRunOrNone separator buffer (Some run) = IsRun separator buffer run.from run.to
+
+-- whether a position is in the run
+abbrev pub run_holds : Option Run → ℕ → Bool
+run_holds None at = false
+run_holds (Some run) at = nat_le run.from at && nat_lt at run.to
+
+abbrev pub run_length : Option Run → ℕ
+run_length None = 0
+run_length (Some run) = run.to - run.from
+
+-- whether the run of a position has to be looked for
+abbrev pub scans : Rule → List ℕ → ℕ → Option Run → Bool
+scans rule buffer at run = rule.consecutive && separator_at rule.separator buffer at && not (run_holds run at)
+
+-- ---- the sides of a separator
+
+-- the byte before a position, if there is one
+abbrev pub slice_before : List ℕ → ℕ → Option ℕ
+slice_before buffer zero = None
+slice_before buffer (suc q) = slice_get buffer q
+
+-- what a separator is judged by: the byte before `from` is its left side, the one at `to` its right side, and `to`
+-- is the place where it is dropped
+pub record IsSpan (rule : Rule) (buffer : List ℕ) (at from to : ℕ) : Type 0 where
+  pub within : from ≤ length buffer
+  pub left : class rule (slice_before buffer from) ≡ left_side rule buffer false at
+  pub right : class rule (slice_get buffer to) ≡ right_side rule buffer at
+  pub reach : (count : ℕ) → kept rule buffer at count at ≡ false → place rule buffer at count ≡ to
+
+-- ---- looks
+
+-- at least `low` looks more, as far as a counter goes that stops at its greatest number, and at most `high` more
+pub record IsLooked (old low high new : ℕ) : Type 0 where
+  pub at_least : min (old + low) (2 ^ 64 - 1) ≤ new
+  pub at_most : new ≤ old + high
+
+abbrev pub one_if : Bool → ℕ
+one_if answered = if answered then 1 else 0
+
+-- the run and the looks that a read at a position leaves, where it is told whether a byte was answered
+pub record Saw (rule : Rule) (buffer : List ℕ) (at : ℕ) (run : Option Run) (looks : ℕ) (answered : Bool) (left : Option Run) (seen : ℕ) : Type 0 where
+  pub is_run : IsRunOrNone rule.separator buffer left
+  pub unscanned_run : scans rule buffer at run ≡ false → left ≡ run
+  pub unscanned_looks : scans rule buffer at run ≡ false → IsLooked looks (one_if answered) 4 seen
+  pub scanned_run : scans rule buffer at run ≡ true → run_holds left at ≡ true
+  pub scanned_looks : scans rule buffer at run ≡ true → IsLooked looks (one_if answered + run_length left) (4 + 3 * run_length left) seen
+
+-- ---- what is owed
+
+-- how far a buffer has been scanned: the right end of the run, where the cursor isn't before that run
+abbrev pub far : Option Run → ℕ → ℕ
+far None cursor = 0
+far (Some run) cursor = if nat_le run.from cursor then run.to else 0
+
+-- the looks, less three for each byte that was scanned
+abbrev pub owed_by : Option Run → ℕ → ℕ → ℤ
+owed_by run cursor looks = pos looks -ℤ pos (3 * far run cursor)
+
+-- ---- what a `Bytes` holds
+
+-- two positions as the run between them, and as none where nothing is between them
+abbrev pub run_between : ℕ → ℕ → Option Run
+run_between from to = if nat_lt from to then Some (record { from = from; to = to }) else None
+
+-- the state that calls speak of, and beside it what is kept for speed: the remembered run, and the looks so far
+pub record Held : Type 0 where
+  pub state : State
+  pub run : Option Run
+  pub looks : ℕ
+  pub holds : IsState state
+
+abbrev pub owed : Held → ℤ
+owed h = owed_by h.run h.state.cursor h.looks
+
+-- how long the run is that a read from a had to look for, where it left b
+abbrev pub scanned_length : Component → Held → Held → ℕ
+scanned_length k a b = if scans (rule k a.state) a.state.buffer a.state.cursor a.run then run_length b.run else 0
+
+-- A read of the iterator of a component from a to b: it owes at most 4 more, and looked at least at the byte that it
+-- answers and at the run that it scanned, as far as the counter goes.
+pub record Reads (k : Component) (a b : Held) : Type 0 where
+  pub owes : owed b ≤ℤ (owed a +ℤ pos 4)
+  pub looks : min (a.looks + one_if (is_some (peeked k a.state)) + scanned_length k a b) (2 ^ 64 - 1) ≤ b.looks
+
+-- nothing was looked at, and the run stays
+pub record Unread (a b : Held) : Type 0 where
+  pub run : b.run ≡ a.run
+  pub looks : b.looks ≡ a.looks
+
+-- the same state, remembered run and looks
+pub record IsCopy (a b : Held) : Type 0 where
+  pub state : b.state ≡ a.state
+  pub run : b.run ≡ a.run
+  pub looks : b.looks ≡ a.looks
+
+-- A call of `next` from a to b on the iterator of a component: what it takes by the call table, what it cost, and the
+-- `Bytes` that it holds stays the same one.
+pub record Nexts (k : Component) (a b : Held) (loan left : ℕ) (result : Option (Bor ℕ)) : Type 0 where
+  pub takes : Takes k a.state b.state result
+  pub reads : Reads k a b
+  pub keeps_loan : left ≡ loan

@@ -1,0 +1,124 @@
+-- The state of a `Bytes`, and what the iterator of a component knows of it.
+use Rattle.std.specs.Prelude.{ℕ, ◌+◌, ◌-◌, ◌^◌, ◌<◌, ◌≤◌, min, Bool, true, false, not, ◌&&◌, if◌then◌else◌, ◌==◌, List, length, take, IsTrue}
+use Rattle.lexical_format.specs.Word.{separator, mantissa_radix, bit, is_supported}
+use Rattle.lexical_digits.specs.declared.skip.decision.Rule.{Rule}
+use Rattle.lexical_digits.specs.declared.skip.component.Component.{Component}
+use Rattle.lexical_digits.specs.declared.skip.component.Component.TheVariants.{Integer, Fraction, Exponent, Special}
+use Rattle.lexical_digits.specs.Separators.{is_digit, has_flags}
+
+pub record State : Type 0 where
+  pub buffer : List ℕ
+  pub word : ℕ
+  pub cursor : ℕ
+  pub integer : ℕ
+  pub fraction : ℕ
+  pub exponent : ℕ
+
+-- the cursor is within the buffer, the word is supported, and each count fits
+pub record IsState (s : State) : Type 0 where
+  pub within : s.cursor ≤ length s.buffer
+  pub word : IsTrue (is_supported s.word)
+  pub integer : s.integer < 2 ^ 64
+  pub fraction : s.fraction < 2 ^ 64
+  pub exponent : s.exponent < 2 ^ 64
+
+abbrev pub start : List ℕ → ℕ → State
+start buffer word = record { buffer = buffer; word = word; cursor = 0; integer = 0; fraction = 0; exponent = 0 }
+
+abbrev pub with_cursor : State → ℕ → State
+with_cursor s i = record s { cursor = i }
+
+-- ---- what a component grants
+
+-- the four flags of a component, of which the internal one is at a place
+abbrev pub rule_at : ℕ → ℕ → Rule
+rule_at word place = record {
+  separator = separator word;
+  radix = mantissa_radix word;
+  internal = bit word place;
+  leading = bit word (place + 3);
+  trailing = bit word (place + 6);
+  consecutive = bit word (place + 9);
+}
+
+-- one flag that grants everything
+abbrev pub special_rule : ℕ → Rule
+special_rule word = record {
+  separator = separator word;
+  radix = mantissa_radix word;
+  internal = bit word 44;
+  leading = bit word 44;
+  trailing = bit word 44;
+  consecutive = bit word 44;
+}
+
+abbrev pub rule_of : ℕ → Component → Rule
+rule_of word Integer = rule_at word 32
+rule_of word Fraction = rule_at word 33
+rule_of word Exponent = rule_at word 34
+rule_of word Special = special_rule word
+
+abbrev pub rule : Component → State → Rule
+rule k s = rule_of s.word k
+
+-- ---- counts
+
+-- the count that a component's rule is judged by
+abbrev pub own : Component → State → ℕ
+own Integer s = s.integer
+own Fraction s = s.fraction
+own Exponent s = s.exponent
+own Special s = s.integer
+
+-- the state with another own count; special has none
+abbrev pub with_own : Component → State → ℕ → State
+with_own Integer s n = record s { integer = n }
+with_own Fraction s n = record s { fraction = n }
+with_own Exponent s n = record s { exponent = n }
+with_own Special s n = s
+
+abbrev pub is_special : Component → Bool
+is_special Integer = false
+is_special Fraction = false
+is_special Exponent = false
+is_special Special = true
+
+-- no byte is a separator
+abbrev pub has_no_separator : ℕ → Bool
+has_no_separator word = separator word == 0
+
+-- the component has none of its flags, and so passes over nothing
+abbrev pub is_contiguous : Component → ℕ → Bool
+is_contiguous k word = not (has_flags (rule_of word k))
+
+-- whether `next` counts the digits that it passes
+abbrev pub counts : Component → ℕ → Bool
+counts k word = not (is_special k) && has_flags (rule_of word k)
+
+-- a sum stops at the greatest number that a count holds
+abbrev pub saturating : ℕ → ℕ → ℕ
+saturating m n = min (m + n) (2 ^ 64 - 1)
+
+abbrev pub raised : ℕ → ℕ
+raised count = saturating count 1
+
+-- the count after a byte is passed by `next`
+abbrev pub count_after : Rule → Bool → ℕ → ℕ → ℕ
+count_after rule counting byte count = if counting && is_digit rule byte then raised count else count
+
+-- what `current_count` answers on a `Bytes`, and on the iterator of a component
+abbrev pub count_of_all : State → ℕ
+count_of_all s = if has_no_separator s.word then s.cursor else saturating (saturating s.integer s.fraction) s.exponent
+
+abbrev pub current_count : Component → State → ℕ
+current_count k s = if is_contiguous k s.word then count_of_all s else own k s
+
+-- ---- views
+
+-- where the next n bytes end
+abbrev pub cut_end : State → ℕ → ℕ
+cut_end s n = min (length s.buffer) (s.cursor + n)
+
+-- the buffer cut at an end, with the same word and cursor, and no counts
+abbrev pub cut : State → ℕ → State
+cut s end = record { buffer = take end s.buffer; word = s.word; cursor = s.cursor; integer = 0; fraction = 0; exponent = 0 }

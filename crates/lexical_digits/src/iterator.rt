@@ -1,0 +1,429 @@
+// The traits of iterators that share one cursor, and the calls that each implementer has by them.
+ghost use Rattle.std.specs.Prelude.{◌≡◌, ℤ, pos, ◌≤ℤ◌, ◌+ℤ◌, ◌*◌, ℕ, ◌+◌, ◌<◌, ◌≤◌, List, length, drop, slice_get, option_copied, Option, Bool, IsTrue, ◌↔◌, if◌then◌else◌, ◌==◌, is_some};
+ghost use Rattle.std.specs.Borrow.{Bor};
+ghost use Rattle.std.specs.Int.{w32, w64};
+ghost use Rattle.std.specs.Char.{eq_ignore_ascii_case};
+ghost use Rattle.lexical_digits.specs.Cursor.{IterLaws, DigitLaws, CanStep, ReadsIf, passes, byte_if, is_value, next_number, zeros, after_zeros};
+
+pub use crate::skip::{AsBytes, Bytes};
+
+/// A cursor over a buffer of bytes: `Iter` of lexical-util's `iterator.rs`. Positions count bytes from 0, and the cursor is
+/// at most the length. Its further calls are those of [`IterBodies`].
+pub trait Iter<'a> {
+    /// What a value means to its callers: a plain value, which every contract speaks of.
+    type Meaning;
+
+    // What a value means.
+    ghost meaning: { Self → Self.Meaning };
+
+    // The meanings that values have.
+    ghost valid: { Self.Meaning → Type 0 };
+
+    // The ghost name of a `&mut` that the value holds, which no call changes. Where it holds none, any type will do.
+    ghost Loan: { Type 0 };
+
+    ghost loan: { Self → Loan };
+
+    // What a value owes for what its reads looked at, a whole number: 0 where nobody counts.
+    ghost owed: { Self → ℤ } = { λ _. pos 0 };
+
+    // The whole buffer.
+    ghost buffer: { Self.Meaning → List ℕ };
+
+    // The position of the cursor.
+    ghost cursor: { Self.Meaning → ℕ };
+
+    // What `current_count` answers.
+    ghost current_count: { Self.Meaning → ℕ };
+
+    // Whether no byte is ever passed over.
+    ghost contiguous: { Self.Meaning → Bool };
+
+    // Which bytes are separators: those that a step may not go over, unless all is contiguous.
+    ghost separates: { Self.Meaning → ℕ → Bool };
+
+    // The meaning with the cursor at another position.
+    ghost moved: { Self.Meaning → ℕ → Self.Meaning };
+
+    /// The whole buffer, from its start.
+    fn get_buffer(&self) -> &'a [u8]
+        ensures { result.now ≡ buffer (meaning self.now) };
+
+    /// The position of the cursor, at most the length of the buffer.
+    fn cursor(&self) -> usize
+        ensures value { result ≡ cursor (meaning self.now) }
+        ensures below_max { result < usize.MAX };
+
+    /// Moves the cursor to `index`, forwards or back. Counts stay. Asks that `index` is at most the length of the buffer.
+    fn set_cursor(&mut self, index: usize)
+        requires { index ≤ length (buffer (meaning self.old)) }
+        ensures moves { meaning self.new ≡ moved (meaning self.old) index }
+        ensures owes { cursor (meaning self.old) ≤ index → owed self.new ≤ℤ owed self.old }
+        ensures keeps_loan { loan self.new ≡ loan self.old };
+
+    /// The count that this value goes by: of digits, or of bytes where nothing is passed over.
+    fn current_count(&self) -> usize
+        ensures { result ≡ current_count (meaning self.now) };
+
+    /// Whether no byte is ever passed over.
+    fn is_contiguous(&self) -> bool
+        ensures { result ≡ contiguous (meaning self.now) };
+
+    /// Moves the cursor `count` bytes on. Counts stay. Asks that so many bytes are left; and unless the value is contiguous, that
+    /// `count` is at most 1, and the byte gone over is no separator.
+    fn step_by_unchecked(&mut self, count: usize)
+        requires { let m = meaning self.old in CanStep (buffer m) (cursor m) (contiguous m) (separates m) count }
+        ensures moves { let m = meaning self.old in meaning self.new ≡ moved m (cursor m + count) }
+        ensures owes { owed self.new ≤ℤ owed self.old }
+        ensures keeps_loan { loan self.new ≡ loan self.old };
+
+    ghost valid_now: { (s : Self) → valid (meaning s) };
+
+    ghost laws: { IterLaws valid buffer cursor contiguous separates moved };
+}
+
+/// The default bodies of lexical-util's `Iter`: one implementation for every implementer. Import it beside [`Iter`] to call them.
+pub trait IterBodies<'a>: Iter<'a> {
+    /// The bytes from the cursor on.
+    fn as_slice(&self) -> &'a [u8]
+        ensures { let m = Self.meaning self.now in result.now ≡ drop (Self.cursor m) (Self.buffer m) };
+
+    /// The length of the whole buffer.
+    fn buffer_length(&self) -> usize
+        ensures { result ≡ length (Self.buffer (Self.meaning self.now)) };
+
+    /// Whether the cursor is at the end. Passes nothing over: see [`DigitsBodies::is_consumed`].
+    fn is_buffer_empty(&self) -> bool
+        ensures { let m = Self.meaning self.now in IsTrue result ↔ (Self.cursor m ≡ length (Self.buffer m)) };
+
+    /// The byte at the cursor, or `None` at the end. Passes nothing over.
+    fn first(&self) -> Option<&'a u8>
+        ensures { let m = Self.meaning self.now in
+            option_copied result ≡ slice_get (Self.buffer m) (Self.cursor m) };
+
+    /// Whether the byte at the cursor is `value`; `false` at the end.
+    fn first_is_cased(&self, value: u8) -> bool
+        ensures { let m = Self.meaning self.now in
+            result ≡ passes (λ b. b == value) (slice_get (Self.buffer m) (Self.cursor m)) };
+
+    /// Whether the byte at the cursor is `value` by `eq_ignore_ascii_case`; `false` at the end.
+    fn first_is_uncased(&self, value: u8) -> bool
+        ensures { let m = Self.meaning self.now in
+            result ≡ passes (λ b. eq_ignore_ascii_case b value) (slice_get (Self.buffer m) (Self.cursor m)) };
+
+    /// [`first_is_cased`](Self::first_is_cased) if `is_cased`, else [`first_is_uncased`](Self::first_is_uncased).
+    fn first_is(&self, value: u8, is_cased: bool) -> bool
+        ensures { let m = Self.meaning self.now in
+            result ≡ passes (is_value value is_cased) (slice_get (Self.buffer m) (Self.cursor m)) };
+
+    /// The four bytes from the cursor on as a number, the first byte lowest on every machine. `None` if the value is not contiguous
+    /// or fewer bytes are left.
+    fn peek_u32(&self) -> Option<u32>
+        ensures { let m = Self.meaning self.now in
+            result ≡ next_number w32 (Self.contiguous m) (drop (Self.cursor m) (Self.buffer m)) };
+
+    /// The eight bytes from the cursor on as a number, the first byte lowest on every machine. `None` if the value is not contiguous
+    /// or fewer bytes are left.
+    fn peek_u64(&self) -> Option<u64>
+        ensures { let m = Self.meaning self.now in
+            result ≡ next_number w64 (Self.contiguous m) (drop (Self.cursor m) (Self.buffer m)) };
+
+    /// Moves the cursor one byte on. Counts stay. Asks that a byte is left; and unless the value is contiguous, that it is no separator.
+    fn step_unchecked(&mut self)
+        requires { let m = Self.meaning self.old in
+            CanStep (Self.buffer m) (Self.cursor m) (Self.contiguous m) (Self.separates m) 1 }
+        ensures moves { let m = Self.meaning self.old in Self.meaning self.new ≡ Self.moved m (Self.cursor m + 1) }
+        ensures owes { Self.owed self.new ≤ℤ Self.owed self.old }
+        ensures keeps_loan { Self.loan self.new ≡ Self.loan self.old };
+}
+
+impl<'a, I: Iter<'a>> IterBodies<'a> for I {
+    fn as_slice(&self) -> &'a [u8] {
+        let from = self.cursor();
+        &self.get_buffer()[from..]
+    }
+
+    fn buffer_length(&self) -> usize {
+        self.get_buffer().len()
+    }
+
+    fn is_buffer_empty(&self) -> bool {
+        self.cursor() == self.buffer_length()
+    }
+
+    fn first(&self) -> Option<&'a u8> {
+        self.get_buffer().get(self.cursor())
+    }
+
+    fn first_is_cased(&self, value: u8) -> bool {
+        match self.first() {
+            Some(byte) => *byte == value,
+            None => false,
+        }
+    }
+
+    fn first_is_uncased(&self, value: u8) -> bool {
+        match self.first() {
+            Some(byte) => byte.eq_ignore_ascii_case(&value),
+            None => false,
+        }
+    }
+
+    fn first_is(&self, value: u8, is_cased: bool) -> bool {
+        if is_cased {
+            self.first_is_cased(value)
+        } else {
+            self.first_is_uncased(value)
+        }
+    }
+
+    fn peek_u32(&self) -> Option<u32> {
+        if !self.is_contiguous() {
+            return None;
+        }
+        let rest = self.as_slice();
+        if rest.len() < 4 {
+            return None;
+        }
+        Some(u32::from_le_bytes([rest[0], rest[1], rest[2], rest[3]]))
+    }
+
+    fn peek_u64(&self) -> Option<u64> {
+        if !self.is_contiguous() {
+            return None;
+        }
+        let rest = self.as_slice();
+        if rest.len() < 8 {
+            return None;
+        }
+        Some(u64::from_le_bytes([
+            rest[0], rest[1], rest[2], rest[3], rest[4], rest[5], rest[6], rest[7],
+        ]))
+    }
+
+    fn step_unchecked(&mut self) {
+        self.step_by_unchecked(1);
+    }
+}
+
+/// An iterator over the bytes that are kept: `DigitsIter` of lexical-util's `iterator.rs`. The place is the first kept position from
+/// the cursor on, or the length of the buffer if there is none; `next` answers the byte there. Its further calls are those of
+/// [`DigitsBodies`].
+pub trait DigitsIter<'a>: Iterator<Item = &'a u8> + Iter<'a> {
+    // The first kept position from the cursor on, or the length.
+    ghost place: { Self.Meaning → ℕ };
+
+    // Which bytes are digits.
+    ghost digit: { Self.Meaning → ℕ → Bool };
+
+    // What `peek` leaves.
+    ghost settled: { Self.Meaning → Self.Meaning };
+
+    // What `increment_count` leaves.
+    ghost counted: { Self.Meaning → Self.Meaning };
+
+    // What `next` leaves.
+    ghost taken: { Self.Meaning → Self.Meaning };
+
+    /// Raises the count that this value goes by, where it has one of its own. The cursor stays.
+    fn increment_count(&mut self)
+        ensures counts { Self.meaning self.new ≡ counted (Self.meaning self.old) }
+        ensures owes { Self.owed self.new ≤ℤ Self.owed self.old }
+        ensures keeps_loan { Self.loan self.new ≡ Self.loan self.old };
+
+    /// The byte at the place, or `None` at the end. The cursor ends at the place. Counts stay.
+    fn peek(&mut self) -> Option<&'a u8>
+        ensures byte { let m = Self.meaning self.old in
+            option_copied result ≡ slice_get (Self.buffer m) (place m) }
+        ensures settles { Self.meaning self.new ≡ settled (Self.meaning self.old) }
+        ensures owes { Self.owed self.new ≤ℤ (Self.owed self.old +ℤ pos 4) }
+        ensures keeps_loan { Self.loan self.new ≡ Self.loan self.old };
+
+    /// Whether `value` is a digit of the radix that this value goes by.
+    fn is_digit(&self, value: u8) -> bool
+        ensures { result ≡ digit (Self.meaning self.now) value };
+
+    // `next` may always be called; it answers the byte at the place, `None` at the end, and leaves `taken`.
+    ghost can_next_law: { (s : Self) → Self.can_next s };
+
+    ghost next_byte: { (s t : Self) (r : Option (Bor ℕ)) → Self.next_gives s r t
+        → option_copied r ≡ slice_get (Self.buffer (Self.meaning s)) (place (Self.meaning s)) };
+
+    ghost next_takes: { (s t : Self) (r : Option (Bor ℕ)) → Self.next_gives s r t → Self.meaning t ≡ taken (Self.meaning s) };
+
+    ghost next_owes: { (s t : Self) (r : Option (Bor ℕ)) → Self.next_gives s r t → Self.owed t ≤ℤ (Self.owed s +ℤ pos 4) };
+
+    ghost next_keeps_loan: { (s t : Self) (r : Option (Bor ℕ)) → Self.next_gives s r t → Self.loan t ≡ Self.loan s };
+
+    ghost digit_laws: { DigitLaws Self.valid Self.buffer Self.cursor Self.current_count Self.contiguous Self.separates Self.moved
+        place digit settled counted taken };
+}
+
+/// The default bodies of lexical-util's `DigitsIter`: one implementation for every implementer, made of `cursor`, `peek`,
+/// `set_cursor` and `increment_count` alone. Import it beside [`DigitsIter`] to call them.
+pub trait DigitsBodies<'a>: DigitsIter<'a> {
+    /// Whether no byte is left. The cursor ends at the place. Counts stay.
+    fn is_consumed(&mut self) -> bool
+        ensures answers { let m = Self.meaning self.old in IsTrue result ↔ (Self.place m ≡ length (Self.buffer m)) }
+        ensures settles { Self.meaning self.new ≡ Self.settled (Self.meaning self.old) }
+        ensures owes { Self.owed self.new ≤ℤ (Self.owed self.old +ℤ pos 4) }
+        ensures keeps_loan { Self.loan self.new ≡ Self.loan self.old };
+
+    /// The byte at the place, or `None` at the end. The cursor ends one past the place, or at the end. Counts stay, also for a digit.
+    fn try_read(&mut self) -> Option<&'a u8>
+        ensures byte { let m = Self.meaning self.old in
+            option_copied result ≡ slice_get (Self.buffer m) (Self.place m) }
+        ensures reads { let m = Self.meaning self.old in let byte = slice_get (Self.buffer m) (Self.place m) in
+            Self.meaning self.new ≡
+            if is_some byte then Self.moved (Self.settled m) (Self.place m + 1) else Self.settled m }
+        ensures owes { Self.owed self.new ≤ℤ (Self.owed self.old +ℤ pos 4) }
+        ensures keeps_loan { Self.loan self.new ≡ Self.loan self.old };
+
+    /// Whether the byte at the place is `value`; `false` at the end. The cursor ends at the place. Counts stay.
+    fn peek_is_cased(&mut self, value: u8) -> bool
+        ensures answers { let m = Self.meaning self.old in
+            result ≡ passes (λ b. b == value) (slice_get (Self.buffer m) (Self.place m)) }
+        ensures settles { Self.meaning self.new ≡ Self.settled (Self.meaning self.old) }
+        ensures owes { Self.owed self.new ≤ℤ (Self.owed self.old +ℤ pos 4) }
+        ensures keeps_loan { Self.loan self.new ≡ Self.loan self.old };
+
+    /// Whether the byte at the place is `value` by `eq_ignore_ascii_case`; `false` at the end. The cursor ends at the place. Counts
+    /// stay.
+    fn peek_is_uncased(&mut self, value: u8) -> bool
+        ensures answers { let m = Self.meaning self.old in
+            result ≡ passes (λ b. eq_ignore_ascii_case b value) (slice_get (Self.buffer m) (Self.place m)) }
+        ensures settles { Self.meaning self.new ≡ Self.settled (Self.meaning self.old) }
+        ensures owes { Self.owed self.new ≤ℤ (Self.owed self.old +ℤ pos 4) }
+        ensures keeps_loan { Self.loan self.new ≡ Self.loan self.old };
+
+    /// [`peek_is_cased`](Self::peek_is_cased) if `is_cased`, else [`peek_is_uncased`](Self::peek_is_uncased).
+    fn peek_is(&mut self, value: u8, is_cased: bool) -> bool
+        ensures answers { let m = Self.meaning self.old in
+            result ≡ passes (is_value value is_cased) (slice_get (Self.buffer m) (Self.place m)) }
+        ensures settles { Self.meaning self.new ≡ Self.settled (Self.meaning self.old) }
+        ensures owes { Self.owed self.new ≤ℤ (Self.owed self.old +ℤ pos 4) }
+        ensures keeps_loan { Self.loan self.new ≡ Self.loan self.old };
+
+    /// The byte at the place if `pred` answers `true` for it. Then the cursor ends one past the place, else at the place, and the next
+    /// call finds the same byte. `pred` is called once on that byte, and at the end not at all. Counts stay. Asks that `pred` may be
+    /// called on every byte.
+    fn read_if<Pred: FnOnce(u8) -> bool + Drop>(&mut self, pred: Pred) -> Option<u8>
+        requires { (b : ℕ) → b < 256 → Pred.pre pred b }
+        ensures reads { let m = Self.meaning self.old in
+            ReadsIf (Pred.post pred) (slice_get (Self.buffer m) (Self.place m))
+            (Self.settled m) (Self.moved (Self.settled m) (Self.place m + 1)) result (Self.meaning self.new) }
+        ensures owes { Self.owed self.new ≤ℤ (Self.owed self.old +ℤ pos 4) }
+        ensures keeps_loan { Self.loan self.new ≡ Self.loan self.old };
+
+    /// [`read_if`](Self::read_if) the byte is `value`: answers `value`.
+    fn read_if_value_cased(&mut self, value: u8) -> Option<u8>
+        ensures answers { let m = Self.meaning self.old in
+            result ≡ byte_if (λ b. b == value) (slice_get (Self.buffer m) (Self.place m)) }
+        ensures reads { let m = Self.meaning self.old in let byte = slice_get (Self.buffer m) (Self.place m) in
+            Self.meaning self.new ≡
+            if passes (λ b. b == value) byte then Self.moved (Self.settled m) (Self.place m + 1) else Self.settled m }
+        ensures owes { Self.owed self.new ≤ℤ (Self.owed self.old +ℤ pos 4) }
+        ensures keeps_loan { Self.loan self.new ≡ Self.loan self.old };
+
+    /// [`read_if`](Self::read_if) the byte is `value` by `eq_ignore_ascii_case`: answers the byte as it stands.
+    fn read_if_value_uncased(&mut self, value: u8) -> Option<u8>
+        ensures answers { let m = Self.meaning self.old in
+            result ≡ byte_if (λ b. eq_ignore_ascii_case b value) (slice_get (Self.buffer m) (Self.place m)) }
+        ensures reads { let m = Self.meaning self.old in let byte = slice_get (Self.buffer m) (Self.place m) in
+            Self.meaning self.new ≡
+            if passes (λ b. eq_ignore_ascii_case b value) byte then Self.moved (Self.settled m) (Self.place m + 1) else Self.settled m }
+        ensures owes { Self.owed self.new ≤ℤ (Self.owed self.old +ℤ pos 4) }
+        ensures keeps_loan { Self.loan self.new ≡ Self.loan self.old };
+
+    /// [`read_if_value_cased`](Self::read_if_value_cased) if `is_cased`, else
+    /// [`read_if_value_uncased`](Self::read_if_value_uncased).
+    fn read_if_value(&mut self, value: u8, is_cased: bool) -> Option<u8>
+        ensures answers { let m = Self.meaning self.old in
+            result ≡ byte_if (is_value value is_cased) (slice_get (Self.buffer m) (Self.place m)) }
+        ensures reads { let m = Self.meaning self.old in let byte = slice_get (Self.buffer m) (Self.place m) in
+            Self.meaning self.new ≡
+            if passes (is_value value is_cased) byte then Self.moved (Self.settled m) (Self.place m + 1) else Self.settled m }
+        ensures owes { Self.owed self.new ≤ℤ (Self.owed self.old +ℤ pos 4) }
+        ensures keeps_loan { Self.loan self.new ≡ Self.loan self.old };
+
+    /// Reads the bytes `0` from the place on, each with a call of `increment_count`, and answers how many it read. The cursor ends at
+    /// the next kept byte, or at the end.
+    fn skip_zeros(&mut self) -> usize
+        ensures answers { result ≡ zeros Self.buffer Self.cursor Self.place Self.moved Self.settled Self.counted (Self.meaning self.old) }
+        ensures reads { Self.meaning self.new ≡
+            after_zeros Self.buffer Self.cursor Self.place Self.moved Self.settled Self.counted (Self.meaning self.old) }
+        ensures owes { Self.owed self.new ≤ℤ (Self.owed self.old +ℤ pos (4 * (result + 1))) }
+        ensures keeps_loan { Self.loan self.new ≡ Self.loan self.old };
+}
+
+impl<'a, I: DigitsIter<'a>> DigitsBodies<'a> for I {
+    fn is_consumed(&mut self) -> bool {
+        self.peek().is_none()
+    }
+
+    fn try_read(&mut self) -> Option<&'a u8> {
+        let byte = self.peek()?;
+        let at = self.cursor();
+        self.set_cursor(at + 1);
+        Some(byte)
+    }
+
+    fn peek_is_cased(&mut self, value: u8) -> bool {
+        match self.peek() {
+            Some(byte) => *byte == value,
+            None => false,
+        }
+    }
+
+    fn peek_is_uncased(&mut self, value: u8) -> bool {
+        match self.peek() {
+            Some(byte) => byte.eq_ignore_ascii_case(&value),
+            None => false,
+        }
+    }
+
+    fn peek_is(&mut self, value: u8, is_cased: bool) -> bool {
+        if is_cased {
+            self.peek_is_cased(value)
+        } else {
+            self.peek_is_uncased(value)
+        }
+    }
+
+    fn read_if<Pred: FnOnce(u8) -> bool + Drop>(&mut self, pred: Pred) -> Option<u8> {
+        let byte = *self.peek()?;
+        if !pred(byte) {
+            return None;
+        }
+        let at = self.cursor();
+        self.set_cursor(at + 1);
+        Some(byte)
+    }
+
+    fn read_if_value_cased(&mut self, value: u8) -> Option<u8> {
+        self.read_if(|byte| byte == value)
+    }
+
+    fn read_if_value_uncased(&mut self, value: u8) -> Option<u8> {
+        self.read_if(|byte| byte.eq_ignore_ascii_case(&value))
+    }
+
+    fn read_if_value(&mut self, value: u8, is_cased: bool) -> Option<u8> {
+        if is_cased {
+            self.read_if_value_cased(value)
+        } else {
+            self.read_if_value_uncased(value)
+        }
+    }
+
+    fn skip_zeros(&mut self) -> usize {
+        let mut zeros = 0;
+        while self.peek_is_cased(b'0') {
+            let at = self.cursor();
+            self.set_cursor(at + 1);
+            self.increment_count();
+            zeros += 1;
+        }
+        zeros
+    }
+}
