@@ -78,13 +78,13 @@ drain_after_none k s e = ap (drain_of k) (taken_none k s (omega (arith, e))) ∙
 
 -- ---- what the whole drain leaves
 
-with_own_twice : (k : Component) (s : State) (a b p n : ℕ) → with_cursor (with_own k (with_cursor (with_own k s a) p) b) n ≡ with_cursor (with_own k s b) n
+pub with_own_twice : (k : Component) (s : State) (a b p n : ℕ) → with_cursor (with_own k (with_cursor (with_own k s a) p) b) n ≡ with_cursor (with_own k s b) n
 with_own_twice Integer s a b p n = refl
 with_own_twice Fraction s a b p n = refl
 with_own_twice Exponent s a b p n = refl
 with_own_twice Special s a b p n = refl
 
-with_own_same : (k : Component) (s : State) (n : ℕ) → with_cursor (with_own k s (own k s)) n ≡ with_cursor s n
+pub with_own_same : (k : Component) (s : State) (n : ℕ) → with_cursor (with_own k s (own k s)) n ≡ with_cursor s n
 with_own_same Integer s n = refl
 with_own_same Fraction s n = refl
 with_own_same Exponent s n = refl

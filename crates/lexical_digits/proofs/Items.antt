@@ -1,7 +1,7 @@
 -- The items, one at a time.
 use Rattle.std.proofs.Common.{◌≡◌, ℕ, ◌+◌, ◌<◌, ◌≤◌, ◌∷◌, [], Bool, true, false, List, length, slice_get, slice_index, refl, arith, length-drop, nat_lt}
 use Rattle.std.proofs.lemmas.Option.{slice_get-get_or, slice_get_past}
-use Rattle.std.proofs.lemmas.Bool.{ltb-true, ltb-false}
+use Rattle.std.proofs.lemmas.Bool.{ltb-true, ltb-false, lt-ltb, le-ltb}
 use Rattle.std.specs.Option.{option_map_or}
 use Rattle.lexical_digits.specs.Cursor.{bytes_left, items, DigitLaws}
 use Rattle.lexical_digits.proofs.Walk.{Falls, walk_step, walk_end}
@@ -18,11 +18,19 @@ module _ {M : Type 0} {valid : M → Type 0} {buffer : M → List ℕ} {cursor c
         simp (length-drop, same, rises) (omega arith);
   }
 
-  items_by : (b : Bool) (m : M) → nat_lt (place m) (length (buffer m)) ≡ b → valid m → items buffer cursor place taken m ≡ option_map_or (λ byte. byte ∷ items buffer cursor place taken (taken m)) (slice_get (buffer m) (place m)) []
+  -- the byte at the place, and then the items of what `next` leaves
+  pub items_step : (m : M) → valid m → place m < length (buffer m) → items buffer cursor place taken m ≡ slice_index (buffer m) (place m) ∷ items buffer cursor place taken (taken m)
   unfolding items
-  items_by true m e v = rw (slice_get-get_or (buffer m) (place m) 0 (ltb-true _ _ e)) (walk_step falls (λ _. []) (λ n more. slice_index (buffer n) (place n) ∷ more) m v e)
-  items_by false m e v = rw (slice_get_past (buffer m) (place m) (ltb-false _ _ e)) (walk_end falls (λ _. []) (λ n more. slice_index (buffer n) (place n) ∷ more) m e)
+  items_step m v h = walk_step falls (λ _. []) (λ n more. slice_index (buffer n) (place n) ∷ more) m v (lt-ltb _ _ h)
 
-  -- none at the end, else the byte at the place, and then the items of what `next` leaves
+  pub items_end : (m : M) → length (buffer m) ≤ place m → items buffer cursor place taken m ≡ []
+  unfolding items
+  items_end m h = walk_end falls (λ _. []) (λ n more. slice_index (buffer n) (place n) ∷ more) m (le-ltb _ _ h)
+
+  items_by : (b : Bool) (m : M) → nat_lt (place m) (length (buffer m)) ≡ b → valid m → items buffer cursor place taken m ≡ option_map_or (λ byte. byte ∷ items buffer cursor place taken (taken m)) (slice_get (buffer m) (place m)) []
+  items_by true m e v = rw (slice_get-get_or (buffer m) (place m) 0 (ltb-true _ _ e)) (items_step m v (ltb-true _ _ e))
+  items_by false m e v = rw (slice_get_past (buffer m) (place m) (ltb-false _ _ e)) (items_end m (ltb-false _ _ e))
+
+  -- both cases in one, by the byte at the place
   pub items_unroll : (m : M) → valid m → items buffer cursor place taken m ≡ option_map_or (λ byte. byte ∷ items buffer cursor place taken (taken m)) (slice_get (buffer m) (place m)) []
   items_unroll m v = items_by (nat_lt (place m) (length (buffer m))) m refl v

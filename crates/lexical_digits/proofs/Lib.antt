@@ -10,3 +10,5 @@ pub mod Walk
 pub mod Items
 pub mod Zeros
 pub mod Headline
+pub mod Comes
+pub mod Shares

@@ -36,7 +36,7 @@ module _ {M : Type 0} {valid : M → Type 0} {buffer : M → List ℕ} {cursor c
         simp (length-drop, same, rises) (omega arith);
   }
 
-  -- the zeros by the answer of the test: none where it fails, else one more than those past it
+  -- the zeros, by whether the byte at the place is `0`
   pub zeros_by : (b : Bool) (m : M) → at_zero buffer cursor place moved settled counted m ≡ b → valid m → zeros buffer cursor place moved settled counted m ≡ if b then zeros buffer cursor place moved settled counted (past_zero buffer cursor place moved settled counted m) + 1 else 0
   unfolding zeros
   zeros_by true m e v = walk_step falls (λ _. 0) (λ _ more. more + 1) m v e
@@ -45,7 +45,7 @@ module _ {M : Type 0} {valid : M → Type 0} {buffer : M → List ℕ} {cursor c
   pub zeros_unroll : (m : M) → valid m → zeros buffer cursor place moved settled counted m ≡ if at_zero buffer cursor place moved settled counted m then zeros buffer cursor place moved settled counted (past_zero buffer cursor place moved settled counted m) + 1 else 0
   zeros_unroll m v = zeros_by (at_zero buffer cursor place moved settled counted m) m refl v
 
-  -- what they leave, by the same: `settled` where it fails
+  -- what they leave, by the same
   pub after_zeros_by : (b : Bool) (m : M) → at_zero buffer cursor place moved settled counted m ≡ b → valid m → after_zeros buffer cursor place moved settled counted m ≡ if b then after_zeros buffer cursor place moved settled counted (past_zero buffer cursor place moved settled counted m) else settled m
   unfolding after_zeros
   after_zeros_by true m e v = walk_step falls settled (λ _ after. after) m v e

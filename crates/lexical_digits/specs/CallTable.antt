@@ -1,5 +1,5 @@
 -- The call table: what each call answers, and the state that it leaves. No row scans, steps or loops.
-use Rattle.std.specs.Prelude.{◌≡◌, ℕ, ◌+◌, ◌≤◌, ◌==◌, ◌&&◌, ◌||◌, Bool, true, false, not, if◌then◌else◌, nat_lt, nat_le, List, [], ◌∷◌, length, drop, count_by, slice_get, slice_index, Option, Some, None, is_none, is_some, MatchOption, option_copied}
+use Rattle.std.specs.Prelude.{◌≡◌, ℕ, ◌+◌, ◌<◌, ◌==◌, ◌&&◌, ◌||◌, Bool, true, false, not, if◌then◌else◌, nat_lt, nat_le, List, [], ◌∷◌, length, drop, count_by, slice_get, slice_index, Option, Some, None, is_none, is_some, MatchOption, option_copied}
 use Rattle.std.specs.Borrow.{Bor}
 use Rattle.std.specs.Int.{w32, w64}
 use Rattle.lexical_format.specs.Word.{separator}
@@ -69,7 +69,13 @@ pub record Takes (k : Component) (s t : State) (result : Option (Bor ℕ)) : Typ
   pub takes : t ≡ taken k s
   pub drains : MatchOption result ((drain_of k s ≡ []) × (drain_of k t ≡ [])) (λ item. drain_of k s ≡ item.now ∷ drain_of k t)
   pub leaves : drained k t ≡ drained k s
-  pub ends : MatchOption result (t ≡ drained k s) (λ item. s.cursor ≤ t.cursor)
+  pub ends : MatchOption result (t ≡ drained k s) (λ item. s.cursor < t.cursor)
+
+-- t is s with another cursor and another own count, and nothing else is changed
+pub record ChangesOwn (k : Component) (s t : State) : Type 0 where
+  pub count : ℕ
+  pub cursor : ℕ
+  pub is : t ≡ with_cursor (with_own k s count) cursor
 
 -- ---- calls by their names
 

@@ -15,17 +15,17 @@ abbrev pub byte_if : (ℕ → Bool) → Option ℕ → Option ℕ
 byte_if p None = None
 byte_if p (Some b) = if p b then Some b else None
 
--- whether a byte is the value, or where case does not count, is it by `eq_ignore_ascii_case`
+-- whether a byte is the value, or is it by `eq_ignore_ascii_case` where case does not count
 abbrev pub is_value : ℕ → Bool → ℕ → Bool
 is_value value is_cased b = if is_cased then b == value else eq_ignore_ascii_case b value
 
--- the next bytes as a number, the first byte lowest: only where nothing is passed over, and that many bytes are left
+-- the next bytes as a number, the first byte lowest; none where fewer are left, or separators may be passed over
 abbrev pub next_number : Width → Bool → List ℕ → Option ℕ
 next_number w contiguous left = if contiguous && nat_le (byte_len w) (length left) then Some (from_le_bytes w left) else None
 
 -- ---- conditions and outcomes of calls
 
--- a step by `count` stays in the buffer; where bytes may be passed over, it goes one byte at most, and not over a separator
+-- a step by `count` stays in the buffer; where separators may be passed over, it goes one byte at most, and not over a separator
 pub record CanStep (buffer : List ℕ) (cursor : ℕ) (contiguous : Bool) (separates : ℕ → Bool) (count : ℕ) : Type 0 where
   pub fits : cursor + count ≤ length buffer
   pub at_most_one : contiguous ≡ false → count ≤ 1

@@ -14,8 +14,9 @@ pub record State : Type 0 where
   pub fraction : ℕ
   pub exponent : ℕ
 
--- the cursor is within the buffer, the word is supported, and each count fits
+-- the buffer is a slice, the cursor is within it, the word is supported, and each count fits
 pub record IsState (s : State) : Type 0 where
+  pub buffer : length s.buffer < 2 ^ 63
   pub within : s.cursor ≤ length s.buffer
   pub word : IsTrue (is_supported s.word)
   pub integer : s.integer < 2 ^ 64

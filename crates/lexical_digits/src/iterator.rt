@@ -1,4 +1,5 @@
-// The traits of iterators that share one cursor, and the calls that each implementer has by them.
+//! The traits of iterators that share one cursor, and the calls that each implementer has by them.
+
 ghost use Rattle.std.specs.Prelude.{◌≡◌, ℤ, pos, ◌≤ℤ◌, ◌+ℤ◌, ◌*◌, ℕ, ◌+◌, ◌<◌, ◌≤◌, List, length, drop, slice_get, option_copied, Option, Bool, IsTrue, ◌↔◌, if◌then◌else◌, ◌==◌, is_some};
 ghost use Rattle.std.specs.Borrow.{Bor};
 ghost use Rattle.std.specs.Int.{w32, w64};
@@ -7,10 +8,10 @@ ghost use Rattle.lexical_digits.specs.Cursor.{IterLaws, DigitLaws, CanStep, Read
 
 pub use crate::skip::{AsBytes, Bytes};
 
-/// A cursor over a buffer of bytes: `Iter` of lexical-util's `iterator.rs`. Positions count bytes from 0, and the cursor is
-/// at most the length. Its further calls are those of [`IterBodies`].
+/// A cursor over a buffer of bytes: `Iter` of lexical-util's `iterator.rs`. Positions count bytes
+/// from 0, and the cursor is at most the length of the buffer. Further calls: [`IterBodies`].
 pub trait Iter<'a> {
-    /// What a value means to its callers: a plain value, which every contract speaks of.
+    /// What a value means: a plain value, of which every contract speaks.
     type Meaning;
 
     // What a value means.
@@ -19,12 +20,13 @@ pub trait Iter<'a> {
     // The meanings that values have.
     ghost valid: { Self.Meaning → Type 0 };
 
-    // The ghost name of a `&mut` that the value holds, which no call changes. Where it holds none, any type will do.
+    // The ghost name of a `&mut` that the value holds, which no call changes: `tt` where it holds
+    // none.
     ghost Loan: { Type 0 };
 
     ghost loan: { Self → Loan };
 
-    // What a value owes for what its reads looked at, a whole number: 0 where nobody counts.
+    // What a value owes for the looks of its reads: 0 throughout where nobody counts them.
     ghost owed: { Self → ℤ } = { λ _. pos 0 };
 
     // The whole buffer.
@@ -36,13 +38,13 @@ pub trait Iter<'a> {
     // What `current_count` answers.
     ghost current_count: { Self.Meaning → ℕ };
 
-    // Whether no byte is ever passed over.
+    // What `is_contiguous` answers.
     ghost contiguous: { Self.Meaning → Bool };
 
-    // Which bytes are separators: those that a step may not go over, unless all is contiguous.
+    // Which bytes are separators, over which no step may go unless the value is contiguous.
     ghost separates: { Self.Meaning → ℕ → Bool };
 
-    // The meaning with the cursor at another position.
+    // What `set_cursor` leaves, for each position.
     ghost moved: { Self.Meaning → ℕ → Self.Meaning };
 
     /// The whole buffer, from its start.
@@ -54,25 +56,30 @@ pub trait Iter<'a> {
         ensures value { result ≡ cursor (meaning self.now) }
         ensures below_max { result < usize.MAX };
 
-    /// Moves the cursor to `index`, forwards or back. Counts stay. Asks that `index` is at most the length of the buffer.
+    /// Moves the cursor to `index`, forwards or back. Stored counts stay. Asks that `index` is at
+    /// most the length of the buffer.
     fn set_cursor(&mut self, index: usize)
         requires { index ≤ length (buffer (meaning self.old)) }
         ensures moves { meaning self.new ≡ moved (meaning self.old) index }
         ensures owes { cursor (meaning self.old) ≤ index → owed self.new ≤ℤ owed self.old }
         ensures keeps_loan { loan self.new ≡ loan self.old };
 
-    /// The count that this value goes by: of digits, or of bytes where nothing is passed over.
+    /// The count that this value goes by, as its type says: mostly the digits taken, or the cursor
+    /// where no byte is passed over.
     fn current_count(&self) -> usize
         ensures { result ≡ current_count (meaning self.now) };
 
-    /// Whether no byte is ever passed over.
+    /// Whether no byte is ever passed over as a separator, so that bytes may be read and stepped
+    /// over several at a time.
     fn is_contiguous(&self) -> bool
         ensures { result ≡ contiguous (meaning self.now) };
 
-    /// Moves the cursor `count` bytes on. Counts stay. Asks that so many bytes are left; and unless the value is contiguous, that
-    /// `count` is at most 1, and the byte gone over is no separator.
+    /// Moves the cursor `count` bytes on. Stored counts stay. Asks that so many bytes are left; and
+    /// unless the value is contiguous, that `count` is at most 1 and the byte gone over is no
+    /// separator. Unsafe in lexical-util; here every caller proves what it asks.
     fn step_by_unchecked(&mut self, count: usize)
-        requires { let m = meaning self.old in CanStep (buffer m) (cursor m) (contiguous m) (separates m) count }
+        requires { let m = meaning self.old in
+            CanStep (buffer m) (cursor m) (contiguous m) (separates m) count }
         ensures moves { let m = meaning self.old in meaning self.new ≡ moved m (cursor m + count) }
         ensures owes { owed self.new ≤ℤ owed self.old }
         ensures keeps_loan { loan self.new ≡ loan self.old };
@@ -82,11 +89,13 @@ pub trait Iter<'a> {
     ghost laws: { IterLaws valid buffer cursor contiguous separates moved };
 }
 
-/// The default bodies of lexical-util's `Iter`: one implementation for every implementer. Import it beside [`Iter`] to call them.
+/// The default bodies of lexical-util's `Iter`: one implementation, for every implementer. A caller
+/// imports both traits.
 pub trait IterBodies<'a>: Iter<'a> {
     /// The bytes from the cursor on.
     fn as_slice(&self) -> &'a [u8]
-        ensures { let m = Self.meaning self.now in result.now ≡ drop (Self.cursor m) (Self.buffer m) };
+        ensures { let m = Self.meaning self.now in
+            result.now ≡ drop (Self.cursor m) (Self.buffer m) };
 
     /// The length of the whole buffer.
     fn buffer_length(&self) -> usize
@@ -94,7 +103,8 @@ pub trait IterBodies<'a>: Iter<'a> {
 
     /// Whether the cursor is at the end. Passes nothing over: see [`DigitsBodies::is_consumed`].
     fn is_buffer_empty(&self) -> bool
-        ensures { let m = Self.meaning self.now in IsTrue result ↔ (Self.cursor m ≡ length (Self.buffer m)) };
+        ensures { let m = Self.meaning self.now in
+            IsTrue result ↔ (Self.cursor m ≡ length (Self.buffer m)) };
 
     /// The byte at the cursor, or `None` at the end. Passes nothing over.
     fn first(&self) -> Option<&'a u8>
@@ -104,35 +114,41 @@ pub trait IterBodies<'a>: Iter<'a> {
     /// Whether the byte at the cursor is `value`; `false` at the end.
     fn first_is_cased(&self, value: u8) -> bool
         ensures { let m = Self.meaning self.now in
-            result ≡ passes (λ b. b == value) (slice_get (Self.buffer m) (Self.cursor m)) };
+            let byte = slice_get (Self.buffer m) (Self.cursor m) in
+            result ≡ passes (λ b. b == value) byte };
 
     /// Whether the byte at the cursor is `value` by `eq_ignore_ascii_case`; `false` at the end.
     fn first_is_uncased(&self, value: u8) -> bool
         ensures { let m = Self.meaning self.now in
-            result ≡ passes (λ b. eq_ignore_ascii_case b value) (slice_get (Self.buffer m) (Self.cursor m)) };
+            let byte = slice_get (Self.buffer m) (Self.cursor m) in
+            result ≡ passes (λ b. eq_ignore_ascii_case b value) byte };
 
-    /// [`first_is_cased`](Self::first_is_cased) if `is_cased`, else [`first_is_uncased`](Self::first_is_uncased).
+    /// [`first_is_cased`](Self::first_is_cased) if `is_cased`, else
+    /// [`first_is_uncased`](Self::first_is_uncased).
     fn first_is(&self, value: u8, is_cased: bool) -> bool
         ensures { let m = Self.meaning self.now in
-            result ≡ passes (is_value value is_cased) (slice_get (Self.buffer m) (Self.cursor m)) };
+            let byte = slice_get (Self.buffer m) (Self.cursor m) in
+            result ≡ passes (is_value value is_cased) byte };
 
-    /// The four bytes from the cursor on as a number, the first byte lowest on every machine. `None` if the value is not contiguous
-    /// or fewer bytes are left.
+    /// The four bytes from the cursor on as a number, the first byte lowest on every machine.
+    /// `None` if fewer are left, or the value is not contiguous.
     fn peek_u32(&self) -> Option<u32>
         ensures { let m = Self.meaning self.now in
             result ≡ next_number w32 (Self.contiguous m) (drop (Self.cursor m) (Self.buffer m)) };
 
-    /// The eight bytes from the cursor on as a number, the first byte lowest on every machine. `None` if the value is not contiguous
-    /// or fewer bytes are left.
+    /// The eight bytes from the cursor on as a number, the first byte lowest on every machine.
+    /// `None` if fewer are left, or the value is not contiguous.
     fn peek_u64(&self) -> Option<u64>
         ensures { let m = Self.meaning self.now in
             result ≡ next_number w64 (Self.contiguous m) (drop (Self.cursor m) (Self.buffer m)) };
 
-    /// Moves the cursor one byte on. Counts stay. Asks that a byte is left; and unless the value is contiguous, that it is no separator.
+    /// Moves the cursor one byte on. Stored counts stay. Asks that a byte is left; and unless the
+    /// value is contiguous, that it is no separator.
     fn step_unchecked(&mut self)
         requires { let m = Self.meaning self.old in
             CanStep (Self.buffer m) (Self.cursor m) (Self.contiguous m) (Self.separates m) 1 }
-        ensures moves { let m = Self.meaning self.old in Self.meaning self.new ≡ Self.moved m (Self.cursor m + 1) }
+        ensures moves { let m = Self.meaning self.old in
+            Self.meaning self.new ≡ Self.moved m (Self.cursor m + 1) }
         ensures owes { Self.owed self.new ≤ℤ Self.owed self.old }
         ensures keeps_loan { Self.loan self.new ≡ Self.loan self.old };
 }
@@ -206,9 +222,9 @@ impl<'a, I: Iter<'a>> IterBodies<'a> for I {
     }
 }
 
-/// An iterator over the bytes that are kept: `DigitsIter` of lexical-util's `iterator.rs`. The place is the first kept position from
-/// the cursor on, or the length of the buffer if there is none; `next` answers the byte there. Its further calls are those of
-/// [`DigitsBodies`].
+/// An iterator over the bytes that are kept: `DigitsIter` of lexical-util's `iterator.rs`. The
+/// place is the first kept position from the cursor on, or the length of the buffer if there is
+/// none; `next` answers the byte there. Further calls: [`DigitsBodies`].
 pub trait DigitsIter<'a>: Iterator<Item = &'a u8> + Iter<'a> {
     // The first kept position from the cursor on, or the length.
     ghost place: { Self.Meaning → ℕ };
@@ -225,13 +241,14 @@ pub trait DigitsIter<'a>: Iterator<Item = &'a u8> + Iter<'a> {
     // What `next` leaves.
     ghost taken: { Self.Meaning → Self.Meaning };
 
-    /// Raises the count that this value goes by, where it has one of its own. The cursor stays.
+    /// Counts one digit more, where this value has a stored count of its own. The cursor stays.
     fn increment_count(&mut self)
         ensures counts { Self.meaning self.new ≡ counted (Self.meaning self.old) }
         ensures owes { Self.owed self.new ≤ℤ Self.owed self.old }
         ensures keeps_loan { Self.loan self.new ≡ Self.loan self.old };
 
-    /// The byte at the place, or `None` at the end. The cursor ends at the place. Counts stay.
+    /// The byte at the place, or `None` at the end. The cursor ends at the place. Stored counts
+    /// stay.
     fn peek(&mut self) -> Option<&'a u8>
         ensures byte { let m = Self.meaning self.old in
             option_copied result ≡ slice_get (Self.buffer m) (place m) }
@@ -243,95 +260,115 @@ pub trait DigitsIter<'a>: Iterator<Item = &'a u8> + Iter<'a> {
     fn is_digit(&self, value: u8) -> bool
         ensures { result ≡ digit (Self.meaning self.now) value };
 
-    // `next` may always be called; it answers the byte at the place, `None` at the end, and leaves `taken`.
+    // `next` may always be called. It answers the byte at the place, `None` at the end, and leaves
+    // `taken`.
     ghost can_next_law: { (s : Self) → Self.can_next s };
 
     ghost next_byte: { (s t : Self) (r : Option (Bor ℕ)) → Self.next_gives s r t
         → option_copied r ≡ slice_get (Self.buffer (Self.meaning s)) (place (Self.meaning s)) };
 
-    ghost next_takes: { (s t : Self) (r : Option (Bor ℕ)) → Self.next_gives s r t → Self.meaning t ≡ taken (Self.meaning s) };
+    ghost next_takes: { (s t : Self) (r : Option (Bor ℕ)) → Self.next_gives s r t
+        → Self.meaning t ≡ taken (Self.meaning s) };
 
-    ghost next_owes: { (s t : Self) (r : Option (Bor ℕ)) → Self.next_gives s r t → Self.owed t ≤ℤ (Self.owed s +ℤ pos 4) };
+    ghost next_owes: { (s t : Self) (r : Option (Bor ℕ)) → Self.next_gives s r t
+        → Self.owed t ≤ℤ (Self.owed s +ℤ pos 4) };
 
-    ghost next_keeps_loan: { (s t : Self) (r : Option (Bor ℕ)) → Self.next_gives s r t → Self.loan t ≡ Self.loan s };
+    ghost next_keeps_loan: { (s t : Self) (r : Option (Bor ℕ)) → Self.next_gives s r t
+        → Self.loan t ≡ Self.loan s };
 
-    ghost digit_laws: { DigitLaws Self.valid Self.buffer Self.cursor Self.current_count Self.contiguous Self.separates Self.moved
-        place digit settled counted taken };
+    ghost digit_laws: { DigitLaws Self.valid Self.buffer Self.cursor Self.current_count
+        Self.contiguous Self.separates Self.moved place digit settled counted taken };
 }
 
-/// The default bodies of lexical-util's `DigitsIter`: one implementation for every implementer, made of `cursor`, `peek`,
-/// `set_cursor` and `increment_count` alone. Import it beside [`DigitsIter`] to call them.
+/// The default bodies of lexical-util's `DigitsIter`: one implementation, for every implementer,
+/// made of `cursor`, `peek`, `set_cursor` and `increment_count` alone. A caller imports both
+/// traits.
 pub trait DigitsBodies<'a>: DigitsIter<'a> {
-    /// Whether no byte is left. The cursor ends at the place. Counts stay.
+    /// Whether no byte is left to be taken. The cursor ends at the place. Stored counts stay.
     fn is_consumed(&mut self) -> bool
-        ensures answers { let m = Self.meaning self.old in IsTrue result ↔ (Self.place m ≡ length (Self.buffer m)) }
+        ensures answers { let m = Self.meaning self.old in
+            IsTrue result ↔ (Self.place m ≡ length (Self.buffer m)) }
         ensures settles { Self.meaning self.new ≡ Self.settled (Self.meaning self.old) }
         ensures owes { Self.owed self.new ≤ℤ (Self.owed self.old +ℤ pos 4) }
         ensures keeps_loan { Self.loan self.new ≡ Self.loan self.old };
 
-    /// The byte at the place, or `None` at the end. The cursor ends one past the place, or at the end. Counts stay, also for a digit.
+    /// The byte at the place, or `None` at the end. The cursor ends one past the place, or at the
+    /// end. Stored counts stay, also where the byte is a digit.
     fn try_read(&mut self) -> Option<&'a u8>
         ensures byte { let m = Self.meaning self.old in
             option_copied result ≡ slice_get (Self.buffer m) (Self.place m) }
-        ensures reads { let m = Self.meaning self.old in let byte = slice_get (Self.buffer m) (Self.place m) in
-            Self.meaning self.new ≡
-            if is_some byte then Self.moved (Self.settled m) (Self.place m + 1) else Self.settled m }
+        ensures reads { let m = Self.meaning self.old in
+            let byte = slice_get (Self.buffer m) (Self.place m) in
+            Self.meaning self.new ≡ if is_some byte
+            then Self.moved (Self.settled m) (Self.place m + 1) else Self.settled m }
         ensures owes { Self.owed self.new ≤ℤ (Self.owed self.old +ℤ pos 4) }
         ensures keeps_loan { Self.loan self.new ≡ Self.loan self.old };
 
-    /// Whether the byte at the place is `value`; `false` at the end. The cursor ends at the place. Counts stay.
+    /// Whether the byte at the place is `value`; `false` at the end. The cursor ends at the place.
+    /// Stored counts stay.
     fn peek_is_cased(&mut self, value: u8) -> bool
         ensures answers { let m = Self.meaning self.old in
-            result ≡ passes (λ b. b == value) (slice_get (Self.buffer m) (Self.place m)) }
+            let byte = slice_get (Self.buffer m) (Self.place m) in
+            result ≡ passes (λ b. b == value) byte }
         ensures settles { Self.meaning self.new ≡ Self.settled (Self.meaning self.old) }
         ensures owes { Self.owed self.new ≤ℤ (Self.owed self.old +ℤ pos 4) }
         ensures keeps_loan { Self.loan self.new ≡ Self.loan self.old };
 
-    /// Whether the byte at the place is `value` by `eq_ignore_ascii_case`; `false` at the end. The cursor ends at the place. Counts
-    /// stay.
+    /// Whether the byte at the place is `value` by `eq_ignore_ascii_case`; `false` at the end. The
+    /// cursor ends at the place. Stored counts stay.
     fn peek_is_uncased(&mut self, value: u8) -> bool
         ensures answers { let m = Self.meaning self.old in
-            result ≡ passes (λ b. eq_ignore_ascii_case b value) (slice_get (Self.buffer m) (Self.place m)) }
+            let byte = slice_get (Self.buffer m) (Self.place m) in
+            result ≡ passes (λ b. eq_ignore_ascii_case b value) byte }
         ensures settles { Self.meaning self.new ≡ Self.settled (Self.meaning self.old) }
         ensures owes { Self.owed self.new ≤ℤ (Self.owed self.old +ℤ pos 4) }
         ensures keeps_loan { Self.loan self.new ≡ Self.loan self.old };
 
-    /// [`peek_is_cased`](Self::peek_is_cased) if `is_cased`, else [`peek_is_uncased`](Self::peek_is_uncased).
+    /// [`peek_is_cased`](Self::peek_is_cased) if `is_cased`, else
+    /// [`peek_is_uncased`](Self::peek_is_uncased).
     fn peek_is(&mut self, value: u8, is_cased: bool) -> bool
         ensures answers { let m = Self.meaning self.old in
-            result ≡ passes (is_value value is_cased) (slice_get (Self.buffer m) (Self.place m)) }
+            let byte = slice_get (Self.buffer m) (Self.place m) in
+            result ≡ passes (is_value value is_cased) byte }
         ensures settles { Self.meaning self.new ≡ Self.settled (Self.meaning self.old) }
         ensures owes { Self.owed self.new ≤ℤ (Self.owed self.old +ℤ pos 4) }
         ensures keeps_loan { Self.loan self.new ≡ Self.loan self.old };
 
-    /// The byte at the place if `pred` answers `true` for it. Then the cursor ends one past the place, else at the place, and the next
-    /// call finds the same byte. `pred` is called once on that byte, and at the end not at all. Counts stay. Asks that `pred` may be
-    /// called on every byte.
+    /// The byte at the place if `pred` answers `true` for it. The cursor ends one past the place if
+    /// so, else at the place: a byte that was refused is the next one again. `pred` is called once,
+    /// on the byte at the place, and at the end not at all. Stored counts stay. Asks that `pred`
+    /// may be called on every byte.
     fn read_if<Pred: FnOnce(u8) -> bool + Drop>(&mut self, pred: Pred) -> Option<u8>
         requires { (b : ℕ) → b < 256 → Pred.pre pred b }
         ensures reads { let m = Self.meaning self.old in
-            ReadsIf (Pred.post pred) (slice_get (Self.buffer m) (Self.place m))
-            (Self.settled m) (Self.moved (Self.settled m) (Self.place m + 1)) result (Self.meaning self.new) }
+            let byte = slice_get (Self.buffer m) (Self.place m) in
+            let past = Self.moved (Self.settled m) (Self.place m + 1) in
+            ReadsIf (Pred.post pred) byte (Self.settled m) past result (Self.meaning self.new) }
         ensures owes { Self.owed self.new ≤ℤ (Self.owed self.old +ℤ pos 4) }
         ensures keeps_loan { Self.loan self.new ≡ Self.loan self.old };
 
     /// [`read_if`](Self::read_if) the byte is `value`: answers `value`.
     fn read_if_value_cased(&mut self, value: u8) -> Option<u8>
         ensures answers { let m = Self.meaning self.old in
-            result ≡ byte_if (λ b. b == value) (slice_get (Self.buffer m) (Self.place m)) }
-        ensures reads { let m = Self.meaning self.old in let byte = slice_get (Self.buffer m) (Self.place m) in
-            Self.meaning self.new ≡
-            if passes (λ b. b == value) byte then Self.moved (Self.settled m) (Self.place m + 1) else Self.settled m }
+            let byte = slice_get (Self.buffer m) (Self.place m) in
+            result ≡ byte_if (λ b. b == value) byte }
+        ensures reads { let m = Self.meaning self.old in
+            let byte = slice_get (Self.buffer m) (Self.place m) in
+            Self.meaning self.new ≡ if passes (λ b. b == value) byte
+            then Self.moved (Self.settled m) (Self.place m + 1) else Self.settled m }
         ensures owes { Self.owed self.new ≤ℤ (Self.owed self.old +ℤ pos 4) }
         ensures keeps_loan { Self.loan self.new ≡ Self.loan self.old };
 
-    /// [`read_if`](Self::read_if) the byte is `value` by `eq_ignore_ascii_case`: answers the byte as it stands.
+    /// [`read_if`](Self::read_if) the byte is `value` by `eq_ignore_ascii_case`: answers the byte
+    /// as it stands.
     fn read_if_value_uncased(&mut self, value: u8) -> Option<u8>
         ensures answers { let m = Self.meaning self.old in
-            result ≡ byte_if (λ b. eq_ignore_ascii_case b value) (slice_get (Self.buffer m) (Self.place m)) }
-        ensures reads { let m = Self.meaning self.old in let byte = slice_get (Self.buffer m) (Self.place m) in
-            Self.meaning self.new ≡
-            if passes (λ b. eq_ignore_ascii_case b value) byte then Self.moved (Self.settled m) (Self.place m + 1) else Self.settled m }
+            let byte = slice_get (Self.buffer m) (Self.place m) in
+            result ≡ byte_if (λ b. eq_ignore_ascii_case b value) byte }
+        ensures reads { let m = Self.meaning self.old in
+            let byte = slice_get (Self.buffer m) (Self.place m) in
+            Self.meaning self.new ≡ if passes (λ b. eq_ignore_ascii_case b value) byte
+            then Self.moved (Self.settled m) (Self.place m + 1) else Self.settled m }
         ensures owes { Self.owed self.new ≤ℤ (Self.owed self.old +ℤ pos 4) }
         ensures keeps_loan { Self.loan self.new ≡ Self.loan self.old };
 
@@ -339,19 +376,25 @@ pub trait DigitsBodies<'a>: DigitsIter<'a> {
     /// [`read_if_value_uncased`](Self::read_if_value_uncased).
     fn read_if_value(&mut self, value: u8, is_cased: bool) -> Option<u8>
         ensures answers { let m = Self.meaning self.old in
-            result ≡ byte_if (is_value value is_cased) (slice_get (Self.buffer m) (Self.place m)) }
-        ensures reads { let m = Self.meaning self.old in let byte = slice_get (Self.buffer m) (Self.place m) in
-            Self.meaning self.new ≡
-            if passes (is_value value is_cased) byte then Self.moved (Self.settled m) (Self.place m + 1) else Self.settled m }
+            let byte = slice_get (Self.buffer m) (Self.place m) in
+            result ≡ byte_if (is_value value is_cased) byte }
+        ensures reads { let m = Self.meaning self.old in
+            let byte = slice_get (Self.buffer m) (Self.place m) in
+            Self.meaning self.new ≡ if passes (is_value value is_cased) byte
+            then Self.moved (Self.settled m) (Self.place m + 1) else Self.settled m }
         ensures owes { Self.owed self.new ≤ℤ (Self.owed self.old +ℤ pos 4) }
         ensures keeps_loan { Self.loan self.new ≡ Self.loan self.old };
 
-    /// Reads the bytes `0` from the place on, each with a call of `increment_count`, and answers how many it read. The cursor ends at
-    /// the next kept byte, or at the end.
+    /// Reads bytes `0` as long as one stands at the place, and answers how many. The cursor ends at
+    /// the next kept byte after them, or at the end. Each zero is counted as it is read, by
+    /// `increment_count`.
     fn skip_zeros(&mut self) -> usize
-        ensures answers { result ≡ zeros Self.buffer Self.cursor Self.place Self.moved Self.settled Self.counted (Self.meaning self.old) }
-        ensures reads { Self.meaning self.new ≡
-            after_zeros Self.buffer Self.cursor Self.place Self.moved Self.settled Self.counted (Self.meaning self.old) }
+        ensures answers { let m = Self.meaning self.old in
+            result ≡
+            zeros Self.buffer Self.cursor Self.place Self.moved Self.settled Self.counted m }
+        ensures reads { let m = Self.meaning self.old in
+            Self.meaning self.new ≡
+            after_zeros Self.buffer Self.cursor Self.place Self.moved Self.settled Self.counted m }
         ensures owes { Self.owed self.new ≤ℤ (Self.owed self.old +ℤ pos (4 * (result + 1))) }
         ensures keeps_loan { Self.loan self.new ≡ Self.loan self.old };
 }

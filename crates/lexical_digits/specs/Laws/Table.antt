@@ -47,12 +47,12 @@ with_own_moved Special s i n j = refl
 -- ---- states that a `Bytes` may have
 
 moved_is : (s : State) (i : ℕ) → IsState s → i ≤ length s.buffer → IsState (with_cursor s i)
-moved_is s i v h = record { within = h; word = v.word; integer = v.integer; fraction = v.fraction; exponent = v.exponent }
+moved_is s i v h = record { buffer = v.buffer; within = h; word = v.word; integer = v.integer; fraction = v.fraction; exponent = v.exponent }
 
 with_own_is : (k : Component) (s : State) (n : ℕ) → IsState s → n < 2 ^ 64 → IsState (with_own k s n)
-with_own_is Integer s n v l = record { within = v.within; word = v.word; integer = l; fraction = v.fraction; exponent = v.exponent }
-with_own_is Fraction s n v l = record { within = v.within; word = v.word; integer = v.integer; fraction = l; exponent = v.exponent }
-with_own_is Exponent s n v l = record { within = v.within; word = v.word; integer = v.integer; fraction = v.fraction; exponent = l }
+with_own_is Integer s n v l = record { buffer = v.buffer; within = v.within; word = v.word; integer = l; fraction = v.fraction; exponent = v.exponent }
+with_own_is Fraction s n v l = record { buffer = v.buffer; within = v.within; word = v.word; integer = v.integer; fraction = l; exponent = v.exponent }
+with_own_is Exponent s n v l = record { buffer = v.buffer; within = v.within; word = v.word; integer = v.integer; fraction = v.fraction; exponent = l }
 with_own_is Special s n v l = v
 
 pub own_fits : (k : Component) (s : State) → IsState s → own k s < 2 ^ 64
