@@ -1,4 +1,6 @@
 //! The decision: which byte comes next, and how many bytes are looked at to find it.
+//!
+//! In lexical-util each of fifteen rules has code of its own. Here one function judges by any rule.
 
 ghost use Rattle.std.specs.Prelude.{◌≡◌, ℕ, ◌+◌, ◌-◌, ◌*◌, ◌^◌, ◌<◌, ◌≤◌, List, Some, length, min, slice_get, slice_index, nat_lt, true, false};
 ghost use Rattle.std.specs.List.{list_any};
@@ -7,108 +9,48 @@ ghost use Rattle.lexical_digits.specs.Looks.{separator_at, slice_before, scans, 
 
 use lexical_format::char_is_digit_const;
 
-/// What is done with the separators of a component: the separator, zero where there is none, the
-/// radix of its digits, and which roles of a separator are granted.
+/// Which bytes of a component are digits and separators, and which separators are dropped.
+///
+/// A separator that has another one as its left or right side is kept. Where neither side is a digit,
+/// it is both a leading and a trailing one.
 #[derive(Clone, Copy, Debug, PartialEq, Eq)]
 pub struct Rule {
+    /// The byte that separates digits; zero means that none does.
     pub separator: u8,
+    /// The radix of the digits.
     pub radix: u32,
+    /// Drops a separator between digits.
     pub internal: bool,
+    /// Drops a separator with no digit before it.
     pub leading: bool,
+    /// Drops a separator with no digit behind it.
     pub trailing: bool,
+    /// Judges a run of separators as a single one.
     pub consecutive: bool,
-}
-
-/// What stands at a position.
-#[derive(Clone, Copy, Debug, PartialEq, Eq)]
-pub enum Class {
-    Digit,
-    Separator,
-    Other,
 }
 
 /// A maximal run of separators, at the positions `from..to`.
 ///
-/// It says where separators stand, and not what becomes of them, so it serves every rule with the
-/// same separator.
+/// It says where separators stand and nothing of what becomes of them, so it serves every rule with
+/// the same separator.
 #[derive(Clone, Copy, Debug, PartialEq, Eq)]
 pub struct Run {
     pub from: usize,
     pub to: usize,
 }
 
-/// What [`decide`] answers: the position of the next kept byte, and the run to be remembered.
+/// What [`decide`] answers.
 #[derive(Clone, Copy, Debug, PartialEq, Eq)]
 pub struct Sight {
+    /// The position of the next kept byte, or the length where no byte is kept.
     pub place: usize,
+    /// The run to be handed to the next decision.
     pub run: Option<Run>,
 }
 
-impl Rule {
-    /// Whether the byte is a digit of this radix.
-    #[tactic(auto, unfolding(crate::specs::Separators::is_digit))]
-    #[inline(always)]
-    pub(crate) fn is_digit(self, byte: u8) -> bool
-        ensures { result ≡ is_digit self byte }
-    {
-        char_is_digit_const(byte, self.radix)
-    }
-
-    /// Whether the byte is the separator.
-    #[inline(always)]
-    pub(crate) fn is_separator(self, byte: u8) -> bool
-        ensures { result ≡ is_separator self.separator byte }
-    {
-        is_separator(self.separator, byte)
-    }
-
-    /// Whether any of the four flags is set.
-    #[inline(always)]
-    pub(crate) fn has_flags(self) -> bool
-        ensures { result ≡ has_flags self }
-    {
-        self.internal || self.leading || self.trailing || self.consecutive
-    }
-
-    /// What the byte is.
-    fn class_of(self, byte: u8) -> Class
-        ensures { result ≡ class self (Some byte) }
-    {
-        if self.is_digit(byte) {
-            Class::Digit
-        } else if self.is_separator(byte) {
-            Class::Separator
-        } else {
-            Class::Other
-        }
-    }
-
-    /// Whether a separator with these sides has a role that is granted.
-    fn drops(self, left: Class, right: Class) -> bool
-        ensures { result ≡ list_any (grants self) (roles left right) }
-    {
-        match (left, right) {
-            (Class::Digit, Class::Digit) => self.internal,
-            (Class::Other, Class::Digit) => self.leading,
-            (Class::Digit, Class::Other) => self.trailing,
-            (Class::Other, Class::Other) => self.leading || self.trailing,
-            _ => false,
-        }
-    }
-}
-
-/// Whether the byte is that separator; a separator of zero means that no byte is one.
-#[tactic(auto, unfolding(crate::specs::Separators::is_separator))]
-#[inline(always)]
-fn is_separator(separator: u8, byte: u8) -> bool
-    ensures { result ≡ is_separator separator byte }
-{
-    separator != 0 && byte == separator
-}
-
-/// Bytes that are looked at one by one, and each look is counted.
+/// Bytes that are looked at one by one, and each look is counted. They never change.
 ///
-/// Positions count from 0. A source never changes its bytes.
+/// Positions count bytes from 0.
 pub trait ByteSource {
     // The bytes.
     ghost content: { Self → List ℕ };
@@ -120,19 +62,19 @@ pub trait ByteSource {
     fn length(&self) -> usize
         ensures { result ≡ length (content self.now) };
 
-    /// The byte at a position, which is one look. The count stops at `u64::MAX`.
+    /// The byte at a position. This is a look.
     fn at(&mut self, index: usize) -> u8
         requires { index < length (content self.old) }
         ensures byte { result ≡ slice_index (content self.old) index }
         ensures content { content self.new ≡ content self.old }
         ensures looks { looked self.new ≡ min (looked self.old + 1) (2 ^ 64 - 1) };
 
-    /// How many looks were counted.
+    /// How many looks were counted. The count stops at `u64::MAX`.
     fn looks(&self) -> u64
         ensures { result ≡ looked self.now };
 }
 
-/// The bytes of a slice, and how often they were looked at.
+/// The bytes of a slice.
 #[derive(Drop)]
 pub struct SliceSource<'a> {
     slc: &'a [u8],
@@ -140,7 +82,7 @@ pub struct SliceSource<'a> {
 }
 
 impl<'a> SliceSource<'a> {
-    /// The bytes of that slice, with no look counted.
+    /// The bytes of that slice, at none of which anyone looked.
     pub fn new(slc: &'a [u8]) -> SliceSource<'a>
         ensures content { ⟦<SliceSource<'a> as ByteSource>⟧.content result ≡ slc.entry.now }
         ensures looks { ⟦<SliceSource<'a> as ByteSource>⟧.looked result ≡ 0 }
@@ -168,120 +110,57 @@ impl<'a> ByteSource for SliceSource<'a> {
     }
 }
 
-/// What stands at a position, which may lie behind the last byte.
-fn class_at<S: ByteSource>(src: &mut S, rule: Rule, index: usize) -> Class
-    ensures class { result ≡ class rule (slice_get (S.content src.old) index) }
-    ensures content { S.content src.new ≡ S.content src.old }
-    ensures looks { IsLooked (S.looked src.old) 0 1 (S.looked src.new) }
-{
-    if index < src.length() {
-        rule.class_of(src.at(index))
-    } else {
-        Class::Other
-    }
-}
-
-/// What stands before a position.
-fn class_before<S: ByteSource>(src: &mut S, rule: Rule, index: usize) -> Class
-    requires { index ≤ length (S.content src.old) }
-    ensures class { result ≡ class rule (slice_before (S.content src.old) index) }
-    ensures content { S.content src.new ≡ S.content src.old }
-    ensures looks { IsLooked (S.looked src.old) 0 1 (S.looked src.new) }
-{
-    if index == 0 {
-        Class::Other
-    } else {
-        rule.class_of(src.at(index - 1))
-    }
-}
-
-/// Where the separators end that stand from a position on.
-#[tactic(auto, using(crate::proofs::Looking::separator_byte_at, crate::proofs::Looking::separator_at_past))]
-fn run_end<S: ByteSource>(src: &mut S, separator: u8, from: usize) -> usize
-    requires { from ≤ length (S.content src.old) }
-    ensures low { from ≤ result }
-    ensures high { result ≤ length (S.content src.old) }
-    ensures run { (k : ℕ) → from ≤ k → k < result → separator_at separator (S.content src.old) k ≡ true }
-    ensures behind { separator_at separator (S.content src.old) result ≡ false }
-    ensures content { S.content src.new ≡ S.content src.old }
-    ensures looks { IsLooked (S.looked src.old) (result - from) (result - from + 1) (S.looked src.new) }
-{
-    let end = src.length();
-    for i in from..end {
-        let byte = src.at(i);
-        if !is_separator(separator, byte) {
-            return i;
-        }
-    }
-    end
-}
-
-/// Where the separators start that stand up to a position.
-#[tactic(auto, using(crate::proofs::Looking::separator_byte_at))]
-fn run_start<S: ByteSource>(src: &mut S, separator: u8, to: usize) -> usize
-    requires { to ≤ length (S.content src.old) }
-    ensures high { result ≤ to }
-    ensures run { (k : ℕ) → result ≤ k → k < to → separator_at separator (S.content src.old) k ≡ true }
-    ensures before { (k : ℕ) → k + 1 ≡ result → separator_at separator (S.content src.old) k ≡ false }
-    ensures content { S.content src.new ≡ S.content src.old }
-    ensures looks { IsLooked (S.looked src.old) (to - result) (to - result + 1) (S.looked src.new) }
-{
-    for i in (0..to).rev() {
-        let byte = src.at(i);
-        if !is_separator(separator, byte) {
-            return i + 1;
-        }
-    }
-    0
-}
-
-/// The run of the separator at a position, by a scan to both sides.
-fn scan<S: ByteSource>(src: &mut S, separator: u8, at: usize) -> Run
-    requires within { at < length (S.content src.old) }
-    requires separator { separator_at separator (S.content src.old) at ≡ true }
-    ensures run { IsRun separator (S.content src.old) result.from result.to }
-    ensures low { result.from ≤ at }
-    ensures high { at < result.to }
-    ensures content { S.content src.new ≡ S.content src.old }
-    ensures looks { IsLooked (S.looked src.old) (result.to - result.from) (result.to - result.from + 2) (S.looked src.new) }
-{
-    let from = run_start(src, separator, at);
-    let to = run_end(src, separator, at);
-    Run { from, to }
-}
-
-/// The left side of a separator: a digit where one was counted, whatever stands there.
-fn left_of<S: ByteSource>(src: &mut S, rule: Rule, at: usize, counted: bool, span: Run) -> Class
-    requires { IsSpan rule (S.content src.old) at span.from span.to }
-    ensures class { result ≡ left_side rule (S.content src.old) counted at }
-    ensures content { S.content src.new ≡ S.content src.old }
-    ensures looks { IsLooked (S.looked src.old) 0 1 (S.looked src.new) }
-{
-    if counted {
-        Class::Digit
-    } else {
-        class_before(src, rule, span.from)
-    }
-}
-
-/// The place from a separator on, by what stands on both sides of its span.
-#[tactic(auto, using(crate::proofs::Spans::place_dropped_by, crate::proofs::Spans::place_kept_by))]
-fn judge<S: ByteSource>(src: &mut S, rule: Rule, at: usize, counted: bool, span: Run) -> usize
+/// The position of the next kept byte, from position `at` on, and the run to be remembered.
+///
+/// `counted` says that the count of digits is above zero: then a digit is the left side of each
+/// separator, whatever stands there. `run` is a run of this source that was answered before, under
+/// any rule with the same separator, or `None`.
+///
+/// A run is looked for only at a separator that `run` doesn't hold, under a consecutive rule. Of a
+/// length r, it then takes r to 3 + 3r looks, and is answered. Else there are at most 3 looks, and
+/// the answer has `run` as it was.
+#[tactic(auto, using(crate::proofs::Looking::separator_byte_at, crate::proofs::Looking::separator_at_past, crate::proofs::Looking::place_at_other))]
+pub fn decide<S: ByteSource>(
+    src: &mut S,
+    rule: Rule,
+    at: usize,
+    counted: bool,
+    run: Option<Run>,
+) -> Sight
     requires supported { IsSupported rule }
-    requires separator { separator_at rule.separator (S.content src.old) at ≡ true }
-    requires span { IsSpan rule (S.content src.old) at span.from span.to }
-    ensures place { (count : ℕ) → counted ≡ nat_lt 0 count → result ≡ place rule (S.content src.old) at count }
+    requires within { at ≤ length (S.content src.old) }
+    requires remembered { IsRunOrNone rule.separator (S.content src.old) run }
+    ensures place { (count : ℕ) → counted ≡ nat_lt 0 count
+        → result.place ≡ place rule (S.content src.old) at count }
     ensures content { S.content src.new ≡ S.content src.old }
-    ensures looks { IsLooked (S.looked src.old) 0 2 (S.looked src.new) }
+    ensures run { IsRunOrNone rule.separator (S.content src.old) result.run }
+
+    // Where no run had to be looked for.
+    ensures unscanned_run { scans rule (S.content src.old) at run ≡ false
+        → result.run ≡ run }
+    ensures unscanned_looks { scans rule (S.content src.old) at run ≡ false
+        → IsLooked (S.looked src.old) 0 3 (S.looked src.new) }
+
+    // Where one was.
+    ensures scanned_run { scans rule (S.content src.old) at run ≡ true
+        → run_holds result.run at ≡ true }
+    ensures scanned_looks { scans rule (S.content src.old) at run ≡ true
+        → IsLooked (S.looked src.old)
+        (run_length result.run) (3 + 3 * run_length result.run) (S.looked src.new) }
 {
-    let left = left_of(src, rule, at, counted, span);
-    let right = class_at(src, rule, span.to);
-    if rule.drops(left, right) { span.to } else { at }
+    if at == src.length() {
+        return Sight { place: at, run };
+    }
+    let byte = src.at(at);
+    if !rule.is_separator(byte) {
+        return Sight { place: at, run };
+    }
+    decide_separator(src, rule, at, counted, run)
 }
 
 /// As [`decide`], at a separator that was looked at already.
 #[tactic(auto, using(crate::proofs::Spans::span_alone, crate::proofs::Spans::span_of_run))]
-pub(crate) fn decide_separator<S: ByteSource>(
+fn decide_separator<S: ByteSource>(
     src: &mut S,
     rule: Rule,
     at: usize,
@@ -292,13 +171,19 @@ pub(crate) fn decide_separator<S: ByteSource>(
     requires within { at < length (S.content src.old) }
     requires separator { separator_at rule.separator (S.content src.old) at ≡ true }
     requires remembered { IsRunOrNone rule.separator (S.content src.old) run }
-    ensures place { (count : ℕ) → counted ≡ nat_lt 0 count → result.place ≡ place rule (S.content src.old) at count }
+    ensures place { (count : ℕ) → counted ≡ nat_lt 0 count
+        → result.place ≡ place rule (S.content src.old) at count }
     ensures content { S.content src.new ≡ S.content src.old }
     ensures run { IsRunOrNone rule.separator (S.content src.old) result.run }
-    ensures unscanned_run { scans rule (S.content src.old) at run ≡ false → result.run ≡ run }
-    ensures unscanned_looks { scans rule (S.content src.old) at run ≡ false → IsLooked (S.looked src.old) 0 2 (S.looked src.new) }
-    ensures scanned_run { scans rule (S.content src.old) at run ≡ true → run_holds result.run at ≡ true }
-    ensures scanned_looks { scans rule (S.content src.old) at run ≡ true → IsLooked (S.looked src.old) (run_length result.run) (2 + 3 * run_length result.run) (S.looked src.new) }
+    ensures unscanned_run { scans rule (S.content src.old) at run ≡ false
+        → result.run ≡ run }
+    ensures unscanned_looks { scans rule (S.content src.old) at run ≡ false
+        → IsLooked (S.looked src.old) 0 2 (S.looked src.new) }
+    ensures scanned_run { scans rule (S.content src.old) at run ≡ true
+        → run_holds result.run at ≡ true }
+    ensures scanned_looks { scans rule (S.content src.old) at run ≡ true
+        → IsLooked (S.looked src.old)
+        (run_length result.run) (2 + 3 * run_length result.run) (S.looked src.new) }
 {
     if rule.consecutive {
         if let Some(known) = run
@@ -308,7 +193,7 @@ pub(crate) fn decide_separator<S: ByteSource>(
             let place = judge(src, rule, at, counted, known);
             return Sight { place, run };
         }
-        let found = scan(src, rule.separator, at);
+        let found = scan(src, rule, at);
         let place = judge(src, rule, at, counted, found);
         Sight {
             place,
@@ -326,50 +211,230 @@ pub(crate) fn decide_separator<S: ByteSource>(
     }
 }
 
-/// Where the next kept byte stands, from position `at` on, and the run to be remembered.
-///
-/// The place is the length of the source where no byte is kept. `counted` tells whether a digit was
-/// counted before `at`: it then stands for the left side of a separator. `run` is a run of this
-/// source that an earlier call answered, whatever its rule, or `None`.
-///
-/// A run is looked for only at a separator under a consecutive rule, where `run` doesn't hold it. The
-/// answer then has that run, of a length r, for r to 3 + 3r looks. Else the answer has the run that
-/// was handed in, for at most 3 looks.
-#[tactic(auto, using(crate::proofs::Looking::separator_byte_at, crate::proofs::Looking::separator_at_past, crate::proofs::Looking::place_at_other))]
-pub fn decide<S: ByteSource>(
-    src: &mut S,
-    rule: Rule,
-    at: usize,
-    counted: bool,
-    run: Option<Run>,
-) -> Sight
+/// The place from a separator on, by what stands on both sides of the span that is judged as one.
+#[tactic(auto, using(crate::proofs::Spans::place_dropped_by, crate::proofs::Spans::place_kept_by))]
+fn judge<S: ByteSource>(src: &mut S, rule: Rule, at: usize, counted: bool, span: Run) -> usize
     requires supported { IsSupported rule }
-    requires within { at ≤ length (S.content src.old) }
-    requires remembered { IsRunOrNone rule.separator (S.content src.old) run }
-    ensures place { (count : ℕ) → counted ≡ nat_lt 0 count → result.place ≡ place rule (S.content src.old) at count }
+    requires separator { separator_at rule.separator (S.content src.old) at ≡ true }
+    requires span { IsSpan rule (S.content src.old) at span.from span.to }
+    ensures place { (count : ℕ) → counted ≡ nat_lt 0 count
+        → result ≡ place rule (S.content src.old) at count }
     ensures content { S.content src.new ≡ S.content src.old }
-    ensures run { IsRunOrNone rule.separator (S.content src.old) result.run }
-    ensures unscanned_run { scans rule (S.content src.old) at run ≡ false → result.run ≡ run }
-    ensures unscanned_looks { scans rule (S.content src.old) at run ≡ false → IsLooked (S.looked src.old) 0 3 (S.looked src.new) }
-    ensures scanned_run { scans rule (S.content src.old) at run ≡ true → run_holds result.run at ≡ true }
-    ensures scanned_looks { scans rule (S.content src.old) at run ≡ true → IsLooked (S.looked src.old) (run_length result.run) (3 + 3 * run_length result.run) (S.looked src.new) }
+    ensures looks { IsLooked (S.looked src.old) 0 2 (S.looked src.new) }
 {
-    if at == src.length() {
-        return Sight { place: at, run };
-    }
-    let byte = src.at(at);
-    if !rule.is_separator(byte) {
-        return Sight { place: at, run };
-    }
-    decide_separator(src, rule, at, counted, run)
+    let left = left_of(src, rule, at, counted, span);
+    let right = class_at(src, rule, span.to);
+    if rule.drops(left, right) { span.to } else { at }
 }
 
-/// Where a read from a position on ends, the run to be remembered, and all looks counted by then.
+/// The left side of a separator.
+fn left_of<S: ByteSource>(src: &mut S, rule: Rule, at: usize, counted: bool, span: Run) -> Class
+    requires { IsSpan rule (S.content src.old) at span.from span.to }
+    ensures class { result ≡ left_side rule (S.content src.old) counted at }
+    ensures content { S.content src.new ≡ S.content src.old }
+    ensures looks { IsLooked (S.looked src.old) 0 1 (S.looked src.new) }
+{
+    if counted {
+        Class::Digit
+    } else {
+        class_before(src, rule, span.from)
+    }
+}
+
+/// What stands before a position.
+fn class_before<S: ByteSource>(src: &mut S, rule: Rule, index: usize) -> Class
+    requires { index ≤ length (S.content src.old) }
+    ensures class { result ≡ class rule (slice_before (S.content src.old) index) }
+    ensures content { S.content src.new ≡ S.content src.old }
+    ensures looks { IsLooked (S.looked src.old) 0 1 (S.looked src.new) }
+{
+    if index == 0 {
+        Class::Other
+    } else {
+        rule.class_of(src.at(index - 1))
+    }
+}
+
+/// What stands at a position, which may be the length.
+fn class_at<S: ByteSource>(src: &mut S, rule: Rule, index: usize) -> Class
+    ensures class { result ≡ class rule (slice_get (S.content src.old) index) }
+    ensures content { S.content src.new ≡ S.content src.old }
+    ensures looks { IsLooked (S.looked src.old) 0 1 (S.looked src.new) }
+{
+    if index < src.length() {
+        rule.class_of(src.at(index))
+    } else {
+        Class::Other
+    }
+}
+
+/// The run of the separator at a position, by a scan to both sides.
+fn scan<S: ByteSource>(src: &mut S, rule: Rule, at: usize) -> Run
+    requires within { at < length (S.content src.old) }
+    requires separator { separator_at rule.separator (S.content src.old) at ≡ true }
+    ensures run { IsRun rule.separator (S.content src.old) result.from result.to }
+    ensures low { result.from ≤ at }
+    ensures high { at < result.to }
+    ensures content { S.content src.new ≡ S.content src.old }
+    ensures looks { IsLooked (S.looked src.old)
+        (result.to - result.from) (result.to - result.from + 2) (S.looked src.new) }
+{
+    let from = run_start(src, rule, at);
+    let to = run_end(src, rule, at);
+    Run { from, to }
+}
+
+/// Where the separators start that stand right before a position.
+#[tactic(auto, using(crate::proofs::Looking::separator_byte_at))]
+fn run_start<S: ByteSource>(src: &mut S, rule: Rule, to: usize) -> usize
+    requires { to ≤ length (S.content src.old) }
+    ensures high { result ≤ to }
+    ensures run { (k : ℕ) → result ≤ k → k < to
+        → separator_at rule.separator (S.content src.old) k ≡ true }
+    ensures before { (k : ℕ) → k + 1 ≡ result
+        → separator_at rule.separator (S.content src.old) k ≡ false }
+    ensures content { S.content src.new ≡ S.content src.old }
+    ensures looks { IsLooked (S.looked src.old) (to - result) (to - result + 1) (S.looked src.new) }
+{
+    for i in (0..to).rev() {
+        let byte = src.at(i);
+        if !rule.is_separator(byte) {
+            return i + 1;
+        }
+    }
+    0
+}
+
+/// Where the separators end that stand from a position on.
+#[tactic(auto, using(crate::proofs::Looking::separator_byte_at, crate::proofs::Looking::separator_at_past))]
+fn run_end<S: ByteSource>(src: &mut S, rule: Rule, from: usize) -> usize
+    requires { from ≤ length (S.content src.old) }
+    ensures low { from ≤ result }
+    ensures high { result ≤ length (S.content src.old) }
+    ensures run { (k : ℕ) → from ≤ k → k < result
+        → separator_at rule.separator (S.content src.old) k ≡ true }
+    ensures behind { separator_at rule.separator (S.content src.old) result ≡ false }
+    ensures content { S.content src.new ≡ S.content src.old }
+    ensures looks { IsLooked (S.looked src.old)
+        (result - from) (result - from + 1) (S.looked src.new) }
+{
+    let end = src.length();
+    for i in from..end {
+        let byte = src.at(i);
+        if !rule.is_separator(byte) {
+            return i;
+        }
+    }
+    end
+}
+
+/// What stands at a position.
+#[derive(Clone, Copy)]
+pub(crate) enum Class {
+    Digit,
+    Separator,
+    Other,
+}
+
+impl Rule {
+    /// Whether the byte is a digit.
+    #[tactic(auto, unfolding(crate::specs::Separators::is_digit))]
+    #[inline(always)]
+    pub(crate) fn is_digit(self, byte: u8) -> bool
+        ensures { result ≡ is_digit self byte }
+    {
+        char_is_digit_const(byte, self.radix)
+    }
+
+    /// Whether the byte is a separator.
+    #[tactic(auto, unfolding(crate::specs::Separators::is_separator))]
+    #[inline(always)]
+    pub(crate) fn is_separator(self, byte: u8) -> bool
+        ensures { result ≡ is_separator self.separator byte }
+    {
+        self.separator != 0 && byte == self.separator
+    }
+
+    /// Whether any flag is set.
+    #[inline(always)]
+    pub(crate) fn has_flags(self) -> bool
+        ensures { result ≡ has_flags self }
+    {
+        self.internal || self.leading || self.trailing || self.consecutive
+    }
+
+    fn class_of(self, byte: u8) -> Class
+        ensures { result ≡ class self (Some byte) }
+    {
+        if self.is_digit(byte) {
+            Class::Digit
+        } else if self.is_separator(byte) {
+            Class::Separator
+        } else {
+            Class::Other
+        }
+    }
+
+    /// Whether a separator with these sides has a role that is granted.
+    fn drops(self, left: Class, right: Class) -> bool
+        ensures { result ≡ list_any (grants self) (roles left right) }
+    {
+        match (left, right) {
+            (Class::Digit, Class::Digit) => self.internal,
+            (Class::Other, Class::Digit) => self.leading,
+            (Class::Digit, Class::Other) => self.trailing,
+            (Class::Other, Class::Other) => self.leading || self.trailing,
+            _ => false,
+        }
+    }
+}
+
+/// Where a read ends, the run to be remembered, and how many looks were counted by then.
 #[derive(Clone, Copy)]
 pub(crate) struct Seen {
     pub(crate) place: usize,
     pub(crate) run: Option<Run>,
     pub(crate) looks: u64,
+}
+
+/// The place from a position on, after so many looks.
+///
+/// There is no look at the end, and one at a byte that is no separator. At a separator there is
+/// that look, those of the decision, and one at the byte of the place.
+#[tactic(auto, using(crate::proofs::Looking::separator_byte_at, crate::proofs::Looking::separator_at_past, crate::proofs::Looking::place_at_other))]
+#[inline(always)]
+pub(crate) fn read(
+    slc: &[u8],
+    rule: Rule,
+    at: usize,
+    count: usize,
+    run: Option<Run>,
+    looks: u64,
+) -> Seen
+    requires supported { IsSupported rule }
+    requires within { at ≤ length slc.now }
+    requires remembered { IsRunOrNone rule.separator slc.now run }
+    ensures place { result.place ≡ place rule slc.now at count }
+    ensures low { at ≤ result.place }
+    ensures high { result.place ≤ length slc.now }
+    ensures cost { Saw rule slc.now at run looks
+        (nat_lt result.place (length slc.now)) result.run result.looks }
+{
+    if at == slc.len() {
+        return Seen {
+            place: at,
+            run,
+            looks,
+        };
+    }
+    if rule.is_separator(slc[at]) {
+        return read_separator(slc, rule, at, 0 < count, run, looks);
+    }
+    Seen {
+        place: at,
+        run,
+        looks: looks.saturating_add(1),
+    }
 }
 
 /// As [`read`], at a separator.
@@ -386,8 +451,10 @@ fn read_separator(
     requires within { at < length slc.now }
     requires separator { separator_at rule.separator slc.now at ≡ true }
     requires remembered { IsRunOrNone rule.separator slc.now run }
-    ensures place { (count : ℕ) → counted ≡ nat_lt 0 count → result.place ≡ place rule slc.now at count }
-    ensures cost { Saw rule slc.now at run looks (nat_lt result.place (length slc.now)) result.run result.looks }
+    ensures place { (count : ℕ) → counted ≡ nat_lt 0 count
+        → result.place ≡ place rule slc.now at count }
+    ensures cost { Saw rule slc.now at run looks
+        (nat_lt result.place (length slc.now)) result.run result.looks }
 {
     let mut src = SliceSource::new(slc);
     let sight = decide_separator(&mut src, rule, at, counted, run);
@@ -399,43 +466,5 @@ fn read_separator(
         place: sight.place,
         run: sight.run,
         looks,
-    }
-}
-
-/// The place from a position on, with all looks that a read takes: none at the end, one at a byte
-/// that is no separator; at a separator that one, those of the decision, and one for the byte at the
-/// place.
-#[tactic(auto, using(crate::proofs::Looking::separator_byte_at, crate::proofs::Looking::separator_at_past, crate::proofs::Looking::place_at_other, crate::specs::Laws::Place::place_low, crate::specs::Laws::Place::place_high))]
-#[inline(always)]
-pub(crate) fn read(
-    slc: &[u8],
-    rule: Rule,
-    at: usize,
-    count: usize,
-    run: Option<Run>,
-    looks: u64,
-) -> Seen
-    requires supported { IsSupported rule }
-    requires within { at ≤ length slc.now }
-    requires remembered { IsRunOrNone rule.separator slc.now run }
-    ensures place { result.place ≡ place rule slc.now at count }
-    ensures low { at ≤ result.place }
-    ensures high { result.place ≤ length slc.now }
-    ensures cost { Saw rule slc.now at run looks (nat_lt result.place (length slc.now)) result.run result.looks }
-{
-    if at == slc.len() {
-        return Seen {
-            place: at,
-            run,
-            looks,
-        };
-    }
-    if rule.is_separator(slc[at]) {
-        return read_separator(slc, rule, at, 0 < count, run, looks);
-    }
-    Seen {
-        place: at,
-        run,
-        looks: looks.saturating_add(1),
     }
 }
