@@ -57,6 +57,11 @@ pub record IsSpan (rule : Rule) (buffer : List ℕ) (at from to : ℕ) : Type 0 
 
 -- ---- looks
 
+-- a source of bytes that counts the looks at them
+pub record Source : Type 0 where
+  pub content : List ℕ
+  pub looked : ℕ
+
 -- at least `low` looks more, as far as a counter goes that stops at its greatest number, and at most `high` more
 pub record IsLooked (old low high new : ℕ) : Type 0 where
   pub at_least : min (old + low) (2 ^ 64 - 1) ≤ new

@@ -8,6 +8,7 @@ ghost use Rattle.lexical_digits.specs.Separators.{class, is_digit, is_separator,
 ghost use Rattle.lexical_digits.specs.Looks.{separator_at, slice_before, scans, run_holds, run_length, IsRun, IsRunOrNone, IsSpan, IsLooked, Saw};
 
 use lexical_format::char_is_digit_const;
+use std::marker::Model;
 
 /// Which bytes of a component are digits and separators, and which separators are dropped.
 ///
@@ -81,20 +82,28 @@ pub struct SliceSource<'a> {
     looks: u64,
 }
 
+impl<'a> Model for SliceSource<'a> {
+    ghost use Rattle.lexical_digits.specs.Looks.{Source};
+
+    ghost Value = { Source };
+
+    ghost view = { λ s. record { content = s.slc.now; looked = s.looks } };
+}
+
 impl<'a> SliceSource<'a> {
     /// The bytes of that slice, at none of which anyone looked.
     pub fn new(slc: &'a [u8]) -> SliceSource<'a>
-        ensures content { ⟦<SliceSource<'a> as ByteSource>⟧.content result ≡ slc.entry.now }
-        ensures looks { ⟦<SliceSource<'a> as ByteSource>⟧.looked result ≡ 0 }
+        ensures content { result.content ≡ slc.now }
+        ensures looks { result.looked ≡ 0 }
     {
         SliceSource { slc, looks: 0 }
     }
 }
 
 impl<'a> ByteSource for SliceSource<'a> {
-    ghost content = { λ s. s.slc.now };
+    ghost content = { λ s. s.content };
 
-    ghost looked = { λ s. s.looks };
+    ghost looked = { λ s. s.looked };
 
     fn length(&self) -> usize {
         self.slc.len()
