@@ -1,0 +1,176 @@
+-- A line of the input: four fields, each followed by one space, and then the text.
+use Rattle.std.specs.Prelude.{◌≡◌, ◌≢◌, ℕ, ◌+◌, ◌*◌, ◌^◌, ◌==◌, ◌&&◌, nat_le, nat_lt, if◌then◌else◌, Bool, false, true, List, ◌∷◌, ◌++◌, length, take, drop, position, count_by, All, Option, Some, None, option_map, codes, bytes_eq}
+use Rattle.std.specs.List.{list_all}
+use Rattle.std.specs.Char.{digit_value}
+use Rattle.std.specs.Str.Parse.{digits_value}
+use Rattle.lexical_format.specs.Word.{bits}
+use Rattle.lexical_digits.specs.State.{rule_of}
+use Rattle.lexical_digits.specs.declared.skip.decision.Rule.{Rule}
+use Rattle.lexical_digits.specs.declared.skip.component.Component.{Component}
+use Rattle.lexical_digits.specs.declared.skip.component.Component.TheVariants.{Integer, Fraction, Exponent, Special}
+use Rattle.digit_drain.specs.declared.line.Radix.{Radix}
+use Rattle.digit_drain.specs.declared.line.Flags.{Flags}
+use Rattle.digit_drain.specs.declared.line.Request.{Request}
+
+infixl 10 ◌>>=◌
+abbrev pub ◌>>=◌ : {A B : Type 0} → Option A → (A → Option B) → Option B
+(Some x) >>= f = f x
+None >>= f = None
+
+-- what stands before the first `mark`, and what stands after it
+abbrev pub cut : ℕ → List ℕ → Option (List ℕ × List ℕ)
+cut mark bytes = option_map (λ i. (take i bytes, drop (i + 1) bytes)) (position (λ byte. byte == mark) bytes)
+
+-- ---- the fields
+
+abbrev pub component_of : List ℕ → Option Component
+component_of field =
+    if bytes_eq field (codes "integer") then Some Integer
+    else if bytes_eq field (codes "fraction") then Some Fraction
+    else if bytes_eq field (codes "exponent") then Some Exponent
+    else if bytes_eq field (codes "special") then Some Special
+    else None
+
+-- the number that a field of digits writes, if a byte holds it
+abbrev pub number_of : ℕ → List ℕ → Option ℕ
+number_of radix field =
+    if list_all (λ byte. nat_lt (digit_value byte) radix) field && nat_lt (digits_value radix field) 256
+    then Some (digits_value radix field)
+    else None
+
+-- one to three decimal digits
+abbrev pub decimal_of : List ℕ → Option ℕ
+decimal_of field = if nat_le 1 (length field) && nat_le (length field) 3 then number_of 10 field else None
+
+-- two hexadecimal digits
+abbrev pub hexadecimal_of : List ℕ → Option ℕ
+hexadecimal_of field = if length field == 2 then number_of 16 field else None
+
+-- `m` or `m/e`; an `e` that is missing is zero
+abbrev pub radix_of_parts : List ℕ → Option (List ℕ × List ℕ) → Option Radix
+radix_of_parts field None = do
+  mantissa ← decimal_of field
+  Some (record { mantissa = mantissa; exponent = 0 })
+radix_of_parts field (Some parts) = do
+  mantissa ← decimal_of parts.0
+  exponent ← decimal_of parts.1
+  Some (record { mantissa = mantissa; exponent = exponent })
+
+unfoldable pub radix_of : List ℕ → Option Radix
+radix_of field = radix_of_parts field (cut 47 field)
+
+abbrev pub no_flags : Flags
+no_flags = record { internal = false; leading = false; trailing = false; consecutive = false; special = false }
+
+-- how often a letter stands in a field
+abbrev pub times : ℕ → List ℕ → ℕ
+times letter field = count_by (λ byte. byte == letter) field
+
+-- one or more of the letters I, L, T and C, none twice, and nothing else
+abbrev pub are_number_flags : List ℕ → Bool
+are_number_flags field =
+    nat_le (times 73 field) 1 && nat_le (times 76 field) 1 && nat_le (times 84 field) 1 && nat_le (times 67 field) 1
+    && (times 73 field + times 76 field + times 84 field + times 67 field == length field) && nat_lt 0 (length field)
+
+abbrev pub number_flags_of : List ℕ → Option Flags
+number_flags_of field =
+    if are_number_flags field
+    then Some (record { internal = times 73 field == 1; leading = times 76 field == 1; trailing = times 84 field == 1; consecutive = times 67 field == 1; special = false })
+    else None
+
+-- the letter S
+abbrev pub special_flags_of : List ℕ → Option Flags
+special_flags_of field = if bytes_eq field (codes "S") then Some (record no_flags { special = true }) else None
+
+abbrev pub letters_of : Component → List ℕ → Option Flags
+letters_of Integer field = number_flags_of field
+letters_of Fraction field = number_flags_of field
+letters_of Exponent field = number_flags_of field
+letters_of Special field = special_flags_of field
+
+-- `-`, or the letters of the component
+abbrev pub flags_of : Component → List ℕ → Option Flags
+flags_of component field = if bytes_eq field (codes "-") then Some no_flags else letters_of component field
+
+-- ---- the line
+
+-- what a line asks for, without where its text lies in memory
+pub record Asked : Type 0 where
+  pub component : Component
+  pub radix : Radix
+  pub separator : ℕ
+  pub flags : Flags
+  pub text : List ℕ
+
+abbrev pub asked_by : Request → Asked
+asked_by r = record { component = r.component; radix = r.radix; separator = r.separator; flags = r.flags; text = r.text.now }
+
+-- what a line asks for, if it is a request
+unfoldable pub request_of : List ℕ → Option Asked
+request_of line = do
+  component ← cut 32 line
+  radix ← cut 32 component.1
+  separator ← cut 32 radix.1
+  flags ← cut 32 separator.1
+  c ← component_of component.0
+  r ← radix_of radix.0
+  s ← hexadecimal_of separator.0
+  f ← flags_of c flags.0
+  Some (record { component = c; radix = r; separator = s; flags = f; text = flags.1 })
+
+-- The line is four fields without a space in them, each followed by a space, and then the text.
+pub record Spells (line : List ℕ) (asked : Asked) : Type 0 where
+  pub component : List ℕ
+  pub radix : List ℕ
+  pub separator : List ℕ
+  pub flags : List ℕ
+  pub line_is : line ≡ component ++ 32 ∷ (radix ++ 32 ∷ (separator ++ 32 ∷ (flags ++ 32 ∷ asked.text)))
+  pub no_spaces : All (λ byte. byte ≢ 32) component × All (λ byte. byte ≢ 32) radix × All (λ byte. byte ≢ 32) separator × All (λ byte. byte ≢ 32) flags
+  pub component_is : component_of component ≡ Some asked.component
+  pub radix_is : radix_of radix ≡ Some asked.radix
+  pub separator_is : hexadecimal_of separator ≡ Some asked.separator
+  pub flags_are : flags_of asked.component flags ≡ Some asked.flags
+
+-- ---- the word
+
+-- how far above those of integer a component's flags stand; special has one flag, which stands elsewhere
+abbrev pub flags_above : Component → ℕ
+flags_above Integer = 0
+flags_above Fraction = 1
+flags_above Exponent = 2
+flags_above Special = 0
+
+abbrev pub bit_if : Bool → ℕ → ℕ
+bit_if is_set place = if is_set then 2 ^ place else 0
+
+-- the format word with the radixes, the separator and the flags that a line names, and nothing else
+unfoldable pub word_of : Asked → ℕ
+word_of asked =
+    asked.radix.exponent * 2 ^ 120 + asked.radix.mantissa * 2 ^ 104 + asked.separator * 2 ^ 64
+    + bit_if asked.flags.internal (32 + flags_above asked.component) + bit_if asked.flags.leading (35 + flags_above asked.component)
+    + bit_if asked.flags.trailing (38 + flags_above asked.component) + bit_if asked.flags.consecutive (41 + flags_above asked.component)
+    + bit_if asked.flags.special 44
+
+-- what a request grants its component; special's flag grants everything
+abbrev pub rule_asked : Component → Asked → Rule
+rule_asked Special asked = record {
+  separator = asked.separator;
+  radix = asked.radix.mantissa;
+  internal = asked.flags.special;
+  leading = asked.flags.special;
+  trailing = asked.flags.special;
+  consecutive = asked.flags.special;
+}
+rule_asked component asked = record {
+  separator = asked.separator;
+  radix = asked.radix.mantissa;
+  internal = asked.flags.internal;
+  leading = asked.flags.leading;
+  trailing = asked.flags.trailing;
+  consecutive = asked.flags.consecutive;
+}
+
+-- a word gives a request's component the rule that the request asks for, and has its exponent radix
+pub record Says (word : ℕ) (asked : Asked) : Type 0 where
+  pub rule : rule_of word asked.component ≡ rule_asked asked.component asked
+  pub exponent_radix : bits word 120 8 ≡ asked.radix.exponent
