@@ -1,0 +1,4 @@
+pub mod Steps
+pub mod Comes
+pub mod Ungranted
+pub mod Agrees
