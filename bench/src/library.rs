@@ -1,0 +1,56 @@
+//! The proved library, by its exports. A word crosses as its two halves, and a slice as its pointer
+//! and length.
+
+/// What a drain came to, in the library's order.
+#[repr(C)]
+#[derive(Clone, Copy, Debug, Default)]
+pub struct Outcome {
+    /// The sum of the bytes, or the number that they make.
+    pub value: u64,
+    /// What `current_count` answers after the drain.
+    pub count: u64,
+    /// How many looks at a byte were counted: the library alone counts them.
+    pub looks: u64,
+}
+
+pub type Export = unsafe extern "C" fn(*const u8, usize, u64, u64, *mut Outcome);
+pub type ManyExport = unsafe extern "C" fn(*const u8, usize, *const u8, usize, u64, u64, *mut Outcome);
+
+unsafe extern "C" {
+    pub fn digit_bench_sum(text: *const u8, len: usize, low: u64, high: u64, out: *mut Outcome);
+    pub fn digit_bench_number(text: *const u8, len: usize, low: u64, high: u64, out: *mut Outcome);
+    pub fn digit_bench_peeked(text: *const u8, len: usize, low: u64, high: u64, out: *mut Outcome);
+    pub fn digit_bench_handed(text: *const u8, len: usize, low: u64, high: u64, out: *mut Outcome);
+    pub fn digit_bench_plain_sum(text: *const u8, len: usize, low: u64, high: u64, out: *mut Outcome);
+    pub fn digit_bench_plain_number(text: *const u8, len: usize, low: u64, high: u64, out: *mut Outcome);
+    pub fn digit_bench_plain_peeked(text: *const u8, len: usize, low: u64, high: u64, out: *mut Outcome);
+    pub safe fn digit_bench_size() -> usize;
+    pub fn digit_bench_numbers(
+        text: *const u8,
+        len: usize,
+        lengths: *const u8,
+        count: usize,
+        low: u64,
+        high: u64,
+        out: *mut Outcome,
+    );
+}
+
+/// Calls an export on a text.
+pub fn call(export: Export, text: &[u8], word: u128) -> Outcome {
+    let mut outcome = Outcome::default();
+    let (low, high) = (word as u64, (word >> 64) as u64);
+    // SAFETY: the pointers are those of a slice and of a local, and the export keeps neither.
+    unsafe { export(text.as_ptr(), text.len(), low, high, &mut outcome) };
+    outcome
+}
+
+/// Calls an export on many texts that stand one behind another.
+pub fn call_many(export: ManyExport, text: &[u8], lengths: &[u8], word: u128) -> Outcome {
+    let mut outcome = Outcome::default();
+    let (low, high) = (word as u64, (word >> 64) as u64);
+    let (bytes, counts) = (text.as_ptr(), lengths.as_ptr());
+    // SAFETY: as in `call`.
+    unsafe { export(bytes, text.len(), counts, lengths.len(), low, high, &mut outcome) };
+    outcome
+}

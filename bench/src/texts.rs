@@ -1,0 +1,85 @@
+//! The texts that are drained. They are the same in each run.
+
+/// Bytes, and where they are many numbers, the lengths of these.
+pub struct Text {
+    pub bytes: Vec<u8>,
+    pub lengths: Vec<u8>,
+}
+
+impl From<Vec<u8>> for Text {
+    fn from(bytes: Vec<u8>) -> Self {
+        Text { bytes, lengths: Vec::new() }
+    }
+}
+
+/// Numbers without a pattern (xorshift64).
+struct Random(u64);
+
+impl Random {
+    fn below(&mut self, bound: u64) -> u64 {
+        self.0 ^= self.0 << 13;
+        self.0 ^= self.0 >> 7;
+        self.0 ^= self.0 << 17;
+        (self.0 >> 11) % bound
+    }
+
+    fn digit(&mut self) -> u8 {
+        b'0' + self.below(10) as u8
+    }
+}
+
+const SEED: u64 = 0x9E37_79B9_7F4A_7C15;
+const MEBIBYTE: usize = 1 << 20;
+
+/// A mebibyte of digits.
+pub fn digits() -> Text {
+    let mut random = Random(SEED);
+    let bytes: Vec<u8> = (0..MEBIBYTE).map(|_| random.digit()).collect();
+    bytes.into()
+}
+
+/// A mebibyte with a separator at each third byte, between digits.
+pub fn each_third() -> Text {
+    let mut random = Random(SEED);
+    let byte = |at| if at % 3 == 2 { b'_' } else { random.digit() };
+    let bytes: Vec<u8> = (0..MEBIBYTE).map(byte).collect();
+    bytes.into()
+}
+
+/// A mebibyte of as many digits as separators, in runs of that length.
+pub fn runs(length: usize) -> Text {
+    let mut random = Random(SEED);
+    let byte = |at: usize| {
+        if at / length % 2 == 1 {
+            b'_'
+        } else {
+            random.digit()
+        }
+    };
+    let bytes: Vec<u8> = (0..MEBIBYTE).map(byte).collect();
+    bytes.into()
+}
+
+/// About a mebibyte of numbers of 8 to 20 bytes; grouped by threes where `grouped` says so.
+pub fn numbers(grouped: bool) -> Text {
+    let mut random = Random(SEED);
+    let mut text = Text::from(Vec::new());
+    while text.bytes.len() < MEBIBYTE {
+        let length = 8 + random.below(13) as u8;
+        for at in 0..length {
+            let is_separator = grouped && at > 0 && (length - at).is_multiple_of(4);
+            text.bytes.push(if is_separator { b'_' } else { random.digit() });
+        }
+        text.lengths.push(length);
+    }
+    text
+}
+
+/// A digit, that many separators, and a point: a run that is kept under internal or leading with
+/// consecutive.
+pub fn hostile(separators: usize) -> Text {
+    let mut bytes = vec![b'1'];
+    bytes.resize(1 + separators, b'_');
+    bytes.push(b'.');
+    bytes.into()
+}
