@@ -4,3 +4,4 @@ pub mod Lines
 pub mod Reading
 pub mod Spelled
 pub mod Words
+pub mod Scripts

@@ -1,8 +1,10 @@
-//! The program's lines, and its runs under failure.
+//! The program's lines, its runs under failure, and lists of calls.
 
 mod failures;
 mod limited;
 mod lines;
+mod peeks;
+mod scripts;
 mod streams;
 
 use crate::engine::{run, tell};

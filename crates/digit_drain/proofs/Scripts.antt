@@ -1,0 +1,104 @@
+-- Rows of the call table, as the script makes them.
+use Rattle.std.proofs.Common.{Bool, false, cond, subst, [], ◌++◌, ◌≤◌, append_assoc, ◌≡◌, ℕ, ◌+◌, ◌*◌, true, refl, arith, ap, sym, pos, ◌≤ℤ◌, ◌+ℤ◌, length, ◌∙◌, ◌<◌, List, ◌∷◌, map, drop, get_or, add-one, drop-cons}
+use Rattle.std.proofs.Math.Nat.{mul-add}
+use Rattle.std.proofs.lemmas.Int.{ints}
+use Rattle.lexical_digits.specs.declared.skip.component.Component.{Component}
+use Rattle.lexical_digits.specs.State.{State, with_cursor, is_contiguous, cut_end}
+use Rattle.lexical_digits.specs.Laws.Table.{taken_buffer, with_own_buffer}
+use Rattle.lexical_digits.specs.CallTable.{Part, Call, OnBytes, On, SkipZeros, Refused, after_view, row, row_of, run_of, shared_row, zeros_of, past_zeros_of}
+use Rattle.lexical_digits.specs.Looks.{Held, owed, far}
+use Rattle.digit_drain.specs.declared.script.Call as script
+use Rattle.digit_drain.specs.declared.script.Answer.{Answer}
+use Rattle.digit_drain.specs.declared.script.Answer.TheVariants as answer
+use Rattle.digit_drain.specs.Script.{asks, moves, told, part_of, call_of, script_of, reads, set_backs, Makes, reads_of, set_backs_of}
+
+-- what every part has, the iterators have from the rows of every part
+asked_row : (part : Part) (call : Call) (s : State) → asks call ≡ true → row_of part call s ≡ shared_row part call s
+asked_row part call s e = grind arith
+
+asked_same : (part : Part) (call : Call) (s : State) → asks call ≡ true → (shared_row part call s).state ≡ s
+asked_same part call s e = grind arith
+
+-- a call that asks leaves what it finds
+pub asked : (part : Part) (call : Call) (a : Held) (result : Answer) → asks call ≡ true → result ≡ told (shared_row part call a.state).answer → Makes part call a a result
+asked part call a result e h = record {
+  answers = h ∙ ap (λ r. told r.answer) (sym (asked_row part call a.state e));
+  leaves = sym (asked_same part call a.state e) ∙ ap (λ r. r.state) (sym (asked_row part call a.state e));
+  owes = omega (arith, ints);
+}
+
+refused_row : (call : Call) (s : State) → asks call ≡ false → moves call ≡ false → shared_row OnBytes call s ≡ row Refused s
+refused_row call s e h = grind arith
+
+-- a `Bytes` has no other calls but the moves
+pub asked_or_refused : (call : Call) (a : Held) (result : Answer) → moves call ≡ false → (asks call ≡ true → result ≡ told (shared_row OnBytes call a.state).answer) → (asks call ≡ false → result ≡ answer.Refused)
+    → Makes OnBytes call a a result
+asked_or_refused call a result h if_asked if_not = here (asks call) refl
+  where
+    here : (b : Bool) → asks call ≡ b → Makes OnBytes call a a result
+    here true e = asked OnBytes call a result e (if_asked e)
+    here false e = record {
+      answers = if_not e ∙ ap (λ r. told r.answer) (sym (refused_row call a.state e h));
+      leaves = ap (λ r. r.state) (sym (refused_row call a.state e h));
+      owes = omega (arith, ints);
+    }
+
+-- the zeros that are read are those that the drain begins with
+pub skips_zeros : (k : Component) (a b : Held) (n : ℕ) → n ≡ zeros_of k a.state → b.state ≡ past_zeros_of k a.state → owed b ≤ℤ (owed a +ℤ pos (4 * (n + 1))) → Makes (On k) SkipZeros a b (answer.Count n)
+skips_zeros k a b n e s h = record { answers = ap answer.Count e; leaves = s; owes = omega (arith, ints, e, h) }
+
+-- no call changes the buffer
+view_buffer : (k : Component) (s : State) (n : ℕ) → (after_view k s n).buffer ≡ s.buffer
+unfolding after_view
+view_buffer k s n = here (is_contiguous k s.word)
+  where
+    here : (b : Bool) → (cond b (with_cursor s (cut_end s n)) s).buffer ≡ s.buffer
+    here true = refl
+    here false = refl
+
+row_buffer : (part : Part) (call : Call) (s : State) → (row_of part call s).state.buffer ≡ s.buffer
+row_buffer part call s = grind (arith, taken_buffer, with_own_buffer, view_buffer)
+
+-- In the middle of a list: the answers so far, and those of the calls that are left, are all the answers; and what is owed, with what
+-- is still to come, is no more than it was.
+pub record Continues (first : Held) (all : List (Part × Call)) (now : Held) (left : List (Part × Call)) (made : List Answer) : Type 0 where
+  pub answers : made ++ map told (run_of now.state left).answers ≡ map told (run_of first.state all).answers
+  pub state : (run_of now.state left).state ≡ (run_of first.state all).state
+  pub buffer : now.state.buffer ≡ first.state.buffer
+  pub owes : (owed now +ℤ pos (4 * reads_of now.state left + 3 * (length first.state.buffer * set_backs_of now.state left)))
+      ≤ℤ (owed first +ℤ pos (4 * reads_of first.state all + 3 * (length first.state.buffer * set_backs_of first.state all)))
+
+one_more : (first a b : Held) (all rest : List (Part × Call)) (call : Part × Call) (made : List Answer) (answer : Answer)
+    → Continues first all a (call ∷ rest) made → Makes call.0 call.1 a b answer → Continues first all b rest (made ++ answer ∷ [])
+one_more first a b all rest call made answer so_far makes =
+    let s = a.state in
+    let n = length first.state.buffer in
+    let left = (row_of call.0 call.1 s).state in
+    let to_read : reads_of b.state rest ≡ reads_of left rest = ap (λ t. reads_of t rest) makes.leaves in
+    let to_set : n * set_backs_of b.state rest ≡ n * set_backs_of left rest = ap (λ t. n * set_backs_of t rest) makes.leaves in
+    let both : n * (set_backs call.1 s + set_backs_of left rest) ≡ n * set_backs call.1 s + n * set_backs_of left rest = mul-add n (set_backs call.1 s) (set_backs_of left rest) in
+    let owes : owed b ≤ℤ (owed a +ℤ pos (4 * reads call.0 call.1 s + 3 * (n * set_backs call.1 s))) = subst (λ m. owed b ≤ℤ (owed a +ℤ pos (4 * reads call.0 call.1 s + 3 * (m * set_backs call.1 s)))) (ap length so_far.buffer) makes.owes in
+    record {
+      answers = rw (append_assoc, makes.answers, makes.leaves) so_far.answers;
+      state = rw makes.leaves so_far.state;
+      buffer = ap (λ t. t.buffer) makes.leaves ∙ row_buffer call.0 call.1 s ∙ so_far.buffer;
+      owes = omega (arith, ints, so_far.owes, owes, to_read, to_set, both);
+    }
+
+next_left : (calls : List script.Call) (i : ℕ) (d : script.Call) → i < length calls → script_of (drop i calls) ≡ (part_of (get_or calls i d).part, call_of (get_or calls i d).op) ∷ script_of (drop (i + 1) calls)
+next_left calls i d h = rw (add-one, drop-cons calls i d h) refl
+
+-- and so after one call more
+pub continues : (first a b : Held) (calls : List script.Call) (i : ℕ) (d : script.Call) (made : List Answer) (answer : Answer) → i < length calls
+    → Continues first (script_of calls) a (script_of (drop i calls)) made → Makes (part_of (get_or calls i d).part) (call_of (get_or calls i d).op) a b answer
+    → Continues first (script_of calls) b (script_of (drop (i + 1) calls)) (made ++ answer ∷ [])
+continues first a b calls i d made answer h so_far makes =
+    one_more first a b (script_of calls) (script_of (drop (i + 1) calls)) (part_of (get_or calls i d).part, call_of (get_or calls i d).op) made answer (rw (next_left calls i d h) at so_far) makes
+
+-- in the end
+pub looks_at_most : (first now : Held) (all left : List (Part × Call)) (made : List Answer) → Continues first all now left made → far now.run now.state.cursor ≤ length now.state.buffer
+    → now.looks ≤ first.looks + 4 * reads_of first.state all + 3 * (length first.state.buffer * (set_backs_of first.state all + 1))
+looks_at_most first now all left made so_far h =
+    let n = length first.state.buffer in
+    let both : n * (set_backs_of first.state all + 1) ≡ n * set_backs_of first.state all + n * 1 = mul-add n (set_backs_of first.state all) 1 in
+    omega (arith, ints, so_far.owes, h, ap length so_far.buffer, both)

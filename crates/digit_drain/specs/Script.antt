@@ -1,0 +1,162 @@
+-- What a script's calls mean: calls of the call table, and its answers as they are told.
+use Rattle.std.specs.Prelude.{◌≡◌, ℕ, ◌+◌, ◌*◌, pos, ◌≤ℤ◌, ◌+ℤ◌, ◌==◌, ◌&&◌, ◌||◌, not, nat_lt, nat_le, if◌then◌else◌, List, [], ◌∷◌, length, map, slice_get, Bool, true, false}
+use Rattle.lexical_digits.specs.Cursor.{passes}
+use Rattle.lexical_digits.specs.declared.skip.component.Component.TheVariants as component
+use Rattle.lexical_digits.specs.State.{State}
+use Rattle.lexical_digits.specs.CallTable as table
+use Rattle.lexical_digits.specs.CallTable.{OnBytes, On, row_of, zeros_of, contiguous_on, count_on}
+use Rattle.lexical_digits.specs.Looks.{Held, owed}
+use Rattle.digit_drain.specs.declared.script.Part.{Part}
+use Rattle.digit_drain.specs.declared.script.Part.TheVariants.{Bytes, Integer, Fraction, Exponent, Special}
+use Rattle.digit_drain.specs.declared.script.Op.{Op}
+use Rattle.digit_drain.specs.declared.script.Op.TheVariants.{AsSlice, GetBuffer, BufferLength, IsBufferEmpty, Cursor, SetCursor, CurrentCount, IsContiguous, First, FirstIsCased, FirstIsUncased, FirstIs, StepBy, Step, PeekU32, PeekU64, IsConsumed, IncrementCount, Peek, TryRead, Next, PeekIsCased, PeekIsUncased, PeekIs, ReadIfEqual, ReadIfNever, ReadIfValueCased, ReadIfValueUncased, ReadIfValue, SkipZeros, IsDigit, IsSign, IsDigitSeparator, TakeN}
+use Rattle.digit_drain.specs.declared.script.Call.{Call}
+use Rattle.digit_drain.specs.declared.script.Answer.{Answer}
+use Rattle.digit_drain.specs.declared.script.Answer.TheVariants.{Span, Count, Flag, Done, Byte, Four, Eight, View, Refused}
+
+-- ---- calls and answers
+
+abbrev pub part_of : Part → table.Part
+part_of Bytes = OnBytes
+part_of Integer = On component.Integer
+part_of Fraction = On component.Fraction
+part_of Exponent = On component.Exponent
+part_of Special = On component.Special
+
+abbrev pub call_of : Op → table.Call
+call_of AsSlice = table.AsSlice
+call_of GetBuffer = table.GetBuffer
+call_of BufferLength = table.BufferLength
+call_of IsBufferEmpty = table.IsBufferEmpty
+call_of Cursor = table.Cursor
+call_of (SetCursor i) = table.SetCursor i
+call_of CurrentCount = table.CurrentCount
+call_of IsContiguous = table.IsContiguous
+call_of First = table.First
+call_of (FirstIsCased v) = table.FirstIsCased v
+call_of (FirstIsUncased v) = table.FirstIsUncased v
+call_of (FirstIs v is_cased) = table.FirstIs v is_cased
+call_of (StepBy n) = table.StepBy n
+call_of Step = table.Step
+call_of PeekU32 = table.PeekU32
+call_of PeekU64 = table.PeekU64
+call_of IsConsumed = table.IsConsumed
+call_of IncrementCount = table.IncrementCount
+call_of Peek = table.Peek
+call_of TryRead = table.TryRead
+call_of Next = table.Next
+call_of (PeekIsCased v) = table.PeekIsCased v
+call_of (PeekIsUncased v) = table.PeekIsUncased v
+call_of (PeekIs v is_cased) = table.PeekIs v is_cased
+call_of (ReadIfEqual v) = table.ReadIfEqual v
+call_of ReadIfNever = table.ReadIfNever
+call_of (ReadIfValueCased v) = table.ReadIfValueCased v
+call_of (ReadIfValueUncased v) = table.ReadIfValueUncased v
+call_of (ReadIfValue v is_cased) = table.ReadIfValue v is_cased
+call_of SkipZeros = table.SkipZeros
+call_of (IsDigit v) = table.IsDigit v
+call_of (IsSign v) = table.IsSign v
+call_of (IsDigitSeparator v) = table.IsDigitSeparator v
+call_of (TakeN n) = table.TakeN n
+
+abbrev pub told : table.Answer → Answer
+told (table.Span from to) = Span from to
+told (table.Count n) = Count n
+told (table.Flag b) = Flag b
+told table.Done = Done
+told (table.Byte byte) = Byte byte
+told (table.Four number) = Four number
+told (table.Eight number) = Eight number
+told (table.View view) = View view
+told table.Refused = Refused
+
+-- a list of calls of the call table
+abbrev pub script_of : List Call → List (table.Part × table.Call)
+script_of calls = map (λ call. (part_of call.part, call_of call.op)) calls
+
+-- ---- calls that every part has
+
+-- a state that shows as a value of the cursor's trait does
+pub record Shows (part : table.Part) (s : State) (buffer : List ℕ) (cursor count : ℕ) (contiguous : Bool) : Type 0 where
+  pub same_buffer : s.buffer ≡ buffer
+  pub same_cursor : s.cursor ≡ cursor
+  pub same_count : count_on part s ≡ count
+  pub same_contiguous : contiguous_on part s ≡ contiguous
+
+-- the calls that every part has and that change nothing
+abbrev pub asks : table.Call → Bool
+asks table.AsSlice = true
+asks table.GetBuffer = true
+asks table.BufferLength = true
+asks table.IsBufferEmpty = true
+asks table.Cursor = true
+asks table.CurrentCount = true
+asks table.IsContiguous = true
+asks table.First = true
+asks (table.FirstIsCased v) = true
+asks (table.FirstIsUncased v) = true
+asks (table.FirstIs v is_cased) = true
+asks table.PeekU32 = true
+asks table.PeekU64 = true
+asks call = false
+
+-- whether a step by n is within its condition
+abbrev pub can_step : List ℕ → ℕ → Bool → (ℕ → Bool) → ℕ → Bool
+can_step buffer cursor contiguous separates n =
+    nat_le (cursor + n) (length buffer) && (contiguous || (n == 0) || ((n == 1) && not (passes separates (slice_get buffer cursor))))
+
+-- the calls that move the cursor to where they are told
+abbrev pub moves : table.Call → Bool
+moves (table.SetCursor i) = true
+moves (table.StepBy n) = true
+moves table.Step = true
+moves call = false
+
+abbrev pub views : table.Call → Bool
+views (table.TakeN n) = true
+views call = false
+
+-- ---- what a list of calls may cost
+
+-- how many reads a call is: zeros are read one after another, and then what stops them
+abbrev pub reads : table.Part → table.Call → State → ℕ
+reads (On k) table.IsConsumed s = 1
+reads (On k) table.Peek s = 1
+reads (On k) table.TryRead s = 1
+reads (On k) table.Next s = 1
+reads (On k) (table.PeekIsCased v) s = 1
+reads (On k) (table.PeekIsUncased v) s = 1
+reads (On k) (table.PeekIs v is_cased) s = 1
+reads (On k) (table.ReadIfEqual v) s = 1
+reads (On k) table.ReadIfNever s = 1
+reads (On k) (table.ReadIfValueCased v) s = 1
+reads (On k) (table.ReadIfValueUncased v) s = 1
+reads (On k) (table.ReadIfValue v is_cased) s = 1
+reads (On k) table.SkipZeros s = zeros_of k s + 1
+reads part call s = 0
+
+-- how many settings of the cursor to a lesser place, which is within the buffer
+abbrev pub set_backs : table.Call → State → ℕ
+set_backs (table.SetCursor i) s = if nat_lt i s.cursor then 1 else 0
+set_backs call s = 0
+
+-- over a list, at the states that the calls find
+abbrev pub reads_of : State → List (table.Part × table.Call) → ℕ
+reads_of s [] = 0
+reads_of s (call ∷ calls) = reads call.0 call.1 s + reads_of (row_of call.0 call.1 s).state calls
+
+abbrev pub set_backs_of : State → List (table.Part × table.Call) → ℕ
+set_backs_of s [] = 0
+set_backs_of s (call ∷ calls) = set_backs call.1 s + set_backs_of (row_of call.0 call.1 s).state calls
+
+-- ---- one call
+
+-- what a call may add to what is owed
+abbrev pub cost : table.Part → table.Call → State → ℕ
+cost part call s = 4 * reads part call s + 3 * (length s.buffer * set_backs call s)
+
+-- A call from a to b: it answers and leaves what the call table says, and owes no more than it may.
+pub record Makes (part : table.Part) (call : table.Call) (a b : Held) (result : Answer) : Type 0 where
+  pub answers : result ≡ told (row_of part call a.state).answer
+  pub leaves : b.state ≡ (row_of part call a.state).state
+  pub owes : owed b ≤ℤ (owed a +ℤ pos (cost part call a.state))

@@ -1,0 +1,364 @@
+//! Lists of calls whose answers are known.
+
+ghost use Rattle.std.specs.Prelude.{◌≡◌};
+ghost use Rattle.lexical_digits.specs.State.{start};
+
+use super::limited::Limited;
+use crate::script::{Answer, Call, Op, Part, run, run_in};
+use lexical_digits::iterator::Iter;
+use lexical_digits::skip::Bytes;
+use lexical_format::{
+    EXPONENT_LEADING_DIGIT_SEPARATOR, FRACTION_TRAILING_DIGIT_SEPARATOR,
+    INTEGER_INTERNAL_DIGIT_SEPARATOR, SPECIAL_DIGIT_SEPARATOR, STANDARD, is_supported,
+};
+use std::alloc::Global;
+use std::process::Abort;
+use std::test::Fail;
+
+/// Radix 10 and the separator `_`.
+const PLAIN: u128 = STANDARD | (0x5f << 64);
+
+/// Radix 10, the separator `_`, and the integer's internal flag.
+const INTERNAL: u128 = PLAIN | INTEGER_INTERNAL_DIGIT_SEPARATOR;
+
+const PARTS: [Part; 5] = [
+    Part::Bytes,
+    Part::Integer,
+    Part::Fraction,
+    Part::Exponent,
+    Part::Special,
+];
+
+/// A fresh `Bytes` over a text, by a word that is supported.
+fn bytes_of<'a>(rt: &impl Abort, text: &'a [u8], word: u128) -> Bytes<'a>
+    ensures { result.state ≡ start text.entry.now word }
+{
+    assert!(rt; is_supported(word));
+    Bytes::new(text, word)
+}
+
+/// A text that begins with a refused separator, and calls of which all but the third are refused.
+const REFUSALS: [Call; 4] = [
+    Call {
+        part: Part::Integer,
+        op: Op::Step,
+    },
+    Call {
+        part: Part::Integer,
+        op: Op::SetCursor(3),
+    },
+    Call {
+        part: Part::Integer,
+        op: Op::Next,
+    },
+    Call {
+        part: Part::Bytes,
+        op: Op::Peek,
+    },
+];
+
+#[test]
+fn script_runs_with_ample_memory(rt: HostRuntime) -> Result<(), Fail> {
+    let mut bytes = bytes_of(&rt, b"_5", INTERNAL);
+    let answers = run(rt.alloc(), &mut bytes, &REFUSALS)?;
+    let expected = [
+        Answer::Refused,
+        Answer::Refused,
+        Answer::Byte(Some(b'_')),
+        Answer::Refused,
+    ];
+    assert_eq!(rt; answers.as_slice(), expected.as_slice());
+    assert_eq!(rt; bytes.cursor(), 1);
+    Ok(())
+}
+
+#[test]
+fn a_refused_reservation_changes_nothing(rt: HostRuntime) {
+    let mut bytes = bytes_of(&rt, b"_5", INTERNAL);
+    let limited = Limited::new(rt.alloc(), 0);
+    let answers = run_in(&limited, &mut bytes, &REFUSALS);
+    assert!(rt; answers.is_err());
+    assert_eq!(rt; bytes.cursor(), 0);
+    assert_eq!(rt; bytes.current_count(), 0);
+    assert_eq!(rt; bytes.looks(), 0);
+}
+
+#[test]
+fn one_reservation_is_all_that_a_script_takes(rt: HostRuntime) {
+    let mut bytes = bytes_of(&rt, b"_5", INTERNAL);
+    let limited = Limited::new(rt.alloc(), 1);
+    let answers = run_in(&limited, &mut bytes, &REFUSALS);
+    assert!(rt; answers.is_ok());
+    assert_eq!(rt; bytes.cursor(), 1);
+}
+
+#[test]
+fn an_empty_script_has_an_empty_answer(rt: HostRuntime) -> Result<(), Fail> {
+    let mut bytes = bytes_of(&rt, b"_5", INTERNAL);
+    let answers = run(rt.alloc(), &mut bytes, &[])?;
+    assert!(rt; answers.is_empty());
+    assert_eq!(rt; bytes.cursor(), 0);
+    Ok(())
+}
+
+/// Calls on `1_2._3`, what each answers, and where the cursor stands after it. The word has the integer's internal, the
+/// fraction's trailing and the special flag.
+const STEPS: [(Part, Op, Answer, usize); 17] = [
+    (Part::Integer, Op::Next, Answer::Byte(Some(b'1')), 1),
+    (Part::Integer, Op::Peek, Answer::Byte(Some(b'2')), 2),
+    (Part::Integer, Op::Next, Answer::Byte(Some(b'2')), 3),
+    (Part::Bytes, Op::First, Answer::Byte(Some(b'.')), 3),
+    (Part::Bytes, Op::Step, Answer::Done, 4),
+    (Part::Fraction, Op::Peek, Answer::Byte(Some(b'_')), 4),
+    (Part::Fraction, Op::Step, Answer::Refused, 4),
+    (Part::Special, Op::Peek, Answer::Byte(Some(b'3')), 5),
+    (Part::Special, Op::TakeN(1), Answer::Refused, 5),
+    (Part::Fraction, Op::Next, Answer::Byte(Some(b'3')), 6),
+    (Part::Fraction, Op::IsConsumed, Answer::Flag(true), 6),
+    (Part::Bytes, Op::CurrentCount, Answer::Count(3), 6),
+    (Part::Integer, Op::CurrentCount, Answer::Count(2), 6),
+    (Part::Fraction, Op::CurrentCount, Answer::Count(1), 6),
+    (Part::Integer, Op::StepBy(1), Answer::Refused, 6),
+    (Part::Bytes, Op::SetCursor(4), Answer::Done, 4),
+    (Part::Exponent, Op::StepBy(2), Answer::Done, 6),
+];
+
+#[test]
+fn all_parts_share_one_cursor(rt: HostRuntime) -> Result<(), Fail> {
+    let flags = INTEGER_INTERNAL_DIGIT_SEPARATOR
+        | FRACTION_TRAILING_DIGIT_SEPARATOR
+        | SPECIAL_DIGIT_SEPARATOR;
+    let mut calls = Vec::new(rt.alloc());
+    let mut expected = Vec::new(rt.alloc());
+    for (part, op, answer, cursor) in STEPS {
+        calls.push(Call { part, op })?;
+        expected.push(answer)?;
+        calls.push(Call {
+            part: Part::Bytes,
+            op: Op::Cursor,
+        })?;
+        expected.push(Answer::Count(cursor))?;
+    }
+    let mut bytes = bytes_of(&rt, b"1_2._3", PLAIN | flags);
+    let answers = run(rt.alloc(), &mut bytes, &calls)?;
+    assert_eq!(rt; answers.as_slice(), expected.as_slice());
+    Ok(())
+}
+
+/// A text on which the integer and the fraction keep the first separator, and the exponent and special drop it: the
+/// integer has the internal flag, the fraction none, the exponent the leading flag, and special its own.
+const TEXT: &[u8] = b"_00_5aB1";
+
+const GRANTS: u128 = INTERNAL | EXPONENT_LEADING_DIGIT_SEPARATOR | SPECIAL_DIGIT_SEPARATOR;
+
+const YES: Answer = Answer::Flag(true);
+
+const NO: Answer = Answer::Flag(false);
+
+const SEPARATOR: Answer = Answer::Byte(Some(b'_'));
+
+const ZERO: Answer = Answer::Byte(Some(b'0'));
+
+const NONE: Answer = Answer::Byte(None);
+
+/// Makes one call on a fresh `Bytes` over that text: the answer, the cursor after it, and the count.
+fn call(
+    rt: &impl Abort,
+    alloc: Global,
+    part: Part,
+    op: Op,
+) -> Result<(Answer, usize, usize), Fail> {
+    let mut bytes = bytes_of(rt, TEXT, GRANTS);
+    let answers = run(alloc, &mut bytes, &[Call { part, op }])?;
+    assert_eq!(rt; answers.len(), 1);
+    Ok((answers[0], bytes.cursor(), bytes.current_count()))
+}
+
+/// A call on a part answers this, and leaves the cursor there.
+fn assert_call(
+    rt: &impl Abort,
+    alloc: Global,
+    part: Part,
+    op: Op,
+    answer: Answer,
+    cursor: usize,
+) -> Result<(), Fail> {
+    let (answered, left, _) = call(rt, alloc, part, op)?;
+    assert_eq!(rt; answered, answer, "to {op:?} on {part:?}");
+    assert_eq!(rt; left, cursor, "after {op:?} on {part:?}");
+    Ok(())
+}
+
+/// Calls that every part answers alike, and the cursor after them.
+const ALIKE: [(Op, Answer, usize); 16] = [
+    (Op::AsSlice, Answer::Span(0, 8), 0),
+    (Op::GetBuffer, Answer::Span(0, 8), 0),
+    (Op::BufferLength, Answer::Count(8), 0),
+    (Op::Cursor, Answer::Count(0), 0),
+    (Op::CurrentCount, Answer::Count(0), 0),
+    (Op::IsBufferEmpty, NO, 0),
+    (Op::SetCursor(3), Answer::Done, 3),
+    (Op::SetCursor(8), Answer::Done, 8),
+    (Op::SetCursor(9), Answer::Refused, 0),
+    (Op::StepBy(0), Answer::Done, 0),
+    (Op::StepBy(9), Answer::Refused, 0),
+    (Op::First, SEPARATOR, 0),
+    (Op::FirstIsCased(b'_'), YES, 0),
+    (Op::FirstIsUncased(b'0'), NO, 0),
+    (Op::FirstIs(b'_', true), YES, 0),
+    (Op::FirstIs(b'0', false), NO, 0),
+];
+
+#[test]
+fn every_part_has_the_calls_of_a_cursor(rt: HostRuntime) -> Result<(), Fail> {
+    for (op, answer, cursor) in ALIKE {
+        for part in PARTS {
+            assert_call(&rt, rt.alloc(), part, op, answer, cursor)?;
+        }
+    }
+    Ok(())
+}
+
+/// Calls that the fraction, which is contiguous, answers as no other part does, and the cursor that it leaves.
+const CONTIGUOUS: [(Op, Answer, Answer, usize); 6] = [
+    (Op::IsContiguous, NO, YES, 0),
+    (Op::Step, Answer::Refused, Answer::Done, 1),
+    (Op::StepBy(1), Answer::Refused, Answer::Done, 1),
+    (Op::StepBy(2), Answer::Refused, Answer::Done, 2),
+    (
+        Op::PeekU32,
+        Answer::Four(None),
+        Answer::Four(Some(0x5f30_305f)),
+        0,
+    ),
+    (
+        Op::PeekU64,
+        Answer::Eight(None),
+        Answer::Eight(Some(0x3142_6135_5f30_305f)),
+        0,
+    ),
+];
+
+#[test]
+fn a_contiguous_part_goes_over_separators(rt: HostRuntime) -> Result<(), Fail> {
+    for (op, answer, contiguous, cursor) in CONTIGUOUS {
+        for part in [Part::Bytes, Part::Integer, Part::Exponent, Part::Special] {
+            assert_call(&rt, rt.alloc(), part, op, answer, 0)?;
+        }
+        assert_call(&rt, rt.alloc(), Part::Fraction, op, contiguous, cursor)?;
+    }
+    Ok(())
+}
+
+/// Calls that the iterators alone have: the answer and the cursor where the first separator is kept, and where it is dropped.
+const READS: [(Op, (Answer, usize), (Answer, usize)); 19] = [
+    (Op::IsConsumed, (NO, 0), (NO, 1)),
+    (Op::IncrementCount, (Answer::Done, 0), (Answer::Done, 0)),
+    (Op::Peek, (SEPARATOR, 0), (ZERO, 1)),
+    (Op::TryRead, (SEPARATOR, 1), (ZERO, 2)),
+    (Op::Next, (SEPARATOR, 1), (ZERO, 2)),
+    (Op::PeekIsCased(b'0'), (NO, 0), (YES, 1)),
+    (Op::PeekIsUncased(b'_'), (YES, 0), (NO, 1)),
+    (Op::PeekIs(b'0', false), (NO, 0), (YES, 1)),
+    (Op::PeekIs(b'_', true), (YES, 0), (NO, 1)),
+    (Op::ReadIfEqual(b'0'), (NONE, 0), (ZERO, 2)),
+    (Op::ReadIfNever, (NONE, 0), (NONE, 1)),
+    (Op::ReadIfValueCased(b'_'), (SEPARATOR, 1), (NONE, 1)),
+    (Op::ReadIfValueUncased(b'0'), (NONE, 0), (ZERO, 2)),
+    (Op::ReadIfValue(b'_', true), (SEPARATOR, 1), (NONE, 1)),
+    (Op::ReadIfValue(b'0', false), (NONE, 0), (ZERO, 2)),
+    (Op::IsDigit(b'7'), (YES, 0), (YES, 0)),
+    (Op::IsDigit(b'a'), (NO, 0), (NO, 0)),
+    (Op::IsSign(b'-'), (YES, 0), (YES, 0)),
+    (Op::IsDigitSeparator(b'_'), (YES, 0), (YES, 0)),
+];
+
+#[test]
+fn the_iterators_alone_read(rt: HostRuntime) -> Result<(), Fail> {
+    for (op, (kept, kept_cursor), (dropped, dropped_cursor)) in READS {
+        assert_call(&rt, rt.alloc(), Part::Bytes, op, Answer::Refused, 0)?;
+        assert_call(&rt, rt.alloc(), Part::Integer, op, kept, kept_cursor)?;
+        assert_call(&rt, rt.alloc(), Part::Fraction, op, kept, kept_cursor)?;
+        assert_call(&rt, rt.alloc(), Part::Exponent, op, dropped, dropped_cursor)?;
+        assert_call(&rt, rt.alloc(), Part::Special, op, dropped, dropped_cursor)?;
+    }
+    Ok(())
+}
+
+/// What `skip_zeros` and `take_n` answer on the five parts, and the cursor that each leaves.
+const BY_PART: [(Op, [(Answer, usize); 5]); 2] = [
+    (
+        Op::SkipZeros,
+        [
+            (Answer::Refused, 0),
+            (Answer::Count(0), 0),
+            (Answer::Count(0), 0),
+            (Answer::Count(2), 3),
+            (Answer::Count(2), 4),
+        ],
+    ),
+    (
+        Op::TakeN(3),
+        [
+            (Answer::Refused, 0),
+            (Answer::View(None), 0),
+            (Answer::View(Some((3, 0))), 3),
+            (Answer::View(None), 0),
+            (Answer::Refused, 0),
+        ],
+    ),
+];
+
+#[test]
+fn zeros_and_views_go_by_the_part(rt: HostRuntime) -> Result<(), Fail> {
+    for (op, expected) in BY_PART {
+        for (part, (answer, cursor)) in PARTS.into_iter().zip(expected) {
+            assert_call(&rt, rt.alloc(), part, op, answer, cursor)?;
+        }
+    }
+    Ok(())
+}
+
+/// How many a call counts on the five parts.
+const COUNTED: [(Op, [usize; 5]); 4] = [
+    (Op::Next, [0, 0, 0, 1, 0]),
+    (Op::IncrementCount, [0, 1, 1, 1, 0]),
+    (Op::SkipZeros, [0, 0, 0, 2, 0]),
+    (Op::TryRead, [0, 0, 0, 0, 0]),
+];
+
+#[test]
+fn a_call_counts_for_its_own_part(rt: HostRuntime) -> Result<(), Fail> {
+    for (op, expected) in COUNTED {
+        for (part, count) in PARTS.into_iter().zip(expected) {
+            let (_, _, counted) = call(&rt, rt.alloc(), part, op)?;
+            assert_eq!(rt; counted, count, "after {op:?} on {part:?}");
+        }
+    }
+    Ok(())
+}
+
+/// Calls on the integer of `aB`, one after another.
+const CASES: [(Op, Answer); 9] = [
+    (Op::FirstIsUncased(b'A'), YES),
+    (Op::FirstIsCased(b'A'), NO),
+    (Op::FirstIs(b'A', false), YES),
+    (Op::FirstIs(b'A', true), NO),
+    (Op::PeekIsUncased(b'A'), YES),
+    (Op::PeekIs(b'A', true), NO),
+    (Op::ReadIfValueUncased(b'A'), Answer::Byte(Some(b'a'))),
+    (Op::ReadIfValueCased(b'b'), NONE),
+    (Op::ReadIfValue(b'b', false), Answer::Byte(Some(b'B'))),
+];
+
+#[test]
+fn case_counts_where_it_is_asked(rt: HostRuntime) -> Result<(), Fail> {
+    let mut bytes = bytes_of(&rt, b"aB", INTERNAL);
+    for (op, answer) in CASES {
+        let part = Part::Integer;
+        let answers = run(rt.alloc(), &mut bytes, &[Call { part, op }])?;
+        assert_eq!(rt; answers.as_slice(), [answer].as_slice(), "to {op:?}");
+    }
+    assert_eq!(rt; bytes.cursor(), 2);
+    Ok(())
+}
