@@ -1,0 +1,88 @@
+//! Tests over the public calls of the crates below. Unless a test says otherwise the separator is `_`, the radix 10, the component
+//! the integer, and the `Bytes` fresh.
+
+ghost use Rattle.std.specs.Prelude.{◌≡◌};
+ghost use Rattle.lexical_digits.specs.State.{start};
+
+mod agreement;
+mod counts;
+mod cursors;
+mod decision;
+mod laws;
+mod loans;
+mod looks;
+mod plain;
+mod reads;
+mod rules;
+mod views;
+mod words;
+
+use lexical_digits::iterator::{DigitsIter, Iter, IterBodies};
+use lexical_digits::skip::Bytes;
+use lexical_format::{
+    INTEGER_CONSECUTIVE_DIGIT_SEPARATOR, INTEGER_INTERNAL_DIGIT_SEPARATOR,
+    INTEGER_LEADING_DIGIT_SEPARATOR, INTEGER_TRAILING_DIGIT_SEPARATOR, is_supported,
+};
+use std::process::Abort;
+
+/// Radix 10, separator `_`, no flags.
+const PLAIN: u128 = (10 << 104) | (0x5f << 64);
+
+/// The integer's flags.
+const INTERNAL: u128 = INTEGER_INTERNAL_DIGIT_SEPARATOR;
+
+const LEADING: u128 = INTEGER_LEADING_DIGIT_SEPARATOR;
+
+const TRAILING: u128 = INTEGER_TRAILING_DIGIT_SEPARATOR;
+
+const CONSECUTIVE: u128 = INTEGER_CONSECUTIVE_DIGIT_SEPARATOR;
+
+/// A fresh `Bytes` over a text, by a word that is supported.
+fn bytes_of<'a>(rt: &impl Abort, text: &'a [u8], word: u128) -> Bytes<'a>
+    ensures { result.state ≡ start text.entry.now word }
+{
+    assert!(rt; is_supported(word));
+    Bytes::new(text, word)
+}
+
+/// Sets the cursor to a position of the buffer.
+fn move_to<'a, D: Iter<'a>>(rt: &impl Abort, iter: &mut D, index: usize) {
+    assert!(rt; index <= iter.buffer_length());
+    iter.set_cursor(index);
+}
+
+/// The cursor stands here.
+fn assert_cursor<'a, D: Iter<'a>>(rt: &impl Abort, iter: &D, cursor: usize) {
+    assert_eq!(rt; iter.cursor(), cursor);
+}
+
+/// The count is this.
+fn assert_count<'a, D: Iter<'a>>(rt: &impl Abort, iter: &D, count: usize) {
+    assert_eq!(rt; iter.current_count(), count);
+}
+
+/// Peeks at the next byte, which is this one.
+fn assert_peek<'a, D: DigitsIter<'a>>(rt: &impl Abort, iter: &mut D, byte: Option<u8>) {
+    assert_eq!(rt; iter.peek().copied(), byte);
+}
+
+/// Takes the next byte, which is this one.
+fn assert_next<'a, D: DigitsIter<'a>>(rt: &impl Abort, iter: &mut D, byte: Option<u8>) {
+    assert_eq!(rt; iter.next().copied(), byte);
+}
+
+/// Drains an iterator by `next`: it yields these bytes and no more, and then has this count.
+fn assert_drains<'a, D: DigitsIter<'a>>(rt: &impl Abort, iter: &mut D, bytes: &[u8], count: usize) {
+    for byte in bytes {
+        assert_next(rt, iter, Some(*byte));
+    }
+    assert_next(rt, iter, None);
+    assert_count(rt, iter, count);
+    assert!(rt; iter.is_buffer_empty(), "behind {bytes:?}");
+}
+
+/// Drains the integer of a text: it keeps these bytes, and then has this count.
+fn assert_kept(rt: &impl Abort, word: u128, text: &[u8], kept: &[u8], count: usize) {
+    let mut bytes = bytes_of(rt, text, word);
+    assert_drains(rt, &mut bytes.integer_iter(), kept, count);
+}

@@ -1,0 +1,37 @@
+//! How long bytes and iterators live.
+
+use super::{INTERNAL, PLAIN, TRAILING, assert_cursor, assert_peek, bytes_of};
+use lexical_digits::iterator::{DigitsIter, Iter};
+use std::process::Abort;
+
+/// The second byte that is kept, which outlives the iterator and the `Bytes`.
+fn second_kept<'a>(rt: &impl Abort, text: &'a [u8]) -> Option<&'a u8> {
+    let mut bytes = bytes_of(rt, text, PLAIN | INTERNAL);
+    let mut iter = bytes.integer_iter();
+    let _first = iter.next();
+    iter.next()
+}
+
+#[test]
+fn a_byte_outlives_its_iterator_and_its_buffer(rt: HostRuntime) {
+    let text = [b'4', b'_', b'5'];
+    let second = second_kept(&rt, &text);
+    assert_eq!(rt; second.copied(), Some(b'5'));
+}
+
+#[test]
+fn iterators_borrow_one_buffer_in_turn(rt: HostRuntime) {
+    let mut bytes = bytes_of(&rt, b"1_.25", PLAIN | TRAILING);
+    let one = {
+        let mut integer = bytes.integer_iter();
+        integer.next()
+    };
+    let point = bytes.integer_iter().next();
+    let mut fraction = bytes.fraction_iter();
+    let two = fraction.next();
+    assert_eq!(rt; one.copied(), Some(b'1'));
+    assert_eq!(rt; point.copied(), Some(b'.'));
+    assert_eq!(rt; two.copied(), Some(b'2'));
+    assert_peek(&rt, &mut fraction, Some(b'5'));
+    assert_cursor(&rt, &bytes, 4);
+}
