@@ -12,3 +12,7 @@ pub mod Zeros
 pub mod Headline
 pub mod Comes
 pub mod Shares
+pub mod Carried
+pub mod Reading
+pub mod Shortcuts
+pub mod Inner

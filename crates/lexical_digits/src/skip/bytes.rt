@@ -1,14 +1,19 @@
 //! A buffer with a cursor, and what each call on it does for a component.
 
-ghost use Rattle.std.specs.Prelude.{◌≡◌, ℕ, ◌+◌, ◌-◌, ◌*◌, ◌<◌, ◌≤◌, length, List, drop, Option, Some, None, option_copied, slice_get, slice_index, IfSome, IsTrue, true, pos, ◌≤ℤ◌, ◌+ℤ◌};
+ghost use Rattle.std.specs.Prelude.{◌≡◌, ◌&&◌, not, ℕ, ◌+◌, ◌-◌, ◌*◌, ◌<◌, ◌≤◌, length, List, drop, Option, Some, None, option_copied, slice_get, slice_index, IfSome, IsTrue, true, pos, ◌≤ℤ◌, ◌+ℤ◌};
 ghost use Rattle.lexical_format.specs.Word.{separator, bit, is_supported};
 ghost use Rattle.lexical_digits.specs.Separators.{is_digit, is_separator, has_flags, IsSupported};
 ghost use Rattle.lexical_digits.specs.State.{State, IsState, with_cursor, start, rule_at, special_rule, rule_of, rule, own, with_own, is_special, counts, count_after, is_contiguous, has_no_separator, count_of_all, current_count, cut, cut_end};
 ghost use Rattle.lexical_digits.specs.CallTable.{place_of, peeked, settled, counted, taken, Takes};
 ghost use Rattle.lexical_digits.specs.Cursor.{CanStep};
 ghost use Rattle.lexical_digits.specs.Looks.{IsRun, IsRunOrNone, run_between, owed, far, Reads, Unread};
-ghost use Rattle.lexical_digits.specs.Inside.{AreRulesOf};
+ghost use Rattle.lexical_digits.specs.Inside.{state_of, IsReading, has_no_flags as has_no_flags_of};
 
+mod shortcuts;
+mod tally;
+
+use self::shortcuts::{Shortcuts, byte_at, inner_digit};
+use self::tally::Tally;
 use super::component::Component;
 use super::decision::{Rule, Run, read};
 use crate::iterator::Iter;
@@ -29,15 +34,6 @@ impl Model for Meaning {
     ghost Value = { State };
 
     ghost view = { λ _. start [] 0 };
-}
-
-/// The rules of the four components.
-#[derive(Clone, Copy)]
-struct Rules {
-    integer: Rule,
-    fraction: Rule,
-    exponent: Rule,
-    special: Rule,
 }
 
 /// Whether a bit of the word is set.
@@ -80,16 +76,39 @@ fn special_rule(word: u128) -> Rule
     }
 }
 
-/// All four rules of a word.
-fn rules_of(word: u128) -> Rules
-    ensures { AreRulesOf word result }
+/// What a word grants a component.
+#[inline(always)]
+fn rule_of(word: u128, k: Component) -> Rule
+    ensures { result ≡ rule_of word k }
 {
-    Rules {
-        integer: rule_at(word, 32),
-        fraction: rule_at(word, 33),
-        exponent: rule_at(word, 34),
-        special: special_rule(word),
+    match k {
+        Component::Integer => rule_at(word, 32),
+        Component::Fraction => rule_at(word, 33),
+        Component::Exponent => rule_at(word, 34),
+        Component::Special => special_rule(word),
     }
+}
+
+/// Whether `next` counts the digits of a component with that rule.
+#[inline(always)]
+fn counts(k: Component, rule: Rule) -> bool
+    ensures { result ≡ (not (is_special k) && has_flags rule) }
+{
+    match k {
+        Component::Special => false,
+        _ => rule.has_flags(),
+    }
+}
+
+/// Whether no component has a flag.
+#[inline(always)]
+fn has_no_flags(word: u128) -> bool
+    ensures { result ≡ has_no_flags_of word }
+{
+    !rule_of(word, Component::Integer).has_flags()
+        && !rule_of(word, Component::Fraction).has_flags()
+        && !rule_of(word, Component::Exponent).has_flags()
+        && !rule_of(word, Component::Special).has_flags()
 }
 
 /// A buffer with a format word, a cursor, and the counts of three components: lexical-util's `skip::Bytes`.
@@ -97,34 +116,26 @@ fn rules_of(word: u128) -> Rules
 pub struct Bytes<'a> {
     slc: &'a [u8],
     format: u128,
-    rules: Rules,
-    index: usize,
-    integer_count: usize,
-    fraction_count: usize,
-    exponent_count: usize,
+    has_no_flags: bool,
+    shortcuts: Shortcuts,
+    tally: Tally,
     run: Run,
-    looks: u64,
-    ghost holds: { IsState (record { buffer = slc.now; word = format; cursor = index; integer = integer_count; fraction = fraction_count; exponent = exponent_count }) },
-    ghost decoded: { AreRulesOf format rules },
+    ghost holds: { IsState (state_of slc.now format tally) },
+    ghost flags: { has_no_flags ≡ has_no_flags_of format },
+    ghost reads: { IsReading format tally.reader tally.is_counting shortcuts },
     ghost remembers: { run.from < run.to → IsRun (separator format) slc.now run.from run.to },
 }
 
 impl<'a> Model for Bytes<'a> {
     ghost use Rattle.lexical_digits.specs.Looks.{Held, run_between};
+    ghost use Rattle.lexical_digits.specs.Inside.{state_of, looks_of};
 
     ghost Value = { Held };
 
     ghost view = { λ b. record {
-      state = record {
-        buffer = b.slc.now;
-        word = b.format;
-        cursor = b.index;
-        integer = b.integer_count;
-        fraction = b.fraction_count;
-        exponent = b.exponent_count;
-      };
+      state = state_of b.slc.now b.format b.tally;
       run = run_between b.run.from b.run.to;
-      looks = b.looks;
+      looks = looks_of b.tally;
       holds = b.holds;
     } };
 }
@@ -137,16 +148,15 @@ impl<'a> Bytes<'a> {
         ensures run { result.run ≡ None }
         ensures looks { result.looks ≡ 0 }
     {
+        let rule = rule_of(format, Component::Integer);
+        let is_counting = rule.has_flags();
         Bytes {
             slc,
             format,
-            rules: rules_of(format),
-            index: 0,
-            integer_count: 0,
-            fraction_count: 0,
-            exponent_count: 0,
+            has_no_flags: has_no_flags(format),
+            shortcuts: Shortcuts::of(rule, is_counting),
+            tally: Tally::new(0, Component::Integer, is_counting),
             run: Run { from: 0, to: 0 },
-            looks: 0,
         }
     }
 
@@ -155,7 +165,7 @@ impl<'a> Bytes<'a> {
         ensures value { result ≡ self.now.looks }
         ensures far { far self.now.run self.now.state.cursor ≤ length self.now.state.buffer }
     {
-        self.looks
+        self.tally.looks()
     }
 
     /// Whether a byte is the separator; a separator of zero means that no byte is one.
@@ -163,7 +173,7 @@ impl<'a> Bytes<'a> {
     pub(crate) fn is_separator(&self, value: u8) -> bool
         ensures { result ≡ is_separator (separator self.now.state.word) value }
     {
-        self.rules.integer.is_separator(value)
+        self.rule(Component::Integer).is_separator(value)
     }
 
     /// What the word grants a component.
@@ -173,12 +183,7 @@ impl<'a> Bytes<'a> {
         ensures supported { IsSupported result }
         ensures separator { result.separator ≡ separator self.now.state.word }
     {
-        match k {
-            Component::Integer => self.rules.integer,
-            Component::Fraction => self.rules.fraction,
-            Component::Exponent => self.rules.exponent,
-            Component::Special => self.rules.special,
-        }
+        rule_of(self.format, k)
     }
 
     /// The count by which the separators of a component are judged.
@@ -187,9 +192,9 @@ impl<'a> Bytes<'a> {
         ensures { result ≡ own k self.now.state }
     {
         match k {
-            Component::Integer | Component::Special => self.integer_count,
-            Component::Fraction => self.fraction_count,
-            Component::Exponent => self.exponent_count,
+            Component::Integer | Component::Special => self.tally.integer(),
+            Component::Fraction => self.tally.fraction(),
+            Component::Exponent => self.tally.exponent(),
         }
     }
 
@@ -204,6 +209,16 @@ impl<'a> Bytes<'a> {
         } else {
             None
         }
+    }
+
+    /// Sets how many looks there were.
+    #[inline(always)]
+    fn set_looks(&mut self, looks: u64)
+        ensures state { self.new.state ≡ self.old.state }
+        ensures run { self.new.run ≡ self.old.run }
+        ensures looks { self.new.looks ≡ looks }
+    {
+        self.tally.set_looks(looks);
     }
 
     /// Remembers a run of this buffer, or none.
@@ -241,10 +256,7 @@ impl<'a> Bytes<'a> {
     fn counts(&self, k: Component) -> bool
         ensures { result ≡ counts k self.now.state.word }
     {
-        match k {
-            Component::Special => false,
-            _ => self.rule(k).has_flags(),
-        }
+        counts(k, self.rule(k))
     }
 
     /// What `current_count` answers on the iterator of a component.
@@ -264,12 +276,13 @@ impl<'a> Bytes<'a> {
     fn count_of_all(&self) -> usize
         ensures { result ≡ count_of_all self.now.state }
     {
-        if self.rules.integer.separator == 0 {
-            self.index
+        if NumberFormat::new(self.format).digit_separator() == 0 {
+            self.tally.index
         } else {
-            self.integer_count
-                .saturating_add(self.fraction_count)
-                .saturating_add(self.exponent_count)
+            let integer = self.tally.integer();
+            integer
+                .saturating_add(self.tally.fraction())
+                .saturating_add(self.tally.exponent())
         }
     }
 
@@ -280,12 +293,7 @@ impl<'a> Bytes<'a> {
         ensures unread { Unread self.old self.new }
         ensures owes { owed self.new ≤ℤ owed self.old }
     {
-        match k {
-            Component::Integer => self.integer_count = self.integer_count.saturating_add(1),
-            Component::Fraction => self.fraction_count = self.fraction_count.saturating_add(1),
-            Component::Exponent => self.exponent_count = self.exponent_count.saturating_add(1),
-            Component::Special => {}
-        }
+        self.tally.raise(k);
     }
 
     /// Moves the cursor to the place.
@@ -300,14 +308,29 @@ impl<'a> Bytes<'a> {
         let seen = read(
             self.slc,
             rule,
-            self.index,
+            self.tally.index,
             self.own(k),
             self.run(),
-            self.looks,
+            self.tally.looks(),
         );
-        self.index = seen.place;
-        self.looks = seen.looks;
+        self.move_to(seen.place);
+        self.set_looks(seen.looks);
         self.remember(seen.run);
+    }
+
+    /// Lets a component read from here on, unless it does: what was counted for another one is stored.
+    #[inline(always)]
+    fn take_over(&mut self, k: Component)
+        ensures state { self.new.state ≡ self.old.state }
+        ensures unread { Unread self.old self.new }
+    {
+        if !self.tally.reader.is(k) {
+            let rule = rule_of(self.format, k);
+            let is_counting = counts(k, rule);
+            let index = self.tally.index;
+            self.tally.settle(index, k, is_counting);
+            self.shortcuts = Shortcuts::of(rule, is_counting);
+        }
     }
 
     /// Moves the cursor anywhere in the buffer.
@@ -320,7 +343,9 @@ impl<'a> Bytes<'a> {
         ensures owes { self.old.state.cursor ≤ index → owed self.new ≤ℤ owed self.old }
         ensures owes_back { owed self.new ≤ℤ (owed self.old +ℤ pos (3 * length self.old.state.buffer)) }
     {
-        self.index = index;
+        let reader = self.tally.reader;
+        let is_counting = self.tally.is_counting;
+        self.tally.settle(index, reader, is_counting);
     }
 
     /// Moves the cursor on, past bytes that are not looked at.
@@ -331,8 +356,20 @@ impl<'a> Bytes<'a> {
         ensures unread { Unread self.old self.new }
         ensures owes { owed self.new ≤ℤ owed self.old }
     {
-        prove!(self.index <= self.slc.len());
-        self.index += count;
+        prove!(self.tally.index <= self.slc.len());
+        self.move_to(self.tally.index + count);
+    }
+
+    /// The byte at the place, where the cursor is moved, whoever read before.
+    #[inline(always)]
+    fn peek_anew(&mut self, k: Component) -> Option<&'a u8>
+        ensures byte { option_copied result ≡ peeked k self.old.state }
+        ensures state { self.new.state ≡ settled k self.old.state }
+        ensures reads { Reads k self.old self.new }
+    {
+        self.take_over(k);
+        self.settle(k);
+        self.slc.get(self.tally.index)
     }
 
     /// The byte at the place, where the cursor is moved.
@@ -342,8 +379,36 @@ impl<'a> Bytes<'a> {
         ensures state { self.new.state ≡ settled k self.old.state }
         ensures reads { Reads k self.old self.new }
     {
-        self.settle(k);
-        self.slc.get(self.index)
+        if self.has_no_flags {
+            let Some(byte) = byte_at(self.slc, self.tally.index) else {
+                return None;
+            };
+            self.tally.look();
+            return Some(byte);
+        }
+        if !self.tally.reader.is(k) {
+            return self.peek_anew(k);
+        }
+        let Some(byte) = byte_at(self.slc, self.tally.index) else {
+            return None;
+        };
+        if self.shortcuts.passes_first(*byte) {
+            self.tally.look();
+            return Some(byte);
+        }
+        if let Some(next) = inner_digit(self.slc, self.tally, self.shortcuts, *byte) {
+            self.run = Run {
+                from: self.tally.index,
+                to: self.tally.index + 1,
+            };
+            self.tally.skip();
+            return Some(next);
+        }
+        if self.shortcuts.passes_letter(*byte) {
+            self.tally.look();
+            return Some(byte);
+        }
+        self.peek_anew(k)
     }
 
     /// Passes the byte at the cursor, and counts it if it is a digit that `next` counts.
@@ -361,20 +426,59 @@ impl<'a> Bytes<'a> {
         }
     }
 
-    /// The byte at the place, which is passed and, if it is a digit, counted.
+    /// The byte at the place, which is passed and, if it is a digit, counted, whoever read before.
     #[tactic(auto, using(crate::proofs::Headline::takes_none, crate::proofs::Owing::reads_then))]
     #[inline(always)]
-    pub(crate) fn take(&mut self, k: Component) -> Option<&'a u8>
+    fn take_anew(&mut self, k: Component) -> Option<&'a u8>
         ensures takes { Takes k self.old.state self.new.state result }
         ensures reads { Reads k self.old self.new }
     {
-        match self.peek(k) {
+        match self.peek_anew(k) {
             Some(byte) => {
                 self.pass(k, *byte);
                 Some(byte)
             }
             None => None,
         }
+    }
+
+    /// The byte at the place, which is passed and, if it is a digit, counted.
+    #[inline(always)]
+    pub(crate) fn take(&mut self, k: Component) -> Option<&'a u8>
+        ensures takes { Takes k self.old.state self.new.state result }
+        ensures reads { Reads k self.old self.new }
+    {
+        if self.has_no_flags {
+            let Some(byte) = byte_at(self.slc, self.tally.index) else {
+                return None;
+            };
+            self.tally.pass();
+            return Some(byte);
+        }
+        if !self.tally.reader.is(k) {
+            return self.take_anew(k);
+        }
+        let Some(byte) = byte_at(self.slc, self.tally.index) else {
+            return None;
+        };
+        if self.shortcuts.passes_first(*byte) {
+            self.tally.pass();
+            return Some(byte);
+        }
+        if let Some(next) = inner_digit(self.slc, self.tally, self.shortcuts, *byte) {
+            self.run = Run {
+                from: self.tally.index,
+                to: self.tally.index + 1,
+            };
+            self.tally.skip();
+            self.tally.pass();
+            return Some(next);
+        }
+        if self.shortcuts.passes_letter(*byte) {
+            self.tally.pass();
+            return Some(byte);
+        }
+        self.take_anew(k)
     }
 
     /// The buffer cut `n` bytes behind the cursor, with this cursor and no counts. The cursor goes to where it is cut.
@@ -387,19 +491,16 @@ impl<'a> Bytes<'a> {
         ensures unread { Unread self.old self.new }
         ensures owes { owed self.new ≤ℤ owed self.old }
     {
-        let end = self.index.saturating_add(n).min(self.slc.len());
+        let end = self.tally.index.saturating_add(n).min(self.slc.len());
         let view = Bytes {
             slc: &self.slc[..end],
             format: self.format,
-            rules: self.rules,
-            index: self.index,
-            integer_count: 0,
-            fraction_count: 0,
-            exponent_count: 0,
+            has_no_flags: self.has_no_flags,
+            shortcuts: self.shortcuts,
+            tally: Tally::new(self.tally.index, self.tally.reader, self.tally.is_counting),
             run: Run { from: 0, to: 0 },
-            looks: 0,
         };
-        self.index = end;
+        self.move_to(end);
         view
     }
 }
@@ -415,13 +516,10 @@ impl<'a> Clone for Bytes<'a> {
         Ok(Bytes {
             slc: self.slc,
             format: self.format,
-            rules: self.rules,
-            index: self.index,
-            integer_count: self.integer_count,
-            fraction_count: self.fraction_count,
-            exponent_count: self.exponent_count,
+            has_no_flags: self.has_no_flags,
+            shortcuts: self.shortcuts,
+            tally: self.tally,
             run: self.run,
-            looks: self.looks,
         })
     }
 }
@@ -464,8 +562,8 @@ impl<'a> Iter<'a> for Bytes<'a> {
 
     #[inline(always)]
     fn cursor(&self) -> usize {
-        prove!(self.index <= self.slc.len());
-        self.index
+        prove!(self.tally.index <= self.slc.len());
+        self.tally.index
     }
 
     #[inline(always)]
@@ -486,7 +584,7 @@ impl<'a> Iter<'a> for Bytes<'a> {
 
     #[inline(always)]
     fn is_contiguous(&self) -> bool {
-        self.rules.integer.separator == 0
+        NumberFormat::new(self.format).digit_separator() == 0
     }
 
     #[inline(always)]

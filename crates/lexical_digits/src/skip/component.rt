@@ -1,6 +1,6 @@
 //! The components of a number, and a marker type for each.
 
-ghost use Rattle.std.specs.Prelude.{◌≡◌};
+ghost use Rattle.std.specs.Prelude.{◌≡◌, true};
 
 /// A part of a number, by which an iterator goes: its flags say which separators are dropped, and its count how many digits
 /// were read.
@@ -11,6 +11,16 @@ pub enum Component {
     Exponent,
     /// What is no number, as `nan`. It has one flag, which grants everything, and counts nothing.
     Special,
+}
+
+impl Component {
+    /// Whether it is that component.
+    #[inline(always)]
+    pub(crate) fn is(self, other: Component) -> bool
+        ensures { result ≡ true → self ≡ other }
+    {
+        self == other
+    }
 }
 
 /// A type that names a component.
