@@ -1,6 +1,5 @@
 -- What a script's calls mean: calls of the call table, and its answers as they are told.
-use Rattle.std.specs.Prelude.{◌≡◌, ℕ, ◌+◌, ◌*◌, pos, ◌≤ℤ◌, ◌+ℤ◌, ◌==◌, ◌&&◌, ◌||◌, not, nat_lt, nat_le, if◌then◌else◌, List, [], ◌∷◌, length, map, slice_get, Bool, true, false}
-use Rattle.lexical_digits.specs.Cursor.{passes}
+use Rattle.std.specs.Prelude.{◌≡◌, ℕ, ◌+◌, ◌*◌, pos, ◌≤ℤ◌, ◌+ℤ◌, nat_lt, if◌then◌else◌, List, [], ◌∷◌, length, map, Bool, true, false}
 use Rattle.lexical_digits.specs.declared.skip.component.Component.TheVariants as component
 use Rattle.lexical_digits.specs.State.{State}
 use Rattle.lexical_digits.specs.CallTable as table
@@ -99,11 +98,6 @@ asks (table.FirstIs v is_cased) = true
 asks table.PeekU32 = true
 asks table.PeekU64 = true
 asks call = false
-
--- whether a step by n is within its condition
-abbrev pub can_step : List ℕ → ℕ → Bool → (ℕ → Bool) → ℕ → Bool
-can_step buffer cursor contiguous separates n =
-    nat_le (cursor + n) (length buffer) && (contiguous || (n == 0) || ((n == 1) && not (passes separates (slice_get buffer cursor))))
 
 -- the calls that move the cursor to where they are told
 abbrev pub moves : table.Call → Bool

@@ -1,15 +1,16 @@
 //! Lists of calls on one `Bytes`: each call by its name, on the `Bytes` itself or on the iterator of
 //! a component over it, and what it answered.
 
-ghost use Rattle.std.specs.Prelude.{◌≡◌, ℕ, ◌+◌, ◌*◌, ◌≤◌, length, map, true, false, slice_get, IfOk, OnOk, OnErr};
+ghost use Rattle.std.specs.Prelude.{◌≡◌, ℕ, ◌+◌, ◌*◌, ◌≤◌, ◌≤ℤ◌, length, map, true, false, slice_get, IfOk, OnOk, OnErr};
 ghost use Rattle.lexical_format.specs.Word.{separator};
 ghost use Rattle.lexical_digits.specs.declared.skip.component.Component.TheVariants as components;
 ghost use Rattle.lexical_digits.specs.Separators.{is_separator};
 ghost use Rattle.lexical_digits.specs.State.{State, is_special};
-ghost use Rattle.lexical_digits.specs.Cursor.{CanStep, passes};
+ghost use Rattle.lexical_digits.specs.Cursor.{CanStep, can_step, passes};
 ghost use Rattle.lexical_digits.specs.CallTable as table;
-ghost use Rattle.lexical_digits.specs.CallTable.{shared_row, run_of, first};
-ghost use Rattle.digit_drain.specs.Script.{part_of, call_of, script_of, told, Shows, asks, moves, views, can_step, Makes, reads_of, set_backs_of};
+ghost use Rattle.lexical_digits.specs.CallTable.{shared_row, run_of, first, view, after_view, told_view};
+ghost use Rattle.lexical_digits.specs.Looks.{owed};
+ghost use Rattle.digit_drain.specs.Script.{part_of, call_of, script_of, told, Shows, asks, moves, views, Makes, reads_of, set_backs_of};
 
 use lexical_digits::iterator::{DigitsBodies, DigitsIter, Iter, IterBodies};
 use lexical_digits::skip::{
@@ -238,19 +239,30 @@ fn on_digits<K: Kind>(bytes: &mut Bytes, kind: PhantomData<K>, op: Op) -> Answer
     }
 }
 
+/// Takes a view from the iterator of a component, and answers its length and its cursor.
+fn take_view<K: CountingKind>(
+    bytes: &mut Bytes,
+    kind: PhantomData<K>,
+    n: usize,
+) -> Option<(usize, usize)>
+    ensures view { result ≡ told_view (view K.kind bytes.old.state n) }
+    ensures state { bytes.new.state ≡ after_view K.kind bytes.old.state n }
+    ensures owes { owed bytes.new ≤ℤ owed bytes.old }
+{
+    let mut iter = Digits { byte: bytes, kind };
+    match iter.take_n(n) {
+        Some(view) => Some((view.buffer_length(), view.cursor())),
+        None => None,
+    }
+}
+
 /// Makes a call on the iterator of a component that hands out views.
 fn on_counting<K: CountingKind>(bytes: &mut Bytes, kind: PhantomData<K>, op: Op) -> Answer
     requires { is_special K.kind ≡ false }
     ensures { Makes (table.On K.kind) (call_of op) bytes.old bytes.new result }
 {
     match op {
-        Op::TakeN(n) => {
-            let mut iter = Digits { byte: bytes, kind };
-            match iter.take_n(n) {
-                Some(view) => Answer::View(Some((view.buffer_length(), view.cursor()))),
-                None => Answer::View(None),
-            }
-        }
+        Op::TakeN(n) => Answer::View(take_view(bytes, kind, n)),
         _ => on_digits(bytes, kind, op),
     }
 }

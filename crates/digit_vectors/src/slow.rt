@@ -3,67 +3,10 @@
 
 ghost use Rattle.std.specs.Prelude.{◌≡◌, ℕ, ◌+◌, ◌<◌, ◌≤◌, nat_lt, not, length, take, drop, reverse, Option};
 ghost use Rattle.std.specs.List.{list_any, find};
-ghost use Rattle.lexical_format.specs.Word.{bit};
 ghost use Rattle.lexical_digits.specs.Separators.{class, is_digit, is_separator, neighbour, left_side, right_side, roles, grants, holds_separator, dropped, seen, kept, place};
-ghost use Rattle.lexical_digits.specs.State.{rule_at, rule_of};
-ghost use Rattle.digit_vectors.specs.Slow.{class_of};
 
-use lexical_digits::skip::{Component, Rule};
-use lexical_format::{NumberFormat, char_is_digit_const};
-
-/// What stands on a side of a separator.
-#[derive(Clone, Copy, Debug, PartialEq, Eq)]
-pub enum Side {
-    Digit,
-    Separator,
-    /// Another byte, or the outside of the buffer.
-    Other,
-}
-
-/// Whether a bit of the word is set.
-fn is_set(word: u128, place: u32) -> bool
-    requires { place < 128 }
-    ensures { result ≡ bit word place }
-{
-    (word >> place) & 1 == 1
-}
-
-/// The rule of the component whose internal flag is at that place of the word; the flags after it are three places apart.
-fn rule_at(word: u128, place: u32) -> Rule
-    requires { place < 100 }
-    ensures { result ≡ rule_at word place }
-{
-    let format = NumberFormat::new(word);
-    Rule {
-        separator: format.digit_separator(),
-        radix: format.mantissa_radix(),
-        internal: is_set(word, place),
-        leading: is_set(word, place + 3),
-        trailing: is_set(word, place + 6),
-        consecutive: is_set(word, place + 9),
-    }
-}
-
-/// What the word grants a component.
-pub fn rule_of(word: u128, component: Component) -> Rule
-    ensures { result ≡ rule_of word component }
-{
-    match component {
-        Component::Integer => rule_at(word, 32),
-        Component::Fraction => rule_at(word, 33),
-        Component::Exponent => rule_at(word, 34),
-        Component::Special => {
-            let all = NumberFormat::new(word).special_digit_separator();
-            Rule {
-                internal: all,
-                leading: all,
-                trailing: all,
-                consecutive: all,
-                ..rule_at(word, 44)
-            }
-        }
-    }
-}
+use lexical_digits::skip::{Class, Rule};
+use lexical_format::char_is_digit_const;
 
 /// Whether the byte is a digit of the rule's radix.
 #[tactic(auto, unfolding(lexical_digits::specs::Separators::is_digit))]
@@ -82,13 +25,13 @@ fn is_separator(rule: Rule, byte: u8) -> bool
 }
 
 /// What a byte is to the rule, or what is where no byte stands.
-fn side_of(rule: Rule, byte: Option<u8>) -> Side
-    ensures { class_of result ≡ class rule byte }
+fn side_of(rule: Rule, byte: Option<u8>) -> Class
+    ensures { result ≡ class rule byte }
 {
     match byte {
-        Some(byte) if is_digit(rule, byte) => Side::Digit,
-        Some(byte) if is_separator(rule, byte) => Side::Separator,
-        _ => Side::Other,
+        Some(byte) if is_digit(rule, byte) => Class::Digit,
+        Some(byte) if is_separator(rule, byte) => Class::Separator,
+        _ => Class::Other,
     }
 }
 
@@ -135,35 +78,35 @@ fn last_judged(rule: Rule, before: &[u8]) -> Option<u8>
 }
 
 /// The right side of a separator.
-fn right_side(rule: Rule, buffer: &[u8], position: usize) -> Side
+fn right_side(rule: Rule, buffer: &[u8], position: usize) -> Class
     requires { position < length buffer.now }
-    ensures { class_of result ≡ right_side rule buffer.now position }
+    ensures { result ≡ right_side rule buffer.now position }
 {
     side_of(rule, first_judged(rule, &buffer[position + 1..]))
 }
 
 /// The left side of a separator: a digit where one was seen, whatever stands there.
-fn left_side(rule: Rule, buffer: &[u8], digit_seen: bool, position: usize) -> Side
+fn left_side(rule: Rule, buffer: &[u8], digit_seen: bool, position: usize) -> Class
     requires { position ≤ length buffer.now }
-    ensures { class_of result ≡ left_side rule buffer.now digit_seen position }
+    ensures { result ≡ left_side rule buffer.now digit_seen position }
 {
     if digit_seen {
-        Side::Digit
+        Class::Digit
     } else {
         side_of(rule, last_judged(rule, &buffer[..position]))
     }
 }
 
 /// Whether a separator between these sides has a role that the rule grants.
-fn is_granted(rule: Rule, left: Side, right: Side) -> bool
-    ensures { result ≡ list_any (grants rule) (roles (class_of left) (class_of right)) }
+fn is_granted(rule: Rule, left: Class, right: Class) -> bool
+    ensures { result ≡ list_any (grants rule) (roles left right) }
 {
     match (left, right) {
-        (Side::Digit, Side::Digit) => rule.internal,
-        (Side::Other, Side::Digit) => rule.leading,
-        (Side::Digit, Side::Other) => rule.trailing,
-        (Side::Other, Side::Other) => rule.leading || rule.trailing,
-        (Side::Separator, _) | (_, Side::Separator) => false,
+        (Class::Digit, Class::Digit) => rule.internal,
+        (Class::Other, Class::Digit) => rule.leading,
+        (Class::Digit, Class::Other) => rule.trailing,
+        (Class::Other, Class::Other) => rule.leading || rule.trailing,
+        (Class::Separator, _) | (_, Class::Separator) => false,
     }
 }
 
@@ -186,7 +129,7 @@ pub fn is_kept(rule: Rule, buffer: &[u8], start: usize, count: usize, position: 
     requires high { position < length buffer.now }
     ensures { result ≡ kept rule buffer.now start count position }
 {
-    if side_of(rule, Some(buffer[position])) != Side::Separator {
+    if side_of(rule, Some(buffer[position])) != Class::Separator {
         return true;
     }
     let digit_seen = seen(rule, buffer, start, count, position) > 0;

@@ -1,8 +1,7 @@
 -- What the cursor carries: the state, the looks and the reader of a `Bytes` where its fields change.
 use Rattle.std.specs.List.{slice_get}
-use Rattle.std.proofs.Common.{◌≡◌, ℕ, ◌+◌, ◌-◌, ◌<◌, ◌≤◌, ◌^◌, ◌&&◌, Bool, true, false, not, cond, min, Option, Some, None, List, length, refl, sym, ap, subst, ◌∙◌, arith, pos, ◌≤ℤ◌, ◌+ℤ◌}
-use Rattle.std.proofs.lemmas.Int.{ints}
-use Rattle.std.proofs.lemmas.Bool.{not-true, false≢true}
+use Rattle.std.proofs.Common.{◌≡◌, ℕ, ◌+◌, ◌<◌, ◌≤◌, Bool, true, false, cond, Option, Some, List, length, refl, sym, ap, subst, ◌∙◌, arith, ◌≤ℤ◌}
+use Rattle.std.proofs.lemmas.Bool.{false≢true}
 use Rattle.std.proofs.lemmas.Option.{slice_get_within}
 use Rattle.lexical_digits.specs.declared.skip.component.Component.{Component}
 use Rattle.lexical_digits.specs.declared.skip.component.Component.TheVariants.{Integer, Fraction, Exponent, Special}
@@ -10,12 +9,11 @@ use Rattle.lexical_digits.specs.declared.skip.decision.Rule.{Rule}
 use Rattle.lexical_digits.specs.declared.skip.decision.Run.{Run}
 use Rattle.lexical_digits.specs.declared.skip.bytes.tally.Tally.{Tally}
 use Rattle.lexical_digits.specs.declared.skip.bytes.shortcuts.Shortcuts.{Shortcuts}
-use Rattle.lexical_digits.specs.Separators.{has_flags}
-use Rattle.lexical_digits.specs.State.{State, IsState, with_cursor, rule_of, is_contiguous, counts, own, with_own, raised}
+use Rattle.lexical_digits.specs.State.{State, IsState, with_cursor, rule_of, counts, own, raised}
 use Rattle.lexical_digits.specs.CallTable.{counted}
 use Rattle.lexical_digits.specs.Looks.{owed_by}
 use Rattle.lexical_digits.specs.Laws.Table.{with_own_buffer}
-use Rattle.lexical_digits.specs.Inside.{tallied, integer_of, fraction_of, exponent_of, ArePasses, IsInner, IsReading, has_no_flags, state_of, passed_by}
+use Rattle.lexical_digits.specs.Inside.{integer_of, fraction_of, exponent_of, ArePasses, IsInner, IsReading, state_of, passed_by}
 use Rattle.lexical_digits.proofs.Owing.{owed_onward}
 
 -- ---- states that the invariant holds for

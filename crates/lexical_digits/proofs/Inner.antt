@@ -3,11 +3,11 @@ use Rattle.std.specs.Prelude.{is_some, IsTrue, slice_get, ◌==◌}
 use Rattle.std.specs.List.{list_any}
 use Rattle.std.specs.Borrow.{Bor}
 use Rattle.std.specs.Option.{option_map_or}
-use Rattle.std.proofs.Common.{◌≡◌, ◌≢◌, ℕ, ◌+◌, ◌-◌, ◌*◌, ◌<◌, ◌≤◌, ◌^◌, ◌&&◌, ◌||◌, Bool, true, false, not, cond, min, ltb, Option, Some, None, List, length, get_or, refl, sym, ap, subst, ◌∙◌, arith, ◌⊎◌, inl, inr, pos, ◌≤ℤ◌, ◌+ℤ◌}
+use Rattle.std.proofs.Common.{◌≡◌, ◌≢◌, ℕ, ◌+◌, ◌-◌, ◌<◌, ◌≤◌, ◌^◌, ◌||◌, Bool, true, false, not, cond, min, ltb, Option, Some, None, List, length, get_or, refl, sym, ap, subst, ◌∙◌, arith, ◌⊎◌, inl, inr}
 use Rattle.std.proofs.lemmas.Int.{ints}
 use Rattle.std.proofs.lemmas.Bool.{and_parts, eqb-true, false≢true, cases_lt, lt-ltb, ltb-true, le-leb}
 use Rattle.std.proofs.lemmas.Bool.Decides.{nat_tests}
-use Rattle.std.proofs.lemmas.Option.{slice_get_within, slice_get-get_or}
+use Rattle.std.proofs.lemmas.Option.{slice_get_within}
 use Rattle.lexical_format.specs.Word.{separator, is_supported}
 use Rattle.lexical_digits.specs.declared.skip.component.Component.{Component}
 use Rattle.lexical_digits.specs.declared.skip.decision.Rule.{Rule}
@@ -15,11 +15,11 @@ use Rattle.lexical_digits.specs.declared.skip.decision.Run.{Run}
 use Rattle.lexical_digits.specs.declared.skip.decision.Class.TheVariants.{Digit}
 use Rattle.lexical_digits.specs.declared.skip.bytes.tally.Tally.{Tally}
 use Rattle.lexical_digits.specs.declared.skip.bytes.shortcuts.Shortcuts.{Shortcuts}
-use Rattle.lexical_digits.specs.Separators.{class, is_digit, is_separator, roles, grants, has_flags, place, IsSupported}
-use Rattle.lexical_digits.specs.State.{State, IsState, with_cursor, rule, rule_of, own, with_own, counts, count_after}
+use Rattle.lexical_digits.specs.Separators.{class, is_digit, is_separator, roles, grants, place, IsSupported}
+use Rattle.lexical_digits.specs.State.{State, with_cursor, rule, rule_of, own, counts}
 use Rattle.lexical_digits.specs.CallTable.{place_of, peeked, settled, counted, Takes}
-use Rattle.lexical_digits.specs.Looks.{separator_at, IsRun, IsRunOrNone, run_between, run_length, run_holds, scans, one_if, far, owed_by, Held, owed, Reads}
-use Rattle.lexical_digits.specs.Inside.{passes, at_once, passed_by, IsInner, IsInnerDigit, IsReading, state_of}
+use Rattle.lexical_digits.specs.Looks.{separator_at, IsRun, IsRunOrNone, run_between, run_length, scans, one_if, far, Held, Reads}
+use Rattle.lexical_digits.specs.Inside.{passes, passed_by, IsInner, IsInnerDigit, IsReading, state_of}
 use Rattle.lexical_digits.proofs.Supported.{supported_rule}
 use Rattle.lexical_digits.proofs.Shortcuts.{reader_passes, reader_counts}
 use Rattle.lexical_digits.proofs.Carried.{counted_since}

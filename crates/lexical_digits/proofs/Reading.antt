@@ -1,25 +1,24 @@
 -- Reading where the cursor stands: nothing is passed over there, and nothing scanned.
-use Rattle.std.specs.Prelude.{is_some, slice_get, option_copied}
+use Rattle.std.specs.Prelude.{is_some, slice_get}
 use Rattle.std.specs.Borrow.{Bor}
 use Rattle.std.specs.Option.{option_map_or}
-use Rattle.std.proofs.Common.{◌≡◌, ℕ, ◌+◌, ◌-◌, ◌<◌, ◌≤◌, ◌^◌, ◌&&◌, ◌||◌, ◌==◌, Bool, true, false, not, cond, min, Option, Some, None, List, [], length, get_or, ltb, ◌%◌, suc, refl, sym, ap, subst, ◌∙◌, arith, pos, ◌≤ℤ◌, ◌+ℤ◌}
+use Rattle.std.proofs.Common.{◌≡◌, ℕ, ◌+◌, ◌-◌, ◌≤◌, ◌^◌, ◌&&◌, ◌||◌, Bool, true, false, not, cond, min, Option, Some, None, [], refl, sym, ap, subst, ◌∙◌, arith, pos, ◌≤ℤ◌, ◌+ℤ◌}
 use Rattle.std.proofs.lemmas.Int.{ints}
 use Rattle.std.proofs.lemmas.Bool.{not-true, not-false, or_parts, and_parts, false≢true}
 use Rattle.lexical_digits.specs.declared.skip.component.Component.{Component}
 use Rattle.lexical_digits.specs.declared.skip.component.Component.TheVariants.{Integer, Fraction, Exponent, Special}
 use Rattle.lexical_digits.specs.declared.skip.decision.Rule.{Rule}
-use Rattle.lexical_digits.specs.declared.skip.decision.Run.{Run}
-use Rattle.lexical_format.specs.Word.{separator, is_supported}
+use Rattle.lexical_format.specs.Word.{separator}
 use Rattle.lexical_digits.specs.Separators.{is_digit, is_separator, has_flags, IsSupported}
-use Rattle.lexical_digits.specs.State.{State, IsState, with_cursor, rule, rule_of, is_contiguous, own, with_own, counts, count_after, raised, saturating}
+use Rattle.lexical_digits.specs.State.{State, with_cursor, rule, rule_of, is_contiguous, own, with_own, counts, count_after, raised, saturating}
 use Rattle.lexical_digits.specs.declared.skip.bytes.tally.Tally.{Tally}
 use Rattle.lexical_digits.specs.Inside.{passes, passed_by, has_no_flags}
 use Rattle.lexical_digits.specs.CallTable.{place_of, peeked, settled, counted, Takes}
-use Rattle.lexical_digits.specs.Looks.{separator_at, scans, run_holds, run_length, one_if, far, owed_by, Held, owed, Reads}
+use Rattle.lexical_digits.specs.Looks.{separator_at, scans, run_holds, one_if, owed_by, Held, owed, Reads}
 use Rattle.lexical_digits.specs.Laws.Table.{place_contiguous}
 use Rattle.lexical_digits.proofs.Supported.{supported_rule}
 use Rattle.lexical_digits.proofs.Runs.{separator_no_digit}
-use Rattle.lexical_digits.proofs.Looking.{place_at_other, separator_byte_at}
+use Rattle.lexical_digits.proofs.Looking.{place_at_other}
 use Rattle.lexical_digits.proofs.Owing.{owed_onward, separator_of}
 use Rattle.lexical_digits.proofs.Headline.{takes_none, takes_some, with_own_same}
 

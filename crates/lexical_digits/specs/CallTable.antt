@@ -1,5 +1,5 @@
 -- The call table: what each call answers, and the state that it leaves. No row scans, steps or loops.
-use Rattle.std.specs.Prelude.{◌≡◌, ℕ, ◌+◌, ◌<◌, ◌==◌, ◌&&◌, ◌||◌, Bool, true, false, not, if◌then◌else◌, nat_lt, nat_le, List, [], ◌∷◌, length, drop, count_by, slice_get, slice_index, Option, Some, None, is_none, is_some, MatchOption, option_copied}
+use Rattle.std.specs.Prelude.{◌≡◌, ℕ, ◌+◌, ◌<◌, ◌==◌, ◌||◌, Bool, true, false, if◌then◌else◌, nat_lt, nat_le, List, [], ◌∷◌, length, drop, count_by, slice_get, slice_index, Option, Some, None, is_none, is_some, MatchOption, option_copied}
 use Rattle.std.specs.Borrow.{Bor}
 use Rattle.std.specs.Int.{w32, w64}
 use Rattle.lexical_format.specs.Word.{separator}
@@ -7,7 +7,7 @@ use Rattle.lexical_digits.specs.declared.skip.component.Component.{Component}
 use Rattle.lexical_digits.specs.declared.skip.component.Component.TheVariants.{Integer, Fraction, Exponent, Special}
 use Rattle.lexical_digits.specs.Separators.{is_digit, is_separator, place, drain, zeros, past_zeros}
 use Rattle.lexical_digits.specs.State.{State, with_cursor, rule, own, with_own, has_no_separator, is_contiguous, counts, raised, saturating, count_after, count_of_all, current_count, cut_end, cut}
-use Rattle.lexical_digits.specs.Cursor.{passes, byte_if, is_value, next_number}
+use Rattle.lexical_digits.specs.Cursor.{can_step, passes, byte_if, is_value, next_number}
 
 -- ---- what the iterator of a component finds and leaves
 
@@ -154,11 +154,8 @@ count_on (On k) s = current_count k s
 abbrev pub first : State → Option ℕ
 first s = slice_get s.buffer s.cursor
 
--- a step stays in the buffer; where bytes may be passed over, it goes one byte at most, and not over a separator
 abbrev pub may_step : Part → ℕ → State → Bool
-may_step part n s =
-    nat_le (s.cursor + n) (length s.buffer)
-    && (contiguous_on part s || (n == 0) || ((n == 1) && not (passes (is_separator (separator s.word)) (first s))))
+may_step part n s = can_step s.buffer s.cursor (contiguous_on part s) (is_separator (separator s.word)) n
 
 -- a call within its condition, and else a refusal that changes nothing
 abbrev pub within : Bool → State → State → Row

@@ -1,5 +1,5 @@
 -- What an implementer of the cursor's traits means. A value of type M is a meaning; the functions of a meaning are the traits' ghost members.
-use Rattle.std.specs.Prelude.{◌≡◌, ℕ, zero, suc, ◌+◌, ◌<◌, ◌≤◌, ◌==◌, ◌&&◌, Bool, false, if◌then◌else◌, nat_lt, nat_le, List, [], ◌∷◌, length, drop, slice_get, slice_index, Option, Some, None}
+use Rattle.std.specs.Prelude.{◌≡◌, ℕ, zero, suc, ◌+◌, ◌<◌, ◌≤◌, ◌==◌, ◌&&◌, ◌||◌, not, Bool, false, if◌then◌else◌, nat_lt, nat_le, List, [], ◌∷◌, length, drop, slice_get, slice_index, Option, Some, None}
 use Rattle.std.specs.Char.{eq_ignore_ascii_case}
 use Rattle.std.specs.Int.{Width, byte_len, from_le_bytes}
 
@@ -30,6 +30,12 @@ pub record CanStep (buffer : List ℕ) (cursor : ℕ) (contiguous : Bool) (separ
   pub fits : cursor + count ≤ length buffer
   pub at_most_one : contiguous ≡ false → count ≤ 1
   pub no_separator : contiguous ≡ false → count ≡ 1 → separates (slice_index buffer cursor) ≡ false
+
+-- the test of that condition
+abbrev pub can_step : List ℕ → ℕ → Bool → (ℕ → Bool) → ℕ → Bool
+can_step buffer cursor contiguous separates count =
+    nat_le (cursor + count) (length buffer)
+    && (contiguous || (count == 0) || ((count == 1) && not (passes separates (slice_get buffer cursor))))
 
 -- what a read by a closure answers and leaves: with no byte None, and `settled`; else the closure answers once, for the byte, and the byte is read exactly if it answers true
 abbrev pub ReadsIf : {M : Type 0} → (ℕ → Bool → Type 0) → Option ℕ → M → M → Option ℕ → M → Type 0

@@ -1,6 +1,5 @@
 -- What the fields of a `Bytes` stand for.
-use Rattle.std.specs.Prelude.{◌≡◌, ◌≢◌, ◌%◌, nat_le, nat_lt, Some, slice_get, slice_index, ℕ, ◌+◌, ◌-◌, ◌*◌, ◌<◌, ◌≤◌, min, Bool, true, false, not, ◌&&◌, ◌||◌, if◌then◌else◌, List}
-use Rattle.lexical_format.specs.Word.{separator}
+use Rattle.std.specs.Prelude.{◌≡◌, ◌≢◌, ◌%◌, nat_le, nat_lt, Some, slice_get, slice_index, ℕ, ◌+◌, ◌-◌, ◌*◌, ◌<◌, min, Bool, true, false, not, ◌&&◌, ◌||◌, if◌then◌else◌, List}
 use Rattle.lexical_digits.specs.declared.skip.component.Component.{Component}
 use Rattle.lexical_digits.specs.declared.skip.component.Component.TheVariants.{Integer, Fraction, Exponent, Special}
 use Rattle.lexical_digits.specs.declared.skip.decision.Rule.{Rule}

@@ -6,7 +6,7 @@ use super::{
     CONSECUTIVE, INTERNAL, LEADING, PLAIN, TRAILING, assert_count, assert_cursor, assert_next,
     assert_peek, bytes_of, move_to,
 };
-use crate::slow::{is_digit, is_kept, place, rule_of, seen};
+use crate::slow::{is_digit, is_kept, place, seen};
 use lexical_digits::iterator::{DigitsIter, Iter};
 use lexical_digits::skip::{Component, Rule};
 use lexical_format::SPECIAL_DIGIT_SEPARATOR;
@@ -21,7 +21,7 @@ struct Plain {
 
 /// What the word grants a component; all but special count, unless they have no flag.
 fn plain_of(word: u128, component: Component) -> Plain {
-    let rule = rule_of(word, component);
+    let rule = Rule::of(word, component);
     let has_flags = rule.internal || rule.leading || rule.trailing || rule.consecutive;
     Plain {
         rule,

@@ -4,9 +4,11 @@ use super::{
     CONSECUTIVE, INTERNAL, LEADING, PLAIN, TRAILING, assert_count, assert_cursor, assert_drains,
     assert_kept, bytes_of,
 };
-use crate::slow::{is_kept, rule_of};
+use crate::slow::is_kept;
 use lexical_digits::iterator::Iter;
-use lexical_digits::skip::{Component, ExponentKind, FractionKind, IntegerKind, Kind, SpecialKind};
+use lexical_digits::skip::{
+    Component, ExponentKind, FractionKind, IntegerKind, Kind, Rule, SpecialKind,
+};
 use lexical_format::{
     EXPONENT_INTERNAL_DIGIT_SEPARATOR, FRACTION_INTERNAL_DIGIT_SEPARATOR,
     FRACTION_LEADING_DIGIT_SEPARATOR, SPECIAL_DIGIT_SEPARATOR,
@@ -132,7 +134,7 @@ fn more_flags_drop_at_least_as_much(rt: HostRuntime) {
         (PLAIN | LEADING | CONSECUTIVE, 2),
         (everything, 2),
     ] {
-        let rule = rule_of(word, Component::Integer);
+        let rule = Rule::of(word, Component::Integer);
         for position in 0..4 {
             let kept = is_kept(rule, b"__45", 0, 0, position);
             assert_eq!(rt; kept, position >= first_kept, "at {position}");

@@ -36,59 +36,6 @@ impl Model for Meaning {
     ghost view = { λ _. start [] 0 };
 }
 
-/// Whether a bit of the word is set.
-fn is_set(word: u128, place: u32) -> bool
-    requires { place < 128 }
-    ensures { result ≡ bit word place }
-{
-    (word >> place) & 1 == 1
-}
-
-/// The rule of the component whose internal flag is at that place of the word.
-fn rule_at(word: u128, place: u32) -> Rule
-    requires { place < 100 }
-    ensures { result ≡ rule_at word place }
-{
-    let format = NumberFormat::new(word);
-    Rule {
-        separator: format.digit_separator(),
-        radix: format.mantissa_radix(),
-        internal: is_set(word, place),
-        leading: is_set(word, place + 3),
-        trailing: is_set(word, place + 6),
-        consecutive: is_set(word, place + 9),
-    }
-}
-
-/// The rule of the special component, whose flag grants everything.
-fn special_rule(word: u128) -> Rule
-    ensures { result ≡ special_rule word }
-{
-    let format = NumberFormat::new(word);
-    let special = format.special_digit_separator();
-    Rule {
-        separator: format.digit_separator(),
-        radix: format.mantissa_radix(),
-        internal: special,
-        leading: special,
-        trailing: special,
-        consecutive: special,
-    }
-}
-
-/// What a word grants a component.
-#[inline(always)]
-fn rule_of(word: u128, k: Component) -> Rule
-    ensures { result ≡ rule_of word k }
-{
-    match k {
-        Component::Integer => rule_at(word, 32),
-        Component::Fraction => rule_at(word, 33),
-        Component::Exponent => rule_at(word, 34),
-        Component::Special => special_rule(word),
-    }
-}
-
 /// Whether `next` counts the digits of a component with that rule.
 #[inline(always)]
 fn counts(k: Component, rule: Rule) -> bool
@@ -105,10 +52,10 @@ fn counts(k: Component, rule: Rule) -> bool
 fn has_no_flags(word: u128) -> bool
     ensures { result ≡ has_no_flags_of word }
 {
-    !rule_of(word, Component::Integer).has_flags()
-        && !rule_of(word, Component::Fraction).has_flags()
-        && !rule_of(word, Component::Exponent).has_flags()
-        && !rule_of(word, Component::Special).has_flags()
+    !Rule::of(word, Component::Integer).has_flags()
+        && !Rule::of(word, Component::Fraction).has_flags()
+        && !Rule::of(word, Component::Exponent).has_flags()
+        && !Rule::of(word, Component::Special).has_flags()
 }
 
 /// A buffer with a format word, a cursor, and the counts of three components: lexical-util's `skip::Bytes`.
@@ -148,7 +95,7 @@ impl<'a> Bytes<'a> {
         ensures run { result.run ≡ None }
         ensures looks { result.looks ≡ 0 }
     {
-        let rule = rule_of(format, Component::Integer);
+        let rule = Rule::of(format, Component::Integer);
         let is_counting = rule.has_flags();
         Bytes {
             slc,
@@ -183,7 +130,7 @@ impl<'a> Bytes<'a> {
         ensures supported { IsSupported result }
         ensures separator { result.separator ≡ separator self.now.state.word }
     {
-        rule_of(self.format, k)
+        Rule::of(self.format, k)
     }
 
     /// The count by which the separators of a component are judged.
@@ -325,7 +272,7 @@ impl<'a> Bytes<'a> {
         ensures unread { Unread self.old self.new }
     {
         if !self.tally.reader.is(k) {
-            let rule = rule_of(self.format, k);
+            let rule = Rule::of(self.format, k);
             let is_counting = counts(k, rule);
             let index = self.tally.index;
             self.tally.settle(index, k, is_counting);

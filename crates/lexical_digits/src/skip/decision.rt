@@ -337,11 +337,14 @@ fn run_end<S: ByteSource>(src: &mut S, rule: Rule, from: usize) -> usize
     end
 }
 
-/// What stands at a position.
-#[derive(Clone, Copy)]
-pub(crate) enum Class {
+/// What stands at a position, in the eyes of a rule.
+#[derive(Clone, Copy, Debug, PartialEq, Eq)]
+pub enum Class {
+    /// A digit of the rule's radix.
     Digit,
+    /// The rule's separator.
     Separator,
+    /// Another byte, or the outside of the buffer.
     Other,
 }
 

@@ -40,7 +40,11 @@ impl Shortcuts {
         Shortcuts {
             last,
             letters,
-            inner: if has_inner { rule.separator as u16 } else { 256 },
+            inner: if has_inner {
+                rule.separator as u16
+            } else {
+                256
+            },
         }
     }
 
@@ -82,7 +86,12 @@ impl Shortcuts {
 /// The digit behind the separator at the cursor, where that is passed over since a digit was counted
 /// before it, and where no separator stands beside it.
 #[inline(always)]
-pub(super) fn inner_digit<'a>(slc: &'a [u8], tally: Tally, shortcuts: Shortcuts, byte: u8) -> Option<&'a u8>
+pub(super) fn inner_digit<'a>(
+    slc: &'a [u8],
+    tally: Tally,
+    shortcuts: Shortcuts,
+    byte: u8,
+) -> Option<&'a u8>
     requires { slice_get slc.now tally.index ≡ Some byte }
     ensures { IfSome result (λ next. IsInnerDigit slc.now tally shortcuts byte next.now) }
 {

@@ -1,4 +1,4 @@
-use Rattle.std.proofs.Common.{rules, refl, ◌∙◌, ap}
+use Rattle.std.proofs.Common.{rules, ◌∙◌, ap}
 use Rattle.lexical_digits.specs.declared.skip.component.Component.TheVariants.{Integer}
 use Rattle.lexical_digits.specs.State.{start}
 use Rattle.lexical_digits.specs.Separators.{has_flags}
@@ -7,12 +7,12 @@ use Rattle.lexical_digits.proofs.Carried.{state_same, reading_of}
 use Rattle.lexical_digits.proofs.skip.bytes.Bytes.new.Goals as goal
 
 pub of-requires : goal.of-requires
-of-requires c = supported_by _ c.args.format Integer c.rule_of-rule.ensures c.requires
+of-requires c = supported_by _ c.args.format Integer c.of-rule.ensures c.requires
 
 pub invariant_of-result : goal.invariant_of-result
 invariant_of-result c =
-    let counting = c.has_flags-is_counting.ensures ∙ ap has_flags c.rule_of-rule.ensures in
-    (state_same (start c.args.slc.now c.args.format) _ (search rules) (c.new.ensures.state c.args.slc.now c.args.format), (search rules, (reading_of Integer _ c.args.format _ _ _ _ c.rule_of-rule.ensures counting c.of.ensures.passes c.of.ensures.inner c.new.ensures.reader c.new.ensures.is_counting, (search rules, tt))))
+    let counting = c.has_flags-is_counting.ensures ∙ ap has_flags c.of-rule.ensures in
+    (state_same (start c.args.slc.now c.args.format) _ (search rules) (c.new.ensures.state c.args.slc.now c.args.format), (search rules, (reading_of Integer _ c.args.format _ _ _ _ c.of-rule.ensures counting c.of.ensures.passes c.of.ensures.inner c.new.ensures.reader c.new.ensures.is_counting, (search rules, tt))))
 
 pub returns-clause-state : goal.returns-clause-state
 returns-clause-state c = c.new.ensures.state c.args.slc.now c.args.format

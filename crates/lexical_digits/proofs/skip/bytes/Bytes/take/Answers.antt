@@ -1,11 +1,10 @@
-use Rattle.std.proofs.Common.{refl, sym, ◌∙◌, ap, arith, ◌+◌, true}
-use Rattle.lexical_digits.specs.State.{with_cursor}
+use Rattle.std.proofs.Common.{refl, sym, ◌∙◌, arith, true}
 use Rattle.lexical_digits.specs.Looks.{Held, run_between}
 use Rattle.lexical_digits.specs.Inside.{state_of, looks_of}
-use Rattle.lexical_digits.proofs.Carried.{state_same, state_moved, state_passed, state_passed_over, reading_kept}
+use Rattle.lexical_digits.proofs.Carried.{state_passed, state_passed_over, reading_kept}
 use Rattle.lexical_digits.proofs.Shortcuts.{first_passes, letter_passes, reader_passes, reader_counts}
-use Rattle.lexical_digits.proofs.Reading.{here_all, here_end, here_passed, peeks_here, settles_here, reads_on, reads_end, takes_all, takes_passed, takes_end}
-use Rattle.lexical_digits.proofs.Inner.{passes_over, reads_over, takes_over, peeks_over, settles_over}
+use Rattle.lexical_digits.proofs.Reading.{here_all, here_end, here_passed, reads_on, reads_end, takes_all, takes_passed, takes_end}
+use Rattle.lexical_digits.proofs.Inner.{passes_over, reads_over, takes_over}
 use Rattle.lexical_digits.proofs.skip.bytes.Bytes.take.Goals as goal
 
 pub returns-in_default-clause-takes : goal.returns-in_default-clause-takes
