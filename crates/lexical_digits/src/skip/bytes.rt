@@ -15,7 +15,7 @@ mod tally;
 use self::shortcuts::{Shortcuts, byte_at, inner_digit};
 use self::tally::Tally;
 use super::component::Component;
-use super::decision::{Rule, Run, read};
+use super::decision::{Rule, Run, is_separator, read};
 use crate::iterator::Iter;
 use lexical_format::NumberFormat;
 use std::alloc::AllocError;
@@ -34,6 +34,14 @@ impl Model for Meaning {
     ghost Value = { State };
 
     ghost view = { λ _. start [] 0 };
+}
+
+/// The separator of a word, zero where it has none.
+#[inline(always)]
+fn separator_of(word: u128) -> u8
+    ensures { result ≡ separator word }
+{
+    NumberFormat::new(word).digit_separator()
 }
 
 /// Whether `next` counts the digits of a component with that rule.
@@ -223,7 +231,7 @@ impl<'a> Bytes<'a> {
     fn count_of_all(&self) -> usize
         ensures { result ≡ count_of_all self.now.state }
     {
-        if NumberFormat::new(self.format).digit_separator() == 0 {
+        if separator_of(self.format) == 0 {
             self.tally.index
         } else {
             let integer = self.tally.integer();
@@ -319,6 +327,21 @@ impl<'a> Bytes<'a> {
         self.slc.get(self.tally.index)
     }
 
+    /// The byte at the place, which is the cursor where no component has a flag.
+    #[inline(always)]
+    fn peek_unflagged(&mut self, k: Component) -> Option<&'a u8>
+        requires { has_no_flags_of self.old.state.word ≡ true }
+        ensures byte { option_copied result ≡ peeked k self.old.state }
+        ensures state { self.new.state ≡ settled k self.old.state }
+        ensures reads { Reads k self.old self.new }
+    {
+        let Some(byte) = byte_at(self.slc, self.tally.index) else {
+            return None;
+        };
+        self.tally.look();
+        Some(byte)
+    }
+
     /// The byte at the place, where the cursor is moved.
     #[inline(always)]
     pub(crate) fn peek(&mut self, k: Component) -> Option<&'a u8>
@@ -327,11 +350,7 @@ impl<'a> Bytes<'a> {
         ensures reads { Reads k self.old self.new }
     {
         if self.has_no_flags {
-            let Some(byte) = byte_at(self.slc, self.tally.index) else {
-                return None;
-            };
-            self.tally.look();
-            return Some(byte);
+            return self.peek_unflagged(k);
         }
         if !self.tally.reader.is(k) {
             return self.peek_anew(k);
@@ -351,7 +370,7 @@ impl<'a> Bytes<'a> {
             self.tally.skip();
             return Some(next);
         }
-        if self.shortcuts.passes_letter(*byte) {
+        if !is_separator(separator_of(self.format), *byte) {
             self.tally.look();
             return Some(byte);
         }
@@ -389,6 +408,20 @@ impl<'a> Bytes<'a> {
         }
     }
 
+    /// The byte at the place, which is passed, where no component has a flag.
+    #[inline(always)]
+    fn take_unflagged(&mut self, k: Component) -> Option<&'a u8>
+        requires { has_no_flags_of self.old.state.word ≡ true }
+        ensures takes { Takes k self.old.state self.new.state result }
+        ensures reads { Reads k self.old self.new }
+    {
+        let Some(byte) = byte_at(self.slc, self.tally.index) else {
+            return None;
+        };
+        self.tally.pass();
+        Some(byte)
+    }
+
     /// The byte at the place, which is passed and, if it is a digit, counted.
     #[inline(always)]
     pub(crate) fn take(&mut self, k: Component) -> Option<&'a u8>
@@ -396,11 +429,7 @@ impl<'a> Bytes<'a> {
         ensures reads { Reads k self.old self.new }
     {
         if self.has_no_flags {
-            let Some(byte) = byte_at(self.slc, self.tally.index) else {
-                return None;
-            };
-            self.tally.pass();
-            return Some(byte);
+            return self.take_unflagged(k);
         }
         if !self.tally.reader.is(k) {
             return self.take_anew(k);
@@ -425,6 +454,10 @@ impl<'a> Bytes<'a> {
             self.tally.pass();
             return Some(byte);
         }
+        if !is_separator(separator_of(self.format), *byte) {
+            self.tally.skip();
+            return Some(byte);
+        }
         self.take_anew(k)
     }
 
@@ -445,7 +478,7 @@ impl<'a> Bytes<'a> {
             has_no_flags: self.has_no_flags,
             shortcuts: self.shortcuts,
             tally: Tally::new(self.tally.index, self.tally.reader, self.tally.is_counting),
-            run: Run { from: 0, to: 0 },
+            run: Run { from: end, to: end },
         };
         self.move_to(end);
         view
@@ -531,7 +564,7 @@ impl<'a> Iter<'a> for Bytes<'a> {
 
     #[inline(always)]
     fn is_contiguous(&self) -> bool {
-        NumberFormat::new(self.format).digit_separator() == 0
+        separator_of(self.format) == 0
     }
 
     #[inline(always)]

@@ -348,6 +348,15 @@ pub enum Class {
     Other,
 }
 
+/// Whether the byte is that separator; a separator of zero means that no byte is one.
+#[tactic(auto, unfolding(crate::specs::Separators::is_separator))]
+#[inline(always)]
+pub(crate) fn is_separator(separator: u8, byte: u8) -> bool
+    ensures { result ≡ is_separator separator byte }
+{
+    separator != 0 && byte == separator
+}
+
 impl Rule {
     /// Whether the byte is a digit.
     #[tactic(auto, unfolding(crate::specs::Separators::is_digit))]
@@ -359,12 +368,11 @@ impl Rule {
     }
 
     /// Whether the byte is a separator.
-    #[tactic(auto, unfolding(crate::specs::Separators::is_separator))]
     #[inline(always)]
     pub(crate) fn is_separator(self, byte: u8) -> bool
         ensures { result ≡ is_separator self.separator byte }
     {
-        self.separator != 0 && byte == self.separator
+        is_separator(self.separator, byte)
     }
 
     /// Whether any flag is set.
