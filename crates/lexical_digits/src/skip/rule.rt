@@ -9,7 +9,6 @@ use super::decision::Rule;
 use lexical_format::NumberFormat;
 
 /// Whether a bit of the word is set.
-#[inline(always)]
 fn is_set(word: u128, place: u32) -> bool
     requires { place < 128 }
     ensures { result ≡ bit word place }
@@ -19,7 +18,6 @@ fn is_set(word: u128, place: u32) -> bool
 
 /// The rule of the component whose internal flag is at that place of the word. Its other flags are three
 /// places apart.
-#[inline(always)]
 fn rule_at(word: u128, place: u32) -> Rule
     requires { place < 100 }
     ensures { result ≡ rule_at word place }
@@ -36,7 +34,6 @@ fn rule_at(word: u128, place: u32) -> Rule
 }
 
 /// The rule of the special component, whose flag grants everything.
-#[inline(always)]
 fn special_rule(word: u128) -> Rule
     ensures { result ≡ special_rule word }
 {
