@@ -1,5 +1,5 @@
 #!/usr/bin/env bash
-# Programs that the borrow check must refuse, which must-fail edits can't show: those have to reach the prover. Each text of this
+# Programs that the borrow check or the type check must refuse, which must-fail edits can't show: those have to reach the prover. Each text of this
 # folder is appended to a copy of src/example.rt, and must be refused with the error that its first line names.
 set -eu
 here=$(cd "$(dirname "$0")" && pwd)

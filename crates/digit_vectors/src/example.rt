@@ -1,17 +1,38 @@
 //! A caller of the iterators, in two ways. A call such as `integer_iter` makes an iterator whose answers are known. A literal makes
 //! one of which it is also known what the `Bytes` holds when the iterator has ended.
 
-ghost use Rattle.std.specs.Prelude.{◌≡◌, IsTrue, if◌then◌else◌, is_some, option_copied, slice_get};
+ghost use Rattle.std.specs.Prelude.{◌≡◌, ◌+◌, IsTrue, if◌then◌else◌, is_some, option_copied, slice_get};
 ghost use Rattle.lexical_format.specs.Word.{is_supported};
 ghost use Rattle.lexical_digits.specs.Separators.{is_digit, place};
-ghost use Rattle.lexical_digits.specs.State.{rule_of, rule};
+ghost use Rattle.lexical_digits.specs.State.{rule_of, rule, with_cursor};
 ghost use Rattle.lexical_digits.specs.CallTable.{peeked, settled, taken};
-ghost use Rattle.lexical_digits.specs.Cursor.{byte_if};
+ghost use Rattle.lexical_digits.specs.Cursor.{byte_if, passes};
+ghost use Rattle.digit_vectors.specs.Sign.{is_sign};
 ghost use Rattle.lexical_digits.specs.declared.skip.component.Component.TheVariants.{Integer};
 
-use lexical_digits::iterator::DigitsIter;
+use lexical_digits::iterator::{DigitsIter, IterBodies};
 use lexical_digits::skip::{Bytes, IntegerDigitsIterator};
 use std::marker::PhantomData;
+
+/// Passes a sign that stands at the cursor, and answers whether there was one. A separator is no sign.
+pub fn pass_sign(bytes: &mut Bytes) -> bool
+    ensures sign { let s = bytes.old.state in result ≡ passes (is_sign s) (slice_get s.buffer s.cursor) }
+    ensures state { let s = bytes.old.state in
+        bytes.new.state ≡ if result then with_cursor s (s.cursor + 1) else s }
+{
+    let mut digits = IntegerDigitsIterator {
+        byte: bytes,
+        kind: PhantomData,
+    };
+    let Some(byte) = digits.first() else {
+        return false;
+    };
+    if !digits.is_sign(*byte) || digits.is_digit_separator(*byte) {
+        return false;
+    }
+    digits.step_unchecked();
+    true
+}
 
 /// The next byte of the integer, if it is a digit: it is passed then and counted, and else the cursor stands before it.
 #[tactic(auto, using(crate::proofs::Settled::taken_settled))]

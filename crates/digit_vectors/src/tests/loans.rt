@@ -1,7 +1,9 @@
 //! How long bytes and iterators live.
 
 use super::{INTERNAL, PLAIN, TRAILING, assert_cursor, assert_peek, bytes_of};
+use crate::example::{first_kept, next_digit, pass_sign};
 use lexical_digits::iterator::{DigitsIter, Iter};
+use lexical_format::is_supported;
 use std::process::Abort;
 
 /// The second byte that is kept, which outlives the iterator and the `Bytes`.
@@ -34,4 +36,18 @@ fn iterators_borrow_one_buffer_in_turn(rt: HostRuntime) {
     assert_eq!(rt; two.copied(), Some(b'2'));
     assert_peek(&rt, &mut fraction, Some(b'5'));
     assert_cursor(&rt, &bytes, 4);
+}
+
+#[test]
+fn a_caller_reads_a_signed_number(rt: HostRuntime) {
+    let mut bytes = bytes_of(&rt, b"-1_2x", PLAIN | INTERNAL);
+    assert!(rt; pass_sign(&mut bytes));
+    assert!(rt; !pass_sign(&mut bytes));
+    assert_eq!(rt; next_digit(&mut bytes), Some(b'1'));
+    assert_eq!(rt; next_digit(&mut bytes), Some(b'2'));
+    assert_eq!(rt; next_digit(&mut bytes), None);
+    assert_cursor(&rt, &bytes, 4);
+    let word = PLAIN | INTERNAL;
+    assert!(rt; is_supported(word));
+    assert_eq!(rt; first_kept(b"4_5", word).copied(), Some(b'4'));
 }
