@@ -367,7 +367,7 @@ impl<'a> Bytes<'a> {
                 from: self.tally.index,
                 to: self.tally.index + 1,
             };
-            self.tally.skip();
+            self.tally.skip_and_look();
             return Some(next);
         }
         if !is_separator(separator_of(self.format), *byte) {

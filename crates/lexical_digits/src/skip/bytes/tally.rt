@@ -187,4 +187,18 @@ impl Tally {
         self.index += 1;
         self.mark += 1;
     }
+
+    /// Goes one byte on, which is not counted, and counts one look more.
+    #[inline(always)]
+    pub(super) fn skip_and_look(&mut self)
+        requires { self.old.index < usize.MAX }
+        ensures state { (buffer : List ℕ) → (word : ℕ) → state_of buffer word self.new ≡ with_cursor (state_of buffer word self.old) (self.old.index + 1) }
+        ensures index { self.new.index ≡ self.old.index + 1 }
+        ensures looks { looks_of self.new ≡ saturating (looks_of self.old) 3 }
+        ensures reader { self.new.reader ≡ self.old.reader }
+        ensures is_counting { self.new.is_counting ≡ self.old.is_counting }
+    {
+        self.skip();
+        self.look();
+    }
 }

@@ -71,7 +71,7 @@ invariant_of-self-inside-in-Some-inner_digit c =
     let a : Held = record { state = state_of b.slc.now b.format b.tally; run = run_between b.run.from b.run.to; looks = looks_of b.tally; holds = b.holds } in
     let reader = c.is.ensures c.if-not-is.false in
     let over = passes_over c.args.k b.slc.now b.format b.tally b.shortcuts c.in-Some.byte.now c.in-Some-inner_digit.next.now b.holds.word b.reads reader c.passes_first.ensures.fits (sym c.in-Some.ensures) c.in-Some-inner_digit.ensures in
-    (state_skipped_over a.state _ _ b.holds over.next (c.skip.ensures.state b.slc.now b.format), (b.flags, (reading_kept _ _ _ _ _ _ b.reads c.skip.ensures.reader c.skip.ensures.is_counting, (λ _. over.run, tt))))
+    (state_skipped_over a.state _ _ b.holds over.next (c.skip_and_look.ensures.state b.slc.now b.format), (b.flags, (reading_kept _ _ _ _ _ _ b.reads c.skip_and_look.ensures.reader c.skip_and_look.ensures.is_counting, (λ _. over.run, tt))))
 
 pub returns-in-Some-inner_digit-clause-byte : goal.returns-in-Some-inner_digit-clause-byte
 returns-in-Some-inner_digit-clause-byte c =
@@ -87,7 +87,7 @@ returns-in-Some-inner_digit-clause-state c =
     let a : Held = record { state = state_of b.slc.now b.format b.tally; run = run_between b.run.from b.run.to; looks = looks_of b.tally; holds = b.holds } in
     let reader = c.is.ensures c.if-not-is.false in
     let over = passes_over c.args.k b.slc.now b.format b.tally b.shortcuts c.in-Some.byte.now c.in-Some-inner_digit.next.now b.holds.word b.reads reader c.passes_first.ensures.fits (sym c.in-Some.ensures) c.in-Some-inner_digit.ensures in
-    rw (sym c.self.view_is) (settles_over c.args.k a _ over.place (c.skip.ensures.state b.slc.now b.format))
+    rw (sym c.self.view_is) (settles_over c.args.k a _ over.place (c.skip_and_look.ensures.state b.slc.now b.format))
 
 pub returns-in-Some-inner_digit-clause-reads : goal.returns-in-Some-inner_digit-clause-reads
 returns-in-Some-inner_digit-clause-reads c =
@@ -95,7 +95,7 @@ returns-in-Some-inner_digit-clause-reads c =
     let a : Held = record { state = state_of b.slc.now b.format b.tally; run = run_between b.run.from b.run.to; looks = looks_of b.tally; holds = b.holds } in
     let reader = c.is.ensures c.if-not-is.false in
     let over = passes_over c.args.k b.slc.now b.format b.tally b.shortcuts c.in-Some.byte.now c.in-Some-inner_digit.next.now b.holds.word b.reads reader c.passes_first.ensures.fits (sym c.in-Some.ensures) c.in-Some-inner_digit.ensures in
-    rw (sym c.self.view_is) (reads_over c.args.k a _ b.run.from b.run.to refl b.remembers over.run refl (omega (arith, c.skip.ensures.index)) (omega (arith, c.skip.ensures.looks)) (omega (arith, c.skip.ensures.looks)))
+    rw (sym c.self.view_is) (reads_over c.args.k a _ b.run.from b.run.to refl b.remembers over.run refl (omega (arith, c.skip_and_look.ensures.index)) (omega (arith, c.skip_and_look.ensures.looks)) (omega (arith, c.skip_and_look.ensures.looks)))
 
 pub invariant_of-self-inside-then-not-is_separator : goal.invariant_of-self-inside-then-not-is_separator
 invariant_of-self-inside-then-not-is_separator c =
