@@ -1,10 +1,10 @@
 //! The ordinary texts, and their table.
 
 use crate::measure::{measure, widest, Job};
-use crate::texts::{digits, each_third, numbers, runs, Text};
+use crate::texts::{digits, each_third, literals, numbers, runs, Text};
 use crate::word::{I, IC, ILTC, NONE};
 use crate::work::Sides;
-use crate::work::Work::{Handed, Number, Numbers, Peeked, Sum};
+use crate::work::Work::{Handed, Literals, Number, Numbers, Peeked, Sum};
 
 /// A row of the table.
 struct Case {
@@ -45,6 +45,9 @@ fn all() -> Vec<Case> {
         Case::new("i: no flags, digits, handed in", 1.5, digits(), Sides::skip::<NONE>(Handed)),
         Case::new("i: I, digits, handed in", 1.5, digits(), Sides::skip::<I>(Handed)),
         Case::new("i: I, each third, handed in", 1.5, each_third(), Sides::skip::<I>(Handed)),
+        Case::new("j: no flags, literals", 1.3, literals(false), Sides::skip::<NONE>(Literals)),
+        Case::new("j: I, literals", 1.3, literals(false), Sides::skip::<I>(Literals)),
+        Case::new("j: I, grouped literals", 1.3, literals(true), Sides::skip::<I>(Literals)),
     ]
 }
 

@@ -37,6 +37,11 @@ impl<'a, const WORD: u128> Digits<'a, '_, WORD> {
         }
     }
 
+    /// Where the cursor stands.
+    pub fn cursor(&self) -> usize {
+        self.bytes.index
+    }
+
     /// The next kept byte, where the cursor then stands.
     #[inline(always)]
     pub fn peek(&mut self) -> Option<&'a u8> {

@@ -25,6 +25,15 @@ unsafe extern "C" {
     pub fn digit_bench_plain_number(text: *const u8, len: usize, low: u64, high: u64, out: *mut Outcome);
     pub fn digit_bench_plain_peeked(text: *const u8, len: usize, low: u64, high: u64, out: *mut Outcome);
     pub safe fn digit_bench_size() -> usize;
+    pub fn digit_bench_literals(
+        text: *const u8,
+        len: usize,
+        lengths: *const u8,
+        count: usize,
+        low: u64,
+        high: u64,
+        out: *mut Outcome,
+    );
     pub fn digit_bench_numbers(
         text: *const u8,
         len: usize,

@@ -1,14 +1,18 @@
 //! The texts that are drained. They are the same in each run.
 
-/// Bytes, and where they are many numbers, the lengths of these.
+/// Bytes, and where they are many numbers, the lengths of these, and the digits alone.
+#[derive(Default)]
 pub struct Text {
     pub bytes: Vec<u8>,
     pub lengths: Vec<u8>,
+    /// The same numbers without separators.
+    pub digits: String,
+    pub digit_lengths: Vec<u8>,
 }
 
 impl From<Vec<u8>> for Text {
     fn from(bytes: Vec<u8>) -> Self {
-        Text { bytes, lengths: Vec::new() }
+        Text { bytes, ..Text::default() }
     }
 }
 
@@ -63,7 +67,7 @@ pub fn runs(length: usize) -> Text {
 /// About a mebibyte of numbers of 8 to 20 bytes; grouped by threes where `grouped` says so.
 pub fn numbers(grouped: bool) -> Text {
     let mut random = Random(SEED);
-    let mut text = Text::from(Vec::new());
+    let mut text = Text::default();
     while text.bytes.len() < MEBIBYTE {
         let length = 8 + random.below(13) as u8;
         for at in 0..length {
@@ -71,6 +75,28 @@ pub fn numbers(grouped: bool) -> Text {
             text.bytes.push(if is_separator { b'_' } else { random.digit() });
         }
         text.lengths.push(length);
+    }
+    text
+}
+
+/// About a mebibyte of numbers of 8 to 20 digits, some above `u64::MAX`, and the digits alone beside
+/// them; grouped by threes where `grouped` says so.
+pub fn literals(grouped: bool) -> Text {
+    let mut random = Random(SEED);
+    let mut text = Text::default();
+    while text.bytes.len() < MEBIBYTE {
+        let digits = 8 + random.below(13) as u8;
+        let start = text.bytes.len();
+        for at in 0..digits {
+            if grouped && at > 0 && (digits - at).is_multiple_of(3) {
+                text.bytes.push(b'_');
+            }
+            let digit = random.digit();
+            text.bytes.push(digit);
+            text.digits.push(digit.into());
+        }
+        text.lengths.push((text.bytes.len() - start) as u8);
+        text.digit_lengths.push(digits);
     }
     text
 }

@@ -62,6 +62,12 @@ impl<const WORD: u128> Rule<WORD> {
         (byte as char).is_digit(Self::RADIX)
     }
 
+    /// The value of a digit.
+    #[inline(always)]
+    pub fn digit(byte: u8) -> Option<u32> {
+        (byte as char).to_digit(Self::RADIX)
+    }
+
     #[inline(always)]
     pub fn is_separator(byte: u8) -> bool {
         Self::SEPARATOR != 0 && byte == Self::SEPARATOR

@@ -4,7 +4,7 @@ use crate::filter::filter;
 use crate::fixed::Bytes;
 use crate::library::{self, Export, Outcome};
 use crate::texts::Text;
-use crate::word::NONE;
+use crate::word::{Rule, NONE};
 
 /// What is done with a text.
 #[derive(Clone, Copy)]
@@ -19,6 +19,9 @@ pub enum Work {
     Handed,
     /// Makes a number of each of many short texts, and adds these up.
     Numbers,
+    /// Reads each of many integer literals, and adds up those that `u64` holds. In place of the
+    /// filter stands `u64::from_str_radix`, on the digits alone.
+    Literals,
 }
 
 /// One side's way to do the work.
@@ -56,6 +59,10 @@ impl Sides {
                 let export = library::digit_bench_numbers;
                 library::call_many(export, &text.bytes, &text.lengths, WORD)
             }),
+            Work::Literals => Box::new(|text| {
+                let export = library::digit_bench_literals;
+                library::call_many(export, &text.bytes, &text.lengths, WORD)
+            }),
         };
         Sides::of::<WORD>(library, work)
     }
@@ -66,7 +73,9 @@ impl Sides {
         let export = match work {
             Work::Sum => library::digit_bench_plain_sum,
             Work::Peeked => library::digit_bench_plain_peeked,
-            Work::Number | Work::Handed | Work::Numbers => library::digit_bench_plain_number,
+            Work::Number | Work::Handed | Work::Numbers | Work::Literals => {
+                library::digit_bench_plain_number
+            }
         };
         Sides::of::<NONE>(exported(export, NONE), work)
     }
@@ -117,7 +126,31 @@ fn fixed<const WORD: u128>(work: Work) -> fn(&Text) -> Outcome {
             outcome(number, &mut bytes)
         },
         Work::Numbers => |text| each_number(text, fixed_number::<WORD>),
+        Work::Literals => |text| each_number(text, fixed_literal::<WORD>),
     }
+}
+
+/// The value of the digits that lead, and where they end: nothing of a value that `u64` does not
+/// hold, or where there is none.
+#[inline(always)]
+fn fixed_literal<const WORD: u128>(text: &[u8]) -> Outcome {
+    let mut bytes = Bytes::<WORD>::new(text);
+    let mut iter = bytes.integer_iter();
+    let mut value = 0u64;
+    let mut is_empty = true;
+    while let Some(digit) = iter.peek().and_then(|&byte| Rule::<WORD>::digit(byte)) {
+        let more = value.checked_mul(Rule::<WORD>::RADIX.into());
+        let Some(more) = more.and_then(|more| more.checked_add(digit.into())) else {
+            return Outcome::default();
+        };
+        value = more;
+        is_empty = false;
+        iter.next();
+    }
+    if is_empty {
+        return Outcome::default();
+    }
+    Outcome { value, count: iter.cursor() as u64, looks: 0 }
 }
 
 #[inline(always)]
@@ -165,7 +198,20 @@ fn filtered<const WORD: u128>(work: Work) -> fn(&Text) -> Outcome {
         },
         Work::Number | Work::Peeked | Work::Handed => |text| filtered_number::<WORD>(&text.bytes),
         Work::Numbers => |text| each_number(text, filtered_number::<WORD>),
+        Work::Literals => |text| each_parsed(text, Rule::<WORD>::RADIX),
     }
+}
+
+/// The value of each number by its digits alone, added up where `u64` holds it.
+fn each_parsed(text: &Text, radix: u32) -> Outcome {
+    let mut total = 0u64;
+    let mut rest = &text.digits[..];
+    for &length in &text.digit_lengths {
+        let (first, others) = rest.split_at(length.into());
+        total = total.wrapping_add(u64::from_str_radix(first, radix).unwrap_or(0));
+        rest = others;
+    }
+    of_value(total)
 }
 
 #[inline(always)]

@@ -6,7 +6,7 @@ use Rattle.lexical_digits.specs.declared.skip.component.Component.{Component}
 use Rattle.lexical_digits.specs.declared.skip.component.Component.TheVariants.{Integer, Fraction, Exponent, Special}
 use Rattle.lexical_digits.specs.Separators.{is_digit, has_flags, drain}
 use Rattle.lexical_digits.specs.State.{start, rule_of, own, counts, is_contiguous, has_no_separator, saturating, current_count}
-use Rattle.lexical_digits.specs.CallTable.{drain_of, drained}
+use Rattle.lexical_digits.specs.CallTable.{drain_of, after_drain}
 use Rattle.digit_drain.specs.Line.{Asked, word_of}
 use Rattle.digit_drain.specs.Report.{count_of}
 
@@ -24,56 +24,71 @@ no_count Exponent text word = refl
 no_count Special text word = refl
 
 integer_count : (flags plain : Bool) (n m : ℕ) → n < 2 ^ 64 →
-    (if not flags then (if plain then m else saturating (saturating (if flags then saturating 0 n else 0) 0) 0) else (if flags then saturating 0 n else 0)) ≡ count_if flags plain n m
+    (if not flags then (if plain then m else saturating
+    (saturating (if flags then saturating 0 n else 0) 0) 0)
+    else (if flags then saturating 0 n else 0)) ≡ count_if flags plain n m
 unfolding count_if
 integer_count true plain n m h = none_saturates n h
 integer_count false true n m h = refl
 integer_count false false n m h = refl
 
 fraction_count : (flags plain : Bool) (n m : ℕ) → n < 2 ^ 64 →
-    (if not flags then (if plain then m else saturating (saturating 0 (if flags then saturating 0 n else 0)) 0) else (if flags then saturating 0 n else 0)) ≡ count_if flags plain n m
+    (if not flags then (if plain then m else saturating
+    (saturating 0 (if flags then saturating 0 n else 0)) 0)
+    else (if flags then saturating 0 n else 0)) ≡ count_if flags plain n m
 unfolding count_if
 fraction_count true plain n m h = none_saturates n h
 fraction_count false true n m h = refl
 fraction_count false false n m h = refl
 
 exponent_count : (flags plain : Bool) (n m : ℕ) → n < 2 ^ 64 →
-    (if not flags then (if plain then m else saturating (saturating 0 0) (if flags then saturating 0 n else 0)) else (if flags then saturating 0 n else 0)) ≡ count_if flags plain n m
+    (if not flags then (if plain then m else saturating (saturating 0 0)
+    (if flags then saturating 0 n else 0)) else (if flags then saturating 0 n else 0))
+    ≡ count_if flags plain n m
 unfolding count_if
 exponent_count true plain n m h = none_saturates n h
 exponent_count false true n m h = refl
 exponent_count false false n m h = refl
 
 special_count : (flags plain : Bool) (m : ℕ) →
-    (if not flags then (if plain then m else saturating (saturating 0 0) 0) else 0) ≡ (if not flags && plain then m else 0)
+    (if not flags then (if plain then m else saturating (saturating 0 0) 0) else 0)
+    ≡ (if not flags && plain then m else 0)
 special_count true plain m = refl
 special_count false true m = refl
 special_count false false m = refl
 
 count_by_kind : (k : Component) (word : ℕ) (text : List ℕ) → length text < 2 ^ 64 →
-    current_count k (drained k (start text word)) ≡
-    (if counts k word then count_by (is_digit (rule_of word k)) text else if is_contiguous k word && has_no_separator word then length text else 0)
-unfolding drained count_if
+    current_count k (after_drain k (start text word)) ≡
+    (if counts k word then count_by (is_digit (rule_of word k)) text else if is_contiguous k word
+    && has_no_separator word then length text else 0)
+unfolding after_drain count_if
 count_by_kind Integer word text h =
     let few = count_by-le-length (is_digit (rule_of word Integer)) text in
-    integer_count (has_flags (rule_of word Integer)) (has_no_separator word) (count_by (is_digit (rule_of word Integer)) text) (length text) (omega arith)
+    integer_count (has_flags (rule_of word Integer)) (has_no_separator word)
+    (count_by (is_digit (rule_of word Integer)) text) (length text) (omega arith)
 count_by_kind Fraction word text h =
     let few = count_by-le-length (is_digit (rule_of word Fraction)) text in
-    fraction_count (has_flags (rule_of word Fraction)) (has_no_separator word) (count_by (is_digit (rule_of word Fraction)) text) (length text) (omega arith)
+    fraction_count (has_flags (rule_of word Fraction)) (has_no_separator word)
+    (count_by (is_digit (rule_of word Fraction)) text) (length text) (omega arith)
 count_by_kind Exponent word text h =
     let few = count_by-le-length (is_digit (rule_of word Exponent)) text in
-    exponent_count (has_flags (rule_of word Exponent)) (has_no_separator word) (count_by (is_digit (rule_of word Exponent)) text) (length text) (omega arith)
-count_by_kind Special word text h = special_count (has_flags (rule_of word Special)) (has_no_separator word) (length text)
+    exponent_count (has_flags (rule_of word Exponent)) (has_no_separator word)
+    (count_by (is_digit (rule_of word Exponent)) text) (length text) (omega arith)
+count_by_kind Special word text h =
+    special_count (has_flags (rule_of word Special)) (has_no_separator word) (length text)
 
 pub count_of_drained : (asked : Asked) → length asked.text < 2 ^ 64 →
-    current_count asked.component (drained asked.component (start asked.text (word_of asked))) ≡ count_of asked
+    current_count asked.component (after_drain asked.component (start asked.text (word_of asked)))
+    ≡ count_of asked
 unfolding count_of
 count_of_drained asked h = count_by_kind asked.component (word_of asked) asked.text h
 
-pub cursor_of_drained : (k : Component) (text : List ℕ) (word : ℕ) → (drained k (start text word)).cursor ≡ length text
-unfolding drained
+pub cursor_of_drained : (k : Component) (text : List ℕ) (word : ℕ)
+    → (after_drain k (start text word)).cursor ≡ length text
+unfolding after_drain
 cursor_of_drained k text word = refl
 
 -- from no count the bytes drained are the report's
-pub drain_from_start : (k : Component) (text : List ℕ) (word : ℕ) → drain_of k (start text word) ≡ drain (rule_of word k) text 0 0
+pub drain_from_start : (k : Component) (text : List ℕ) (word : ℕ)
+    → drain_of k (start text word) ≡ drain (rule_of word k) text 0 0
 drain_from_start k text word = rw no_count refl

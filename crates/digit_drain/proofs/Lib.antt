@@ -1,5 +1,7 @@
 pub mod Counts
 pub mod Cuts
+pub mod Drains
+pub mod Fields
 pub mod Lines
 pub mod Reading
 pub mod Spelled

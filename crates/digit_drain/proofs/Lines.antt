@@ -9,14 +9,16 @@ use Rattle.digit_drain.proofs.Cuts.{cut_splits, cut_none}
 no_feed : (byte : ℕ) → byte ≢ 10 → (byte == 10) ≡ false
 no_feed byte h = grind (arith, nat_tests)
 
-lines_joined : (line rest : List ℕ) → All (λ byte. byte ≢ 10) line → lines_of (line ++ 10 ∷ rest) ≡ line ∷ lines_of rest
+lines_joined : (line rest : List ℕ) → All (λ byte. byte ≢ 10) line
+    → lines_of (line ++ 10 ∷ rest) ≡ line ∷ lines_of rest
 lines_joined [] rest h = refl
 lines_joined (byte ∷ line) rest h =
     let t = no_feed byte (All-head (λ byte. byte ≢ 10) byte line h) in
     let e = lines_joined line rest (All-tail (λ byte. byte ≢ 10) byte line h) in
     rw (t, e) refl
 
-one_line : (byte : ℕ) (line : List ℕ) → All (λ byte. byte ≢ 10) (byte ∷ line) → lines_of (byte ∷ line) ≡ (byte ∷ line) ∷ []
+one_line : (byte : ℕ) (line : List ℕ) → All (λ byte. byte ≢ 10) (byte ∷ line)
+    → lines_of (byte ∷ line) ≡ (byte ∷ line) ∷ []
 one_line byte [] h = let t = no_feed byte (All-head (λ byte. byte ≢ 10) byte [] h) in rw t refl
 one_line byte (next ∷ line) h =
     let t = no_feed byte (All-head (λ byte. byte ≢ 10) byte (next ∷ line) h) in
@@ -24,12 +26,14 @@ one_line byte (next ∷ line) h =
     rw (t, e) refl
 
 -- a line that ends in a line feed
-pub lines_of_cut : (input line rest : List ℕ) → cut 10 input ≡ Some (line, rest) → lines_of input ≡ line ∷ lines_of rest
+pub lines_of_cut : (input line rest : List ℕ) → cut 10 input ≡ Some (line, rest)
+    → lines_of input ≡ line ∷ lines_of rest
 lines_of_cut input line rest h =
     let parts = cut_splits 10 input line rest h in
     rw parts.whole (lines_joined line rest parts.before)
 
 -- a last line that does not
-pub lines_of_last : (input : List ℕ) → 0 < length input → cut 10 input ≡ None → lines_of input ≡ input ∷ []
+pub lines_of_last : (input : List ℕ) → 0 < length input → cut 10 input ≡ None
+    → lines_of input ≡ input ∷ []
 lines_of_last [] some h = absurd (omega arith)
 lines_of_last (byte ∷ line) some h = one_line byte line (cut_none 10 (byte ∷ line) h)

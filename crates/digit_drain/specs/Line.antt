@@ -1,11 +1,12 @@
 -- A line of the input: four fields, each followed by one space, and then the text.
-use Rattle.std.specs.Prelude.{◌≡◌, ◌≢◌, ℕ, ◌+◌, ◌*◌, ◌^◌, ◌==◌, ◌&&◌, nat_le, nat_lt, if◌then◌else◌, Bool, false, true, List, ◌∷◌, ◌++◌, length, take, drop, position, count_by, All, Option, Some, None, option_map, codes, bytes_eq}
-use Rattle.std.specs.List.{list_all}
+use Rattle.std.specs.Prelude.{◌≡◌, ◌≢◌, ◌⊎◌, ℕ, ◌+◌, ◌*◌, ◌^◌, ◌<◌, ◌≤◌, ◌==◌, ◌&&◌, nat_eq, nat_le, nat_lt, if◌then◌else◌, Bool, false, true, List, ◌∷◌, ◌++◌, length, take, drop, position, count_by, All, Option, Some, None, option_map, codes, bytes_eq}
+use Rattle.std.specs.List.{list_all, list_any, IsDistinct}
 use Rattle.std.specs.Char.{digit_value}
-use Rattle.std.specs.Str.Parse.{digits_value}
+use Rattle.std.specs.Str.{byte}
+use Rattle.std.specs.Str.Parse.{IsNumeral, digits_value}
 use Rattle.lexical_format.specs.Word.{bits}
 use Rattle.lexical_digits.specs.State.{rule_of}
-use Rattle.lexical_digits.specs.declared.skip.decision.Rule.{Rule}
+use Rattle.lexical_digits.specs.declared.skip.rule.Rule.{Rule}
 use Rattle.lexical_digits.specs.declared.skip.component.Component.{Component}
 use Rattle.lexical_digits.specs.declared.skip.component.Component.TheVariants.{Integer, Fraction, Exponent, Special}
 use Rattle.digit_drain.specs.declared.line.Radix.{Radix}
@@ -19,9 +20,91 @@ None >>= f = None
 
 -- what stands before the first `mark`, and what stands after it
 abbrev pub cut : ℕ → List ℕ → Option (List ℕ × List ℕ)
-cut mark bytes = option_map (λ i. (take i bytes, drop (i + 1) bytes)) (position (λ byte. byte == mark) bytes)
+cut mark bytes =
+    option_map (λ i. (take i bytes, drop (i + 1) bytes)) (position (λ b. b == mark) bytes)
 
--- ---- the fields
+-- ---- what a field is
+
+-- the name of a component
+abbrev pub name_of : Component → List ℕ
+name_of Integer = codes "integer"
+name_of Fraction = codes "fraction"
+name_of Exponent = codes "exponent"
+name_of Special = codes "special"
+
+-- One to three decimal digits write the value, which a byte holds.
+pub record IsDecimal (field : List ℕ) (value : ℕ) : Type 0 where
+  pub numeral : IsNumeral 10 field
+  pub few : length field ≤ 3
+  pub writes : digits_value 10 field ≡ value
+  pub small : value ≤ 255
+
+-- Two hexadecimal digits, in either case, write the value.
+pub record IsHexadecimal (field : List ℕ) (value : ℕ) : Type 0 where
+  pub numeral : IsNumeral 16 field
+  pub two : length field ≡ 2
+  pub writes : digits_value 16 field ≡ value
+
+-- Two decimal numbers with a `/` between them: the mantissa's radix, and the exponent's.
+pub record AreRadixes (field : List ℕ) (radix : Radix) : Type 0 where
+  pub mantissa : List ℕ
+  pub exponent : List ℕ
+  pub field_is : field ≡ mantissa ++ byte "/" ∷ exponent
+  pub mantissa_is : IsDecimal mantissa radix.mantissa
+  pub exponent_is : IsDecimal exponent radix.exponent
+
+-- the mantissa's radix alone, where the exponent's is zero, or both
+abbrev pub IsRadix : List ℕ → Radix → Type 0
+IsRadix field radix =
+    (IsDecimal field radix.mantissa × (radix.exponent ≡ 0)) ⊎ AreRadixes field radix
+
+-- one of the letters of a number's flags
+abbrev pub IsFlagLetter : ℕ → Type 0
+IsFlagLetter letter =
+    (letter ≡ byte "I") ⊎ (letter ≡ byte "L") ⊎ (letter ≡ byte "T") ⊎ (letter ≡ byte "C")
+
+-- whether a letter stands in a field
+abbrev pub stands : ℕ → List ℕ → Bool
+stands letter field = list_any (λ b. b == letter) field
+
+-- One or more of the letters I, L, T and C, in any order, none of them twice; and each flag is set
+-- exactly if its letter stands.
+pub record AreNumberFlags (field : List ℕ) (flags : Flags) : Type 0 where
+  pub some : 0 < length field
+  pub letters : All IsFlagLetter field
+  pub none_twice : IsDistinct nat_eq field
+  pub internal : flags.internal ≡ stands (byte "I") field
+  pub leading : flags.leading ≡ stands (byte "L") field
+  pub trailing : flags.trailing ≡ stands (byte "T") field
+  pub consecutive : flags.consecutive ≡ stands (byte "C") field
+  pub special : flags.special ≡ false
+
+abbrev pub no_flags : Flags
+no_flags = record {
+  internal = false;
+  leading = false;
+  trailing = false;
+  consecutive = false;
+  special = false;
+}
+
+-- the letter S alone
+abbrev pub AreSpecialFlags : List ℕ → Flags → Type 0
+AreSpecialFlags field flags =
+    (field ≡ codes "S") × (flags ≡ record no_flags { special = true })
+
+abbrev pub AreLetters : Component → List ℕ → Flags → Type 0
+AreLetters Integer field flags = AreNumberFlags field flags
+AreLetters Fraction field flags = AreNumberFlags field flags
+AreLetters Exponent field flags = AreNumberFlags field flags
+AreLetters Special field flags = AreSpecialFlags field flags
+
+-- `-` for none, or the letters of the component
+abbrev pub AreFlags : Component → List ℕ → Flags → Type 0
+AreFlags component field flags =
+    ((field ≡ codes "-") × (flags ≡ no_flags)) ⊎ AreLetters component field flags
+
+-- ---- how it is read
 
 abbrev pub component_of : List ℕ → Option Component
 component_of field =
@@ -34,13 +117,14 @@ component_of field =
 -- the number that a field of digits writes, if a byte holds it
 abbrev pub number_of : ℕ → List ℕ → Option ℕ
 number_of radix field =
-    if list_all (λ byte. nat_lt (digit_value byte) radix) field && nat_lt (digits_value radix field) 256
+    if list_all (λ b. nat_lt (digit_value b) radix) field && nat_lt (digits_value radix field) 256
     then Some (digits_value radix field)
     else None
 
 -- one to three decimal digits
 abbrev pub decimal_of : List ℕ → Option ℕ
-decimal_of field = if nat_le 1 (length field) && nat_le (length field) 3 then number_of 10 field else None
+decimal_of field =
+    if nat_le 1 (length field) && nat_le (length field) 3 then number_of 10 field else None
 
 -- two hexadecimal digits
 abbrev pub hexadecimal_of : List ℕ → Option ℕ
@@ -59,28 +143,34 @@ radix_of_parts field (Some parts) = do
 unfoldable pub radix_of : List ℕ → Option Radix
 radix_of field = radix_of_parts field (cut 47 field)
 
-abbrev pub no_flags : Flags
-no_flags = record { internal = false; leading = false; trailing = false; consecutive = false; special = false }
-
 -- how often a letter stands in a field
 abbrev pub times : ℕ → List ℕ → ℕ
-times letter field = count_by (λ byte. byte == letter) field
+times letter field = count_by (λ b. b == letter) field
 
 -- one or more of the letters I, L, T and C, none twice, and nothing else
 abbrev pub are_number_flags : List ℕ → Bool
 are_number_flags field =
-    nat_le (times 73 field) 1 && nat_le (times 76 field) 1 && nat_le (times 84 field) 1 && nat_le (times 67 field) 1
-    && (times 73 field + times 76 field + times 84 field + times 67 field == length field) && nat_lt 0 (length field)
+    nat_le (times 73 field) 1 && nat_le (times 76 field) 1
+    && nat_le (times 84 field) 1 && nat_le (times 67 field) 1
+    && (times 73 field + times 76 field + times 84 field + times 67 field == length field)
+    && nat_lt 0 (length field)
 
 abbrev pub number_flags_of : List ℕ → Option Flags
 number_flags_of field =
     if are_number_flags field
-    then Some (record { internal = times 73 field == 1; leading = times 76 field == 1; trailing = times 84 field == 1; consecutive = times 67 field == 1; special = false })
+    then Some (record {
+      internal = times 73 field == 1;
+      leading = times 76 field == 1;
+      trailing = times 84 field == 1;
+      consecutive = times 67 field == 1;
+      special = false;
+    })
     else None
 
 -- the letter S
 abbrev pub special_flags_of : List ℕ → Option Flags
-special_flags_of field = if bytes_eq field (codes "S") then Some (record no_flags { special = true }) else None
+special_flags_of field =
+    if bytes_eq field (codes "S") then Some (record no_flags { special = true }) else None
 
 abbrev pub letters_of : Component → List ℕ → Option Flags
 letters_of Integer field = number_flags_of field
@@ -90,7 +180,8 @@ letters_of Special field = special_flags_of field
 
 -- `-`, or the letters of the component
 abbrev pub flags_of : Component → List ℕ → Option Flags
-flags_of component field = if bytes_eq field (codes "-") then Some no_flags else letters_of component field
+flags_of component field =
+    if bytes_eq field (codes "-") then Some no_flags else letters_of component field
 
 -- ---- the line
 
@@ -103,7 +194,13 @@ pub record Asked : Type 0 where
   pub text : List ℕ
 
 abbrev pub asked_by : Request → Asked
-asked_by r = record { component = r.component; radix = r.radix; separator = r.separator; flags = r.flags; text = r.text.now }
+asked_by r = record {
+  component = r.component;
+  radix = r.radix;
+  separator = r.separator;
+  flags = r.flags;
+  text = r.text.now;
+}
 
 -- what a line asks for, if it is a request
 unfoldable pub request_of : List ℕ → Option Asked
@@ -118,22 +215,31 @@ request_of line = do
   f ← flags_of c flags.0
   Some (record { component = c; radix = r; separator = s; flags = f; text = flags.1 })
 
--- The line is four fields without a space in them, each followed by a space, and then the text.
+abbrev pub HasNoSpace : List ℕ → Type 0
+HasNoSpace field = All (λ b. b ≢ byte " ") field
+
+abbrev pub with_space : List ℕ → List ℕ → List ℕ
+with_space field rest = field ++ byte " " ∷ rest
+
+-- The line is four fields without a space in them, each followed by one space, and then the text.
 pub record Spells (line : List ℕ) (asked : Asked) : Type 0 where
   pub component : List ℕ
   pub radix : List ℕ
   pub separator : List ℕ
   pub flags : List ℕ
-  pub line_is : line ≡ component ++ 32 ∷ (radix ++ 32 ∷ (separator ++ 32 ∷ (flags ++ 32 ∷ asked.text)))
-  pub no_spaces : All (λ byte. byte ≢ 32) component × All (λ byte. byte ≢ 32) radix × All (λ byte. byte ≢ 32) separator × All (λ byte. byte ≢ 32) flags
-  pub component_is : component_of component ≡ Some asked.component
-  pub radix_is : radix_of radix ≡ Some asked.radix
-  pub separator_is : hexadecimal_of separator ≡ Some asked.separator
-  pub flags_are : flags_of asked.component flags ≡ Some asked.flags
+  pub line_is : line ≡
+      with_space component (with_space radix (with_space separator (with_space flags asked.text)))
+  pub no_spaces :
+      HasNoSpace component × HasNoSpace radix × HasNoSpace separator × HasNoSpace flags
+  pub component_is : component ≡ name_of asked.component
+  pub radix_is : IsRadix radix asked.radix
+  pub separator_is : IsHexadecimal separator asked.separator
+  pub flags_are : AreFlags asked.component flags asked.flags
 
 -- ---- the word
 
--- how far above those of integer a component's flags stand; special has one flag, which stands elsewhere
+-- how far above those of integer a component's flags stand; special has one flag, which stands
+-- elsewhere
 abbrev pub flags_above : Component → ℕ
 flags_above Integer = 0
 flags_above Fraction = 1
@@ -147,15 +253,22 @@ bit_if is_set place = if is_set then 2 ^ place else 0
 unfoldable pub word_of : Asked → ℕ
 word_of asked =
     asked.radix.exponent * 2 ^ 120 + asked.radix.mantissa * 2 ^ 104 + asked.separator * 2 ^ 64
-    + bit_if asked.flags.internal (32 + flags_above asked.component) + bit_if asked.flags.leading (35 + flags_above asked.component)
-    + bit_if asked.flags.trailing (38 + flags_above asked.component) + bit_if asked.flags.consecutive (41 + flags_above asked.component)
+    + bit_if asked.flags.internal (32 + flags_above asked.component)
+    + bit_if asked.flags.leading (35 + flags_above asked.component)
+    + bit_if asked.flags.trailing (38 + flags_above asked.component)
+    + bit_if asked.flags.consecutive (41 + flags_above asked.component)
     + bit_if asked.flags.special 44
+
+-- the radix of a component's digits; for the exponent a zero stands for the mantissa radix
+abbrev pub radix_asked : Component → Radix → ℕ
+radix_asked Exponent radix = if radix.exponent == 0 then radix.mantissa else radix.exponent
+radix_asked component radix = radix.mantissa
 
 -- what a request grants its component; special's flag grants everything
 abbrev pub rule_asked : Component → Asked → Rule
 rule_asked Special asked = record {
   separator = asked.separator;
-  radix = asked.radix.mantissa;
+  radix = radix_asked Special asked.radix;
   internal = asked.flags.special;
   leading = asked.flags.special;
   trailing = asked.flags.special;
@@ -163,7 +276,7 @@ rule_asked Special asked = record {
 }
 rule_asked component asked = record {
   separator = asked.separator;
-  radix = asked.radix.mantissa;
+  radix = radix_asked component asked.radix;
   internal = asked.flags.internal;
   leading = asked.flags.leading;
   trailing = asked.flags.trailing;

@@ -1,13 +1,16 @@
--- What a run leaves in its reader and its writer, by what it answers. Where a reader or a writer does not tell its
--- bytes, nothing is said of them.
+-- What a run leaves in its reader and its writer, by what it answers. Where a reader or a writer
+-- does not tell its bytes, nothing is said of them.
 use Rattle.std.specs.Prelude.{◌≡◌, ℕ, ◌<◌, ◌≤◌, List, ◌++◌, length, Option, None, Some, Result, Ok, Err, IfSome, codes, decimal}
-use Rattle.std.specs.Io.KnownBytes.{Appends, Keeps, IsAtEnd}
+use Rattle.std.specs.Io.KnownBytes.{Appends, Consumes, Keeps, IsAtEnd}
 use Rattle.digit_drain.specs.declared.fault.Fault.{Fault}
 use Rattle.digit_drain.specs.declared.fault.Fault.TheVariants.{Line, Word, TooLong, Read, Write, Memory}
-use Rattle.digit_drain.specs.declared.input.TheConstants.{LIMIT}
 use Rattle.digit_drain.specs.declared.report.BadLine.{BadLine}
 use Rattle.digit_drain.specs.declared.report.BadLine.TheVariants.{NotARequest, NotSupported}
 use Rattle.digit_drain.specs.Report.{report_of}
+
+-- the most bytes that an input has
+abbrev pub most_bytes : ℕ
+most_bytes = 65536
 
 -- the known bytes grow by a prefix of `bytes`, and not by the whole
 pub record AppendsPart (old new : Option (List ℕ)) (bytes : List ℕ) : Type 0 where
@@ -26,20 +29,26 @@ pub record Streams : Type 0 where
 
 -- The input was read to its end, its first bad line is this one, and all of its report was written.
 pub record WritesReport (s : Streams) (bad_line : Option BadLine) : Type 0 where
-  pub short : IfSome s.input (λ input. length input ≤ LIMIT)
+  pub short : IfSome s.input (λ input. length input ≤ most_bytes)
   pub ended : IsAtEnd s.rest
   pub bad : IfSome s.input (λ input. (report_of input).fault ≡ bad_line)
   pub written : IfSome s.input (λ input. Appends s.held s.holds (report_of input).output)
 
 -- The input was read to its end, and a prefix of its report was written, never the whole.
 pub record WritesPart (s : Streams) : Type 0 where
-  pub short : IfSome s.input (λ input. length input ≤ LIMIT)
+  pub short : IfSome s.input (λ input. length input ≤ most_bytes)
   pub ended : IsAtEnd s.rest
   pub written : IfSome s.input (λ input. AppendsPart s.held s.holds (report_of input).output)
 
--- The input is longer than the limit, and nothing was written.
+-- more bytes than an input has were read, and are gone from what the reader has left
+pub record ReadsPast (old new : Option (List ℕ)) : Type 0 where
+  pub read : List ℕ
+  pub long : most_bytes < length read
+  pub consumed : Consumes old new read
+
+-- More bytes than an input has were read, and nothing was written.
 pub record IsTooLong (s : Streams) : Type 0 where
-  pub long : IfSome s.input (λ input. LIMIT < length input)
+  pub past : ReadsPast s.input s.rest
   pub kept : Keeps s.held s.holds
 
 -- what a run does, by its answer
@@ -62,7 +71,7 @@ line_of Write = codes "error: write failed\n"
 line_of Memory = codes "error: out of memory\n"
 
 -- what telling a fault does, by its answer; there are no others
-abbrev pub Tells : Option (List ℕ) → Option (List ℕ) → Fault → Result (Unit {0}) Fault → Type 0
+abbrev pub Tells : (held holds : Option (List ℕ)) → Fault → Result (Unit {0}) Fault → Type 0
 Tells held holds fault (Ok done) = Appends held holds (line_of fault)
 Tells held holds fault (Err Write) = AppendsPart held holds (line_of fault)
 Tells held holds fault (Err Memory) = Keeps held holds

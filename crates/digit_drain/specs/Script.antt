@@ -1,9 +1,13 @@
 -- What a script's calls mean: calls of the call table, and its answers as they are told.
-use Rattle.std.specs.Prelude.{◌≡◌, ℕ, ◌+◌, ◌*◌, pos, ◌≤ℤ◌, ◌+ℤ◌, nat_lt, if◌then◌else◌, List, [], ◌∷◌, length, map, Bool, true, false}
+use Rattle.std.specs.Prelude.{◌≡◌, ℕ, ℤ, ◌+◌, ◌*◌, pos, ◌≤ℤ◌, ◌+ℤ◌, nat_lt, if◌then◌else◌, List, [], ◌∷◌, length, map, slice_get, Bool, true, false}
+use Rattle.lexical_format.specs.Word.{separator}
+use Rattle.lexical_digits.specs.declared.skip.component.Component.{Component}
 use Rattle.lexical_digits.specs.declared.skip.component.Component.TheVariants as component
-use Rattle.lexical_digits.specs.State.{State}
+use Rattle.lexical_digits.specs.Separators.{is_digit, is_separator}
+use Rattle.lexical_digits.specs.State.{State, with_cursor, rule}
+use Rattle.lexical_digits.specs.Cursor.{holds_of}
 use Rattle.lexical_digits.specs.CallTable as table
-use Rattle.lexical_digits.specs.CallTable.{OnBytes, On, row_of, zeros_of, contiguous_on, count_on}
+use Rattle.lexical_digits.specs.CallTable.{OnBytes, On, row_of, place_of, past_place, zeros_of, contiguous_on, count_on}
 use Rattle.lexical_digits.specs.Looks.{Held, owed}
 use Rattle.digit_drain.specs.declared.script.Part.{Part}
 use Rattle.digit_drain.specs.declared.script.Part.TheVariants.{Bytes, Integer, Fraction, Exponent, Special}
@@ -76,7 +80,8 @@ script_of calls = map (λ call. (part_of call.part, call_of call.op)) calls
 -- ---- calls that every part has
 
 -- a state that shows as a value of the cursor's trait does
-pub record Shows (part : table.Part) (s : State) (buffer : List ℕ) (cursor count : ℕ) (contiguous : Bool) : Type 0 where
+pub record Shows (part : table.Part) (s : State) (buffer : List ℕ) (cursor count : ℕ)
+    (contiguous : Bool) : Type 0 where
   pub same_buffer : s.buffer ≡ buffer
   pub same_cursor : s.cursor ≡ cursor
   pub same_count : count_on part s ≡ count
@@ -106,9 +111,31 @@ moves (table.StepBy n) = true
 moves table.Step = true
 moves call = false
 
-abbrev pub views : table.Call → Bool
-views (table.TakeN n) = true
-views call = false
+-- the calls that the iterators' traits lack, and those of which a trait says less than the table
+abbrev pub goes_by_part : table.Call → Bool
+goes_by_part (table.SetCursor i) = true
+goes_by_part table.SkipZeros = true
+goes_by_part (table.IsSign v) = true
+goes_by_part (table.IsDigitSeparator v) = true
+goes_by_part (table.TakeN n) = true
+goes_by_part call = false
+
+-- A meaning m of an iterator is that of a component, each meaning standing for a state: it shows
+-- what the component shows, and its calls leave what those of the component leave.
+pub record IsOn {M : Type 0} (k : Component) (state : M → State)
+    (buffer : M → List ℕ) (cursor count : M → ℕ) (contiguous : M → Bool)
+    (separates : M → ℕ → Bool) (moved : M → ℕ → M) (place : M → ℕ) (digit : M → ℕ → Bool)
+    (settled counted taken : M → M) (m : M) : Type 0 where
+  pub shows : Shows (On k) (state m) (buffer m) (cursor m) (count m) (contiguous m)
+  pub same_stop : holds_of (is_separator (separator (state m).word)) (table.first (state m)) ≡
+      holds_of (separates m) (slice_get (buffer m) (cursor m))
+  pub same_place : place_of k (state m) ≡ place m
+  pub same_digit : (b : ℕ) → is_digit (rule k (state m)) b ≡ digit m b
+  pub moves : (i : ℕ) → state (moved m i) ≡ with_cursor (state m) i
+  pub settles : state (settled m) ≡ table.settled k (state m)
+  pub reads : state (moved (settled m) (place m + 1)) ≡ past_place k (state m)
+  pub counts : state (counted m) ≡ table.counted k (state m)
+  pub takes : state (taken m) ≡ table.taken k (state m)
 
 -- ---- what a list of calls may cost
 
@@ -141,7 +168,8 @@ reads_of s (call ∷ calls) = reads call.0 call.1 s + reads_of (row_of call.0 ca
 
 abbrev pub set_backs_of : State → List (table.Part × table.Call) → ℕ
 set_backs_of s [] = 0
-set_backs_of s (call ∷ calls) = set_backs call.1 s + set_backs_of (row_of call.0 call.1 s).state calls
+set_backs_of s (call ∷ calls) =
+    set_backs call.1 s + set_backs_of (row_of call.0 call.1 s).state calls
 
 -- ---- one call
 
@@ -149,8 +177,13 @@ set_backs_of s (call ∷ calls) = set_backs call.1 s + set_backs_of (row_of call
 abbrev pub cost : table.Part → table.Call → State → ℕ
 cost part call s = 4 * reads part call s + 3 * (length s.buffer * set_backs call s)
 
--- A call from a to b: it answers and leaves what the call table says, and owes no more than it may.
-pub record Makes (part : table.Part) (call : table.Call) (a b : Held) (result : Answer) : Type 0 where
-  pub answers : result ≡ told (row_of part call a.state).answer
-  pub leaves : b.state ≡ (row_of part call a.state).state
-  pub owes : owed b ≤ℤ (owed a +ℤ pos (cost part call a.state))
+-- A call from state s to t, with what is owed before and after it: it answers and leaves what the
+-- call table says, and owes no more than it may.
+pub record Obeys (part : table.Part) (call : table.Call) (s t : State) (before after : ℤ)
+    (result : Answer) : Type 0 where
+  pub answers : result ≡ told (row_of part call s).answer
+  pub leaves : t ≡ (row_of part call s).state
+  pub owes : after ≤ℤ (before +ℤ pos (cost part call s))
+
+abbrev pub Makes : table.Part → table.Call → (a b : Held) → Answer → Type 0
+Makes part call a b result = Obeys part call a.state b.state (owed a) (owed b) result

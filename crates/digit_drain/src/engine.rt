@@ -3,19 +3,21 @@
 ghost use Rattle.std.specs.Prelude.{◌≡◌, IfOk, string_bytes};
 ghost use Rattle.digit_drain.specs.Outcome.{Runs, Tells, line_of};
 
-use super::fault::Fault;
+pub use super::fault::Fault;
 use super::input::read_input;
 use super::output::write_output;
 use super::report::{BadLine, make_report};
 use std::alloc::{AllocError, Allocator, Global};
 use std::io::{Read, Write};
 
-/// Answers each line of an input: reads the input to its end, makes the whole output, and then writes it.
+/// Answers each line of an input: reads the input to its end, makes the whole output, and then
+/// writes it.
 ///
-/// The first bad line ends the run: the answers to the lines before it are written, and its fault is answered. While the
-/// input is read, [`Fault::Read`], [`Fault::TooLong`] or [`Fault::Memory`] ends the run, whichever is met first, and while
-/// the output is made [`Fault::Memory`] does: then nothing was written. On [`Fault::Write`] a prefix of the output was
-/// written, never the whole; it comes in place of a bad line's fault.
+/// The first bad line ends the run: the answers to the lines before it are written, and its fault
+/// is answered. While the input is read, [`Fault::Read`], [`Fault::TooLong`] or [`Fault::Memory`]
+/// ends the run, whichever is met first, and while the output is made [`Fault::Memory`] does: then
+/// nothing was written. On [`Fault::Write`] a prefix of the output was written, never the whole; it
+/// comes in place of a bad line's fault.
 pub fn run<R: Read, W: Write>(alloc: Global, reader: &mut R, writer: &mut W) -> Result<(), Fault>
     ensures { Runs (record {
       input = R.remaining reader.old;
@@ -66,8 +68,8 @@ fn line_for<A: Allocator>(alloc: A, fault: &Fault) -> Result<String<A>, AllocErr
 
 /// Writes the line that says what went wrong, with its line feed.
 ///
-/// It answers two faults alone: on [`Fault::Write`] a prefix of the line was written, never the whole, and on
-/// [`Fault::Memory`] nothing was.
+/// It answers two faults alone: on [`Fault::Write`] a prefix of the line was written, never the
+/// whole, and on [`Fault::Memory`] nothing was.
 pub fn tell<W: Write>(alloc: Global, fault: &Fault, writer: &mut W) -> Result<(), Fault>
     ensures { Tells (W.contents writer.old) (W.contents writer.new) fault.now result }
 {

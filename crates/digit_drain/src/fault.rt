@@ -12,11 +12,11 @@ pub enum Fault {
     Line(usize),
     /// The word of this line isn't supported.
     Word(usize),
-    /// The input has more than 65,536 bytes.
+    /// More than 65,536 bytes were read.
     TooLong,
-    /// A read failed, or the input didn't end within 131,072 reads.
+    /// A read failed or was interrupted, or the input didn't end within 131,072 reads.
     Read,
-    /// A write failed, or took nothing.
+    /// A write failed or was interrupted, or took nothing.
     Write,
     /// Memory was refused.
     Memory,

@@ -2,6 +2,7 @@
 
 ghost use Rattle.std.specs.Prelude.{◌≡◌, ◌⊎◌, ◌<◌, ◌≤◌, length, IfErr, IfOk, IfSome};
 ghost use Rattle.std.specs.Io.KnownBytes.{IsAtEnd};
+ghost use Rattle.digit_drain.specs.Outcome.{ReadsPast, most_bytes};
 
 use super::fault::Fault;
 use std::alloc::Allocator;
@@ -10,17 +11,22 @@ use std::io::Read;
 /// The most bytes that an input has.
 pub const LIMIT: usize = 65536;
 
-/// The most calls of `read` in a run. It is a guard: a reader that gives a byte at each turn meets [`LIMIT`] first.
+/// The most calls of `read` in a run. It is a guard: a reader that gives a byte at each turn meets
+/// [`LIMIT`] first.
 pub const READS: u32 = 131072;
 
-/// All that the reader has left. It answers [`Fault::TooLong`] at the first byte past [`LIMIT`], and [`Fault::Read`] if a
-/// read failed or the last that is allowed didn't end the input; a read that was interrupted failed.
+/// All that the reader has left. It answers [`Fault::TooLong`] at the first byte past [`LIMIT`],
+/// and [`Fault::Read`] if a read failed or the last that is allowed didn't end the input; a read
+/// that was interrupted failed.
 pub fn read_input<A: Allocator, R: Read>(alloc: A, reader: &mut R) -> Result<Vec<u8, A>, Fault>
-    ensures short { IfOk result (λ input. length input.items ≤ LIMIT) }
-    ensures all { IfOk result (λ input. IfSome (R.remaining reader.old) (λ bytes. input.items ≡ bytes)) }
+    ensures short { IfOk result (λ input. length input.items ≤ most_bytes) }
+    ensures all { IfOk result (λ input.
+        IfSome (R.remaining reader.old) (λ bytes. input.items ≡ bytes)) }
     ensures end { IfOk result (λ input. IsAtEnd (R.remaining reader.new)) }
-    ensures too_long { result ≡ Err Fault.TooLong → IfSome (R.remaining reader.old) (λ bytes. LIMIT < length bytes) }
-    ensures faults { IfErr result (λ fault. (fault ≡ Fault.TooLong) ⊎ (fault ≡ Fault.Read) ⊎ (fault ≡ Fault.Memory)) }
+    ensures too_long { result ≡ Err Fault.TooLong →
+        ReadsPast (R.remaining reader.old) (R.remaining reader.new) }
+    ensures faults { IfErr result (λ fault.
+        (fault ≡ Fault.TooLong) ⊎ (fault ≡ Fault.Read) ⊎ (fault ≡ Fault.Memory)) }
 {
     let mut input = Vec::new(alloc);
     let mut piece = [0; 4096];

@@ -222,6 +222,8 @@ pub fn word(request: &Request<'_>) -> u128
 
 /// A line is read as a request exactly if it is spelled as one.
 pub fn read_is_spelled()
-    ensures read { (line : List ℕ) (asked : Line.Asked) → Line.request_of line ≡ Some asked → Line.Spells line asked }
-    ensures spelled { (line : List ℕ) (asked : Line.Asked) → Line.Spells line asked → Line.request_of line ≡ Some asked }
+    ensures read { (line : List ℕ) (asked : Line.Asked) →
+        Line.request_of line ≡ Some asked → Line.Spells line asked }
+    ensures spelled { (line : List ℕ) (asked : Line.Asked) →
+        Line.Spells line asked → Line.request_of line ≡ Some asked }
 {}

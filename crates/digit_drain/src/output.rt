@@ -7,11 +7,12 @@ ghost use Rattle.digit_drain.specs.Outcome.{AppendsPart};
 use super::fault::Fault;
 use std::io::Write;
 
-/// Writes all the bytes. It answers [`Fault::Write`] if a write failed, was interrupted, or took nothing of a rest that isn't
-/// empty; then a prefix of the bytes was written, never the whole.
+/// Writes all the bytes. It answers [`Fault::Write`] if a write failed, was interrupted, or took
+/// nothing of a rest that isn't empty; then a prefix of the bytes was written, never the whole.
 pub fn write_output<W: Write>(writer: &mut W, bytes: &[u8]) -> Result<(), Fault>
     ensures ok { OnOk result (Appends (W.contents writer.old) (W.contents writer.new) bytes.now) }
-    ensures part { OnErr result (AppendsPart (W.contents writer.old) (W.contents writer.new) bytes.now) }
+    ensures part { OnErr result
+        (AppendsPart (W.contents writer.old) (W.contents writer.new) bytes.now) }
     ensures fault { IfErr result (λ fault. fault ≡ Fault.Write) }
 {
     let mut rest = bytes;

@@ -1,21 +1,23 @@
 //! The answers to the lines of an input.
 
-ghost use Rattle.std.specs.Prelude.{◌≡◌, ◌<◌, ◌≤◌, ◌∷◌, ◌++◌, length, IfOk, IsTrue, OnOk, MatchResult};
+ghost use Rattle.std.specs.Prelude.{◌≡◌, ◌<◌, ◌∷◌, ◌++◌, length, IfOk, IsTrue, OnOk, MatchResult};
+ghost use Rattle.std.specs.Iterator.{IsFinite};
 ghost use Rattle.lexical_format.specs.Word.{is_supported};
 ghost use Rattle.lexical_digits.specs.Separators.{drain};
 ghost use Rattle.lexical_digits.specs.State.{rule_of, current_count};
-ghost use Rattle.lexical_digits.specs.CallTable.{drain_of, drained};
+ghost use Rattle.lexical_digits.specs.CallTable.{drain_of, after_drain};
+ghost use Rattle.lexical_digits.specs.Cursor.{items, after_items};
 ghost use Rattle.digit_drain.specs.Line.{asked_by, word_of};
-ghost use Rattle.digit_drain.specs.Report.{lines_of, request_at, count_of, answer_of, report_of};
+ghost use Rattle.digit_drain.specs.Report.{lines_of, request_at, count_of, answer_of, report_of, AddsDrain};
 
 use super::line::{Request, cut, read_request, word};
-use lexical_digits::iterator::Iter;
+use lexical_digits::iterator::{DigitsIter, Iter};
 use lexical_digits::skip::{
-    Bytes, Component, Digits, ExponentKind, FractionKind, IntegerKind, Kind, SpecialKind,
+    Bytes, Component, ExponentDigitsIterator, FractionDigitsIterator, IntegerDigitsIterator,
+    SpecialDigitsIterator,
 };
 use lexical_format::is_supported;
 use std::alloc::{AllocError, Allocator};
-use std::marker::PhantomData;
 
 /// A line that ends a report. Lines are counted from 1.
 #[derive(Clone, Copy, Debug, PartialEq, Eq)]
@@ -38,16 +40,21 @@ fn first_line(input: &[u8]) -> (&[u8], &[u8])
     }
 }
 
-/// The request of a line, if it is one and its word is supported.
-fn supported_request(number: usize, line: &[u8]) -> Result<Request<'_>, BadLine>
+/// The request of a line and its word, if it is a request and its word is supported.
+fn supported_request(number: usize, line: &[u8]) -> Result<(Request<'_>, u128), BadLine>
     ensures { MatchResult result
-        (λ request. request_at number line.now ≡ Ok (asked_by request))
+        (λ good. (request_at number line.now ≡ Ok (asked_by good.0))
+        × (good.1 ≡ word_of (asked_by good.0)) × IsTrue (is_supported good.1))
         (λ bad_line. request_at number line.now ≡ Err bad_line) }
 {
-    match read_request(line) {
-        None => Err(BadLine::NotARequest(number)),
-        Some(request) if is_supported(word(&request)) => Ok(request),
-        Some(_) => Err(BadLine::NotSupported(number)),
+    let Some(request) = read_request(line) else {
+        return Err(BadLine::NotARequest(number));
+    };
+    let word = word(&request);
+    if is_supported(word) {
+        Ok((request, word))
+    } else {
+        Err(BadLine::NotSupported(number))
     }
 }
 
@@ -65,19 +72,17 @@ struct Drained {
     cursor: usize,
 }
 
-/// Adds the bytes that the iterator of a kind yields.
-fn push_drained<K: Kind, A: Allocator>(
+/// Adds the bytes that an iterator yields.
+fn push_items<'a, I: DigitsIter<'a>, A: Allocator>(
     output: &mut Vec<u8, A>,
-    bytes: &mut Bytes<'_>,
+    iter: &mut I,
 ) -> Result<Drained, AllocError>
-    ensures output { OnOk result (output.new.items ≡ output.old.items ++ drain_of K.kind bytes.old.state) }
-    ensures count { IfOk result (λ end. end.count ≡ current_count K.kind (drained K.kind bytes.old.state)) }
-    ensures cursor { IfOk result (λ end. end.cursor ≡ (drained K.kind bytes.old.state).cursor) }
+    requires ends { IsFinite (I.remaining iter.old) }
+    ensures { let m = I.meaning iter.old in
+        let left = after_items I.buffer I.cursor I.place I.taken m in
+        AddsDrain output.old.items output.new.items (items I.buffer I.cursor I.place I.taken m)
+        (I.current_count left) (I.cursor left) result }
 {
-    let mut iter = Digits {
-        byte: bytes,
-        kind: PhantomData::<K>,
-    };
     while let Some(byte) = iter.next() {
         output.push(*byte)?;
     }
@@ -93,45 +98,49 @@ fn push_component<A: Allocator>(
     bytes: &mut Bytes<'_>,
     component: Component,
 ) -> Result<Drained, AllocError>
-    ensures output { OnOk result (output.new.items ≡ output.old.items ++ drain_of component bytes.old.state) }
-    ensures count { IfOk result (λ end. end.count ≡ current_count component (drained component bytes.old.state)) }
-    ensures cursor { IfOk result (λ end. end.cursor ≡ (drained component bytes.old.state).cursor) }
+    ensures { let s = bytes.old.state in let left = after_drain component s in
+        AddsDrain output.old.items output.new.items (drain_of component s)
+        (current_count component left) left.cursor result }
 {
     match component {
-        Component::Integer => push_drained::<IntegerKind, A>(output, bytes),
-        Component::Fraction => push_drained::<FractionKind, A>(output, bytes),
-        Component::Exponent => push_drained::<ExponentKind, A>(output, bytes),
-        Component::Special => push_drained::<SpecialKind, A>(output, bytes),
+        Component::Integer => push_items(output, &mut IntegerDigitsIterator { byte: bytes }),
+        Component::Fraction => push_items(output, &mut FractionDigitsIterator { byte: bytes }),
+        Component::Exponent => push_items(output, &mut ExponentDigitsIterator { byte: bytes }),
+        Component::Special => push_items(output, &mut SpecialDigitsIterator { byte: bytes }),
     }
 }
 
 /// Adds the bytes that a request's iterator yields from the start of its text.
-#[tactic(auto, using(crate::proofs::Counts::count_of_drained, crate::proofs::Counts::cursor_of_drained, crate::proofs::Counts::drain_from_start))]
 fn push_text<A: Allocator>(
     output: &mut Vec<u8, A>,
     request: &Request<'_>,
+    word: u128,
 ) -> Result<Drained, AllocError>
-    requires { IsTrue (is_supported (word_of (asked_by request.now))) }
-    ensures output { let asked = asked_by request.now in OnOk result
-        (output.new.items ≡ output.old.items ++ drain (rule_of (word_of asked) asked.component) asked.text 0 0) }
-    ensures count { IfOk result (λ end. end.count ≡ count_of (asked_by request.now)) }
-    ensures cursor { IfOk result (λ end. end.cursor ≡ length request.now.text.now) }
+    requires word { word ≡ word_of (asked_by request.now) }
+    requires supported { IsTrue (is_supported word) }
+    ensures { let asked = asked_by request.now in
+        let bytes = drain (rule_of (word_of asked) asked.component) asked.text 0 0 in
+        AddsDrain output.old.items output.new.items bytes
+        (count_of asked) (length asked.text) result }
 {
-    let mut bytes = Bytes::new(request.text, word(request));
+    let mut bytes = Bytes::new(request.text, word);
     push_component(output, &mut bytes, request.component)
 }
 
-/// Adds the answer to a request.
+/// Adds the answer to a request, by its word.
 #[tactic(auto, unfolding(crate::specs::Report::answer_of))]
 fn push_answer<A: Allocator>(
     alloc: &A,
     output: &mut Vec<u8, &A>,
     request: &Request<'_>,
+    word: u128,
 ) -> Result<(), AllocError>
-    requires { IsTrue (is_supported (word_of (asked_by request.now))) }
-    ensures { OnOk result (output.new.items ≡ output.old.items ++ answer_of (asked_by request.now)) }
+    requires word { word ≡ word_of (asked_by request.now) }
+    requires supported { IsTrue (is_supported word) }
+    ensures { OnOk result
+        (output.new.items ≡ output.old.items ++ answer_of (asked_by request.now)) }
 {
-    let Drained { count, cursor } = push_text(output, request)?;
+    let Drained { count, cursor } = push_text(output, request, word)?;
     let numbers = format!(in alloc; " count={count} cursor={cursor}\n")?;
     output.extend_from_slice(numbers.as_bytes())
 }
@@ -141,7 +150,8 @@ pub fn make_report<'a, A: Allocator>(
     alloc: &'a A,
     input: &[u8],
 ) -> Result<Report<&'a A>, AllocError>
-    ensures output { IfOk result (λ report. report.output.items ≡ (report_of input.now).output) }
+    ensures output { IfOk result (λ report.
+        report.output.items ≡ (report_of input.now).output) }
     ensures fault { IfOk result (λ report. report.fault ≡ (report_of input.now).fault) }
 {
     let mut output = Vec::new(alloc);
@@ -150,7 +160,7 @@ pub fn make_report<'a, A: Allocator>(
     while !rest.is_empty() {
         let (line, after) = first_line(rest);
         match supported_request(number, line) {
-            Ok(request) => push_answer(alloc, &mut output, &request)?,
+            Ok((request, word)) => push_answer(alloc, &mut output, &request, word)?,
             Err(bad_line) => {
                 return Ok(Report {
                     output,

@@ -1,24 +1,23 @@
-//! Lists of calls on one `Bytes`: each call by its name, on the `Bytes` itself or on the iterator of
-//! a component over it, and what it answered.
+//! Lists of calls on one `Bytes`: each call by its name, on the `Bytes` itself or on the iterator
+//! of a component over it, and what it answered.
 
-ghost use Rattle.std.specs.Prelude.{◌≡◌, ℕ, ◌+◌, ◌*◌, ◌≤◌, ◌≤ℤ◌, length, map, true, false, slice_get, IfOk, OnOk, OnErr};
+ghost use Rattle.std.specs.Prelude.{◌≡◌, ◌+◌, ◌*◌, ◌≤◌, pos, ◌≤ℤ◌, ◌+ℤ◌, length, map, true, false, option_map, slice_get, IfOk, OnOk, OnErr};
 ghost use Rattle.lexical_format.specs.Word.{separator};
-ghost use Rattle.lexical_digits.specs.declared.skip.component.Component.TheVariants as components;
+ghost use Rattle.lexical_digits.specs.declared.skip.component.Component.{Component};
 ghost use Rattle.lexical_digits.specs.Separators.{is_separator};
-ghost use Rattle.lexical_digits.specs.State.{State, is_special};
-ghost use Rattle.lexical_digits.specs.Cursor.{CanStep, can_step, passes};
+ghost use Rattle.lexical_digits.specs.State.{State, with_cursor};
+ghost use Rattle.lexical_digits.specs.Cursor.{CanStep, can_step, holds_of};
 ghost use Rattle.lexical_digits.specs.CallTable as table;
-ghost use Rattle.lexical_digits.specs.CallTable.{shared_row, run_of, first, view, after_view, told_view};
+ghost use Rattle.lexical_digits.specs.CallTable.{shared_row, run_of, first, told_view};
 ghost use Rattle.lexical_digits.specs.Looks.{owed};
-ghost use Rattle.digit_drain.specs.Script.{part_of, call_of, script_of, told, Shows, asks, moves, views, Makes, reads_of, set_backs_of};
+ghost use Rattle.digit_drain.specs.Script.{part_of, call_of, script_of, told, Shows, IsOn, asks, goes_by_part, Obeys, Makes, reads_of, set_backs_of};
 
 use lexical_digits::iterator::{DigitsBodies, DigitsIter, Iter, IterBodies};
 use lexical_digits::skip::{
-    Bytes, CountingKind, Digits, ExponentKind, FractionKind, IntegerDigitsIterator, IntegerKind,
-    Kind, SpecialKind,
+    Bytes, Component, ExponentDigitsIterator, FractionDigitsIterator, IntegerDigitsIterator,
+    SpecialDigitsIterator,
 };
 use std::alloc::{AllocError, Allocator, Global};
-use std::marker::PhantomData;
 
 /// What a call is made on: the `Bytes` itself, or the iterator of a component over it.
 #[derive(Clone, Copy, Debug, PartialEq, Eq)]
@@ -128,43 +127,13 @@ fn ask<'a, I: Iter<'a>>(iter: &I, op: Op) -> Answer
     }
 }
 
-/// Makes a call that the iterators alone have, or asks. It is no move of the cursor, and not `take_n`.
-fn read<'a, K: Kind>(iter: &mut Digits<'_, K, Bytes<'a>>, op: Op) -> Answer
-    requires no_move { moves (call_of op) ≡ false }
-    requires no_view { views (call_of op) ≡ false }
-    ensures makes { Makes (table.On K.kind) (call_of op) iter.old.byte.now iter.new.byte.now result }
-    ensures keeps_loan { iter.new.byte.ghost_name ≡ iter.old.byte.ghost_name }
-{
-    match op {
-        Op::IsConsumed => Answer::Flag(iter.is_consumed()),
-        Op::IncrementCount => {
-            iter.increment_count();
-            Answer::Done
-        }
-        Op::Peek => Answer::Byte(iter.peek().copied()),
-        Op::TryRead => Answer::Byte(iter.try_read().copied()),
-        Op::Next => Answer::Byte(iter.next().copied()),
-        Op::PeekIsCased(value) => Answer::Flag(iter.peek_is_cased(value)),
-        Op::PeekIsUncased(value) => Answer::Flag(iter.peek_is_uncased(value)),
-        Op::PeekIs(value, is_cased) => Answer::Flag(iter.peek_is(value, is_cased)),
-        Op::ReadIfEqual(value) => Answer::Byte(iter.read_if(|byte| byte == value)),
-        Op::ReadIfNever => Answer::Byte(iter.read_if(|_| false)),
-        Op::ReadIfValueCased(value) => Answer::Byte(iter.read_if_value_cased(value)),
-        Op::ReadIfValueUncased(value) => Answer::Byte(iter.read_if_value_uncased(value)),
-        Op::ReadIfValue(value, is_cased) => Answer::Byte(iter.read_if_value(value, is_cased)),
-        Op::SkipZeros => Answer::Count(iter.skip_zeros()),
-        Op::IsDigit(value) => Answer::Flag(iter.is_digit(value)),
-        Op::IsSign(value) => Answer::Flag(iter.is_sign(value)),
-        Op::IsDigitSeparator(value) => Answer::Flag(iter.is_digit_separator(value)),
-        _ => ask(iter, op),
-    }
-}
-
 /// Whether the cursor stands at a separator.
-fn is_at_separator<'a, K: Kind>(iter: &Digits<'_, K, Bytes<'a>>) -> bool
-    ensures { let s = iter.now.byte.now.state in
-        result ≡ passes (is_separator (separator s.word)) (first s) }
+fn is_at_separator(bytes: &mut Bytes) -> bool
+    ensures value { let s = bytes.old.state in
+        result ≡ holds_of (is_separator (separator s.word)) (first s) }
+    ensures same { bytes.new ≡ bytes.old }
 {
+    let iter = IntegerDigitsIterator { byte: bytes };
     match iter.first() {
         Some(byte) => iter.is_digit_separator(*byte),
         None => false,
@@ -175,7 +144,7 @@ fn is_at_separator<'a, K: Kind>(iter: &Digits<'_, K, Bytes<'a>>) -> bool
 /// separator.
 fn may_step<'a, I: Iter<'a>>(iter: &I, count: usize, at_separator: bool) -> bool
     requires { let m = I.meaning iter.now in
-        at_separator ≡ passes (I.separates m) (slice_get (I.buffer m) (I.cursor m)) }
+        at_separator ≡ holds_of (I.separates m) (slice_get (I.buffer m) (I.cursor m)) }
     ensures value { let m = I.meaning iter.now in
         result ≡ can_step (I.buffer m) (I.cursor m) (I.contiguous m) (I.separates m) count }
     ensures can { let m = I.meaning iter.now in result ≡ true →
@@ -191,11 +160,7 @@ fn may_step<'a, I: Iter<'a>>(iter: &I, count: usize, at_separator: bool) -> bool
 fn on_bytes(bytes: &mut Bytes, op: Op) -> Answer
     ensures { Makes table.OnBytes (call_of op) bytes.old bytes.new result }
 {
-    let iter = IntegerDigitsIterator {
-        byte: bytes,
-        kind: PhantomData,
-    };
-    let at_separator = is_at_separator(&iter);
+    let at_separator = is_at_separator(bytes);
     match op {
         Op::SetCursor(index) if index <= bytes.buffer_length() => {
             bytes.set_cursor(index);
@@ -214,66 +179,176 @@ fn on_bytes(bytes: &mut Bytes, op: Op) -> Answer
     }
 }
 
-/// Makes a call on the iterator of a component. It is not `take_n`.
-fn on_digits<K: Kind>(bytes: &mut Bytes, kind: PhantomData<K>, op: Op) -> Answer
-    requires { views (call_of op) ≡ false }
-    ensures { Makes (table.On K.kind) (call_of op) bytes.old bytes.new result }
+/// Makes a call that any iterator has by its traits, where it is told whether the cursor stands at
+/// a separator.
+fn read<'a, I: DigitsIter<'a>>(iter: &mut I, op: Op, at_separator: bool) -> Answer
+    requires at_separator { let m = I.meaning iter.old in
+        at_separator ≡ holds_of (I.separates m) (slice_get (I.buffer m) (I.cursor m)) }
+    requires by_traits { goes_by_part (call_of op) ≡ false }
+    ensures makes { let m = I.meaning iter.old in (k : Component) (state : I.Meaning → State) →
+        IsOn k state I.buffer I.cursor I.current_count I.contiguous I.separates I.moved
+        I.place I.digit I.settled I.counted I.taken m →
+        Obeys (table.On k) (call_of op) (state m) (state (I.meaning iter.new))
+        (I.owed iter.old) (I.owed iter.new) result }
+    ensures keeps_loan { I.loan iter.new ≡ I.loan iter.old }
 {
-    let mut iter = Digits { byte: bytes, kind };
-    let at_separator = is_at_separator(&iter);
     match op {
-        Op::SetCursor(index) if index <= iter.buffer_length() => {
-            iter.set_cursor(index);
-            Answer::Done
-        }
-        Op::StepBy(count) if may_step(&iter, count, at_separator) => {
+        Op::StepBy(count) if may_step(iter, count, at_separator) => {
             iter.step_by_unchecked(count);
             Answer::Done
         }
-        Op::Step if may_step(&iter, 1, at_separator) => {
+        Op::Step if may_step(iter, 1, at_separator) => {
             iter.step_unchecked();
             Answer::Done
         }
-        Op::SetCursor(_) | Op::StepBy(_) | Op::Step => Answer::Refused,
-        _ => read(&mut iter, op),
+        Op::StepBy(_) | Op::Step => Answer::Refused,
+        Op::IsConsumed => Answer::Flag(iter.is_consumed()),
+        Op::IncrementCount => {
+            iter.increment_count();
+            Answer::Done
+        }
+        Op::Peek => Answer::Byte(iter.peek().copied()),
+        Op::TryRead => Answer::Byte(iter.try_read().copied()),
+        Op::Next => Answer::Byte(iter.next().copied()),
+        Op::PeekIsCased(value) => Answer::Flag(iter.peek_is_cased(value)),
+        Op::PeekIsUncased(value) => Answer::Flag(iter.peek_is_uncased(value)),
+        Op::PeekIs(value, is_cased) => Answer::Flag(iter.peek_is(value, is_cased)),
+        Op::ReadIfEqual(value) => Answer::Byte(iter.read_if(|byte| byte == value)),
+        Op::ReadIfNever => Answer::Byte(iter.read_if(|_| false)),
+        Op::ReadIfValueCased(value) => Answer::Byte(iter.read_if_value_cased(value)),
+        Op::ReadIfValueUncased(value) => Answer::Byte(iter.read_if_value_uncased(value)),
+        Op::ReadIfValue(value, is_cased) => Answer::Byte(iter.read_if_value(value, is_cased)),
+        Op::IsDigit(value) => Answer::Flag(iter.is_digit(value)),
+        _ => ask(iter, op),
     }
 }
 
-/// Takes a view from the iterator of a component, and answers its length and its cursor.
-fn take_view<K: CountingKind>(
-    bytes: &mut Bytes,
-    kind: PhantomData<K>,
-    n: usize,
-) -> Option<(usize, usize)>
-    ensures view { result ≡ told_view (view K.kind bytes.old.state n) }
-    ensures state { bytes.new.state ≡ after_view K.kind bytes.old.state n }
-    ensures owes { owed bytes.new ≤ℤ owed bytes.old }
+/// Makes such a call on the iterator of a component.
+fn read_on(bytes: &mut Bytes, component: Component, op: Op) -> Answer
+    requires { goes_by_part (call_of op) ≡ false }
+    ensures { Makes (table.On component) (call_of op) bytes.old bytes.new result }
 {
-    let mut iter = Digits { byte: bytes, kind };
-    match iter.take_n(n) {
-        Some(view) => Some((view.buffer_length(), view.cursor())),
-        None => None,
+    let at_separator = is_at_separator(bytes);
+    match component {
+        Component::Integer => read(&mut IntegerDigitsIterator { byte: bytes }, op, at_separator),
+        Component::Fraction => read(
+            &mut FractionDigitsIterator { byte: bytes },
+            op,
+            at_separator,
+        ),
+        Component::Exponent => read(
+            &mut ExponentDigitsIterator { byte: bytes },
+            op,
+            at_separator,
+        ),
+        Component::Special => read(&mut SpecialDigitsIterator { byte: bytes }, op, at_separator),
     }
 }
 
-/// Makes a call on the iterator of a component that hands out views.
-fn on_counting<K: CountingKind>(bytes: &mut Bytes, kind: PhantomData<K>, op: Op) -> Answer
-    requires { is_special K.kind ≡ false }
-    ensures { Makes (table.On K.kind) (call_of op) bytes.old bytes.new result }
+/// Moves the cursor by the iterator of a component.
+fn move_to(bytes: &mut Bytes, component: Component, index: usize)
+    requires { index ≤ length bytes.old.state.buffer }
+    ensures moves { bytes.new.state ≡ with_cursor bytes.old.state index }
+    ensures owes { bytes.old.state.cursor ≤ index → owed bytes.new ≤ℤ owed bytes.old }
+    ensures owes_back { let n = length bytes.old.state.buffer in
+        owed bytes.new ≤ℤ (owed bytes.old +ℤ pos (3 * n)) }
+{
+    match component {
+        Component::Integer => IntegerDigitsIterator { byte: bytes }.set_cursor(index),
+        Component::Fraction => FractionDigitsIterator { byte: bytes }.set_cursor(index),
+        Component::Exponent => ExponentDigitsIterator { byte: bytes }.set_cursor(index),
+        Component::Special => SpecialDigitsIterator { byte: bytes }.set_cursor(index),
+    }
+}
+
+/// Sets the cursor by the iterator of a component, if it is to be within the buffer.
+fn set_cursor(bytes: &mut Bytes, component: Component, index: usize) -> Answer
+    ensures { Makes (table.On component) (table.SetCursor index) bytes.old bytes.new result }
+{
+    if index > bytes.buffer_length() {
+        return Answer::Refused;
+    }
+    move_to(bytes, component, index);
+    Answer::Done
+}
+
+/// Skips zeros by the iterator of a component.
+fn skip_zeros(bytes: &mut Bytes, component: Component) -> Answer
+    ensures { Makes (table.On component) table.SkipZeros bytes.old bytes.new result }
+{
+    match component {
+        Component::Integer => Answer::Count(IntegerDigitsIterator { byte: bytes }.skip_zeros()),
+        Component::Fraction => Answer::Count(FractionDigitsIterator { byte: bytes }.skip_zeros()),
+        Component::Exponent => Answer::Count(ExponentDigitsIterator { byte: bytes }.skip_zeros()),
+        Component::Special => Answer::Count(SpecialDigitsIterator { byte: bytes }.skip_zeros()),
+    }
+}
+
+/// Whether a byte is a sign to the iterator of a component.
+fn is_sign(bytes: &mut Bytes, component: Component, value: u8) -> Answer
+    ensures { Makes (table.On component) (table.IsSign value) bytes.old bytes.new result }
+{
+    match component {
+        Component::Integer => Answer::Flag(IntegerDigitsIterator { byte: bytes }.is_sign(value)),
+        Component::Fraction => Answer::Flag(FractionDigitsIterator { byte: bytes }.is_sign(value)),
+        Component::Exponent => Answer::Flag(ExponentDigitsIterator { byte: bytes }.is_sign(value)),
+        Component::Special => Answer::Flag(SpecialDigitsIterator { byte: bytes }.is_sign(value)),
+    }
+}
+
+/// Whether a byte is a separator to the iterator of a component.
+fn is_digit_separator(bytes: &mut Bytes, component: Component, value: u8) -> Answer
+    ensures { Makes (table.On component) (table.IsDigitSeparator value) bytes.old bytes.new result }
+{
+    match component {
+        Component::Integer => {
+            Answer::Flag(IntegerDigitsIterator { byte: bytes }.is_digit_separator(value))
+        }
+        Component::Fraction => {
+            Answer::Flag(FractionDigitsIterator { byte: bytes }.is_digit_separator(value))
+        }
+        Component::Exponent => {
+            Answer::Flag(ExponentDigitsIterator { byte: bytes }.is_digit_separator(value))
+        }
+        Component::Special => {
+            Answer::Flag(SpecialDigitsIterator { byte: bytes }.is_digit_separator(value))
+        }
+    }
+}
+
+/// The length and the cursor of a view.
+fn tell_view(view: Option<Bytes>) -> Answer
+    ensures { result ≡ Answer.View (told_view (option_map (λ v. v.state) view.entry)) }
+{
+    match view {
+        Some(view) => Answer::View(Some((view.buffer_length(), view.cursor()))),
+        None => Answer::View(None),
+    }
+}
+
+/// Takes a view from the iterator of a component; special hands out none.
+fn take_n(bytes: &mut Bytes, component: Component, n: usize) -> Answer
+    ensures { Makes (table.On component) (table.TakeN n) bytes.old bytes.new result }
+{
+    match component {
+        Component::Integer => tell_view(IntegerDigitsIterator { byte: bytes }.take_n(n)),
+        Component::Fraction => tell_view(FractionDigitsIterator { byte: bytes }.take_n(n)),
+        Component::Exponent => tell_view(ExponentDigitsIterator { byte: bytes }.take_n(n)),
+        Component::Special => Answer::Refused,
+    }
+}
+
+/// Makes a call on the iterator of a component.
+fn on_component(bytes: &mut Bytes, component: Component, op: Op) -> Answer
+    ensures { Makes (table.On component) (call_of op) bytes.old bytes.new result }
 {
     match op {
-        Op::TakeN(n) => Answer::View(take_view(bytes, kind, n)),
-        _ => on_digits(bytes, kind, op),
-    }
-}
-
-/// Makes a call on the special iterator.
-fn on_special(bytes: &mut Bytes, op: Op) -> Answer
-    ensures { Makes (table.On components.Special) (call_of op) bytes.old bytes.new result }
-{
-    match op {
-        Op::TakeN(_) => Answer::Refused,
-        _ => on_digits(bytes, PhantomData::<SpecialKind>, op),
+        Op::SetCursor(index) => set_cursor(bytes, component, index),
+        Op::SkipZeros => skip_zeros(bytes, component),
+        Op::IsSign(value) => is_sign(bytes, component, value),
+        Op::IsDigitSeparator(value) => is_digit_separator(bytes, component, value),
+        Op::TakeN(n) => take_n(bytes, component, n),
+        _ => read_on(bytes, component, op),
     }
 }
 
@@ -283,10 +358,10 @@ fn make(bytes: &mut Bytes, call: Call) -> Answer
 {
     match call.part {
         Part::Bytes => on_bytes(bytes, call.op),
-        Part::Integer => on_counting(bytes, PhantomData::<IntegerKind>, call.op),
-        Part::Fraction => on_counting(bytes, PhantomData::<FractionKind>, call.op),
-        Part::Exponent => on_counting(bytes, PhantomData::<ExponentKind>, call.op),
-        Part::Special => on_special(bytes, call.op),
+        Part::Integer => on_component(bytes, Component::Integer, call.op),
+        Part::Fraction => on_component(bytes, Component::Fraction, call.op),
+        Part::Exponent => on_component(bytes, Component::Exponent, call.op),
+        Part::Special => on_component(bytes, Component::Special, call.op),
     }
 }
 
@@ -303,7 +378,8 @@ pub fn run(alloc: Global, bytes: &mut Bytes, calls: &[Call]) -> Result<Vec<Answe
         bytes.new.state ≡ (run_of bytes.old.state (script_of calls.now)).state) }
     ensures looks { let s = bytes.old.state in let script = script_of calls.now in
         let n = length s.buffer in
-        bytes.new.looks ≤ bytes.old.looks + 4 * reads_of s script + 3 * (n * (set_backs_of s script + 1)) }
+        bytes.new.looks ≤
+        bytes.old.looks + 4 * reads_of s script + 3 * (n * (set_backs_of s script + 1)) }
     ensures memory { OnErr result (bytes.new ≡ bytes.old) }
 {
     run_in(alloc, bytes, calls)
@@ -321,7 +397,8 @@ pub fn run_in<A: Allocator>(
         bytes.new.state ≡ (run_of bytes.old.state (script_of calls.now)).state) }
     ensures looks { let s = bytes.old.state in let script = script_of calls.now in
         let n = length s.buffer in
-        bytes.new.looks ≤ bytes.old.looks + 4 * reads_of s script + 3 * (n * (set_backs_of s script + 1)) }
+        bytes.new.looks ≤
+        bytes.old.looks + 4 * reads_of s script + 3 * (n * (set_backs_of s script + 1)) }
     ensures memory { OnErr result (bytes.new ≡ bytes.old) }
 {
     let mut answers = Vec::with_capacity(alloc, calls.len())?;
@@ -329,7 +406,5 @@ pub fn run_in<A: Allocator>(
         let answer = make(bytes, *call);
         answers.push(answer).unwrap();
     }
-    // The bound on looks rests on it that what was scanned is within the buffer, as `looks` says.
-    bytes.looks();
     Ok(answers)
 }

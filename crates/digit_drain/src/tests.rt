@@ -1,11 +1,33 @@
 //! The program's lines, its runs under failure, and lists of calls.
+//!
+//! What is tried, and where:
+//!
+//! - the five lines; each further line; bad lines through `run`, `tell` and `status`; each prefix
+//!   of a line; a carriage return; 65,536 bytes and 65,537: `lines`
+//! - memory refused at each request in turn, to a run: `refused_memory_leaves_nothing_written`; to
+//!   `tell`: `a_fault_is_not_told_without_memory`; to a script:
+//!   `a_refused_reservation_changes_nothing`
+//! - a reader that fails or is interrupted at once, in the middle or at the end:
+//!   `a_failing_reader_leaves_nothing_written`; one byte at a turn, with an end and without:
+//!   `a_slow_reader_gives_the_whole_input`, `a_reader_without_end_gives_too_much`; one that fails
+//!   behind the greatest input, and behind the byte after it:
+//!   `the_first_byte_too_many_ends_the_reading`
+//! - a writer that takes three bytes a call: `a_slow_writer_gets_the_whole_output`; one that fails,
+//!   is interrupted or takes nothing, at once and after three bytes, also where a bad line would be
+//!   answered: `a_failing_writer_gets_a_prefix`
+//! - each fault's line and status: `each_fault_has_its_line_and_status`; told to such writers:
+//!   `a_fault_is_told_to_a_slow_writer`, `a_fault_is_not_told_to_a_failing_writer`
+//! - calls whose answers are known, on all five parts: `scripts`
+//! - lists of 1,000 random calls over all five parts, also under hostile words, each answer and
+//!   state beside the call table in plain code: `lists`
 
 mod failures;
 mod limited;
 mod lines;
-mod peeks;
+mod lists;
 mod scripts;
 mod streams;
+mod table;
 
 use crate::engine::{run, tell};
 use std::alloc::Global;
@@ -25,6 +47,9 @@ __45 count=2 cursor=4
 12345 count=5 cursor=5
  count=0 cursor=0
 ";
+
+/// A line, and one whose separator is a digit.
+const UNSUPPORTED: &str = "integer 10 5f I 4_5\ninteger 16 61 I a1";
 
 /// What the program writes for an input, and the status that it ends with.
 fn answer(alloc: Global, input: &[u8]) -> Result<(Vec<u8>, u8), Fail> {

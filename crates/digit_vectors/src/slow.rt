@@ -1,9 +1,10 @@
-//! The role rule as a plain program. It asks of each position anew whether it is kept, by a look at the whole buffer, and has no
-//! cursor and no state. It is slow, and the faster iterators are compared with it.
+//! The role rule as a plain program. It asks of each position anew whether it is kept, by a look at
+//! the whole buffer, and has no cursor and no state. It is slow, and the faster iterators are
+//! compared with it.
 
-ghost use Rattle.std.specs.Prelude.{◌≡◌, ℕ, ◌+◌, ◌<◌, ◌≤◌, nat_lt, not, length, take, drop, reverse, Option};
+ghost use Rattle.std.specs.Prelude.{◌≡◌, ◌+◌, ◌<◌, ◌≤◌, not, length, reverse, Option};
 ghost use Rattle.std.specs.List.{list_any, find};
-ghost use Rattle.lexical_digits.specs.Separators.{class, is_digit, is_separator, neighbour, left_side, right_side, roles, grants, holds_separator, dropped, seen, kept, place};
+ghost use Rattle.lexical_digits.specs.Separators.{class, is_digit, is_separator, neighbour, left_side, right_side, roles, grants, holds_separator, digits_seen, is_kept, place};
 
 use lexical_digits::skip::{Class, Rule};
 use lexical_format::char_is_digit_const;
@@ -111,11 +112,11 @@ fn is_granted(rule: Rule, left: Class, right: Class) -> bool
 }
 
 /// The count at the start, and the digits from there up to a position.
-#[tactic(auto, unfolding(lexical_digits::specs::Separators::seen))]
+#[tactic(auto, unfolding(lexical_digits::specs::Separators::digits_seen))]
 pub fn seen(rule: Rule, buffer: &[u8], start: usize, count: usize, position: usize) -> u128
     requires low { start ≤ position }
     requires high { position ≤ length buffer.now }
-    ensures { result ≡ seen rule buffer.now start count position }
+    ensures { result ≡ digits_seen rule buffer.now start count position }
 {
     let passed = &buffer[start..position];
     let digits = passed.iter().filter(|byte| is_digit(rule, **byte)).count();
@@ -123,11 +124,11 @@ pub fn seen(rule: Rule, buffer: &[u8], start: usize, count: usize, position: usi
 }
 
 /// Whether the byte at a position is kept, where reading starts at `start` with that count.
-#[tactic(auto, unfolding(lexical_digits::specs::Separators::kept, lexical_digits::specs::Separators::dropped, lexical_digits::specs::Separators::holds_separator))]
+#[tactic(auto, unfolding(lexical_digits::specs::Separators::is_kept, lexical_digits::specs::Separators::is_dropped, lexical_digits::specs::Separators::holds_separator))]
 pub fn is_kept(rule: Rule, buffer: &[u8], start: usize, count: usize, position: usize) -> bool
     requires low { start ≤ position }
     requires high { position < length buffer.now }
-    ensures { result ≡ kept rule buffer.now start count position }
+    ensures { result ≡ is_kept rule buffer.now start count position }
 {
     if side_of(rule, Some(buffer[position])) != Class::Separator {
         return true;

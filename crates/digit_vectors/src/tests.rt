@@ -1,19 +1,24 @@
-//! Tests over the public calls of the crates below. Unless a test says otherwise the separator is `_`, the radix 10, the component
-//! the integer, and the `Bytes` fresh.
+//! Tests over the public calls of the crates below. Unless a test says otherwise the separator is
+//! `_`, the radix 10, the component the integer, and the `Bytes` fresh.
 
 ghost use Rattle.std.specs.Prelude.{◌≡◌};
 ghost use Rattle.lexical_digits.specs.State.{start};
 
 mod agreement;
+mod chains;
 mod counts;
 mod cursors;
 mod decision;
 mod laws;
+mod literals;
 mod loans;
 mod looks;
 mod plain;
+mod plain_rows;
+mod radixes;
 mod reads;
 mod rules;
+mod spaced;
 mod views;
 mod words;
 

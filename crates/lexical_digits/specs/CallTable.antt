@@ -1,13 +1,15 @@
--- The call table: what each call answers, and the state that it leaves. No row scans, steps or loops.
+-- The call table: what each call answers, and the state that it leaves. No row scans, steps or
+-- loops.
 use Rattle.std.specs.Prelude.{◌≡◌, ℕ, ◌+◌, ◌<◌, ◌==◌, ◌||◌, Bool, true, false, if◌then◌else◌, nat_lt, nat_le, List, [], ◌∷◌, length, drop, count_by, slice_get, slice_index, Option, Some, None, is_none, is_some, MatchOption, option_copied}
 use Rattle.std.specs.Borrow.{Bor}
 use Rattle.std.specs.Int.{w32, w64}
+use Rattle.std.specs.Iterator.{YieldsFirstRef}
 use Rattle.lexical_format.specs.Word.{separator}
 use Rattle.lexical_digits.specs.declared.skip.component.Component.{Component}
 use Rattle.lexical_digits.specs.declared.skip.component.Component.TheVariants.{Integer, Fraction, Exponent, Special}
 use Rattle.lexical_digits.specs.Separators.{is_digit, is_separator, place, drain, zeros, past_zeros}
-use Rattle.lexical_digits.specs.State.{State, with_cursor, rule, own, with_own, has_no_separator, is_contiguous, counts, raised, saturating, count_after, count_of_all, current_count, cut_end, cut}
-use Rattle.lexical_digits.specs.Cursor.{can_step, passes, byte_if, is_value, next_number}
+use Rattle.lexical_digits.specs.State.{State, with_cursor, rule, own, with_own, has_no_separator, is_contiguous, counts, one_more, saturating, count_after, count_of_all, current_count, cut_end, cut}
+use Rattle.lexical_digits.specs.Cursor.{can_step, holds_of, byte_if, is_value, next_number}
 
 -- ---- what the iterator of a component finds and leaves
 
@@ -15,27 +17,28 @@ use Rattle.lexical_digits.specs.Cursor.{can_step, passes, byte_if, is_value, nex
 unfoldable pub place_of : Component → State → ℕ
 place_of k s = place (rule k s) s.buffer s.cursor (own k s)
 
-abbrev pub peeked : Component → State → Option ℕ
-peeked k s = slice_get s.buffer (place_of k s)
+abbrev pub byte_at_place : Component → State → Option ℕ
+byte_at_place k s = slice_get s.buffer (place_of k s)
 
 -- `peek` moves the cursor to the place
 abbrev pub settled : Component → State → State
 settled k s = with_cursor s (place_of k s)
 
 -- a read that is not counted passes the byte there
-abbrev pub passed : Component → State → State
-passed k s = with_cursor s (place_of k s + 1)
+abbrev pub past_place : Component → State → State
+past_place k s = with_cursor s (place_of k s + 1)
 
 -- `increment_count`
 abbrev pub counted : Component → State → State
-counted k s = with_own k s (raised (own k s))
+counted k s = with_own k s (one_more (own k s))
 
 -- `next` passes the byte at the place, and counts a digit
 unfoldable pub taken : Component → State → State
 taken k s =
     let p = place_of k s in
     if nat_lt p (length s.buffer)
-    then with_cursor (with_own k s (count_after (rule k s) (counts k s.word) (slice_index s.buffer p) (own k s))) (p + 1)
+    then with_cursor (with_own k s
+    (count_after (rule k s) (counts k s.word) (slice_index s.buffer p) (own k s))) (p + 1)
     else settled k s
 
 -- the bytes that `next` answers until None, and the state that it leaves then
@@ -43,17 +46,21 @@ abbrev pub drain_of : Component → State → List ℕ
 drain_of k s = drain (rule k s) s.buffer s.cursor (own k s)
 
 abbrev pub own_after : Component → State → ℕ
-own_after k s = if counts k s.word then saturating (own k s) (count_by (is_digit (rule k s)) (drop s.cursor s.buffer)) else own k s
+own_after k s =
+    if counts k s.word
+    then saturating (own k s) (count_by (is_digit (rule k s)) (drop s.cursor s.buffer))
+    else own k s
 
-unfoldable pub drained : Component → State → State
-drained k s = with_cursor (with_own k s (own_after k s)) (length s.buffer)
+unfoldable pub after_drain : Component → State → State
+after_drain k s = with_cursor (with_own k s (own_after k s)) (length s.buffer)
 
 -- zeros that are read one after another, each counted, and the state past them
 abbrev pub zeros_of : Component → State → ℕ
 zeros_of k s = zeros (rule k s) s.buffer s.cursor (own k s)
 
 abbrev pub past_zeros_of : Component → State → State
-past_zeros_of k s = with_cursor (with_own k s (saturating (own k s) (zeros_of k s))) (past_zeros (rule k s) s.buffer s.cursor (own k s))
+past_zeros_of k s = with_cursor (with_own k s (saturating (own k s) (zeros_of k s)))
+    (past_zeros (rule k s) s.buffer s.cursor (own k s))
 
 -- `take_n`: the view, and what is left
 unfoldable pub view : Component → State → ℕ → Option State
@@ -62,14 +69,15 @@ view k s n = if is_contiguous k s.word then Some (cut s (cut_end s n)) else None
 unfoldable pub after_view : Component → State → ℕ → State
 after_view k s n = if is_contiguous k s.word then with_cursor s (cut_end s n) else s
 
--- A call of `next` from s to t: it answers the byte at the place and leaves `taken`; what it answers is the first of what
--- the filter keeps, or None where that is nothing; the whole drain leaves the same state from s and from t.
+-- A call of `next` from s to t: it answers the byte at the place and leaves `taken`; what it
+-- answers is the first of what the filter keeps, or None where that is nothing; the whole drain
+-- leaves the same state from s and from t.
 pub record Takes (k : Component) (s t : State) (result : Option (Bor ℕ)) : Type 0 where
-  pub byte : option_copied result ≡ peeked k s
+  pub byte : option_copied result ≡ byte_at_place k s
   pub takes : t ≡ taken k s
-  pub drains : MatchOption result ((drain_of k s ≡ []) × (drain_of k t ≡ [])) (λ item. drain_of k s ≡ item.now ∷ drain_of k t)
-  pub leaves : drained k t ≡ drained k s
-  pub ends : MatchOption result (t ≡ drained k s) (λ item. s.cursor < t.cursor)
+  pub drains : YieldsFirstRef (drain_of k) s result t
+  pub leaves : after_drain k t ≡ after_drain k s
+  pub ends : MatchOption result (t ≡ after_drain k s) (λ item. s.cursor < t.cursor)
 
 -- t is s with another cursor and another own count, and nothing else is changed
 pub record ChangesOwn (k : Component) (s t : State) : Type 0 where
@@ -155,7 +163,8 @@ abbrev pub first : State → Option ℕ
 first s = slice_get s.buffer s.cursor
 
 abbrev pub may_step : Part → ℕ → State → Bool
-may_step part n s = can_step s.buffer s.cursor (contiguous_on part s) (is_separator (separator s.word)) n
+may_step part n s =
+    can_step s.buffer s.cursor (contiguous_on part s) (is_separator (separator s.word)) n
 
 -- a call within its condition, and else a refusal that changes nothing
 abbrev pub within : Bool → State → State → Row
@@ -164,7 +173,7 @@ within false s t = row Refused s
 
 -- a read of the byte at the place where it passes
 abbrev pub read_where : Component → State → Option ℕ → Row
-read_where k s read = row (Byte read) (if is_some read then passed k s else settled k s)
+read_where k s read = row (Byte read) (if is_some read then past_place k s else settled k s)
 
 abbrev pub told_view : Option State → Option (ℕ × ℕ)
 told_view None = None
@@ -190,30 +199,38 @@ shared_row part (SetCursor i) s = within (nat_le i (length s.buffer)) s (with_cu
 shared_row part CurrentCount s = row (Count (count_on part s)) s
 shared_row part IsContiguous s = row (Flag (contiguous_on part s)) s
 shared_row part First s = row (Byte (first s)) s
-shared_row part (FirstIsCased v) s = row (Flag (passes (is_value v true) (first s))) s
-shared_row part (FirstIsUncased v) s = row (Flag (passes (is_value v false) (first s))) s
-shared_row part (FirstIs v is_cased) s = row (Flag (passes (is_value v is_cased) (first s))) s
+shared_row part (FirstIsCased v) s = row (Flag (holds_of (is_value v true) (first s))) s
+shared_row part (FirstIsUncased v) s = row (Flag (holds_of (is_value v false) (first s))) s
+shared_row part (FirstIs v is_cased) s = row (Flag (holds_of (is_value v is_cased) (first s))) s
 shared_row part (StepBy n) s = within (may_step part n s) s (with_cursor s (s.cursor + n))
 shared_row part Step s = within (may_step part 1 s) s (with_cursor s (s.cursor + 1))
-shared_row part PeekU32 s = row (Four (next_number w32 (contiguous_on part s) (drop s.cursor s.buffer))) s
-shared_row part PeekU64 s = row (Eight (next_number w64 (contiguous_on part s) (drop s.cursor s.buffer))) s
+shared_row part PeekU32 s =
+    row (Four (next_number w32 (contiguous_on part s) (drop s.cursor s.buffer))) s
+shared_row part PeekU64 s =
+    row (Eight (next_number w64 (contiguous_on part s) (drop s.cursor s.buffer))) s
 shared_row part call s = row Refused s
 
 -- and the calls that the iterators alone have
 abbrev pub row_of : Part → Call → State → Row
-row_of (On k) IsConsumed s = row (Flag (is_none (peeked k s))) (settled k s)
+row_of (On k) IsConsumed s = row (Flag (is_none (byte_at_place k s))) (settled k s)
 row_of (On k) IncrementCount s = row Done (counted k s)
-row_of (On k) Peek s = row (Byte (peeked k s)) (settled k s)
-row_of (On k) TryRead s = read_where k s (peeked k s)
-row_of (On k) Next s = row (Byte (peeked k s)) (taken k s)
-row_of (On k) (PeekIsCased v) s = row (Flag (passes (is_value v true) (peeked k s))) (settled k s)
-row_of (On k) (PeekIsUncased v) s = row (Flag (passes (is_value v false) (peeked k s))) (settled k s)
-row_of (On k) (PeekIs v is_cased) s = row (Flag (passes (is_value v is_cased) (peeked k s))) (settled k s)
-row_of (On k) (ReadIfEqual v) s = read_where k s (byte_if (is_value v true) (peeked k s))
+row_of (On k) Peek s = row (Byte (byte_at_place k s)) (settled k s)
+row_of (On k) TryRead s = read_where k s (byte_at_place k s)
+row_of (On k) Next s = row (Byte (byte_at_place k s)) (taken k s)
+row_of (On k) (PeekIsCased v) s =
+    row (Flag (holds_of (is_value v true) (byte_at_place k s))) (settled k s)
+row_of (On k) (PeekIsUncased v) s =
+    row (Flag (holds_of (is_value v false) (byte_at_place k s))) (settled k s)
+row_of (On k) (PeekIs v is_cased) s =
+    row (Flag (holds_of (is_value v is_cased) (byte_at_place k s))) (settled k s)
+row_of (On k) (ReadIfEqual v) s = read_where k s (byte_if (is_value v true) (byte_at_place k s))
 row_of (On k) ReadIfNever s = read_where k s None
-row_of (On k) (ReadIfValueCased v) s = read_where k s (byte_if (is_value v true) (peeked k s))
-row_of (On k) (ReadIfValueUncased v) s = read_where k s (byte_if (is_value v false) (peeked k s))
-row_of (On k) (ReadIfValue v is_cased) s = read_where k s (byte_if (is_value v is_cased) (peeked k s))
+row_of (On k) (ReadIfValueCased v) s =
+    read_where k s (byte_if (is_value v true) (byte_at_place k s))
+row_of (On k) (ReadIfValueUncased v) s =
+    read_where k s (byte_if (is_value v false) (byte_at_place k s))
+row_of (On k) (ReadIfValue v is_cased) s =
+    read_where k s (byte_if (is_value v is_cased) (byte_at_place k s))
 row_of (On k) SkipZeros s = row (Count (zeros_of k s)) (past_zeros_of k s)
 row_of (On k) (IsDigit v) s = row (Flag (is_digit (rule k s) v)) s
 row_of (On k) (IsSign v) s = row (Flag ((v == 43) || (v == 45))) s

@@ -1,4 +1,5 @@
--- What an implementer of the cursor's traits means. A value of type M is a meaning; the functions of a meaning are the traits' ghost members.
+-- What an implementer of the cursor's traits means. A value of type M is a meaning; the functions
+-- of a meaning are the traits' ghost members.
 use Rattle.std.specs.Prelude.{◌≡◌, ℕ, zero, suc, ◌+◌, ◌<◌, ◌≤◌, ◌==◌, ◌&&◌, ◌||◌, not, Bool, false, if◌then◌else◌, nat_lt, nat_le, List, [], ◌∷◌, length, drop, slice_get, slice_index, Option, Some, None}
 use Rattle.std.specs.Char.{eq_ignore_ascii_case}
 use Rattle.std.specs.Int.{Width, byte_len, from_le_bytes}
@@ -6,9 +7,9 @@ use Rattle.std.specs.Int.{Width, byte_len, from_le_bytes}
 -- ---- a byte and a test of it
 
 -- whether there is a byte, and it passes
-abbrev pub passes : (ℕ → Bool) → Option ℕ → Bool
-passes p None = false
-passes p (Some b) = p b
+abbrev pub holds_of : (ℕ → Bool) → Option ℕ → Bool
+holds_of p None = false
+holds_of p (Some b) = p b
 
 -- the byte, if there is one and it passes
 abbrev pub byte_if : (ℕ → Bool) → Option ℕ → Option ℕ
@@ -19,14 +20,20 @@ byte_if p (Some b) = if p b then Some b else None
 abbrev pub is_value : ℕ → Bool → ℕ → Bool
 is_value value is_cased b = if is_cased then b == value else eq_ignore_ascii_case b value
 
--- the next bytes as a number, the first byte lowest; none where fewer are left, or separators may be passed over
+-- the next bytes as a number, the first byte lowest; none where fewer are left, or separators may
+-- be passed over
 abbrev pub next_number : Width → Bool → List ℕ → Option ℕ
-next_number w contiguous left = if contiguous && nat_le (byte_len w) (length left) then Some (from_le_bytes w left) else None
+next_number w contiguous left =
+    if contiguous && nat_le (byte_len w) (length left)
+    then Some (from_le_bytes w left)
+    else None
 
 -- ---- conditions and outcomes of calls
 
--- a step by `count` stays in the buffer; where separators may be passed over, it goes one byte at most, and not over a separator
-pub record CanStep (buffer : List ℕ) (cursor : ℕ) (contiguous : Bool) (separates : ℕ → Bool) (count : ℕ) : Type 0 where
+-- a step by `count` stays in the buffer; where separators may be passed over, it goes one byte at
+-- most, and not over a separator
+pub record CanStep (buffer : List ℕ) (cursor : ℕ) (contiguous : Bool) (separates : ℕ → Bool)
+    (count : ℕ) : Type 0 where
   pub fits : cursor + count ≤ length buffer
   pub at_most_one : contiguous ≡ false → count ≤ 1
   pub no_separator : contiguous ≡ false → count ≡ 1 → separates (slice_index buffer cursor) ≡ false
@@ -35,17 +42,22 @@ pub record CanStep (buffer : List ℕ) (cursor : ℕ) (contiguous : Bool) (separ
 abbrev pub can_step : List ℕ → ℕ → Bool → (ℕ → Bool) → ℕ → Bool
 can_step buffer cursor contiguous separates count =
     nat_le (cursor + count) (length buffer)
-    && (contiguous || (count == 0) || ((count == 1) && not (passes separates (slice_get buffer cursor))))
+    && (contiguous || (count == 0)
+    || ((count == 1) && not (holds_of separates (slice_get buffer cursor))))
 
--- what a read by a closure answers and leaves: with no byte None, and `settled`; else the closure answers once, for the byte, and the byte is read exactly if it answers true
+-- what a read by a closure answers and leaves: with no byte None, and `settled`; else the closure
+-- answers once, for the byte, and the byte is read exactly if it answers true
 abbrev pub ReadsIf : {M : Type 0} → (ℕ → Bool → Type 0) → Option ℕ → M → M → Option ℕ → M → Type 0
 ReadsIf test None settled past result left = (result ≡ None) × (left ≡ settled)
-ReadsIf test (Some b) settled past result left = (yes : Bool) × test b yes × (result ≡ if yes then Some b else None) × (left ≡ if yes then past else settled)
+ReadsIf test (Some b) settled past result left = (yes : Bool) × test b yes
+    × (result ≡ if yes then Some b else None) × (left ≡ if yes then past else settled)
 
 -- ---- recursions over a meaning
 
--- steps that are made while a test passes, at most so many: what is made of the steps and of the end
-module _ {M R : Type 0} (goes : M → Bool) (next : M → M) (at_end : M → R) (at_step : M → R → R) where
+-- steps that are made while a test passes, at most so many: what is made of the steps and of the
+-- end
+module _ {M R : Type 0} (goes : M → Bool) (next : M → M) (at_end : M → R)
+    (at_step : M → R → R) where
   unfoldable pub walk : ℕ → M → R
   walk zero m = at_end m
   walk (suc n) m = if goes m then at_step m (walk n (next m)) else at_end m
@@ -55,14 +67,22 @@ abbrev pub bytes_left : {M : Type 0} → (M → List ℕ) → (M → ℕ) → M 
 bytes_left buffer cursor m = length (drop (cursor m) (buffer m))
 
 module _ {M : Type 0} (buffer : M → List ℕ) (cursor place : M → ℕ) (taken : M → M) where
-  -- the items, the bytes that `next` answers until None: none at the end, else the byte at the place and the items of `taken`
+  -- the items, the bytes that `next` answers until None: none at the end, else the byte at the
+  -- place and the items of `taken`
   unfoldable pub items : M → List ℕ
-  items m = walk (λ n. nat_lt (place n) (length (buffer n))) taken (λ _. []) (λ n more. slice_index (buffer n) (place n) ∷ more) (bytes_left buffer cursor m) m
+  items m = walk (λ n. nat_lt (place n) (length (buffer n))) taken (λ _. [])
+      (λ n more. slice_index (buffer n) (place n) ∷ more) (bytes_left buffer cursor m) m
 
-module _ {M : Type 0} (buffer : M → List ℕ) (cursor place : M → ℕ) (moved : M → ℕ → M) (settled counted : M → M) where
+  -- what they leave: what that `next` leaves that answers None
+  unfoldable pub after_items : M → M
+  after_items m = walk (λ n. nat_lt (place n) (length (buffer n))) taken taken (λ _ after. after)
+      (bytes_left buffer cursor m) m
+
+module _ {M : Type 0} (buffer : M → List ℕ) (cursor place : M → ℕ) (moved : M → ℕ → M)
+    (settled counted : M → M) where
   -- whether the byte at the place is `0`
   abbrev pub at_zero : M → Bool
-  at_zero m = passes (λ b. b == 48) (slice_get (buffer m) (place m))
+  at_zero m = holds_of (λ b. b == 48) (slice_get (buffer m) (place m))
 
   -- what reading and counting one byte leaves
   abbrev pub past_zero : M → M
@@ -78,20 +98,27 @@ module _ {M : Type 0} (buffer : M → List ℕ) (cursor place : M → ℕ) (move
 
 -- ---- laws
 module _ {M : Type 0} (valid : M → Type 0) (buffer : M → List ℕ) (cursor : M → ℕ) where
-  -- the cursor is at most the length; `moved` has its cursor where it was set, and keeps the buffer, contiguity and separators
-  pub record IterLaws (contiguous : M → Bool) (separates : M → ℕ → Bool) (moved : M → ℕ → M) : Type 0 where
+  -- the cursor is at most the length; `moved` has its cursor where it was set, and keeps the
+  -- buffer, contiguity and separators
+  pub record IterLaws (contiguous : M → Bool) (separates : M → ℕ → Bool)
+      (moved : M → ℕ → M) : Type 0 where
     pub within : (m : M) → valid m → cursor m ≤ length (buffer m)
     pub moved_valid : (m : M) (i : ℕ) → valid m → i ≤ length (buffer m) → valid (moved m i)
     pub moved_cursor : (m : M) (i : ℕ) → valid m → i ≤ length (buffer m) → cursor (moved m i) ≡ i
-    pub moved_buffer : (m : M) (i : ℕ) → valid m → i ≤ length (buffer m) → buffer (moved m i) ≡ buffer m
-    pub moved_contiguous : (m : M) (i : ℕ) → valid m → i ≤ length (buffer m) → contiguous (moved m i) ≡ contiguous m
-    pub moved_separates : (m : M) (i b : ℕ) → valid m → i ≤ length (buffer m) → separates (moved m i) b ≡ separates m b
+    pub moved_buffer : (m : M) (i : ℕ) → valid m → i ≤ length (buffer m)
+        → buffer (moved m i) ≡ buffer m
+    pub moved_contiguous : (m : M) (i : ℕ) → valid m → i ≤ length (buffer m)
+        → contiguous (moved m i) ≡ contiguous m
+    pub moved_separates : (m : M) (i b : ℕ) → valid m → i ≤ length (buffer m) → b < 256
+        → separates (moved m i) b ≡ separates m b
 
-  -- the place is from the cursor to the length
-  -- `settled` has its cursor there, the same place and count; settling it again changes nothing, and taking it gives `taken`
-  -- `counted` leaves the cursor; `taken` has it one past the place, or at the end
-  -- none of the four changes the buffer, contiguity, the separators or which bytes are digits
-  pub record DigitLaws (current_count : M → ℕ) (contiguous : M → Bool) (separates : M → ℕ → Bool) (moved : M → ℕ → M) (place : M → ℕ) (digit : M → ℕ → Bool) (settled counted taken : M → M) : Type 0 where
+  -- The place is from the cursor to the length. `settled` has its cursor there, the same place and
+  -- count; settling it again changes nothing, and taking it gives `taken`. `counted` leaves the
+  -- cursor. `taken` has it one past the place, or at the end. None of the four changes the buffer,
+  -- contiguity, the separators or which bytes are digits.
+  pub record DigitLaws (current_count : M → ℕ) (contiguous : M → Bool) (separates : M → ℕ → Bool)
+      (moved : M → ℕ → M) (place : M → ℕ) (digit : M → ℕ → Bool)
+      (settled counted taken : M → M) : Type 0 where
     pub place_from : (m : M) → valid m → cursor m ≤ place m
     pub place_to : (m : M) → valid m → place m ≤ length (buffer m)
     pub settled_valid : (m : M) → valid m → valid (settled m)
@@ -103,18 +130,23 @@ module _ {M : Type 0} (valid : M → Type 0) (buffer : M → List ℕ) (cursor :
     pub counted_valid : (m : M) → valid m → valid (counted m)
     pub counted_cursor : (m : M) → valid m → cursor (counted m) ≡ cursor m
     pub taken_valid : (m : M) → valid m → valid (taken m)
-    pub taken_cursor : (m : M) → valid m → place m < length (buffer m) → cursor (taken m) ≡ place m + 1
+    pub taken_cursor : (m : M) → valid m → place m < length (buffer m)
+        → cursor (taken m) ≡ place m + 1
     pub taken_end : (m : M) → valid m → place m ≡ length (buffer m) → cursor (taken m) ≡ place m
     pub settled_buffer : (m : M) → valid m → buffer (settled m) ≡ buffer m
     pub settled_contiguous : (m : M) → valid m → contiguous (settled m) ≡ contiguous m
-    pub settled_separates : (m : M) (b : ℕ) → valid m → separates (settled m) b ≡ separates m b
-    pub settled_digit : (m : M) (b : ℕ) → valid m → digit (settled m) b ≡ digit m b
+    pub settled_separates : (m : M) (b : ℕ) → valid m → b < 256
+        → separates (settled m) b ≡ separates m b
+    pub settled_digit : (m : M) (b : ℕ) → valid m → b < 256 → digit (settled m) b ≡ digit m b
     pub counted_buffer : (m : M) → valid m → buffer (counted m) ≡ buffer m
     pub counted_contiguous : (m : M) → valid m → contiguous (counted m) ≡ contiguous m
-    pub counted_separates : (m : M) (b : ℕ) → valid m → separates (counted m) b ≡ separates m b
-    pub counted_digit : (m : M) (b : ℕ) → valid m → digit (counted m) b ≡ digit m b
+    pub counted_separates : (m : M) (b : ℕ) → valid m → b < 256
+        → separates (counted m) b ≡ separates m b
+    pub counted_digit : (m : M) (b : ℕ) → valid m → b < 256 → digit (counted m) b ≡ digit m b
     pub taken_buffer : (m : M) → valid m → buffer (taken m) ≡ buffer m
     pub taken_contiguous : (m : M) → valid m → contiguous (taken m) ≡ contiguous m
-    pub taken_separates : (m : M) (b : ℕ) → valid m → separates (taken m) b ≡ separates m b
-    pub taken_digit : (m : M) (b : ℕ) → valid m → digit (taken m) b ≡ digit m b
-    pub moved_digit : (m : M) (i b : ℕ) → valid m → i ≤ length (buffer m) → digit (moved m i) b ≡ digit m b
+    pub taken_separates : (m : M) (b : ℕ) → valid m → b < 256
+        → separates (taken m) b ≡ separates m b
+    pub taken_digit : (m : M) (b : ℕ) → valid m → b < 256 → digit (taken m) b ≡ digit m b
+    pub moved_digit : (m : M) (i b : ℕ) → valid m → i ≤ length (buffer m) → b < 256
+        → digit (moved m i) b ≡ digit m b

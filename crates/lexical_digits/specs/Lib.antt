@@ -1,7 +1,12 @@
 pub mod Separators
+pub mod Stop
 pub mod State
 pub mod Cursor
 pub mod CallTable
 pub mod Looks
-pub mod Inside
+pub mod Tally
+pub mod Shortcuts
+pub mod Bytes
+pub mod Iterators
 pub mod Laws
+pub mod MantissaRadix

@@ -1,13 +1,14 @@
 -- Remembered runs of separators, and what looking at bytes costs.
-use Rattle.std.specs.Prelude.{◌≡◌, ⊤, ℕ, zero, suc, ◌+◌, ◌-◌, ◌*◌, ◌^◌, ◌<◌, ◌≤◌, min, Bool, true, false, not, ◌&&◌, if◌then◌else◌, nat_lt, nat_le, Option, Some, None, is_some, List, length, slice_get, ℤ, pos, ◌-ℤ◌, ◌+ℤ◌, ◌≤ℤ◌}
+use Rattle.std.specs.Prelude.{◌≡◌, ⊤, ℕ, zero, suc, ◌+◌, ◌-◌, ◌*◌, ◌^◌, ◌<◌, ◌≤◌, min, Bool, true, false, not, ◌&&◌, ◌||◌, if◌then◌else◌, nat_lt, nat_le, Option, Some, None, is_some, List, length, slice_get, ℤ, pos, ◌-ℤ◌, ◌+ℤ◌, ◌≤ℤ◌}
 use Rattle.std.specs.Option.{option_map_or}
 use Rattle.std.specs.Borrow.{Bor}
-use Rattle.lexical_digits.specs.declared.skip.decision.Rule.{Rule}
+use Rattle.lexical_digits.specs.declared.skip.rule.Rule.{Rule}
 use Rattle.lexical_digits.specs.declared.skip.decision.Run.{Run}
 use Rattle.lexical_digits.specs.declared.skip.component.Component.{Component}
-use Rattle.lexical_digits.specs.Separators.{class, is_separator, left_side, right_side, kept, place}
-use Rattle.lexical_digits.specs.State.{State, IsState, rule}
-use Rattle.lexical_digits.specs.CallTable.{peeked, Takes}
+use Rattle.lexical_digits.specs.Separators.{class, is_separator, left_side, right_side, is_kept, place}
+use Rattle.lexical_digits.specs.State.{State, IsState, rule, own}
+use Rattle.lexical_format.specs.Word.{separator}
+use Rattle.lexical_digits.specs.CallTable.{byte_at_place, settled, Takes}
 
 -- ---- a remembered run
 
@@ -38,7 +39,8 @@ run_length (Some run) = run.to - run.from
 
 -- whether the run of a position has to be looked for
 abbrev pub scans : Rule → List ℕ → ℕ → Option Run → Bool
-scans rule buffer at run = rule.consecutive && separator_at rule.separator buffer at && not (run_holds run at)
+scans rule buffer at run =
+    rule.consecutive && separator_at rule.separator buffer at && not (run_holds run at)
 
 -- ---- the sides of a separator
 
@@ -47,13 +49,14 @@ abbrev pub slice_before : List ℕ → ℕ → Option ℕ
 slice_before buffer zero = None
 slice_before buffer (suc q) = slice_get buffer q
 
--- what a separator is judged by: the byte before `from` is its left side, the one at `to` its right side, and `to`
--- is the place where it is dropped
+-- what a separator is judged by: the byte before `from` is its left side, the one at `to` its right
+-- side, and `to` is the place where it is dropped
 pub record IsSpan (rule : Rule) (buffer : List ℕ) (at from to : ℕ) : Type 0 where
   pub within : from ≤ length buffer
   pub left : class rule (slice_before buffer from) ≡ left_side rule buffer false at
   pub right : class rule (slice_get buffer to) ≡ right_side rule buffer at
-  pub reach : (count : ℕ) → kept rule buffer at count at ≡ false → place rule buffer at count ≡ to
+  pub reach : (count : ℕ) → is_kept rule buffer at count at ≡ false
+      → place rule buffer at count ≡ to
 
 -- ---- looks
 
@@ -62,7 +65,8 @@ pub record Source : Type 0 where
   pub content : List ℕ
   pub looked : ℕ
 
--- at least `low` looks more, as far as a counter goes that stops at its greatest number, and at most `high` more
+-- at least `low` looks more, as far as a counter goes that stops at its greatest number, and at
+-- most `high` more
 pub record IsLooked (old low high new : ℕ) : Type 0 where
   pub at_least : min (old + low) (2 ^ 64 - 1) ≤ new
   pub at_most : new ≤ old + high
@@ -70,17 +74,23 @@ pub record IsLooked (old low high new : ℕ) : Type 0 where
 abbrev pub one_if : Bool → ℕ
 one_if answered = if answered then 1 else 0
 
--- the run and the looks that a read at a position leaves, where it is told whether a byte was answered
-pub record Saw (rule : Rule) (buffer : List ℕ) (at : ℕ) (run : Option Run) (looks : ℕ) (answered : Bool) (left : Option Run) (seen : ℕ) : Type 0 where
+-- the run and the looks that a read at a position leaves, where it is told whether a byte was
+-- answered, and how many looks it takes at most beside three for each separator of a run that it
+-- scans
+pub record Finds (most : ℕ) (rule : Rule) (buffer : List ℕ) (at : ℕ) (run : Option Run) (looks : ℕ)
+    (answered : Bool) (left : Option Run) (seen : ℕ) : Type 0 where
   pub is_run : IsRunOrNone rule.separator buffer left
   pub unscanned_run : scans rule buffer at run ≡ false → left ≡ run
-  pub unscanned_looks : scans rule buffer at run ≡ false → IsLooked looks (one_if answered) 4 seen
+  pub unscanned_looks : scans rule buffer at run ≡ false
+      → IsLooked looks (one_if answered) most seen
   pub scanned_run : scans rule buffer at run ≡ true → run_holds left at ≡ true
-  pub scanned_looks : scans rule buffer at run ≡ true → IsLooked looks (one_if answered + run_length left) (4 + 3 * run_length left) seen
+  pub scanned_looks : scans rule buffer at run ≡ true
+      → IsLooked looks (one_if answered + run_length left) (most + 3 * run_length left) seen
 
 -- ---- what is owed
 
--- how far a buffer has been scanned: the right end of the run, where the cursor isn't before that run
+-- how far a buffer has been scanned: the right end of the run, where the cursor isn't before that
+-- run
 abbrev pub far : Option Run → ℕ → ℕ
 far None cursor = 0
 far (Some run) cursor = if nat_le run.from cursor then run.to else 0
@@ -95,25 +105,59 @@ owed_by run cursor looks = pos looks -ℤ pos (3 * far run cursor)
 abbrev pub run_between : ℕ → ℕ → Option Run
 run_between from to = if nat_lt from to then Some (record { from = from; to = to }) else None
 
--- the state that calls speak of, and beside it what is kept for speed: the remembered run, and the looks so far
+-- The state that calls speak of, and beside it what is kept for speed: the remembered run, which is
+-- a maximal run of the buffer, and the looks so far.
 pub record Held : Type 0 where
   pub state : State
   pub run : Option Run
   pub looks : ℕ
   pub holds : IsState state
+  pub remembers : (r : Run) → run ≡ Some r → IsRun (separator state.word) state.buffer r.from r.to
 
 abbrev pub owed : Held → ℤ
 owed h = owed_by h.run h.state.cursor h.looks
 
--- how long the run is that a read from a had to look for, where it left b
-abbrev pub scanned_length : Component → Held → Held → ℕ
-scanned_length k a b = if scans (rule k a.state) a.state.buffer a.state.cursor a.run then run_length b.run else 0
+-- whether a read from a to b looked for a run: the cursor of a stands in the run that is remembered
+-- then, and in none before
+abbrev pub has_scanned : Held → Held → Bool
+has_scanned a b = run_holds b.run a.state.cursor && not (run_holds a.run a.state.cursor)
 
--- A read of the iterator of a component from a to b: it owes at most 4 more, and looked at least at the byte that it
--- answers and at the run that it scanned, as far as the counter goes.
+-- how long that run is
+abbrev pub scanned_length : Held → Held → ℕ
+scanned_length a b = if has_scanned a b then run_length b.run else 0
+
+-- whether a read from a has to look for a run: not where digits were counted and the byte behind
+-- the separator is none
+abbrev pub needs_run : Component → Held → Bool
+needs_run k a =
+    scans (rule k a.state) a.state.buffer a.state.cursor a.run
+    && (separator_at (separator a.state.word) a.state.buffer (a.state.cursor + 1)
+    || not (nat_lt 0 (own k a.state)))
+
+-- A read of the iterator of a component from a to b: it owes at most 4 more. It looked at least at
+-- the byte that it answers and at the run that it scanned, as far as the counter goes, and at most
+-- four times and three times for each separator of that run. A run that it scanned is remembered;
+-- else the run stays as it was.
 pub record Reads (k : Component) (a b : Held) : Type 0 where
   pub owes : owed b ≤ℤ (owed a +ℤ pos 4)
-  pub looks : min (a.looks + one_if (is_some (peeked k a.state)) + scanned_length k a b) (2 ^ 64 - 1) ≤ b.looks
+  pub at_least : min (a.looks + one_if (is_some (byte_at_place k a.state)) + scanned_length a b)
+      (2 ^ 64 - 1) ≤ b.looks
+  pub at_most : b.looks ≤ a.looks + 4 + 3 * scanned_length a b
+  pub unscanned : has_scanned a b ≡ false → b.run ≡ a.run
+  pub scanned : has_scanned a b ≡ true → IsRunOrNone (separator a.state.word) a.state.buffer b.run
+  pub needed : needs_run k a ≡ true → has_scanned a b ≡ true
+
+-- A read from a to b that leaves the byte where it is: it answers the byte at the place, where the
+-- cursor then stands.
+pub record Settles (k : Component) (a b : Held) (answer : Option ℕ) : Type 0 where
+  pub byte : answer ≡ byte_at_place k a.state
+  pub settles : b.state ≡ settled k a.state
+  pub reads : Reads k a b
+
+-- A read from a to b that takes the byte, and counts it if it is a digit that counts.
+pub record Yields (k : Component) (a b : Held) (result : Option (Bor ℕ)) : Type 0 where
+  pub takes : Takes k a.state b.state result
+  pub reads : Reads k a b
 
 -- nothing was looked at, and the run stays
 pub record Unread (a b : Held) : Type 0 where
@@ -125,10 +169,3 @@ pub record IsCopy (a b : Held) : Type 0 where
   pub state : b.state ≡ a.state
   pub run : b.run ≡ a.run
   pub looks : b.looks ≡ a.looks
-
--- A call of `next` from a to b on the iterator of a component: what it takes by the call table, what it cost, and the
--- `Bytes` that it holds stays the same one.
-pub record Nexts (k : Component) (a b : Held) (loan left : ℕ) (result : Option (Bor ℕ)) : Type 0 where
-  pub takes : Takes k a.state b.state result
-  pub reads : Reads k a b
-  pub keeps_loan : left ≡ loan

@@ -1,11 +1,12 @@
--- The role rule: which bytes of a buffer are kept. A separator is dropped where one of its roles is granted, all
--- else stays. What is kept is said of each position of the whole buffer; there is no cursor that moves, and no call.
+-- The role rule: which bytes of a buffer are kept. A separator is dropped where one of its roles is
+-- granted, all else stays. What is kept is said of each position of the whole buffer; there is no
+-- cursor that moves, and no call.
 use Rattle.std.specs.Prelude.{◌≡◌, ℕ, ◌+◌, ◌-◌, ◌≤◌, Bool, true, false, not, ◌&&◌, ◌||◌, if◌then◌else◌, nat_lt, ◌==◌, Option, Some, None, List, [], ◌∷◌, map, reverse, length, take, drop, slice_get, slice_index, slice_index_or, slice_range, count_by, filter, find}
 use Rattle.std.specs.List.{range_with_len, list_any, prefix_len}
 use Rattle.lexical_format.specs.Digits.{is_digit_of_radix}
-use Rattle.lexical_digits.specs.declared.skip.decision.Rule.{Rule}
-use Rattle.lexical_digits.specs.declared.skip.decision.Class.{Class}
-use Rattle.lexical_digits.specs.declared.skip.decision.Class.TheVariants.{Digit, Separator, Other}
+use Rattle.lexical_digits.specs.declared.skip.rule.Rule.{Rule}
+use Rattle.lexical_digits.specs.declared.skip.rule.Class.{Class}
+use Rattle.lexical_digits.specs.declared.skip.rule.Class.TheVariants.{Digit, Separator, Other}
 
 -- ---- classes
 
@@ -19,7 +20,12 @@ is_separator separator byte = not (separator == 0) && (byte == separator)
 -- what stands outside of the buffer is other
 abbrev pub class : Rule → Option ℕ → Class
 class rule None = Other
-class rule (Some byte) = if is_digit rule byte then Digit else if is_separator rule.separator byte then Separator else Other
+class rule (Some byte) =
+    if is_digit rule byte
+    then Digit
+    else if is_separator rule.separator byte
+    then Separator
+    else Other
 
 abbrev pub is_separator_class : Class → Bool
 is_separator_class Digit = false
@@ -32,17 +38,24 @@ holds_separator rule buffer q = is_separator_class (class rule (slice_get buffer
 
 -- ---- the sides of a separator
 
--- Of the bytes that lead away from a separator, the nearest first: the first, or with the consecutive flag the first
--- that is no separator.
+-- Of the bytes that lead away from a separator, the nearest first: the first, or with the
+-- consecutive flag the first that is no separator.
 unfoldable pub neighbour : Rule → List ℕ → Option ℕ
-neighbour rule bytes = if rule.consecutive then find (λ byte. not (is_separator rule.separator byte)) bytes else slice_get bytes 0
+neighbour rule bytes =
+    if rule.consecutive
+    then find (λ byte. not (is_separator rule.separator byte)) bytes
+    else slice_get bytes 0
 
 abbrev pub right_side : Rule → List ℕ → ℕ → Class
 right_side rule buffer q = class rule (neighbour rule (drop (q + 1) buffer))
 
--- a digit where one was seen, whatever stands there; the look to the left does not stop at any start
+-- a digit where one was seen, whatever stands there; the look to the left does not stop at any
+-- start
 abbrev pub left_side : Rule → List ℕ → Bool → ℕ → Class
-left_side rule buffer digit_seen q = if digit_seen then Digit else class rule (neighbour rule (reverse (take q buffer)))
+left_side rule buffer digit_seen q =
+    if digit_seen
+    then Digit
+    else class rule (neighbour rule (reverse (take q buffer)))
 
 -- ---- roles
 
@@ -69,20 +82,25 @@ grants rule Trailing = rule.trailing
 -- ---- what is kept
 
 -- a separator is dropped exactly if one of its roles is granted
-unfoldable pub dropped : Rule → List ℕ → Bool → ℕ → Bool
-dropped rule buffer digit_seen q =
-    holds_separator rule buffer q && list_any (grants rule) (roles (left_side rule buffer digit_seen q) (right_side rule buffer q))
+unfoldable pub is_dropped : Rule → List ℕ → Bool → ℕ → Bool
+is_dropped rule buffer digit_seen q =
+    holds_separator rule buffer q
+    && list_any (grants rule)
+    (roles (left_side rule buffer digit_seen q) (right_side rule buffer q))
 
 -- the count at the start, and the digits from there up to q
-unfoldable pub seen : Rule → List ℕ → ℕ → ℕ → ℕ → ℕ
-seen rule buffer start count q = count + count_by (is_digit rule) (slice_range buffer start q)
+unfoldable pub digits_seen : Rule → List ℕ → ℕ → ℕ → ℕ → ℕ
+digits_seen rule buffer start count q =
+    count + count_by (is_digit rule) (slice_range buffer start q)
 
-unfoldable pub kept : Rule → List ℕ → ℕ → ℕ → ℕ → Bool
-kept rule buffer start count q = not (dropped rule buffer (nat_lt 0 (seen rule buffer start count q)) q)
+unfoldable pub is_kept : Rule → List ℕ → ℕ → ℕ → ℕ → Bool
+is_kept rule buffer start count q =
+    not (is_dropped rule buffer (nat_lt 0 (digits_seen rule buffer start count q)) q)
 
 -- of the positions from start to the end, the kept ones in rising order
 unfoldable pub kept_positions : Rule → List ℕ → ℕ → ℕ → List ℕ
-kept_positions rule buffer start count = filter (kept rule buffer start count) (range_with_len start (length buffer - start))
+kept_positions rule buffer start count =
+    filter (is_kept rule buffer start count) (range_with_len start (length buffer - start))
 
 -- the bytes there
 unfoldable pub drain : Rule → List ℕ → ℕ → ℕ → List ℕ
@@ -90,7 +108,8 @@ drain rule buffer start count = map (slice_index buffer) (kept_positions rule bu
 
 -- the least of them, from the cursor on, or else the length
 unfoldable pub place : Rule → List ℕ → ℕ → ℕ → ℕ
-place rule buffer cursor count = slice_index_or (kept_positions rule buffer cursor count) 0 (length buffer)
+place rule buffer cursor count =
+    slice_index_or (kept_positions rule buffer cursor count) 0 (length buffer)
 
 -- how many bytes `0` a drain begins with
 unfoldable pub zeros : Rule → List ℕ → ℕ → ℕ → ℕ
@@ -99,7 +118,8 @@ zeros rule buffer start count = prefix_len (λ byte. byte == 48) (drain rule buf
 -- the next kept position after them, or else the length
 unfoldable pub past_zeros : Rule → List ℕ → ℕ → ℕ → ℕ
 past_zeros rule buffer start count =
-    slice_index_or (kept_positions rule buffer start count) (zeros rule buffer start count) (length buffer)
+    slice_index_or (kept_positions rule buffer start count) (zeros rule buffer start count)
+    (length buffer)
 
 -- ---- what a rule grants
 
@@ -110,7 +130,8 @@ abbrev pub GrantsNone : Rule → Type 0
 GrantsNone rule = (rule.internal ≡ false) × (rule.leading ≡ false) × (rule.trailing ≡ false)
 
 abbrev pub GrantsAll : Rule → Type 0
-GrantsAll rule = (rule.internal ≡ true) × (rule.leading ≡ true) × (rule.trailing ≡ true) × (rule.consecutive ≡ true)
+GrantsAll rule = (rule.internal ≡ true) × (rule.leading ≡ true) × (rule.trailing ≡ true)
+    × (rule.consecutive ≡ true)
 
 -- the radix has digits, and no byte is both digit and separator
 pub record IsSupported (rule : Rule) : Type 0 where

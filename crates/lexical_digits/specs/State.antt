@@ -1,7 +1,7 @@
 -- The state of a `Bytes`, and what the iterator of a component knows of it.
 use Rattle.std.specs.Prelude.{ℕ, ◌+◌, ◌-◌, ◌^◌, ◌<◌, ◌≤◌, min, Bool, true, false, not, ◌&&◌, if◌then◌else◌, ◌==◌, List, length, take, IsTrue}
-use Rattle.lexical_format.specs.Word.{separator, mantissa_radix, bit, is_supported}
-use Rattle.lexical_digits.specs.declared.skip.decision.Rule.{Rule}
+use Rattle.lexical_format.specs.Word.{separator, mantissa_radix, exponent_radix, bit, is_supported}
+use Rattle.lexical_digits.specs.declared.skip.rule.Rule.{Rule}
 use Rattle.lexical_digits.specs.declared.skip.component.Component.{Component}
 use Rattle.lexical_digits.specs.declared.skip.component.Component.TheVariants.{Integer, Fraction, Exponent, Special}
 use Rattle.lexical_digits.specs.Separators.{is_digit, has_flags}
@@ -24,29 +24,43 @@ pub record IsState (s : State) : Type 0 where
   pub exponent : s.exponent < 2 ^ 64
 
 abbrev pub start : List ℕ → ℕ → State
-start buffer word = record { buffer = buffer; word = word; cursor = 0; integer = 0; fraction = 0; exponent = 0 }
+start buffer word = record {
+  buffer = buffer;
+  word = word;
+  cursor = 0;
+  integer = 0;
+  fraction = 0;
+  exponent = 0;
+}
 
 abbrev pub with_cursor : State → ℕ → State
 with_cursor s i = record s { cursor = i }
 
 -- ---- what a component grants
 
--- the four flags of a component, of which the internal one is at a place
-abbrev pub rule_at : ℕ → ℕ → Rule
-rule_at word place = record {
+-- the radix of a component's digits
+abbrev pub radix_of : ℕ → Component → ℕ
+radix_of word Integer = mantissa_radix word
+radix_of word Fraction = mantissa_radix word
+radix_of word Exponent = exponent_radix word
+radix_of word Special = mantissa_radix word
+
+-- four flags, of which the internal one is at a place, beside digits of a radix
+abbrev pub rule_at : ℕ → ℕ → ℕ → Rule
+rule_at word radix place = record {
   separator = separator word;
-  radix = mantissa_radix word;
+  radix = radix;
   internal = bit word place;
   leading = bit word (place + 3);
   trailing = bit word (place + 6);
   consecutive = bit word (place + 9);
 }
 
--- one flag that grants everything
-abbrev pub special_rule : ℕ → Rule
-special_rule word = record {
+-- one flag that grants everything, beside digits of a radix
+abbrev pub special_rule : ℕ → ℕ → Rule
+special_rule word radix = record {
   separator = separator word;
-  radix = mantissa_radix word;
+  radix = radix;
   internal = bit word 44;
   leading = bit word 44;
   trailing = bit word 44;
@@ -54,10 +68,10 @@ special_rule word = record {
 }
 
 abbrev pub rule_of : ℕ → Component → Rule
-rule_of word Integer = rule_at word 32
-rule_of word Fraction = rule_at word 33
-rule_of word Exponent = rule_at word 34
-rule_of word Special = special_rule word
+rule_of word Integer = rule_at word (radix_of word Integer) 32
+rule_of word Fraction = rule_at word (radix_of word Fraction) 33
+rule_of word Exponent = rule_at word (radix_of word Exponent) 34
+rule_of word Special = special_rule word (radix_of word Special)
 
 abbrev pub rule : Component → State → Rule
 rule k s = rule_of s.word k
@@ -100,16 +114,22 @@ counts k word = not (is_special k) && has_flags (rule_of word k)
 abbrev pub saturating : ℕ → ℕ → ℕ
 saturating m n = min (m + n) (2 ^ 64 - 1)
 
-abbrev pub raised : ℕ → ℕ
-raised count = saturating count 1
+abbrev pub one_more : ℕ → ℕ
+one_more count = saturating count 1
 
 -- the count after a byte is passed by `next`
 abbrev pub count_after : Rule → Bool → ℕ → ℕ → ℕ
-count_after rule counting byte count = if counting && is_digit rule byte then raised count else count
+count_after rule counting byte count =
+    if counting && is_digit rule byte
+    then one_more count
+    else count
 
 -- what `current_count` answers on a `Bytes`, and on the iterator of a component
 abbrev pub count_of_all : State → ℕ
-count_of_all s = if has_no_separator s.word then s.cursor else saturating (saturating s.integer s.fraction) s.exponent
+count_of_all s =
+    if has_no_separator s.word
+    then s.cursor
+    else saturating (saturating s.integer s.fraction) s.exponent
 
 abbrev pub current_count : Component → State → ℕ
 current_count k s = if is_contiguous k s.word then count_of_all s else own k s
@@ -122,4 +142,11 @@ cut_end s n = min (length s.buffer) (s.cursor + n)
 
 -- the buffer cut at an end, with the same word and cursor, and no counts
 abbrev pub cut : State → ℕ → State
-cut s end = record { buffer = take end s.buffer; word = s.word; cursor = s.cursor; integer = 0; fraction = 0; exponent = 0 }
+cut s end = record {
+  buffer = take end s.buffer;
+  word = s.word;
+  cursor = s.cursor;
+  integer = 0;
+  fraction = 0;
+  exponent = 0;
+}

@@ -1,15 +1,20 @@
-//! The traits of iterators that share one cursor, and the calls that each implementer has by them.
+//! The traits of iterators that share one cursor. The calls that each implementer has by them are
+//! in
+//! `bodies`.
 
-ghost use Rattle.std.specs.Prelude.{◌≡◌, ℤ, pos, ◌≤ℤ◌, ◌+ℤ◌, ◌*◌, ℕ, ◌+◌, ◌<◌, ◌≤◌, List, length, drop, slice_get, option_copied, Option, Bool, IsTrue, ◌↔◌, if◌then◌else◌, ◌==◌, is_some};
+ghost use Rattle.std.specs.Prelude.{◌≡◌, ⊤, ℤ, pos, ◌≤ℤ◌, ◌+ℤ◌, ℕ, ◌+◌, ◌<◌, ◌≤◌, List, length, slice_get, option_copied, Option, Bool, if◌then◌else◌};
 ghost use Rattle.std.specs.Borrow.{Bor};
-ghost use Rattle.std.specs.Int.{w32, w64};
-ghost use Rattle.std.specs.Char.{eq_ignore_ascii_case};
-ghost use Rattle.lexical_digits.specs.Cursor.{IterLaws, DigitLaws, CanStep, ReadsIf, passes, byte_if, is_value, next_number, zeros, after_zeros};
+ghost use Rattle.lexical_digits.specs.Cursor.{IterLaws, DigitLaws, CanStep};
 
+mod bodies;
+
+pub use self::bodies::{DigitsBodies, IterBodies};
 pub use crate::skip::{AsBytes, Bytes};
 
 /// A cursor over a buffer of bytes: `Iter` of lexical-util's `iterator.rs`. Positions count bytes
-/// from 0, and the cursor is at most the length of the buffer. Further calls: [`IterBodies`].
+/// from 0, and the cursor is at most the length of the buffer. Of counts that a value stores the
+/// laws say nothing; the types of [`skip`](crate::skip) change them by `next`, `increment_count`
+/// and `skip_zeros` alone. Further calls: [`IterBodies`].
 pub trait Iter<'a> {
     /// What a value means: a plain value, of which every contract speaks.
     type Meaning;
@@ -28,6 +33,9 @@ pub trait Iter<'a> {
 
     // What a value owes for the looks of its reads: 0 throughout where nobody counts them.
     ghost owed: { Self → ℤ } = { λ _. pos 0 };
+
+    // What holds, beside the meanings, from before a call that looks at no byte to after it.
+    ghost Unread: { Self → Self → Type 0 } = { λ _ _. ⊤ };
 
     // The whole buffer.
     ghost buffer: { Self.Meaning → List ℕ };
@@ -56,11 +64,12 @@ pub trait Iter<'a> {
         ensures value { result ≡ cursor (meaning self.now) }
         ensures below_max { result < usize.MAX };
 
-    /// Moves the cursor to `index`, forwards or back. Stored counts stay. Asks that `index` is at
-    /// most the length of the buffer.
+    /// Moves the cursor to `index`, forwards or back. Asks that `index` is at most the length of
+    /// the buffer.
     fn set_cursor(&mut self, index: usize)
         requires { index ≤ length (buffer (meaning self.old)) }
         ensures moves { meaning self.new ≡ moved (meaning self.old) index }
+        ensures unread { Unread self.old self.new }
         ensures owes { cursor (meaning self.old) ≤ index → owed self.new ≤ℤ owed self.old }
         ensures keeps_loan { loan self.new ≡ loan self.old };
 
@@ -74,152 +83,20 @@ pub trait Iter<'a> {
     fn is_contiguous(&self) -> bool
         ensures { result ≡ contiguous (meaning self.now) };
 
-    /// Moves the cursor `count` bytes on. Stored counts stay. Asks that so many bytes are left; and
-    /// unless the value is contiguous, that `count` is at most 1 and the byte gone over is no
-    /// separator. Unsafe in lexical-util; here every caller proves what it asks.
+    /// Moves the cursor `count` bytes on. Asks that so many bytes are left; and unless the value is
+    /// contiguous, that `count` is at most 1 and the byte gone over is no separator. Unsafe in
+    /// lexical-util; here every caller proves what it asks.
     fn step_by_unchecked(&mut self, count: usize)
         requires { let m = meaning self.old in
             CanStep (buffer m) (cursor m) (contiguous m) (separates m) count }
         ensures moves { let m = meaning self.old in meaning self.new ≡ moved m (cursor m + count) }
+        ensures unread { Unread self.old self.new }
         ensures owes { owed self.new ≤ℤ owed self.old }
         ensures keeps_loan { loan self.new ≡ loan self.old };
 
     ghost valid_now: { (s : Self) → valid (meaning s) };
 
     ghost laws: { IterLaws valid buffer cursor contiguous separates moved };
-}
-
-/// The default bodies of lexical-util's `Iter`: one implementation, for every implementer. A caller
-/// imports both traits.
-pub trait IterBodies<'a>: Iter<'a> {
-    /// The bytes from the cursor on.
-    fn as_slice(&self) -> &'a [u8]
-        ensures { let m = Self.meaning self.now in
-            result.now ≡ drop (Self.cursor m) (Self.buffer m) };
-
-    /// The length of the whole buffer.
-    fn buffer_length(&self) -> usize
-        ensures { result ≡ length (Self.buffer (Self.meaning self.now)) };
-
-    /// Whether the cursor is at the end. Passes nothing over: see [`DigitsBodies::is_consumed`].
-    fn is_buffer_empty(&self) -> bool
-        ensures { let m = Self.meaning self.now in
-            IsTrue result ↔ (Self.cursor m ≡ length (Self.buffer m)) };
-
-    /// The byte at the cursor, or `None` at the end. Passes nothing over.
-    fn first(&self) -> Option<&'a u8>
-        ensures { let m = Self.meaning self.now in
-            option_copied result ≡ slice_get (Self.buffer m) (Self.cursor m) };
-
-    /// Whether the byte at the cursor is `value`; `false` at the end.
-    fn first_is_cased(&self, value: u8) -> bool
-        ensures { let m = Self.meaning self.now in
-            let byte = slice_get (Self.buffer m) (Self.cursor m) in
-            result ≡ passes (λ b. b == value) byte };
-
-    /// Whether the byte at the cursor is `value` by `eq_ignore_ascii_case`; `false` at the end.
-    fn first_is_uncased(&self, value: u8) -> bool
-        ensures { let m = Self.meaning self.now in
-            let byte = slice_get (Self.buffer m) (Self.cursor m) in
-            result ≡ passes (λ b. eq_ignore_ascii_case b value) byte };
-
-    /// [`first_is_cased`](Self::first_is_cased) if `is_cased`, else
-    /// [`first_is_uncased`](Self::first_is_uncased).
-    fn first_is(&self, value: u8, is_cased: bool) -> bool
-        ensures { let m = Self.meaning self.now in
-            let byte = slice_get (Self.buffer m) (Self.cursor m) in
-            result ≡ passes (is_value value is_cased) byte };
-
-    /// The four bytes from the cursor on as a number, the first byte lowest on every machine.
-    /// `None` if fewer are left, or the value is not contiguous.
-    fn peek_u32(&self) -> Option<u32>
-        ensures { let m = Self.meaning self.now in
-            result ≡ next_number w32 (Self.contiguous m) (drop (Self.cursor m) (Self.buffer m)) };
-
-    /// The eight bytes from the cursor on as a number, the first byte lowest on every machine.
-    /// `None` if fewer are left, or the value is not contiguous.
-    fn peek_u64(&self) -> Option<u64>
-        ensures { let m = Self.meaning self.now in
-            result ≡ next_number w64 (Self.contiguous m) (drop (Self.cursor m) (Self.buffer m)) };
-
-    /// Moves the cursor one byte on. Stored counts stay. Asks that a byte is left; and unless the
-    /// value is contiguous, that it is no separator.
-    fn step_unchecked(&mut self)
-        requires { let m = Self.meaning self.old in
-            CanStep (Self.buffer m) (Self.cursor m) (Self.contiguous m) (Self.separates m) 1 }
-        ensures moves { let m = Self.meaning self.old in
-            Self.meaning self.new ≡ Self.moved m (Self.cursor m + 1) }
-        ensures owes { Self.owed self.new ≤ℤ Self.owed self.old }
-        ensures keeps_loan { Self.loan self.new ≡ Self.loan self.old };
-}
-
-impl<'a, I: Iter<'a>> IterBodies<'a> for I {
-    fn as_slice(&self) -> &'a [u8] {
-        let from = self.cursor();
-        &self.get_buffer()[from..]
-    }
-
-    fn buffer_length(&self) -> usize {
-        self.get_buffer().len()
-    }
-
-    fn is_buffer_empty(&self) -> bool {
-        self.cursor() == self.buffer_length()
-    }
-
-    fn first(&self) -> Option<&'a u8> {
-        self.get_buffer().get(self.cursor())
-    }
-
-    fn first_is_cased(&self, value: u8) -> bool {
-        match self.first() {
-            Some(byte) => *byte == value,
-            None => false,
-        }
-    }
-
-    fn first_is_uncased(&self, value: u8) -> bool {
-        match self.first() {
-            Some(byte) => byte.eq_ignore_ascii_case(&value),
-            None => false,
-        }
-    }
-
-    fn first_is(&self, value: u8, is_cased: bool) -> bool {
-        if is_cased {
-            self.first_is_cased(value)
-        } else {
-            self.first_is_uncased(value)
-        }
-    }
-
-    fn peek_u32(&self) -> Option<u32> {
-        if !self.is_contiguous() {
-            return None;
-        }
-        let rest = self.as_slice();
-        if rest.len() < 4 {
-            return None;
-        }
-        Some(u32::from_le_bytes([rest[0], rest[1], rest[2], rest[3]]))
-    }
-
-    fn peek_u64(&self) -> Option<u64> {
-        if !self.is_contiguous() {
-            return None;
-        }
-        let rest = self.as_slice();
-        if rest.len() < 8 {
-            return None;
-        }
-        Some(u64::from_le_bytes([
-            rest[0], rest[1], rest[2], rest[3], rest[4], rest[5], rest[6], rest[7],
-        ]))
-    }
-
-    fn step_unchecked(&mut self) {
-        self.step_by_unchecked(1);
-    }
 }
 
 /// An iterator over the bytes that are kept: `DigitsIter` of lexical-util's `iterator.rs`. The
@@ -244,11 +121,11 @@ pub trait DigitsIter<'a>: Iterator<Item = &'a u8> + Iter<'a> {
     /// Counts one digit more, where this value has a stored count of its own. The cursor stays.
     fn increment_count(&mut self)
         ensures counts { Self.meaning self.new ≡ counted (Self.meaning self.old) }
+        ensures unread { Self.Unread self.old self.new }
         ensures owes { Self.owed self.new ≤ℤ Self.owed self.old }
         ensures keeps_loan { Self.loan self.new ≡ Self.loan self.old };
 
-    /// The byte at the place, or `None` at the end. The cursor ends at the place. Stored counts
-    /// stay.
+    /// The byte at the place, or `None` at the end. The cursor ends at the place.
     fn peek(&mut self) -> Option<&'a u8>
         ensures byte { let m = Self.meaning self.old in
             option_copied result ≡ slice_get (Self.buffer m) (place m) }
@@ -278,195 +155,4 @@ pub trait DigitsIter<'a>: Iterator<Item = &'a u8> + Iter<'a> {
 
     ghost digit_laws: { DigitLaws Self.valid Self.buffer Self.cursor Self.current_count
         Self.contiguous Self.separates Self.moved place digit settled counted taken };
-}
-
-/// The default bodies of lexical-util's `DigitsIter`: one implementation, for every implementer,
-/// made of `cursor`, `peek`, `set_cursor` and `increment_count` alone. A caller imports both
-/// traits.
-pub trait DigitsBodies<'a>: DigitsIter<'a> {
-    /// Whether no byte is left to be taken. The cursor ends at the place. Stored counts stay.
-    fn is_consumed(&mut self) -> bool
-        ensures answers { let m = Self.meaning self.old in
-            IsTrue result ↔ (Self.place m ≡ length (Self.buffer m)) }
-        ensures settles { Self.meaning self.new ≡ Self.settled (Self.meaning self.old) }
-        ensures owes { Self.owed self.new ≤ℤ (Self.owed self.old +ℤ pos 4) }
-        ensures keeps_loan { Self.loan self.new ≡ Self.loan self.old };
-
-    /// The byte at the place, or `None` at the end. The cursor ends one past the place, or at the
-    /// end. Stored counts stay, also where the byte is a digit.
-    fn try_read(&mut self) -> Option<&'a u8>
-        ensures byte { let m = Self.meaning self.old in
-            option_copied result ≡ slice_get (Self.buffer m) (Self.place m) }
-        ensures reads { let m = Self.meaning self.old in
-            let byte = slice_get (Self.buffer m) (Self.place m) in
-            Self.meaning self.new ≡ if is_some byte
-            then Self.moved (Self.settled m) (Self.place m + 1) else Self.settled m }
-        ensures owes { Self.owed self.new ≤ℤ (Self.owed self.old +ℤ pos 4) }
-        ensures keeps_loan { Self.loan self.new ≡ Self.loan self.old };
-
-    /// Whether the byte at the place is `value`; `false` at the end. The cursor ends at the place.
-    /// Stored counts stay.
-    fn peek_is_cased(&mut self, value: u8) -> bool
-        ensures answers { let m = Self.meaning self.old in
-            let byte = slice_get (Self.buffer m) (Self.place m) in
-            result ≡ passes (λ b. b == value) byte }
-        ensures settles { Self.meaning self.new ≡ Self.settled (Self.meaning self.old) }
-        ensures owes { Self.owed self.new ≤ℤ (Self.owed self.old +ℤ pos 4) }
-        ensures keeps_loan { Self.loan self.new ≡ Self.loan self.old };
-
-    /// Whether the byte at the place is `value` by `eq_ignore_ascii_case`; `false` at the end. The
-    /// cursor ends at the place. Stored counts stay.
-    fn peek_is_uncased(&mut self, value: u8) -> bool
-        ensures answers { let m = Self.meaning self.old in
-            let byte = slice_get (Self.buffer m) (Self.place m) in
-            result ≡ passes (λ b. eq_ignore_ascii_case b value) byte }
-        ensures settles { Self.meaning self.new ≡ Self.settled (Self.meaning self.old) }
-        ensures owes { Self.owed self.new ≤ℤ (Self.owed self.old +ℤ pos 4) }
-        ensures keeps_loan { Self.loan self.new ≡ Self.loan self.old };
-
-    /// [`peek_is_cased`](Self::peek_is_cased) if `is_cased`, else
-    /// [`peek_is_uncased`](Self::peek_is_uncased).
-    fn peek_is(&mut self, value: u8, is_cased: bool) -> bool
-        ensures answers { let m = Self.meaning self.old in
-            let byte = slice_get (Self.buffer m) (Self.place m) in
-            result ≡ passes (is_value value is_cased) byte }
-        ensures settles { Self.meaning self.new ≡ Self.settled (Self.meaning self.old) }
-        ensures owes { Self.owed self.new ≤ℤ (Self.owed self.old +ℤ pos 4) }
-        ensures keeps_loan { Self.loan self.new ≡ Self.loan self.old };
-
-    /// The byte at the place if `pred` answers `true` for it. The cursor ends one past the place if
-    /// so, else at the place: a byte that was refused is the next one again. `pred` is called once,
-    /// on the byte at the place, and at the end not at all. Stored counts stay. Asks that `pred`
-    /// may be called on every byte.
-    fn read_if<Pred: FnOnce(u8) -> bool + Drop>(&mut self, pred: Pred) -> Option<u8>
-        requires { (b : ℕ) → b < 256 → Pred.pre pred b }
-        ensures reads { let m = Self.meaning self.old in
-            let byte = slice_get (Self.buffer m) (Self.place m) in
-            let past = Self.moved (Self.settled m) (Self.place m + 1) in
-            ReadsIf (Pred.post pred) byte (Self.settled m) past result (Self.meaning self.new) }
-        ensures owes { Self.owed self.new ≤ℤ (Self.owed self.old +ℤ pos 4) }
-        ensures keeps_loan { Self.loan self.new ≡ Self.loan self.old };
-
-    /// [`read_if`](Self::read_if) the byte is `value`: answers `value`.
-    fn read_if_value_cased(&mut self, value: u8) -> Option<u8>
-        ensures answers { let m = Self.meaning self.old in
-            let byte = slice_get (Self.buffer m) (Self.place m) in
-            result ≡ byte_if (λ b. b == value) byte }
-        ensures reads { let m = Self.meaning self.old in
-            let byte = slice_get (Self.buffer m) (Self.place m) in
-            Self.meaning self.new ≡ if passes (λ b. b == value) byte
-            then Self.moved (Self.settled m) (Self.place m + 1) else Self.settled m }
-        ensures owes { Self.owed self.new ≤ℤ (Self.owed self.old +ℤ pos 4) }
-        ensures keeps_loan { Self.loan self.new ≡ Self.loan self.old };
-
-    /// [`read_if`](Self::read_if) the byte is `value` by `eq_ignore_ascii_case`: answers the byte
-    /// as it stands.
-    fn read_if_value_uncased(&mut self, value: u8) -> Option<u8>
-        ensures answers { let m = Self.meaning self.old in
-            let byte = slice_get (Self.buffer m) (Self.place m) in
-            result ≡ byte_if (λ b. eq_ignore_ascii_case b value) byte }
-        ensures reads { let m = Self.meaning self.old in
-            let byte = slice_get (Self.buffer m) (Self.place m) in
-            Self.meaning self.new ≡ if passes (λ b. eq_ignore_ascii_case b value) byte
-            then Self.moved (Self.settled m) (Self.place m + 1) else Self.settled m }
-        ensures owes { Self.owed self.new ≤ℤ (Self.owed self.old +ℤ pos 4) }
-        ensures keeps_loan { Self.loan self.new ≡ Self.loan self.old };
-
-    /// [`read_if_value_cased`](Self::read_if_value_cased) if `is_cased`, else
-    /// [`read_if_value_uncased`](Self::read_if_value_uncased).
-    fn read_if_value(&mut self, value: u8, is_cased: bool) -> Option<u8>
-        ensures answers { let m = Self.meaning self.old in
-            let byte = slice_get (Self.buffer m) (Self.place m) in
-            result ≡ byte_if (is_value value is_cased) byte }
-        ensures reads { let m = Self.meaning self.old in
-            let byte = slice_get (Self.buffer m) (Self.place m) in
-            Self.meaning self.new ≡ if passes (is_value value is_cased) byte
-            then Self.moved (Self.settled m) (Self.place m + 1) else Self.settled m }
-        ensures owes { Self.owed self.new ≤ℤ (Self.owed self.old +ℤ pos 4) }
-        ensures keeps_loan { Self.loan self.new ≡ Self.loan self.old };
-
-    /// Reads bytes `0` as long as one stands at the place, and answers how many. The cursor ends at
-    /// the next kept byte after them, or at the end. Each zero is counted as it is read, by
-    /// `increment_count`.
-    fn skip_zeros(&mut self) -> usize
-        ensures answers { let m = Self.meaning self.old in
-            result ≡
-            zeros Self.buffer Self.cursor Self.place Self.moved Self.settled Self.counted m }
-        ensures reads { let m = Self.meaning self.old in
-            Self.meaning self.new ≡
-            after_zeros Self.buffer Self.cursor Self.place Self.moved Self.settled Self.counted m }
-        ensures owes { Self.owed self.new ≤ℤ (Self.owed self.old +ℤ pos (4 * (result + 1))) }
-        ensures keeps_loan { Self.loan self.new ≡ Self.loan self.old };
-}
-
-impl<'a, I: DigitsIter<'a>> DigitsBodies<'a> for I {
-    fn is_consumed(&mut self) -> bool {
-        self.peek().is_none()
-    }
-
-    fn try_read(&mut self) -> Option<&'a u8> {
-        let byte = self.peek()?;
-        let at = self.cursor();
-        self.set_cursor(at + 1);
-        Some(byte)
-    }
-
-    fn peek_is_cased(&mut self, value: u8) -> bool {
-        match self.peek() {
-            Some(byte) => *byte == value,
-            None => false,
-        }
-    }
-
-    fn peek_is_uncased(&mut self, value: u8) -> bool {
-        match self.peek() {
-            Some(byte) => byte.eq_ignore_ascii_case(&value),
-            None => false,
-        }
-    }
-
-    fn peek_is(&mut self, value: u8, is_cased: bool) -> bool {
-        if is_cased {
-            self.peek_is_cased(value)
-        } else {
-            self.peek_is_uncased(value)
-        }
-    }
-
-    fn read_if<Pred: FnOnce(u8) -> bool + Drop>(&mut self, pred: Pred) -> Option<u8> {
-        let byte = *self.peek()?;
-        if !pred(byte) {
-            return None;
-        }
-        let at = self.cursor();
-        self.set_cursor(at + 1);
-        Some(byte)
-    }
-
-    fn read_if_value_cased(&mut self, value: u8) -> Option<u8> {
-        self.read_if(|byte| byte == value)
-    }
-
-    fn read_if_value_uncased(&mut self, value: u8) -> Option<u8> {
-        self.read_if(|byte| byte.eq_ignore_ascii_case(&value))
-    }
-
-    fn read_if_value(&mut self, value: u8, is_cased: bool) -> Option<u8> {
-        if is_cased {
-            self.read_if_value_cased(value)
-        } else {
-            self.read_if_value_uncased(value)
-        }
-    }
-
-    fn skip_zeros(&mut self) -> usize {
-        let mut zeros = 0;
-        while self.peek_is_cased(b'0') {
-            let at = self.cursor();
-            self.set_cursor(at + 1);
-            self.increment_count();
-            zeros += 1;
-        }
-        zeros
-    }
 }

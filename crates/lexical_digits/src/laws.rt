@@ -1,19 +1,26 @@
 //! Laws, each the contract of a function.
 
-ghost use Rattle.std.specs.Prelude.{◌≡◌, ℕ, ◌+◌, ◌<◌, ◌≤◌, List, length, drop, filter, count_by, map, pos, ◌≤ℤ◌, ◌+ℤ◌, slice_get, option_copied, All, IfSome, IfNone, Some, None, [], ◌∷◌, if◌then◌else◌, true, false, not, IsTrue};
+ghost use Rattle.std.specs.Prelude.{◌≡◌, ℕ, ◌+◌, ◌^◌, ◌<◌, ◌≤◌, length, drop, filter, count_by, map, pos, ◌≤ℤ◌, ◌+ℤ◌, slice_get, option_copied, IfSome, IfNone, Some, None, [], ◌∷◌, if◌then◌else◌, true, false, not, IsTrue, is_some};
 ghost use Rattle.std.specs.Option.{option_map_or};
-ghost use Rattle.lexical_format.specs.Word.{separator, mantissa_radix, bit, is_supported};
-ghost use Rattle.lexical_digits.specs.Separators.{is_digit, is_separator, drain, kept, GrantsNone, GrantsAtLeast, IsSupported};
-ghost use Rattle.lexical_digits.specs.State.{State, IsState, with_cursor, rule, rule_of, own, with_own, counts, saturating};
-ghost use Rattle.lexical_digits.specs.CallTable.{place_of, settled, counted, taken, drain_of, drained, zeros_of, past_zeros_of, ChangesOwn, run_of, On, Peek, Next, IncrementCount, TryRead, SkipZeros};
-ghost use Rattle.lexical_digits.specs.Cursor.{ReadsIf, items, at_zero, past_zero, zeros, after_zeros};
+ghost use Rattle.std.specs.Iterator.{IsFinite};
+ghost use Rattle.lexical_format.specs.Word.{separator, mantissa_radix, exponent_radix, bit, is_supported};
+ghost use Rattle.lexical_digits.specs.Separators.{is_digit, is_separator, drain, is_kept, GrantsNone, GrantsAtLeast};
+ghost use Rattle.lexical_digits.specs.State.{State, IsState, with_cursor, rule, radix_of, rule_of, own, counts, saturating};
+ghost use Rattle.lexical_digits.specs.CallTable.{place_of, settled, counted, taken, drain_of, after_drain, zeros_of, past_zeros_of, ChangesOwn, run_of, On, Peek, Next, IncrementCount, TryRead, SkipZeros};
+ghost use Rattle.lexical_digits.specs.Iterators.{items_in, after_items_in, zeros_in, after_zeros_in};
+ghost use Rattle.lexical_digits.specs.Cursor.{ReadsIf, items, after_items, at_zero, past_zero, zeros, after_zeros};
+ghost use Rattle.lexical_digits.specs.CallTable.{Part, Call, row_of};
+ghost use Rattle.lexical_digits.specs.MantissaRadix.{mantissa_is_supported, mantissa_rule_of, row_on, run_on};
+ghost use Rattle.std.specs.Prelude.{List};
 ghost use Rattle.lexical_digits.specs.declared.skip.component.Component.{Component};
 ghost use Rattle.lexical_digits.specs.declared.skip.component.Component.TheVariants as components;
 
 use crate::iterator::{DigitsBodies, DigitsIter};
 pub use crate::skip::Component;
-use crate::skip::{Bytes, Digits, ExponentKind, FractionKind, IntegerKind, Kind, SpecialKind};
-use std::marker::PhantomData;
+use crate::skip::{
+    Bytes, ExponentDigitsIterator, FractionDigitsIterator, IntegerDigitsIterator,
+    SpecialDigitsIterator,
+};
 
 /// Peeks twice, and answers both bytes: the second `peek` answers what the first did, and leaves
 /// what that left.
@@ -47,12 +54,13 @@ pub fn next_after_peek<'a, I: DigitsIter<'a>>(iter: &mut I) -> (Option<&'a u8>, 
 
 /// Reads the next byte if `pred` answers `true` for it, and else peeks. Answers both bytes, the
 /// second `None` where the first is `Some`: a byte that `pred` refuses is the next one again. Asks
-/// that `pred` may be called on every byte.
+/// that `pred` may be called on the byte at the place, if there is one.
 pub fn read_if_none<'a, I: DigitsIter<'a>, Pred: FnOnce(u8) -> bool + Drop>(
     iter: &mut I,
     pred: Pred,
 ) -> (Option<u8>, Option<&'a u8>)
-    requires { (b : ℕ) → b < 256 → Pred.pre pred b }
+    requires { let m = I.meaning iter.old in
+        IfSome (slice_get (I.buffer m) (I.place m)) (λ b. b < 256 → Pred.pre pred b) }
     ensures read { let m = I.meaning iter.old in
         IfSome result.0 (λ b. (slice_get (I.buffer m) (I.place m) ≡ Some b) × (result.1 ≡ None)) }
     ensures not_read { let m = I.meaning iter.old in
@@ -73,13 +81,18 @@ pub fn read_if_none<'a, I: DigitsIter<'a>, Pred: FnOnce(u8) -> bool + Drop>(
     }
 }
 
-/// The items of an iterator: none at the end, else the byte at the place, and then the items of
-/// what `next` leaves.
+/// The items of an iterator, and what they leave: none at the end, else the byte at the place, and
+/// then the items of what `next` leaves. They leave what that `next` leaves which answers `None`.
 pub fn items_unroll<'a, I: DigitsIter<'a>>(iter: &I)
-    ensures { let m = I.meaning iter.now in
+    ensures items { let m = I.meaning iter.now in
         let byte = slice_get (I.buffer m) (I.place m) in
         let rest = items I.buffer I.cursor I.place I.taken (I.taken m) in
         items I.buffer I.cursor I.place I.taken m ≡ option_map_or (λ b. b ∷ rest) byte [] }
+    ensures leaves { let m = I.meaning iter.now in
+        after_items I.buffer I.cursor I.place I.taken m ≡
+        if is_some (slice_get (I.buffer m) (I.place m))
+        then after_items I.buffer I.cursor I.place I.taken (I.taken m)
+        else I.taken m }
 {}
 
 /// The zeros that `skip_zeros` reads, and what it leaves: none unless the byte at the place is `0`,
@@ -100,23 +113,31 @@ pub fn zeros_unroll<'a, I: DigitsIter<'a>>(iter: &I)
 {}
 
 /// The items of the iterator of a component, the bytes that `next` answers until `None`, are the
-/// drain: the filter over the whole buffer. The zeros that `skip_zeros` reads are those that the
-/// drain begins with, and it leaves the cursor at the next kept byte behind them.
+/// drain: the filter over the whole buffer. They leave the cursor at the end, and the digits among
+/// them counted. The zeros that `skip_zeros` reads are those that the drain begins with, and it
+/// leaves the cursor at the next kept byte behind them.
 pub fn items_are_drain()
     ensures items { (k : Component) (s : State) → IsState s →
-        items (λ (m : State). m.buffer) (λ m. m.cursor) (place_of k) (taken k) s ≡ drain_of k s }
+        items_in k s ≡ drain_of k s }
+    ensures leaves { (k : Component) (s : State) → IsState s →
+        after_items_in k s ≡ after_drain k s }
     ensures zeros { (k : Component) (s : State) → IsState s →
-        zeros (λ (m : State). m.buffer) (λ m. m.cursor) (place_of k) with_cursor (settled k) (counted k) s ≡ zeros_of k s }
+        zeros_in k s ≡ zeros_of k s }
     ensures past_zeros { (k : Component) (s : State) → IsState s →
-        after_zeros (λ (m : State). m.buffer) (λ m. m.cursor) (place_of k) with_cursor (settled k) (counted k) s ≡ past_zeros_of k s }
+        after_zeros_in k s ≡ past_zeros_of k s }
 {}
 
-/// Drains the iterator that a marker names, and answers how many bytes it yielded.
-fn drain_kind<K: Kind>(bytes: &mut Bytes, kind: PhantomData<K>) -> usize
-    ensures yielded { result ≡ length (drain_of K.kind bytes.old.state) }
-    ensures state { bytes.new.state ≡ drained K.kind bytes.old.state }
+/// Drains an iterator by `next`, and answers how many bytes it yielded.
+fn drain_items<'a, I: DigitsIter<'a>>(iter: &mut I) -> usize
+    requires ends { IsFinite (I.remaining iter.old) }
+    requires fits { let m = I.meaning iter.old in
+        length (items I.buffer I.cursor I.place I.taken m) < 2 ^ 64 }
+    ensures yielded { let m = I.meaning iter.old in
+        result ≡ length (items I.buffer I.cursor I.place I.taken m) }
+    ensures leaves { let m = I.meaning iter.old in
+        I.meaning iter.new ≡ after_items I.buffer I.cursor I.place I.taken m }
+    ensures keeps_loan { I.loan iter.new ≡ I.loan iter.old }
 {
-    let mut iter = Digits { byte: bytes, kind };
     let mut items = 0;
     while let Some(_byte) = iter.next() {
         items += 1;
@@ -125,55 +146,59 @@ fn drain_kind<K: Kind>(bytes: &mut Bytes, kind: PhantomData<K>) -> usize
 }
 
 /// Drains the iterator of a component, and answers how many bytes it yielded.
+#[tactic(auto, using(crate::proofs::Calls::ItemsOfComponents::items_count, crate::proofs::Calls::ItemsOfComponents::items_leave))]
 fn drain(bytes: &mut Bytes, component: Component) -> usize
     ensures yielded { result ≡ length (drain_of component bytes.old.state) }
-    ensures state { bytes.new.state ≡ drained component bytes.old.state }
+    ensures state { bytes.new.state ≡ after_drain component bytes.old.state }
 {
     match component {
-        Component::Integer => drain_kind(bytes, PhantomData::<IntegerKind>),
-        Component::Fraction => drain_kind(bytes, PhantomData::<FractionKind>),
-        Component::Exponent => drain_kind(bytes, PhantomData::<ExponentKind>),
-        Component::Special => drain_kind(bytes, PhantomData::<SpecialKind>),
+        Component::Integer => drain_items(&mut IntegerDigitsIterator { byte: bytes }),
+        Component::Fraction => drain_items(&mut FractionDigitsIterator { byte: bytes }),
+        Component::Exponent => drain_items(&mut ExponentDigitsIterator { byte: bytes }),
+        Component::Special => drain_items(&mut SpecialDigitsIterator { byte: bytes }),
     }
 }
 
 /// Drains the iterator of a component by `next`, and answers how many bytes it yielded. An iterator
 /// that counts then has the digits among them on its count, which stops at `usize::MAX`.
-#[tactic(auto, using(crate::proofs::Shares::drain_is_counted))]
+#[tactic(auto, using(crate::proofs::Calls::Shares::drain_is_counted))]
 pub fn drain_counts(bytes: &mut Bytes, component: Component) -> usize
     ensures yielded { result ≡ length (drain_of component bytes.old.state) }
-    ensures state { bytes.new.state ≡ drained component bytes.old.state }
+    ensures state { bytes.new.state ≡ after_drain component bytes.old.state }
     ensures counts { let s = bytes.old.state in counts component s.word ≡ true →
-        own component bytes.new.state ≡ saturating (own component s) (count_by (is_digit (rule component s)) (drain_of component s)) }
+        let digits = count_by (is_digit (rule component s)) (drain_of component s) in
+        own component bytes.new.state ≡ saturating (own component s) digits }
 {
     drain(bytes, component)
 }
 
 /// Drains the iterator of a component by `next`, and answers how many bytes it yielded. Without the
 /// internal, leading and trailing flags these are all the bytes from the cursor on.
-#[tactic(auto, using(crate::proofs::Grants::drain_if_none))]
+#[tactic(auto, using(crate::specs::Laws::Place::drain_if_none))]
 pub fn ungranted_keeps_all(bytes: &mut Bytes, component: Component) -> usize
     ensures yielded { result ≡ length (drain_of component bytes.old.state) }
-    ensures state { bytes.new.state ≡ drained component bytes.old.state }
-    ensures keeps_all { let s = bytes.old.state in GrantsNone (rule component s) → drain_of component s ≡ drop s.cursor s.buffer }
+    ensures state { bytes.new.state ≡ after_drain component bytes.old.state }
+    ensures keeps_all { let s = bytes.old.state in
+        GrantsNone (rule component s) → drain_of component s ≡ drop s.cursor s.buffer }
 {
     drain(bytes, component)
 }
 
 /// Drains the special iterator by `next`, and answers how many bytes it yielded. With the special
 /// flag these are the bytes from the cursor on that are no separators.
-#[tactic(auto, using(crate::proofs::Shares::special_drains))]
+#[tactic(auto, using(crate::proofs::Calls::Shares::special_drains))]
 pub fn special_drops_all(bytes: &mut Bytes) -> usize
     ensures yielded { result ≡ length (drain_of components.Special bytes.old.state) }
-    ensures state { bytes.new.state ≡ drained components.Special bytes.old.state }
+    ensures state { bytes.new.state ≡ after_drain components.Special bytes.old.state }
     ensures drops_all { let s = bytes.old.state in bit s.word 44 ≡ true →
-        drain_of components.Special s ≡ filter (λ b. not (is_separator (separator s.word) b)) (drop s.cursor s.buffer) }
+        drain_of components.Special s ≡
+        filter (λ b. not (is_separator (separator s.word) b)) (drop s.cursor s.buffer) }
 {
     drain(bytes, Component::Special)
 }
 
 /// The digits of a drain are the same for all flags of one separator and radix.
-#[tactic(auto, using(crate::proofs::Shares::digits_same))]
+#[tactic(auto, using(crate::proofs::Calls::Shares::digits_same))]
 pub fn digits_agree(
     buffer: &[u8],
     one: u128,
@@ -182,15 +207,16 @@ pub fn digits_agree(
     start: usize,
     count: usize,
 )
-    requires separator { separator one ≡ separator other }
-    requires radix { mantissa_radix one ≡ mantissa_radix other }
     ensures { let p = is_digit (rule_of one component) in
-        filter p (drain (rule_of one component) buffer.now start count) ≡ filter p (drain (rule_of other component) buffer.now start count) }
+        separator one ≡ separator other →
+        radix_of one component ≡ radix_of other component →
+        filter p (drain (rule_of one component) buffer.now start count) ≡
+        filter p (drain (rule_of other component) buffer.now start count) }
 {}
 
 /// A word that grants at least what another grants drops at least what that drops, from the same
 /// cursor and count.
-#[tactic(auto, using(crate::proofs::Shares::dropped_by_more))]
+#[tactic(auto, using(crate::proofs::Calls::Shares::dropped_by_more))]
 pub fn grants_monotone(
     buffer: &[u8],
     lesser: u128,
@@ -200,19 +226,21 @@ pub fn grants_monotone(
     count: usize,
     position: usize,
 )
-    requires supported { IsTrue (is_supported lesser) }
-    requires ordered { GrantsAtLeast (rule_of lesser component) (rule_of greater component) }
-    ensures { kept (rule_of lesser component) buffer.now start count position ≡ false →
-        kept (rule_of greater component) buffer.now start count position ≡ false }
+    ensures { IsTrue (is_supported lesser) →
+        GrantsAtLeast (rule_of lesser component) (rule_of greater component) →
+        is_kept (rule_of lesser component) buffer.now start count position ≡ false →
+        is_kept (rule_of greater component) buffer.now start count position ≡ false }
 {}
 
-/// Makes one `peek`, one `next`, one `increment_count`, one `try_read` and one `skip_zeros` on the
-/// iterator that a marker names.
-fn call_each<K: Kind>(bytes: &mut Bytes, kind: PhantomData<K>)
-    ensures own_count { ChangesOwn K.kind bytes.old.state bytes.new.state }
-    ensures state { bytes.new.state ≡ (run_of bytes.old.state (map (λ call. (On K.kind, call)) (Peek ∷ Next ∷ IncrementCount ∷ TryRead ∷ SkipZeros ∷ []))).state }
+/// Makes one `peek`, one `next`, one `increment_count`, one `try_read` and one `skip_zeros`.
+fn call_each<'a, I: DigitsIter<'a>>(iter: &mut I)
+    ensures reads { let m = I.counted (I.taken (I.settled (I.meaning iter.old))) in
+        let read = if is_some (slice_get (I.buffer m) (I.place m))
+        then I.moved (I.settled m) (I.place m + 1) else I.settled m in
+        I.meaning iter.new ≡
+        after_zeros I.buffer I.cursor I.place I.moved I.settled I.counted read }
+    ensures keeps_loan { I.loan iter.new ≡ I.loan iter.old }
 {
-    let mut iter = Digits { byte: bytes, kind };
     iter.peek();
     iter.next();
     iter.increment_count();
@@ -223,14 +251,34 @@ fn call_each<K: Kind>(bytes: &mut Bytes, kind: PhantomData<K>)
 /// Makes one `peek`, one `next`, one `increment_count`, one `try_read` and one `skip_zeros` on the
 /// iterator of a component. They leave what the call table says, and no count is changed but the
 /// component's own; special has none.
+#[tactic(auto, using(crate::proofs::Calls::Shares::each_call_is, crate::proofs::Calls::Shares::each_call_changes))]
 pub fn own_count_only(bytes: &mut Bytes, component: Component)
-    ensures state { bytes.new.state ≡ (run_of bytes.old.state (map (λ call. (On component, call)) (Peek ∷ Next ∷ IncrementCount ∷ TryRead ∷ SkipZeros ∷ []))).state }
+    ensures state { let calls = Peek ∷ Next ∷ IncrementCount ∷ TryRead ∷ SkipZeros ∷ [] in
+        bytes.new.state ≡
+        (run_of bytes.old.state (map (λ call. (On component, call)) calls)).state }
     ensures own_count { ChangesOwn component bytes.old.state bytes.new.state }
 {
     match component {
-        Component::Integer => call_each(bytes, PhantomData::<IntegerKind>),
-        Component::Fraction => call_each(bytes, PhantomData::<FractionKind>),
-        Component::Exponent => call_each(bytes, PhantomData::<ExponentKind>),
-        Component::Special => call_each(bytes, PhantomData::<SpecialKind>),
+        Component::Integer => call_each(&mut IntegerDigitsIterator { byte: bytes }),
+        Component::Fraction => call_each(&mut FractionDigitsIterator { byte: bytes }),
+        Component::Exponent => call_each(&mut ExponentDigitsIterator { byte: bytes }),
+        Component::Special => call_each(&mut SpecialDigitsIterator { byte: bytes }),
     }
 }
+
+/// For a word whose two radixes are equal nothing depends on it which of the two the exponent goes
+/// by. Such a word is supported, each of its components has its rule, and every list of calls is
+/// answered and leaves its state, as it was while the exponent too went by the mantissa radix. The
+/// call table of then is the one of now, by other rules.
+#[tactic(auto, using(crate::proofs::Rule::Radixes::table_by_rule, crate::proofs::Rule::Radixes::supported_same, crate::proofs::Rule::Radixes::rule_same, crate::proofs::Rule::Radixes::run_same))]
+pub fn equal_radixes(buffer: &[u8], word: u128)
+    ensures table { (part : Part) (call : Call) (s : State) →
+        row_of part call s ≡ row_on rule_of part call s }
+    ensures supported { exponent_radix word ≡ mantissa_radix word →
+        is_supported word ≡ mantissa_is_supported word }
+    ensures rules { exponent_radix word ≡ mantissa_radix word → (k : Component) →
+        rule_of word k ≡ mantissa_rule_of word k }
+    ensures runs { exponent_radix word ≡ mantissa_radix word → (s : State) →
+        s.buffer ≡ buffer.now → s.word ≡ word → (calls : List (Part × Call)) →
+        run_of s calls ≡ run_on mantissa_rule_of s calls }
+{}

@@ -18,7 +18,9 @@ moved_bit (suc (suc b)) place below some = absurd (omega arith)
 
 -- the test `word & (1 << place) != 0`
 pub flag_test : (word place : ℕ) → not (nat_eq (bit_and word (2 ^ place)) 0) ≡ bit word place
-flag_test word place = rw (and_pow word place) (moved_bit (bit_at word place) (2 ^ place) (bit_at-lt word place) (pow_pos place))
+flag_test word place =
+    rw (and_pow word place)
+    (moved_bit (bit_at word place) (2 ^ place) (bit_at-lt word place) (pow_pos place))
 
 pub special_test : (word : ℕ) → not (nat_eq (bit_and word (2 ^ 44)) 0) ≡ bit word 44
 special_test word = flag_test word 44

@@ -23,8 +23,12 @@ exponent_radix word = if bits word 120 8 == 0 then mantissa_radix word else bits
 abbrev pub separator_flags : ℕ → ℕ
 separator_flags word = bits word 32 13 * 2 ^ 32
 
--- the mantissa radix has digits, and the separator is none of them
+-- a radix serves beside a separator: it has digits, and the separator is none of them
+abbrev pub serves : ℕ → ℕ → Bool
+serves radix separator =
+    nat_le 2 radix && nat_le radix 36 && not (is_digit_of_radix radix separator)
+
+-- each of the two radixes serves beside the separator
 abbrev pub is_supported : ℕ → Bool
 is_supported word =
-    nat_le 2 (mantissa_radix word) && nat_le (mantissa_radix word) 36
-    && not (is_digit_of_radix (mantissa_radix word) (separator word))
+    serves (mantissa_radix word) (separator word) && serves (exponent_radix word) (separator word)

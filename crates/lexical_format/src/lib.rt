@@ -14,16 +14,22 @@
 //!
 //! No other bit is read. The names are those of lexical-util's number formats; the places of the
 //! bits are this crate's own. Radix 10 with the separator `_` between the digits of the integer is
-//! `(10 << 104) | (0x5f << 64) | INTEGER_INTERNAL_DIGIT_SEPARATOR`.
+//! `(10 << 104) | (0x5f << 64) | INTEGER_INTERNAL_DIGIT_SEPARATOR`. A [`NumberFormatBuilder`] makes
+//! a word of its parts, also of parts that are known only when the program runs.
+//!
+//! That a word which is written out is supported is proved where the function has
+//! `#[tactic(auto, unfolding(lexical_format::proofs::OnLiterals::lexical_on_literals))]`.
 #![tactic(auto)]
 
 ghost use Rattle.std.specs.Prelude.{◌≡◌};
-ghost use Rattle.lexical_format.specs.Word.{bit, separator, mantissa_radix, exponent_radix, separator_flags, is_supported};
+ghost use Rattle.lexical_format.specs.Word.{bit, separator, mantissa_radix, exponent_radix, separator_flags, serves, is_supported};
 
+mod builder;
 mod digit;
 #[cfg(test)]
 mod tests;
 
+pub use builder::{ALL_FLAGS, DECIMAL, DigitSeparatorFlags, NO_FLAGS, NumberFormatBuilder};
 pub use digit::{char_is_digit_const, char_to_digit_const};
 
 /// Drops the integer's internal separators: those between digits.
@@ -161,9 +167,18 @@ impl NumberFormat {
     }
 }
 
-/// Whether digits can be read by this word: its mantissa radix is 2 to 36, and its separator is no
-/// digit of that radix. A separator of zero, a sign, and each byte from 128 on are fine; flags and
-/// the exponent radix aren't looked at.
+/// Whether a radix serves beside a separator: it is 2 to 36, and the separator is no digit of it.
+#[inline(always)]
+fn serves(radix: u32, separator: u8) -> bool
+    ensures { result ≡ serves radix separator }
+{
+    (2..=36).contains(&radix) && !char_is_digit_const(separator, radix)
+}
+
+/// Whether digits can be read by this word: its mantissa radix and its exponent radix, as
+/// [`NumberFormat::exponent_radix`] answers it, are 2 to 36, and its separator is a digit of
+/// neither. A separator of zero, a sign, and each byte from 128 on are fine; flags aren't looked
+/// at.
 ///
 /// This call is the crate's own: whoever reads digits by a word asks it first.
 #[inline(always)]
@@ -171,6 +186,6 @@ pub fn is_supported(word: u128) -> bool
     ensures { result ≡ is_supported word }
 {
     let format = NumberFormat::new(word);
-    let radix = format.mantissa_radix();
-    (2..=36).contains(&radix) && !char_is_digit_const(format.digit_separator(), radix)
+    let separator = format.digit_separator();
+    serves(format.mantissa_radix(), separator) && serves(format.exponent_radix(), separator)
 }

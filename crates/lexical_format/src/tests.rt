@@ -102,6 +102,44 @@ fn a_radix_has_to_be_2_to_36(rt: HostRuntime) {
 }
 
 #[test]
+fn an_exponent_radix_has_to_be_2_to_36_too(rt: HostRuntime) {
+    for radix in 1..=u8::MAX {
+        assert_eq!(rt;
+            is_supported(word_of(10, b'_') | (u128::from(radix) << 120)),
+            !matches!(radix, 1 | 37..=255),
+            "exponent radix {radix}"
+        );
+    }
+}
+
+#[test]
+fn a_zero_exponent_radix_is_as_good_as_the_mantissa_radix(rt: HostRuntime) {
+    assert!(rt; is_supported(word_of(36, b'_')));
+    assert!(rt; !is_supported(word_of(37, b'_')));
+    assert!(rt; !is_supported(word_of(37, b'_') | (10 << 120)));
+}
+
+#[test]
+fn a_separator_may_be_a_digit_of_neither_radix(rt: HostRuntime) {
+    for (mantissa_radix, exponent_radix, separator, expected) in [
+        (10, 16, b'a', false),
+        (16, 10, b'a', false),
+        (16, 10, b'A', false),
+        (2, 10, b'9', false),
+        (10, 16, b'g', true),
+        (2, 8, b'9', true),
+        (16, 10, 0, true),
+    ] {
+        let word = word_of(mantissa_radix, separator) | (exponent_radix << 120);
+        assert_eq!(rt;
+            is_supported(word),
+            expected,
+            "{separator} beside {mantissa_radix} and {exponent_radix}"
+        );
+    }
+}
+
+#[test]
 fn a_separator_may_be_no_digit(rt: HostRuntime) {
     for (radix, separator, expected) in [
         (16, b'a', false),
@@ -188,4 +226,81 @@ fn a_digit_is_below_its_radix(rt: HostRuntime) {
             "{byte} in {radix}"
         );
     }
+}
+
+#[test]
+fn a_builder_makes_the_word_of_its_parts(rt: HostRuntime) {
+    assert_eq!(rt; DECIMAL.build(), STANDARD);
+    let internal = DigitSeparatorFlags {
+        internal: true,
+        ..NO_FLAGS
+    };
+    let word = NumberFormatBuilder {
+        digit_separator: b'_',
+        integer: internal,
+        ..DECIMAL
+    }
+    .build();
+    assert_eq!(rt; word, (10 << 104) | (0x5f << 64) | (1 << 32));
+    let word = NumberFormatBuilder {
+        mantissa_radix: 16,
+        exponent_radix: 10,
+        ..DECIMAL
+    }
+    .build();
+    assert_eq!(rt; word, (10 << 120) | (16 << 104));
+}
+
+#[test]
+fn a_builder_puts_each_flag_in_its_place(rt: HostRuntime) {
+    for (integer, fraction, exponent, special, flags) in [
+        (
+            ALL_FLAGS,
+            NO_FLAGS,
+            NO_FLAGS,
+            false,
+            INTEGER_DIGIT_SEPARATOR_FLAG_MASK,
+        ),
+        (
+            NO_FLAGS,
+            ALL_FLAGS,
+            NO_FLAGS,
+            false,
+            FRACTION_DIGIT_SEPARATOR_FLAG_MASK,
+        ),
+        (
+            NO_FLAGS,
+            NO_FLAGS,
+            ALL_FLAGS,
+            false,
+            EXPONENT_DIGIT_SEPARATOR_FLAG_MASK,
+        ),
+        (NO_FLAGS, NO_FLAGS, NO_FLAGS, true, SPECIAL_DIGIT_SEPARATOR),
+        (
+            ALL_FLAGS,
+            ALL_FLAGS,
+            ALL_FLAGS,
+            true,
+            DIGIT_SEPARATOR_FLAG_MASK,
+        ),
+    ] {
+        let builder = NumberFormatBuilder {
+            integer,
+            fraction,
+            exponent,
+            special,
+            ..DECIMAL
+        };
+        assert_eq!(rt; builder.build(), STANDARD | flags, "for {builder:?}");
+    }
+    let flags = DigitSeparatorFlags {
+        trailing: true,
+        ..NO_FLAGS
+    };
+    let word = NumberFormatBuilder {
+        fraction: flags,
+        ..DECIMAL
+    }
+    .build();
+    assert_eq!(rt; word, STANDARD | FRACTION_TRAILING_DIGIT_SEPARATOR);
 }

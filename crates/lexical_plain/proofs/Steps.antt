@@ -4,7 +4,7 @@ use Rattle.std.specs.Borrow.{Bor}
 use Rattle.std.specs.Prelude.{slice_get}
 use Rattle.std.proofs.lemmas.Bool.{cases_lt}
 use Rattle.std.proofs.lemmas.List.{drop_more, drop_all}
-use Rattle.std.proofs.lemmas.Option.{slice_get_within, slice_get-get_or}
+use Rattle.std.proofs.lemmas.Option.{slice_get_within, slice_get-get_or, get_or_from_slice_get}
 use Rattle.lexical_plain.specs.Plain.{Plain, IsPlain, with_cursor, first, rest, bytes_left, Takes}
 use Rattle.lexical_plain.specs.Laws.{taken_some, taken_none}
 
@@ -12,7 +12,7 @@ none_past : (xs : List ℕ) (i : ℕ) → None ≡ slice_get xs i → length xs 
 none_past xs i e = here (cases_lt i (length xs))
   where
     here : (i < length xs) ⊎ (length xs ≤ i) → length xs ≤ i
-    here (inl l) = let h : Some (get_or xs i 0) ≡ None = sym (slice_get-get_or xs i 0 l) ∙ sym e in cc
+    here (inl l) = let there = slice_get-get_or xs i 0 l in cc
     here (inr l) = l
 
 pub takes_none : (s : Plain) → IsPlain s → None ≡ first s → Takes s s None
@@ -27,19 +27,25 @@ takes_none s v e =
       ends = ap (λ (i : ℕ). with_cursor s i) at_end;
     }
 
-pub takes_some : (s : Plain) (item : Bor ℕ) → Some item.now ≡ first s → Takes s (with_cursor s (s.cursor + 1)) (Some item)
+pub takes_some : (s : Plain) (item : Bor ℕ) → Some item.now ≡ first s
+    → Takes s (with_cursor s (s.cursor + 1)) (Some item)
 takes_some s item e =
-    let within : s.cursor < length s.buffer = slice_get_within s.buffer s.cursor item.now (sym e) in
-    let there : Some (get_or s.buffer s.cursor 0) ≡ Some item.now = sym (slice_get-get_or s.buffer s.cursor 0 within) ∙ sym e in
-    let byte : get_or s.buffer s.cursor 0 ≡ item.now = cc in
+    let within : s.cursor < length s.buffer =
+    slice_get_within s.buffer s.cursor item.now (sym e) in
+    let byte : get_or s.buffer s.cursor 0 ≡ item.now =
+    get_or_from_slice_get s.buffer s.cursor item.now 0 (sym e) in
     record {
       byte = e;
       takes = sym (taken_some s within);
-      drains = drop_more s.buffer s.cursor 0 within ∙ ap (λ (b : ℕ). b ∷ drop (s.cursor + 1) s.buffer) byte;
+      drains =
+          drop_more s.buffer s.cursor 0 within
+          ∙ ap (λ (b : ℕ). b ∷ drop (s.cursor + 1) s.buffer) byte;
       leaves = refl;
       ends = omega arith;
     }
 
 -- with each byte that comes one fewer is left
 pub fewer_left : (s t : Plain) (byte : ℕ) → rest s ≡ byte ∷ rest t → bytes_left t < bytes_left s
-fewer_left s t byte e = let longer = ap length e in omega (arith, length-drop s.cursor s.buffer, length-drop t.cursor t.buffer)
+fewer_left s t byte e =
+    let longer = ap length e in
+    omega (arith, length-drop s.cursor s.buffer, length-drop t.cursor t.buffer)

@@ -1,5 +1,5 @@
--- What the plain cursor proves to the traits. (A law of an `impl` can cite specs/ alone, so these lemmas stand here and
--- not in proofs/.)
+-- What the plain cursor proves to the traits. (A law of an `impl` can cite specs/ alone, so these
+-- lemmas stand here and not in proofs/.)
 use Rattle.std.proofs.Common.{◌≡◌, ℕ, ◌+◌, ◌<◌, ◌≤◌, true, false, length, refl, ap, subst, sym, arith, ◌⊎◌, inl, inr}
 use Rattle.std.proofs.lemmas.Bool.{lt-ltb, le-ltb, cases_lt}
 use Rattle.lexical_digits.specs.Cursor.{IterLaws, DigitLaws}
@@ -22,7 +22,9 @@ taken_is : (s : Plain) → IsPlain s → IsPlain (taken s)
 taken_is s v = here (cases_lt s.cursor (length s.buffer))
   where
     here : (s.cursor < length s.buffer) ⊎ (length s.buffer ≤ s.cursor) → IsPlain (taken s)
-    here (inl l) = subst IsPlain (sym (taken_some s l)) (moved_is s (s.cursor + 1) v (omega (arith, l)))
+    here (inl l) =
+        let moved = moved_is s (s.cursor + 1) v (omega (arith, l)) in
+        subst IsPlain (sym (taken_some s l)) moved
     here (inr l) = subst IsPlain (sym (taken_none s l)) v
 
 taken_buffer : (s : Plain) → (taken s).buffer ≡ s.buffer
@@ -41,17 +43,20 @@ taken_word s = here (cases_lt s.cursor (length s.buffer))
 
 -- ---- all of it
 
-pub iter_laws : IterLaws IsPlain (λ m. m.buffer) (λ m. m.cursor) (λ _. true) (λ _ _. false) with_cursor
+pub iter_laws : IterLaws IsPlain (λ m. m.buffer) (λ m. m.cursor)
+    (λ _. true) (λ _ _. false) with_cursor
 iter_laws = record {
   within = λ m v. v.within;
   moved_valid = moved_is;
   moved_cursor = λ m i v h. refl;
   moved_buffer = λ m i v h. refl;
   moved_contiguous = λ m i v h. refl;
-  moved_separates = λ m i b v h. refl;
+  moved_separates = λ m i b v h l. refl;
 }
 
-pub digit_laws : DigitLaws IsPlain (λ m. m.buffer) (λ m. m.cursor) (λ m. m.cursor) (λ _. true) (λ _ _. false) with_cursor (λ m. m.cursor) is_digit (λ m. m) (λ m. m) taken
+pub digit_laws : DigitLaws IsPlain (λ m. m.buffer) (λ m. m.cursor) (λ m. m.cursor)
+    (λ _. true) (λ _ _. false) with_cursor
+    (λ m. m.cursor) is_digit (λ m. m) (λ m. m) taken
 digit_laws = record {
   place_from = λ m v. omega arith;
   place_to = λ m v. v.within;
@@ -68,15 +73,15 @@ digit_laws = record {
   taken_end = λ m v e. ap (λ (t : Plain). t.cursor) (taken_none m (omega (arith, e)));
   settled_buffer = λ m v. refl;
   settled_contiguous = λ m v. refl;
-  settled_separates = λ m b v. refl;
-  settled_digit = λ m b v. refl;
+  settled_separates = λ m b v l. refl;
+  settled_digit = λ m b v l. refl;
   counted_buffer = λ m v. refl;
   counted_contiguous = λ m v. refl;
-  counted_separates = λ m b v. refl;
-  counted_digit = λ m b v. refl;
+  counted_separates = λ m b v l. refl;
+  counted_digit = λ m b v l. refl;
   taken_buffer = λ m v. taken_buffer m;
   taken_contiguous = λ m v. refl;
-  taken_separates = λ m b v. refl;
-  taken_digit = λ m b v. ap (λ w. is_digit (record m { word = w }) b) (taken_word m);
-  moved_digit = λ m i b v h. refl;
+  taken_separates = λ m b v l. refl;
+  taken_digit = λ m b v l. ap (λ w. is_digit (record m { word = w }) b) (taken_word m);
+  moved_digit = λ m i b v h l. refl;
 }

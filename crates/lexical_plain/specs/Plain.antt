@@ -1,15 +1,16 @@
--- The plain call table: what each call of a cursor answers and leaves where nothing is passed over. The place is the
--- cursor, and so is the count. No row scans, steps or loops.
+-- The plain call table: what each call of a cursor answers and leaves where nothing is passed over.
+-- The place is the cursor, and so is the count. No row scans, steps or loops.
 use Rattle.std.specs.Prelude.{◌≡◌, ℕ, ◌+◌, ◌-◌, ◌<◌, ◌≤◌, min, ◌==◌, Bool, true, false, if◌then◌else◌, nat_lt, nat_le, List, [], ◌∷◌, length, take, drop, slice_get, Option, Some, None, is_none, is_some, MatchOption, option_copied, IsTrue}
 use Rattle.std.specs.List.{prefix_len}
 use Rattle.std.specs.Borrow.{Bor}
 use Rattle.std.specs.Int.{w32, w64}
 use Rattle.std.specs.Iterator.{YieldsFirstRef}
 use Rattle.lexical_format.specs.Digits.{is_digit_of_radix}
-use Rattle.lexical_format.specs.Word.{mantissa_radix, is_supported}
+use Rattle.lexical_format.specs.Word.{separator, separator_flags, mantissa_radix, exponent_radix, is_supported}
+use Rattle.lexical_digits.specs.declared.skip.component.Component.{Component}
 use Rattle.lexical_digits.specs.declared.skip.component.Component.TheVariants.{Special}
 use Rattle.lexical_digits.specs.State.{State}
-use Rattle.lexical_digits.specs.Cursor.{passes, byte_if, is_value, next_number}
+use Rattle.lexical_digits.specs.Cursor.{holds_of, byte_if, is_value, next_number}
 use Rattle.lexical_digits.specs.CallTable.{Part, On, Call, Answer, Span, Count, Flag, Done, Byte, Four, Eight, View, Refused, AsSlice, GetBuffer, BufferLength, IsBufferEmpty, Cursor, SetCursor, CurrentCount, IsContiguous, First, FirstIsCased, FirstIsUncased, FirstIs, StepBy, Step, PeekU32, PeekU64, IsConsumed, IncrementCount, Peek, TryRead, Next, PeekIsCased, PeekIsUncased, PeekIs, ReadIfEqual, ReadIfNever, ReadIfValueCased, ReadIfValueUncased, ReadIfValue, SkipZeros, IsDigit, IsSign, IsDigitSeparator, TakeN}
 
 -- ---- the state
@@ -67,8 +68,9 @@ cut_end s n = min (length s.buffer) (s.cursor + n)
 abbrev pub view : Plain → ℕ → Plain
 view s n = record s { buffer = take (cut_end s n) s.buffer }
 
--- A call of `next` from s to t: it answers the byte at the cursor and leaves `taken`; what it answers is the first of
--- the bytes left, or None where none is; the whole drain leaves the same state from s and from t.
+-- A call of `next` from s to t: it answers the byte at the cursor and leaves `taken`; what it
+-- answers is the first of the bytes left, or None where none is; the whole drain leaves the same
+-- state from s and from t.
 pub record Takes (s t : Plain) (result : Option (Bor ℕ)) : Type 0 where
   pub byte : option_copied result ≡ first s
   pub takes : t ≡ taken s
@@ -102,9 +104,17 @@ abbrev pub within : Bool → Plain → Plain → Row
 within true s t = row Done t
 within false s t = row Refused s
 
+-- the cursor goes to a position of the buffer, or to its end
+abbrev pub to : ℕ → Plain → Row
+to i s = within (nat_le i (length s.buffer)) s (with_cursor s i)
+
 -- a read of the byte at the cursor where it passes
 abbrev pub read_where : Plain → Option ℕ → Row
 read_where s read = row (Byte read) (if is_some read then with_cursor s (s.cursor + 1) else s)
+
+-- a view is told by its length and its cursor
+abbrev pub told_view : Plain → Answer
+told_view s = View (Some (length s.buffer, s.cursor))
 
 -- the calls that every part has
 abbrev pub shared_row : Call → Plain → Row
@@ -113,29 +123,30 @@ shared_row GetBuffer s = row (Span 0 (length s.buffer)) s
 shared_row BufferLength s = row (Count (length s.buffer)) s
 shared_row IsBufferEmpty s = row (Flag (s.cursor == length s.buffer)) s
 shared_row Cursor s = row (Count s.cursor) s
-shared_row (SetCursor i) s = within (nat_le i (length s.buffer)) s (with_cursor s i)
+shared_row (SetCursor i) s = to i s
 shared_row CurrentCount s = row (Count s.cursor) s
 shared_row IsContiguous s = row (Flag true) s
 shared_row First s = row (Byte (first s)) s
-shared_row (FirstIsCased v) s = row (Flag (passes (is_value v true) (first s))) s
-shared_row (FirstIsUncased v) s = row (Flag (passes (is_value v false) (first s))) s
-shared_row (FirstIs v is_cased) s = row (Flag (passes (is_value v is_cased) (first s))) s
-shared_row (StepBy n) s = within (nat_le (s.cursor + n) (length s.buffer)) s (with_cursor s (s.cursor + n))
-shared_row Step s = within (nat_le (s.cursor + 1) (length s.buffer)) s (with_cursor s (s.cursor + 1))
+shared_row (FirstIsCased v) s = row (Flag (holds_of (is_value v true) (first s))) s
+shared_row (FirstIsUncased v) s = row (Flag (holds_of (is_value v false) (first s))) s
+shared_row (FirstIs v is_cased) s = row (Flag (holds_of (is_value v is_cased) (first s))) s
+shared_row (StepBy n) s = to (s.cursor + n) s
+shared_row Step s = to (s.cursor + 1) s
 shared_row PeekU32 s = row (Four (next_number w32 true (rest s))) s
 shared_row PeekU64 s = row (Eight (next_number w64 true (rest s))) s
 shared_row call s = row Refused s
 
--- and the calls that the iterators alone have; the iterators of all four components are one type, and answer alike
+-- and the calls that the iterators alone have; the iterators of all four components are one type,
+-- and answer alike
 abbrev pub row_of : Part → Call → Plain → Row
 row_of (On k) IsConsumed s = row (Flag (is_none (first s))) s
 row_of (On k) IncrementCount s = row Done s
 row_of (On k) Peek s = row (Byte (first s)) s
 row_of (On k) TryRead s = read_where s (first s)
 row_of (On k) Next s = row (Byte (first s)) (taken s)
-row_of (On k) (PeekIsCased v) s = row (Flag (passes (is_value v true) (first s))) s
-row_of (On k) (PeekIsUncased v) s = row (Flag (passes (is_value v false) (first s))) s
-row_of (On k) (PeekIs v is_cased) s = row (Flag (passes (is_value v is_cased) (first s))) s
+row_of (On k) (PeekIsCased v) s = row (Flag (holds_of (is_value v true) (first s))) s
+row_of (On k) (PeekIsUncased v) s = row (Flag (holds_of (is_value v false) (first s))) s
+row_of (On k) (PeekIs v is_cased) s = row (Flag (holds_of (is_value v is_cased) (first s))) s
 row_of (On k) (ReadIfEqual v) s = read_where s (byte_if (is_value v true) (first s))
 row_of (On k) ReadIfNever s = read_where s None
 row_of (On k) (ReadIfValueCased v) s = read_where s (byte_if (is_value v true) (first s))
@@ -143,8 +154,17 @@ row_of (On k) (ReadIfValueUncased v) s = read_where s (byte_if (is_value v false
 row_of (On k) (ReadIfValue v is_cased) s = read_where s (byte_if (is_value v is_cased) (first s))
 row_of (On k) SkipZeros s = row (Count (zeros s)) (with_cursor s (s.cursor + zeros s))
 row_of (On k) (IsDigit v) s = row (Flag (is_digit s v)) s
-row_of (On k) (TakeN n) s = row (View (Some (length (view s n).buffer, (view s n).cursor))) (with_cursor s (cut_end s n))
+row_of (On k) (TakeN n) s = row (told_view (view s n)) (with_cursor s (cut_end s n))
 row_of part call s = shared_row call s
+
+-- a call on a part, from s to t, is answered by its row
+pub record Makes (part : Part) (call : Call) (s t : Plain) (answer : Answer) : Type 0 where
+  pub answers : answer ≡ (row_of part call s).answer
+  pub leaves : t ≡ (row_of part call s).state
+
+-- and so it is on the iterator of whichever component
+abbrev pub MakesOnDigits : Call → Plain → Plain → Answer → Type 0
+MakesOnDigits call s t answer = (k : Component) → Makes (On k) call s t answer
 
 -- one after another: each answer, and the state in the end
 pub record Ran : Type 0 where
@@ -160,8 +180,8 @@ run_of s (call ∷ calls) =
 
 -- ---- beside `skip`
 
--- the calls that a part has both here and in `skip`: here no iterator tells signs and separators, and there no special
--- one gives views
+-- the calls that a part has both here and in `skip`: here no iterator tells signs and separators,
+-- and there no special one gives views
 abbrev pub is_on_both : Part → Call → Bool
 is_on_both (On k) (IsSign v) = false
 is_on_both (On k) (IsDigitSeparator v) = false
@@ -170,6 +190,13 @@ is_on_both part call = true
 
 abbrev pub both_have : Part × Call → Bool
 both_have call = is_on_both call.0 call.1
+
+-- the words for which `skip` answers the same: no byte is a separator, nothing is granted, and the
+-- exponent has the digits of the mantissa
+pub record IsPlainWord (word : ℕ) : Type 0 where
+  pub no_separator : separator word ≡ 0
+  pub no_flags : separator_flags word ≡ 0
+  pub one_radix : exponent_radix word ≡ mantissa_radix word
 
 -- what is left of a state of `skip` without its counts
 abbrev pub without_counts : State → Plain

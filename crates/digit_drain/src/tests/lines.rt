@@ -27,9 +27,10 @@ fn requests_are_answered(rt: HostRuntime) -> Result<(), Fail> {
         ("integer 16 5f I a_F_g", "aF_g count=2 cursor=5\n"),
         ("integer 10 5f I 1 2", "1 2 count=2 cursor=3\n"),
         ("integer 10 5f T 1\r", "1\r count=1 cursor=2\n"),
-        ("exponent 16/10 5f I 1_a", "1a count=2 cursor=3\n"),
-        ("exponent 10/16 5f I a_b", "a_b count=0 cursor=3\n"),
-        ("integer 10/16 61 I 1a2", "12 count=2 cursor=3\n"),
+        ("exponent 16/10 5f I 1_a", "1_a count=1 cursor=3\n"),
+        ("exponent 10/16 5f I a_b", "ab count=2 cursor=3\n"),
+        ("exponent 10/0 5f I 1_2", "12 count=2 cursor=3\n"),
+        ("special 16/10 5f S a_1", "a1 count=0 cursor=3\n"),
     ] {
         let (written, status) = answer(rt.alloc(), line.as_bytes())?;
         assert_eq!(rt; written.as_slice(), text.as_bytes(), "for {line}");
@@ -53,6 +54,21 @@ fn bad_lines_are_told_apart(rt: HostRuntime) -> Result<(), Fail> {
             3,
         ),
         ("integer 0 5f I 1", "error: line 1: word not supported\n", 3),
+        (
+            "integer 10/16 61 I 1a2",
+            "error: line 1: word not supported\n",
+            3,
+        ),
+        (
+            "exponent 10/1 5f I 1_2",
+            "error: line 1: word not supported\n",
+            3,
+        ),
+        (
+            "integer 10/37 5f - 1",
+            "error: line 1: word not supported\n",
+            3,
+        ),
         (
             "integer 10 5f I 4_5\ninteger 16 61 I a1",
             "45 count=2 cursor=3\nerror: line 2: word not supported\n",

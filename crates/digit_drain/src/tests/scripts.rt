@@ -21,7 +21,7 @@ const PLAIN: u128 = STANDARD | (0x5f << 64);
 /// Radix 10, the separator `_`, and the integer's internal flag.
 const INTERNAL: u128 = PLAIN | INTEGER_INTERNAL_DIGIT_SEPARATOR;
 
-const PARTS: [Part; 5] = [
+pub const PARTS: [Part; 5] = [
     Part::Bytes,
     Part::Integer,
     Part::Fraction,
@@ -30,7 +30,7 @@ const PARTS: [Part; 5] = [
 ];
 
 /// A fresh `Bytes` over a text, by a word that is supported.
-fn bytes_of<'a>(rt: &impl Abort, text: &'a [u8], word: u128) -> Bytes<'a>
+pub fn bytes_of<'a>(rt: &impl Abort, text: &'a [u8], word: u128) -> Bytes<'a>
     ensures { result.state ≡ start text.entry.now word }
 {
     assert!(rt; is_supported(word));
@@ -101,8 +101,8 @@ fn an_empty_script_has_an_empty_answer(rt: HostRuntime) -> Result<(), Fail> {
     Ok(())
 }
 
-/// Calls on `1_2._3`, what each answers, and where the cursor stands after it. The word has the integer's internal, the
-/// fraction's trailing and the special flag.
+/// Calls on `1_2._3`, what each answers, and where the cursor stands after it. The word has the
+/// integer's internal, the fraction's trailing and the special flag.
 const STEPS: [(Part, Op, Answer, usize); 17] = [
     (Part::Integer, Op::Next, Answer::Byte(Some(b'1')), 1),
     (Part::Integer, Op::Peek, Answer::Byte(Some(b'2')), 2),
@@ -145,8 +145,9 @@ fn all_parts_share_one_cursor(rt: HostRuntime) -> Result<(), Fail> {
     Ok(())
 }
 
-/// A text on which the integer and the fraction keep the first separator, and the exponent and special drop it: the
-/// integer has the internal flag, the fraction none, the exponent the leading flag, and special its own.
+/// A text on which the integer and the fraction keep the first separator, and the exponent and
+/// special drop it: the integer has the internal flag, the fraction none, the exponent the leading
+/// flag, and special its own.
 const TEXT: &[u8] = b"_00_5aB1";
 
 const GRANTS: u128 = INTERNAL | EXPONENT_LEADING_DIGIT_SEPARATOR | SPECIAL_DIGIT_SEPARATOR;
@@ -161,7 +162,8 @@ const ZERO: Answer = Answer::Byte(Some(b'0'));
 
 const NONE: Answer = Answer::Byte(None);
 
-/// Makes one call on a fresh `Bytes` over that text: the answer, the cursor after it, and the count.
+/// Makes one call on a fresh `Bytes` over that text: the answer, the cursor after it, and the
+/// count.
 fn call(
     rt: &impl Abort,
     alloc: Global,
@@ -219,7 +221,8 @@ fn every_part_has_the_calls_of_a_cursor(rt: HostRuntime) -> Result<(), Fail> {
     Ok(())
 }
 
-/// Calls that the fraction, which is contiguous, answers as no other part does, and the cursor that it leaves.
+/// Calls that the fraction, which is contiguous, answers as no other part does, and the cursor that
+/// it leaves.
 const CONTIGUOUS: [(Op, Answer, Answer, usize); 6] = [
     (Op::IsContiguous, NO, YES, 0),
     (Op::Step, Answer::Refused, Answer::Done, 1),
@@ -250,7 +253,8 @@ fn a_contiguous_part_goes_over_separators(rt: HostRuntime) -> Result<(), Fail> {
     Ok(())
 }
 
-/// Calls that the iterators alone have: the answer and the cursor where the first separator is kept, and where it is dropped.
+/// Calls that the iterators alone have: the answer and the cursor where the first separator is
+/// kept, and where it is dropped.
 const READS: [(Op, (Answer, usize), (Answer, usize)); 19] = [
     (Op::IsConsumed, (NO, 0), (NO, 1)),
     (Op::IncrementCount, (Answer::Done, 0), (Answer::Done, 0)),

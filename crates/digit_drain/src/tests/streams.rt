@@ -3,56 +3,71 @@
 use std::io;
 use std::io::{ErrorKind, Read, Write};
 
-/// What a reader does once it has given its bytes.
+/// What a stream does at a call.
 #[derive(Clone, Copy, Debug, PartialEq, Eq)]
-pub enum Then {
-    End,
+pub enum Turn {
+    /// Gives or takes at most so many bytes.
+    Pass(usize),
     Fail,
-    /// Gives this byte at each call, without end.
-    Repeat(u8),
+    Interrupt,
 }
 
-/// Gives its bytes, and then does what `then` says.
-#[derive(Drop)]
-pub struct ScriptedReader<'a> {
-    pub bytes: &'a [u8],
-    pub then: Then,
+/// The turns of a stream, one a call, and the turn that it takes at each call after them.
+#[derive(Clone, Copy)]
+pub struct Turns<'a> {
+    pub first: &'a [Turn],
+    pub then: Turn,
 }
 
-impl Read for ScriptedReader<'_> {
-    fn read(&mut self, buf: &mut [u8]) -> io::Result<usize> {
-        if !self.bytes.is_empty() {
-            let n = buf.len().min(self.bytes.len());
-            buf[..n].copy_from_slice(&self.bytes[..n]);
-            self.bytes = &self.bytes[n..];
-            return Ok(n);
+impl Turns<'_> {
+    /// At most how many bytes the next call passes, or its error.
+    fn next_most(&mut self) -> io::Result<usize> {
+        let turn = match self.first.first() {
+            Some(turn) => *turn,
+            None => self.then,
+        };
+        if !self.first.is_empty() {
+            self.first = &self.first[1..];
         }
-        match self.then {
-            Then::Fail => Err(io::Error::from(ErrorKind::Other)),
-            Then::Repeat(byte) if !buf.is_empty() => {
-                buf[0] = byte;
-                Ok(1)
-            }
-            Then::End | Then::Repeat(_) => Ok(0),
+        match turn {
+            Turn::Pass(most) => Ok(most),
+            Turn::Fail => Err(io::Error::from(ErrorKind::Other)),
+            Turn::Interrupt => Err(io::Error::from(ErrorKind::Interrupted)),
         }
     }
 }
 
-/// Takes at most `most` bytes a call, and fails after `calls` calls.
+/// Gives `rest`, and after it `again` over and over; where `again` is empty it has an end.
 #[derive(Drop)]
-pub struct ScriptedWriter {
-    pub written: Vec<u8>,
-    pub most: usize,
-    pub calls: usize,
+pub struct ScriptedReader<'a> {
+    pub rest: &'a [u8],
+    pub again: &'a [u8],
+    pub turns: Turns<'a>,
 }
 
-impl Write for ScriptedWriter {
-    fn write(&mut self, buf: &[u8]) -> io::Result<usize> {
-        if self.calls == 0 {
-            return Err(io::Error::from(ErrorKind::Other));
+impl Read for ScriptedReader<'_> {
+    fn read(&mut self, buf: &mut [u8]) -> io::Result<usize> {
+        let most = self.turns.next_most()?;
+        if self.rest.is_empty() {
+            self.rest = self.again;
         }
-        self.calls -= 1;
-        let n = self.most.min(buf.len());
+        let n = most.min(buf.len()).min(self.rest.len());
+        buf[..n].copy_from_slice(&self.rest[..n]);
+        self.rest = &self.rest[n..];
+        Ok(n)
+    }
+}
+
+/// Keeps what it takes.
+#[derive(Drop)]
+pub struct ScriptedWriter<'a> {
+    pub written: Vec<u8>,
+    pub turns: Turns<'a>,
+}
+
+impl Write for ScriptedWriter<'_> {
+    fn write(&mut self, buf: &[u8]) -> io::Result<usize> {
+        let n = self.turns.next_most()?.min(buf.len());
         self.written.extend_from_slice(&buf[..n])?;
         Ok(n)
     }

@@ -1,4 +1,5 @@
-//! The iterators agree with the plain program: over every short text, from every cursor and count, in every state of the flags.
+//! The iterators agree with the plain program: over every short text, from every cursor and count,
+//! in every state of the flags.
 
 ghost use Rattle.std.specs.Prelude.{◌<◌, length};
 
@@ -87,7 +88,8 @@ fn assert_drain_agrees<'a, D: DigitsIter<'a>>(
     assert_cursor(rt, iter, text.len());
 }
 
-/// A peek and then a `next` find what is at the place of the plain program. Answers the count after that.
+/// A peek and then a `next` find what is at the place of the plain program. Answers the count after
+/// that.
 fn assert_step_agrees<'a, D: DigitsIter<'a>>(
     rt: &impl Abort,
     iter: &mut D,
@@ -110,8 +112,9 @@ fn assert_step_agrees<'a, D: DigitsIter<'a>>(
     count
 }
 
-/// The integer. From each cursor with each small count: the whole drain. And a step there, a step at each other cursor, and then
-/// from that cursor, with the count raised by one, all steps to the end.
+/// The integer. From each cursor with each small count: the whole drain. And a step there, a step
+/// at each other cursor, and then from that cursor, with the count raised by one, all steps to the
+/// end.
 fn assert_integer_agrees(rt: &impl Abort, text: &[u8], state: u32) {
     let word = PLAIN | flags_of(state);
     let plain = plain_of(word, Component::Integer);
@@ -138,7 +141,8 @@ fn assert_integer_agrees(rt: &impl Abort, text: &[u8], state: u32) {
     }
 }
 
-/// The drains of the fraction and of the exponent, by the same flags. Their bits stand one and two places above the integer's.
+/// The drains of the fraction and of the exponent, by the same flags. Their bits stand one and two
+/// places above the integer's.
 fn assert_fraction_and_exponent_agree(rt: &impl Abort, text: &[u8], state: u32) {
     let fraction = PLAIN | (flags_of(state) << 1);
     let exponent = PLAIN | (flags_of(state) << 2);

@@ -47,12 +47,14 @@ fn the_iterators_of_one_buffer_share_its_cursor(rt: HostRuntime) {
 
 #[test]
 fn first_passes_nothing_over(rt: HostRuntime) {
-    let mut bytes = bytes_of(&rt, b"_5", PLAIN | LEADING);
-    let iter = bytes.integer_iter();
-    assert_eq!(rt; iter.first().copied(), Some(b'_'));
-    assert_eq!(rt; iter.as_slice(), b"_5".as_slice());
-    assert!(rt; !iter.is_buffer_empty());
-    assert_cursor(&rt, &iter, 0);
+    for word in [PLAIN | INTERNAL, PLAIN | LEADING] {
+        let mut bytes = bytes_of(&rt, b"_5", word);
+        let iter = bytes.integer_iter();
+        assert_eq!(rt; iter.first().copied(), Some(b'_'));
+        assert_eq!(rt; iter.as_slice(), b"_5".as_slice());
+        assert!(rt; !iter.is_buffer_empty());
+        assert_cursor(&rt, &iter, 0);
+    }
 }
 
 #[test]
@@ -88,7 +90,8 @@ fn a_separator_may_be_a_sign(rt: HostRuntime) {
     assert!(rt; !iter.is_digit_separator(b'-'));
 }
 
-/// Makes each call of a cursor once that needs no more than its trait, over `12aB` from the cursor 0.
+/// Makes each call of a cursor once that needs no more than its trait, over `12aB` from the cursor
+/// 0.
 fn assert_cursor_calls<'a, D: Iter<'a>>(rt: &impl Abort, iter: &mut D) {
     assert_eq!(rt; iter.get_buffer(), b"12aB".as_slice());
     assert_eq!(rt; iter.as_slice(), b"12aB".as_slice());
@@ -134,4 +137,18 @@ fn every_contiguous_part_steps_over_any_bytes(rt: HostRuntime) {
     assert_steps(&rt, &mut bytes_of(&rt, b"12345", STANDARD).fraction_iter());
     assert_steps(&rt, &mut bytes_of(&rt, b"12345", STANDARD).exponent_iter());
     assert_steps(&rt, &mut bytes_of(&rt, b"12345", STANDARD).special_iter());
+}
+
+/// The size hint of an iterator that foretells nothing.
+fn assert_no_hint<'a, D: DigitsIter<'a>>(rt: &impl Abort, iter: &D) {
+    assert_eq!(rt; iter.size_hint(), (0, None));
+}
+
+#[test]
+fn a_size_hint_foretells_nothing(rt: HostRuntime) {
+    let mut bytes = bytes_of(&rt, b"1_2", PLAIN | INTERNAL);
+    assert_no_hint(&rt, &bytes.integer_iter());
+    assert_no_hint(&rt, &bytes.fraction_iter());
+    assert_no_hint(&rt, &bytes.exponent_iter());
+    assert_no_hint(&rt, &bytes.special_iter());
 }

@@ -1,4 +1,5 @@
-//! The decision over a source that counts its looks, here over `1__2` by a rule with internal and consecutive.
+//! The decision over a source that counts its looks, here over `1__2` by a rule with internal and
+//! consecutive.
 
 ghost use Rattle.std.specs.Prelude.{◌≡◌};
 ghost use Rattle.lexical_digits.specs.Separators.{IsSupported};

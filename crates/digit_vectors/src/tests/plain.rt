@@ -7,7 +7,7 @@ use lexical_format::{
     INTEGER_CONSECUTIVE_DIGIT_SEPARATOR, INTEGER_INTERNAL_DIGIT_SEPARATOR,
     INTEGER_LEADING_DIGIT_SEPARATOR, INTEGER_TRAILING_DIGIT_SEPARATOR, STANDARD, is_supported,
 };
-use lexical_plain::noskip::{AsBytes, Bytes, Digits, DigitsIterator};
+use lexical_plain::noskip::{AsBytes, Bytes, DigitsIterator};
 
 /// Radix 10 with the separator `_`, dropped wherever it stands in an integer.
 const ALL_INTEGER_SEPARATORS: u128 = (10 << 104)
@@ -113,7 +113,7 @@ fn a_clone_keeps_the_cursor_and_its_own(rt: HostRuntime) {
     let mut bytes = b"07".as_slice().bytes(STANDARD);
     bytes.set_cursor(1);
     let mut copy = bytes.clone().expect(&rt, "a clone takes no memory");
-    let mut iter = Digits { byte: &mut copy };
+    let mut iter = DigitsIterator { byte: &mut copy };
     assert!(rt; iter.is_digit(b'9'));
     assert!(rt; !iter.is_digit(b'a'));
     assert_eq!(rt; iter.next().copied(), Some(b'7'));
@@ -130,7 +130,7 @@ fn length_of<I: ExactSizeIterator>(iter: &I) -> usize {
 fn generic_code_takes_the_plain_iterator(rt: HostRuntime) {
     assert!(rt; is_supported(STANDARD));
     let mut bytes = Bytes::new(b"_7", STANDARD);
-    let mut iter = Digits { byte: &mut bytes };
+    let mut iter = DigitsIterator { byte: &mut bytes };
     assert_eq!(rt; length_of(&iter), 2);
     let (first, again) = peek_settles(&mut iter);
     assert_eq!(rt; first.copied(), Some(b'_'));

@@ -4,14 +4,9 @@ use super::{
     CONSECUTIVE, INTERNAL, LEADING, PLAIN, TRAILING, assert_count, assert_cursor, assert_drains,
     assert_kept, bytes_of,
 };
-use crate::slow::is_kept;
 use lexical_digits::iterator::Iter;
-use lexical_digits::skip::{
-    Component, ExponentKind, FractionKind, IntegerKind, Kind, Rule, SpecialKind,
-};
 use lexical_format::{
-    EXPONENT_INTERNAL_DIGIT_SEPARATOR, FRACTION_INTERNAL_DIGIT_SEPARATOR,
-    FRACTION_LEADING_DIGIT_SEPARATOR, SPECIAL_DIGIT_SEPARATOR,
+    FRACTION_INTERNAL_DIGIT_SEPARATOR, FRACTION_LEADING_DIGIT_SEPARATOR, SPECIAL_DIGIT_SEPARATOR,
 };
 
 #[test]
@@ -110,13 +105,6 @@ fn the_fraction_goes_by_its_own_flags(rt: HostRuntime) {
 }
 
 #[test]
-fn the_exponent_has_the_digits_of_the_mantissa_radix(rt: HostRuntime) {
-    let word = (10 << 120) | (16 << 104) | (0x5f << 64) | EXPONENT_INTERNAL_DIGIT_SEPARATOR;
-    let mut bytes = bytes_of(&rt, b"1_a", word);
-    assert_drains(&rt, &mut bytes.exponent_iter(), b"1a", 2);
-}
-
-#[test]
 fn a_special_value_loses_all_separators_or_none(rt: HostRuntime) {
     let mut bytes = bytes_of(&rt, b"n_a__n", PLAIN | SPECIAL_DIGIT_SEPARATOR);
     assert_drains(&rt, &mut bytes.special_iter(), b"nan", 0);
@@ -124,28 +112,4 @@ fn a_special_value_loses_all_separators_or_none(rt: HostRuntime) {
     assert_count(&rt, &bytes.integer_iter(), 0);
     let mut bytes = bytes_of(&rt, b"n_a", PLAIN);
     assert_drains(&rt, &mut bytes.special_iter(), b"n_a", 0);
-}
-
-#[test]
-fn more_flags_drop_at_least_as_much(rt: HostRuntime) {
-    let everything = PLAIN | INTERNAL | LEADING | TRAILING | CONSECUTIVE;
-    for (word, first_kept) in [
-        (PLAIN | LEADING, 0),
-        (PLAIN | LEADING | CONSECUTIVE, 2),
-        (everything, 2),
-    ] {
-        let rule = Rule::of(word, Component::Integer);
-        for position in 0..4 {
-            let kept = is_kept(rule, b"__45", 0, 0, position);
-            assert_eq!(rt; kept, position >= first_kept, "at {position}");
-        }
-    }
-}
-
-#[test]
-fn each_marker_names_its_component(rt: HostRuntime) {
-    assert_eq!(rt; IntegerKind::kind(), Component::Integer);
-    assert_eq!(rt; FractionKind::kind(), Component::Fraction);
-    assert_eq!(rt; ExponentKind::kind(), Component::Exponent);
-    assert_eq!(rt; SpecialKind::kind(), Component::Special);
 }

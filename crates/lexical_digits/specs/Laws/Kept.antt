@@ -2,126 +2,139 @@
 use Rattle.std.proofs.Common.{◌≡◌, ℕ, zero, ◌+◌, ◌-◌, ◌<◌, ◌≤◌, Bool, true, false, cond, not, ltb, Option, Some, None, List, [], ◌∷◌, length, get_or, map, refl, ap, arith, add-zero, ◌⊎◌, inl, inr}
 use Rattle.std.proofs.lemmas.Option.{gets}
 use Rattle.std.specs.List.{slice_get}
-use Rattle.std.proofs.lemmas.Bool.{false≢true, and_parts, not-false, not_from_false, false_from_ne_true}
+use Rattle.std.proofs.lemmas.Bool.{false≢true, and_parts, not-false}
 use Rattle.std.proofs.lemmas.Bool.Decides.{nat_tests}
-use Rattle.lexical_digits.specs.declared.skip.decision.Rule.{Rule}
-use Rattle.lexical_digits.specs.Separators.{is_digit, holds_separator, dropped, seen, kept, kept_positions, drain, place, class, is_separator_class, is_separator}
+use Rattle.lexical_digits.specs.declared.skip.rule.Rule.{Rule}
+use Rattle.lexical_digits.specs.Separators.{is_digit, holds_separator, is_dropped, digits_seen, is_kept, kept_positions, drain, place, class, is_separator_class, is_separator}
 use Rattle.lexical_digits.specs.State.{count_after}
 use Rattle.lexical_digits.specs.Laws.Ranges.{filter_same_from, range_first, range_none, count_first}
 
--- only whether a number is above zero is asked
-pub positive_same : (x y : ℕ) → (0 < x → 0 < y) → (0 < y → 0 < x) → ltb 0 x ≡ ltb 0 y
-positive_same x y f g = grind (arith, nat_tests)
-
 module _ (rule : Rule) (buffer : List ℕ) where
   -- a digit is kept, and so a position that is dropped holds none
-  pub separator_is : (o : Option ℕ) → is_separator_class (class rule o) ≡ true → (byte : ℕ) × (o ≡ Some byte) × (is_digit rule byte ≡ false) × (is_separator rule.separator byte ≡ true)
+  pub separator_is : (o : Option ℕ) → is_separator_class (class rule o) ≡ true → (byte : ℕ)
+      × (o ≡ Some byte) × (is_digit rule byte ≡ false) × (is_separator rule.separator byte ≡ true)
   separator_is None h = absurd (false≢true h)
   separator_is (Some byte) h = (byte, refl, separator_is_1 byte h, separator_is_2 byte h)
     where
-      separator_is_1 : (byte : ℕ) → is_separator_class (class rule (Some byte)) ≡ true → is_digit rule byte ≡ false
+      separator_is_1 : (byte : ℕ) → is_separator_class (class rule (Some byte)) ≡ true
+          → is_digit rule byte ≡ false
       separator_is_1 byte h = grind arith
 
-      separator_is_2 : (byte : ℕ) → is_separator_class (class rule (Some byte)) ≡ true → is_separator rule.separator byte ≡ true
+      separator_is_2 : (byte : ℕ) → is_separator_class (class rule (Some byte)) ≡ true
+          → is_separator rule.separator byte ≡ true
       separator_is_2 byte h = grind arith
 
   pub separator_within : (q : ℕ) → holds_separator rule buffer q ≡ true → q < length buffer
   unfolding holds_separator
   separator_within q h = let w = separator_is (slice_get buffer q) h in grind (arith, gets)
 
-  pub separator_past : (q : ℕ) → length buffer ≤ q → holds_separator rule buffer q ≡ false
-  separator_past q l = false_from_ne_true _ (λ h. absurd (omega (arith, separator_within q h)))
-
-  pub no_digit_at_separator : (q : ℕ) → holds_separator rule buffer q ≡ true → is_digit rule (get_or buffer q 0) ≡ false
+  pub no_digit_at_separator : (q : ℕ) → holds_separator rule buffer q ≡ true
+      → is_digit rule (get_or buffer q 0) ≡ false
   unfolding holds_separator
   no_digit_at_separator q h = let w = separator_is (slice_get buffer q) h in grind (arith, gets)
 
-  pub separator_byte : (q : ℕ) → holds_separator rule buffer q ≡ true → is_separator rule.separator (get_or buffer q 0) ≡ true
+  pub separator_byte : (q : ℕ) → holds_separator rule buffer q ≡ true
+      → is_separator rule.separator (get_or buffer q 0) ≡ true
   unfolding holds_separator
   separator_byte q h = let w = separator_is (slice_get buffer q) h in grind (arith, gets)
 
-  pub dropped_holds_separator : (digit_seen : Bool) (q : ℕ) → dropped rule buffer digit_seen q ≡ true → holds_separator rule buffer q ≡ true
-  unfolding dropped
+  pub dropped_holds_separator : (digit_seen : Bool) (q : ℕ)
+      → is_dropped rule buffer digit_seen q ≡ true → holds_separator rule buffer q ≡ true
+  unfolding is_dropped
   dropped_holds_separator digit_seen q h = (and_parts _ _ h).0
 
-  pub seen_first : (s c k : ℕ) → s < length buffer → s < k → seen rule buffer s c k ≡ c + cond (is_digit rule (get_or buffer s 0)) 1 0 + seen rule buffer (s + 1) 0 k
-  unfolding seen
+  pub seen_first : (s c k : ℕ) → s < length buffer → s < k
+      → digits_seen rule buffer s c k
+      ≡ c + cond (is_digit rule (get_or buffer s 0)) 1 0 + digits_seen rule buffer (s + 1) 0 k
+  unfolding digits_seen
   seen_first s c k l m = omega (arith, count_first (is_digit rule) buffer s k l m)
 
-  pub seen_count : (s c k : ℕ) → seen rule buffer s c k ≡ c + seen rule buffer s 0 k
-  unfolding seen
+  pub seen_count : (s c k : ℕ) → digits_seen rule buffer s c k ≡ c + digits_seen rule buffer s 0 k
+  unfolding digits_seen
   seen_count s c k = omega arith
 
-  pub seen_none : (s c : ℕ) → seen rule buffer s c s ≡ c
-  unfolding seen
+  pub seen_none : (s c : ℕ) → digits_seen rule buffer s c s ≡ c
+  unfolding digits_seen
   seen_none s c = let e : s - s ≡ zero = omega arith in rw e (add-zero c)
 
   -- what is kept behind s, judged from s + 1 with another count
-  pub kept_same : (s c d k : ℕ) → s < length buffer → s < k → ltb 0 (c + cond (is_digit rule (get_or buffer s 0)) 1 0) ≡ ltb 0 d → kept rule buffer s c k ≡ kept rule buffer (s + 1) d k
-  unfolding kept
+  pub kept_same : (s c d k : ℕ) → s < length buffer → s < k
+      → ltb 0 (c + cond (is_digit rule (get_or buffer s 0)) 1 0) ≡ ltb 0 d
+      → is_kept rule buffer s c k ≡ is_kept rule buffer (s + 1) d k
+  unfolding is_kept
   kept_same s c d k l m e =
       let a = seen_first s c k l m in
       let b = seen_count (s + 1) d k in
-      let f : ltb 0 (seen rule buffer s c k) ≡ ltb 0 (seen rule buffer (s + 1) d k) = grind (arith, nat_tests) in
-      ap (λ t. not (dropped rule buffer t k)) f
+      let f : ltb 0 (digits_seen rule buffer s c k)
+      ≡ ltb 0 (digits_seen rule buffer (s + 1) d k) = grind (arith, nat_tests) in
+      ap (λ t. not (is_dropped rule buffer t k)) f
 
   -- ---- a step over one position, kept or dropped
 
   -- s is dropped, so it holds no digit, and what is kept behind it is judged alike from s + 1
-  pub kept_behind_dropped : (s c k : ℕ) → kept rule buffer s c s ≡ false → s < length buffer → s < k → kept rule buffer s c k ≡ kept rule buffer (s + 1) c k
-  unfolding kept
+  pub kept_behind_dropped : (s c k : ℕ) → is_kept rule buffer s c s ≡ false → s < length buffer
+      → s < k → is_kept rule buffer s c k ≡ is_kept rule buffer (s + 1) c k
+  unfolding is_kept
   kept_behind_dropped s c k h l m =
-      let e : dropped rule buffer (ltb 0 (seen rule buffer s c s)) s ≡ true = not-false _ h in
+      let e : is_dropped rule buffer (ltb 0 (digits_seen rule buffer s c s)) s
+      ≡ true = not-false _ h in
       let no = no_digit_at_separator s (dropped_holds_separator _ s e) in
       kept_same s c c k l m (rw no (ap (ltb 0) (add-zero c)))
 
-  pub kept_past : (s c k : ℕ) → length buffer ≤ k → kept rule buffer s c k ≡ true
-  unfolding kept
-  kept_past s c k l = not_from_false _ (no_drop (ltb 0 (seen rule buffer s c k)))
-    where
-      no_drop : (t : Bool) → dropped rule buffer t k ≡ false
-      no_drop t = false_from_ne_true _ (λ h. absurd (omega (arith, separator_within k (dropped_holds_separator t k h))))
-
   -- a count that saturates stays above zero
-  pub count_after_positive : (c byte : ℕ) → ltb 0 (c + cond (is_digit rule byte) 1 0) ≡ ltb 0 (count_after rule true byte c)
+  pub count_after_positive : (c byte : ℕ)
+      → ltb 0 (c + cond (is_digit rule byte) 1 0) ≡ ltb 0 (count_after rule true byte c)
   count_after_positive c byte = grind (arith, nat_tests)
 
   -- what was seen before does not matter
   abbrev pub IgnoresSeen : Type 0
-  IgnoresSeen = (t u : Bool) (q : ℕ) → dropped rule buffer t q ≡ dropped rule buffer u q
+  IgnoresSeen = (t u : Bool) (q : ℕ) → is_dropped rule buffer t q ≡ is_dropped rule buffer u q
 
   -- either the reads count digits, or nothing hangs on the count
   abbrev pub Counts : Bool → Type 0
   Counts counts = (counts ≡ true) ⊎ IgnoresSeen
 
-  pub kept_behind_kept : (counts : Bool) → Counts counts → (s c k : ℕ) → s < length buffer → s < k → kept rule buffer s c k ≡ kept rule buffer (s + 1) (count_after rule counts (get_or buffer s 0) c) k
-  unfolding kept
+  pub kept_behind_kept : (counts : Bool) → Counts counts → (s c k : ℕ) → s < length buffer → s < k
+      → is_kept rule buffer s c k
+      ≡ is_kept rule buffer (s + 1) (count_after rule counts (get_or buffer s 0) c) k
+  unfolding is_kept
   kept_behind_kept counts (inl e) s c k l m =
-      rw e (kept_same s c (count_after rule true (get_or buffer s 0) c) k l m (count_after_positive c (get_or buffer s 0)))
+      rw e (kept_same s c (count_after rule true (get_or buffer s 0) c) k l m
+      (count_after_positive c (get_or buffer s 0)))
   kept_behind_kept counts (inr ignores) s c k l m = ap not (ignores _ _ k)
 
-  pub positions_kept : (counts : Bool) → Counts counts → (s c : ℕ) → s < length buffer → kept rule buffer s c s ≡ true → kept_positions rule buffer s c ≡ s ∷ kept_positions rule buffer (s + 1) (count_after rule counts (get_or buffer s 0) c)
+  pub positions_kept : (counts : Bool) → Counts counts → (s c : ℕ) → s < length buffer
+      → is_kept rule buffer s c s ≡ true
+      → kept_positions rule buffer s c
+      ≡ s ∷ kept_positions rule buffer (s + 1) (count_after rule counts (get_or buffer s 0) c)
   unfolding kept_positions
   positions_kept counts w s c l h =
       let d = count_after rule counts (get_or buffer s 0) c in
       rw (range_first s (length buffer) l, h)
-      (ap (λ ks. s ∷ ks) (filter_same_from (kept rule buffer s c) (kept rule buffer (s + 1) d) (s + 1) (length buffer - (s + 1)) (λ k m. kept_behind_kept counts w s c k l (omega arith))))
+      (ap (λ ks. s ∷ ks) (filter_same_from (is_kept rule buffer s c) (is_kept rule buffer (s + 1) d)
+      (s + 1) (length buffer - (s + 1))
+      (λ k m. kept_behind_kept counts w s c k l (omega arith))))
 
-  pub positions_dropped : (s c : ℕ) → s < length buffer → kept rule buffer s c s ≡ false → kept_positions rule buffer s c ≡ kept_positions rule buffer (s + 1) c
+  pub positions_dropped : (s c : ℕ) → s < length buffer → is_kept rule buffer s c s ≡ false
+      → kept_positions rule buffer s c ≡ kept_positions rule buffer (s + 1) c
   unfolding kept_positions
   positions_dropped s c l h =
       rw (range_first s (length buffer) l, h)
-      (filter_same_from (kept rule buffer s c) (kept rule buffer (s + 1) c) (s + 1) (length buffer - (s + 1)) (λ k m. kept_behind_dropped s c k h l (omega arith)))
+      (filter_same_from (is_kept rule buffer s c) (is_kept rule buffer (s + 1) c) (s + 1)
+      (length buffer - (s + 1)) (λ k m. kept_behind_dropped s c k h l (omega arith)))
 
   pub positions_end : (s c : ℕ) → length buffer ≤ s → kept_positions rule buffer s c ≡ []
   unfolding kept_positions
   positions_end s c l = rw (range_none s (length buffer) l)
 
-  pub place_kept : (s c : ℕ) → s < length buffer → kept rule buffer s c s ≡ true → place rule buffer s c ≡ s
+  pub place_kept : (s c : ℕ) → s < length buffer → is_kept rule buffer s c s ≡ true
+      → place rule buffer s c ≡ s
   unfolding place
-  place_kept s c l h = ap (λ ks. get_or ks 0 (length buffer)) (positions_kept true (inl refl) s c l h)
+  place_kept s c l h =
+      ap (λ ks. get_or ks 0 (length buffer)) (positions_kept true (inl refl) s c l h)
 
-  pub place_dropped : (s c : ℕ) → s < length buffer → kept rule buffer s c s ≡ false → place rule buffer s c ≡ place rule buffer (s + 1) c
+  pub place_dropped : (s c : ℕ) → s < length buffer → is_kept rule buffer s c s ≡ false
+      → place rule buffer s c ≡ place rule buffer (s + 1) c
   unfolding place
   place_dropped s c l h = ap (λ ks. get_or ks 0 (length buffer)) (positions_dropped s c l h)
 
@@ -129,11 +142,8 @@ module _ (rule : Rule) (buffer : List ℕ) where
   unfolding place
   place_end s c l = ap (λ ks. get_or ks 0 (length buffer)) (positions_end s c l)
 
-  pub drain_kept : (counts : Bool) → Counts counts → (s c : ℕ) → s < length buffer → kept rule buffer s c s ≡ true → drain rule buffer s c ≡ get_or buffer s 0 ∷ drain rule buffer (s + 1) (count_after rule counts (get_or buffer s 0) c)
-  unfolding drain
-  drain_kept counts w s c l h = ap (map (λ k. get_or buffer k 0)) (positions_kept counts w s c l h)
-
-  pub drain_dropped : (s c : ℕ) → s < length buffer → kept rule buffer s c s ≡ false → drain rule buffer s c ≡ drain rule buffer (s + 1) c
+  pub drain_dropped : (s c : ℕ) → s < length buffer → is_kept rule buffer s c s ≡ false
+      → drain rule buffer s c ≡ drain rule buffer (s + 1) c
   unfolding drain
   drain_dropped s c l h = ap (map (λ k. get_or buffer k 0)) (positions_dropped s c l h)
 

@@ -1,26 +1,67 @@
-//! A buffer with a cursor, and what each call on it does for a component.
+//! What a `Bytes` is, and what it says of its word and its counts. How it reads is in `reading`.
 
-ghost use Rattle.std.specs.Prelude.{◌≡◌, ◌&&◌, not, ℕ, ◌+◌, ◌-◌, ◌*◌, ◌<◌, ◌≤◌, length, List, drop, Option, Some, None, option_copied, slice_get, slice_index, IfSome, IsTrue, true, pos, ◌≤ℤ◌, ◌+ℤ◌};
-ghost use Rattle.lexical_format.specs.Word.{separator, bit, is_supported};
+ghost use Rattle.std.specs.Prelude.{◌≡◌, ◌&&◌, not, ℕ, ◌+◌, ◌*◌, ◌<◌, ◌≤◌, length, List, Some, None, IsTrue, pos, ◌≤ℤ◌, ◌+ℤ◌};
+ghost use Rattle.lexical_format.specs.Word.{separator, is_supported};
 ghost use Rattle.lexical_digits.specs.Separators.{is_digit, is_separator, has_flags, IsSupported};
-ghost use Rattle.lexical_digits.specs.State.{State, IsState, with_cursor, start, rule_at, special_rule, rule_of, rule, own, with_own, is_special, counts, count_after, is_contiguous, has_no_separator, count_of_all, current_count, cut, cut_end};
-ghost use Rattle.lexical_digits.specs.CallTable.{place_of, peeked, settled, counted, taken, Takes};
+ghost use Rattle.lexical_digits.specs.State.{IsState, with_cursor, start, rule, own, is_special, counts, is_contiguous, has_no_separator, count_of_all, current_count, cut, cut_end};
+ghost use Rattle.lexical_digits.specs.CallTable.{counted};
 ghost use Rattle.lexical_digits.specs.Cursor.{CanStep};
-ghost use Rattle.lexical_digits.specs.Looks.{IsRun, IsRunOrNone, run_between, owed, far, Reads, Unread};
-ghost use Rattle.lexical_digits.specs.Inside.{state_of, IsReading, has_no_flags as has_no_flags_of};
+ghost use Rattle.lexical_digits.specs.Looks.{owed, Unread};
+ghost use Rattle.lexical_digits.specs.Tally.{state_of};
+ghost use Rattle.lexical_digits.specs.Bytes.{IsReading, Remembers, has_no_flags as has_no_flags_of};
 
+mod reading;
 mod shortcuts;
 mod tally;
+#[cfg(test)]
+mod tests;
 
-use self::shortcuts::{Shortcuts, byte_at, inner_digit};
+use self::shortcuts::Shortcuts;
 use self::tally::Tally;
 use super::component::Component;
-use super::decision::{Rule, Run, is_separator, read};
+use super::decision::Run;
+use super::rule::{Rule, is_separator};
 use crate::iterator::Iter;
 use lexical_format::NumberFormat;
 use std::alloc::AllocError;
 use std::convert::Infallible;
 use std::marker::Model;
+
+/// A buffer with a format word, a cursor, and the counts of three components: lexical-util's
+/// `skip::Bytes`. Positions count bytes from 0.
+#[derive(Drop)]
+pub struct Bytes<'a> {
+    /// The whole buffer.
+    slc: &'a [u8],
+    /// The format word.
+    format: u128,
+    /// Whether no component of the word has a flag; decoded once.
+    has_no_flags: bool,
+    /// What one byte tells, for the component that reads.
+    shortcuts: Shortcuts,
+    /// The cursor, the counts and the looks; and which component reads.
+    tally: Tally,
+    /// The run of separators that is remembered; none is where `from` isn't below `to`.
+    run: Run,
+    // The cursor is within the buffer, the word is supported, and the counts fit.
+    ghost holds: { IsState (state_of slc.now format tally) },
+    // `has_no_flags` is of the word.
+    ghost flags: { has_no_flags ≡ has_no_flags_of format },
+    // `shortcuts` and `is_counting` are of the component that reads: who changes it makes both
+    // anew.
+    ghost reading: { IsReading format tally.reader tally.is_counting shortcuts },
+    // `run` is a maximal run of this buffer, or none.
+    ghost remembers: { Remembers (separator format) slc.now run },
+}
+
+impl<'a> Model for Bytes<'a> {
+    ghost use Rattle.lexical_digits.specs.Looks.{Held};
+    ghost use Rattle.lexical_digits.specs.Bytes.{held_of};
+
+    ghost Value = { Held };
+
+    ghost view = { λ b. held_of b.slc.now b.format b.tally b.run b.holds b.remembers };
+}
 
 /// Names the state of a `Bytes` as a type. It has no value.
 pub struct Meaning {
@@ -46,13 +87,21 @@ fn separator_of(word: u128) -> u8
 
 /// Whether `next` counts the digits of a component with that rule.
 #[inline(always)]
-fn counts(k: Component, rule: Rule) -> bool
-    ensures { result ≡ (not (is_special k) && has_flags rule) }
+fn is_counting(component: Component, rule: Rule) -> bool
+    ensures { result ≡ (not (is_special component) && has_flags rule) }
 {
-    match k {
+    match component {
         Component::Special => false,
         _ => rule.has_flags(),
     }
+}
+
+/// Whether `next` counts that byte for a component with that rule.
+#[inline(always)]
+fn is_counted(component: Component, rule: Rule, byte: u8) -> bool
+    ensures { result ≡ ((not (is_special component) && has_flags rule) && is_digit rule byte) }
+{
+    is_counting(component, rule) && rule.is_digit(byte)
 }
 
 /// Whether no component has a flag.
@@ -66,37 +115,9 @@ fn has_no_flags(word: u128) -> bool
         && !Rule::of(word, Component::Special).has_flags()
 }
 
-/// A buffer with a format word, a cursor, and the counts of three components: lexical-util's `skip::Bytes`.
-#[derive(Drop)]
-pub struct Bytes<'a> {
-    slc: &'a [u8],
-    format: u128,
-    has_no_flags: bool,
-    shortcuts: Shortcuts,
-    tally: Tally,
-    run: Run,
-    ghost holds: { IsState (state_of slc.now format tally) },
-    ghost flags: { has_no_flags ≡ has_no_flags_of format },
-    ghost reads: { IsReading format tally.reader tally.is_counting shortcuts },
-    ghost remembers: { run.from < run.to → IsRun (separator format) slc.now run.from run.to },
-}
-
-impl<'a> Model for Bytes<'a> {
-    ghost use Rattle.lexical_digits.specs.Looks.{Held, run_between};
-    ghost use Rattle.lexical_digits.specs.Inside.{state_of, looks_of};
-
-    ghost Value = { Held };
-
-    ghost view = { λ b. record {
-      state = state_of b.slc.now b.format b.tally;
-      run = run_between b.run.from b.run.to;
-      looks = looks_of b.tally;
-      holds = b.holds;
-    } };
-}
-
 impl<'a> Bytes<'a> {
-    /// A buffer with the cursor and all counts at 0, no run remembered, and no look counted. Asks that the word is supported.
+    /// A buffer with the cursor and all counts at 0, no run remembered, and no look counted. Asks
+    /// that the word is supported.
     pub fn new(slc: &'a [u8], format: u128) -> Self
         requires { IsTrue (is_supported format) }
         ensures state { result.state ≡ start slc.now format }
@@ -115,10 +136,10 @@ impl<'a> Bytes<'a> {
         }
     }
 
-    /// How many looks at a byte the reads on this `Bytes` counted, stopping at `u64::MAX`.
+    /// How many looks at a byte the reads on this `Bytes` counted, stopping at `u64::MAX`. Not in
+    /// lexical-util.
     pub fn looks(&self) -> u64
-        ensures value { result ≡ self.now.looks }
-        ensures far { far self.now.run self.now.state.cursor ≤ length self.now.state.buffer }
+        ensures { result ≡ self.now.looks }
     {
         self.tally.looks()
     }
@@ -128,101 +149,55 @@ impl<'a> Bytes<'a> {
     pub(crate) fn is_separator(&self, value: u8) -> bool
         ensures { result ≡ is_separator (separator self.now.state.word) value }
     {
-        self.rule(Component::Integer).is_separator(value)
+        is_separator(separator_of(self.format), value)
     }
 
     /// What the word grants a component.
     #[inline(always)]
-    fn rule(&self, k: Component) -> Rule
-        ensures value { result ≡ rule k self.now.state }
+    fn rule(&self, component: Component) -> Rule
+        ensures value { result ≡ rule component self.now.state }
         ensures supported { IsSupported result }
-        ensures separator { result.separator ≡ separator self.now.state.word }
     {
-        Rule::of(self.format, k)
+        Rule::of(self.format, component)
+    }
+
+    /// Whether a byte is a digit of a component's radix.
+    #[inline(always)]
+    pub(crate) fn is_digit(&self, component: Component, value: u8) -> bool
+        ensures { result ≡ is_digit (rule component self.now.state) value }
+    {
+        self.rule(component).is_digit(value)
+    }
+
+    /// Whether a component has none of its flags.
+    #[inline(always)]
+    pub(crate) fn is_contiguous_for(&self, component: Component) -> bool
+        ensures { result ≡ is_contiguous component self.now.state.word }
+    {
+        !self.rule(component).has_flags()
     }
 
     /// The count by which the separators of a component are judged.
     #[inline(always)]
-    fn own(&self, k: Component) -> usize
-        ensures { result ≡ own k self.now.state }
+    fn own(&self, component: Component) -> usize
+        ensures { result ≡ own component self.now.state }
     {
-        match k {
+        match component {
             Component::Integer | Component::Special => self.tally.integer(),
             Component::Fraction => self.tally.fraction(),
             Component::Exponent => self.tally.exponent(),
         }
     }
 
-    /// The run that is remembered.
-    #[inline(always)]
-    fn run(&self) -> Option<Run>
-        ensures value { result ≡ self.now.run }
-        ensures run { IsRunOrNone (separator self.now.state.word) self.now.state.buffer result }
-    {
-        if self.run.from < self.run.to {
-            Some(self.run)
-        } else {
-            None
-        }
-    }
-
-    /// Sets how many looks there were.
-    #[inline(always)]
-    fn set_looks(&mut self, looks: u64)
-        ensures state { self.new.state ≡ self.old.state }
-        ensures run { self.new.run ≡ self.old.run }
-        ensures looks { self.new.looks ≡ looks }
-    {
-        self.tally.set_looks(looks);
-    }
-
-    /// Remembers a run of this buffer, or none.
-    #[inline(always)]
-    fn remember(&mut self, run: Option<Run>)
-        requires { IsRunOrNone (separator self.old.state.word) self.old.state.buffer run }
-        ensures state { self.new.state ≡ self.old.state }
-        ensures run { self.new.run ≡ run }
-        ensures looks { self.new.looks ≡ self.old.looks }
-    {
-        self.run = match run {
-            Some(run) => run,
-            None => Run { from: 0, to: 0 },
-        };
-    }
-
-    /// Whether a byte is a digit of a component's radix.
-    #[inline(always)]
-    pub(crate) fn is_digit(&self, k: Component, value: u8) -> bool
-        ensures { result ≡ is_digit (rule k self.now.state) value }
-    {
-        self.rule(k).is_digit(value)
-    }
-
-    /// Whether a component has none of its flags.
-    #[inline(always)]
-    pub(crate) fn is_contiguous_for(&self, k: Component) -> bool
-        ensures { result ≡ is_contiguous k self.now.state.word }
-    {
-        !self.rule(k).has_flags()
-    }
-
-    /// Whether `next` counts the digits of a component.
-    #[inline(always)]
-    fn counts(&self, k: Component) -> bool
-        ensures { result ≡ counts k self.now.state.word }
-    {
-        counts(k, self.rule(k))
-    }
-
     /// What `current_count` answers on the iterator of a component.
     #[inline(always)]
-    pub(crate) fn count_for(&self, k: Component) -> usize
-        ensures { result ≡ current_count k self.now.state }
+    pub(crate) fn count_for(&self, component: Component) -> usize
+        ensures { result ≡ current_count component self.now.state }
     {
-        if self.is_contiguous_for(k) {
+        if self.is_contiguous_for(component) {
             self.count_of_all()
         } else {
-            self.own(k)
+            self.own(component)
         }
     }
 
@@ -243,71 +218,34 @@ impl<'a> Bytes<'a> {
 
     /// Raises the count of a component by one.
     #[inline(always)]
-    pub(crate) fn count(&mut self, k: Component)
-        ensures state { self.new.state ≡ counted k self.old.state }
+    pub(crate) fn raise(&mut self, component: Component)
+        ensures state { self.new.state ≡ counted component self.old.state }
         ensures unread { Unread self.old self.new }
         ensures owes { owed self.new ≤ℤ owed self.old }
     {
-        self.tally.raise(k);
-    }
-
-    /// Moves the cursor to the place.
-    #[tactic(auto, unfolding(crate::specs::CallTable::place_of))]
-    #[inline(always)]
-    fn settle(&mut self, k: Component)
-        ensures state { self.new.state ≡ settled k self.old.state }
-        ensures within { place_of k self.old.state ≤ length self.old.state.buffer }
-        ensures reads { Reads k self.old self.new }
-    {
-        let rule = self.rule(k);
-        let seen = read(
-            self.slc,
-            rule,
-            self.tally.index,
-            self.own(k),
-            self.run(),
-            self.tally.looks(),
-        );
-        self.move_to(seen.place);
-        self.set_looks(seen.looks);
-        self.remember(seen.run);
-    }
-
-    /// Lets a component read from here on, unless it does: what was counted for another one is stored.
-    #[inline(always)]
-    fn take_over(&mut self, k: Component)
-        ensures state { self.new.state ≡ self.old.state }
-        ensures unread { Unread self.old self.new }
-    {
-        if !self.tally.reader.is(k) {
-            let rule = Rule::of(self.format, k);
-            let is_counting = counts(k, rule);
-            let index = self.tally.index;
-            self.tally.settle(index, k, is_counting);
-            self.shortcuts = Shortcuts::of(rule, is_counting);
-        }
+        self.tally.raise(component);
     }
 
     /// Moves the cursor anywhere in the buffer.
-    #[tactic(auto, using(crate::proofs::Owing::owed_onward, crate::proofs::Owing::owed_back))]
+    #[tactic(auto, using(crate::proofs::Looks::Owing::owed_onward, crate::proofs::Looks::Owing::owed_back))]
     #[inline(always)]
     pub(crate) fn move_to(&mut self, index: usize)
         requires { index ≤ length self.old.state.buffer }
         ensures state { self.new.state ≡ with_cursor self.old.state index }
         ensures unread { Unread self.old self.new }
         ensures owes { self.old.state.cursor ≤ index → owed self.new ≤ℤ owed self.old }
-        ensures owes_back { owed self.new ≤ℤ (owed self.old +ℤ pos (3 * length self.old.state.buffer)) }
+        ensures owes_back { let n = length self.old.state.buffer in
+            owed self.new ≤ℤ (owed self.old +ℤ pos (3 * n)) }
     {
-        let reader = self.tally.reader;
-        let is_counting = self.tally.is_counting;
-        self.tally.settle(index, reader, is_counting);
+        self.tally.move_to(index);
     }
 
     /// Moves the cursor on, past bytes that are not looked at.
     #[inline(always)]
     pub(crate) fn advance(&mut self, count: usize)
         requires { self.old.state.cursor + count ≤ length self.old.state.buffer }
-        ensures state { self.new.state ≡ with_cursor self.old.state (self.old.state.cursor + count) }
+        ensures state { let index = self.old.state.cursor + count in
+            self.new.state ≡ with_cursor self.old.state index }
         ensures unread { Unread self.old self.new }
         ensures owes { owed self.new ≤ℤ owed self.old }
     {
@@ -315,154 +253,9 @@ impl<'a> Bytes<'a> {
         self.move_to(self.tally.index + count);
     }
 
-    /// The byte at the place, where the cursor is moved, whoever read before.
-    #[inline(always)]
-    fn peek_anew(&mut self, k: Component) -> Option<&'a u8>
-        ensures byte { option_copied result ≡ peeked k self.old.state }
-        ensures state { self.new.state ≡ settled k self.old.state }
-        ensures reads { Reads k self.old self.new }
-    {
-        self.take_over(k);
-        self.settle(k);
-        self.slc.get(self.tally.index)
-    }
-
-    /// The byte at the place, which is the cursor where no component has a flag.
-    #[inline(always)]
-    fn peek_unflagged(&mut self, k: Component) -> Option<&'a u8>
-        requires { has_no_flags_of self.old.state.word ≡ true }
-        ensures byte { option_copied result ≡ peeked k self.old.state }
-        ensures state { self.new.state ≡ settled k self.old.state }
-        ensures reads { Reads k self.old self.new }
-    {
-        let Some(byte) = byte_at(self.slc, self.tally.index) else {
-            return None;
-        };
-        self.tally.look();
-        Some(byte)
-    }
-
-    /// The byte at the place, where the cursor is moved.
-    #[inline(always)]
-    pub(crate) fn peek(&mut self, k: Component) -> Option<&'a u8>
-        ensures byte { option_copied result ≡ peeked k self.old.state }
-        ensures state { self.new.state ≡ settled k self.old.state }
-        ensures reads { Reads k self.old self.new }
-    {
-        if self.has_no_flags {
-            return self.peek_unflagged(k);
-        }
-        if !self.tally.reader.is(k) {
-            return self.peek_anew(k);
-        }
-        let Some(byte) = byte_at(self.slc, self.tally.index) else {
-            return None;
-        };
-        if self.shortcuts.passes_first(*byte) {
-            self.tally.look();
-            return Some(byte);
-        }
-        if let Some(next) = inner_digit(self.slc, self.tally, self.shortcuts, *byte) {
-            self.run = Run {
-                from: self.tally.index,
-                to: self.tally.index + 1,
-            };
-            self.tally.skip_and_look();
-            return Some(next);
-        }
-        if !is_separator(separator_of(self.format), *byte) {
-            self.tally.look();
-            return Some(byte);
-        }
-        self.peek_anew(k)
-    }
-
-    /// Passes the byte at the cursor, and counts it if it is a digit that `next` counts.
-    #[inline(always)]
-    fn pass(&mut self, k: Component, byte: u8)
-        requires within { self.old.state.cursor < length self.old.state.buffer }
-        ensures state { self.new.state ≡ with_cursor (with_own k self.old.state (count_after (rule k self.old.state) (counts k self.old.state.word) byte (own k self.old.state))) (self.old.state.cursor + 1) }
-        ensures unread { Unread self.old self.new }
-        ensures owes { owed self.new ≤ℤ owed self.old }
-    {
-        let is_counted = self.counts(k) && self.is_digit(k, byte);
-        self.advance(1);
-        if is_counted {
-            self.count(k);
-        }
-    }
-
-    /// The byte at the place, which is passed and, if it is a digit, counted, whoever read before.
-    #[tactic(auto, using(crate::proofs::Headline::takes_none, crate::proofs::Owing::reads_then))]
-    #[inline(always)]
-    fn take_anew(&mut self, k: Component) -> Option<&'a u8>
-        ensures takes { Takes k self.old.state self.new.state result }
-        ensures reads { Reads k self.old self.new }
-    {
-        match self.peek_anew(k) {
-            Some(byte) => {
-                self.pass(k, *byte);
-                Some(byte)
-            }
-            None => None,
-        }
-    }
-
-    /// The byte at the place, which is passed, where no component has a flag.
-    #[inline(always)]
-    fn take_unflagged(&mut self, k: Component) -> Option<&'a u8>
-        requires { has_no_flags_of self.old.state.word ≡ true }
-        ensures takes { Takes k self.old.state self.new.state result }
-        ensures reads { Reads k self.old self.new }
-    {
-        let Some(byte) = byte_at(self.slc, self.tally.index) else {
-            return None;
-        };
-        self.tally.pass();
-        Some(byte)
-    }
-
-    /// The byte at the place, which is passed and, if it is a digit, counted.
-    #[inline(always)]
-    pub(crate) fn take(&mut self, k: Component) -> Option<&'a u8>
-        ensures takes { Takes k self.old.state self.new.state result }
-        ensures reads { Reads k self.old self.new }
-    {
-        if self.has_no_flags {
-            return self.take_unflagged(k);
-        }
-        if !self.tally.reader.is(k) {
-            return self.take_anew(k);
-        }
-        let Some(byte) = byte_at(self.slc, self.tally.index) else {
-            return None;
-        };
-        if self.shortcuts.passes_first(*byte) {
-            self.tally.pass();
-            return Some(byte);
-        }
-        if let Some(next) = inner_digit(self.slc, self.tally, self.shortcuts, *byte) {
-            self.run = Run {
-                from: self.tally.index,
-                to: self.tally.index + 1,
-            };
-            self.tally.skip();
-            self.tally.pass();
-            return Some(next);
-        }
-        if self.shortcuts.passes_letter(*byte) {
-            self.tally.pass();
-            return Some(byte);
-        }
-        if !is_separator(separator_of(self.format), *byte) {
-            self.tally.skip();
-            return Some(byte);
-        }
-        self.take_anew(k)
-    }
-
-    /// The buffer cut `n` bytes behind the cursor, with this cursor and no counts. The cursor goes to where it is cut.
-    #[tactic(auto, using(crate::proofs::Owing::owed_onward))]
+    /// The buffer cut `n` bytes behind the cursor, with this cursor and no counts. The cursor goes
+    /// to where it is cut.
+    #[tactic(auto, using(crate::proofs::Looks::Owing::owed_onward))]
     pub(crate) fn cut(&mut self, n: usize) -> Bytes<'a>
         ensures view { result.state ≡ cut self.old.state (cut_end self.old.state n) }
         ensures view_run { result.run ≡ None }
@@ -508,7 +301,7 @@ impl<'a> Iter<'a> for Bytes<'a> {
     ghost use Rattle.lexical_format.specs.Word.{separator};
     ghost use Rattle.lexical_digits.specs.Separators.{is_separator};
     ghost use Rattle.lexical_digits.specs.State.{IsState, with_cursor, count_of_all, has_no_separator};
-    ghost use Rattle.lexical_digits.specs.Looks.{owed};
+    ghost use Rattle.lexical_digits.specs.Looks.{owed, Unread};
     ghost use Rattle.lexical_digits.specs.Laws.Table.{bytes_laws};
 
     type Meaning = Meaning;
@@ -522,6 +315,8 @@ impl<'a> Iter<'a> for Bytes<'a> {
     ghost loan = { λ _. tt };
 
     ghost owed = { owed };
+
+    ghost Unread = { Unread };
 
     ghost buffer = { λ m. m.buffer };
 
@@ -552,7 +347,8 @@ impl<'a> Iter<'a> for Bytes<'a> {
         ensures moves { self.new.state ≡ with_cursor self.old.state index }
         ensures unread { Unread self.old self.new }
         ensures owes { self.old.state.cursor ≤ index → owed self.new ≤ℤ owed self.old }
-        ensures owes_back { owed self.new ≤ℤ (owed self.old +ℤ pos (3 * length self.old.state.buffer)) }
+        ensures owes_back { let n = length self.old.state.buffer in
+            owed self.new ≤ℤ (owed self.old +ℤ pos (3 * n)) }
     {
         self.move_to(index);
     }
@@ -569,8 +365,11 @@ impl<'a> Iter<'a> for Bytes<'a> {
 
     #[inline(always)]
     fn step_by_unchecked(&mut self, count: usize)
-        requires { CanStep self.old.state.buffer self.old.state.cursor (has_no_separator self.old.state.word) (λ b. is_separator (separator self.old.state.word) b) count }
-        ensures moves { self.new.state ≡ with_cursor self.old.state (self.old.state.cursor + count) }
+        requires { let s = self.old.state in
+            let separates = λ (b : ℕ). is_separator (separator s.word) b in
+            CanStep s.buffer s.cursor (has_no_separator s.word) separates count }
+        ensures moves { let index = self.old.state.cursor + count in
+            self.new.state ≡ with_cursor self.old.state index }
         ensures unread { Unread self.old self.new }
         ensures owes { owed self.new ≤ℤ owed self.old }
     {

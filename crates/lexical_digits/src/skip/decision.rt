@@ -1,34 +1,14 @@
-//! The decision: which byte comes next, and how many bytes are looked at to find it.
+//! The decision: which byte comes next, and how many bytes are looked at to find it. It knows a
+//! rule and a source of bytes, and no word, component or cursor.
 //!
 //! In lexical-util each of fifteen rules has code of its own. Here one function judges by any rule.
 
-ghost use Rattle.std.specs.Prelude.{◌≡◌, ℕ, ◌+◌, ◌-◌, ◌*◌, ◌^◌, ◌<◌, ◌≤◌, List, Some, length, min, slice_get, slice_index, nat_lt, true, false};
-ghost use Rattle.std.specs.List.{list_any};
-ghost use Rattle.lexical_digits.specs.Separators.{class, is_digit, is_separator, roles, grants, left_side, place, has_flags, IsSupported};
-ghost use Rattle.lexical_digits.specs.Looks.{separator_at, slice_before, scans, run_holds, run_length, IsRun, IsRunOrNone, IsSpan, IsLooked, Saw};
+ghost use Rattle.std.specs.Prelude.{◌≡◌, ℕ, ◌+◌, ◌-◌, ◌*◌, ◌<◌, ◌≤◌, Some, length, slice_get, nat_lt, not, true, false};
+ghost use Rattle.lexical_digits.specs.Separators.{class, left_side, place, IsSupported};
+ghost use Rattle.lexical_digits.specs.Looks.{separator_at, slice_before, scans, run_holds, run_length, IsRun, IsRunOrNone, IsSpan, IsLooked, one_if};
 
-use lexical_format::char_is_digit_const;
-use std::marker::Model;
-
-/// Which bytes of a component are digits and separators, and which separators are dropped.
-///
-/// A separator that has another one as its left or right side is kept. Where neither side is a digit,
-/// it is both a leading and a trailing one.
-#[derive(Clone, Copy, Debug, PartialEq, Eq)]
-pub struct Rule {
-    /// The byte that separates digits; zero means that none does.
-    pub separator: u8,
-    /// The radix of the digits.
-    pub radix: u32,
-    /// Drops a separator between digits.
-    pub internal: bool,
-    /// Drops a separator with no digit before it.
-    pub leading: bool,
-    /// Drops a separator with no digit behind it.
-    pub trailing: bool,
-    /// Judges a run of separators as a single one.
-    pub consecutive: bool,
-}
+use super::rule::{Class, Rule};
+use super::source::ByteSource;
 
 /// A maximal run of separators, at the positions `from..to`.
 ///
@@ -49,76 +29,6 @@ pub struct Sight {
     pub run: Option<Run>,
 }
 
-/// Bytes that are looked at one by one, and each look is counted. They never change.
-///
-/// Positions count bytes from 0.
-pub trait ByteSource {
-    // The bytes.
-    ghost content: { Self → List ℕ };
-
-    // How many looks were counted.
-    ghost looked: { Self → ℕ };
-
-    /// How many bytes there are. This is no look.
-    fn length(&self) -> usize
-        ensures { result ≡ length (content self.now) };
-
-    /// The byte at a position. This is a look.
-    fn at(&mut self, index: usize) -> u8
-        requires { index < length (content self.old) }
-        ensures byte { result ≡ slice_index (content self.old) index }
-        ensures content { content self.new ≡ content self.old }
-        ensures looks { looked self.new ≡ min (looked self.old + 1) (2 ^ 64 - 1) };
-
-    /// How many looks were counted. The count stops at `u64::MAX`.
-    fn looks(&self) -> u64
-        ensures { result ≡ looked self.now };
-}
-
-/// The bytes of a slice.
-#[derive(Drop)]
-pub struct SliceSource<'a> {
-    slc: &'a [u8],
-    looks: u64,
-}
-
-impl<'a> Model for SliceSource<'a> {
-    ghost use Rattle.lexical_digits.specs.Looks.{Source};
-
-    ghost Value = { Source };
-
-    ghost view = { λ s. record { content = s.slc.now; looked = s.looks } };
-}
-
-impl<'a> SliceSource<'a> {
-    /// The bytes of that slice, at none of which anyone looked.
-    pub fn new(slc: &'a [u8]) -> SliceSource<'a>
-        ensures content { result.content ≡ slc.now }
-        ensures looks { result.looked ≡ 0 }
-    {
-        SliceSource { slc, looks: 0 }
-    }
-}
-
-impl<'a> ByteSource for SliceSource<'a> {
-    ghost content = { λ s. s.content };
-
-    ghost looked = { λ s. s.looked };
-
-    fn length(&self) -> usize {
-        self.slc.len()
-    }
-
-    fn at(&mut self, index: usize) -> u8 {
-        self.looks = self.looks.saturating_add(1);
-        self.slc[index]
-    }
-
-    fn looks(&self) -> u64 {
-        self.looks
-    }
-}
-
 /// The position of the next kept byte, from position `at` on, and the run to be remembered.
 ///
 /// `counted` says that the count of digits is above zero: then a digit is the left side of each
@@ -127,8 +37,12 @@ impl<'a> ByteSource for SliceSource<'a> {
 ///
 /// A run is looked for only at a separator that `run` doesn't hold, under a consecutive rule. Of a
 /// length r, it then takes r to 3 + 3r looks, and is answered. Else there are at most 3 looks, and
-/// the answer has `run` as it was.
-#[tactic(auto, using(crate::proofs::Looking::separator_byte_at, crate::proofs::Looking::separator_at_past, crate::proofs::Looking::place_at_other))]
+/// the answer has `run` as it was. Where digits were counted it takes one look less at most.
+///
+/// Asks that `at` is at most the length, that the rule's radix is 2 to 36 and its separator no
+/// digit of it, and that `run` is `None` or a maximal run of this source. lexical-util has no such
+/// call.
+#[tactic(auto, using(crate::proofs::Looks::WhereSeparatorsStand::separator_byte_at, crate::proofs::Looks::WhereSeparatorsStand::separator_at_past, crate::proofs::Looks::WhereSeparatorsStand::place_at_other))]
 pub fn decide<S: ByteSource>(
     src: &mut S,
     rule: Rule,
@@ -148,14 +62,14 @@ pub fn decide<S: ByteSource>(
     ensures unscanned_run { scans rule (S.content src.old) at run ≡ false
         → result.run ≡ run }
     ensures unscanned_looks { scans rule (S.content src.old) at run ≡ false
-        → IsLooked (S.looked src.old) 0 3 (S.looked src.new) }
+        → IsLooked (S.looked src.old) 0 (2 + one_if (not counted)) (S.looked src.new) }
 
     // Where one was.
     ensures scanned_run { scans rule (S.content src.old) at run ≡ true
         → run_holds result.run at ≡ true }
     ensures scanned_looks { scans rule (S.content src.old) at run ≡ true
-        → IsLooked (S.looked src.old)
-        (run_length result.run) (3 + 3 * run_length result.run) (S.looked src.new) }
+        → let r = run_length result.run in
+        IsLooked (S.looked src.old) r (2 + one_if (not counted) + 3 * r) (S.looked src.new) }
 {
     if at == src.length() {
         return Sight { place: at, run };
@@ -164,64 +78,53 @@ pub fn decide<S: ByteSource>(
     if !rule.is_separator(byte) {
         return Sight { place: at, run };
     }
-    decide_separator(src, rule, at, counted, run)
+    let span = span_at(src, rule, at, run);
+    let place = judge(src, rule, at, counted, span);
+    Sight {
+        place,
+        run: if rule.consecutive { Some(span) } else { run },
+    }
 }
 
-/// As [`decide`], at a separator that was looked at already.
-#[tactic(auto, using(crate::proofs::Spans::span_alone, crate::proofs::Spans::span_of_run))]
-fn decide_separator<S: ByteSource>(
-    src: &mut S,
-    rule: Rule,
-    at: usize,
-    counted: bool,
-    run: Option<Run>,
-) -> Sight
+/// What is judged as one at a separator: under a consecutive rule the run that holds it, remembered
+/// or scanned, and else the separator alone.
+#[tactic(auto, using(crate::proofs::Looks::Spans::span_alone, crate::proofs::Looks::Spans::span_of_run))]
+fn span_at<S: ByteSource>(src: &mut S, rule: Rule, at: usize, run: Option<Run>) -> Run
     requires supported { IsSupported rule }
     requires within { at < length (S.content src.old) }
     requires separator { separator_at rule.separator (S.content src.old) at ≡ true }
     requires remembered { IsRunOrNone rule.separator (S.content src.old) run }
-    ensures place { (count : ℕ) → counted ≡ nat_lt 0 count
-        → result.place ≡ place rule (S.content src.old) at count }
+    ensures span { IsSpan rule (S.content src.old) at result.from result.to }
     ensures content { S.content src.new ≡ S.content src.old }
-    ensures run { IsRunOrNone rule.separator (S.content src.old) result.run }
-    ensures unscanned_run { scans rule (S.content src.old) at run ≡ false
-        → result.run ≡ run }
+    ensures run { rule.consecutive ≡ true
+        → IsRun rule.separator (S.content src.old) result.from result.to }
+    ensures holds { rule.consecutive ≡ true → run_holds (Some result) at ≡ true }
+    ensures known { rule.consecutive ≡ true → run_holds run at ≡ true → run ≡ Some result }
     ensures unscanned_looks { scans rule (S.content src.old) at run ≡ false
-        → IsLooked (S.looked src.old) 0 2 (S.looked src.new) }
-    ensures scanned_run { scans rule (S.content src.old) at run ≡ true
-        → run_holds result.run at ≡ true }
+        → S.looked src.new ≡ S.looked src.old }
     ensures scanned_looks { scans rule (S.content src.old) at run ≡ true
         → IsLooked (S.looked src.old)
-        (run_length result.run) (2 + 3 * run_length result.run) (S.looked src.new) }
+        (result.to - result.from) (result.to - result.from + 2) (S.looked src.new) }
 {
-    if rule.consecutive {
-        if let Some(known) = run
-            && known.from <= at
-            && at < known.to
-        {
-            let place = judge(src, rule, at, counted, known);
-            return Sight { place, run };
-        }
-        let found = scan(src, rule, at);
-        let place = judge(src, rule, at, counted, found);
-        Sight {
-            place,
-            run: Some(found),
-        }
-    } else {
+    if !rule.consecutive {
         let end = src.length();
         prove!(at < end);
-        let span = Run {
+        return Run {
             from: at,
             to: at + 1,
         };
-        let place = judge(src, rule, at, counted, span);
-        Sight { place, run }
     }
+    if let Some(known) = run
+        && known.from <= at
+        && at < known.to
+    {
+        return known;
+    }
+    scan(src, rule, at)
 }
 
 /// The place from a separator on, by what stands on both sides of the span that is judged as one.
-#[tactic(auto, using(crate::proofs::Spans::place_dropped_by, crate::proofs::Spans::place_kept_by))]
+#[tactic(auto, using(crate::proofs::Looks::Spans::place_dropped_by, crate::proofs::Looks::Spans::place_kept_by))]
 fn judge<S: ByteSource>(src: &mut S, rule: Rule, at: usize, counted: bool, span: Run) -> usize
     requires supported { IsSupported rule }
     requires separator { separator_at rule.separator (S.content src.old) at ≡ true }
@@ -229,7 +132,7 @@ fn judge<S: ByteSource>(src: &mut S, rule: Rule, at: usize, counted: bool, span:
     ensures place { (count : ℕ) → counted ≡ nat_lt 0 count
         → result ≡ place rule (S.content src.old) at count }
     ensures content { S.content src.new ≡ S.content src.old }
-    ensures looks { IsLooked (S.looked src.old) 0 2 (S.looked src.new) }
+    ensures looks { IsLooked (S.looked src.old) 0 (1 + one_if (not counted)) (S.looked src.new) }
 {
     let left = left_of(src, rule, at, counted, span);
     let right = class_at(src, rule, span.to);
@@ -241,7 +144,7 @@ fn left_of<S: ByteSource>(src: &mut S, rule: Rule, at: usize, counted: bool, spa
     requires { IsSpan rule (S.content src.old) at span.from span.to }
     ensures class { result ≡ left_side rule (S.content src.old) counted at }
     ensures content { S.content src.new ≡ S.content src.old }
-    ensures looks { IsLooked (S.looked src.old) 0 1 (S.looked src.new) }
+    ensures looks { IsLooked (S.looked src.old) 0 (one_if (not counted)) (S.looked src.new) }
 {
     if counted {
         Class::Digit
@@ -294,7 +197,7 @@ fn scan<S: ByteSource>(src: &mut S, rule: Rule, at: usize) -> Run
 }
 
 /// Where the separators start that stand right before a position.
-#[tactic(auto, using(crate::proofs::Looking::separator_byte_at))]
+#[tactic(auto, using(crate::proofs::Looks::WhereSeparatorsStand::separator_byte_at))]
 fn run_start<S: ByteSource>(src: &mut S, rule: Rule, to: usize) -> usize
     requires { to ≤ length (S.content src.old) }
     ensures high { result ≤ to }
@@ -315,7 +218,7 @@ fn run_start<S: ByteSource>(src: &mut S, rule: Rule, to: usize) -> usize
 }
 
 /// Where the separators end that stand from a position on.
-#[tactic(auto, using(crate::proofs::Looking::separator_byte_at, crate::proofs::Looking::separator_at_past))]
+#[tactic(auto, using(crate::proofs::Looks::WhereSeparatorsStand::separator_byte_at, crate::proofs::Looks::WhereSeparatorsStand::separator_at_past))]
 fn run_end<S: ByteSource>(src: &mut S, rule: Rule, from: usize) -> usize
     requires { from ≤ length (S.content src.old) }
     ensures low { from ≤ result }
@@ -335,156 +238,4 @@ fn run_end<S: ByteSource>(src: &mut S, rule: Rule, from: usize) -> usize
         }
     }
     end
-}
-
-/// What stands at a position, in the eyes of a rule.
-#[derive(Clone, Copy, Debug, PartialEq, Eq)]
-pub enum Class {
-    /// A digit of the rule's radix.
-    Digit,
-    /// The rule's separator.
-    Separator,
-    /// Another byte, or the outside of the buffer.
-    Other,
-}
-
-/// Whether the byte is that separator; a separator of zero means that no byte is one.
-#[tactic(auto, unfolding(crate::specs::Separators::is_separator))]
-#[inline(always)]
-pub(crate) fn is_separator(separator: u8, byte: u8) -> bool
-    ensures { result ≡ is_separator separator byte }
-{
-    separator != 0 && byte == separator
-}
-
-impl Rule {
-    /// Whether the byte is a digit.
-    #[tactic(auto, unfolding(crate::specs::Separators::is_digit))]
-    #[inline(always)]
-    pub(crate) fn is_digit(self, byte: u8) -> bool
-        ensures { result ≡ is_digit self byte }
-    {
-        char_is_digit_const(byte, self.radix)
-    }
-
-    /// Whether the byte is a separator.
-    #[inline(always)]
-    pub(crate) fn is_separator(self, byte: u8) -> bool
-        ensures { result ≡ is_separator self.separator byte }
-    {
-        is_separator(self.separator, byte)
-    }
-
-    /// Whether any flag is set.
-    #[inline(always)]
-    pub(crate) fn has_flags(self) -> bool
-        ensures { result ≡ has_flags self }
-    {
-        self.internal || self.leading || self.trailing || self.consecutive
-    }
-
-    fn class_of(self, byte: u8) -> Class
-        ensures { result ≡ class self (Some byte) }
-    {
-        if self.is_digit(byte) {
-            Class::Digit
-        } else if self.is_separator(byte) {
-            Class::Separator
-        } else {
-            Class::Other
-        }
-    }
-
-    /// Whether a separator with these sides has a role that is granted.
-    fn drops(self, left: Class, right: Class) -> bool
-        ensures { result ≡ list_any (grants self) (roles left right) }
-    {
-        match (left, right) {
-            (Class::Digit, Class::Digit) => self.internal,
-            (Class::Other, Class::Digit) => self.leading,
-            (Class::Digit, Class::Other) => self.trailing,
-            (Class::Other, Class::Other) => self.leading || self.trailing,
-            _ => false,
-        }
-    }
-}
-
-/// Where a read ends, the run to be remembered, and how many looks were counted by then.
-#[derive(Clone, Copy)]
-pub(crate) struct Seen {
-    pub(crate) place: usize,
-    pub(crate) run: Option<Run>,
-    pub(crate) looks: u64,
-}
-
-/// The place from a position on, after so many looks.
-///
-/// There is no look at the end, and one at a byte that is no separator. At a separator there is
-/// that look, those of the decision, and one at the byte of the place.
-#[tactic(auto, using(crate::proofs::Looking::separator_byte_at, crate::proofs::Looking::separator_at_past, crate::proofs::Looking::place_at_other))]
-#[inline(always)]
-pub(crate) fn read(
-    slc: &[u8],
-    rule: Rule,
-    at: usize,
-    count: usize,
-    run: Option<Run>,
-    looks: u64,
-) -> Seen
-    requires supported { IsSupported rule }
-    requires within { at ≤ length slc.now }
-    requires remembered { IsRunOrNone rule.separator slc.now run }
-    ensures place { result.place ≡ place rule slc.now at count }
-    ensures low { at ≤ result.place }
-    ensures high { result.place ≤ length slc.now }
-    ensures cost { Saw rule slc.now at run looks
-        (nat_lt result.place (length slc.now)) result.run result.looks }
-{
-    if at == slc.len() {
-        return Seen {
-            place: at,
-            run,
-            looks,
-        };
-    }
-    if rule.is_separator(slc[at]) {
-        return read_separator(slc, rule, at, 0 < count, run, looks);
-    }
-    Seen {
-        place: at,
-        run,
-        looks: looks.saturating_add(1),
-    }
-}
-
-/// As [`read`], at a separator.
-#[inline(never)]
-fn read_separator(
-    slc: &[u8],
-    rule: Rule,
-    at: usize,
-    counted: bool,
-    run: Option<Run>,
-    looks: u64,
-) -> Seen
-    requires supported { IsSupported rule }
-    requires within { at < length slc.now }
-    requires separator { separator_at rule.separator slc.now at ≡ true }
-    requires remembered { IsRunOrNone rule.separator slc.now run }
-    ensures place { (count : ℕ) → counted ≡ nat_lt 0 count
-        → result.place ≡ place rule slc.now at count }
-    ensures cost { Saw rule slc.now at run looks
-        (nat_lt result.place (length slc.now)) result.run result.looks }
-{
-    let mut src = SliceSource::new(slc);
-    let sight = decide_separator(&mut src, rule, at, counted, run);
-    let mut looks = looks.saturating_add(1).saturating_add(src.looks());
-    if sight.place < slc.len() {
-        looks = looks.saturating_add(1);
-    }
-    Seen {
-        place: sight.place,
-        run: sight.run,
-        looks,
-    }
 }

@@ -1,6 +1,6 @@
 //! A buffer with a cursor.
 
-ghost use Rattle.std.specs.Prelude.{◌≡◌, ℕ, ◌+◌, ◌≤◌, length, List, option_copied, IsTrue};
+ghost use Rattle.std.specs.Prelude.{◌≡◌, ℕ, ◌+◌, List, option_copied, IsTrue};
 ghost use Rattle.lexical_format.specs.Word.{is_supported};
 ghost use Rattle.lexical_plain.specs.Plain.{IsPlain, with_cursor, start, first, bytes_left, is_digit, cut_end, view, Takes};
 
@@ -25,8 +25,9 @@ impl Model for Meaning {
 }
 
 /// A buffer with a format word and a cursor: lexical-util's `noskip::Bytes`, which has no field for
-/// the word. The word gives the radix of [`is_digit`](lexical_digits::iterator::DigitsIter::is_digit);
-/// its separator and its flags are not looked at. Positions count bytes from 0.
+/// the word. The word gives the radix of
+/// [`is_digit`](lexical_digits::iterator::DigitsIter::is_digit), the mantissa radix; its separator
+/// and its flags are not looked at. Positions count bytes from 0.
 #[derive(Drop)]
 pub struct Bytes<'a> {
     slc: &'a [u8],
@@ -104,14 +105,14 @@ impl<'a> Bytes<'a> {
         ensures view { result.state ≡ view self.old.state n }
         ensures state { self.new.state ≡ with_cursor self.old.state (cut_end self.old.state n) }
     {
-        let end = self.index.saturating_add(n).min(self.slc.len());
-        let view = Bytes {
+        let cursor = self.index;
+        let end = cursor.saturating_add(n).min(self.slc.len());
+        self.index = end;
+        Bytes {
             slc: &self.slc[..end],
             format: self.format,
-            index: self.index,
-        };
-        self.index = end;
-        view
+            index: cursor,
+        }
     }
 }
 

@@ -6,18 +6,16 @@ ghost use Rattle.lexical_plain.specs.Plain.{with_cursor, cut_end, view};
 use super::bytes::{Bytes, Meaning};
 use lexical_digits::iterator::{DigitsIter, Iter};
 
-/// The iterator over a borrowed `Bytes`: each byte from the cursor on comes, whatever it is. It holds
-/// nothing but the `Bytes`, so making it and ending it takes no memory, and when it ends, the `Bytes`
-/// holds the cursor reached. A proved caller that goes on with the `Bytes` writes the literal,
-/// `Digits { byte: &mut bytes }`, in place of a call.
+/// The iterator of any component of a `Bytes`: each byte from the cursor on comes, whatever it is.
+/// It is lexical-util's `noskip::DigitsIterator`. It holds nothing but the borrowed `Bytes`, so
+/// making it and ending it takes no memory, and when it ends, the `Bytes` holds the cursor reached.
+/// A proved caller that goes on with the `Bytes` writes the literal,
+/// `DigitsIterator { byte: &mut bytes }`, in place of a call.
 #[derive(Drop)]
-pub struct Digits<'b, B> {
+pub struct DigitsIterator<'a: 'b, 'b> {
     /// The `Bytes` that is read.
-    pub byte: &'b mut B,
+    pub byte: &'b mut Bytes<'a>,
 }
-
-/// The iterator of any component of a `Bytes`: lexical-util's `noskip::DigitsIterator`.
-pub type DigitsIterator<'a, 'b> = Digits<'b, Bytes<'a>>;
 
 impl<'a> Bytes<'a> {
     /// The iterator of the integer over this `Bytes`, which holds the cursor reached when it ends.
@@ -25,7 +23,7 @@ impl<'a> Bytes<'a> {
         ensures same_loan { result.byte.ghost_name ≡ self.entry.ghost_name }
         ensures state { result.byte.now.state ≡ self.old.state }
     {
-        Digits { byte: self }
+        DigitsIterator { byte: self }
     }
 
     /// The iterator of the fraction over this `Bytes`, which holds the cursor reached when it ends.
@@ -33,7 +31,7 @@ impl<'a> Bytes<'a> {
         ensures same_loan { result.byte.ghost_name ≡ self.entry.ghost_name }
         ensures state { result.byte.now.state ≡ self.old.state }
     {
-        Digits { byte: self }
+        DigitsIterator { byte: self }
     }
 
     /// The iterator of the exponent over this `Bytes`, which holds the cursor reached when it ends.
@@ -41,7 +39,7 @@ impl<'a> Bytes<'a> {
         ensures same_loan { result.byte.ghost_name ≡ self.entry.ghost_name }
         ensures state { result.byte.now.state ≡ self.old.state }
     {
-        Digits { byte: self }
+        DigitsIterator { byte: self }
     }
 
     /// The special iterator over this `Bytes`, which holds the cursor reached when it ends.
@@ -49,22 +47,22 @@ impl<'a> Bytes<'a> {
         ensures same_loan { result.byte.ghost_name ≡ self.entry.ghost_name }
         ensures state { result.byte.now.state ≡ self.old.state }
     {
-        Digits { byte: self }
+        DigitsIterator { byte: self }
     }
 }
 
-impl<'a, 'b> Digits<'b, Bytes<'a>> {
+impl<'a: 'b, 'b> DigitsIterator<'a, 'b> {
     /// The iterator over this `Bytes`, which holds the cursor reached when it ends.
     pub fn new(byte: &'b mut Bytes<'a>) -> Self
         ensures same_loan { result.byte.ghost_name ≡ byte.entry.ghost_name }
         ensures state { result.byte.now.state ≡ byte.old.state }
     {
-        Digits { byte }
+        DigitsIterator { byte }
     }
 
-    /// The next `n` bytes as a view of their own, always `Some`; fewer, where fewer are left. The view
-    /// has the buffer up to the end of those bytes, this cursor and the same word. The iterator's
-    /// cursor goes behind them.
+    /// The next `n` bytes as a view of their own, always `Some`; fewer, where fewer are left. The
+    /// view has the buffer up to the end of those bytes, this cursor and the same word. The
+    /// iterator's cursor goes behind them.
     pub fn take_n(&mut self, n: usize) -> Option<Bytes<'a>>
         ensures view { option_map (λ b. b.state) result ≡ Some (view self.old.byte.now.state n) }
         ensures state { let s = self.old.byte.now.state in
@@ -75,7 +73,7 @@ impl<'a, 'b> Digits<'b, Bytes<'a>> {
     }
 }
 
-impl<'a, 'b> Iter<'a> for Digits<'b, Bytes<'a>> {
+impl<'a: 'b, 'b> Iter<'a> for DigitsIterator<'a, 'b> {
     ghost use base.Fml.{GName};
     ghost use Rattle.std.specs.Prelude.{true, false};
     ghost use Rattle.lexical_plain.specs.Plain.{IsPlain, with_cursor};
@@ -138,7 +136,7 @@ impl<'a, 'b> Iter<'a> for Digits<'b, Bytes<'a>> {
     ghost laws = { iter_laws };
 }
 
-impl<'a, 'b> Iterator for Digits<'b, Bytes<'a>> {
+impl<'a: 'b, 'b> Iterator for DigitsIterator<'a, 'b> {
     ghost use Rattle.std.specs.Prelude.{◌≡◌, IfSome, Some};
     ghost use Rattle.std.specs.Iterator.{at_most, UpTo};
     ghost use Rattle.std.specs.Iterator.SizeHint.{IsWithinCount};
@@ -169,7 +167,7 @@ impl<'a, 'b> Iterator for Digits<'b, Bytes<'a>> {
     }
 }
 
-impl<'a, 'b> ExactSizeIterator for Digits<'b, Bytes<'a>> {
+impl<'a: 'b, 'b> ExactSizeIterator for DigitsIterator<'a, 'b> {
     /// How many bytes are left.
     #[inline(always)]
     fn len(&self) -> usize {
@@ -177,7 +175,7 @@ impl<'a, 'b> ExactSizeIterator for Digits<'b, Bytes<'a>> {
     }
 }
 
-impl<'a, 'b> DigitsIter<'a> for Digits<'b, Bytes<'a>> {
+impl<'a: 'b, 'b> DigitsIter<'a> for DigitsIterator<'a, 'b> {
     ghost use Rattle.std.proofs.Common.{rules};
     ghost use Rattle.lexical_plain.specs.Plain.{is_digit, taken};
     ghost use Rattle.lexical_plain.specs.Laws.{digit_laws};

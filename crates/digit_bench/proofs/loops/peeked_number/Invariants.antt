@@ -2,4 +2,5 @@ use Rattle.std.proofs.Common.{◌-◌, length}
 use Rattle.digit_bench.proofs.loops.peeked_number.Given as goal
 
 abbrev pub decreases-loop-byte : goal.decreases-loop-byte
-decreases-loop-byte g l = length (g.I.Iter.buffer (g.I.Iter.meaning l.iter)) - g.I.Iter.cursor (g.I.Iter.meaning l.iter)
+decreases-loop-byte g l =
+    length (g.I.Iter.buffer (g.I.Iter.meaning l.iter)) - g.I.Iter.cursor (g.I.Iter.meaning l.iter)

@@ -5,4 +5,5 @@ use Rattle.digit_drain.proofs.line.word.Goals as goal
 
 pub returns-clause-says : goal.returns-clause-says
 unfolding word_of
-returns-clause-says c = word_says (asked_by c.args.request.now) _ (omega arith) (omega arith) (omega arith) (search rules)
+returns-clause-says c = word_says (asked_by c.args.request.now) _ (omega arith) (omega arith)
+    (omega arith) (search rules)

@@ -4,22 +4,43 @@ use Rattle.std.proofs.KnownBytes.{Appends-trans, Appends-kept}
 use Rattle.std.specs.Io.KnownBytes.{Appends}
 use Rattle.digit_drain.proofs.output.write_output.Goals as goal
 
-moves_front : (all done rest : List ℕ) (n : ℕ) → all ≡ done ++ rest → all ≡ (done ++ take n rest) ++ take (length rest - n) (drop n rest)
+moves_front : (all done rest : List ℕ) (n : ℕ) → all ≡ done ++ rest
+    → all ≡ (done ++ take n rest) ++ take (length rest - n) (drop n rest)
 moves_front all done rest n e =
-    e ∙ ap (λ l. done ++ l) (sym (take-append-drop n rest)) ∙ sym (append_assoc done (take n rest) (drop n rest)) ∙ ap (λ l. (done ++ take n rest) ++ l) (sym (take_rest rest n))
+    e ∙ ap (λ l. done ++ l) (sym (take-append-drop n rest))
+    ∙ sym (append_assoc done (take n rest) (drop n rest))
+    ∙ ap (λ l. (done ++ take n rest) ++ l) (sym (take_rest rest n))
 
 pub loop-rest-preserved : goal.loop-rest-preserved
 loop-rest-preserved g c =
     let (done, split, appended) = c.loop-rest.invariant in
-    let rest = c.loop-rest.rest.now in
-    (done ++ take c.in-Ok.n rest, moves_front _ done rest c.in-Ok.n split, Appends-trans _ _ _ _ _ appended c.in-Ok.ensures.bytes)
+    let rest = c.loop-rest.rest.now in (
+      done ++ take c.in-Ok.n rest,
+      moves_front _ done rest c.in-Ok.n split,
+      Appends-trans _ _ _ _ _
+          appended c.in-Ok.ensures.bytes,
+    )
 
 pub returns-in-Ok-eq0-clause-part : goal.returns-in-Ok-eq0-clause-part
 returns-in-Ok-eq0-clause-part g c =
     let (done, split, appended) = c.loop-rest.invariant in
-    record { written = done; left = c.loop-rest.rest.now; split = split; some_left = search rules; appended = subst (Appends _ _) (append-nil done) (Appends-trans _ _ _ done [] appended (rw c.in-Ok-eq0.field-0-test at c.in-Ok-eq0.ensures.bytes)) }
+    record {
+      written = done;
+      left = c.loop-rest.rest.now;
+      split = split;
+      some_left = search rules;
+      appended = subst (Appends _ _) (append-nil done)
+          (Appends-trans _ _ _ done [] appended
+          (rw c.in-Ok-eq0.field-0-test at c.in-Ok-eq0.ensures.bytes));
+    }
 
 pub returns-in-Err-clause-part : goal.returns-in-Err-clause-part
 returns-in-Err-clause-part g c =
     let (done, split, appended) = c.loop-rest.invariant in
-    record { written = done; left = c.loop-rest.rest.now; split = split; some_left = search rules; appended = Appends-kept _ _ _ _ appended c.in-Err.ensures.bytes }
+    record {
+      written = done;
+      left = c.loop-rest.rest.now;
+      split = split;
+      some_left = search rules;
+      appended = Appends-kept _ _ _ _ appended c.in-Err.ensures.bytes;
+    }

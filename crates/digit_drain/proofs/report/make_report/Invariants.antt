@@ -4,7 +4,9 @@ use Rattle.digit_drain.specs.Report.{lines_of, report_from, report_of}
 use Rattle.digit_drain.proofs.report.make_report.Given as goal
 
 abbrev pub invariant-loop-rest : goal.invariant-loop-rest
-invariant-loop-rest g l = (l.output.items ++ (report_from l.number (lines_of l.rest)).output ≡ (report_of l.fn.input).output)
+invariant-loop-rest g l =
+    (l.output.items ++ (report_from l.number (lines_of l.rest)).output
+    ≡ (report_of l.fn.input).output)
     × ((report_from l.number (lines_of l.rest)).fault ≡ (report_of l.fn.input).fault)
     × (l.number + length l.rest ≤ 1 + length l.fn.input)
 

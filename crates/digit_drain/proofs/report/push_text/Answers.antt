@@ -1,9 +1,13 @@
-use Rattle.std.proofs.Common.{◌<◌, ◌^◌, length, arith}
-use Rattle.digit_drain.specs.Line.{asked_by}
-use Rattle.digit_drain.proofs.Counts.{count_of_drained}
+use Rattle.std.proofs.Common.{◌<◌, ◌^◌, ◌≡◌, length, arith}
+use Rattle.lexical_digits.specs.State.{start}
+use Rattle.digit_drain.specs.Line.{asked_by, word_of}
+use Rattle.digit_drain.proofs.Drains.{adds_text}
 use Rattle.digit_drain.proofs.report.push_text.Goals as goal
 
-pub returns-clause-count : goal.returns-clause-count
-returns-clause-count g c =
+pub returns : goal.returns
+returns g c =
+    let asked = asked_by c.args.request.now in
     let short : length c.args.request.now.text.now < 2 ^ 64 = omega arith in
-    rw (c.new-bytes.ensures.state, c.word.ensures.value, count_of_drained (asked_by c.args.request.now) short) at c.push_component.ensures.count
+    let fresh : c.new-bytes.result.state ≡ start asked.text (word_of asked) =
+    rw c.requires.word at c.new-bytes.ensures.state in
+    adds_text asked c.new-bytes.result.state _ _ _ short fresh c.push_component.ensures

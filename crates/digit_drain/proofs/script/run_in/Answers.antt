@@ -5,13 +5,17 @@ use Rattle.digit_drain.proofs.script.run_in.Goals as goal
 pub loop-call-preserved : goal.loop-call-preserved
 loop-call-preserved g c =
     let now = c.loop-call.invariant in
-    let items : c.push.new.self.items ≡ c.loop-call.answers.items ++ c.make-answer.result ∷ [] = rw c.unwrap.ensures at c.push.ensures.items in
-    let len : vec_len c.push.new.self ≡ vec_len c.loop-call.answers + 1 = rw c.unwrap.ensures at c.push.ensures.len in
+    let items : c.push.new.self.items
+    ≡ c.loop-call.answers.items ++ c.make-answer.result ∷ [] = rw c.unwrap.ensures at
+    c.push.ensures.items in
+    let len : vec_len c.push.new.self ≡ vec_len c.loop-call.answers + 1 =
+    rw c.unwrap.ensures at c.push.ensures.len in
     record {
       room = omega arith;
       made = omega arith;
-      continues = rw items (continues _ _ _ _ _ _ _ _ c.loop-call-test.true now.continues c.make-answer.ensures);
+      continues = rw items (continues _ _ _ _ _ _ _ _ c.loop-call-test.true now.continues
+          c.make-answer.ensures);
     }
 
 pub returns-clause-looks : goal.returns-clause-looks
-returns-clause-looks g c = looks_at_most _ _ _ _ _ c.loop-call.invariant.continues c.looks.ensures.far
+returns-clause-looks g c = looks_at_most _ _ _ _ _ c.loop-call.invariant.continues

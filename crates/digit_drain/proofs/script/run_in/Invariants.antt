@@ -8,5 +8,6 @@ abbrev pub invariant-loop-call : goal.invariant-loop-call
 invariant-loop-call g l = record {
   room : length l.calls ≤ vec_capacity l.answers;
   made : vec_len l.answers ≡ l.call-index;
-  continues : Continues l.initial.bytes (script_of l.calls) l.bytes (script_of (drop l.call-index l.calls)) l.answers.items;
+  continues : Continues l.initial.bytes (script_of l.calls) l.bytes
+      (script_of (drop l.call-index l.calls)) l.answers.items;
 }

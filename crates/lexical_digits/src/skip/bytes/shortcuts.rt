@@ -1,32 +1,31 @@
-//! What is told by a byte alone while a component reads.
+//! What one byte tells while a component reads. No buffer and no cursor.
 
-ghost use Rattle.std.specs.Prelude.{◌≡◌, ℕ, ◌+◌, ◌-◌, ◌<◌, ◌≤◌, min, true, false, length, slice_get, option_copied, Some, IfSome};
-ghost use Rattle.lexical_digits.specs.Inside.{IsDigitBehind, IsInnerDigit};
-ghost use Rattle.lexical_digits.specs.Separators.{is_digit, is_separator, has_flags, IsSupported};
+ghost use Rattle.std.specs.Prelude.{◌≡◌, ◌<◌, true};
+ghost use Rattle.lexical_digits.specs.Separators.{is_separator, has_flags, IsSupported};
 
-use super::tally::Tally;
-use crate::skip::decision::Rule;
+use crate::skip::rule::Rule;
 
-/// Which bytes are passed at once while a component reads.
+/// Which bytes tell by themselves that they are taken, while a component reads: its digits, or all
+/// bytes where it has no flags.
 #[derive(Clone, Copy)]
 pub(super) struct Shortcuts {
-    /// Of the bytes from `0` on, the last that is passed.
+    /// How far above `0` the last figure lies that tells itself; 255 where every byte does.
     last: u8,
-    /// How many letters are passed.
+    /// How many letters are digits.
     letters: u8,
     /// The separator that is passed over between two digits, and 256 where there is none.
     inner: u16,
 }
 
 impl Shortcuts {
-    ghost use Rattle.lexical_digits.specs.Inside.{at_first, is_letter, at_once, ArePasses, IsInner};
+    ghost use Rattle.lexical_digits.specs.Shortcuts.{tells_figure, tells_letter, tells, AreShortcuts, IsInner};
 
-    /// The shortcuts of a rule: its digits are passed, or all bytes where it has no flags.
+    /// The shortcuts of a rule, by a reader that counts its digits or doesn't.
     #[tactic(auto, unfolding(crate::specs::Separators::is_separator))]
     #[inline(always)]
     pub(super) fn of(rule: Rule, is_counting: bool) -> Shortcuts
         requires { IsSupported rule }
-        ensures passes { ArePasses rule result }
+        ensures told { AreShortcuts rule result }
         ensures inner { result.inner < 256 → IsInner rule is_counting result.inner }
     {
         let (last, letters) = if !rule.has_flags() {
@@ -48,19 +47,19 @@ impl Shortcuts {
         }
     }
 
-    /// Whether the byte is passed at once.
+    /// Whether the byte tells by itself that it is taken.
     #[inline(always)]
-    pub(super) fn passes(self, byte: u8) -> bool
-        ensures value { result ≡ at_once self byte }
+    pub(super) fn tells(self, byte: u8) -> bool
+        ensures value { result ≡ tells self byte }
         ensures fits { byte < 256 }
     {
-        self.passes_first(byte) || self.passes_letter(byte)
+        self.tells_figure(byte) || self.tells_letter(byte)
     }
 
-    /// Whether the byte is passed at once, and is no letter that is a digit.
+    /// Whether the byte is a figure that is a digit; or any byte, where all bytes tell themselves.
     #[inline(always)]
-    pub(super) fn passes_first(self, byte: u8) -> bool
-        ensures value { result ≡ at_first self byte }
+    pub(super) fn tells_figure(self, byte: u8) -> bool
+        ensures value { result ≡ tells_figure self byte }
         ensures fits { byte < 256 }
     {
         byte.wrapping_sub(b'0') <= self.last
@@ -68,61 +67,17 @@ impl Shortcuts {
 
     /// Whether the byte is a letter that is a digit.
     #[inline(always)]
-    pub(super) fn passes_letter(self, byte: u8) -> bool
-        ensures { result ≡ is_letter self byte }
+    pub(super) fn tells_letter(self, byte: u8) -> bool
+        ensures { result ≡ tells_letter self byte }
     {
         byte.wrapping_sub(b'a') < self.letters || byte.wrapping_sub(b'A') < self.letters
     }
 
     /// Whether the byte is the separator that is passed over between two digits.
     #[inline(always)]
-    fn is_inner(self, byte: u8) -> bool
+    pub(super) fn is_inner(self, byte: u8) -> bool
         ensures { result ≡ true → self.inner ≡ byte }
     {
         self.inner == byte as u16
     }
-}
-
-/// The digit behind the separator at the cursor, where that is passed over since a digit was counted
-/// before it, and where no separator stands beside it.
-#[inline(always)]
-pub(super) fn inner_digit<'a>(
-    slc: &'a [u8],
-    tally: Tally,
-    shortcuts: Shortcuts,
-    byte: u8,
-) -> Option<&'a u8>
-    requires { slice_get slc.now tally.index ≡ Some byte }
-    ensures { IfSome result (λ next. IsInnerDigit slc.now tally shortcuts byte next.now) }
-{
-    if shortcuts.is_inner(byte) && tally.mark < tally.index {
-        digit_behind(slc, tally.index, byte, shortcuts)
-    } else {
-        None
-    }
-}
-
-/// The digit behind a position, unless that byte stands before the position too.
-#[inline(always)]
-fn digit_behind<'a>(slc: &'a [u8], at: usize, byte: u8, shortcuts: Shortcuts) -> Option<&'a u8>
-    requires low { 0 < at }
-    requires high { at < length slc.now }
-    ensures { IfSome result (λ next. IsDigitBehind slc.now at byte shortcuts next.now) }
-{
-    let Some(next) = byte_at(slc, at + 1) else {
-        return None;
-    };
-    if shortcuts.passes(*next) && slc[at - 1] != byte {
-        Some(next)
-    } else {
-        None
-    }
-}
-
-/// The byte at a position, if there is one.
-#[inline(always)]
-pub(super) fn byte_at<'a>(slc: &'a [u8], index: usize) -> Option<&'a u8>
-    ensures { option_copied result ≡ slice_get slc.now index }
-{
-    slc.get(index)
 }

@@ -1,40 +1,49 @@
-//! The cursor, and the counts that it carries.
+//! The cursor, and the counts that it carries. No buffer and no word.
 
-ghost use Rattle.std.specs.Prelude.{◌≡◌, ℕ, ◌+◌, ◌-◌, ◌<◌, ◌≤◌, ◌&&◌, List, true, Bool};
-ghost use Rattle.lexical_digits.specs.State.{State, with_cursor};
+ghost use Rattle.std.specs.Prelude.{◌≡◌, ℕ, ◌+◌, ◌-◌, ◌<◌, ◌≤◌, ◌&&◌, if◌then◌else◌, List};
+ghost use Rattle.lexical_digits.specs.State.{State, start, with_cursor};
 ghost use Rattle.lexical_digits.specs.CallTable.{counted};
 
 use crate::skip::component::Component;
 
 /// A cursor, and what was counted on the way to it.
 ///
-/// While a component reads, its digits change nothing but the cursor: each byte since the mark is one
-/// that the reader counts, if it counts, and each byte since the start took two looks. Both are added
-/// to what is stored where they are asked for, and stored where the cursor goes on in another way.
+/// While a component reads, its digits change nothing but the cursor: each byte since the mark is
+/// one that the reader counts, if it counts, and each byte since the start took two looks. Both are
+/// added to what is stored where they are asked for, and stored where the cursor goes on in another
+/// way.
 #[derive(Clone, Copy)]
 pub(super) struct Tally {
+    /// Where the cursor stands.
     pub(super) index: usize,
+    /// The bytes from here to the cursor are counted for the reader, if it counts.
     pub(super) mark: usize,
+    /// The bytes from here to the cursor took two looks each.
     pub(super) start: usize,
+    /// The looks but for those, stopping at `u64::MAX`.
     pub(super) looks: u64,
+    /// The integer's count, but for the bytes since the mark; and so the two below.
     pub(super) integer: usize,
     pub(super) fraction: usize,
     pub(super) exponent: usize,
+    /// The component that reads.
     pub(super) reader: Component,
+    /// Whether `next` counts the reader's digits.
     pub(super) is_counting: bool,
     ghost marked: { mark ≤ index },
     ghost started: { start ≤ index },
 }
 
-#[tactic(auto, unfolding(crate::specs::Inside::integer_of, crate::specs::Inside::fraction_of, crate::specs::Inside::exponent_of, crate::specs::Inside::looks_of))]
+#[tactic(auto, unfolding(crate::specs::Tally::integer_of, crate::specs::Tally::fraction_of, crate::specs::Tally::exponent_of, crate::specs::Tally::looks_of))]
 impl Tally {
     ghost use Rattle.lexical_digits.specs.State.{saturating};
-    ghost use Rattle.lexical_digits.specs.Inside.{tallied, integer_of, fraction_of, exponent_of, state_of, looks_of, passed_by};
+    ghost use Rattle.lexical_digits.specs.Tally.{count_since, integer_of, fraction_of, exponent_of, state_of, looks_of, passed_by, Leaves};
 
     /// At a position, where nothing was counted.
     #[inline(always)]
     pub(super) fn new(index: usize, reader: Component, is_counting: bool) -> Tally
-        ensures state { (buffer : List ℕ) → (word : ℕ) → state_of buffer word result ≡ record { buffer = buffer; word = word; cursor = index; integer = 0; fraction = 0; exponent = 0 } }
+        ensures state { (buffer : List ℕ) → (word : ℕ) →
+            state_of buffer word result ≡ with_cursor (start buffer word) index }
         ensures looks { looks_of result ≡ 0 }
         ensures reader { result.reader ≡ reader }
         ensures is_counting { result.is_counting ≡ is_counting }
@@ -54,8 +63,9 @@ impl Tally {
 
     /// A count, with the bytes since the mark if they are counted for it.
     #[inline(always)]
-    fn tallied(self, is_reader: bool, stored: usize) -> usize
-        ensures { result ≡ tallied (self.is_counting && is_reader) stored (self.index - self.mark) }
+    fn count_since(self, is_reader: bool, stored: usize) -> usize
+        ensures { let since = self.index - self.mark in
+            result ≡ count_since (self.is_counting && is_reader) stored since }
     {
         if self.is_counting && is_reader {
             stored.saturating_add(self.index - self.mark)
@@ -69,7 +79,7 @@ impl Tally {
     pub(super) fn integer(self) -> usize
         ensures { result ≡ integer_of self }
     {
-        self.tallied(matches!(self.reader, Component::Integer), self.integer)
+        self.count_since(matches!(self.reader, Component::Integer), self.integer)
     }
 
     /// The count of the fraction.
@@ -77,7 +87,7 @@ impl Tally {
     pub(super) fn fraction(self) -> usize
         ensures { result ≡ fraction_of self }
     {
-        self.tallied(matches!(self.reader, Component::Fraction), self.fraction)
+        self.count_since(matches!(self.reader, Component::Fraction), self.fraction)
     }
 
     /// The count of the exponent.
@@ -85,10 +95,10 @@ impl Tally {
     pub(super) fn exponent(self) -> usize
         ensures { result ≡ exponent_of self }
     {
-        self.tallied(matches!(self.reader, Component::Exponent), self.exponent)
+        self.count_since(matches!(self.reader, Component::Exponent), self.exponent)
     }
 
-    /// The looks.
+    /// The looks, stopping at `u64::MAX`.
     #[inline(always)]
     pub(super) fn looks(self) -> u64
         ensures { result ≡ looks_of self }
@@ -97,38 +107,64 @@ impl Tally {
         self.looks.saturating_add(since).saturating_add(since)
     }
 
-    /// Moves the cursor with the same counts and looks, which are all stored, and lets a component read from there.
+    /// The same counts, all stored, with the cursor elsewhere and so many looks.
     #[inline(always)]
-    pub(super) fn settle(&mut self, index: usize, reader: Component, is_counting: bool)
-        ensures state { (buffer : List ℕ) → (word : ℕ) → state_of buffer word self.new ≡ with_cursor (state_of buffer word self.old) index }
-        ensures index { self.new.index ≡ index }
-        ensures looks { looks_of self.new ≡ looks_of self.old }
-        ensures reader { self.new.reader ≡ reader }
-        ensures is_counting { self.new.is_counting ≡ is_counting }
+    fn stored(self, index: usize, looks: u64, reader: Component, is_counting: bool) -> Tally
+        ensures state { (buffer : List ℕ) → (word : ℕ) →
+            state_of buffer word result ≡ with_cursor (state_of buffer word self) index }
+        ensures index { result.index ≡ index }
+        ensures looks { looks_of result ≡ looks }
+        ensures reader { result.reader ≡ reader }
+        ensures is_counting { result.is_counting ≡ is_counting }
     {
-        *self = Tally {
+        Tally {
             index,
             mark: index,
             start: index,
-            looks: self.looks(),
+            looks,
             integer: self.integer(),
             fraction: self.fraction(),
             exponent: self.exponent(),
             reader,
             is_counting,
-        };
+        }
+    }
+
+    /// Lets a component read from the cursor on.
+    #[inline(always)]
+    pub(super) fn hand_over(&mut self, reader: Component, is_counting: bool)
+        ensures state { (buffer : List ℕ) → (word : ℕ) →
+            state_of buffer word self.new ≡ state_of buffer word self.old }
+        ensures index { self.new.index ≡ self.old.index }
+        ensures looks { looks_of self.new ≡ looks_of self.old }
+        ensures reader { self.new.reader ≡ reader }
+        ensures is_counting { self.new.is_counting ≡ is_counting }
+    {
+        *self = self.stored(self.index, self.looks(), reader, is_counting);
+    }
+
+    /// Moves the cursor anywhere. Nothing is looked at.
+    #[inline(always)]
+    pub(super) fn move_to(&mut self, index: usize)
+        ensures { Leaves self.old self.new (λ s. with_cursor s index) index (looks_of self.old) }
+    {
+        *self = self.stored(index, self.looks(), self.reader, self.is_counting);
+    }
+
+    /// Moves the cursor to a place that was found by so many looks in all.
+    #[inline(always)]
+    pub(super) fn arrive(&mut self, place: usize, looks: u64)
+        ensures { Leaves self.old self.new (λ s. with_cursor s place) place looks }
+    {
+        *self = self.stored(place, looks, self.reader, self.is_counting);
     }
 
     /// Raises the count of a component by one.
     #[inline(always)]
-    pub(super) fn raise(&mut self, k: Component)
-        ensures state { (buffer : List ℕ) → (word : ℕ) → state_of buffer word self.new ≡ counted k (state_of buffer word self.old) }
-        ensures index { self.new.index ≡ self.old.index }
-        ensures looks { looks_of self.new ≡ looks_of self.old }
-        ensures reader { self.new.reader ≡ self.old.reader }
-        ensures is_counting { self.new.is_counting ≡ self.old.is_counting }
+    pub(super) fn raise(&mut self, component: Component)
+        ensures { Leaves self.old self.new (counted component) self.old.index (looks_of self.old) }
     {
-        match k {
+        match component {
             Component::Integer => self.integer = self.integer.saturating_add(1),
             Component::Fraction => self.fraction = self.fraction.saturating_add(1),
             Component::Exponent => self.exponent = self.exponent.saturating_add(1),
@@ -136,69 +172,62 @@ impl Tally {
         }
     }
 
-    /// Sets the looks.
-    #[inline(always)]
-    pub(super) fn set_looks(&mut self, looks: u64)
-        ensures state { (buffer : List ℕ) → (word : ℕ) → state_of buffer word self.new ≡ state_of buffer word self.old }
-        ensures index { self.new.index ≡ self.old.index }
-        ensures looks { looks_of self.new ≡ looks }
-        ensures reader { self.new.reader ≡ self.old.reader }
-        ensures is_counting { self.new.is_counting ≡ self.old.is_counting }
-    {
-        self.start = self.index;
-        self.looks = looks;
-    }
-
     /// Counts one look.
     #[inline(always)]
     pub(super) fn look(&mut self)
-        ensures state { (buffer : List ℕ) → (word : ℕ) → state_of buffer word self.new ≡ state_of buffer word self.old }
-        ensures index { self.new.index ≡ self.old.index }
-        ensures looks { looks_of self.new ≡ saturating (looks_of self.old) 1 }
-        ensures reader { self.new.reader ≡ self.old.reader }
-        ensures is_counting { self.new.is_counting ≡ self.old.is_counting }
+        ensures { let looks = saturating (looks_of self.old) 1 in
+            Leaves self.old self.new (λ s. s) self.old.index looks }
     {
         self.looks = self.looks.saturating_add(1);
     }
 
-    /// Goes one byte on, which is counted if the reader counts.
+    /// Goes one byte on, which took two looks, and is counted if the reader counts.
     #[inline(always)]
     pub(super) fn pass(&mut self)
         requires { self.old.index < usize.MAX }
-        ensures state { (buffer : List ℕ) → (word : ℕ) → state_of buffer word self.new ≡ with_cursor (passed_by self.old (state_of buffer word self.old)) (self.old.index + 1) }
-        ensures index { self.new.index ≡ self.old.index + 1 }
-        ensures looks { looks_of self.new ≡ saturating (looks_of self.old) 2 }
-        ensures reader { self.new.reader ≡ self.old.reader }
-        ensures is_counting { self.new.is_counting ≡ self.old.is_counting }
+        ensures { let next = self.old.index + 1 in
+            let looks = saturating (looks_of self.old) 2 in
+            Leaves self.old self.new (λ s. with_cursor (passed_by self.old s) next) next looks }
     {
         self.index += 1;
     }
 
-    /// Goes one byte on, which is not counted.
+    /// Goes one byte on, which took two looks, and is not counted.
     #[inline(always)]
     pub(super) fn skip(&mut self)
         requires { self.old.index < usize.MAX }
-        ensures state { (buffer : List ℕ) → (word : ℕ) → state_of buffer word self.new ≡ with_cursor (state_of buffer word self.old) (self.old.index + 1) }
-        ensures index { self.new.index ≡ self.old.index + 1 }
-        ensures looks { looks_of self.new ≡ saturating (looks_of self.old) 2 }
-        ensures reader { self.new.reader ≡ self.old.reader }
-        ensures is_counting { self.new.is_counting ≡ self.old.is_counting }
+        ensures { let next = self.old.index + 1 in
+            let looks = saturating (looks_of self.old) 2 in
+            Leaves self.old self.new (λ s. with_cursor s next) next looks }
     {
         self.index += 1;
         self.mark += 1;
     }
-
-    /// Goes one byte on, which is not counted, and counts one look more.
+    /// Goes one byte on, whose looks were counted before.
     #[inline(always)]
-    pub(super) fn skip_and_look(&mut self)
+    fn go_on(&mut self)
         requires { self.old.index < usize.MAX }
-        ensures state { (buffer : List ℕ) → (word : ℕ) → state_of buffer word self.new ≡ with_cursor (state_of buffer word self.old) (self.old.index + 1) }
-        ensures index { self.new.index ≡ self.old.index + 1 }
-        ensures looks { looks_of self.new ≡ saturating (looks_of self.old) 3 }
-        ensures reader { self.new.reader ≡ self.old.reader }
-        ensures is_counting { self.new.is_counting ≡ self.old.is_counting }
+        ensures { let next = self.old.index + 1 in
+            Leaves self.old self.new (λ s. with_cursor s next) next (looks_of self.old) }
     {
-        self.skip();
-        self.look();
+        self.index += 1;
+        self.mark += 1;
+        self.start += 1;
+    }
+
+    /// Goes one byte on, whose looks were counted before, and counts it for a component if it is
+    /// told so.
+    #[inline(always)]
+    pub(super) fn step(&mut self, component: Component, is_counted: bool)
+        requires { self.old.index < usize.MAX }
+        ensures { let next = self.old.index + 1 in
+            let step = λ (s : State).
+            with_cursor (if is_counted then counted component s else s) next in
+            Leaves self.old self.new step next (looks_of self.old) }
+    {
+        self.go_on();
+        if is_counted {
+            self.raise(component);
+        }
     }
 }

@@ -7,6 +7,7 @@ invariant-loop-i g l =
     let s = g.S.ByteSource in
     record {
       content : s.content l.src ≡ s.content l.initial.src;
-      run : (k : ℕ) → l.from ≤ k → k < l.i → separator_at l.rule.separator (s.content l.initial.src) k ≡ true;
+      run : (k : ℕ) → l.from ≤ k → k < l.i
+          → separator_at l.rule.separator (s.content l.initial.src) k ≡ true;
       looks : IsLooked (s.looked l.initial.src) (l.i - l.from) (l.i - l.from) (s.looked l.src);
     }

@@ -7,6 +7,7 @@ invariant-loop-i g l =
     let s = g.S.ByteSource in
     record {
       content : s.content l.src ≡ s.content l.initial.src;
-      run : (k : ℕ) → l.i ≤ k → k < l.to → separator_at l.rule.separator (s.content l.initial.src) k ≡ true;
+      run : (k : ℕ) → l.i ≤ k → k < l.to
+          → separator_at l.rule.separator (s.content l.initial.src) k ≡ true;
       looks : IsLooked (s.looked l.initial.src) (l.to - l.i) (l.to - l.i) (s.looked l.src);
     }

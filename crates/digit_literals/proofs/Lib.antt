@@ -1,0 +1,6 @@
+pub mod Taking
+pub mod Values
+pub mod Skipping
+pub mod Integers
+pub mod Apart
+pub mod Within

@@ -1,0 +1,4 @@
+pub mod Number
+pub mod Literal
+pub mod Line
+pub mod Faults

@@ -1,0 +1,33 @@
+//! Readers over a `Bytes`, each of a call that reads digits from any iterator.
+
+ghost use Rattle.std.specs.Prelude.{◌≡◌, ◌<◌, length, slice_get, IfOk, OnOk, if◌then◌else◌, ◌+◌};
+ghost use Rattle.std.specs.Str.Parse.{digits_value};
+ghost use Rattle.lexical_format.specs.Word.{mantissa_radix};
+ghost use Rattle.lexical_digits.specs.Stop.{stop_of, leading_digits_of, past_digits_of};
+ghost use Rattle.lexical_digits.specs.declared.skip.component.Component.TheVariants.{Integer, Fraction};
+
+use digit_literals::{LiteralError, read_digits, skip_digits};
+use lexical_digits::skip::{Bytes, FractionDigitsIterator, IntegerDigitsIterator};
+use lexical_digits::stop::digits_end;
+
+/// The value of the integer's digits from the cursor on. They are passed then and counted.
+pub fn read_whole(bytes: &mut Bytes, radix: u32) -> Result<u64, LiteralError>
+    requires { radix ≡ mantissa_radix bytes.old.state.word }
+    ensures value { IfOk result (λ value.
+        value ≡ digits_value radix (leading_digits_of Integer bytes.old.state)) }
+    ensures passed { OnOk result (bytes.new.state ≡ past_digits_of Integer bytes.old.state) }
+{
+    digits_end();
+    let mut digits = IntegerDigitsIterator { byte: bytes };
+    read_digits(&mut digits, radix)
+}
+
+/// Passes the fraction's digits, and answers how many there are.
+pub fn pass_places(bytes: &mut Bytes) -> usize
+    ensures digits { result ≡ length (leading_digits_of Fraction bytes.old.state) }
+    ensures passed { bytes.new.state ≡ past_digits_of Fraction bytes.old.state }
+{
+    digits_end();
+    let mut digits = FractionDigitsIterator { byte: bytes };
+    skip_digits(&mut digits)
+}

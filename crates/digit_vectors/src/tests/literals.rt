@@ -1,0 +1,182 @@
+//! Literals, and runs of digits, read from every kind of iterator.
+
+use super::{INTERNAL, LEADING, PLAIN, TRAILING, assert_count, assert_cursor, bytes_of, move_to};
+use crate::literals::{pass_places, read_whole};
+use crate::spaced::Spaced;
+use digit_literals::{LiteralError, read_digits, read_integer, skip_digits};
+use lexical_digits::iterator::DigitsIter;
+use lexical_format::{
+    EXPONENT_INTERNAL_DIGIT_SEPARATOR, FRACTION_INTERNAL_DIGIT_SEPARATOR, SPECIAL_DIGIT_SEPARATOR,
+    STANDARD, is_supported,
+};
+use lexical_plain::noskip;
+use std::process::Abort;
+
+/// The integer of a text has this value and ends here, or there is none for this cause.
+fn assert_integer(
+    rt: &impl Abort,
+    word: u128,
+    text: &[u8],
+    read: Result<(u64, usize), LiteralError>,
+) {
+    assert!(rt; is_supported(word));
+    assert_eq!(rt; read_integer(text, word), read, "{text:?}");
+}
+
+/// The decimal digits of an iterator have this value, and then its cursor and count are these.
+fn assert_digits<'a, D: DigitsIter<'a>>(
+    rt: &impl Abort,
+    iter: &mut D,
+    read: Result<u64, LiteralError>,
+    cursor: usize,
+    count: usize,
+) {
+    assert_eq!(rt; read_digits(iter, 10), read);
+    assert_cursor(rt, iter, cursor);
+    assert_count(rt, iter, count);
+}
+
+/// So many digits of an iterator are skipped, and then its cursor and count are these.
+fn assert_skips<'a, D: DigitsIter<'a>>(
+    rt: &impl Abort,
+    iter: &mut D,
+    digits: usize,
+    cursor: usize,
+    count: usize,
+) {
+    assert_eq!(rt; skip_digits(iter), digits);
+    assert_cursor(rt, iter, cursor);
+    assert_count(rt, iter, count);
+}
+
+#[test]
+fn an_integer_ends_at_the_first_kept_byte_that_is_no_digit(rt: HostRuntime) {
+    assert_integer(&rt, PLAIN | INTERNAL, b"1_000", Ok((1000, 5)));
+    assert_integer(&rt, PLAIN | LEADING, b"_12", Ok((12, 3)));
+    assert_integer(&rt, STANDARD, b"12x", Ok((12, 2)));
+    let word = (16 << 104) | (0x5f << 64) | TRAILING;
+    assert_integer(&rt, word, b"ff_", Ok((255, 3)));
+    assert_integer(&rt, 36 << 104, b"zz", Ok((1295, 2)));
+}
+
+#[test]
+fn an_integer_without_digits_is_empty_where_it_ends(rt: HostRuntime) {
+    assert_integer(&rt, PLAIN | INTERNAL, b"_1", Err(LiteralError::Empty(0)));
+    assert_integer(&rt, PLAIN | LEADING, b"_", Err(LiteralError::Empty(1)));
+    assert_integer(&rt, STANDARD, b"", Err(LiteralError::Empty(0)));
+}
+
+#[test]
+fn the_greatest_value_is_read_and_one_more_is_not(rt: HostRuntime) {
+    let most = b"18446744073709551615";
+    assert_integer(&rt, STANDARD, most, Ok((18446744073709551615, 20)));
+    let more = b"18446744073709551616";
+    assert_integer(&rt, STANDARD, more, Err(LiteralError::Overflow(19)));
+    let parted = b"1844674407370955161_6";
+    assert_integer(
+        &rt,
+        PLAIN | INTERNAL,
+        parted,
+        Err(LiteralError::Overflow(20)),
+    );
+}
+
+#[test]
+fn digits_are_read_from_each_iterator(rt: HostRuntime) {
+    let word = PLAIN
+        | INTERNAL
+        | FRACTION_INTERNAL_DIGIT_SEPARATOR
+        | EXPONENT_INTERNAL_DIGIT_SEPARATOR
+        | SPECIAL_DIGIT_SEPARATOR;
+    let mut bytes = bytes_of(&rt, b"1_2x", word);
+    assert_digits(&rt, &mut bytes.integer_iter(), Ok(12), 3, 2);
+    let mut bytes = bytes_of(&rt, b"1_2x", word);
+    assert_digits(&rt, &mut bytes.fraction_iter(), Ok(12), 3, 2);
+    let mut bytes = bytes_of(&rt, b"1_2x", word);
+    assert_digits(&rt, &mut bytes.exponent_iter(), Ok(12), 3, 2);
+    let mut bytes = bytes_of(&rt, b"1_2x", word);
+    assert_digits(&rt, &mut bytes.special_iter(), Ok(12), 3, 0);
+    assert!(rt; is_supported(STANDARD));
+    let mut plain = noskip::Bytes::new(b"1_2", STANDARD);
+    assert_digits(&rt, &mut plain.integer_iter(), Ok(1), 1, 1);
+}
+
+#[test]
+fn the_cursor_stands_behind_separators_that_were_passed_over(rt: HostRuntime) {
+    let mut bytes = bytes_of(&rt, b"12_x", PLAIN | TRAILING);
+    assert_digits(&rt, &mut bytes.integer_iter(), Ok(12), 3, 2);
+    let mut bytes = bytes_of(&rt, b"_x", PLAIN | TRAILING);
+    assert_digits(
+        &rt,
+        &mut bytes.integer_iter(),
+        Err(LiteralError::Empty(1)),
+        1,
+        0,
+    );
+    let parted = b"1844674407370955161_6";
+    let mut bytes = bytes_of(&rt, parted, PLAIN | INTERNAL);
+    assert_digits(
+        &rt,
+        &mut bytes.integer_iter(),
+        Err(LiteralError::Overflow(20)),
+        20,
+        19,
+    );
+}
+
+#[test]
+fn digits_of_the_exponent_go_by_its_own_radix(rt: HostRuntime) {
+    let word = (16 << 104) | (10 << 120) | (0x5f << 64) | EXPONENT_INTERNAL_DIGIT_SEPARATOR;
+    let mut bytes = bytes_of(&rt, b"1_a", word);
+    assert_digits(&rt, &mut bytes.exponent_iter(), Ok(1), 1, 1);
+}
+
+#[test]
+fn digits_are_read_from_an_iterator_of_ones_own(rt: HostRuntime) {
+    assert_digits(&rt, &mut Spaced::new(b"1 2x"), Ok(12), 3, 2);
+    let none = Err(LiteralError::Empty(2));
+    assert_digits(&rt, &mut Spaced::new(b"  "), none, 2, 0);
+    assert_skips(&rt, &mut Spaced::new(b"1 2x"), 2, 3, 2);
+}
+
+#[test]
+fn digits_are_skipped_on_each_iterator(rt: HostRuntime) {
+    let word = PLAIN
+        | TRAILING
+        | FRACTION_INTERNAL_DIGIT_SEPARATOR
+        | EXPONENT_INTERNAL_DIGIT_SEPARATOR
+        | SPECIAL_DIGIT_SEPARATOR;
+    let mut bytes = bytes_of(&rt, b"12_x", word);
+    assert_skips(&rt, &mut bytes.integer_iter(), 2, 3, 2);
+    let mut bytes = bytes_of(&rt, b"1_2_x", word);
+    assert_skips(&rt, &mut bytes.fraction_iter(), 2, 3, 2);
+    let mut bytes = bytes_of(&rt, b"1_2_x", word);
+    assert_skips(&rt, &mut bytes.exponent_iter(), 2, 3, 2);
+    let mut bytes = bytes_of(&rt, b"1_2_x", word);
+    assert_skips(&rt, &mut bytes.special_iter(), 2, 4, 0);
+    assert!(rt; is_supported(STANDARD));
+    let mut plain = noskip::Bytes::new(b"x12", STANDARD);
+    assert_skips(&rt, &mut plain.integer_iter(), 0, 0, 0);
+    move_to(&rt, &mut plain, 1);
+    assert_skips(&rt, &mut plain.fraction_iter(), 2, 3, 3);
+}
+
+#[test]
+fn parts_of_a_number_are_read_one_after_another(rt: HostRuntime) {
+    let word = PLAIN | INTERNAL | FRACTION_INTERNAL_DIGIT_SEPARATOR;
+    let mut bytes = bytes_of(&rt, b"1_2.5_0e", word);
+    assert_eq!(rt; read_whole(&mut bytes, 10), Ok(12));
+    assert_cursor(&rt, &bytes, 3);
+    move_to(&rt, &mut bytes, 4);
+    assert_eq!(rt; pass_places(&mut bytes), 2);
+    assert_cursor(&rt, &bytes, 7);
+}
+
+#[test]
+fn causes_are_told_apart(rt: HostRuntime) {
+    let empty = LiteralError::Empty(3);
+    let copied = empty;
+    assert_eq!(rt; empty, copied);
+    assert_ne!(rt; empty, LiteralError::Overflow(3));
+    assert_ne!(rt; empty, LiteralError::Empty(4));
+}

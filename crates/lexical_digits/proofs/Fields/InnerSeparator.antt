@@ -1,0 +1,211 @@
+-- A separator that stands alone between a counted digit and a digit, and is passed over in place.
+use Rattle.std.specs.Prelude.{is_some, IsTrue, slice_get, ◌==◌}
+use Rattle.std.specs.List.{list_any}
+use Rattle.std.specs.Borrow.{Bor}
+use Rattle.std.specs.Option.{option_map_or}
+use Rattle.std.proofs.Common.{◌≡◌, ℕ, ◌+◌, ◌-◌, ◌<◌, ◌≤◌, ◌^◌, ◌||◌, Bool, true, false, not, cond, min, ltb, ◌&&◌, Option, Some, List, length, refl, sym, ap, subst, ◌∙◌, arith}
+use Rattle.std.proofs.lemmas.Bool.{and_parts, eqb-true, lt-ltb}
+use Rattle.std.proofs.lemmas.Option.{slice_get_within}
+use Rattle.lexical_format.specs.Word.{separator, is_supported}
+use Rattle.lexical_digits.specs.declared.skip.component.Component.{Component}
+use Rattle.lexical_digits.specs.declared.skip.rule.Rule.{Rule}
+use Rattle.lexical_digits.specs.declared.skip.rule.Class.TheVariants.{Digit}
+use Rattle.lexical_digits.specs.declared.skip.bytes.tally.Tally.{Tally}
+use Rattle.lexical_digits.specs.declared.skip.bytes.shortcuts.Shortcuts.{Shortcuts}
+use Rattle.lexical_digits.specs.Separators.{class, is_digit, is_separator, roles, grants, place, is_kept, holds_separator, IsSupported}
+use Rattle.lexical_digits.specs.State.{State, with_cursor, rule, rule_of, own, counts, saturating}
+use Rattle.lexical_digits.specs.CallTable.{place_of, byte_at_place, counted}
+use Rattle.lexical_digits.specs.Looks.{separator_at, scans, one_if, needs_run, Held, Reads, Settles, Yields}
+use Rattle.lexical_digits.specs.Tally.{passed_by, state_of}
+use Rattle.lexical_digits.specs.Shortcuts.{is_told, IsInner}
+use Rattle.lexical_digits.specs.Bytes.{IsInnerAt, IsInnerDigit, IsReading}
+use Rattle.lexical_digits.proofs.Rule.Supported.{supported_rule}
+use Rattle.lexical_digits.proofs.Fields.TellingBytes.{reader_tells, reader_counts}
+use Rattle.lexical_digits.proofs.Fields.CarriedByCursor.{counted_since}
+use Rattle.lexical_digits.proofs.Looks.Owing.{separator_of, reads_unscanned}
+use Rattle.lexical_digits.proofs.Looks.Spans.{span_alone, place_dropped_by}
+use Rattle.lexical_digits.proofs.Looks.WhereSeparatorsStand.{holds_separator_at}
+use Rattle.lexical_digits.proofs.Rule.Sides.{right_many, kept_by_sides}
+use Rattle.lexical_digits.proofs.Rule.Runs.{place_run}
+use Rattle.lexical_digits.proofs.Fields.AtTheCursor.{digit_apart, told_counts}
+use Rattle.lexical_digits.proofs.Calls.NextTakesFirst.{takes_some}
+
+-- ---- at a position of a buffer
+
+there : (separator : ℕ) (buffer : List ℕ) (q byte : ℕ) → slice_get buffer q ≡ Some byte
+    → separator_at separator buffer q ≡ is_separator separator byte
+unfolding separator_at
+there separator buffer q byte e = ap (λ o. option_map_or (is_separator separator) o false) e
+
+the_separator : (separator byte : ℕ) → is_separator separator byte ≡ true → byte ≡ separator
+unfolding is_separator
+the_separator separator byte e =
+    eqb-true byte separator (and_parts (not (separator == 0)) (byte == separator) e).1
+
+module _ (rule : Rule) (buffer : List ℕ) (supported : IsSupported rule) (q byte digit : ℕ)
+    (at : slice_get buffer q ≡ Some byte) (is : is_separator rule.separator byte ≡ true)
+    (next : slice_get buffer (q + 1) ≡ Some digit) (is_next : is_digit rule digit ≡ true) where
+  pub apart : separator_at rule.separator buffer (q + 1) ≡ false
+  apart = there rule.separator buffer (q + 1) digit next ∙ digit_apart rule digit supported is_next
+
+  pub place_inner : (count : ℕ) → rule.internal ≡ true → 0 < count
+      → place rule buffer q count ≡ q + 1
+  place_inner count internal some = here rule.consecutive refl
+    where
+      l : q + 1 < length buffer
+      l = slice_get_within buffer (q + 1) digit next
+
+      stands : separator_at rule.separator buffer q ≡ true
+      stands = there rule.separator buffer q byte at ∙ is
+
+      dropped : list_any (grants rule) (roles Digit (class rule (slice_get buffer (q + 1)))) ≡ true
+      dropped = rw (next, is_next, internal) refl
+
+      holds : holds_separator rule buffer q ≡ true
+      holds = holds_separator_at rule buffer supported q ∙ stands
+
+      stops : holds_separator rule buffer (q + 1) ≡ false
+      stops = holds_separator_at rule buffer supported (q + 1) ∙ apart
+
+      all : (i : ℕ) → q ≤ i → i < q + 1 → holds_separator rule buffer i ≡ true
+      all i low high =
+          let same : i ≡ q = omega arith in ap (holds_separator rule buffer) same ∙ holds
+
+      here : (b : Bool) → rule.consecutive ≡ b → place rule buffer q count ≡ q + 1
+      here true e =
+          let right = right_many rule buffer supported e q (q + 1) holds (omega arith) all stops
+          (omega (arith, l)) in
+          let gone : is_kept rule buffer q count q ≡ false =
+          kept_by_sides rule buffer supported q count true (sym (lt-ltb 0 count some)) holds
+          ∙ ap (λ r. not (list_any (grants rule) (roles Digit r))) (sym right)
+          ∙ ap not dropped in
+          place_run rule buffer e 1 q (q + 1) count refl all stops (omega (arith, l)) gone
+      here false e = place_dropped_by rule buffer supported q q (q + 1) count Digit true
+          (span_alone rule buffer supported e q (slice_get_within buffer q byte at)) stands refl
+          (sym (lt-ltb 0 count some)) dropped
+
+-- ---- while a component reads
+
+-- the separator at the cursor is passed over, and the digit behind it told
+pub record PassesOver (k : Component) (s : State) (digit : ℕ) : Type 0 where
+  pub place : place_of k s ≡ s.cursor + 1
+  pub next : slice_get s.buffer (s.cursor + 1) ≡ Some digit
+  pub told : is_told (rule k s) digit ≡ true
+  pub apart : separator_at (separator s.word) s.buffer (s.cursor + 1) ≡ false
+  pub counted : 0 < own k s
+
+module _ (k : Component) (buffer : List ℕ) (word : ℕ) (t : Tally) (s : Shortcuts) (byte : ℕ)
+    (reading : IsReading word t.reader t.is_counting s) (reader : t.reader ≡ k)
+    (fits : byte < 256) where
+  counting : t.is_counting ≡ counts k word
+  counting = reader_counts word t.reader k t.is_counting s reading reader
+
+  -- such a separator stands behind a digit that was counted
+  pub counted_before : IsInnerAt t s byte → 0 < own k (state_of buffer word t)
+  counted_before is =
+      counted_since buffer word t k reader counting
+      (reading.inner (omega (arith, is.inner, fits))).counting is.since
+
+  pub passes_over : (digit : ℕ) → IsTrue (is_supported word) → slice_get buffer t.index ≡ Some byte
+      → IsInnerDigit buffer t s byte digit → PassesOver k (state_of buffer word t) digit
+  unfolding place_of
+  passes_over digit supported at is = record {
+    place = place_inner r buffer rule_supported t.index byte digit at separates is.behind is_next
+        (own k (state_of buffer word t)) inner.internal (counted_before is.here);
+    next = is.behind;
+    told = told;
+    apart = ap (λ x. separator_at x buffer (t.index + 1)) (sym (separator_of k word))
+        ∙ apart r buffer rule_supported t.index byte digit at separates is.behind is_next;
+    counted = counted_before is.here;
+  }
+    where
+      r : Rule
+      r = rule_of word k
+
+      rule_supported : IsSupported (rule_of word k)
+      rule_supported = supported_rule word k supported
+
+      inner : IsInner (rule_of word k) t.is_counting s.inner
+      inner = subst (λ q. IsInner (rule_of word q) t.is_counting s.inner) reader
+          (reading.inner (omega (arith, is.here.inner, fits)))
+
+      separates : is_separator (rule_of word k).separator byte ≡ true
+      separates = subst (λ x. is_separator (rule_of word k).separator x ≡ true) is.here.inner
+          inner.separates
+
+      told : is_told (rule_of word k) digit ≡ true
+      told = reader_tells word t.reader k t.is_counting s digit true supported reading reader
+          is.fits is.told
+
+      is_next : is_digit (rule_of word k) digit ≡ true
+      is_next =
+          let one = ap (λ b. not
+          (b || (rule_of word k).leading || (rule_of word k).trailing
+          || (rule_of word k).consecutive) || is_digit (rule_of word k) digit) inner.internal in
+          sym one ∙ told
+
+-- ---- what it costs
+
+reads_over : (k : Component) (a b : Held)
+    → separator_at (separator a.state.word) a.state.buffer (a.state.cursor + 1) ≡ false
+    → 0 < own k a.state → b.run ≡ a.run → a.state.cursor ≤ b.state.cursor
+    → min (a.looks + 1) (2 ^ 64 - 1) ≤ b.looks → b.looks ≤ a.looks + 4 → Reads k a b
+reads_over k a b apart counted run l least most =
+    reads_unscanned k a b run l (enough (is_some (byte_at_place k a.state))) most free
+  where
+    enough : (t : Bool) → min (a.looks + one_if t) (2 ^ 64 - 1) ≤ b.looks
+    enough true = omega (arith, least)
+    enough false = omega (arith, least)
+
+    never : (t : Bool) → (t && false) ≡ false
+    never true = refl
+    never false = refl
+
+    scan : Bool
+    scan = scans (rule k a.state) a.state.buffer a.state.cursor a.run
+
+    free : needs_run k a ≡ false
+    free = ap (λ t. scan && (t || not (ltb 0 (own k a.state)))) apart
+        ∙ ap (λ t. scan && not t) (lt-ltb 0 (own k a.state) counted) ∙ never scan
+
+-- ---- what it answers
+
+pub peeks_over : (k : Component) (a b : Held) (digit : ℕ) → PassesOver k a.state digit
+    → b.state ≡ with_cursor a.state (a.state.cursor + 1) → b.run ≡ a.run
+    → b.looks ≡ saturating a.looks 2
+    → Settles k a b (Some digit)
+peeks_over k a b digit over state run looks = record {
+  byte = sym over.next ∙ ap (slice_get a.state.buffer) (sym over.place);
+  settles = state ∙ ap (with_cursor a.state) (sym over.place);
+  reads = let at = ap (λ (s : State). s.cursor) state in
+      reads_over k a b over.apart over.counted run (omega (arith, at)) (omega (arith, looks))
+      (omega (arith, looks));
+}
+
+-- the separator is passed, which leaves m and the tally r; and then the digit
+pub yields_over : (k : Component) (a b : Held) (m : State) (r : Tally) (item : Bor ℕ)
+    → PassesOver k a.state item.now
+    → m ≡ with_cursor a.state (a.state.cursor + 1) → r.index ≡ a.state.cursor + 1
+    → r.reader ≡ k → r.is_counting ≡ counts k a.state.word
+    → b.state ≡ with_cursor (passed_by r m) (r.index + 1) → b.run ≡ a.run
+    → b.looks ≡ saturating (saturating a.looks 2) 2 → Yields k a b (Some item)
+yields_over k a b m r item over moved index reader counting left run looks = record {
+  takes = takes_some k a.state n b.state item a.holds
+      (sym over.next ∙ ap (slice_get a.state.buffer) (sym over.place))
+      (ap (with_cursor a.state) (sym over.place))
+      (stepped ∙ ap (λ s. with_cursor s (n.cursor + 1)) (sym (told_counts k n item.now over.told)));
+  reads = let at = ap (λ (s : State). s.cursor) left in
+      reads_over k a b over.apart over.counted run (omega (arith, at, index)) (omega (arith, looks))
+      (omega (arith, looks));
+}
+  where
+    n : State
+    n = with_cursor a.state (a.state.cursor + 1)
+
+    stepped : b.state ≡ with_cursor (cond (counts k n.word) (counted k n) n) (n.cursor + 1)
+    stepped = left
+        ∙ ap (λ i. with_cursor (passed_by r m) (i + 1)) index
+        ∙ ap (λ (s : State). with_cursor (cond r.is_counting (counted r.reader s) s) (n.cursor + 1))
+        moved
+        ∙ ap (λ c. with_cursor (cond r.is_counting (counted c n) n) (n.cursor + 1)) reader
+        ∙ ap (λ b. with_cursor (cond b (counted k n) n) (n.cursor + 1)) counting

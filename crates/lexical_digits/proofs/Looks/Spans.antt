@@ -1,0 +1,76 @@
+-- What a separator is judged by.
+use Rattle.std.proofs.Common.{subst, ◌≡◌, ℕ, ◌+◌, ◌-◌, ◌<◌, ◌≤◌, Bool, true, false, ltb, Option, Some, List, length, sym, ap, ◌∙◌, arith}
+use Rattle.std.specs.List.{slice_get, list_any}
+use Rattle.lexical_digits.specs.declared.skip.rule.Rule.{Rule}
+use Rattle.lexical_digits.specs.declared.skip.decision.Run.{Run}
+use Rattle.lexical_digits.specs.declared.skip.rule.Class.{Class}
+use Rattle.lexical_digits.specs.Separators.{class, holds_separator, left_side, right_side, roles, grants, place, IsSupported}
+use Rattle.lexical_digits.specs.Looks.{separator_at, IsRun, IsRunOrNone, IsSpan}
+use Rattle.lexical_digits.specs.Laws.Kept.{place_kept, separator_within}
+use Rattle.lexical_digits.proofs.Rule.Runs.{place_next, place_run}
+use Rattle.lexical_digits.proofs.Rule.Sides.{left_one, right_one, left_many, right_many, kept_by_sides}
+use Rattle.lexical_digits.proofs.Looks.WhereSeparatorsStand.{holds_separator_at}
+use Rattle.std.proofs.lemmas.Bool.{not_from_true, not_from_false}
+
+pub known_run : (separator : ℕ) (buffer : List ℕ) (o : Option Run) (run : Run) → o ≡ Some run
+    → IsRunOrNone separator buffer o → IsRun separator buffer run.from run.to
+known_run separator buffer o run e h = subst (IsRunOrNone separator buffer) e h
+
+module _ (rule : Rule) (buffer : List ℕ) (supported : IsSupported rule) where
+  -- a separator under a rule that judges each alone
+  pub span_alone : rule.consecutive ≡ false → (q : ℕ) → q < length buffer
+      → IsSpan rule buffer q q (q + 1)
+  span_alone single q l = record {
+    within = omega arith;
+    left = left_one rule buffer supported single q (omega arith);
+    right = right_one rule buffer supported single q;
+    reach = λ count h. place_next rule buffer single q count l h;
+  }
+
+  -- one in a run that is judged as a whole
+  pub span_of_run : rule.consecutive ≡ true → (q from to : ℕ) → IsRun rule.separator buffer from to
+      → from ≤ q → q < to → IsSpan rule buffer q from to
+  span_of_run many q from to run low high = record {
+    within = omega (arith, run.within);
+    left = left_many rule buffer supported many q from low (λ k m n. holds k m (omega arith))
+        (λ k e. holds_separator_at rule buffer supported k ∙ run.before k e)
+        (omega (arith, run.within));
+    right = right_many rule buffer supported many q to (holds q low high) (omega arith)
+        (λ k m n. holds k (omega arith) n) stops run.within;
+    reach = λ count h. place_run rule buffer many (to - q) q to count (omega arith)
+        (λ k m n. holds k (omega arith) n) stops run.within h;
+  }
+    where
+      holds : (k : ℕ) → from ≤ k → k < to → holds_separator rule buffer k ≡ true
+      holds k m n = holds_separator_at rule buffer supported k ∙ run.all k m n
+
+      stops : holds_separator rule buffer to ≡ false
+      stops = holds_separator_at rule buffer supported to ∙ run.behind
+
+  module _ (q from to count : ℕ) (left : Class) (counted : Bool)
+      (span : IsSpan rule buffer q from to) (is : separator_at rule.separator buffer q ≡ true)
+      (at_left : left ≡ left_side rule buffer counted q) (above : counted ≡ ltb 0 count) where
+    here : holds_separator rule buffer q ≡ true
+    here = holds_separator_at rule buffer supported q ∙ is
+
+    by_sides : list_any (grants rule)
+        (roles (left_side rule buffer counted q) (right_side rule buffer q))
+        ≡ list_any (grants rule) (roles left (class rule (slice_get buffer to)))
+    by_sides =
+        ap (λ r. list_any (grants rule) (roles (left_side rule buffer counted q) r))
+        (sym span.right)
+        ∙ ap (λ l. list_any (grants rule) (roles l (class rule (slice_get buffer to))))
+        (sym at_left)
+
+    pub place_dropped_by : list_any (grants rule) (roles left (class rule (slice_get buffer to)))
+        ≡ true → place rule buffer q count ≡ to
+    place_dropped_by some =
+        span.reach count (kept_by_sides rule buffer supported q count counted above here
+        ∙ not_from_true _ (by_sides ∙ some))
+
+    pub place_kept_by : list_any (grants rule) (roles left (class rule (slice_get buffer to)))
+        ≡ false → place rule buffer q count ≡ q
+    place_kept_by none =
+        place_kept rule buffer q count (separator_within rule buffer q here)
+        (kept_by_sides rule buffer supported q count counted above here
+        ∙ not_from_false _ (by_sides ∙ none))

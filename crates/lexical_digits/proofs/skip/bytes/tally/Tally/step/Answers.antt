@@ -1,0 +1,19 @@
+use Rattle.std.proofs.Common.{rules, ap, ◌∙◌}
+use Rattle.lexical_digits.specs.CallTable.{counted}
+use Rattle.lexical_digits.specs.Tally.{state_of}
+use Rattle.lexical_digits.proofs.Fields.CarriedByCursor.{counted_moved}
+use Rattle.lexical_digits.proofs.skip.bytes.tally.Tally.step.Goals as goal
+
+pub returns-then-is_counted : goal.returns-then-is_counted
+returns-then-is_counted c = rw c.if-is_counted.true (record {
+  state = λ buffer word. (c.raise.ensures.state buffer word
+      ∙ ap (counted c.args.component) (c.go_on.ensures.state buffer word)
+      ∙ counted_moved c.args.component (state_of buffer word c.args.self.now) _);
+  index = search rules;
+  looks = search rules;
+  reader = search rules;
+  is_counting = search rules;
+})
+
+pub returns-else-is_counted : goal.returns-else-is_counted
+returns-else-is_counted c = rw c.if-is_counted.false c.go_on.ensures

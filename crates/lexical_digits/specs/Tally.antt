@@ -1,0 +1,60 @@
+-- What a `Tally` stands for: the state that its cursor carries, and the looks.
+use Rattle.std.specs.Prelude.{◌≡◌, ℕ, ◌-◌, ◌*◌, Bool, true, false, ◌&&◌, if◌then◌else◌, List}
+use Rattle.lexical_digits.specs.declared.skip.component.Component.{Component}
+use Rattle.lexical_digits.specs.declared.skip.component.Component.TheVariants.{Integer, Fraction, Exponent}
+use Rattle.lexical_digits.specs.declared.skip.bytes.tally.Tally.{Tally}
+use Rattle.lexical_digits.specs.State.{State, saturating}
+use Rattle.lexical_digits.specs.CallTable.{counted}
+
+abbrev pub is_integer : Component → Bool
+is_integer Integer = true
+is_integer _ = false
+
+abbrev pub is_fraction : Component → Bool
+is_fraction Fraction = true
+is_fraction _ = false
+
+abbrev pub is_exponent : Component → Bool
+is_exponent Exponent = true
+is_exponent _ = false
+
+-- a count, where the bytes since the mark may be counted too
+abbrev pub count_since : Bool → ℕ → ℕ → ℕ
+count_since is_counting stored since = if is_counting then saturating stored since else stored
+
+unfoldable pub integer_of : Tally → ℕ
+integer_of t = count_since (t.is_counting && is_integer t.reader) t.integer (t.index - t.mark)
+
+unfoldable pub fraction_of : Tally → ℕ
+fraction_of t = count_since (t.is_counting && is_fraction t.reader) t.fraction (t.index - t.mark)
+
+unfoldable pub exponent_of : Tally → ℕ
+exponent_of t = count_since (t.is_counting && is_exponent t.reader) t.exponent (t.index - t.mark)
+
+-- each byte since the start took two looks
+unfoldable pub looks_of : Tally → ℕ
+looks_of t = saturating t.looks (2 * (t.index - t.start))
+
+abbrev pub state_of : List ℕ → ℕ → Tally → State
+state_of buffer word t = record {
+  buffer = buffer;
+  word = word;
+  cursor = t.index;
+  integer = integer_of t;
+  fraction = fraction_of t;
+  exponent = exponent_of t;
+}
+
+-- What a call of a tally leaves: for every buffer and word that state, a cursor, and the looks so
+-- far; who reads stays.
+pub record Leaves (old new : Tally) (step : State → State) (cursor count : ℕ) : Type 0 where
+  pub state : (buffer : List ℕ) → (word : ℕ)
+      → state_of buffer word new ≡ step (state_of buffer word old)
+  pub index : new.index ≡ cursor
+  pub looks : looks_of new ≡ count
+  pub reader : new.reader ≡ old.reader
+  pub is_counting : new.is_counting ≡ old.is_counting
+
+-- a state with the byte counted that the reader passes
+abbrev pub passed_by : Tally → State → State
+passed_by t s = if t.is_counting then counted t.reader s else s

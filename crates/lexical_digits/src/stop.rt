@@ -1,0 +1,49 @@
+//! Where the digits end, for the iterators of the components: laws, each the contract of a
+//! function.
+
+ghost use Rattle.std.specs.Prelude.{◌≡◌, ℕ, ◌<◌, [], length, filter, slice_range};
+ghost use Rattle.std.specs.Fn.{iterate};
+ghost use Rattle.lexical_format.specs.Digits.{is_digit_of_radix};
+ghost use Rattle.lexical_digits.specs.Separators.{is_digit};
+ghost use Rattle.lexical_digits.specs.State.{State, IsState, rule};
+ghost use Rattle.lexical_digits.specs.CallTable.{place_of, settled, taken};
+ghost use Rattle.lexical_digits.specs.Stop.{leading, after_leading, stop_of, leading_digits_of, past_digits_of, IsNthDigit};
+ghost use Rattle.lexical_digits.specs.declared.skip.component.Component.{Component};
+
+/// The digits that lead what the iterator of a component yields, those before the first item that
+/// is no digit, are the digits of the buffer from the cursor to the stop: the least kept position
+/// that holds no digit, or the length. Where `next` was called for each of them, and then `peek`,
+/// the cursor is at the stop, and an iterator that counts has them on its count. Where there is
+/// none, the place is the stop.
+///
+/// A caller of a generic function that reads digits calls this, and then knows of an iterator over
+/// a `Bytes` what the function's contract says in words of any implementer.
+pub fn digits_end()
+    ensures digits { (k : Component) (s : State) → IsState s →
+        leading (λ (m : State). m.buffer) (λ m. m.cursor) (place_of k) (taken k)
+        (is_digit (rule k s)) s
+        ≡ leading_digits_of k s }
+    ensures after { (k : Component) (s : State) → IsState s →
+        after_leading (λ (m : State). m.buffer) (λ m. m.cursor) (place_of k) (taken k) (settled k)
+        (is_digit (rule k s)) s
+        ≡ past_digits_of k s }
+    // the same where digits are told by a radix, which is the component's
+    ensures digits_by_radix { (k : Component) (s : State) (radix : ℕ) → IsState s →
+        radix ≡ (rule k s).radix →
+        leading (λ (m : State). m.buffer) (λ m. m.cursor) (place_of k) (taken k)
+        (is_digit_of_radix radix) s
+        ≡ leading_digits_of k s }
+    ensures after_by_radix { (k : Component) (s : State) (radix : ℕ) → IsState s →
+        radix ≡ (rule k s).radix →
+        after_leading (λ (m : State). m.buffer) (λ m. m.cursor) (place_of k) (taken k) (settled k)
+        (is_digit_of_radix radix) s
+        ≡ past_digits_of k s }
+    ensures between { (k : Component) (s : State) → IsState s →
+        leading_digits_of k s
+        ≡ filter (is_digit (rule k s)) (slice_range s.buffer s.cursor (stop_of k s)) }
+    ensures none { (k : Component) (s : State) →
+        leading_digits_of k s ≡ [] → place_of k s ≡ stop_of k s }
+    ensures nth { (n : ℕ) (k : Component) (s : State) → IsState s →
+        n < length (leading_digits_of k s) →
+        IsNthDigit k s n (place_of k (iterate (taken k) n s)) }
+{}

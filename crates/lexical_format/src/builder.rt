@@ -1,0 +1,114 @@
+//! The maker of format words.
+
+ghost use Rattle.std.specs.Prelude.{◌≡◌, ◌<◌, ◌≤◌};
+ghost use Rattle.lexical_format.specs.Word.{is_supported};
+ghost use Rattle.lexical_format.specs.Builder.{bit_if, flags_number, word_of, serves_for, Says};
+
+/// Which separators of a component are dropped. Without a flag none is.
+#[derive(Clone, Copy, Debug, PartialEq, Eq)]
+pub struct DigitSeparatorFlags {
+    /// Drops internal separators: those between digits.
+    pub internal: bool,
+    /// Drops leading separators: those with no digit before them.
+    pub leading: bool,
+    /// Drops trailing separators: those with no digit behind them.
+    pub trailing: bool,
+    /// Judges a run of separators as a single one. Alone it drops nothing.
+    pub consecutive: bool,
+}
+
+/// No flag of a component.
+pub const NO_FLAGS: DigitSeparatorFlags = DigitSeparatorFlags {
+    internal: false,
+    leading: false,
+    trailing: false,
+    consecutive: false,
+};
+
+/// All flags of a component: every separator is dropped.
+pub const ALL_FLAGS: DigitSeparatorFlags = DigitSeparatorFlags {
+    internal: true,
+    leading: true,
+    trailing: true,
+    consecutive: true,
+};
+
+/// What a format word is made of. A builder is written out, mostly on top of [`DECIMAL`]:
+/// `NumberFormatBuilder { digit_separator: b'_', integer: ALL_FLAGS, ..DECIMAL }`.
+///
+/// It stands for lexical-util's `NumberFormatBuilder`, which has a method for each field.
+#[derive(Clone, Copy, Debug, PartialEq, Eq)]
+pub struct NumberFormatBuilder {
+    /// The mantissa radix.
+    pub mantissa_radix: u8,
+    /// The exponent radix; zero means the mantissa radix.
+    pub exponent_radix: u8,
+    /// The byte that separates digits; zero means that none does.
+    pub digit_separator: u8,
+    /// The integer's flags.
+    pub integer: DigitSeparatorFlags,
+    /// The fraction's flags.
+    pub fraction: DigitSeparatorFlags,
+    /// The exponent's flags.
+    pub exponent: DigitSeparatorFlags,
+    /// Drops every separator of a special value, such as `nan`.
+    pub special: bool,
+}
+
+/// Radix 10, no separator and no flags: the builder of [`STANDARD`](crate::STANDARD).
+pub const DECIMAL: NumberFormatBuilder = NumberFormatBuilder {
+    mantissa_radix: 10,
+    exponent_radix: 0,
+    digit_separator: 0,
+    integer: NO_FLAGS,
+    fraction: NO_FLAGS,
+    exponent: NO_FLAGS,
+    special: false,
+};
+
+fn bit_if(is_set: bool, place: u32) -> u128
+    requires { place ≤ 127 }
+    ensures { result ≡ bit_if is_set place }
+{
+    if is_set { 1 << place } else { 0 }
+}
+
+/// Four flags three places apart, the internal one lowest.
+fn flags_number(flags: DigitSeparatorFlags) -> u128
+    ensures value { result ≡ flags_number flags }
+    ensures fits { result ≤ 585 }
+{
+    bit_if(flags.internal, 0)
+        + bit_if(flags.leading, 3)
+        + bit_if(flags.trailing, 6)
+        + bit_if(flags.consecutive, 9)
+}
+
+impl NumberFormatBuilder {
+    /// Each part in its place. A radix and a separator are bytes.
+    #[tactic(auto, unfolding(crate::specs::Builder::word_of))]
+    fn sum(self) -> u128
+        ensures value { result ≡ word_of self }
+        ensures fits { self.exponent_radix < 256 × self.mantissa_radix < 256
+            × self.digit_separator < 256 }
+    {
+        (u128::from(self.exponent_radix) << 120)
+            + (u128::from(self.mantissa_radix) << 104)
+            + (u128::from(self.digit_separator) << 64)
+            + bit_if(self.special, 44)
+            + (flags_number(self.exponent) << 34)
+            + (flags_number(self.fraction) << 33)
+            + (flags_number(self.integer) << 32)
+    }
+
+    /// The word that says what this builder says, and has zero in every other bit. It is supported
+    /// exactly if both radixes are 2 to 36, where a zero exponent radix stands for the mantissa
+    /// radix, and the separator is a digit of neither.
+    pub fn build(self) -> u128
+        ensures value { result ≡ word_of self }
+        ensures says { Says result self }
+        ensures supported { is_supported result ≡ serves_for self }
+    {
+        self.sum()
+    }
+}
