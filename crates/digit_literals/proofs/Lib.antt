@@ -4,3 +4,4 @@ pub mod Skipping
 pub mod Integers
 pub mod Apart
 pub mod Within
+pub mod Parts

@@ -20,7 +20,7 @@ ghost use Rattle.digit_literals.specs.Integers.{IsInteger, HasNoDigit, IsTooLarg
 
 mod part;
 
-pub use self::part::pass_digits;
+pub use self::part::{pass_digits, pass_zeros};
 use lexical_digits::iterator::{DigitsIter, Iter};
 use lexical_digits::skip::Bytes;
 use lexical_format::{NumberFormat, char_to_digit_const};
@@ -168,13 +168,13 @@ pub fn read_integer(text: &[u8], word: u128) -> Result<(u64, usize), LiteralErro
 /// answer and leave: so none may stand for another. Asks that the radix is at least 1.
 pub fn outcomes_differ<'a, I: DigitsIter<'a>>(iter: &I, radix: u32)
     requires { 1 ≤ radix }
-    ensures read_or_none { (value at : ℕ) (left other : I.Meaning) →
-        ReadsAll I.buffer I.cursor I.place I.taken I.settled radix (I.meaning iter.now) value left →
-        FindsNone I.buffer I.cursor I.place I.taken I.settled radix (I.meaning iter.now) at other → ⊥ }
-    ensures read_or_most { (value at : ℕ) (left other : I.Meaning) →
-        ReadsAll I.buffer I.cursor I.place I.taken I.settled radix (I.meaning iter.now) value left →
-        PassesMost I.buffer I.cursor I.place I.taken I.settled radix (I.meaning iter.now) at other → ⊥ }
-    ensures none_or_most { (at over : ℕ) (left other : I.Meaning) →
-        FindsNone I.buffer I.cursor I.place I.taken I.settled radix (I.meaning iter.now) at left →
-        PassesMost I.buffer I.cursor I.place I.taken I.settled radix (I.meaning iter.now) over other → ⊥ }
+    ensures read_or_none { (value at : ℕ) (left other : I.Meaning) → let m = I.meaning iter.now in
+        ReadsAll I.buffer I.cursor I.place I.taken I.settled radix m value left →
+        FindsNone I.buffer I.cursor I.place I.taken I.settled radix m at other → ⊥ }
+    ensures read_or_most { (value at : ℕ) (left other : I.Meaning) → let m = I.meaning iter.now in
+        ReadsAll I.buffer I.cursor I.place I.taken I.settled radix m value left →
+        PassesMost I.buffer I.cursor I.place I.taken I.settled radix m at other → ⊥ }
+    ensures none_or_most { (at over : ℕ) (left other : I.Meaning) → let m = I.meaning iter.now in
+        FindsNone I.buffer I.cursor I.place I.taken I.settled radix m at left →
+        PassesMost I.buffer I.cursor I.place I.taken I.settled radix m over other → ⊥ }
 {}

@@ -29,3 +29,5 @@ module _ (rule : Rule) (text : List ℕ) where
         other = rw e (not-true _ there.1);
         before = λ q m k. not-false _ (first.before q (omega arith) (omega (arith, e, m)) k);
       }
+
+pub ruleset first_fault = (all_digits, offends_first)

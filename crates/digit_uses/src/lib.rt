@@ -2,6 +2,7 @@
 #![tactic(auto)]
 
 pub mod drained;
+pub mod figures;
 pub mod first;
 pub mod line;
 pub mod literal;

@@ -59,7 +59,7 @@ fn skip_gaps(line: &[u8], from: usize) -> usize
 }
 
 /// The next number of a line from a position on. `None` where nothing but gaps is left.
-#[tactic(auto, using(digit_literals::proofs::Within::integer_within, digit_literals::proofs::Within::no_digit_within, digit_literals::proofs::Within::too_large_within))]
+#[tactic(auto, using(digit_literals::proofs::Within::positions_within))]
 pub fn next_number(line: &[u8], word: u128, from: usize) -> Option<Result<Token, Fault>>
     requires supported { IsTrue (is_supported word) }
     requires within { from ≤ length line.now }

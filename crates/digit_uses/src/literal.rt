@@ -77,7 +77,7 @@ fn base_of(text: &[u8]) -> (Base, usize)
 /// The integer literal that a text begins with: its base by `0b`, `0o` or `0x`, and then the
 /// digits, with `_` among them. What stands behind the digits is left. Positions are those of the
 /// text.
-#[tactic(auto, using(digit_literals::proofs::Within::integer_within, digit_literals::proofs::Within::no_digit_within, digit_literals::proofs::Within::too_large_within))]
+#[tactic(auto, using(digit_literals::proofs::Within::positions_within))]
 pub fn read_literal(text: &[u8]) -> Result<Literal, LiteralError>
     ensures ok { let b = base_of text.now in let p = prefix_of b in
         IfOk result (λ l. IsInteger (rule_for b) (drop p text.now) l.value (l.end - p)) }

@@ -2,7 +2,7 @@
 //!
 //! Proof by hand: 8 lines, the loop's invariant and its measure.
 
-ghost use Rattle.std.specs.Prelude.{◌≡◌, ◌==◌, IsTrue};
+ghost use Rattle.std.specs.Prelude.{◌≡◌, ◌==◌};
 ghost use Rattle.std.specs.List.{list_any};
 ghost use Rattle.lexical_digits.specs.CallTable.{drain_of};
 ghost use Rattle.lexical_digits.specs.declared.skip.component.Component.TheVariants.{Integer};

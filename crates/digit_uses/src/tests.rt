@@ -1,6 +1,7 @@
 //! Each use once; what is expected is worked out by hand.
 
 use crate::drained::{length_without_separators, without_separators};
+use crate::figures::{Figures, read_figures};
 use crate::first::digits_end;
 use crate::line::{Fault, Token, next_number};
 use crate::literal::{Literal, read_literal};
@@ -63,6 +64,24 @@ fn a_text_is_digits_or_offends(rt: HostRuntime) {
     assert_eq!(rt; count_digits(b"1__0", WORD), Err(1));
     assert_eq!(rt; count_digits(b"1_", WORD), Err(1));
     assert_eq!(rt; count_digits(b"12a4", WORD), Err(2));
+}
+
+#[test]
+fn zeros_in_front_are_told_apart(rt: HostRuntime) {
+    assert!(rt; is_supported(WORD));
+    for (text, zeros, significant, end) in [
+        ("0_0012_03x", 3, 4, 9),
+        ("00", 2, 0, 2),
+        ("_01", 0, 0, 0),
+        ("7", 0, 1, 1),
+    ] {
+        let figures = Figures {
+            zeros,
+            significant,
+            end,
+        };
+        assert_eq!(rt; read_figures(text.as_bytes(), WORD), figures, "{text}");
+    }
 }
 
 #[test]

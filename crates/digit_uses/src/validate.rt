@@ -18,7 +18,7 @@ use lexical_digits::stop::digits_end;
 
 /// How many digits a text has, if it holds nothing else but separators that the word drops. Else
 /// the position of the first byte that offends.
-#[tactic(auto, using(crate::proofs::FirstFault::all_digits, crate::proofs::FirstFault::offends_first))]
+#[tactic(auto, using(crate::proofs::FirstFault::first_fault))]
 pub fn count_digits(text: &[u8], word: u128) -> Result<usize, usize>
     requires { IsTrue (is_supported word) }
     ensures digits { IfOk result (IsAllDigits (rule_of word Integer) text.now) }
@@ -30,7 +30,8 @@ pub fn count_digits(text: &[u8], word: u128) -> Result<usize, usize>
 /// How many digits a text has, if they end at its end; and else where they end.
 fn pass_all(text: &[u8], word: u128) -> Result<usize, usize>
     requires { IsTrue (is_supported word) }
-    ensures digits { IfOk result (λ n. n ≡ length (filter (is_digit (rule_of word Integer)) text.now)) }
+    ensures digits { let r = rule_of word Integer in
+        IfOk result (λ n. n ≡ length (filter (is_digit r) text.now)) }
     ensures all { IfOk result (λ _. stop (rule_of word Integer) text.now 0 0 ≡ length text.now) }
     ensures offends { IfErr result (λ at. at ≡ stop (rule_of word Integer) text.now 0 0) }
     ensures within { IfErr result (λ at. at < length text.now) }

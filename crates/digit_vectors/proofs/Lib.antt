@@ -1,3 +1,4 @@
 pub mod Places
 pub mod Settled
 pub mod Kept
+pub mod Unfolded

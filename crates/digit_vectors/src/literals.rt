@@ -1,9 +1,9 @@
 //! Readers over a `Bytes`, each of a call that reads digits from any iterator.
 
-ghost use Rattle.std.specs.Prelude.{◌≡◌, ◌<◌, length, slice_get, IfOk, OnOk, if◌then◌else◌, ◌+◌};
+ghost use Rattle.std.specs.Prelude.{◌≡◌, ◌<◌, length, IfOk, OnOk};
 ghost use Rattle.std.specs.Str.Parse.{digits_value};
 ghost use Rattle.lexical_format.specs.Word.{mantissa_radix};
-ghost use Rattle.lexical_digits.specs.Stop.{stop_of, leading_digits_of, past_digits_of};
+ghost use Rattle.lexical_digits.specs.Stop.{leading_digits_of, past_digits_of};
 ghost use Rattle.lexical_digits.specs.declared.skip.component.Component.TheVariants.{Integer, Fraction};
 
 use digit_literals::{LiteralError, read_digits, skip_digits};

@@ -124,7 +124,7 @@ pub fn seen(rule: Rule, buffer: &[u8], start: usize, count: usize, position: usi
 }
 
 /// Whether the byte at a position is kept, where reading starts at `start` with that count.
-#[tactic(auto, unfolding(lexical_digits::specs::Separators::is_kept, lexical_digits::specs::Separators::is_dropped, lexical_digits::specs::Separators::holds_separator))]
+#[tactic(auto, unfolding(crate::proofs::Unfolded::keeping))]
 pub fn is_kept(rule: Rule, buffer: &[u8], start: usize, count: usize, position: usize) -> bool
     requires low { start ≤ position }
     requires high { position < length buffer.now }

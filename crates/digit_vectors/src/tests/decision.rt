@@ -7,7 +7,7 @@ ghost use Rattle.lexical_digits.specs.Separators.{IsSupported};
 use lexical_digits::skip::{ByteSource, Rule, Run, Sight, SliceSource, decide};
 
 /// Radix 10, separator `_`, internal.
-#[tactic(auto, unfolding(lexical_digits::specs::Separators::is_digit, lexical_format::specs::Digits::digit_value))]
+#[tactic(auto, unfolding(crate::proofs::Unfolded::digits_of_rule))]
 fn internal_rule(consecutive: bool) -> Rule
     ensures supported { IsSupported result }
     ensures separator { result.separator ≡ 95 }
