@@ -1,5 +1,5 @@
 -- No two outcomes can be had of one meaning.
-use Rattle.std.proofs.Common.{ℕ, ◌+◌, ◌<◌, ◌≤◌, List, length, ap, arith}
+use Rattle.std.proofs.Common.{ℕ, ◌+◌, ◌≤◌, List, length, ap, arith}
 use Rattle.std.proofs.lemmas.Str.Parse.{digits_value-take-le}
 use Rattle.digit_literals.specs.Outcomes.{digits, ReadsAll, FindsNone, PassesMost}
 

@@ -5,3 +5,4 @@ pub mod Integers
 pub mod Apart
 pub mod Within
 pub mod Parts
+pub mod DigitsAlone

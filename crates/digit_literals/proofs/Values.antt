@@ -28,7 +28,7 @@ spelled_is : (byte d : ℕ) → words.digit_value byte ≡ Some d → digit_valu
 unfolding words.digit_value
 spelled_is byte d e = grind (arith, nat_tests)
 
-value_is : (radix byte d : ℕ) → digit_of_radix radix byte ≡ Some d → digit_value byte ≡ d
+pub value_is : (radix byte d : ℕ) → digit_of_radix radix byte ≡ Some d → digit_value byte ≡ d
 value_is radix byte d e = spelled_is byte d (below_is radix d (words.digit_value byte) e)
 
 taken_before : (xs ys : List ℕ) → take (length xs) (xs ++ ys) ≡ xs

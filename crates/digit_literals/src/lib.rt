@@ -19,10 +19,12 @@ ghost use Rattle.digit_literals.specs.Outcomes.{digits, ReadsAll, FindsNone, Pas
 ghost use Rattle.digit_literals.specs.Integers.{IsInteger, HasNoDigit, IsTooLarge};
 
 mod part;
+mod plain;
 
 pub use self::part::{pass_digits, pass_zeros};
+use self::plain::read_plain;
 use lexical_digits::iterator::{DigitsIter, Iter};
-use lexical_digits::skip::Bytes;
+use lexical_digits::skip::{Bytes, Component, Rule};
 use lexical_format::{NumberFormat, char_to_digit_const};
 
 /// Why there is no value. A position counts bytes from the start of the buffer, from 0.
@@ -143,6 +145,7 @@ pub fn skip_digits<'a, I: DigitsIter<'a>>(iter: &mut I) -> usize
 /// The value of the integer that a text begins with, and where the integer ends: [`read_digits`] on
 /// the integer iterator of a fresh `Bytes`, in the mantissa radix. It ends at the stop, the first
 /// kept byte that is no digit, or at the end of the text. Asks that the word is supported.
+/// Digits that no separator interrupts are read off the slice, with the same answer.
 ///
 /// [`Empty`](LiteralError::Empty) at the stop if no digit stands before it;
 /// [`Overflow`](LiteralError::Overflow) at the first digit with which the value is above
@@ -157,6 +160,9 @@ pub fn read_integer(text: &[u8], word: u128) -> Result<(u64, usize), LiteralErro
     ensures empty { IfEmpty result (λ at. HasNoDigit (rule_of word Integer) text.now at) }
     ensures overflow { IfOverflow result (λ at. IsTooLarge (rule_of word Integer) text.now at) }
 {
+    if let Some(read) = read_plain(text, Rule::of(word, Component::Integer)) {
+        return Ok(read);
+    }
     let radix = NumberFormat::new(word).mantissa_radix();
     let mut bytes = Bytes::new(text, word);
     let mut iter = bytes.integer_iter();
