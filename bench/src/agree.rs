@@ -1,7 +1,7 @@
-//! The three sides on many small texts, before anything is timed.
+//! The sides on many small texts, before anything is timed.
 
 use crate::texts::Text;
-use crate::word::with_flags;
+use crate::word::{in_all, with_flags};
 use crate::work::{Sides, Work};
 
 /// The longest of the texts.
@@ -9,36 +9,35 @@ const LONGEST: usize = 6;
 /// A digit, a byte that is neither, the separator, and another that is neither.
 const ALPHABET: [u8; 4] = *b"7a_.";
 
-/// Ends the program unless the three sides agree on every text of up to six of four bytes, under
-/// each of the sixteen flag states.
-pub fn check_all() {
-    let texts = all_texts();
-    check::<{ with_flags(0) }>(&texts);
-    check::<{ with_flags(1) }>(&texts);
-    check::<{ with_flags(2) }>(&texts);
-    check::<{ with_flags(3) }>(&texts);
-    check::<{ with_flags(4) }>(&texts);
-    check::<{ with_flags(5) }>(&texts);
-    check::<{ with_flags(6) }>(&texts);
-    check::<{ with_flags(7) }>(&texts);
-    check::<{ with_flags(8) }>(&texts);
-    check::<{ with_flags(9) }>(&texts);
-    check::<{ with_flags(10) }>(&texts);
-    check::<{ with_flags(11) }>(&texts);
-    check::<{ with_flags(12) }>(&texts);
-    check::<{ with_flags(13) }>(&texts);
-    check::<{ with_flags(14) }>(&texts);
-    check::<{ with_flags(15) }>(&texts);
+/// Checks each of the flag states that are named.
+macro_rules! check_states {
+    ($texts:expr, $($state:literal)*) => {
+        $(check::<{ with_flags($state) }, { in_all(with_flags($state)) }>($texts);)*
+    };
 }
 
-fn check<const WORD: u128>(texts: &[Text]) {
+/// Ends the program unless the sides agree on every text of up to six of four bytes, under each of
+/// the sixteen flag states.
+pub fn check_all() {
+    check_states!(&all_texts(), 0 1 2 3 4 5 6 7 8 9 10 11 12 13 14 15);
+}
+
+/// Checks the flag state of a word: in the integer alone, and in all three parts of a number.
+fn check<const WORD: u128, const IN_ALL: u128>(texts: &[Text]) {
     for work in [Work::Sum, Work::Number, Work::Peeked, Work::Handed] {
         let sides = Sides::skip::<WORD>(work);
         for text in texts {
-            let name = format!("word {WORD:#x}, {:?}", text.bytes.escape_ascii().to_string());
-            sides.check(&name, text);
+            sides.check(&name_of(WORD, text), text);
         }
     }
+    let floats = Sides::skip::<IN_ALL>(Work::Floats);
+    for text in texts {
+        floats.check_calls(&name_of(IN_ALL, text), text);
+    }
+}
+
+fn name_of(word: u128, text: &Text) -> String {
+    format!("word {word:#x}, {:?}", text.bytes.escape_ascii().to_string())
 }
 
 fn all_texts() -> Vec<Text> {
@@ -50,5 +49,11 @@ fn all_texts() -> Vec<Text> {
         }
         shorter += 1;
     }
-    texts.into_iter().map(Text::from).collect()
+    texts.into_iter().map(one_number).collect()
+}
+
+/// Bytes as the only number of a text.
+fn one_number(bytes: Vec<u8>) -> Text {
+    let lengths = vec![bytes.len() as u8];
+    Text { lengths, ..Text::from(bytes) }
 }

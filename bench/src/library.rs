@@ -13,37 +13,43 @@ pub struct Outcome {
     pub looks: u64,
 }
 
-pub type Export = unsafe extern "C" fn(*const u8, usize, u64, u64, *mut Outcome);
-pub type ManyExport = unsafe extern "C" fn(*const u8, usize, *const u8, usize, u64, u64, *mut Outcome);
-
-unsafe extern "C" {
-    pub fn digit_bench_sum(text: *const u8, len: usize, low: u64, high: u64, out: *mut Outcome);
-    pub fn digit_bench_number(text: *const u8, len: usize, low: u64, high: u64, out: *mut Outcome);
-    pub fn digit_bench_peeked(text: *const u8, len: usize, low: u64, high: u64, out: *mut Outcome);
-    pub fn digit_bench_handed(text: *const u8, len: usize, low: u64, high: u64, out: *mut Outcome);
-    pub fn digit_bench_plain_sum(text: *const u8, len: usize, low: u64, high: u64, out: *mut Outcome);
-    pub fn digit_bench_plain_number(text: *const u8, len: usize, low: u64, high: u64, out: *mut Outcome);
-    pub fn digit_bench_plain_peeked(text: *const u8, len: usize, low: u64, high: u64, out: *mut Outcome);
-    pub safe fn digit_bench_size() -> usize;
-    pub fn digit_bench_literals(
-        text: *const u8,
-        len: usize,
-        lengths: *const u8,
-        count: usize,
-        low: u64,
-        high: u64,
-        out: *mut Outcome,
-    );
-    pub fn digit_bench_numbers(
-        text: *const u8,
-        len: usize,
-        lengths: *const u8,
-        count: usize,
-        low: u64,
-        high: u64,
-        out: *mut Outcome,
-    );
+/// Declares the exports that take a text, and those that take many with their lengths.
+macro_rules! exports {
+    (text: $($one:ident)*; many: $($many:ident)*) => {
+        unsafe extern "C" {
+            $(pub fn $one(text: *const u8, len: usize, low: u64, high: u64, out: *mut Outcome);)*
+            $(pub fn $many(
+                text: *const u8,
+                len: usize,
+                lengths: *const u8,
+                count: usize,
+                low: u64,
+                high: u64,
+                out: *mut Outcome,
+            );)*
+            pub safe fn digit_bench_size() -> usize;
+        }
+    };
 }
+
+exports! {
+    text:
+        digit_bench_sum
+        digit_bench_number
+        digit_bench_peeked
+        digit_bench_handed
+        digit_bench_plain_sum
+        digit_bench_plain_number
+        digit_bench_plain_peeked;
+    many:
+        digit_bench_numbers
+        digit_bench_literals
+        digit_bench_floats
+}
+
+pub type Export = unsafe extern "C" fn(*const u8, usize, u64, u64, *mut Outcome);
+pub type ManyExport =
+    unsafe extern "C" fn(*const u8, usize, *const u8, usize, u64, u64, *mut Outcome);
 
 /// Calls an export on a text.
 pub fn call(export: Export, text: &[u8], word: u128) -> Outcome {

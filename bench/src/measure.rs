@@ -1,70 +1,45 @@
 //! The clock.
 
+use crate::medians::{self, Side};
 use crate::texts::Text;
-use crate::work::Side;
+use crate::work::Way;
 use std::hint::black_box;
 use std::time::{Duration, Instant};
 
-/// How many medians are taken of each job; the least counts.
-const ROUNDS: usize = 9;
+/// How many medians a program takes of each job.
+const ROUNDS: usize = 3;
 /// The shortest stretch that the clock is read around.
 const SAMPLE: Duration = Duration::from_micros(400);
 /// About how long one median may take.
 const MEDIAN: Duration = Duration::from_millis(10);
 
-/// A side and what it is called on.
+/// A side of a case, and what it is called on.
 pub struct Job<'a> {
-    text: &'a Text,
-    side: &'a Side,
+    pub case: &'a str,
+    pub side: Side,
+    pub text: &'a Text,
+    pub way: &'a Way,
 }
 
-/// What a job took, in nanoseconds for each byte of its text.
-#[derive(Clone, Copy)]
-pub struct Timing {
-    /// The least median.
-    pub least: f64,
-    /// How far the greatest median lies above the least, as a share of it.
-    pub spread: f64,
-}
-
-/// The greatest spread of several jobs.
-pub fn widest(timings: &[Timing]) -> f64 {
-    timings.iter().map(|timing| timing.spread).fold(0.0, f64::max)
-}
-
-/// Times jobs whose ratios are wanted. They take turns, so that a slow while of the machine falls on
-/// each of them.
-pub fn measure(jobs: &[Job]) -> Vec<Timing> {
+/// Times jobs whose ratios are wanted, and tells the medians. They take turns, so that a slow while
+/// of the machine falls on each of them.
+pub fn measure(jobs: &[Job]) {
     let repeats: Vec<u32> = jobs.iter().map(Job::repeats).collect();
-    let mut medians = vec![Vec::new(); jobs.len()];
     for _ in 0..ROUNDS {
-        for (at, job) in jobs.iter().enumerate() {
-            medians[at].push(job.median(repeats[at]));
+        for (job, &repeats) in jobs.iter().zip(&repeats) {
+            medians::tell_time(job.case, job.side, job.median(repeats));
         }
     }
-    medians.iter().map(|medians| Timing::of(medians)).collect()
 }
 
-impl Timing {
-    fn of(medians: &[f64]) -> Self {
-        let least = medians.iter().copied().fold(f64::INFINITY, f64::min);
-        let greatest = medians.iter().copied().fold(0.0, f64::max);
-        Timing { least, spread: greatest / least - 1.0 }
-    }
-}
-
-impl<'a> Job<'a> {
-    pub fn new(text: &'a Text, side: &'a Side) -> Self {
-        Job { text, side }
-    }
-
+impl Job<'_> {
     /// How often the side is called for one sample.
     fn repeats(&self) -> u32 {
         let call = self.sample(1).min(self.sample(1)).max(1.0);
         (SAMPLE.as_nanos() as f64 / call).ceil() as u32
     }
 
-    /// The median of some samples, for each byte.
+    /// The median of some samples, in nanoseconds for each byte of the text.
     fn median(&self, repeats: u32) -> f64 {
         let start = Instant::now();
         let mut samples = Vec::new();
@@ -79,7 +54,7 @@ impl<'a> Job<'a> {
     fn sample(&self, repeats: u32) -> f64 {
         let start = Instant::now();
         for _ in 0..repeats {
-            black_box((self.side)(black_box(self.text)));
+            black_box((self.way)(black_box(self.text)));
         }
         start.elapsed().as_nanos() as f64
     }

@@ -1,5 +1,7 @@
 //! The texts that are drained. They are the same in each run.
 
+use std::ops::RangeInclusive;
+
 /// Bytes, and where they are many numbers, the lengths of these, and the digits alone.
 #[derive(Default)]
 pub struct Text {
@@ -29,6 +31,21 @@ impl Random {
 
     fn digit(&mut self) -> u8 {
         b'0' + self.below(10) as u8
+    }
+
+    fn letter(&mut self) -> u8 {
+        b'a' + self.below(26) as u8
+    }
+
+    /// A number of digits out of a range, with a separator behind each group, but for the last.
+    fn push_part(&mut self, bytes: &mut Vec<u8>, range: RangeInclusive<u64>, group: Option<u64>) {
+        let digits = range.start() + self.below(range.end() - range.start() + 1);
+        for at in 0..digits {
+            if at > 0 && group.is_some_and(|group| at.is_multiple_of(group)) {
+                bytes.push(b'_');
+            }
+            bytes.push(self.digit());
+        }
     }
 }
 
@@ -79,8 +96,8 @@ pub fn numbers(grouped: bool) -> Text {
     text
 }
 
-/// About a mebibyte of numbers of 8 to 20 digits, some above `u64::MAX`, and the digits alone beside
-/// them; grouped by threes where `grouped` says so.
+/// About a mebibyte of numbers of 8 to 20 digits, some above `u64::MAX`, and the digits alone
+/// beside them; grouped by threes where `grouped` says so.
 pub fn literals(grouped: bool) -> Text {
     let mut random = Random(SEED);
     let mut text = Text::default();
@@ -97,6 +114,30 @@ pub fn literals(grouped: bool) -> Text {
         }
         text.lengths.push((text.bytes.len() - start) as u8);
         text.digit_lengths.push(digits);
+    }
+    text
+}
+
+/// A mebibyte of bytes that are neither digits nor separators.
+pub fn others() -> Text {
+    let mut random = Random(SEED);
+    let bytes: Vec<u8> = (0..MEBIBYTE).map(|_| random.letter()).collect();
+    bytes.into()
+}
+
+/// About a mebibyte of numbers of an integer, a fraction and an exponent, as `1234.56789e12`; with
+/// separators, as in `123_456.789_012e1_0`, where `grouped` says so.
+pub fn floats(grouped: bool) -> Text {
+    let mut random = Random(SEED);
+    let mut text = Text::default();
+    while text.bytes.len() < MEBIBYTE {
+        let start = text.bytes.len();
+        random.push_part(&mut text.bytes, 4..=9, grouped.then_some(3));
+        text.bytes.push(b'.');
+        random.push_part(&mut text.bytes, 4..=9, grouped.then_some(3));
+        text.bytes.push(b'e');
+        random.push_part(&mut text.bytes, 2..=2, grouped.then_some(1));
+        text.lengths.push((text.bytes.len() - start) as u8);
     }
     text
 }

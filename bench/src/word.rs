@@ -3,6 +3,8 @@
 //! | Bits | Field |
 //! |---|---|
 //! | 32, 35, 38, 41 | internal, leading, trailing, consecutive, of the integer |
+//! | 33, 36, 39, 42 | the same of the fraction |
+//! | 34, 37, 40, 43 | the same of the exponent |
 //! | 64 to 71 | separator; zero means none |
 //! | 104 to 111 | radix |
 
@@ -14,10 +16,13 @@ const INTERNAL: u128 = 1 << 32;
 const LEADING: u128 = 1 << 35;
 const TRAILING: u128 = 1 << 38;
 const CONSECUTIVE: u128 = 1 << 41;
+const FLAGS: u128 = INTERNAL | LEADING | TRAILING | CONSECUTIVE;
 
 /// Separators between digits are dropped.
 pub const I: u128 = UNGRANTED | INTERNAL;
-/// The same, and a run of separators is judged as one.
+/// The same in the integer, the fraction and the exponent.
+pub const I_IN_ALL: u128 = in_all(I);
+/// As [`I`], and a run of separators is judged as one.
 pub const IC: u128 = I | CONSECUTIVE;
 /// Separators with no digit before them are dropped, and a run is judged as one.
 pub const LC: u128 = UNGRANTED | LEADING | CONSECUTIVE;
@@ -34,6 +39,35 @@ pub const fn with_flags(state: u128) -> u128 {
         | (((state >> 3) & 1) * CONSECUTIVE)
 }
 
+/// The word with the integer's flags in the fraction and the exponent too.
+pub const fn in_all(word: u128) -> u128 {
+    let flags = word & FLAGS;
+    word | flags << FRACTION | flags << EXPONENT
+}
+
+/// The integer, as a part of a number.
+pub const INTEGER: u32 = 0;
+/// The fraction.
+pub const FRACTION: u32 = 1;
+/// The exponent.
+pub const EXPONENT: u32 = 2;
+
+/// Whether the code of lexical-util answers as the role rule does, in each part of a number. In
+/// five of the sixteen flag states it doesn't.
+#[cfg_attr(not(feature = "original"), allow(dead_code))]
+pub const fn original_agrees(word: u128) -> bool {
+    state_agrees(word) && state_agrees(word >> FRACTION) && state_agrees(word >> EXPONENT)
+}
+
+const fn state_agrees(word: u128) -> bool {
+    let is_consecutive = word & CONSECUTIVE != 0;
+    let is_one_sided = (word & LEADING != 0) != (word & TRAILING != 0);
+    match word & FLAGS & !CONSECUTIVE {
+        0 => !is_consecutive,
+        granted => granted & INTERNAL == 0 || !is_one_sided,
+    }
+}
+
 /// What stands at a position; nothing stands outside of the buffer, which is `Other`.
 #[derive(Clone, Copy, PartialEq, Eq)]
 pub enum Class {
@@ -42,30 +76,25 @@ pub enum Class {
     Other,
 }
 
-/// The rule of the integer component under a word.
-pub struct Rule<const WORD: u128>;
+/// The rule of a part of a number under a word.
+pub struct Rule<const WORD: u128, const PART: u32 = INTEGER>;
 
-impl<const WORD: u128> Rule<WORD> {
+impl<const WORD: u128, const PART: u32> Rule<WORD, PART> {
     pub const SEPARATOR: u8 = (WORD >> 64) as u8;
     pub const RADIX: u32 = (WORD >> 104) as u8 as u32;
-    pub const INTERNAL: bool = WORD >> 32 & 1 == 1;
-    pub const LEADING: bool = WORD >> 35 & 1 == 1;
-    pub const TRAILING: bool = WORD >> 38 & 1 == 1;
-    pub const CONSECUTIVE: bool = WORD >> 41 & 1 == 1;
+    const GRANTED: u128 = WORD >> PART;
+    pub const INTERNAL: bool = Self::GRANTED & INTERNAL != 0;
+    pub const LEADING: bool = Self::GRANTED & LEADING != 0;
+    pub const TRAILING: bool = Self::GRANTED & TRAILING != 0;
+    pub const CONSECUTIVE: bool = Self::GRANTED & CONSECUTIVE != 0;
     /// No flag is set: nothing is dropped, and nothing is counted.
-    pub const CONTIGUOUS: bool = !(Self::INTERNAL || Self::LEADING || Self::TRAILING || Self::CONSECUTIVE);
+    pub const CONTIGUOUS: bool = Self::GRANTED & FLAGS == 0;
     /// Every separator has a role that is granted, whatever stands beside it.
-    pub const DROPS_ALL: bool = Self::INTERNAL && Self::LEADING && Self::TRAILING && Self::CONSECUTIVE;
+    pub const DROPS_ALL: bool = Self::GRANTED & FLAGS == FLAGS;
 
     #[inline(always)]
     pub fn is_digit(byte: u8) -> bool {
         (byte as char).is_digit(Self::RADIX)
-    }
-
-    /// The value of a digit.
-    #[inline(always)]
-    pub fn digit(byte: u8) -> Option<u32> {
-        (byte as char).to_digit(Self::RADIX)
     }
 
     #[inline(always)]

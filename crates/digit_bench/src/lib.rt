@@ -3,6 +3,7 @@
 //! isn't supported it leaves the outcome as it was. A word comes as its two halves.
 #![tactic(auto)]
 
+mod floats;
 mod literals;
 mod loops;
 mod plain;

@@ -39,3 +39,18 @@ pub fn peeked_number<'a, I: DigitsIter<'a>>(iter: &mut I) -> u64 {
     }
     number
 }
+
+/// The number that the digits make which come next. The byte that ends them is taken too.
+#[inline(always)]
+pub fn part<'a, I: DigitsIter<'a>>(iter: &mut I) -> u64
+    requires ends { IsFinite (I.remaining iter.old) }
+{
+    let mut number: u64 = 0;
+    while let Some(byte) = iter.next() {
+        if !iter.is_digit(*byte) {
+            break;
+        }
+        number = number.wrapping_mul(10).wrapping_add(*byte as u64);
+    }
+    number
+}
