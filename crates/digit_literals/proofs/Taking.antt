@@ -6,7 +6,7 @@ use Rattle.std.proofs.lemmas.List.{append-nil}
 use Rattle.std.proofs.lemmas.Option.{slice_get_within}
 use Rattle.lexical_digits.specs.Cursor.{holds_of, DigitLaws}
 use Rattle.lexical_digits.specs.Stop.{leading, after_leading}
-use Rattle.lexical_digits.proofs.Calls.Leading.{iterate_last, leading_digit, leading_none}
+use Rattle.lexical_digits.proofs.Calls.Items.{iterate_last, leading_digit, leading_none}
 
 -- from m on the digits `read` were taken, and n is left; what is owed rose by at most eight for
 -- each

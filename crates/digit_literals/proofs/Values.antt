@@ -11,7 +11,7 @@ use Rattle.lexical_format.specs.Digits.{digit_of_radix, is_digit_of_radix}
 use Rattle.lexical_format.specs.Digits as words
 use Rattle.lexical_digits.specs.Cursor.{holds_of, DigitLaws}
 use Rattle.lexical_digits.specs.Stop.{leading}
-use Rattle.lexical_digits.proofs.Calls.Leading.{leading_digit}
+use Rattle.lexical_digits.proofs.Calls.Items.{leading_digit}
 use Rattle.digit_literals.specs.Outcomes.{ReadsAll, FindsNone, PassesMost}
 use Rattle.digit_literals.proofs.Taking.{HasTaken, none_taken, one_taken, all_taken, leaves_all}
 

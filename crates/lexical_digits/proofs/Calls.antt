@@ -1,9 +1,7 @@
 -- What calls answer and leave, over a meaning and for the four components.
 pub mod Walk
 pub mod Items
-pub mod Leading
 pub mod Stops
-pub mod Zeros
 pub mod Implementing
 pub mod Calling
 pub mod FirstOther

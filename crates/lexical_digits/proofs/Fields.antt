@@ -3,3 +3,4 @@ pub mod CarriedByCursor
 pub mod AtTheCursor
 pub mod TellingBytes
 pub mod InnerSeparator
+pub mod InTheRun

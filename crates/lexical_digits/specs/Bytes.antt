@@ -1,5 +1,5 @@
 -- What the fields of a `Bytes` stand for, and what they have in common.
-use Rattle.std.specs.Prelude.{◌≡◌, ℕ, ◌+◌, ◌<◌, Bool, true, false, ◌&&◌, nat_lt, Some, List, slice_get}
+use Rattle.std.specs.Prelude.{◌≡◌, ℕ, ◌+◌, ◌<◌, ◌≤◌, Bool, true, ◌&&◌, nat_lt, Option, Some, List, length, slice_get}
 use Rattle.std.proofs.Common.{subst}
 use Rattle.std.proofs.lemmas.Option.{cond_some}
 use Rattle.std.proofs.lemmas.Bool.{ltb-true}
@@ -9,8 +9,9 @@ use Rattle.lexical_digits.specs.declared.skip.component.Component.TheVariants.{I
 use Rattle.lexical_digits.specs.declared.skip.decision.Run.{Run}
 use Rattle.lexical_digits.specs.declared.skip.bytes.tally.Tally.{Tally}
 use Rattle.lexical_digits.specs.declared.skip.bytes.shortcuts.Shortcuts.{Shortcuts}
-use Rattle.lexical_digits.specs.State.{IsState, rule_of, is_contiguous, counts}
-use Rattle.lexical_digits.specs.Looks.{Held, IsRun, run_between}
+use Rattle.lexical_digits.specs.State.{IsState, rule, rule_of, is_contiguous, counts}
+use Rattle.lexical_digits.specs.Looks.{Held, IsRun, Finds, run_between, run_holds}
+use Rattle.lexical_digits.specs.CallTable.{place_of}
 use Rattle.lexical_digits.specs.Tally.{state_of, looks_of}
 use Rattle.lexical_digits.specs.Shortcuts.{tells, AreShortcuts, IsInner}
 
@@ -60,3 +61,19 @@ pub record IsInnerDigit (buffer : List ℕ) (t : Tally) (s : Shortcuts)
   pub behind : slice_get buffer (t.index + 1) ≡ Some digit
   pub fits : digit < 256
   pub told : tells s digit ≡ true
+
+-- where a read of a component goes, and the run and the looks that it leaves
+pub record IsFound (k : Component) (a : Held) (found : ℕ) (run : Option Run)
+    (looks : ℕ) : Type 0 where
+  pub place : found ≡ place_of k a.state
+  pub finds : Finds 4 (rule k a.state) a.state.buffer a.state.cursor a.run a.looks
+      (nat_lt found (length a.state.buffer)) run looks
+
+-- the same in the remembered run, by so many looks
+pub record IsFoundInRun (k : Component) (a : Held) (found : ℕ) (left : Option Run)
+    (seen : ℕ) : Type 0 where
+  pub held : run_holds a.run a.state.cursor ≡ true
+  pub place : found ≡ place_of k a.state
+  pub run : left ≡ a.run
+  pub least : 1 ≤ seen
+  pub most : seen ≤ 4

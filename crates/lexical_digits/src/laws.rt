@@ -116,6 +116,7 @@ pub fn zeros_unroll<'a, I: DigitsIter<'a>>(iter: &I)
 /// drain: the filter over the whole buffer. They leave the cursor at the end, and the digits among
 /// them counted. The zeros that `skip_zeros` reads are those that the drain begins with, and it
 /// leaves the cursor at the next kept byte behind them.
+#[tactic(auto, using(crate::proofs::Calls::ItemsOfComponents::are_drain))]
 pub fn items_are_drain()
     ensures items { (k : Component) (s : State) → IsState s →
         items_in k s ≡ drain_of k s }
@@ -146,7 +147,7 @@ fn drain_items<'a, I: DigitsIter<'a>>(iter: &mut I) -> usize
 }
 
 /// Drains the iterator of a component, and answers how many bytes it yielded.
-#[tactic(auto, using(crate::proofs::Calls::ItemsOfComponents::items_count, crate::proofs::Calls::ItemsOfComponents::items_leave))]
+#[tactic(auto, using(crate::proofs::Calls::ItemsOfComponents::drains))]
 fn drain(bytes: &mut Bytes, component: Component) -> usize
     ensures yielded { result ≡ length (drain_of component bytes.old.state) }
     ensures state { bytes.new.state ≡ after_drain component bytes.old.state }
@@ -216,7 +217,7 @@ pub fn digits_agree(
 
 /// A word that grants at least what another grants drops at least what that drops, from the same
 /// cursor and count.
-#[tactic(auto, using(crate::proofs::Calls::Shares::dropped_by_more))]
+#[tactic(auto, using(crate::proofs::Rule::Grants::drops_more))]
 pub fn grants_monotone(
     buffer: &[u8],
     lesser: u128,
@@ -251,7 +252,7 @@ fn call_each<'a, I: DigitsIter<'a>>(iter: &mut I)
 /// Makes one `peek`, one `next`, one `increment_count`, one `try_read` and one `skip_zeros` on the
 /// iterator of a component. They leave what the call table says, and no count is changed but the
 /// component's own; special has none.
-#[tactic(auto, using(crate::proofs::Calls::Shares::each_call_is, crate::proofs::Calls::Shares::each_call_changes))]
+#[tactic(auto, using(crate::proofs::Calls::Shares::each_call))]
 pub fn own_count_only(bytes: &mut Bytes, component: Component)
     ensures state { let calls = Peek ∷ Next ∷ IncrementCount ∷ TryRead ∷ SkipZeros ∷ [] in
         bytes.new.state ≡
@@ -270,7 +271,7 @@ pub fn own_count_only(bytes: &mut Bytes, component: Component)
 /// by. Such a word is supported, each of its components has its rule, and every list of calls is
 /// answered and leaves its state, as it was while the exponent too went by the mantissa radix. The
 /// call table of then is the one of now, by other rules.
-#[tactic(auto, using(crate::proofs::Rule::Radixes::table_by_rule, crate::proofs::Rule::Radixes::supported_same, crate::proofs::Rule::Radixes::rule_same, crate::proofs::Rule::Radixes::run_same))]
+#[tactic(auto, using(crate::proofs::Rule::Radixes::equal))]
 pub fn equal_radixes(buffer: &[u8], word: u128)
     ensures table { (part : Part) (call : Call) (s : State) →
         row_of part call s ≡ row_on rule_of part call s }

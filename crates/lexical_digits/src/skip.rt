@@ -6,6 +6,7 @@ mod component;
 mod decision;
 mod digits;
 mod rule;
+mod scan;
 mod source;
 
 pub use bytes::{AsBytes, Bytes};

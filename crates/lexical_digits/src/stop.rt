@@ -18,6 +18,7 @@ ghost use Rattle.lexical_digits.specs.declared.skip.component.Component.{Compone
 ///
 /// A caller of a generic function that reads digits calls this, and then knows of an iterator over
 /// a `Bytes` what the function's contract says in words of any implementer.
+#[tactic(auto, using(crate::proofs::Calls::Stops::ends))]
 pub fn digits_end()
     ensures digits { (k : Component) (s : State) → IsState s →
         leading (λ (m : State). m.buffer) (λ m. m.cursor) (place_of k) (taken k)

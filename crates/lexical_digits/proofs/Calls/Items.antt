@@ -1,11 +1,19 @@
--- The items, one at a time.
-use Rattle.std.proofs.Common.{◌≡◌, ℕ, ◌+◌, ◌<◌, ◌≤◌, ◌∷◌, [], suc, Bool, true, false, cond, List, Some, None, length, slice_get, slice_index, refl, ap, sym, ◌∙◌, arith, length-drop, nat_lt, if◌then◌else◌}
-use Rattle.std.proofs.lemmas.Option.{slice_get-get_or, slice_get_past}
-use Rattle.std.proofs.lemmas.Bool.{ltb-true, ltb-false, lt-ltb, le-ltb}
-use Rattle.std.specs.Prelude.{is_some}
+-- For any implementer, what reads one after another come to: the items, the digits that lead, and
+-- the zeros.
+use Rattle.std.proofs.Common.{◌≡◌, ℕ, ◌<◌, ◌≤◌, ◌∷◌, [], suc, Bool, List, Some, length, slice_get, slice_index, refl, arith, length-drop, nat_lt, if◌then◌else◌, inl, inr, is_some, zero, true, false, ◌+◌, ◌∙◌}
+use Rattle.std.proofs.lemmas.Option.{gets, slice_get-get_or, slice_get_past}
+use Rattle.std.proofs.lemmas.Bool.{ltb-true, ltb-false, lt-ltb, le-ltb, cases_lt}
 use Rattle.std.specs.Option.{option_map_or}
-use Rattle.lexical_digits.specs.Cursor.{bytes_left, items, after_items, DigitLaws}
-use Rattle.lexical_digits.proofs.Calls.Walk.{Falls, walk_step, walk_end}
+use Rattle.std.specs.Fn.{iterate}
+use Rattle.std.proofs.lemmas.List.Sums.{take_while-cons}
+use Rattle.lexical_digits.specs.Stop.{leading, after_leading}
+use Rattle.lexical_digits.specs.Cursor.{holds_of, at_zero, past_zero, zeros, after_zeros, IterLaws, bytes_left, items, after_items, DigitLaws}
+use Rattle.lexical_digits.proofs.Calls.Walk.{Falls, by_walk, walk_step, walk_end}
+
+pub iterate_last : {A : Type 0} (f : A → A) (n : ℕ) (x : A)
+    → iterate f (suc n) x ≡ f (iterate f n x)
+iterate_last f zero x = refl
+iterate_last f (suc n) x = iterate_last f n (f x)
 
 module _ {M : Type 0} {valid : M → Type 0} {buffer : M → List ℕ} {cursor current_count : M → ℕ}
     {contiguous : M → Bool} {separates : M → ℕ → Bool} {moved : M → ℕ → M} {place : M → ℕ}
@@ -17,81 +25,133 @@ module _ {M : Type 0} {valid : M → Type 0} {buffer : M → List ℕ} {cursor c
     stays = λ m v e. laws.taken_valid m v;
     falls = λ m v e.
         let within : place m < length (buffer m) = ltb-true _ _ e in
-        let rises : cursor (taken m) ≡ place m + 1 = laws.taken_cursor m v within in
-        let same : buffer (taken m) ≡ buffer m = laws.taken_buffer m v in
-        let from : cursor m ≤ place m = laws.place_from m v in
-        simp (length-drop, same, rises) (omega arith);
+        rw (laws.taken_buffer m v, laws.taken_cursor m v within)
+        (simp length-drop (omega (arith, laws.place_from m v)));
   }
+
+  -- a claim that holds at the end, and where there is a byte if it holds of what `next` leaves
+  pub by_items : (P : M → Type 0) → ((m : M) → valid m → length (buffer m) ≤ place m → P m)
+      → ((m : M) → valid m → place m < length (buffer m) → P (taken m) → P m)
+      → (m : M) → valid m → P m
+  by_items P at_end at_byte = by_walk falls P (λ m v e. at_end m v (ltb-false _ _ e))
+      (λ m v e. at_byte m v (ltb-true _ _ e))
+
+  abbrev items_of : M → List ℕ
+  items_of = items buffer cursor place taken
+
+  abbrev after_of : M → M
+  after_of = after_items buffer cursor place taken
 
   -- the byte at the place, and then the items of what `next` leaves
   pub items_step : (m : M) → valid m → place m < length (buffer m)
-      → items buffer cursor place taken m
-      ≡ slice_index (buffer m) (place m) ∷ items buffer cursor place taken (taken m)
+      → items_of m ≡ slice_index (buffer m) (place m) ∷ items_of (taken m)
   unfolding items
   items_step m v h = walk_step falls (λ _. []) (λ n more. slice_index (buffer n) (place n) ∷ more) m
       v (lt-ltb _ _ h)
 
-  pub items_end : (m : M) → length (buffer m) ≤ place m → items buffer cursor place taken m ≡ []
+  pub items_end : (m : M) → length (buffer m) ≤ place m → items_of m ≡ []
   unfolding items
   items_end m h =
       walk_end falls (λ _. []) (λ n more. slice_index (buffer n) (place n) ∷ more) m (le-ltb _ _ h)
 
-  items_by : (b : Bool) (m : M) → nat_lt (place m) (length (buffer m)) ≡ b → valid m
-      → items buffer cursor place taken m
-      ≡ option_map_or (λ byte. byte ∷ items buffer cursor place taken (taken m))
-      (slice_get (buffer m) (place m)) []
-  items_by true m e v = rw (slice_get-get_or (buffer m) (place m) 0 (ltb-true _ _ e))
-      (items_step m v (ltb-true _ _ e))
-  items_by false m e v =
-      rw (slice_get_past (buffer m) (place m) (ltb-false _ _ e)) (items_end m (ltb-false _ _ e))
-
   -- both cases in one, by the byte at the place
-  pub items_unroll : (m : M) → valid m
-      → items buffer cursor place taken m
-      ≡ option_map_or (λ byte. byte ∷ items buffer cursor place taken (taken m))
-      (slice_get (buffer m) (place m)) []
-  items_unroll m v = items_by (nat_lt (place m) (length (buffer m))) m refl v
-
-  after_items_by : (b : Bool) (m : M) → nat_lt (place m) (length (buffer m)) ≡ b → valid m
-      → after_items buffer cursor place taken m
-      ≡ if is_some (slice_get (buffer m) (place m)) then after_items buffer cursor place taken
-      (taken m) else taken m
-  unfolding after_items
-  after_items_by true m e v = rw (slice_get-get_or (buffer m) (place m) 0 (ltb-true _ _ e))
-      (walk_step falls taken (λ _ after. after) m v e)
-  after_items_by false m e v = rw (slice_get_past (buffer m) (place m) (ltb-false _ _ e))
-      (walk_end falls taken (λ _ after. after) m e)
+  pub items_unroll : (m : M) → valid m → items_of m
+      ≡ option_map_or (λ byte. byte ∷ items_of (taken m)) (slice_get (buffer m) (place m)) []
+  items_unroll m v = elim (cases_lt (place m) (length (buffer m))) [
+    | inl h ↦ rw (slice_get-get_or (buffer m) (place m) 0 h) (items_step m v h)
+    | inr h ↦ rw (slice_get_past (buffer m) (place m) h) (items_end m h)
+  ]
 
   -- what the items leave, by whether there is one
-  pub after_items_unroll : (m : M) → valid m
-      → after_items buffer cursor place taken m
-      ≡ if is_some (slice_get (buffer m) (place m)) then after_items buffer cursor place taken
-      (taken m) else taken m
-  after_items_unroll m v = after_items_by (nat_lt (place m) (length (buffer m))) m refl v
+  pub after_items_unroll : (m : M) → valid m → after_of m
+      ≡ if is_some (slice_get (buffer m) (place m)) then after_of (taken m) else taken m
+  unfolding after_items
+  after_items_unroll m v = elim (cases_lt (place m) (length (buffer m))) [
+    | inl h ↦ rw (slice_get-get_or (buffer m) (place m) 0 h)
+        (walk_step falls taken (λ _ after. after) m v (lt-ltb _ _ h))
+    | inr h ↦ rw (slice_get_past (buffer m) (place m) h)
+        (walk_end falls taken (λ _ after. after) m (le-ltb _ _ h))
+  ]
 
-  -- ---- by what `next` answers
+  -- ---- the digits that lead
 
-  pub length_some : (b : ℕ) (m : M) → valid m → Some b ≡ slice_get (buffer m) (place m)
-      → length (items buffer cursor place taken m)
-      ≡ suc (length (items buffer cursor place taken (taken m)))
-  length_some b m v e =
-      let rest = items buffer cursor place taken (taken m) in
-      ap length (items_unroll m v ∙ ap (λ o. option_map_or (λ byte. byte ∷ rest) o []) (sym e))
+  module _ (p : ℕ → Bool) where
+    -- a digit at the place, and then those that lead what `next` leaves
+    pub leading_digit : (m : M) (b : ℕ) → valid m → slice_get (buffer m) (place m) ≡ Some b
+        → p b ≡ true → leading buffer cursor place taken p m
+        ≡ b ∷ leading buffer cursor place taken p (taken m)
+    unfolding leading
+    leading_digit m b v e h = rw (items_unroll m v, e, take_while-cons p b _, h) refl
 
-  pub length_none : (m : M) → valid m → None ≡ slice_get (buffer m) (place m)
-      → length (items buffer cursor place taken m) ≡ 0
-  length_none m v e =
-      let rest = items buffer cursor place taken (taken m) in
-      ap length (items_unroll m v ∙ ap (λ o. option_map_or (λ byte. byte ∷ rest) o []) (sym e))
+    -- none where no digit stands at the place
+    pub leading_none : (m : M) → valid m → holds_of p (slice_get (buffer m) (place m)) ≡ false
+        → leading buffer cursor place taken p m ≡ []
+    unfolding leading
+    leading_none m v h = rw (items_unroll m v) (grind (arith, take_while-cons {X = ℕ}))
 
-  pub leaves_some : (b : ℕ) (m : M) → valid m → Some b ≡ slice_get (buffer m) (place m)
-      → after_items buffer cursor place taken m ≡ after_items buffer cursor place taken (taken m)
-  leaves_some b m v e =
-      let after = after_items buffer cursor place taken (taken m) in
-      after_items_unroll m v ∙ ap (λ o. cond (is_some o) after (taken m)) (sym e)
+    -- what is left behind a digit is left behind all that lead
+    pub after_digit : (m : M) (b : ℕ) → valid m → slice_get (buffer m) (place m) ≡ Some b
+        → p b ≡ true → after_leading buffer cursor place taken settled p m
+        ≡ after_leading buffer cursor place taken settled p (taken m)
+    unfolding after_leading
+    after_digit m b v e h = rw (leading_digit m b v e h) refl
 
-  pub leaves_none : (m : M) → valid m → None ≡ slice_get (buffer m) (place m)
-      → after_items buffer cursor place taken m ≡ taken m
-  leaves_none m v e =
-      let after = after_items buffer cursor place taken (taken m) in
-      after_items_unroll m v ∙ ap (λ o. cond (is_some o) after (taken m)) (sym e)
+    pub after_none : (m : M) → valid m → holds_of p (slice_get (buffer m) (place m)) ≡ false
+        → after_leading buffer cursor place taken settled p m ≡ settled m
+    unfolding after_leading
+    after_none m v h = rw (leading_none m v h) refl
+
+  -- ---- the zeros
+
+  module _ (iter : IterLaws valid buffer cursor contiguous separates moved) where
+    abbrev starts : M → Bool
+    starts = at_zero buffer cursor place moved settled counted
+
+    abbrev past : M → M
+    past = past_zero buffer cursor place moved settled counted
+
+    abbrev zeros_of : M → ℕ
+    zeros_of = zeros buffer cursor place moved settled counted
+
+    abbrev after_zeros_of : M → M
+    after_zeros_of = after_zeros buffer cursor place moved settled counted
+
+    pub zero_within : (m : M) → starts m ≡ true → place m < length (buffer m)
+    zero_within m e = grind (arith, gets)
+
+    -- past a zero there is still a position, the length at most
+    past_fits : (m : M) → valid m → starts m ≡ true → place m + 1 ≤ length (buffer (settled m))
+    past_fits m v e = rw (laws.settled_buffer m v) (omega (arith, zero_within m e))
+
+    past_valid : (m : M) → valid m → starts m ≡ true → valid (moved (settled m) (place m + 1))
+    past_valid m v e = iter.moved_valid _ _ (laws.settled_valid m v) (past_fits m v e)
+
+    pub past_cursor : (m : M) → valid m → starts m ≡ true → cursor (past m) ≡ place m + 1
+    past_cursor m v e = laws.counted_cursor _ (past_valid m v e)
+        ∙ iter.moved_cursor _ _ (laws.settled_valid m v) (past_fits m v e)
+
+    pub zeros_fall : Falls valid (bytes_left buffer cursor) starts past
+    zeros_fall = record {
+      stays = λ m v e. laws.counted_valid _ (past_valid m v e);
+      falls = λ m v e. rw (
+        laws.counted_buffer _ (past_valid m v e),
+        iter.moved_buffer _ _ (laws.settled_valid m v) (past_fits m v e),
+        laws.settled_buffer m v,
+        past_cursor m v e,
+      )
+          (simp length-drop (omega (arith, zero_within m e, laws.place_from m v)));
+    }
+
+    -- the zeros, by whether the byte at the place is `0`
+    pub zeros_by : (b : Bool) (m : M) → starts m ≡ b → valid m
+        → zeros_of m ≡ if b then zeros_of (past m) + 1 else 0
+    unfolding zeros
+    zeros_by true m e v = walk_step zeros_fall (λ _. 0) (λ _ more. more + 1) m v e
+    zeros_by false m e v = walk_end zeros_fall (λ _. 0) (λ _ more. more + 1) m e
+
+    -- what they leave, by the same
+    pub after_zeros_by : (b : Bool) (m : M) → starts m ≡ b → valid m
+        → after_zeros_of m ≡ if b then after_zeros_of (past m) else settled m
+    unfolding after_zeros
+    after_zeros_by true m e v = walk_step zeros_fall settled (λ _ after. after) m v e
+    after_zeros_by false m e v = walk_end zeros_fall settled (λ _ after. after) m e

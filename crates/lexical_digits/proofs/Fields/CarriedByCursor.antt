@@ -8,14 +8,16 @@ use Rattle.lexical_digits.specs.declared.skip.rule.Rule.{Rule}
 use Rattle.lexical_digits.specs.declared.skip.decision.Run.{Run}
 use Rattle.lexical_digits.specs.declared.skip.bytes.tally.Tally.{Tally}
 use Rattle.lexical_digits.specs.declared.skip.bytes.shortcuts.Shortcuts.{Shortcuts}
+use Rattle.lexical_digits.specs.declared.skip.bytes.Bytes.TheInside.{Inside}
+use Rattle.lexical_format.specs.Word.{separator}
 use Rattle.lexical_digits.specs.State.{State, IsState, with_cursor, rule_of, counts, own, one_more}
 use Rattle.lexical_digits.specs.CallTable.{counted}
 use Rattle.std.specs.Prelude.{unwrap_or}
 use Rattle.lexical_digits.specs.Looks.{IsRun, IsRunOrNone, run_between, owed_by}
 use Rattle.lexical_digits.specs.Laws.Table.{with_own_buffer}
-use Rattle.lexical_digits.specs.Tally.{integer_of, fraction_of, exponent_of, state_of, Leaves}
+use Rattle.lexical_digits.specs.Tally.{integer_of, fraction_of, exponent_of, state_of, looks_of, Leaves}
 use Rattle.lexical_digits.specs.Shortcuts.{AreShortcuts, IsInner}
-use Rattle.lexical_digits.specs.Bytes.{IsReading, Remembers}
+use Rattle.lexical_digits.specs.Bytes.{has_no_flags, IsReading, Remembers}
 use Rattle.lexical_digits.proofs.Looks.Owing.{owed_onward}
 
 -- ---- states that the invariant holds for
@@ -67,6 +69,14 @@ state_passed k false s v l = state_moved s (s.cursor + 1) v (omega (arith, l))
 
 -- ---- what a step leaves
 
+-- the ghost fields of a `Bytes` with another tally
+abbrev Carries : Inside → Tally → Type 0
+Carries b u =
+    IsState (state_of b.slc.now b.format u)
+    × ((b.has_no_flags ≡ has_no_flags b.format)
+    × (IsReading b.format u.reader u.is_counting b.shortcuts
+    × (Remembers (separator b.format) b.slc.now b.run × Unit {0})))
+
 module _ (word : ℕ) (t u : Tally) (step : State → State) (i n : ℕ)
     (steps : Leaves t u step i n) where
   pub state_after : (buffer : List ℕ) → IsState (step (state_of buffer word t))
@@ -78,6 +88,25 @@ module _ (word : ℕ) (t u : Tally) (step : State → State) (i n : ℕ)
   reading_after s h =
       subst (λ x. IsReading word x u.is_counting s) (sym steps.reader)
       (subst (λ x. IsReading word t.reader x s) (sym steps.is_counting) h)
+
+-- the ghost fields of a `Bytes` whose tally made a step, and what it owes
+module _ (b : Inside) {u : Tally} {step : State → State} {i n : ℕ}
+    (steps : Leaves b.tally u step i n) where
+  pub carried : IsState (step (state_of b.slc.now b.format b.tally)) → Carries b u
+  carried v = (
+    state_after b.format b.tally u step i n steps b.slc.now v,
+    (
+      b.flags,
+      (reading_after b.format b.tally u step i n steps b.shortcuts b.reading, (b.remembers, tt)),
+    ),
+  )
+
+  pub owes_no_more : n ≡ looks_of b.tally → b.tally.index ≤ i
+      → owed_by (run_between b.run.from b.run.to) u.index (looks_of u)
+      ≤ℤ owed_by (run_between b.run.from b.run.to) b.tally.index (looks_of b.tally)
+  owes_no_more e l =
+      rw (steps.looks, e) (owed_onward (run_between b.run.from b.run.to) (looks_of b.tally) b.tally.index
+      u.index (omega (arith, l, steps.index)))
 
 -- what a component that takes over reads by
 pub reading_of : (k q : Component) (word : ℕ) (t u : Bool) (s : Shortcuts) (rule : Rule)
@@ -101,13 +130,6 @@ remembered_run separator buffer None r e h =
 remembered_run separator buffer (Some run) r e h =
     let some : run_between r.from r.to ≡ Some run = rw (e, lt-ltb run.from run.to h.some) refl in
     ((λ l. subst (λ (x : Run). IsRun separator buffer x.from x.to) (sym e) h), some)
-
--- ---- what is owed
-
-pub owed_moved : (run : Option Run) (c d looks seen : ℕ) → seen ≡ looks → c ≤ d
-    → owed_by run d seen ≤ℤ owed_by run c looks
-owed_moved run c d looks seen e l =
-    subst (λ n. owed_by run d n ≤ℤ owed_by run c looks) (sym e) (owed_onward run looks c d l)
 
 -- ---- where the cursor is behind the mark, something was counted
 

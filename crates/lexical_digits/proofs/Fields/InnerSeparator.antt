@@ -1,21 +1,20 @@
 -- A separator that stands alone between a counted digit and a digit, and is passed over in place.
-use Rattle.std.specs.Prelude.{is_some, IsTrue, slice_get, ◌==◌}
-use Rattle.std.specs.List.{list_any}
+use Rattle.std.specs.Prelude.{IsTrue, slice_get}
 use Rattle.std.specs.Borrow.{Bor}
 use Rattle.std.specs.Option.{option_map_or}
-use Rattle.std.proofs.Common.{◌≡◌, ℕ, ◌+◌, ◌-◌, ◌<◌, ◌≤◌, ◌^◌, ◌||◌, Bool, true, false, not, cond, min, ltb, ◌&&◌, Option, Some, List, length, refl, sym, ap, subst, ◌∙◌, arith}
-use Rattle.std.proofs.lemmas.Bool.{and_parts, eqb-true, lt-ltb}
+use Rattle.std.proofs.Common.{◌≡◌, ℕ, ◌+◌, ◌-◌, ◌<◌, ◌≤◌, ◌^◌, Bool, true, false, min, Some, List, length, refl, sym, ap, subst, ◌∙◌, arith}
+use Rattle.std.proofs.lemmas.Bool.{and_right, or_from, not_from_true, lt-ltb}
+use Rattle.std.proofs.lemmas.Bool.Decides.{nat_tests}
 use Rattle.std.proofs.lemmas.Option.{slice_get_within}
 use Rattle.lexical_format.specs.Word.{separator, is_supported}
 use Rattle.lexical_digits.specs.declared.skip.component.Component.{Component}
 use Rattle.lexical_digits.specs.declared.skip.rule.Rule.{Rule}
-use Rattle.lexical_digits.specs.declared.skip.rule.Class.TheVariants.{Digit}
 use Rattle.lexical_digits.specs.declared.skip.bytes.tally.Tally.{Tally}
 use Rattle.lexical_digits.specs.declared.skip.bytes.shortcuts.Shortcuts.{Shortcuts}
-use Rattle.lexical_digits.specs.Separators.{class, is_digit, is_separator, roles, grants, place, is_kept, holds_separator, IsSupported}
+use Rattle.lexical_digits.specs.Separators.{class, is_digit, is_separator, right_side, place, is_kept, holds_separator, IsSupported}
 use Rattle.lexical_digits.specs.State.{State, with_cursor, rule, rule_of, own, counts, saturating}
-use Rattle.lexical_digits.specs.CallTable.{place_of, byte_at_place, counted}
-use Rattle.lexical_digits.specs.Looks.{separator_at, scans, one_if, needs_run, Held, Reads, Settles, Yields}
+use Rattle.lexical_digits.specs.CallTable.{place_of, counted}
+use Rattle.lexical_digits.specs.Looks.{separator_at, Held, Reads, Settles, Yields}
 use Rattle.lexical_digits.specs.Tally.{passed_by, state_of}
 use Rattle.lexical_digits.specs.Shortcuts.{is_told, IsInner}
 use Rattle.lexical_digits.specs.Bytes.{IsInnerAt, IsInnerDigit, IsReading}
@@ -23,11 +22,10 @@ use Rattle.lexical_digits.proofs.Rule.Supported.{supported_rule}
 use Rattle.lexical_digits.proofs.Fields.TellingBytes.{reader_tells, reader_counts}
 use Rattle.lexical_digits.proofs.Fields.CarriedByCursor.{counted_since}
 use Rattle.lexical_digits.proofs.Looks.Owing.{separator_of, reads_unscanned}
-use Rattle.lexical_digits.proofs.Looks.Spans.{span_alone, place_dropped_by}
 use Rattle.lexical_digits.proofs.Looks.WhereSeparatorsStand.{holds_separator_at}
-use Rattle.lexical_digits.proofs.Rule.Sides.{right_many, kept_by_sides}
-use Rattle.lexical_digits.proofs.Rule.Runs.{place_run}
-use Rattle.lexical_digits.proofs.Fields.AtTheCursor.{digit_apart, told_counts}
+use Rattle.lexical_digits.proofs.Rule.Sides.{right_one, right_many, kept_by_sides}
+use Rattle.lexical_digits.proofs.Rule.Runs.{place_next, place_run}
+use Rattle.lexical_digits.proofs.Fields.AtTheCursor.{digit_apart, told_counts, stepped}
 use Rattle.lexical_digits.proofs.Calls.NextTakesFirst.{takes_some}
 
 -- ---- at a position of a buffer
@@ -36,11 +34,6 @@ there : (separator : ℕ) (buffer : List ℕ) (q byte : ℕ) → slice_get buffe
     → separator_at separator buffer q ≡ is_separator separator byte
 unfolding separator_at
 there separator buffer q byte e = ap (λ o. option_map_or (is_separator separator) o false) e
-
-the_separator : (separator byte : ℕ) → is_separator separator byte ≡ true → byte ≡ separator
-unfolding is_separator
-the_separator separator byte e =
-    eqb-true byte separator (and_parts (not (separator == 0)) (byte == separator) e).1
 
 module _ (rule : Rule) (buffer : List ℕ) (supported : IsSupported rule) (q byte digit : ℕ)
     (at : slice_get buffer q ≡ Some byte) (is : is_separator rule.separator byte ≡ true)
@@ -55,34 +48,28 @@ module _ (rule : Rule) (buffer : List ℕ) (supported : IsSupported rule) (q byt
       l : q + 1 < length buffer
       l = slice_get_within buffer (q + 1) digit next
 
-      stands : separator_at rule.separator buffer q ≡ true
-      stands = there rule.separator buffer q byte at ∙ is
-
-      dropped : list_any (grants rule) (roles Digit (class rule (slice_get buffer (q + 1)))) ≡ true
-      dropped = rw (next, is_next, internal) refl
-
       holds : holds_separator rule buffer q ≡ true
-      holds = holds_separator_at rule buffer supported q ∙ stands
+      holds = holds_separator_at rule buffer supported q
+          ∙ there rule.separator buffer q byte at ∙ is
 
       stops : holds_separator rule buffer (q + 1) ≡ false
       stops = holds_separator_at rule buffer supported (q + 1) ∙ apart
 
       all : (i : ℕ) → q ≤ i → i < q + 1 → holds_separator rule buffer i ≡ true
-      all i low high =
-          let same : i ≡ q = omega arith in ap (holds_separator rule buffer) same ∙ holds
+      all i low high = let same : i ≡ q = omega arith in rw same holds
+
+      gone : class rule (slice_get buffer (q + 1)) ≡ right_side rule buffer q
+          → is_kept rule buffer q count q ≡ false
+      gone right =
+          kept_by_sides rule buffer supported q count true (sym (lt-ltb 0 count some)) holds
+          ∙ rw (sym right, next, is_next, internal) refl
 
       here : (b : Bool) → rule.consecutive ≡ b → place rule buffer q count ≡ q + 1
-      here true e =
-          let right = right_many rule buffer supported e q (q + 1) holds (omega arith) all stops
-          (omega (arith, l)) in
-          let gone : is_kept rule buffer q count q ≡ false =
-          kept_by_sides rule buffer supported q count true (sym (lt-ltb 0 count some)) holds
-          ∙ ap (λ r. not (list_any (grants rule) (roles Digit r))) (sym right)
-          ∙ ap not dropped in
-          place_run rule buffer e 1 q (q + 1) count refl all stops (omega (arith, l)) gone
-      here false e = place_dropped_by rule buffer supported q q (q + 1) count Digit true
-          (span_alone rule buffer supported e q (slice_get_within buffer q byte at)) stands refl
-          (sym (lt-ltb 0 count some)) dropped
+      here true e = place_run rule buffer e 1 q (q + 1) count refl all stops (omega (arith, l))
+          (gone (right_many rule buffer supported e q (q + 1) holds (omega arith) all stops
+          (omega (arith, l))))
+      here false e = place_next rule buffer e q count (omega (arith, l))
+          (gone (right_one rule buffer supported e q))
 
 -- ---- while a component reads
 
@@ -138,11 +125,7 @@ module _ (k : Component) (buffer : List ℕ) (word : ℕ) (t : Tally) (s : Short
           is.fits is.told
 
       is_next : is_digit (rule_of word k) digit ≡ true
-      is_next =
-          let one = ap (λ b. not
-          (b || (rule_of word k).leading || (rule_of word k).trailing
-          || (rule_of word k).consecutive) || is_digit (rule_of word k) digit) inner.internal in
-          sym one ∙ told
+      is_next = rw inner.internal at told
 
 -- ---- what it costs
 
@@ -151,22 +134,8 @@ reads_over : (k : Component) (a b : Held)
     → 0 < own k a.state → b.run ≡ a.run → a.state.cursor ≤ b.state.cursor
     → min (a.looks + 1) (2 ^ 64 - 1) ≤ b.looks → b.looks ≤ a.looks + 4 → Reads k a b
 reads_over k a b apart counted run l least most =
-    reads_unscanned k a b run l (enough (is_some (byte_at_place k a.state))) most free
-  where
-    enough : (t : Bool) → min (a.looks + one_if t) (2 ^ 64 - 1) ≤ b.looks
-    enough true = omega (arith, least)
-    enough false = omega (arith, least)
-
-    never : (t : Bool) → (t && false) ≡ false
-    never true = refl
-    never false = refl
-
-    scan : Bool
-    scan = scans (rule k a.state) a.state.buffer a.state.cursor a.run
-
-    free : needs_run k a ≡ false
-    free = ap (λ t. scan && (t || not (ltb 0 (own k a.state)))) apart
-        ∙ ap (λ t. scan && not t) (lt-ltb 0 (own k a.state) counted) ∙ never scan
+    reads_unscanned k a b run l (grind (arith, nat_tests)) most
+    (and_right _ _ (or_from _ _ apart (not_from_true _ (lt-ltb 0 (own k a.state) counted))))
 
 -- ---- what it answers
 
@@ -175,8 +144,8 @@ pub peeks_over : (k : Component) (a b : Held) (digit : ℕ) → PassesOver k a.s
     → b.looks ≡ saturating a.looks 2
     → Settles k a b (Some digit)
 peeks_over k a b digit over state run looks = record {
-  byte = sym over.next ∙ ap (slice_get a.state.buffer) (sym over.place);
-  settles = state ∙ ap (with_cursor a.state) (sym over.place);
+  byte = rw over.place (sym over.next);
+  settles = rw over.place state;
   reads = let at = ap (λ (s : State). s.cursor) state in
       reads_over k a b over.apart over.counted run (omega (arith, at)) (omega (arith, looks))
       (omega (arith, looks));
@@ -190,10 +159,10 @@ pub yields_over : (k : Component) (a b : Held) (m : State) (r : Tally) (item : B
     → b.state ≡ with_cursor (passed_by r m) (r.index + 1) → b.run ≡ a.run
     → b.looks ≡ saturating (saturating a.looks 2) 2 → Yields k a b (Some item)
 yields_over k a b m r item over moved index reader counting left run looks = record {
-  takes = takes_some k a.state n b.state item a.holds
-      (sym over.next ∙ ap (slice_get a.state.buffer) (sym over.place))
-      (ap (with_cursor a.state) (sym over.place))
-      (stepped ∙ ap (λ s. with_cursor s (n.cursor + 1)) (sym (told_counts k n item.now over.told)));
+  takes = takes_some k a.state n b.state item a.holds (rw over.place (sym over.next))
+      (rw over.place refl)
+      (left ∙ rw (moved, index, reader, counting) refl
+      ∙ stepped k n item.now (n.cursor + 1) (counts k n.word) (told_counts k n item.now over.told));
   reads = let at = ap (λ (s : State). s.cursor) left in
       reads_over k a b over.apart over.counted run (omega (arith, at, index)) (omega (arith, looks))
       (omega (arith, looks));
@@ -201,11 +170,3 @@ yields_over k a b m r item over moved index reader counting left run looks = rec
   where
     n : State
     n = with_cursor a.state (a.state.cursor + 1)
-
-    stepped : b.state ≡ with_cursor (cond (counts k n.word) (counted k n) n) (n.cursor + 1)
-    stepped = left
-        ∙ ap (λ i. with_cursor (passed_by r m) (i + 1)) index
-        ∙ ap (λ (s : State). with_cursor (cond r.is_counting (counted r.reader s) s) (n.cursor + 1))
-        moved
-        ∙ ap (λ c. with_cursor (cond r.is_counting (counted c n) n) (n.cursor + 1)) reader
-        ∙ ap (λ b. with_cursor (cond b (counted k n) n) (n.cursor + 1)) counting

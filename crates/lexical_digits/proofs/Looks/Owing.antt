@@ -239,7 +239,7 @@ reads k a b is_run l e saw = here (scans (rule k a.state) a.state.buffer a.state
         }
 
 -- what is remembered, as what a decision takes
-run_or_none : (separator : ℕ) (buffer : List ℕ) (o : Option Run)
+pub run_or_none : (separator : ℕ) (buffer : List ℕ) (o : Option Run)
     → ((r : Run) → o ≡ Some r → IsRun separator buffer r.from r.to) → IsRunOrNone separator buffer o
 run_or_none separator buffer None h = tt
 run_or_none separator buffer (Some r) h = h r refl

@@ -1,8 +1,7 @@
 -- A step over one position: what it does to what is kept behind it.
-use Rattle.std.proofs.Common.{◌≡◌, ℕ, zero, ◌+◌, ◌-◌, ◌<◌, ◌≤◌, Bool, true, false, cond, not, ltb, Option, Some, None, List, [], ◌∷◌, length, get_or, map, refl, ap, arith, add-zero, ◌⊎◌, inl, inr}
+use Rattle.std.proofs.Common.{◌≡◌, ℕ, zero, ◌+◌, ◌-◌, ◌<◌, ◌≤◌, Bool, true, false, cond, not, ltb, Option, Some, List, [], ◌∷◌, length, get_or, map, refl, ap, arith, add-zero, ◌⊎◌, inl, inr}
 use Rattle.std.proofs.lemmas.Option.{gets}
-use Rattle.std.specs.List.{slice_get}
-use Rattle.std.proofs.lemmas.Bool.{false≢true, and_parts, not-false}
+use Rattle.std.proofs.lemmas.Bool.{and_parts}
 use Rattle.std.proofs.lemmas.Bool.Decides.{nat_tests}
 use Rattle.lexical_digits.specs.declared.skip.rule.Rule.{Rule}
 use Rattle.lexical_digits.specs.Separators.{is_digit, holds_separator, is_dropped, digits_seen, is_kept, kept_positions, drain, place, class, is_separator_class, is_separator}
@@ -13,30 +12,21 @@ module _ (rule : Rule) (buffer : List ℕ) where
   -- a digit is kept, and so a position that is dropped holds none
   pub separator_is : (o : Option ℕ) → is_separator_class (class rule o) ≡ true → (byte : ℕ)
       × (o ≡ Some byte) × (is_digit rule byte ≡ false) × (is_separator rule.separator byte ≡ true)
-  separator_is None h = absurd (false≢true h)
-  separator_is (Some byte) h = (byte, refl, separator_is_1 byte h, separator_is_2 byte h)
-    where
-      separator_is_1 : (byte : ℕ) → is_separator_class (class rule (Some byte)) ≡ true
-          → is_digit rule byte ≡ false
-      separator_is_1 byte h = grind arith
-
-      separator_is_2 : (byte : ℕ) → is_separator_class (class rule (Some byte)) ≡ true
-          → is_separator rule.separator byte ≡ true
-      separator_is_2 byte h = grind arith
+  separator_is o h = grind arith
 
   pub separator_within : (q : ℕ) → holds_separator rule buffer q ≡ true → q < length buffer
   unfolding holds_separator
-  separator_within q h = let w = separator_is (slice_get buffer q) h in grind (arith, gets)
+  separator_within q h = grind (arith, gets)
 
   pub no_digit_at_separator : (q : ℕ) → holds_separator rule buffer q ≡ true
       → is_digit rule (get_or buffer q 0) ≡ false
   unfolding holds_separator
-  no_digit_at_separator q h = let w = separator_is (slice_get buffer q) h in grind (arith, gets)
+  no_digit_at_separator q h = grind (arith, gets)
 
   pub separator_byte : (q : ℕ) → holds_separator rule buffer q ≡ true
       → is_separator rule.separator (get_or buffer q 0) ≡ true
   unfolding holds_separator
-  separator_byte q h = let w = separator_is (slice_get buffer q) h in grind (arith, gets)
+  separator_byte q h = grind (arith, gets)
 
   pub dropped_holds_separator : (digit_seen : Bool) (q : ℕ)
       → is_dropped rule buffer digit_seen q ≡ true → holds_separator rule buffer q ≡ true
@@ -63,11 +53,7 @@ module _ (rule : Rule) (buffer : List ℕ) where
       → is_kept rule buffer s c k ≡ is_kept rule buffer (s + 1) d k
   unfolding is_kept
   kept_same s c d k l m e =
-      let a = seen_first s c k l m in
-      let b = seen_count (s + 1) d k in
-      let f : ltb 0 (digits_seen rule buffer s c k)
-      ≡ ltb 0 (digits_seen rule buffer (s + 1) d k) = grind (arith, nat_tests) in
-      ap (λ t. not (is_dropped rule buffer t k)) f
+      grind (arith, nat_tests, seen_first s c k l m, seen_count (s + 1) d k)
 
   -- ---- a step over one position, kept or dropped
 
@@ -76,10 +62,7 @@ module _ (rule : Rule) (buffer : List ℕ) where
       → s < k → is_kept rule buffer s c k ≡ is_kept rule buffer (s + 1) c k
   unfolding is_kept
   kept_behind_dropped s c k h l m =
-      let e : is_dropped rule buffer (ltb 0 (digits_seen rule buffer s c s)) s
-      ≡ true = not-false _ h in
-      let no = no_digit_at_separator s (dropped_holds_separator _ s e) in
-      kept_same s c c k l m (rw no (ap (ltb 0) (add-zero c)))
+      kept_same s c c k l m (grind (arith, no_digit_at_separator, dropped_holds_separator))
 
   -- a count that saturates stays above zero
   pub count_after_positive : (c byte : ℕ)
@@ -99,8 +82,7 @@ module _ (rule : Rule) (buffer : List ℕ) where
       ≡ is_kept rule buffer (s + 1) (count_after rule counts (get_or buffer s 0) c) k
   unfolding is_kept
   kept_behind_kept counts (inl e) s c k l m =
-      rw e (kept_same s c (count_after rule true (get_or buffer s 0) c) k l m
-      (count_after_positive c (get_or buffer s 0)))
+      rw e (kept_same s c _ k l m (count_after_positive c (get_or buffer s 0)))
   kept_behind_kept counts (inr ignores) s c k l m = ap not (ignores _ _ k)
 
   pub positions_kept : (counts : Bool) → Counts counts → (s c : ℕ) → s < length buffer
@@ -109,10 +91,8 @@ module _ (rule : Rule) (buffer : List ℕ) where
       ≡ s ∷ kept_positions rule buffer (s + 1) (count_after rule counts (get_or buffer s 0) c)
   unfolding kept_positions
   positions_kept counts w s c l h =
-      let d = count_after rule counts (get_or buffer s 0) c in
       rw (range_first s (length buffer) l, h)
-      (ap (λ ks. s ∷ ks) (filter_same_from (is_kept rule buffer s c) (is_kept rule buffer (s + 1) d)
-      (s + 1) (length buffer - (s + 1))
+      (ap (λ ks. s ∷ ks) (filter_same_from _ _ (s + 1) _
       (λ k m. kept_behind_kept counts w s c k l (omega arith))))
 
   pub positions_dropped : (s c : ℕ) → s < length buffer → is_kept rule buffer s c s ≡ false
@@ -120,8 +100,7 @@ module _ (rule : Rule) (buffer : List ℕ) where
   unfolding kept_positions
   positions_dropped s c l h =
       rw (range_first s (length buffer) l, h)
-      (filter_same_from (is_kept rule buffer s c) (is_kept rule buffer (s + 1) c) (s + 1)
-      (length buffer - (s + 1)) (λ k m. kept_behind_dropped s c k h l (omega arith)))
+      (filter_same_from _ _ (s + 1) _ (λ k m. kept_behind_dropped s c k h l (omega arith)))
 
   pub positions_end : (s c : ℕ) → length buffer ≤ s → kept_positions rule buffer s c ≡ []
   unfolding kept_positions
@@ -130,8 +109,7 @@ module _ (rule : Rule) (buffer : List ℕ) where
   pub place_kept : (s c : ℕ) → s < length buffer → is_kept rule buffer s c s ≡ true
       → place rule buffer s c ≡ s
   unfolding place
-  place_kept s c l h =
-      ap (λ ks. get_or ks 0 (length buffer)) (positions_kept true (inl refl) s c l h)
+  place_kept s c l h = rw (positions_kept true (inl refl) s c l h) refl
 
   pub place_dropped : (s c : ℕ) → s < length buffer → is_kept rule buffer s c s ≡ false
       → place rule buffer s c ≡ place rule buffer (s + 1) c

@@ -125,7 +125,14 @@ fn span_at<S: ByteSource>(src: &mut S, rule: Rule, at: usize, run: Option<Run>) 
 
 /// The place from a separator on, by what stands on both sides of the span that is judged as one.
 #[tactic(auto, using(crate::proofs::Looks::Spans::place_dropped_by, crate::proofs::Looks::Spans::place_kept_by))]
-fn judge<S: ByteSource>(src: &mut S, rule: Rule, at: usize, counted: bool, span: Run) -> usize
+#[inline(always)]
+pub(super) fn judge<S: ByteSource>(
+    src: &mut S,
+    rule: Rule,
+    at: usize,
+    counted: bool,
+    span: Run,
+) -> usize
     requires supported { IsSupported rule }
     requires separator { separator_at rule.separator (S.content src.old) at ≡ true }
     requires span { IsSpan rule (S.content src.old) at span.from span.to }
@@ -140,6 +147,7 @@ fn judge<S: ByteSource>(src: &mut S, rule: Rule, at: usize, counted: bool, span:
 }
 
 /// The left side of a separator.
+#[inline(always)]
 fn left_of<S: ByteSource>(src: &mut S, rule: Rule, at: usize, counted: bool, span: Run) -> Class
     requires { IsSpan rule (S.content src.old) at span.from span.to }
     ensures class { result ≡ left_side rule (S.content src.old) counted at }
@@ -154,6 +162,7 @@ fn left_of<S: ByteSource>(src: &mut S, rule: Rule, at: usize, counted: bool, spa
 }
 
 /// What stands before a position.
+#[inline(always)]
 fn class_before<S: ByteSource>(src: &mut S, rule: Rule, index: usize) -> Class
     requires { index ≤ length (S.content src.old) }
     ensures class { result ≡ class rule (slice_before (S.content src.old) index) }
@@ -168,6 +177,7 @@ fn class_before<S: ByteSource>(src: &mut S, rule: Rule, index: usize) -> Class
 }
 
 /// What stands at a position, which may be the length.
+#[inline(always)]
 fn class_at<S: ByteSource>(src: &mut S, rule: Rule, index: usize) -> Class
     ensures class { result ≡ class rule (slice_get (S.content src.old) index) }
     ensures content { S.content src.new ≡ S.content src.old }

@@ -145,6 +145,8 @@ impl Rule {
         self.internal || self.leading || self.trailing || self.consecutive
     }
 
+    /// What that byte is.
+    #[inline(always)]
     pub(crate) fn class_of(self, byte: u8) -> Class
         ensures { result ≡ class self (Some byte) }
     {
@@ -158,6 +160,7 @@ impl Rule {
     }
 
     /// Whether a separator with these sides has a role that is granted.
+    #[inline(always)]
     pub(crate) fn drops(self, left: Class, right: Class) -> bool
         ensures { result ≡ list_any (grants self) (roles left right) }
     {

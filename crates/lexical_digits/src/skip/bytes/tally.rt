@@ -203,6 +203,19 @@ impl Tally {
         self.index += 1;
         self.mark += 1;
     }
+
+    /// Goes one byte on, which took so many looks, and is not counted.
+    #[inline(always)]
+    pub(super) fn skip_by(&mut self, looks: u64)
+        requires { self.old.index < usize.MAX }
+        ensures { let next = self.old.index + 1 in
+            let seen = saturating (looks_of self.old) looks in
+            Leaves self.old self.new (λ s. with_cursor s next) next seen }
+    {
+        self.looks = self.looks.saturating_add(looks);
+        self.go_on();
+    }
+
     /// Goes one byte on, whose looks were counted before.
     #[inline(always)]
     fn go_on(&mut self)

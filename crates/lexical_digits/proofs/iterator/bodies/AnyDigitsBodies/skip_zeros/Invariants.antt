@@ -1,5 +1,4 @@
-use Rattle.std.specs.Prelude.{◌≤ℤ◌, ◌+ℤ◌, pos, ◌*◌}
-use Rattle.std.proofs.Common.{◌≡◌, ◌+◌, ◌-◌, ◌≤◌, length}
+use Rattle.std.proofs.Common.{◌≡◌, ◌+◌, ◌-◌, ◌≤◌, length, ◌≤ℤ◌, ◌+ℤ◌, pos, ◌*◌}
 use Rattle.lexical_digits.specs.Cursor.{zeros, after_zeros}
 use Rattle.lexical_digits.proofs.iterator.bodies.AnyDigitsBodies.skip_zeros.Given as goal
 

@@ -103,6 +103,16 @@ returns-then-not-is_separator c =
     (c.look-then-not-is_separator.ensures.state b.slc.now b.format) refl
     c.look-then-not-is_separator.ensures.looks)
 
+pub peek_in_run-requires-clause-looked : goal.peek_in_run-requires-clause-looked
+peek_in_run-requires-clause-looked c =
+    let b = c.self.inside in
+    subst (λ (h : Held). c.inner_digit-looked.result.1 ≡ true → 0 < own c.args.component h.state)
+    c.self.view_is
+    (λ e. counted_before c.args.component b.slc.now b.format b.tally b.shortcuts
+    c.in_ok-byte.byte.now b.reading
+    (c.is.ensures c.if-not-is.false) c.tells_figure.ensures.fits
+    (c.inner_digit-looked.ensures.looked e))
+
 pub peek_far-requires-2-clause-looked : goal.peek_far-requires-2-clause-looked
 peek_far-requires-2-clause-looked c =
     let b = c.self.inside in

@@ -1,8 +1,9 @@
 use Rattle.std.proofs.Common.{false, refl, sym, ◌∙◌, ◌≡◌, ◌<◌, subst, ap, arith, true, min, length, ◌+◌, ◌-◌, ◌^◌}
 use Rattle.std.proofs.lemmas.Option.{slice_get_within}
-use Rattle.lexical_digits.specs.State.{own}
+use Rattle.lexical_digits.specs.State.{own, rule}
 use Rattle.lexical_digits.specs.Separators.{is_separator}
 use Rattle.lexical_digits.specs.Looks.{Held}
+use Rattle.lexical_digits.specs.Shortcuts.{is_told}
 use Rattle.lexical_digits.specs.Bytes.{held_of}
 use Rattle.lexical_digits.proofs.Fields.CarriedByCursor.{state_passed, state_moved, state_after, reading_after}
 use Rattle.lexical_digits.proofs.Fields.TellingBytes.{figure_tells, letter_tells, none_tells, reader_tells, reader_counts}
@@ -46,8 +47,8 @@ returns-then-tells_figure c =
     let counts = reader_counts b.format b.tally.reader c.args.component b.tally.is_counting
     b.shortcuts b.reading reader in
     rw (sym c.self.view_is)
-    (yields_told c.args.component a _ _ (here_told c.args.component a byte at told) at refl
-    c.pass.ensures.looks
+    (yields_told c.args.component a _ _ (here_told c.args.component a byte at told) at refl 2
+    c.pass.ensures.looks (omega arith, omega arith)
     b.tally told reader counts (c.pass.ensures.state b.slc.now b.format))
 
 pub inner_digit-looked-requires : goal.inner_digit-looked-requires
@@ -129,8 +130,8 @@ returns-then-tells_letter c =
     let counts = reader_counts b.format b.tally.reader c.args.component b.tally.is_counting
     b.shortcuts b.reading reader in
     rw (sym c.self.view_is)
-    (yields_told c.args.component a _ _ (here_told c.args.component a byte at told) at refl
-    c.pass-then-tells_letter.ensures.looks
+    (yields_told c.args.component a _ _ (here_told c.args.component a byte at told) at refl 2
+    c.pass-then-tells_letter.ensures.looks (omega arith, omega arith)
     b.tally told reader counts (c.pass-then-tells_letter.ensures.state b.slc.now b.format))
 
 pub invariant_of-self-inside-then-not-is_separator : goal.invariant_of-self-inside-then-not-is_separator
@@ -164,9 +165,33 @@ returns-then-not-is_separator c =
     let other = ap (λ s. is_separator s byte) (sym c.separator_of.ensures)
     ∙ sym c.is_separator.ensures ∙ c.if-not-is_separator.true in
     rw (sym c.self.view_is)
-    (yields_skipped c.args.component a _ _ (here_byte c.args.component a byte at other) at refl
-    c.skip-then-not-is_separator.ensures.looks told
+    (yields_skipped c.args.component a _ _ (here_byte c.args.component a byte at other) at refl 2
+    c.skip-then-not-is_separator.ensures.looks (omega arith, omega arith) told
     (c.skip-then-not-is_separator.ensures.state b.slc.now b.format))
+
+pub take_in_run-requires-clause-told : goal.take_in_run-requires-clause-told
+take_in_run-requires-clause-told c =
+    let b = c.self.inside in
+    let byte = c.in_ok-byte.byte.now in
+    let is = subst (λ (h : Held). c.rule-rule.result ≡ rule c.args.component h.state)
+    (sym c.self.view_is) c.rule-rule.ensures.value in
+    ap (λ r. is_told r byte) is
+    ∙ reader_tells b.format b.tally.reader c.args.component b.tally.is_counting b.shortcuts
+    byte false
+    b.holds.word b.reading (c.is.ensures c.if-not-is.false) c.tells_figure.ensures.fits
+    (none_tells b.shortcuts byte
+    (sym c.tells_figure.ensures.value ∙ c.if-tells_figure.false)
+    (sym c.tells_letter.ensures ∙ c.if-tells_letter.false))
+
+pub take_in_run-requires-clause-looked : goal.take_in_run-requires-clause-looked
+take_in_run-requires-clause-looked c =
+    let b = c.self.inside in
+    subst (λ (h : Held). c.inner_digit-looked.result.1 ≡ true → 0 < own c.args.component h.state)
+    c.self.view_is
+    (λ e. counted_before c.args.component b.slc.now b.format b.tally b.shortcuts
+    c.in_ok-byte.byte.now b.reading
+    (c.is.ensures c.if-not-is.false) c.tells_figure.ensures.fits
+    (c.inner_digit-looked.ensures.looked e))
 
 pub take_far-requires-2-clause-looked : goal.take_far-requires-2-clause-looked
 take_far-requires-2-clause-looked c =

@@ -1,7 +1,4 @@
-use Rattle.std.proofs.Common.{refl, sym, ap, ◌∙◌, not, ◌&&◌, subst}
-use Rattle.lexical_digits.specs.declared.skip.rule.Rule.{Rule}
-use Rattle.lexical_digits.specs.State.{IsState, is_special}
-use Rattle.lexical_digits.specs.Separators.{has_flags}
+use Rattle.std.proofs.Common.{sym}
 use Rattle.lexical_digits.proofs.Rule.Supported.{supported_by}
 use Rattle.lexical_digits.proofs.Fields.CarriedByCursor.{reading_of}
 use Rattle.lexical_digits.proofs.skip.bytes.Bytes.take_over.Goals as goal
@@ -15,19 +12,10 @@ invariant_of-self-inside c =
     let b = c.self.inside in
     let hands = c.hand_over.ensures in
     let cuts = c.of-self-inside.ensures in
-    let counting = c.is_counting-is_counting.ensures
-    ∙ ap (λ (r : Rule). not (is_special c.args.component) && has_flags r) c.of-rule.ensures in (
-      subst IsState (sym (hands.state b.slc.now b.format)) b.holds,
-      (
-        b.flags,
-        (
-          reading_of c.args.component _ b.format _ _ _ _ c.of-rule.ensures counting cuts.told
-              cuts.inner
-              hands.reader hands.is_counting,
-          (b.remembers, tt),
-        ),
-      ),
-    )
+    let counting = rw c.of-rule.ensures at c.is_counting-is_counting.ensures in
+    let reading = reading_of c.args.component _ b.format _ _ _ _ c.of-rule.ensures counting
+    cuts.told cuts.inner hands.reader hands.is_counting in
+    (rw (hands.state b.slc.now b.format) b.holds, (b.flags, (reading, (b.remembers, tt))))
 
 pub returns-clause-state : goal.returns-clause-state
 returns-clause-state c =

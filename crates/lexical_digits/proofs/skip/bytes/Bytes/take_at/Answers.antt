@@ -5,13 +5,13 @@ use Rattle.lexical_digits.specs.State.{State, rule_of, is_special}
 use Rattle.lexical_digits.proofs.Calls.NextTakesFirst.{takes_some}
 use Rattle.lexical_digits.proofs.Looks.Owing.{reads_then}
 use Rattle.lexical_digits.proofs.Fields.AtTheCursor.{stepped}
-use Rattle.lexical_digits.proofs.skip.bytes.Bytes.take_far.Goals as goal
+use Rattle.lexical_digits.proofs.skip.bytes.Bytes.take_at.Goals as goal
 
 pub returns : goal.returns
 returns c =
     let k = c.args.component in
     let a = c.args.self.now in
-    let m = c.peek_far.new.self in
+    let m = c.peek_at.new.self in
     let byte = c.in_ok-byte.byte in
     let peeks = c.in_ok-byte.ensures in
     let rule = c.requires.rule ∙ ap (λ (s : State). rule_of s.word k) (sym peeks.settles) in
