@@ -25,7 +25,7 @@ fn add_float(text: &[u8], word: u128, outcome: &mut Outcome)
     outcome.looks = outcome.looks.wrapping_add(bytes.looks());
 }
 
-/// Reads many numbers of three parts, each with a `Bytes` of its own: they stand one behind another,
+/// Reads many numbers of three parts, each with a `Bytes` of its own: one stands behind another,
 /// and `lengths` are theirs. Adds up what the parts come to, the counts and the looks. Stops where
 /// the bytes don't suffice for a length.
 #[unsafe(no_mangle)]

@@ -4,7 +4,7 @@
 
 ghost use Rattle.std.specs.Prelude.{◌≡◌, ◌+◌, ◌<◌, ◌≤◌, not, length, reverse, Option};
 ghost use Rattle.std.specs.List.{list_any, find};
-ghost use Rattle.lexical_digits.specs.Separators.{class, is_digit, is_separator, neighbour, left_side, right_side, roles, grants, holds_separator, digits_seen, is_kept, place};
+ghost use Rattle.lexical_digits.specs.Separators.{class, is_digit, is_separator, neighbour, left_side, right_side, roles, grants, digits_seen, is_kept, place};
 
 use lexical_digits::skip::{Class, Rule};
 use lexical_format::char_is_digit_const;

@@ -19,10 +19,12 @@ mod radixes;
 mod reads;
 mod rules;
 mod spaced;
+mod steps;
 mod views;
 mod words;
 
-use lexical_digits::iterator::{DigitsIter, Iter, IterBodies};
+use self::steps::{Part, Step, assert_goes};
+use lexical_digits::iterator::{Iter, IterBodies};
 use lexical_digits::skip::Bytes;
 use lexical_format::{
     INTEGER_CONSECUTIVE_DIGIT_SEPARATOR, INTEGER_INTERNAL_DIGIT_SEPARATOR,
@@ -56,38 +58,7 @@ fn move_to<'a, D: Iter<'a>>(rt: &impl Abort, iter: &mut D, index: usize) {
     iter.set_cursor(index);
 }
 
-/// The cursor stands here.
-fn assert_cursor<'a, D: Iter<'a>>(rt: &impl Abort, iter: &D, cursor: usize) {
-    assert_eq!(rt; iter.cursor(), cursor);
-}
-
-/// The count is this.
-fn assert_count<'a, D: Iter<'a>>(rt: &impl Abort, iter: &D, count: usize) {
-    assert_eq!(rt; iter.current_count(), count);
-}
-
-/// Peeks at the next byte, which is this one.
-fn assert_peek<'a, D: DigitsIter<'a>>(rt: &impl Abort, iter: &mut D, byte: Option<u8>) {
-    assert_eq!(rt; iter.peek().copied(), byte);
-}
-
-/// Takes the next byte, which is this one.
-fn assert_next<'a, D: DigitsIter<'a>>(rt: &impl Abort, iter: &mut D, byte: Option<u8>) {
-    assert_eq!(rt; iter.next().copied(), byte);
-}
-
-/// Drains an iterator by `next`: it yields these bytes and no more, and then has this count.
-fn assert_drains<'a, D: DigitsIter<'a>>(rt: &impl Abort, iter: &mut D, bytes: &[u8], count: usize) {
-    for byte in bytes {
-        assert_next(rt, iter, Some(*byte));
-    }
-    assert_next(rt, iter, None);
-    assert_count(rt, iter, count);
-    assert!(rt; iter.is_buffer_empty(), "behind {bytes:?}");
-}
-
 /// Drains the integer of a text: it keeps these bytes, and then has this count.
 fn assert_kept(rt: &impl Abort, word: u128, text: &[u8], kept: &[u8], count: usize) {
-    let mut bytes = bytes_of(rt, text, word);
-    assert_drains(rt, &mut bytes.integer_iter(), kept, count);
+    assert_goes(rt, word, text, Part::Integer, &[Step::Drains(kept, count)]);
 }

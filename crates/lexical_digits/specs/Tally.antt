@@ -1,5 +1,5 @@
 -- What a `Tally` stands for: the state that its cursor carries, and the looks.
-use Rattle.std.specs.Prelude.{◌≡◌, ℕ, ◌-◌, ◌*◌, Bool, true, false, ◌&&◌, if◌then◌else◌, List}
+use Rattle.std.specs.Prelude.{◌≡◌, ⊤, ℕ, ◌-◌, ◌*◌, Bool, true, false, ◌&&◌, if◌then◌else◌, List}
 use Rattle.lexical_digits.specs.declared.skip.component.Component.{Component}
 use Rattle.lexical_digits.specs.declared.skip.component.Component.TheVariants.{Integer, Fraction, Exponent}
 use Rattle.lexical_digits.specs.declared.skip.bytes.tally.Tally.{Tally}
@@ -34,6 +34,11 @@ exponent_of t = count_since (t.is_counting && is_exponent t.reader) t.exponent (
 -- each byte since the start took two looks
 unfoldable pub looks_of : Tally → ℕ
 looks_of t = saturating t.looks (2 * (t.index - t.start))
+
+-- the four, to be named in an attribute
+unfoldable pub all_of : ⊤
+unfolding integer_of fraction_of exponent_of looks_of
+all_of = tt
 
 abbrev pub state_of : List ℕ → ℕ → Tally → State
 state_of buffer word t = record {

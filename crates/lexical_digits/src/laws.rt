@@ -1,12 +1,12 @@
 //! Laws, each the contract of a function.
 
-ghost use Rattle.std.specs.Prelude.{◌≡◌, ℕ, ◌+◌, ◌^◌, ◌<◌, ◌≤◌, length, drop, filter, count_by, map, pos, ◌≤ℤ◌, ◌+ℤ◌, slice_get, option_copied, IfSome, IfNone, Some, None, [], ◌∷◌, if◌then◌else◌, true, false, not, IsTrue, is_some};
+ghost use Rattle.std.specs.Prelude.{◌≡◌, ◌+◌, ◌^◌, ◌<◌, ◌≤◌, length, drop, filter, count_by, map, pos, ◌≤ℤ◌, ◌+ℤ◌, slice_get, option_copied, IfSome, IfNone, Some, None, [], ◌∷◌, if◌then◌else◌, true, false, not, IsTrue, is_some};
 ghost use Rattle.std.specs.Option.{option_map_or};
 ghost use Rattle.std.specs.Iterator.{IsFinite};
 ghost use Rattle.lexical_format.specs.Word.{separator, mantissa_radix, exponent_radix, bit, is_supported};
 ghost use Rattle.lexical_digits.specs.Separators.{is_digit, is_separator, drain, is_kept, GrantsNone, GrantsAtLeast};
-ghost use Rattle.lexical_digits.specs.State.{State, IsState, with_cursor, rule, radix_of, rule_of, own, counts, saturating};
-ghost use Rattle.lexical_digits.specs.CallTable.{place_of, settled, counted, taken, drain_of, after_drain, zeros_of, past_zeros_of, ChangesOwn, run_of, On, Peek, Next, IncrementCount, TryRead, SkipZeros};
+ghost use Rattle.lexical_digits.specs.State.{State, IsState, rule, radix_of, rule_of, own, counts, saturating};
+ghost use Rattle.lexical_digits.specs.CallTable.{settled, counted, taken, drain_of, after_drain, zeros_of, past_zeros_of, ChangesOwn, run_of, On, Peek, Next, IncrementCount, TryRead, SkipZeros};
 ghost use Rattle.lexical_digits.specs.Iterators.{items_in, after_items_in, zeros_in, after_zeros_in};
 ghost use Rattle.lexical_digits.specs.Cursor.{ReadsIf, items, after_items, at_zero, past_zero, zeros, after_zeros};
 ghost use Rattle.lexical_digits.specs.CallTable.{Part, Call, row_of};

@@ -1,9 +1,10 @@
 //! Random lists of calls over all five parts, each answer and each state of which is compared with
 //! the call table in plain code.
 
-use super::scripts::{PARTS, bytes_of};
+use super::scripts::{PARTS, answers, bytes_of};
 use super::table::{Format, Table};
-use crate::script::{Answer, Call, Op, Part, run};
+use crate::script::{Answer, Call, Op, Part};
+use lexical_digits::skip::Bytes;
 use lexical_format::{
     EXPONENT_INTERNAL_DIGIT_SEPARATOR, EXPONENT_LEADING_DIGIT_SEPARATOR,
     FRACTION_CONSECUTIVE_DIGIT_SEPARATOR, FRACTION_LEADING_DIGIT_SEPARATOR,
@@ -167,32 +168,63 @@ fn text_of(alloc: Global, separator: u8) -> Result<Vec<u8>, AllocError> {
     Ok(text)
 }
 
+/// Runs a script of one call: whether the table answers so too.
+fn is_call(alloc: Global, bytes: &mut Bytes, table: &mut Table, call: Call) -> bool {
+    answers(alloc, bytes, &[call], &[table.answer(call)])
+}
+
+/// Asks for the state: whether it is the table's.
+fn is_state(alloc: Global, bytes: &mut Bytes, table: &mut Table) -> bool {
+    let [cursor, all, integer, fraction, exponent] = STATE;
+    let expected = [
+        table.answer(cursor),
+        table.answer(all),
+        table.answer(integer),
+        table.answer(fraction),
+        table.answer(exponent),
+    ];
+    answers(alloc, bytes, &STATE, &expected)
+}
+
+/// A list as one script.
+fn assert_script(
+    rt: &impl Abort,
+    alloc: Global,
+    text: &[u8],
+    format: Format,
+    calls: &[Call],
+    expected: &[Answer],
+) {
+    let mut bytes = bytes_of(rt, text, format.word());
+    assert!(rt;
+        answers(alloc, &mut bytes, calls, expected),
+        "by {format:?}"
+    );
+}
+
+/// A list call by call, with the state after each.
+fn assert_calls(rt: &impl Abort, alloc: Global, text: &[u8], format: Format, calls: &[Call]) {
+    let mut bytes = bytes_of(rt, text, format.word());
+    let mut table = Table::new(text, format);
+    for call in calls {
+        let before = table;
+        assert!(rt;
+            is_call(alloc, &mut bytes, &mut table, *call),
+            "{call:?} at {before:?}"
+        );
+        assert!(rt;
+            is_state(alloc, &mut bytes, &mut table),
+            "after {call:?} at {before:?}"
+        );
+    }
+}
+
 /// A list as one script, and then call by call with the state after each.
 fn assert_list(rt: &impl Abort, alloc: Global, format: Format, seed: u64) -> Result<(), Fail> {
     let text = text_of(alloc, format.separator)?;
     let (calls, expected) = random_calls(alloc, seed, &mut Table::new(&text, format))?;
-    let mut bytes = bytes_of(rt, &text, format.word());
-    let answers = run(alloc, &mut bytes, &calls)?;
-    assert_eq!(rt; answers.as_slice(), expected.as_slice(), "by {format:?}");
-    let mut bytes = bytes_of(rt, &text, format.word());
-    let mut table = Table::new(&text, format);
-    for call in &calls {
-        let before = table;
-        let answers = run(alloc, &mut bytes, &[*call])?;
-        assert_eq!(rt;
-            answers.as_slice(),
-            [table.answer(*call)].as_slice(),
-            "{call:?} at {before:?}"
-        );
-        let state = run(alloc, &mut bytes, &STATE)?;
-        for (told, asked) in state.iter().zip(STATE) {
-            assert_eq!(rt;
-                *told,
-                table.answer(asked),
-                "{asked:?} after {call:?} at {before:?}"
-            );
-        }
-    }
+    assert_script(rt, alloc, &text, format, &calls, &expected);
+    assert_calls(rt, alloc, &text, format, &calls);
     Ok(())
 }
 

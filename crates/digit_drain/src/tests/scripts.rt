@@ -11,7 +11,7 @@ use lexical_format::{
     EXPONENT_LEADING_DIGIT_SEPARATOR, FRACTION_TRAILING_DIGIT_SEPARATOR,
     INTEGER_INTERNAL_DIGIT_SEPARATOR, SPECIAL_DIGIT_SEPARATOR, STANDARD, is_supported,
 };
-use std::alloc::Global;
+use std::alloc::{AllocError, Global};
 use std::process::Abort;
 use std::test::Fail;
 
@@ -57,27 +57,39 @@ const REFUSALS: [Call; 4] = [
     },
 ];
 
+/// What those calls answer.
+const REFUSED: [Answer; 4] = [
+    Answer::Refused,
+    Answer::Refused,
+    Answer::Byte(Some(b'_')),
+    Answer::Refused,
+];
+
+/// Runs a script: whether it answers so.
+pub fn answers(alloc: Global, bytes: &mut Bytes, calls: &[Call], expected: &[Answer]) -> bool {
+    match run(alloc, bytes, calls) {
+        Ok(answers) => answers.as_slice() == expected,
+        Err(_) => false,
+    }
+}
+
+/// Runs those calls with so many requests for memory: whether there is an answer.
+fn is_run_within(alloc: Global, bytes: &mut Bytes, requests: u64) -> bool {
+    let limited = Limited::new(alloc, requests);
+    run_in(&limited, bytes, &REFUSALS).is_ok()
+}
+
 #[test]
-fn script_runs_with_ample_memory(rt: HostRuntime) -> Result<(), Fail> {
+fn script_runs_with_ample_memory(rt: HostRuntime) {
     let mut bytes = bytes_of(&rt, b"_5", INTERNAL);
-    let answers = run(rt.alloc(), &mut bytes, &REFUSALS)?;
-    let expected = [
-        Answer::Refused,
-        Answer::Refused,
-        Answer::Byte(Some(b'_')),
-        Answer::Refused,
-    ];
-    assert_eq!(rt; answers.as_slice(), expected.as_slice());
+    assert!(rt; answers(rt.alloc(), &mut bytes, &REFUSALS, &REFUSED));
     assert_eq!(rt; bytes.cursor(), 1);
-    Ok(())
 }
 
 #[test]
 fn a_refused_reservation_changes_nothing(rt: HostRuntime) {
     let mut bytes = bytes_of(&rt, b"_5", INTERNAL);
-    let limited = Limited::new(rt.alloc(), 0);
-    let answers = run_in(&limited, &mut bytes, &REFUSALS);
-    assert!(rt; answers.is_err());
+    assert!(rt; !is_run_within(rt.alloc(), &mut bytes, 0));
     assert_eq!(rt; bytes.cursor(), 0);
     assert_eq!(rt; bytes.current_count(), 0);
     assert_eq!(rt; bytes.looks(), 0);
@@ -86,19 +98,15 @@ fn a_refused_reservation_changes_nothing(rt: HostRuntime) {
 #[test]
 fn one_reservation_is_all_that_a_script_takes(rt: HostRuntime) {
     let mut bytes = bytes_of(&rt, b"_5", INTERNAL);
-    let limited = Limited::new(rt.alloc(), 1);
-    let answers = run_in(&limited, &mut bytes, &REFUSALS);
-    assert!(rt; answers.is_ok());
+    assert!(rt; is_run_within(rt.alloc(), &mut bytes, 1));
     assert_eq!(rt; bytes.cursor(), 1);
 }
 
 #[test]
-fn an_empty_script_has_an_empty_answer(rt: HostRuntime) -> Result<(), Fail> {
+fn an_empty_script_has_an_empty_answer(rt: HostRuntime) {
     let mut bytes = bytes_of(&rt, b"_5", INTERNAL);
-    let answers = run(rt.alloc(), &mut bytes, &[])?;
-    assert!(rt; answers.is_empty());
+    assert!(rt; answers(rt.alloc(), &mut bytes, &[], &[]));
     assert_eq!(rt; bytes.cursor(), 0);
-    Ok(())
 }
 
 /// Calls on `1_2._3`, what each answers, and where the cursor stands after it. The word has the
@@ -123,25 +131,32 @@ const STEPS: [(Part, Op, Answer, usize); 17] = [
     (Part::Exponent, Op::StepBy(2), Answer::Done, 6),
 ];
 
+/// The calls of `STEPS`, each with one of the cursor behind it, and what they answer.
+fn script_of_steps(alloc: Global) -> Result<(Vec<Call>, Vec<Answer>), AllocError> {
+    let mut calls = Vec::new(alloc);
+    let mut expected = Vec::new(alloc);
+    for (part, op, answer, cursor) in STEPS {
+        calls.push(Call { part, op })?;
+        expected.push(answer)?;
+        calls.push(CURSOR)?;
+        expected.push(Answer::Count(cursor))?;
+    }
+    Ok((calls, expected))
+}
+
+const CURSOR: Call = Call {
+    part: Part::Bytes,
+    op: Op::Cursor,
+};
+
 #[test]
 fn all_parts_share_one_cursor(rt: HostRuntime) -> Result<(), Fail> {
     let flags = INTEGER_INTERNAL_DIGIT_SEPARATOR
         | FRACTION_TRAILING_DIGIT_SEPARATOR
         | SPECIAL_DIGIT_SEPARATOR;
-    let mut calls = Vec::new(rt.alloc());
-    let mut expected = Vec::new(rt.alloc());
-    for (part, op, answer, cursor) in STEPS {
-        calls.push(Call { part, op })?;
-        expected.push(answer)?;
-        calls.push(Call {
-            part: Part::Bytes,
-            op: Op::Cursor,
-        })?;
-        expected.push(Answer::Count(cursor))?;
-    }
+    let (calls, expected) = script_of_steps(rt.alloc())?;
     let mut bytes = bytes_of(&rt, b"1_2._3", PLAIN | flags);
-    let answers = run(rt.alloc(), &mut bytes, &calls)?;
-    assert_eq!(rt; answers.as_slice(), expected.as_slice());
+    assert!(rt; answers(rt.alloc(), &mut bytes, &calls, &expected));
     Ok(())
 }
 
@@ -164,31 +179,18 @@ const NONE: Answer = Answer::Byte(None);
 
 /// Makes one call on a fresh `Bytes` over that text: the answer, the cursor after it, and the
 /// count.
-fn call(
-    rt: &impl Abort,
-    alloc: Global,
-    part: Part,
-    op: Op,
-) -> Result<(Answer, usize, usize), Fail> {
+fn call(rt: &impl Abort, alloc: Global, part: Part, op: Op) -> (Answer, usize, usize) {
     let mut bytes = bytes_of(rt, TEXT, GRANTS);
-    let answers = run(alloc, &mut bytes, &[Call { part, op }])?;
-    assert_eq!(rt; answers.len(), 1);
-    Ok((answers[0], bytes.cursor(), bytes.current_count()))
+    let answers = run(alloc, &mut bytes, &[Call { part, op }]).expect(rt, "memory");
+    assert!(rt; answers.len() == 1);
+    (answers[0], bytes.cursor(), bytes.current_count())
 }
 
 /// A call on a part answers this, and leaves the cursor there.
-fn assert_call(
-    rt: &impl Abort,
-    alloc: Global,
-    part: Part,
-    op: Op,
-    answer: Answer,
-    cursor: usize,
-) -> Result<(), Fail> {
-    let (answered, left, _) = call(rt, alloc, part, op)?;
-    assert_eq!(rt; answered, answer, "to {op:?} on {part:?}");
-    assert_eq!(rt; left, cursor, "after {op:?} on {part:?}");
-    Ok(())
+fn assert_call(rt: &impl Abort, alloc: Global, part: Part, op: Op, answer: Answer, cursor: usize) {
+    let (answered, left, _) = call(rt, alloc, part, op);
+    let is = answered == answer && left == cursor;
+    assert!(rt; is, "{op:?} on {part:?}: {answered:?}, {left}");
 }
 
 /// Calls that every part answers alike, and the cursor after them.
@@ -212,13 +214,12 @@ const ALIKE: [(Op, Answer, usize); 16] = [
 ];
 
 #[test]
-fn every_part_has_the_calls_of_a_cursor(rt: HostRuntime) -> Result<(), Fail> {
+fn every_part_has_the_calls_of_a_cursor(rt: HostRuntime) {
     for (op, answer, cursor) in ALIKE {
         for part in PARTS {
-            assert_call(&rt, rt.alloc(), part, op, answer, cursor)?;
+            assert_call(&rt, rt.alloc(), part, op, answer, cursor);
         }
     }
-    Ok(())
 }
 
 /// Calls that the fraction, which is contiguous, answers as no other part does, and the cursor that
@@ -243,14 +244,13 @@ const CONTIGUOUS: [(Op, Answer, Answer, usize); 6] = [
 ];
 
 #[test]
-fn a_contiguous_part_goes_over_separators(rt: HostRuntime) -> Result<(), Fail> {
+fn a_contiguous_part_goes_over_separators(rt: HostRuntime) {
     for (op, answer, contiguous, cursor) in CONTIGUOUS {
         for part in [Part::Bytes, Part::Integer, Part::Exponent, Part::Special] {
-            assert_call(&rt, rt.alloc(), part, op, answer, 0)?;
+            assert_call(&rt, rt.alloc(), part, op, answer, 0);
         }
-        assert_call(&rt, rt.alloc(), Part::Fraction, op, contiguous, cursor)?;
+        assert_call(&rt, rt.alloc(), Part::Fraction, op, contiguous, cursor);
     }
-    Ok(())
 }
 
 /// Calls that the iterators alone have: the answer and the cursor where the first separator is
@@ -278,15 +278,18 @@ const READS: [(Op, (Answer, usize), (Answer, usize)); 19] = [
 ];
 
 #[test]
-fn the_iterators_alone_read(rt: HostRuntime) -> Result<(), Fail> {
-    for (op, (kept, kept_cursor), (dropped, dropped_cursor)) in READS {
-        assert_call(&rt, rt.alloc(), Part::Bytes, op, Answer::Refused, 0)?;
-        assert_call(&rt, rt.alloc(), Part::Integer, op, kept, kept_cursor)?;
-        assert_call(&rt, rt.alloc(), Part::Fraction, op, kept, kept_cursor)?;
-        assert_call(&rt, rt.alloc(), Part::Exponent, op, dropped, dropped_cursor)?;
-        assert_call(&rt, rt.alloc(), Part::Special, op, dropped, dropped_cursor)?;
+fn the_iterators_alone_read(rt: HostRuntime) {
+    for (op, kept, dropped) in READS {
+        for (part, (answer, cursor)) in [
+            (Part::Bytes, (Answer::Refused, 0)),
+            (Part::Integer, kept),
+            (Part::Fraction, kept),
+            (Part::Exponent, dropped),
+            (Part::Special, dropped),
+        ] {
+            assert_call(&rt, rt.alloc(), part, op, answer, cursor);
+        }
     }
-    Ok(())
 }
 
 /// What `skip_zeros` and `take_n` answer on the five parts, and the cursor that each leaves.
@@ -314,13 +317,12 @@ const BY_PART: [(Op, [(Answer, usize); 5]); 2] = [
 ];
 
 #[test]
-fn zeros_and_views_go_by_the_part(rt: HostRuntime) -> Result<(), Fail> {
+fn zeros_and_views_go_by_the_part(rt: HostRuntime) {
     for (op, expected) in BY_PART {
         for (part, (answer, cursor)) in PARTS.into_iter().zip(expected) {
-            assert_call(&rt, rt.alloc(), part, op, answer, cursor)?;
+            assert_call(&rt, rt.alloc(), part, op, answer, cursor);
         }
     }
-    Ok(())
 }
 
 /// How many a call counts on the five parts.
@@ -332,14 +334,13 @@ const COUNTED: [(Op, [usize; 5]); 4] = [
 ];
 
 #[test]
-fn a_call_counts_for_its_own_part(rt: HostRuntime) -> Result<(), Fail> {
+fn a_call_counts_for_its_own_part(rt: HostRuntime) {
     for (op, expected) in COUNTED {
         for (part, count) in PARTS.into_iter().zip(expected) {
-            let (_, _, counted) = call(&rt, rt.alloc(), part, op)?;
-            assert_eq!(rt; counted, count, "after {op:?} on {part:?}");
+            let (_, _, counted) = call(&rt, rt.alloc(), part, op);
+            assert!(rt; counted == count, "{op:?} on {part:?}: {counted}");
         }
     }
-    Ok(())
 }
 
 /// Calls on the integer of `aB`, one after another.
@@ -356,13 +357,12 @@ const CASES: [(Op, Answer); 9] = [
 ];
 
 #[test]
-fn case_counts_where_it_is_asked(rt: HostRuntime) -> Result<(), Fail> {
+fn case_counts_where_it_is_asked(rt: HostRuntime) {
     let mut bytes = bytes_of(&rt, b"aB", INTERNAL);
     for (op, answer) in CASES {
         let part = Part::Integer;
-        let answers = run(rt.alloc(), &mut bytes, &[Call { part, op }])?;
-        assert_eq!(rt; answers.as_slice(), [answer].as_slice(), "to {op:?}");
+        let is = answers(rt.alloc(), &mut bytes, &[Call { part, op }], &[answer]);
+        assert!(rt; is, "{op:?}");
     }
     assert_eq!(rt; bytes.cursor(), 2);
-    Ok(())
 }

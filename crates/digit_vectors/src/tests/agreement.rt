@@ -3,10 +3,7 @@
 
 ghost use Rattle.std.specs.Prelude.{◌<◌, length};
 
-use super::{
-    CONSECUTIVE, INTERNAL, LEADING, PLAIN, TRAILING, assert_count, assert_cursor, assert_next,
-    assert_peek, bytes_of, move_to,
-};
+use super::{CONSECUTIVE, INTERNAL, LEADING, PLAIN, TRAILING, bytes_of, move_to};
 use crate::slow::{is_digit, is_kept, place, seen};
 use lexical_digits::iterator::{DigitsIter, Iter};
 use lexical_digits::skip::{Component, Rule};
@@ -63,29 +60,70 @@ fn put<'a, D: DigitsIter<'a>>(rt: &impl Abort, iter: &mut D, cursor: usize, coun
     move_to(rt, iter, cursor);
 }
 
+/// `next` yields this byte, and leaves this cursor and this count.
+fn is_taken<'a, D: DigitsIter<'a>>(iter: &mut D, byte: u8, cursor: usize, count: u128) -> bool {
+    iter.next().copied() == Some(byte)
+        && iter.cursor() == cursor
+        && iter.current_count() as u128 == count
+}
+
+/// `next` yields no byte, and leaves the cursor at the end of the text.
+fn is_ended<'a, D: DigitsIter<'a>>(iter: &mut D, text: &[u8]) -> bool {
+    iter.next().is_none() && iter.cursor() == text.len()
+}
+
 /// From this cursor and count, a drain yields what the plain program keeps, and counts as it does.
-fn assert_drain_agrees<'a, D: DigitsIter<'a>>(
-    rt: &impl Abort,
+fn drain_agrees<'a, D: DigitsIter<'a>>(
     iter: &mut D,
     text: &[u8],
     plain: Plain,
+    start: usize,
     count: usize,
-) {
-    let start = iter.cursor();
+) -> bool {
     for position in start..text.len() {
         if is_kept(plain.rule, text, start, count, position) {
-            assert_next(rt, iter, Some(text[position]));
-            assert_cursor(rt, iter, position + 1);
             let counted = if plain.is_counting {
                 seen(plain.rule, text, start, count, position + 1)
             } else {
                 count as u128
             };
-            assert_eq!(rt; iter.current_count() as u128, counted);
+            if !is_taken(iter, text[position], position + 1, counted) {
+                return false;
+            }
         }
     }
-    assert_next(rt, iter, None);
-    assert_cursor(rt, iter, text.len());
+    is_ended(iter, text)
+}
+
+/// The same, asserted.
+fn assert_drain<'a, D: DigitsIter<'a>>(
+    rt: &impl Abort,
+    iter: &mut D,
+    text: &[u8],
+    plain: Plain,
+    start: usize,
+    count: usize,
+) {
+    let is = drain_agrees(iter, text, plain, start, count);
+    assert!(rt; is, "{text:?} from {start}, {count}");
+}
+
+/// The same, of an iterator whose cursor and count are set so.
+fn assert_drain_agrees<'a, D: DigitsIter<'a>>(
+    rt: &impl Abort,
+    iter: &mut D,
+    text: &[u8],
+    plain: Plain,
+    start: usize,
+    count: usize,
+) {
+    put(rt, iter, start, count);
+    assert_drain(rt, iter, text, plain, start, count);
+}
+
+/// A peek and then a `next` find this byte, and the peek leaves the cursor here.
+fn is_found<'a, D: DigitsIter<'a>>(iter: &mut D, byte: Option<u8>, at: usize) -> bool {
+    iter.peek().copied() == byte && iter.cursor() == at && iter.next().copied() == byte
 }
 
 /// A peek and then a `next` find what is at the place of the plain program. Answers the count after
@@ -101,95 +139,115 @@ fn assert_step_agrees<'a, D: DigitsIter<'a>>(
     assert!(rt; start <= text.len());
     let at = place(plain.rule, text, start, count);
     let byte = text.get(at).copied();
-    assert_peek(rt, iter, byte);
-    assert_cursor(rt, iter, at);
-    assert_next(rt, iter, byte);
+    assert!(rt; is_found(iter, byte, at), "{text:?} from {start}, {count}");
     let count = match byte {
         Some(byte) if plain.is_counting && is_digit(plain.rule, byte) => count.saturating_add(1),
         _ => count,
     };
-    assert_count(rt, iter, count);
+    assert_eq!(rt; iter.current_count(), count);
     count
 }
 
-/// The integer. From each cursor with each small count: the whole drain. And a step there, a step
-/// at each other cursor, and then from that cursor, with the count raised by one, all steps to the
-/// end.
-fn assert_integer_agrees(rt: &impl Abort, text: &[u8], state: u32) {
-    let word = PLAIN | flags_of(state);
-    let plain = plain_of(word, Component::Integer);
-    for from in 0..=text.len() {
-        for count in 0..2 {
-            let mut bytes = bytes_of(rt, text, word);
-            let mut iter = bytes.integer_iter();
-            put(rt, &mut iter, from, count);
-            assert_drain_agrees(rt, &mut iter, text, plain, count);
+/// A step there, a step at another cursor, and then from that cursor, with the count raised by one,
+/// all steps to the end.
+fn assert_steps_agree<'a, D: DigitsIter<'a>>(
+    rt: &impl Abort,
+    iter: &mut D,
+    text: &[u8],
+    plain: Plain,
+    from: usize,
+    to: usize,
+) {
+    put(rt, iter, from, 0);
+    let mut count = assert_step_agrees(rt, iter, text, plain, 0);
+    put(rt, iter, to, 0);
+    count = assert_step_agrees(rt, iter, text, plain, count);
+    put(rt, iter, to, 1);
+    count = count.saturating_add(1);
+    for _ in to..=text.len() {
+        count = assert_step_agrees(rt, iter, text, plain, count);
+    }
+}
+
+/// The drain of a component. That of a special value goes by the integer's count.
+fn assert_component_agrees(
+    rt: &impl Abort,
+    text: &[u8],
+    word: u128,
+    component: Component,
+    from: usize,
+    count: usize,
+) {
+    let plain = plain_of(word, component);
+    let mut bytes = bytes_of(rt, text, word);
+    match component {
+        Component::Integer => {
+            assert_drain_agrees(rt, &mut bytes.integer_iter(), text, plain, from, count);
         }
-        for to in 0..=text.len() {
-            let mut bytes = bytes_of(rt, text, word);
-            let mut iter = bytes.integer_iter();
-            put(rt, &mut iter, from, 0);
-            let mut count = assert_step_agrees(rt, &mut iter, text, plain, 0);
-            put(rt, &mut iter, to, 0);
-            count = assert_step_agrees(rt, &mut iter, text, plain, count);
-            put(rt, &mut iter, to, 1);
-            count = count.saturating_add(1);
-            for _ in to..=text.len() {
-                count = assert_step_agrees(rt, &mut iter, text, plain, count);
-            }
+        Component::Fraction => {
+            assert_drain_agrees(rt, &mut bytes.fraction_iter(), text, plain, from, count);
+        }
+        Component::Exponent => {
+            assert_drain_agrees(rt, &mut bytes.exponent_iter(), text, plain, from, count);
+        }
+        Component::Special => {
+            put(rt, &mut bytes.integer_iter(), from, count);
+            assert_drain(rt, &mut bytes.special_iter(), text, plain, from, count);
         }
     }
 }
 
-/// The drains of the fraction and of the exponent, by the same flags. Their bits stand one and two
-/// places above the integer's.
-fn assert_fraction_and_exponent_agree(rt: &impl Abort, text: &[u8], state: u32) {
-    let fraction = PLAIN | (flags_of(state) << 1);
-    let exponent = PLAIN | (flags_of(state) << 2);
+/// The drain of a component from each cursor with each small count.
+fn assert_drains_agree(rt: &impl Abort, text: &[u8], word: u128, component: Component) {
     for from in 0..=text.len() {
         for count in 0..2 {
-            let mut bytes = bytes_of(rt, text, fraction);
-            let mut iter = bytes.fraction_iter();
-            put(rt, &mut iter, from, count);
-            assert_drain_agrees(
-                rt,
-                &mut iter,
-                text,
-                plain_of(fraction, Component::Fraction),
-                count,
-            );
-            let mut bytes = bytes_of(rt, text, exponent);
-            let mut iter = bytes.exponent_iter();
-            put(rt, &mut iter, from, count);
-            assert_drain_agrees(
-                rt,
-                &mut iter,
-                text,
-                plain_of(exponent, Component::Exponent),
-                count,
-            );
+            assert_component_agrees(rt, text, word, component, from, count);
         }
     }
+}
+
+/// Steps of the integer between two cursors.
+fn assert_integer_steps_agree(rt: &impl Abort, text: &[u8], word: u128, from: usize, to: usize) {
+    let plain = plain_of(word, Component::Integer);
+    let mut bytes = bytes_of(rt, text, word);
+    assert_steps_agree(rt, &mut bytes.integer_iter(), text, plain, from, to);
+}
+
+/// The integer. From each cursor with each small count: the whole drain. And steps there, and from
+/// each other cursor.
+fn assert_integer_agrees(rt: &impl Abort, text: &[u8], state: u32) {
+    let word = PLAIN | flags_of(state);
+    assert_drains_agree(rt, text, word, Component::Integer);
+    for from in 0..=text.len() {
+        for to in 0..=text.len() {
+            assert_integer_steps_agree(rt, text, word, from, to);
+        }
+    }
+}
+
+/// All components, by the same flags. The bits of the fraction and of the exponent stand one and
+/// two places above the integer's.
+fn assert_components_agree(rt: &impl Abort, text: &[u8], state: u32) {
+    assert_integer_agrees(rt, text, state);
+    let fraction = PLAIN | (flags_of(state) << 1);
+    assert_drains_agree(rt, text, fraction, Component::Fraction);
+    let exponent = PLAIN | (flags_of(state) << 2);
+    assert_drains_agree(rt, text, exponent, Component::Exponent);
 }
 
 /// The drains of a special value, with its flag and without.
 fn assert_special_agrees(rt: &impl Abort, text: &[u8]) {
     for word in [PLAIN, PLAIN | SPECIAL_DIGIT_SEPARATOR] {
-        for from in 0..=text.len() {
-            for count in 0..2 {
-                let mut bytes = bytes_of(rt, text, word);
-                put(rt, &mut bytes.integer_iter(), from, count);
-                let mut iter = bytes.special_iter();
-                assert_drain_agrees(
-                    rt,
-                    &mut iter,
-                    text,
-                    plain_of(word, Component::Special),
-                    count,
-                );
-            }
-        }
+        assert_drains_agree(rt, text, word, Component::Special);
     }
+}
+
+/// The reads of one text, in every state of the flags.
+fn assert_text_agrees(rt: &impl Abort, text: &[u8]) {
+    for state in 0..16 {
+        assert_components_agree(rt, text, state);
+    }
+    assert_special_agrees(rt, text);
 }
 
 /// Every text of so many letters of an alphabet.
@@ -199,11 +257,7 @@ fn assert_texts_agree(rt: &impl Abort, alphabet: &[u8], letters: u32) {
     let text = &mut text[..letters as usize];
     for number in 0..alphabet.len().saturating_pow(letters) {
         spell(text, alphabet, number);
-        for state in 0..16 {
-            assert_integer_agrees(rt, text, state);
-            assert_fraction_and_exponent_agree(rt, text, state);
-        }
-        assert_special_agrees(rt, text);
+        assert_text_agrees(rt, text);
     }
 }
 

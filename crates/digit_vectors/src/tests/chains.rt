@@ -6,16 +6,27 @@ use lexical_format::{
     EXPONENT_INTERNAL_DIGIT_SEPARATOR, FRACTION_INTERNAL_DIGIT_SEPARATOR,
     FRACTION_LEADING_DIGIT_SEPARATOR, SPECIAL_DIGIT_SEPARATOR, is_supported,
 };
+use std::process::Abort;
 use std::test::Fail;
+
+/// The integer of a text keeps so many bytes, of which this is the last.
+fn assert_integer(rt: &impl Abort, word: u128, text: &[u8], count: usize, last: Option<u8>) {
+    assert!(rt; is_supported(word));
+    assert_eq!(rt; kept_count(text, word), count);
+    assert_eq!(rt; last_kept(text, word), last);
+}
 
 #[test]
 fn a_chain_over_the_integer_gives_what_is_kept(rt: HostRuntime) {
     let word = PLAIN | INTERNAL;
+    for (text, count, last) in [
+        (b"4_5".as_slice(), 2, Some(b'5')),
+        (b"4__5".as_slice(), 3, Some(b'5')),
+        (b"".as_slice(), 0, None),
+    ] {
+        assert_integer(&rt, word, text, count, last);
+    }
     assert!(rt; is_supported(word));
-    assert_eq!(rt; kept_count(b"4_5", word), 2);
-    assert_eq!(rt; kept_count(b"4__5", word), 3);
-    assert_eq!(rt; last_kept(b"4_5", word), Some(b'5'));
-    assert_eq!(rt; last_kept(b"", word), None);
     assert_eq!(rt; checksum(b"4_5", word), 52 + 53);
 }
 
@@ -24,11 +35,11 @@ fn kept_bytes_are_collected(rt: HostRuntime) -> Result<(), Fail> {
     let word = PLAIN | FRACTION_INTERNAL_DIGIT_SEPARATOR | FRACTION_LEADING_DIGIT_SEPARATOR;
     assert!(rt; is_supported(word));
     let kept = kept_bytes(rt.alloc(), b"_4_5_.56", word)?;
-    assert_eq!(rt; kept.as_slice(), b"45_.56".as_slice());
+    assert!(rt; kept.as_slice() == b"45_.56".as_slice());
     let word = PLAIN | EXPONENT_INTERNAL_DIGIT_SEPARATOR;
     assert!(rt; is_supported(word));
     let kept = kept_by_for(rt.alloc(), b"4_5", word)?;
-    assert_eq!(rt; kept.as_slice(), b"45".as_slice());
+    assert!(rt; kept.as_slice() == b"45".as_slice());
     Ok(())
 }
 
@@ -36,7 +47,7 @@ fn kept_bytes_are_collected(rt: HostRuntime) -> Result<(), Fail> {
 fn a_kept_byte_is_found_by_its_index(rt: HostRuntime) {
     let word = PLAIN | SPECIAL_DIGIT_SEPARATOR;
     assert!(rt; is_supported(word));
-    assert_eq!(rt; kept_at(b"n_a__n", word, 1), Some(b'a'));
-    assert_eq!(rt; kept_at(b"n_a__n", word, 2), Some(b'n'));
-    assert_eq!(rt; kept_at(b"n_a__n", word, 3), None);
+    for (index, byte) in [(1, Some(b'a')), (2, Some(b'n')), (3, None)] {
+        assert_eq!(rt; kept_at(b"n_a__n", word, index), byte);
+    }
 }

@@ -1,10 +1,10 @@
 //! Which calls raise which count.
 
-use super::{
-    CONSECUTIVE, INTERNAL, LEADING, PLAIN, TRAILING, assert_count, assert_cursor, assert_next,
-    assert_peek, bytes_of, move_to,
-};
-use lexical_digits::iterator::{DigitsBodies, DigitsIter, Iter, IterBodies};
+use super::steps::Part::{Exponent, Fraction, Integer, Special, Whole};
+use super::steps::Step::{Count, Cursor, Increment, MoveTo, Next, Peek, SkipZeros, StepBy};
+use super::steps::{assert_goes, assert_part, assert_steps, assert_turns};
+use super::{CONSECUTIVE, INTERNAL, LEADING, PLAIN, TRAILING, bytes_of};
+use lexical_digits::iterator::{DigitsIter, Iter, IterBodies};
 use lexical_digits::skip::{Bytes, IntegerDigitsIterator};
 use lexical_format::{
     EXPONENT_INTERNAL_DIGIT_SEPARATOR, FRACTION_INTERNAL_DIGIT_SEPARATOR,
@@ -17,18 +17,19 @@ const EVERYTHING: u128 = PLAIN | INTERNAL | LEADING | TRAILING | CONSECUTIVE;
 
 #[test]
 fn next_counts_the_digits_that_it_yields(rt: HostRuntime) {
-    let mut bytes = bytes_of(&rt, b"123_45", EVERYTHING);
-    let mut iter = bytes.integer_iter();
-    assert_next(&rt, &mut iter, Some(b'1'));
-    assert_next(&rt, &mut iter, Some(b'2'));
-    assert_next(&rt, &mut iter, Some(b'3'));
-    assert_cursor(&rt, &iter, 3);
-    assert_count(&rt, &iter, 3);
-    assert_next(&rt, &mut iter, Some(b'4'));
-    assert_cursor(&rt, &iter, 5);
-    assert_count(&rt, &iter, 4);
-    assert_next(&rt, &mut iter, Some(b'5'));
-    assert_next(&rt, &mut iter, None);
+    let steps = [
+        Next(Some(b'1')),
+        Next(Some(b'2')),
+        Next(Some(b'3')),
+        Cursor(3),
+        Count(3),
+        Next(Some(b'4')),
+        Cursor(5),
+        Count(4),
+        Next(Some(b'5')),
+        Next(None),
+    ];
+    assert_goes(&rt, EVERYTHING, b"123_45", Integer, &steps);
 }
 
 /// Steps over the next digit of an integer.
@@ -45,63 +46,64 @@ fn a_step_counts_nothing(rt: HostRuntime) {
         let mut bytes = bytes_of(&rt, b"123_45", word);
         let mut iter = bytes.integer_iter();
         step(&rt, &mut iter);
-        assert_cursor(&rt, &iter, 1);
-        assert_count(&rt, &iter, 0);
-        assert_next(&rt, &mut iter, Some(b'2'));
-        assert_cursor(&rt, &iter, 2);
-        assert_count(&rt, &iter, 1);
+        let steps = [Cursor(1), Count(0), Next(Some(b'2')), Cursor(2), Count(1)];
+        assert_steps(&rt, &mut iter, &steps);
     }
 }
 
 #[test]
 fn without_separators_the_cursor_is_the_count(rt: HostRuntime) {
-    let mut bytes = bytes_of(&rt, b"12345", STANDARD);
-    let mut iter = bytes.integer_iter();
-    assert!(rt; iter.is_contiguous());
-    iter.step_by_unchecked(4);
-    assert_cursor(&rt, &iter, 4);
-    assert_count(&rt, &iter, 4);
-    assert_peek(&rt, &mut iter, Some(b'5'));
-    assert_next(&rt, &mut iter, Some(b'5'));
-    assert_peek(&rt, &mut iter, None);
+    let steps = [
+        StepBy(4),
+        Cursor(4),
+        Count(4),
+        Peek(Some(b'5')),
+        Next(Some(b'5')),
+        Peek(None),
+    ];
+    assert_goes(&rt, STANDARD, b"12345", Integer, &steps);
 }
 
 #[test]
 fn each_component_has_a_count_of_its_own(rt: HostRuntime) {
-    let mut bytes = bytes_of(
-        &rt,
-        b"4_5",
-        PLAIN | INTERNAL | FRACTION_LEADING_DIGIT_SEPARATOR,
-    );
-    assert_next(&rt, &mut bytes.integer_iter(), Some(b'4'));
-    assert_cursor(&rt, &bytes, 1);
-    assert_next(&rt, &mut bytes.fraction_iter(), Some(b'_'));
-    assert_cursor(&rt, &bytes, 2);
-    assert_count(&rt, &bytes.fraction_iter(), 0);
-    assert_next(&rt, &mut bytes.integer_iter(), Some(b'5'));
-    assert_count(&rt, &bytes.integer_iter(), 2);
+    let word = PLAIN | INTERNAL | FRACTION_LEADING_DIGIT_SEPARATOR;
+    let turns = [
+        (Integer, Next(Some(b'4'))),
+        (Whole, Cursor(1)),
+        (Fraction, Next(Some(b'_'))),
+        (Whole, Cursor(2)),
+        (Fraction, Count(0)),
+        (Integer, Next(Some(b'5'))),
+        (Integer, Count(2)),
+    ];
+    assert_turns(&rt, word, b"4_5", &turns);
 }
 
 #[test]
 fn an_iterator_that_makes_no_call_changes_nothing(rt: HostRuntime) {
+    let turns: [(_, &[_]); 4] = [
+        (Integer, &[Next(Some(b'1'))]),
+        (Fraction, &[]),
+        (Whole, &[Cursor(1)]),
+        (Integer, &[Count(1)]),
+    ];
     let mut bytes = bytes_of(&rt, b"12", PLAIN | INTERNAL);
-    assert_next(&rt, &mut bytes.integer_iter(), Some(b'1'));
-    {
-        let _fraction = bytes.fraction_iter();
+    for (part, steps) in turns {
+        assert_part(&rt, &mut bytes, part, steps);
     }
-    assert_cursor(&rt, &bytes, 1);
-    assert_count(&rt, &bytes.integer_iter(), 1);
 }
 
 #[test]
 fn zeros_count_where_next_does_not(rt: HostRuntime) {
-    let mut bytes = bytes_of(&rt, b"005", PLAIN | FRACTION_INTERNAL_DIGIT_SEPARATOR);
-    let mut iter = bytes.integer_iter();
-    assert_eq!(rt; iter.skip_zeros(), 2);
-    assert_cursor(&rt, &iter, 2);
-    assert_count(&rt, &iter, 2);
-    assert_next(&rt, &mut iter, Some(b'5'));
-    assert_count(&rt, &iter, 2);
+    let word = PLAIN | FRACTION_INTERNAL_DIGIT_SEPARATOR;
+    let steps = [
+        SkipZeros(2),
+        Cursor(2),
+        Count(2),
+        Next(Some(b'5')),
+        Count(2),
+    ];
+    assert_goes(&rt, word, b"005", Integer, &steps);
 }
 
 #[test]
@@ -109,30 +111,32 @@ fn a_bytes_with_a_separator_sums_the_counts(rt: HostRuntime) {
     let flags = FRACTION_INTERNAL_DIGIT_SEPARATOR
         | EXPONENT_INTERNAL_DIGIT_SEPARATOR
         | SPECIAL_DIGIT_SEPARATOR;
-    let mut bytes = bytes_of(&rt, b"12", PLAIN | INTERNAL | flags);
-    bytes.integer_iter().increment_count();
-    bytes.fraction_iter().increment_count();
-    bytes.fraction_iter().increment_count();
-    bytes.exponent_iter().increment_count();
-    bytes.special_iter().increment_count();
-    assert_count(&rt, &bytes.integer_iter(), 1);
-    assert_count(&rt, &bytes.fraction_iter(), 2);
-    assert_count(&rt, &bytes.exponent_iter(), 1);
-    assert_count(&rt, &bytes.special_iter(), 1);
-    assert_count(&rt, &bytes, 4);
-    assert_cursor(&rt, &bytes, 0);
+    let turns = [
+        (Integer, Increment),
+        (Fraction, Increment),
+        (Fraction, Increment),
+        (Exponent, Increment),
+        (Special, Increment),
+        (Integer, Count(1)),
+        (Fraction, Count(2)),
+        (Exponent, Count(1)),
+        (Special, Count(1)),
+        (Whole, Count(4)),
+        (Whole, Cursor(0)),
+    ];
+    assert_turns(&rt, PLAIN | INTERNAL | flags, b"12", &turns);
 }
 
 #[test]
 fn a_clone_goes_on_from_the_same_state(rt: HostRuntime) -> Result<(), Fail> {
     let mut bytes = bytes_of(&rt, b"1__2", PLAIN | INTERNAL | CONSECUTIVE);
-    assert_next(&rt, &mut bytes.integer_iter(), Some(b'1'));
-    assert_peek(&rt, &mut bytes.integer_iter(), Some(b'2'));
+    assert_part(&rt, &mut bytes, Integer, &[Next(Some(b'1'))]);
+    assert_part(&rt, &mut bytes, Integer, &[Peek(Some(b'2'))]);
     let mut copy: Bytes = bytes.clone()?;
     assert_eq!(rt; copy.looks(), bytes.looks());
-    move_to(&rt, &mut bytes, 0);
-    assert_cursor(&rt, &copy, 3);
-    assert_count(&rt, &copy.integer_iter(), 1);
-    assert_next(&rt, &mut copy.integer_iter(), Some(b'2'));
+    assert_part(&rt, &mut bytes, Whole, &[MoveTo(0)]);
+    assert_part(&rt, &mut copy, Whole, &[Cursor(3)]);
+    assert_part(&rt, &mut copy, Integer, &[Count(1)]);
+    assert_part(&rt, &mut copy, Integer, &[Next(Some(b'2'))]);
     Ok(())
 }

@@ -1,154 +1,147 @@
 //! Where the cursor stands, and what stands at it.
 
-use super::{
-    CONSECUTIVE, INTERNAL, LEADING, PLAIN, TRAILING, assert_count, assert_cursor, assert_drains,
-    assert_next, assert_peek, bytes_of, move_to,
+use super::steps::Part::{Integer, Special, Whole};
+use super::steps::Step::{
+    self, Buffer, Count, Cursor, Drains, First, FirstIs, FirstIsCased, FirstIsUncased, IsAtEnd,
+    IsConsumed, IsContiguous, Length, MoveTo, Next, Peek, Rest, SizeHint, StepBy, StepOne,
 };
-use lexical_digits::iterator::{DigitsBodies, DigitsIter, Iter, IterBodies};
-use lexical_digits::skip::{ExponentDigitsIterator, FractionDigitsIterator, IntegerDigitsIterator};
+use super::steps::{ITERATORS, PARTS, assert_goes, assert_part, assert_steps, assert_turns};
+use super::{CONSECUTIVE, INTERNAL, LEADING, PLAIN, TRAILING, bytes_of};
+use lexical_digits::iterator::Iter;
+use lexical_digits::skip::{
+    Bytes, ExponentDigitsIterator, FractionDigitsIterator, IntegerDigitsIterator,
+};
 use lexical_format::{SPECIAL_DIGIT_SEPARATOR, STANDARD};
 use std::process::Abort;
 
 #[test]
 fn an_empty_buffer_has_no_byte(rt: HostRuntime) {
     let word = PLAIN | INTERNAL | LEADING | TRAILING | CONSECUTIVE;
-    let mut bytes = bytes_of(&rt, b"", word);
-    let mut iter = bytes.integer_iter();
-    assert_peek(&rt, &mut iter, None);
-    assert_next(&rt, &mut iter, None);
-    assert!(rt; iter.is_consumed());
+    let steps = [Peek(None), Next(None), IsConsumed(true)];
+    assert_goes(&rt, word, b"", Integer, &steps);
 }
 
 #[test]
 fn a_run_is_judged_whole_from_within_it(rt: HostRuntime) {
-    let mut bytes = bytes_of(&rt, b"1__2", PLAIN | INTERNAL | CONSECUTIVE);
-    move_to(&rt, &mut bytes, 2);
-    assert_drains(&rt, &mut bytes.integer_iter(), b"2", 1);
-    let mut bytes = bytes_of(&rt, b"1__2", PLAIN | INTERNAL);
-    move_to(&rt, &mut bytes, 2);
-    assert_drains(&rt, &mut bytes.integer_iter(), b"_2", 1);
+    let turns = [(Whole, MoveTo(2)), (Integer, Drains(b"2", 1))];
+    assert_turns(&rt, PLAIN | INTERNAL | CONSECUTIVE, b"1__2", &turns);
+    let turns = [(Whole, MoveTo(2)), (Integer, Drains(b"_2", 1))];
+    assert_turns(&rt, PLAIN | INTERNAL, b"1__2", &turns);
+}
+
+/// Makes these calls on an iterator that the `new` of its type makes.
+fn assert_new_integer(rt: &impl Abort, bytes: &mut Bytes, steps: &[Step]) {
+    assert_steps(rt, &mut IntegerDigitsIterator::new(bytes), steps);
+}
+
+fn assert_new_fraction(rt: &impl Abort, bytes: &mut Bytes, steps: &[Step]) {
+    assert_steps(rt, &mut FractionDigitsIterator::new(bytes), steps);
+}
+
+fn assert_new_exponent(rt: &impl Abort, bytes: &mut Bytes, steps: &[Step]) {
+    assert_steps(rt, &mut ExponentDigitsIterator::new(bytes), steps);
 }
 
 #[test]
 fn the_iterators_of_one_buffer_share_its_cursor(rt: HostRuntime) {
     let mut bytes = bytes_of(&rt, b"1_.2", PLAIN | TRAILING | SPECIAL_DIGIT_SEPARATOR);
-    let mut integer = IntegerDigitsIterator::new(&mut bytes);
-    assert_next(&rt, &mut integer, Some(b'1'));
-    assert_peek(&rt, &mut integer, Some(b'.'));
-    assert_cursor(&rt, &integer, 2);
-    let mut special = bytes.special_iter();
-    assert_next(&rt, &mut special, Some(b'.'));
-    assert_cursor(&rt, &special, 3);
-    let mut fraction = FractionDigitsIterator::new(&mut bytes);
-    assert_next(&rt, &mut fraction, Some(b'2'));
-    let mut exponent = ExponentDigitsIterator::new(&mut bytes);
-    assert_next(&rt, &mut exponent, None);
+    let steps = [Next(Some(b'1')), Peek(Some(b'.')), Cursor(2)];
+    assert_new_integer(&rt, &mut bytes, &steps);
+    assert_part(&rt, &mut bytes, Special, &[Next(Some(b'.')), Cursor(3)]);
+    assert_new_fraction(&rt, &mut bytes, &[Next(Some(b'2'))]);
+    assert_new_exponent(&rt, &mut bytes, &[Next(None)]);
 }
 
 #[test]
 fn first_passes_nothing_over(rt: HostRuntime) {
     for word in [PLAIN | INTERNAL, PLAIN | LEADING] {
-        let mut bytes = bytes_of(&rt, b"_5", word);
-        let iter = bytes.integer_iter();
-        assert_eq!(rt; iter.first().copied(), Some(b'_'));
-        assert_eq!(rt; iter.as_slice(), b"_5".as_slice());
-        assert!(rt; !iter.is_buffer_empty());
-        assert_cursor(&rt, &iter, 0);
+        let steps = [First(Some(b'_')), Rest(b"_5"), IsAtEnd(false), Cursor(0)];
+        assert_goes(&rt, word, b"_5", Integer, &steps);
     }
 }
 
 #[test]
 fn first_is_told_with_and_without_case(rt: HostRuntime) {
-    let mut bytes = bytes_of(&rt, b"a", PLAIN | INTERNAL);
-    let mut iter = bytes.integer_iter();
-    assert!(rt; !iter.first_is_cased(b'A'));
-    assert!(rt; iter.first_is_uncased(b'A'));
-    move_to(&rt, &mut iter, 1);
-    assert_eq!(rt; iter.first().copied(), None);
-    assert!(rt; !iter.first_is(b'a', true));
+    let steps = [
+        FirstIsCased(b'A', false),
+        FirstIsUncased(b'A', true),
+        MoveTo(1),
+        First(None),
+        FirstIs(b'a', true, false),
+    ];
+    assert_goes(&rt, PLAIN | INTERNAL, b"a", Integer, &steps);
 }
 
 #[test]
 fn only_is_consumed_passes_a_dropped_end(rt: HostRuntime) {
-    let mut bytes = bytes_of(&rt, b"4_", PLAIN | TRAILING);
-    let mut iter = bytes.integer_iter();
-    assert_next(&rt, &mut iter, Some(b'4'));
-    assert!(rt; !iter.is_buffer_empty());
-    assert!(rt; iter.is_consumed());
-    assert!(rt; iter.is_buffer_empty());
-    assert_cursor(&rt, &iter, 2);
+    let steps = [
+        Next(Some(b'4')),
+        IsAtEnd(false),
+        IsConsumed(true),
+        IsAtEnd(true),
+        Cursor(2),
+    ];
+    assert_goes(&rt, PLAIN | TRAILING, b"4_", Integer, &steps);
 }
 
 #[test]
 fn a_separator_may_be_a_sign(rt: HostRuntime) {
     let mut bytes = bytes_of(&rt, b"+12", (10 << 104) | (0x2b << 64) | LEADING);
     let iter = bytes.integer_iter();
-    assert!(rt; iter.is_sign(b'+'));
-    assert!(rt; iter.is_sign(b'-'));
-    assert!(rt; !iter.is_sign(b'1'));
-    assert!(rt; iter.is_digit_separator(b'+'));
-    assert!(rt; !iter.is_digit_separator(b'-'));
+    for (byte, is_sign) in [(b'+', true), (b'-', true), (b'1', false)] {
+        assert_eq!(rt; iter.is_sign(byte), is_sign);
+    }
+    for (byte, is_separator) in [(b'+', true), (b'-', false)] {
+        assert_eq!(rt; iter.is_digit_separator(byte), is_separator);
+    }
 }
 
-/// Makes each call of a cursor once that needs no more than its trait, over `12aB` from the cursor
-/// 0.
-fn assert_cursor_calls<'a, D: Iter<'a>>(rt: &impl Abort, iter: &mut D) {
-    assert_eq!(rt; iter.get_buffer(), b"12aB".as_slice());
-    assert_eq!(rt; iter.as_slice(), b"12aB".as_slice());
-    assert_eq!(rt; iter.buffer_length(), 4);
-    assert_cursor(rt, iter, 0);
-    assert_count(rt, iter, 0);
-    assert_eq!(rt; iter.first().copied(), Some(b'1'));
-    assert!(rt; iter.first_is(b'1', true));
-    move_to(rt, iter, 2);
-    assert_eq!(rt; iter.as_slice(), b"aB".as_slice());
-    assert!(rt; iter.first_is_cased(b'a'));
-    assert!(rt; iter.first_is_uncased(b'A'));
-    assert!(rt; !iter.first_is(b'A', true));
-    move_to(rt, iter, 4);
-    assert!(rt; iter.is_buffer_empty());
-}
+/// Each call of a cursor once that needs no more than its trait, over `12aB` from the cursor 0.
+const CURSOR_CALLS: [Step; 14] = [
+    Buffer(b"12aB"),
+    Rest(b"12aB"),
+    Length(4),
+    Cursor(0),
+    Count(0),
+    First(Some(b'1')),
+    FirstIs(b'1', true, true),
+    MoveTo(2),
+    Rest(b"aB"),
+    FirstIsCased(b'a', true),
+    FirstIsUncased(b'A', true),
+    FirstIs(b'A', true, false),
+    MoveTo(4),
+    IsAtEnd(true),
+];
 
 #[test]
 fn every_part_has_the_calls_of_a_cursor(rt: HostRuntime) {
-    let word = PLAIN | INTERNAL;
-    assert_cursor_calls(&rt, &mut bytes_of(&rt, b"12aB", word));
-    assert_cursor_calls(&rt, &mut bytes_of(&rt, b"12aB", word).integer_iter());
-    assert_cursor_calls(&rt, &mut bytes_of(&rt, b"12aB", word).fraction_iter());
-    assert_cursor_calls(&rt, &mut bytes_of(&rt, b"12aB", word).exponent_iter());
-    assert_cursor_calls(&rt, &mut bytes_of(&rt, b"12aB", word).special_iter());
-}
-
-/// Steps through `12345`, over which nothing is passed.
-fn assert_steps<'a, D: Iter<'a>>(rt: &impl Abort, iter: &mut D) {
-    assert!(rt; iter.is_contiguous());
-    assert!(rt; iter.cursor() == 0 && iter.buffer_length() == 5);
-    iter.step_by_unchecked(3);
-    assert_eq!(rt; iter.first().copied(), Some(b'4'));
-    iter.step_unchecked();
-    assert_eq!(rt; iter.first().copied(), Some(b'5'));
-    assert_count(rt, iter, 4);
+    for part in PARTS {
+        assert_goes(&rt, PLAIN | INTERNAL, b"12aB", part, &CURSOR_CALLS);
+    }
 }
 
 #[test]
 fn every_contiguous_part_steps_over_any_bytes(rt: HostRuntime) {
-    assert_steps(&rt, &mut bytes_of(&rt, b"12345", STANDARD));
-    assert_steps(&rt, &mut bytes_of(&rt, b"12345", STANDARD).integer_iter());
-    assert_steps(&rt, &mut bytes_of(&rt, b"12345", STANDARD).fraction_iter());
-    assert_steps(&rt, &mut bytes_of(&rt, b"12345", STANDARD).exponent_iter());
-    assert_steps(&rt, &mut bytes_of(&rt, b"12345", STANDARD).special_iter());
-}
-
-/// The size hint of an iterator that foretells nothing.
-fn assert_no_hint<'a, D: DigitsIter<'a>>(rt: &impl Abort, iter: &D) {
-    assert_eq!(rt; iter.size_hint(), (0, None));
+    let steps = [
+        IsContiguous(true),
+        Cursor(0),
+        Length(5),
+        StepBy(3),
+        First(Some(b'4')),
+        StepOne,
+        First(Some(b'5')),
+        Count(4),
+    ];
+    for part in PARTS {
+        assert_goes(&rt, STANDARD, b"12345", part, &steps);
+    }
 }
 
 #[test]
 fn a_size_hint_foretells_nothing(rt: HostRuntime) {
-    let mut bytes = bytes_of(&rt, b"1_2", PLAIN | INTERNAL);
-    assert_no_hint(&rt, &bytes.integer_iter());
-    assert_no_hint(&rt, &bytes.fraction_iter());
-    assert_no_hint(&rt, &bytes.exponent_iter());
-    assert_no_hint(&rt, &bytes.special_iter());
+    for part in ITERATORS {
+        let steps = [SizeHint((0, None))];
+        assert_goes(&rt, PLAIN | INTERNAL, b"1_2", part, &steps);
+    }
 }

@@ -1,8 +1,7 @@
 //! The laws, each called once, with what it answers and leaves.
 
-use super::{
-    CONSECUTIVE, INTERNAL, LEADING, PLAIN, TRAILING, assert_count, assert_cursor, bytes_of,
-};
+use super::steps::{Part, Step, assert_part};
+use super::{CONSECUTIVE, INTERNAL, LEADING, PLAIN, TRAILING, bytes_of};
 use crate::slow::is_kept;
 use lexical_digits::iterator::DigitsIter;
 use lexical_digits::laws::{
@@ -16,39 +15,69 @@ use lexical_format::{
 };
 use std::process::Abort;
 
-/// Calls the laws over `1x2`.
-fn assert_laws<'a, D: DigitsIter<'a>>(rt: &impl Abort, iter: &mut D) {
+/// Both peeks find this byte.
+pub fn is_settled<'a, D: DigitsIter<'a>>(iter: &mut D, byte: u8) -> bool {
+    let (first, second) = peek_settles(iter);
+    first.copied() == Some(byte) && second.copied() == Some(byte)
+}
+
+/// The peek and the `next` behind it find this byte.
+pub fn is_next_as_peeked<'a, D: DigitsIter<'a>>(iter: &mut D, byte: u8) -> bool {
+    let (peeked, next) = next_after_peek(iter);
+    peeked.copied() == Some(byte) && next.copied() == Some(byte)
+}
+
+/// A test that asks for this byte reads so, and if it read none then the peek behind it finds so.
+fn is_read_if<'a, D: DigitsIter<'a>>(
+    iter: &mut D,
+    value: u8,
+    read: Option<u8>,
+    peeked: Option<u8>,
+) -> bool {
+    let (byte, next) = read_if_none(iter, |byte| byte == value);
+    byte == read && next.copied() == peeked
+}
+
+/// Calls the laws over an iterator that yields `1`, and then `x`.
+pub fn assert_laws<'a, D: DigitsIter<'a>>(rt: &impl Abort, iter: &mut D) {
     items_unroll(iter);
     zeros_unroll(iter);
-    let (first, second) = peek_settles(iter);
-    assert_eq!(rt; first.copied(), Some(b'1'));
-    assert_eq!(rt; second.copied(), Some(b'1'));
-    let (peeked, next) = next_after_peek(iter);
-    assert_eq!(rt; peeked.copied(), Some(b'1'));
-    assert_eq!(rt; next.copied(), Some(b'1'));
-    let (read, peeked) = read_if_none(iter, |byte| byte == b'y');
-    assert_eq!(rt; read, None);
-    assert_eq!(rt; peeked.copied(), Some(b'x'));
-    let (read, peeked) = read_if_none(iter, |byte| byte == b'x');
-    assert_eq!(rt; read, Some(b'x'));
-    assert_eq!(rt; peeked.copied(), None);
+    assert!(rt; is_settled(iter, b'1'));
+    assert!(rt; is_next_as_peeked(iter, b'1'));
+    assert!(rt; is_read_if(iter, b'y', None, Some(b'x')));
+    assert!(rt; is_read_if(iter, b'x', Some(b'x'), None));
+}
+
+/// Calls the laws over one iterator of a `Bytes`.
+fn assert_laws_of(rt: &impl Abort, bytes: &mut Bytes, component: Component) {
+    match component {
+        Component::Integer => assert_laws(rt, &mut bytes.integer_iter()),
+        Component::Fraction => assert_laws(rt, &mut bytes.fraction_iter()),
+        Component::Exponent => assert_laws(rt, &mut bytes.exponent_iter()),
+        Component::Special => assert_laws(rt, &mut bytes.special_iter()),
+    }
 }
 
 #[test]
 fn the_laws_hold_for_every_iterator(rt: HostRuntime) {
-    let word = PLAIN | INTERNAL;
-    assert_laws(&rt, &mut bytes_of(&rt, b"1x2", word).integer_iter());
-    assert_laws(&rt, &mut bytes_of(&rt, b"1x2", word).fraction_iter());
-    assert_laws(&rt, &mut bytes_of(&rt, b"1x2", word).exponent_iter());
-    assert_laws(&rt, &mut bytes_of(&rt, b"1x2", word).special_iter());
+    for component in [
+        Component::Integer,
+        Component::Fraction,
+        Component::Exponent,
+        Component::Special,
+    ] {
+        let mut bytes = bytes_of(&rt, b"1x2", PLAIN | INTERNAL);
+        assert_laws_of(&rt, &mut bytes, component);
+    }
 }
 
 /// A law left this cursor, and these counts of the integer, the fraction and the exponent.
 fn assert_left(rt: &impl Abort, bytes: &mut Bytes, cursor: usize, counts: [usize; 3]) {
-    assert_cursor(rt, bytes, cursor);
-    assert_count(rt, &bytes.integer_iter(), counts[0]);
-    assert_count(rt, &bytes.fraction_iter(), counts[1]);
-    assert_count(rt, &bytes.exponent_iter(), counts[2]);
+    let [integer, fraction, exponent] = counts;
+    assert_part(rt, bytes, Part::Whole, &[Step::Cursor(cursor)]);
+    assert_part(rt, bytes, Part::Integer, &[Step::Count(integer)]);
+    assert_part(rt, bytes, Part::Fraction, &[Step::Count(fraction)]);
+    assert_part(rt, bytes, Part::Exponent, &[Step::Count(exponent)]);
 }
 
 /// Internal separators of each component are dropped, so that each answers a count of its own.
@@ -59,23 +88,23 @@ const EACH: u128 = PLAIN
 
 #[test]
 fn a_drain_counts_its_digits(rt: HostRuntime) {
-    let mut bytes = bytes_of(&rt, b"4_5", EACH);
-    assert_eq!(rt; drain_counts(&mut bytes, Component::Integer), 2);
-    assert_left(&rt, &mut bytes, 3, [2, 0, 0]);
-    let mut bytes = bytes_of(&rt, b"4_5", EACH);
-    assert_eq!(rt; drain_counts(&mut bytes, Component::Fraction), 2);
-    assert_left(&rt, &mut bytes, 3, [0, 2, 0]);
-    let mut bytes = bytes_of(&rt, b"4_5", EACH);
-    assert_eq!(rt; drain_counts(&mut bytes, Component::Exponent), 2);
-    assert_left(&rt, &mut bytes, 3, [0, 0, 2]);
+    for (component, counts) in [
+        (Component::Integer, [2, 0, 0]),
+        (Component::Fraction, [0, 2, 0]),
+        (Component::Exponent, [0, 0, 2]),
+    ] {
+        let mut bytes = bytes_of(&rt, b"4_5", EACH);
+        assert_eq!(rt; drain_counts(&mut bytes, component), 2);
+        assert_left(&rt, &mut bytes, 3, counts);
+    }
 }
 
 #[test]
 fn a_drain_with_nothing_granted_keeps_every_byte(rt: HostRuntime) {
     let mut bytes = bytes_of(&rt, b"1__2", PLAIN | CONSECUTIVE);
     assert_eq!(rt; ungranted_keeps_all(&mut bytes, Component::Integer), 4);
-    assert_cursor(&rt, &bytes, 4);
-    assert_count(&rt, &bytes.integer_iter(), 2);
+    assert_part(&rt, &mut bytes, Part::Whole, &[Step::Cursor(4)]);
+    assert_part(&rt, &mut bytes, Part::Integer, &[Step::Count(2)]);
 }
 
 #[test]
@@ -107,7 +136,7 @@ fn digits_are_the_same_for_all_flags(rt: HostRuntime) {
     for word in [some, other] {
         let mut bytes = bytes_of(&rt, b"_4_5__6_", word);
         drain_counts(&mut bytes, Component::Integer);
-        assert_count(&rt, &bytes.integer_iter(), 3);
+        assert_part(&rt, &mut bytes, Part::Integer, &[Step::Count(3)]);
     }
 }
 

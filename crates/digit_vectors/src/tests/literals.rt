@@ -1,10 +1,14 @@
 //! Literals, and runs of digits, read from every kind of iterator.
 
-use super::{INTERNAL, LEADING, PLAIN, TRAILING, assert_count, assert_cursor, bytes_of, move_to};
+use self::Reading::{Reads, Skips};
+use super::steps::Step::{Count, Cursor, MoveTo};
+use super::steps::{Part, assert_part, assert_steps};
+use super::{INTERNAL, LEADING, PLAIN, TRAILING, bytes_of, move_to};
 use crate::literals::{pass_places, read_whole};
 use crate::spaced::Spaced;
 use digit_literals::{LiteralError, read_digits, read_integer, skip_digits};
 use lexical_digits::iterator::DigitsIter;
+use lexical_digits::skip::Component::{self, Exponent, Fraction, Integer, Special};
 use lexical_format::{
     EXPONENT_INTERNAL_DIGIT_SEPARATOR, FRACTION_INTERNAL_DIGIT_SEPARATOR, SPECIAL_DIGIT_SEPARATOR,
     STANDARD, is_supported,
@@ -23,30 +27,52 @@ fn assert_integer(
     assert_eq!(rt; read_integer(text, word), read, "{text:?}");
 }
 
-/// The decimal digits of an iterator have this value, and then its cursor and count are these.
+/// A call over the decimal digits of an iterator, with what it answers.
+#[derive(Clone, Copy)]
+enum Reading {
+    /// `read_digits` answers this value, or that cause.
+    Reads(Result<u64, LiteralError>),
+    /// `skip_digits` skips so many.
+    Skips(usize),
+}
+
+/// Makes the call: whether it answers so.
+fn is_reading<'a, D: DigitsIter<'a>>(iter: &mut D, reading: Reading) -> bool {
+    match reading {
+        Reads(read) => read_digits(iter, 10) == read,
+        Skips(digits) => skip_digits(iter) == digits,
+    }
+}
+
+/// Makes the call on an iterator, and then its cursor and count are these.
 fn assert_digits<'a, D: DigitsIter<'a>>(
     rt: &impl Abort,
     iter: &mut D,
-    read: Result<u64, LiteralError>,
+    reading: Reading,
     cursor: usize,
     count: usize,
 ) {
-    assert_eq!(rt; read_digits(iter, 10), read);
-    assert_cursor(rt, iter, cursor);
-    assert_count(rt, iter, count);
+    assert!(rt; is_reading(iter, reading));
+    assert_steps(rt, iter, &[Cursor(cursor), Count(count)]);
 }
 
-/// So many digits of an iterator are skipped, and then its cursor and count are these.
-fn assert_skips<'a, D: DigitsIter<'a>>(
+/// Makes the call on the iterator of a component, and then its cursor and count are these.
+fn assert_digits_of(
     rt: &impl Abort,
-    iter: &mut D,
-    digits: usize,
+    word: u128,
+    text: &[u8],
+    component: Component,
+    reading: Reading,
     cursor: usize,
     count: usize,
 ) {
-    assert_eq!(rt; skip_digits(iter), digits);
-    assert_cursor(rt, iter, cursor);
-    assert_count(rt, iter, count);
+    let mut bytes = bytes_of(rt, text, word);
+    match component {
+        Integer => assert_digits(rt, &mut bytes.integer_iter(), reading, cursor, count),
+        Fraction => assert_digits(rt, &mut bytes.fraction_iter(), reading, cursor, count),
+        Exponent => assert_digits(rt, &mut bytes.exponent_iter(), reading, cursor, count),
+        Special => assert_digits(rt, &mut bytes.special_iter(), reading, cursor, count),
+    }
 }
 
 #[test]
@@ -88,55 +114,41 @@ fn digits_are_read_from_each_iterator(rt: HostRuntime) {
         | FRACTION_INTERNAL_DIGIT_SEPARATOR
         | EXPONENT_INTERNAL_DIGIT_SEPARATOR
         | SPECIAL_DIGIT_SEPARATOR;
-    let mut bytes = bytes_of(&rt, b"1_2x", word);
-    assert_digits(&rt, &mut bytes.integer_iter(), Ok(12), 3, 2);
-    let mut bytes = bytes_of(&rt, b"1_2x", word);
-    assert_digits(&rt, &mut bytes.fraction_iter(), Ok(12), 3, 2);
-    let mut bytes = bytes_of(&rt, b"1_2x", word);
-    assert_digits(&rt, &mut bytes.exponent_iter(), Ok(12), 3, 2);
-    let mut bytes = bytes_of(&rt, b"1_2x", word);
-    assert_digits(&rt, &mut bytes.special_iter(), Ok(12), 3, 0);
+    for (component, count) in [(Integer, 2), (Fraction, 2), (Exponent, 2), (Special, 0)] {
+        assert_digits_of(&rt, word, b"1_2x", component, Reads(Ok(12)), 3, count);
+    }
     assert!(rt; is_supported(STANDARD));
     let mut plain = noskip::Bytes::new(b"1_2", STANDARD);
-    assert_digits(&rt, &mut plain.integer_iter(), Ok(1), 1, 1);
+    assert_digits(&rt, &mut plain.integer_iter(), Reads(Ok(1)), 1, 1);
 }
 
 #[test]
 fn the_cursor_stands_behind_separators_that_were_passed_over(rt: HostRuntime) {
-    let mut bytes = bytes_of(&rt, b"12_x", PLAIN | TRAILING);
-    assert_digits(&rt, &mut bytes.integer_iter(), Ok(12), 3, 2);
-    let mut bytes = bytes_of(&rt, b"_x", PLAIN | TRAILING);
-    assert_digits(
-        &rt,
-        &mut bytes.integer_iter(),
-        Err(LiteralError::Empty(1)),
-        1,
-        0,
-    );
+    let read = Reads(Ok(12));
+    assert_digits_of(&rt, PLAIN | TRAILING, b"12_x", Integer, read, 3, 2);
+    let read = Reads(Err(LiteralError::Empty(1)));
+    assert_digits_of(&rt, PLAIN | TRAILING, b"_x", Integer, read, 1, 0);
     let parted = b"1844674407370955161_6";
-    let mut bytes = bytes_of(&rt, parted, PLAIN | INTERNAL);
-    assert_digits(
-        &rt,
-        &mut bytes.integer_iter(),
-        Err(LiteralError::Overflow(20)),
-        20,
-        19,
-    );
+    let read = Reads(Err(LiteralError::Overflow(20)));
+    assert_digits_of(&rt, PLAIN | INTERNAL, parted, Integer, read, 20, 19);
 }
 
 #[test]
 fn digits_of_the_exponent_go_by_its_own_radix(rt: HostRuntime) {
     let word = (16 << 104) | (10 << 120) | (0x5f << 64) | EXPONENT_INTERNAL_DIGIT_SEPARATOR;
-    let mut bytes = bytes_of(&rt, b"1_a", word);
-    assert_digits(&rt, &mut bytes.exponent_iter(), Ok(1), 1, 1);
+    assert_digits_of(&rt, word, b"1_a", Exponent, Reads(Ok(1)), 1, 1);
 }
 
 #[test]
 fn digits_are_read_from_an_iterator_of_ones_own(rt: HostRuntime) {
-    assert_digits(&rt, &mut Spaced::new(b"1 2x"), Ok(12), 3, 2);
-    let none = Err(LiteralError::Empty(2));
-    assert_digits(&rt, &mut Spaced::new(b"  "), none, 2, 0);
-    assert_skips(&rt, &mut Spaced::new(b"1 2x"), 2, 3, 2);
+    let none = Reads(Err(LiteralError::Empty(2)));
+    for (text, reading, cursor, count) in [
+        (b"1 2x".as_slice(), Reads(Ok(12)), 3, 2),
+        (b"  ".as_slice(), none, 2, 0),
+        (b"1 2x".as_slice(), Skips(2), 3, 2),
+    ] {
+        assert_digits(&rt, &mut Spaced::new(text), reading, cursor, count);
+    }
 }
 
 #[test]
@@ -146,19 +158,19 @@ fn digits_are_skipped_on_each_iterator(rt: HostRuntime) {
         | FRACTION_INTERNAL_DIGIT_SEPARATOR
         | EXPONENT_INTERNAL_DIGIT_SEPARATOR
         | SPECIAL_DIGIT_SEPARATOR;
-    let mut bytes = bytes_of(&rt, b"12_x", word);
-    assert_skips(&rt, &mut bytes.integer_iter(), 2, 3, 2);
-    let mut bytes = bytes_of(&rt, b"1_2_x", word);
-    assert_skips(&rt, &mut bytes.fraction_iter(), 2, 3, 2);
-    let mut bytes = bytes_of(&rt, b"1_2_x", word);
-    assert_skips(&rt, &mut bytes.exponent_iter(), 2, 3, 2);
-    let mut bytes = bytes_of(&rt, b"1_2_x", word);
-    assert_skips(&rt, &mut bytes.special_iter(), 2, 4, 0);
+    for (text, component, cursor, count) in [
+        (b"12_x".as_slice(), Integer, 3, 2),
+        (b"1_2_x".as_slice(), Fraction, 3, 2),
+        (b"1_2_x".as_slice(), Exponent, 3, 2),
+        (b"1_2_x".as_slice(), Special, 4, 0),
+    ] {
+        assert_digits_of(&rt, word, text, component, Skips(2), cursor, count);
+    }
     assert!(rt; is_supported(STANDARD));
     let mut plain = noskip::Bytes::new(b"x12", STANDARD);
-    assert_skips(&rt, &mut plain.integer_iter(), 0, 0, 0);
+    assert_digits(&rt, &mut plain.integer_iter(), Skips(0), 0, 0);
     move_to(&rt, &mut plain, 1);
-    assert_skips(&rt, &mut plain.fraction_iter(), 2, 3, 3);
+    assert_digits(&rt, &mut plain.fraction_iter(), Skips(2), 3, 3);
 }
 
 #[test]
@@ -166,10 +178,9 @@ fn parts_of_a_number_are_read_one_after_another(rt: HostRuntime) {
     let word = PLAIN | INTERNAL | FRACTION_INTERNAL_DIGIT_SEPARATOR;
     let mut bytes = bytes_of(&rt, b"1_2.5_0e", word);
     assert_eq!(rt; read_whole(&mut bytes, 10), Ok(12));
-    assert_cursor(&rt, &bytes, 3);
-    move_to(&rt, &mut bytes, 4);
+    assert_part(&rt, &mut bytes, Part::Whole, &[Cursor(3), MoveTo(4)]);
     assert_eq!(rt; pass_places(&mut bytes), 2);
-    assert_cursor(&rt, &bytes, 7);
+    assert_part(&rt, &mut bytes, Part::Whole, &[Cursor(7)]);
 }
 
 #[test]

@@ -1,8 +1,10 @@
 //! How long bytes and iterators live.
 
-use super::{INTERNAL, PLAIN, TRAILING, assert_cursor, assert_peek, bytes_of};
+use super::steps::Part::Whole;
+use super::steps::Step::{Cursor, Peek};
+use super::steps::{assert_part, assert_steps};
+use super::{INTERNAL, PLAIN, TRAILING, bytes_of};
 use crate::example::{first_kept, next_digit, pass_sign};
-use lexical_digits::iterator::{DigitsIter, Iter};
 use lexical_format::is_supported;
 use std::process::Abort;
 
@@ -34,8 +36,8 @@ fn iterators_borrow_one_buffer_in_turn(rt: HostRuntime) {
     assert_eq!(rt; one.copied(), Some(b'1'));
     assert_eq!(rt; point.copied(), Some(b'.'));
     assert_eq!(rt; two.copied(), Some(b'2'));
-    assert_peek(&rt, &mut fraction, Some(b'5'));
-    assert_cursor(&rt, &bytes, 4);
+    assert_steps(&rt, &mut fraction, &[Peek(Some(b'5'))]);
+    assert_part(&rt, &mut bytes, Whole, &[Cursor(4)]);
 }
 
 #[test]
@@ -43,10 +45,10 @@ fn a_caller_reads_a_signed_number(rt: HostRuntime) {
     let mut bytes = bytes_of(&rt, b"-1_2x", PLAIN | INTERNAL);
     assert!(rt; pass_sign(&mut bytes));
     assert!(rt; !pass_sign(&mut bytes));
-    assert_eq!(rt; next_digit(&mut bytes), Some(b'1'));
-    assert_eq!(rt; next_digit(&mut bytes), Some(b'2'));
-    assert_eq!(rt; next_digit(&mut bytes), None);
-    assert_cursor(&rt, &bytes, 4);
+    for digit in [Some(b'1'), Some(b'2'), None] {
+        assert_eq!(rt; next_digit(&mut bytes), digit);
+    }
+    assert_part(&rt, &mut bytes, Whole, &[Cursor(4)]);
     let word = PLAIN | INTERNAL;
     assert!(rt; is_supported(word));
     assert_eq!(rt; first_kept(b"4_5", word).copied(), Some(b'4'));

@@ -1,12 +1,13 @@
 //! How many looks at a byte the reads take, and the run of separators that is remembered.
 
-use super::{
-    CONSECUTIVE, INTERNAL, LEADING, PLAIN, assert_cursor, assert_drains, assert_next, assert_peek,
-    bytes_of, move_to,
-};
-use lexical_digits::iterator::{DigitsIter, Iter};
+use super::steps::Part::{Fraction, Integer, Whole};
+use super::steps::Step::{Cursor, Drains, Increment, MoveTo, Next, Peek};
+use super::steps::{assert_goes, assert_part, assert_turns};
+use super::{CONSECUTIVE, INTERNAL, LEADING, PLAIN, bytes_of};
+use lexical_digits::skip::Bytes;
 use lexical_format::{FRACTION_CONSECUTIVE_DIGIT_SEPARATOR, FRACTION_LEADING_DIGIT_SEPARATOR};
 use std::alloc::{AllocError, Global};
+use std::process::Abort;
 use std::test::Fail;
 
 /// So many separators between two bytes.
@@ -25,17 +26,21 @@ fn separators_between(
     Ok(text)
 }
 
+/// The looks so far are no fewer than `least` and no more than `most`.
+fn assert_looks(rt: &impl Abort, bytes: &Bytes, least: u64, most: u64) {
+    let looks = bytes.looks();
+    assert!(rt; least <= looks && looks <= most, "{looks}");
+}
+
 #[test]
 fn a_run_that_is_kept_is_scanned_once(rt: HostRuntime) -> Result<(), Fail> {
     let text = separators_between(rt.alloc(), b'1', 1_000, b'.')?;
     let mut bytes = bytes_of(&rt, &text, PLAIN | INTERNAL | CONSECUTIVE);
-    assert_drains(&rt, &mut bytes.integer_iter(), &text, 1);
-    let looks = bytes.looks();
-    assert!(rt; 2_002 <= looks && looks <= 7_018, "{looks}");
-    move_to(&rt, &mut bytes, 0);
-    assert_drains(&rt, &mut bytes.integer_iter(), &text, 2);
-    let looks = bytes.looks();
-    assert!(rt; looks <= 14_036, "{looks}");
+    assert_part(&rt, &mut bytes, Integer, &[Drains(&text, 1)]);
+    assert_looks(&rt, &bytes, 2_002, 7_018);
+    assert_part(&rt, &mut bytes, Whole, &[MoveTo(0)]);
+    assert_part(&rt, &mut bytes, Integer, &[Drains(&text, 2)]);
+    assert_looks(&rt, &bytes, 0, 14_036);
     Ok(())
 }
 
@@ -43,10 +48,9 @@ fn a_run_that_is_kept_is_scanned_once(rt: HostRuntime) -> Result<(), Fail> {
 fn a_long_run_is_dropped_by_one_scan(rt: HostRuntime) -> Result<(), Fail> {
     let text = separators_between(rt.alloc(), b'1', 100_000, b'2')?;
     let mut bytes = bytes_of(&rt, &text, PLAIN | INTERNAL | CONSECUTIVE);
-    assert_drains(&rt, &mut bytes.integer_iter(), b"12", 2);
-    assert_cursor(&rt, &bytes, 100_002);
-    let looks = bytes.looks();
-    assert!(rt; looks <= 300_018, "{looks}");
+    let steps = [Drains(b"12", 2), Cursor(100_002)];
+    assert_part(&rt, &mut bytes, Integer, &steps);
+    assert_looks(&rt, &bytes, 0, 300_018);
     Ok(())
 }
 
@@ -54,53 +58,59 @@ fn a_long_run_is_dropped_by_one_scan(rt: HostRuntime) -> Result<(), Fail> {
 fn without_consecutive_a_long_run_loses_its_last_separator(rt: HostRuntime) -> Result<(), Fail> {
     let text = separators_between(rt.alloc(), b'1', 100_000, b'2')?;
     let kept = separators_between(rt.alloc(), b'1', 99_999, b'2')?;
-    let mut bytes = bytes_of(&rt, &text, PLAIN | INTERNAL);
-    assert_drains(&rt, &mut bytes.integer_iter(), &kept, 2);
+    let steps = [Drains(&kept, 2)];
+    assert_goes(&rt, PLAIN | INTERNAL, &text, Integer, &steps);
     Ok(())
 }
 
 #[test]
 fn separators_alone_lead_only_as_a_run(rt: HostRuntime) -> Result<(), Fail> {
     let text = separators_between(rt.alloc(), b'_', 99_998, b'_')?;
-    let mut bytes = bytes_of(&rt, &text, PLAIN | LEADING);
-    assert_drains(&rt, &mut bytes.integer_iter(), &text, 0);
-    let mut bytes = bytes_of(&rt, &text, PLAIN | LEADING | CONSECUTIVE);
-    assert_drains(&rt, &mut bytes.integer_iter(), b"", 0);
-    assert_cursor(&rt, &bytes, 100_000);
+    let steps = [Drains(&text, 0)];
+    assert_goes(&rt, PLAIN | LEADING, &text, Integer, &steps);
+    let steps = [Drains(b"", 0), Cursor(100_000)];
+    assert_goes(&rt, PLAIN | LEADING | CONSECUTIVE, &text, Integer, &steps);
     Ok(())
 }
 
 #[test]
 fn a_run_is_judged_for_each_component(rt: HostRuntime) {
     let flags = FRACTION_LEADING_DIGIT_SEPARATOR | FRACTION_CONSECUTIVE_DIGIT_SEPARATOR;
-    let mut bytes = bytes_of(&rt, b"1__2", PLAIN | INTERNAL | CONSECUTIVE | flags);
-    assert_next(&rt, &mut bytes.integer_iter(), Some(b'1'));
-    assert_peek(&rt, &mut bytes.fraction_iter(), Some(b'_'));
-    assert_cursor(&rt, &bytes, 1);
-    assert_peek(&rt, &mut bytes.integer_iter(), Some(b'2'));
-    assert_cursor(&rt, &bytes, 3);
+    let turns = [
+        (Integer, Next(Some(b'1'))),
+        (Fraction, Peek(Some(b'_'))),
+        (Whole, Cursor(1)),
+        (Integer, Peek(Some(b'2'))),
+        (Whole, Cursor(3)),
+    ];
+    let word = PLAIN | INTERNAL | CONSECUTIVE | flags;
+    assert_turns(&rt, word, b"1__2", &turns);
 }
 
 #[test]
 fn a_run_is_judged_anew_when_the_count_has_risen(rt: HostRuntime) {
-    let mut bytes = bytes_of(&rt, b".__2", PLAIN | INTERNAL | CONSECUTIVE);
-    let mut iter = bytes.integer_iter();
-    move_to(&rt, &mut iter, 1);
-    assert_peek(&rt, &mut iter, Some(b'_'));
-    assert_cursor(&rt, &iter, 1);
-    iter.increment_count();
-    assert_peek(&rt, &mut iter, Some(b'2'));
-    assert_cursor(&rt, &iter, 3);
+    let steps = [
+        MoveTo(1),
+        Peek(Some(b'_')),
+        Cursor(1),
+        Increment,
+        Peek(Some(b'2')),
+        Cursor(3),
+    ];
+    let word = PLAIN | INTERNAL | CONSECUTIVE;
+    assert_goes(&rt, word, b".__2", Integer, &steps);
 }
 
 #[test]
 fn a_run_says_nothing_of_another(rt: HostRuntime) {
-    let mut bytes = bytes_of(&rt, b"1__2.__3", PLAIN | INTERNAL | CONSECUTIVE);
-    let mut iter = bytes.integer_iter();
-    move_to(&rt, &mut iter, 1);
-    assert_peek(&rt, &mut iter, Some(b'2'));
-    assert_cursor(&rt, &iter, 3);
-    move_to(&rt, &mut iter, 5);
-    assert_peek(&rt, &mut iter, Some(b'_'));
-    assert_cursor(&rt, &iter, 5);
+    let steps = [
+        MoveTo(1),
+        Peek(Some(b'2')),
+        Cursor(3),
+        MoveTo(5),
+        Peek(Some(b'_')),
+        Cursor(5),
+    ];
+    let word = PLAIN | INTERNAL | CONSECUTIVE;
+    assert_goes(&rt, word, b"1__2.__3", Integer, &steps);
 }

@@ -1,10 +1,9 @@
 //! Words whose exponent has a radix of its own.
 
-use super::{
-    CONSECUTIVE, INTERNAL, assert_count, assert_cursor, assert_drains, assert_kept, assert_next,
-    assert_peek, bytes_of, move_to,
-};
-use lexical_digits::iterator::DigitsIter;
+use super::steps::Part::{Exponent, Fraction, Integer, Special, Whole};
+use super::steps::Step::{Count, Cursor, Drains, IsDigit, MoveTo, Next, Peek};
+use super::steps::{assert_goes, assert_turns};
+use super::{CONSECUTIVE, INTERNAL, assert_kept};
 use lexical_digits::laws::equal_radixes;
 use lexical_digits::skip::{Component, Rule};
 use lexical_format::{
@@ -29,28 +28,26 @@ const RUNS: u128 = INTERNAL
 
 #[test]
 fn the_exponent_has_the_digits_of_its_own_radix(rt: HostRuntime) {
-    let mut bytes = bytes_of(&rt, b"1_a", SIXTEEN_AND_TEN | EXPONENT_INTERNAL);
-    assert_drains(&rt, &mut bytes.exponent_iter(), b"1_a", 1);
-    let mut bytes = bytes_of(&rt, b"a_b", TEN_AND_SIXTEEN | EXPONENT_INTERNAL);
-    assert_drains(&rt, &mut bytes.exponent_iter(), b"ab", 2);
+    let word = SIXTEEN_AND_TEN | EXPONENT_INTERNAL;
+    assert_goes(&rt, word, b"1_a", Exponent, &[Drains(b"1_a", 1)]);
+    let word = TEN_AND_SIXTEEN | EXPONENT_INTERNAL;
+    assert_goes(&rt, word, b"a_b", Exponent, &[Drains(b"ab", 2)]);
 }
 
 #[test]
 fn without_an_exponent_radix_the_mantissa_radix_serves(rt: HostRuntime) {
     let word = (10 << 104) | (0x5f << 64) | EXPONENT_INTERNAL;
-    let mut bytes = bytes_of(&rt, b"1_2", word);
-    assert_drains(&rt, &mut bytes.exponent_iter(), b"12", 2);
-    let mut bytes = bytes_of(&rt, b"1_2", word | (10 << 120));
-    assert_drains(&rt, &mut bytes.exponent_iter(), b"12", 2);
+    for word in [word, word | (10 << 120)] {
+        assert_goes(&rt, word, b"1_2", Exponent, &[Drains(b"12", 2)]);
+    }
 }
 
 #[test]
 fn the_other_components_go_by_the_mantissa_radix(rt: HostRuntime) {
     assert_kept(&rt, SIXTEEN_AND_TEN | INTERNAL, b"1_a", b"1a", 2);
     assert_kept(&rt, TEN_AND_SIXTEEN | INTERNAL, b"1_a", b"1_a", 1);
-    let mut bytes = bytes_of(&rt, b"a_1", SIXTEEN_AND_TEN | SPECIAL_DIGIT_SEPARATOR);
-    assert_drains(&rt, &mut bytes.special_iter(), b"a1", 0);
-    assert_cursor(&rt, &bytes, 3);
+    let word = SIXTEEN_AND_TEN | SPECIAL_DIGIT_SEPARATOR;
+    assert_goes(&rt, word, b"a_1", Special, &[Drains(b"a1", 0), Cursor(3)]);
 }
 
 #[test]
@@ -59,38 +56,42 @@ fn each_iterator_tells_its_own_digits(rt: HostRuntime) {
         (SIXTEEN_AND_TEN, true, false),
         (TEN_AND_SIXTEEN, false, true),
     ] {
-        let mut bytes = bytes_of(&rt, b"", word);
-        assert_eq!(rt; bytes.integer_iter().is_digit(b'a'), in_mantissa);
-        assert_eq!(rt; bytes.fraction_iter().is_digit(b'a'), in_mantissa);
-        assert_eq!(rt; bytes.exponent_iter().is_digit(b'a'), in_exponent);
-        assert_eq!(rt; bytes.special_iter().is_digit(b'a'), in_mantissa);
-        assert_eq!(rt;
-            Rule::of(word, Component::Exponent).radix == 16,
-            in_exponent
-        );
+        let turns = [
+            (Integer, IsDigit(b'a', in_mantissa)),
+            (Fraction, IsDigit(b'a', in_mantissa)),
+            (Exponent, IsDigit(b'a', in_exponent)),
+            (Special, IsDigit(b'a', in_mantissa)),
+        ];
+        assert_turns(&rt, word, b"", &turns);
+        let is_sixteen = Rule::of(word, Component::Exponent).radix == 16;
+        assert_eq!(rt; is_sixteen, in_exponent);
     }
 }
 
 #[test]
 fn each_component_judges_a_remembered_run_by_its_own_digits(rt: HostRuntime) {
-    let mut bytes = bytes_of(&rt, b"1__a", SIXTEEN_AND_TEN | RUNS);
-    assert_next(&rt, &mut bytes.integer_iter(), Some(b'1'));
-    assert_peek(&rt, &mut bytes.exponent_iter(), Some(b'_'));
-    assert_cursor(&rt, &bytes, 1);
-    assert_peek(&rt, &mut bytes.integer_iter(), Some(b'a'));
-    assert_cursor(&rt, &bytes, 3);
+    let turns = [
+        (Integer, Next(Some(b'1'))),
+        (Exponent, Peek(Some(b'_'))),
+        (Whole, Cursor(1)),
+        (Integer, Peek(Some(b'a'))),
+        (Whole, Cursor(3)),
+    ];
+    assert_turns(&rt, SIXTEEN_AND_TEN | RUNS, b"1__a", &turns);
 }
 
 #[test]
 fn a_run_that_the_exponent_drops_may_stay_in_the_integer(rt: HostRuntime) {
-    let mut bytes = bytes_of(&rt, b"1__a", TEN_AND_SIXTEEN | RUNS);
-    assert_next(&rt, &mut bytes.integer_iter(), Some(b'1'));
-    assert_peek(&rt, &mut bytes.exponent_iter(), Some(b'a'));
-    assert_cursor(&rt, &bytes, 3);
-    move_to(&rt, &mut bytes, 1);
-    assert_peek(&rt, &mut bytes.integer_iter(), Some(b'_'));
-    assert_cursor(&rt, &bytes, 1);
-    assert_count(&rt, &bytes.integer_iter(), 1);
+    let turns = [
+        (Integer, Next(Some(b'1'))),
+        (Exponent, Peek(Some(b'a'))),
+        (Whole, Cursor(3)),
+        (Whole, MoveTo(1)),
+        (Integer, Peek(Some(b'_'))),
+        (Whole, Cursor(1)),
+        (Integer, Count(1)),
+    ];
+    assert_turns(&rt, TEN_AND_SIXTEEN | RUNS, b"1__a", &turns);
 }
 
 #[test]

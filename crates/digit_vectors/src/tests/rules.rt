@@ -1,10 +1,9 @@
 //! Which separators are dropped: drains by `next`.
 
-use super::{
-    CONSECUTIVE, INTERNAL, LEADING, PLAIN, TRAILING, assert_count, assert_cursor, assert_drains,
-    assert_kept, bytes_of,
-};
-use lexical_digits::iterator::Iter;
+use super::steps::Part::{Fraction, Integer, Special, Whole};
+use super::steps::Step::{Count, Cursor, Drains};
+use super::steps::{assert_goes, assert_turns};
+use super::{CONSECUTIVE, INTERNAL, LEADING, PLAIN, TRAILING, assert_kept};
 use lexical_format::{
     FRACTION_INTERNAL_DIGIT_SEPARATOR, FRACTION_LEADING_DIGIT_SEPARATOR, SPECIAL_DIGIT_SEPARATOR,
 };
@@ -59,9 +58,8 @@ fn consecutive_alone_drops_nothing(rt: HostRuntime) {
 #[test]
 fn a_separator_of_zero_is_none(rt: HostRuntime) {
     let word = (10 << 104) | INTERNAL | LEADING | TRAILING | CONSECUTIVE;
-    let mut bytes = bytes_of(&rt, b"\x31\x00\x32", word);
-    assert_drains(&rt, &mut bytes.integer_iter(), b"\x31\x00\x32", 2);
-    assert_count(&rt, &bytes, 3);
+    let turns = [(Integer, Drains(b"\x31\x00\x32", 2)), (Whole, Count(3))];
+    assert_turns(&rt, word, b"\x31\x00\x32", &turns);
 }
 
 #[test]
@@ -98,18 +96,19 @@ fn what_is_a_digit_goes_by_the_radix(rt: HostRuntime) {
 #[test]
 fn the_fraction_goes_by_its_own_flags(rt: HostRuntime) {
     let word = PLAIN | FRACTION_INTERNAL_DIGIT_SEPARATOR | FRACTION_LEADING_DIGIT_SEPARATOR;
-    let mut bytes = bytes_of(&rt, b"_4_5_.56", word);
-    assert_drains(&rt, &mut bytes.fraction_iter(), b"45_.56", 4);
-    let mut bytes = bytes_of(&rt, b"1_2", PLAIN | INTERNAL);
-    assert_drains(&rt, &mut bytes.fraction_iter(), b"1_2", 0);
+    assert_goes(&rt, word, b"_4_5_.56", Fraction, &[Drains(b"45_.56", 4)]);
+    let word = PLAIN | INTERNAL;
+    assert_goes(&rt, word, b"1_2", Fraction, &[Drains(b"1_2", 0)]);
 }
 
 #[test]
 fn a_special_value_loses_all_separators_or_none(rt: HostRuntime) {
-    let mut bytes = bytes_of(&rt, b"n_a__n", PLAIN | SPECIAL_DIGIT_SEPARATOR);
-    assert_drains(&rt, &mut bytes.special_iter(), b"nan", 0);
-    assert_cursor(&rt, &bytes, 6);
-    assert_count(&rt, &bytes.integer_iter(), 0);
-    let mut bytes = bytes_of(&rt, b"n_a", PLAIN);
-    assert_drains(&rt, &mut bytes.special_iter(), b"n_a", 0);
+    let word = PLAIN | SPECIAL_DIGIT_SEPARATOR;
+    let turns = [
+        (Special, Drains(b"nan", 0)),
+        (Whole, Cursor(6)),
+        (Integer, Count(0)),
+    ];
+    assert_turns(&rt, word, b"n_a__n", &turns);
+    assert_goes(&rt, PLAIN, b"n_a", Special, &[Drains(b"n_a", 0)]);
 }

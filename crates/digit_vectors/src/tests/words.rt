@@ -1,23 +1,24 @@
 //! Several bytes as one number.
 
+use super::steps::Part::{Exponent, Fraction, Integer, Special, Whole};
+use super::steps::Step::{PeekU32, PeekU64};
+use super::steps::{assert_goes, assert_turns};
 use super::{PLAIN, bytes_of};
 use lexical_digits::iterator::IterBodies;
 use lexical_format::{FRACTION_INTERNAL_DIGIT_SEPARATOR, STANDARD};
 
 #[test]
 fn the_first_byte_is_the_lowest(rt: HostRuntime) {
-    let mut bytes = bytes_of(&rt, b"12345678", STANDARD);
-    assert_eq!(rt; bytes.peek_u32(), Some(0x3433_3231));
-    assert_eq!(rt; bytes.peek_u64(), Some(0x3837_3635_3433_3231));
-    let iter = bytes.special_iter();
-    assert_eq!(rt; iter.peek_u32(), Some(0x3433_3231));
-    assert_eq!(rt; iter.peek_u64(), Some(0x3837_3635_3433_3231));
+    for part in [Whole, Special] {
+        let four = PeekU32(Some(0x3433_3231));
+        let eight = PeekU64(Some(0x3837_3635_3433_3231));
+        assert_goes(&rt, STANDARD, b"12345678", part, &[four, eight]);
+    }
 }
 
 #[test]
 fn there_is_no_number_of_fewer_bytes(rt: HostRuntime) {
-    let mut bytes = bytes_of(&rt, b"123", STANDARD);
-    assert_eq!(rt; bytes.integer_iter().peek_u32(), None);
+    assert_goes(&rt, STANDARD, b"123", Integer, &[PeekU32(None)]);
     let mut bytes = bytes_of(&rt, b"12345", STANDARD);
     let mut iter = bytes.integer_iter();
     assert_eq!(rt; iter.peek_u64(), None);
@@ -26,9 +27,12 @@ fn there_is_no_number_of_fewer_bytes(rt: HostRuntime) {
 
 #[test]
 fn a_buffer_with_separators_gives_numbers_to_contiguous_iterators_alone(rt: HostRuntime) {
-    let mut bytes = bytes_of(&rt, b"12345", PLAIN | FRACTION_INTERNAL_DIGIT_SEPARATOR);
-    assert_eq!(rt; bytes.peek_u32(), None);
-    assert_eq!(rt; bytes.integer_iter().peek_u32(), Some(0x3433_3231));
-    assert_eq!(rt; bytes.exponent_iter().peek_u32(), Some(0x3433_3231));
-    assert_eq!(rt; bytes.fraction_iter().peek_u32(), None);
+    let word = PLAIN | FRACTION_INTERNAL_DIGIT_SEPARATOR;
+    let turns = [
+        (Whole, PeekU32(None)),
+        (Integer, PeekU32(Some(0x3433_3231))),
+        (Exponent, PeekU32(Some(0x3433_3231))),
+        (Fraction, PeekU32(None)),
+    ];
+    assert_turns(&rt, word, b"12345", &turns);
 }

@@ -1,6 +1,6 @@
 -- The stop, in words of positions: the first from the start on that is kept and holds no digit. For
 -- callers.
-use Rattle.std.proofs.Common.{◌≡◌, ℕ, zero, suc, ◌+◌, ◌-◌, ◌<◌, ◌≤◌, Bool, true, false, not, List, ◌∷◌, length, arith, slice_index, unwrap_or}
+use Rattle.std.proofs.Common.{◌≡◌, ℕ, zero, suc, ◌+◌, ◌<◌, ◌≤◌, Bool, true, false, not, List, ◌∷◌, length, arith, slice_index, unwrap_or}
 use Rattle.std.specs.List.{find, filter, range_with_len}
 use Rattle.lexical_digits.specs.declared.skip.rule.Rule.{Rule}
 use Rattle.lexical_digits.specs.Separators.{is_digit, is_kept, kept_positions}
@@ -32,6 +32,4 @@ pub stop_is_first : (rule : Rule) (buffer : List ℕ) (start count : ℕ) → st
     start
     (length buffer) (stop rule buffer start count)
 unfolding stop kept_positions
-stop_is_first rule buffer start count l =
-    first (is_kept rule buffer start count) (λ q. not (is_digit rule (slice_index buffer q)))
-    (length buffer) (length buffer - start) start (omega (arith, l))
+stop_is_first rule buffer start count l = grind (arith, first)

@@ -46,7 +46,6 @@ module _ {M : Type 0} {valid : M → Type 0} {buffer : M → List ℕ} {cursor c
       room = by_items laws (λ m. length (items_of m) + cursor m ≤ length_of m)
           (λ m v h. rw (items_end laws m h) (omega (arith, laws.place_from m v, laws.place_to m v)))
           (λ m v h rest.
-          let on = laws.taken_cursor m v h in
           rw (items_step laws m v h)
           (omega (arith, ap length (laws.taken_buffer m v), laws.place_from m v)))
 

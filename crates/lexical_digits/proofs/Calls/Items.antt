@@ -1,6 +1,6 @@
 -- For any implementer, what reads one after another come to: the items, the digits that lead, and
 -- the zeros.
-use Rattle.std.proofs.Common.{◌≡◌, ℕ, ◌<◌, ◌≤◌, ◌∷◌, [], suc, Bool, List, Some, length, slice_get, slice_index, refl, arith, length-drop, nat_lt, if◌then◌else◌, inl, inr, is_some, zero, true, false, ◌+◌, ◌∙◌}
+use Rattle.std.proofs.Common.{◌≡◌, ℕ, ◌<◌, ◌≤◌, ◌∷◌, [], suc, Bool, List, Some, length, slice_get, slice_index, refl, arith, length-drop, nat_lt, if◌then◌else◌, inl, inr, is_some, zero, true, false, ◌+◌}
 use Rattle.std.proofs.lemmas.Option.{gets, slice_get-get_or, slice_get_past}
 use Rattle.std.proofs.lemmas.Bool.{ltb-true, ltb-false, lt-ltb, le-ltb, cases_lt}
 use Rattle.std.specs.Option.{option_map_or}
@@ -57,10 +57,8 @@ module _ {M : Type 0} {valid : M → Type 0} {buffer : M → List ℕ} {cursor c
   -- both cases in one, by the byte at the place
   pub items_unroll : (m : M) → valid m → items_of m
       ≡ option_map_or (λ byte. byte ∷ items_of (taken m)) (slice_get (buffer m) (place m)) []
-  items_unroll m v = elim (cases_lt (place m) (length (buffer m))) [
-    | inl h ↦ rw (slice_get-get_or (buffer m) (place m) 0 h) (items_step m v h)
-    | inr h ↦ rw (slice_get_past (buffer m) (place m) h) (items_end m h)
-  ]
+  items_unroll m v =
+      grind (arith, gets, cases_lt, slice_get-get_or, items_step, slice_get_past, items_end)
 
   -- what the items leave, by whether there is one
   pub after_items_unroll : (m : M) → valid m → after_of m
@@ -127,8 +125,7 @@ module _ {M : Type 0} {valid : M → Type 0} {buffer : M → List ℕ} {cursor c
     past_valid m v e = iter.moved_valid _ _ (laws.settled_valid m v) (past_fits m v e)
 
     pub past_cursor : (m : M) → valid m → starts m ≡ true → cursor (past m) ≡ place m + 1
-    past_cursor m v e = laws.counted_cursor _ (past_valid m v e)
-        ∙ iter.moved_cursor _ _ (laws.settled_valid m v) (past_fits m v e)
+    past_cursor m v e = grind (arith, gets, past_valid, past_fits)
 
     pub zeros_fall : Falls valid (bytes_left buffer cursor) starts past
     zeros_fall = record {

@@ -5,7 +5,6 @@ use Rattle.std.proofs.lemmas.Option.{gets, slice_get-get_or, slice_get_past}
 use Rattle.lexical_digits.specs.declared.skip.rule.Rule.{Rule}
 use Rattle.lexical_digits.specs.declared.skip.component.Component.{Component}
 use Rattle.lexical_digits.specs.declared.skip.component.Component.TheVariants.{Special}
-use Rattle.lexical_digits.specs.Separators as rules
 use Rattle.lexical_digits.specs.State.{State, IsState, with_cursor, rule, own, with_own, is_special, one_more, saturating}
 use Rattle.lexical_digits.specs.CallTable.{place_of, settled, counted, drain_of, after_drain, zeros_of, past_zeros_of}
 use Rattle.lexical_digits.specs.Iterators.{items_in, after_items_in, zeros_in, after_zeros_in}
@@ -96,9 +95,6 @@ zero_there k s v e =
     s.cursor (own k s) within zero in
     let past = places.past_at_place (rule k s) s.buffer (not (is_special k)) (counts_zeros k s)
     s.cursor (own k s) within zero in
-    let zeros = of_past rules.zeros k s in
-    let pasts = of_past rules.past_zeros k s in
-    let own_past = of_past (λ r b i c. c) k s in
     grind (arith, counted_first k s)
 
 zeros_none : (k : Component) (s : State) → at_zero_in k s ≡ false → zeros_of k s ≡ 0

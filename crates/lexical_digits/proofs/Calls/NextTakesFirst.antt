@@ -1,13 +1,13 @@
 -- Draining the iterator of any component by `next` gives what the filter over the whole buffer
 -- keeps.
-use Rattle.std.proofs.Common.{◌≡◌, ℕ, ◌+◌, ◌<◌, ◌≤◌, ◌^◌, Bool, true, false, not, ◌&&◌, cond, Option, Some, None, List, [], ◌∷◌, length, get_or, drop, refl, sym, ◌∙◌, arith, inl, inr, slice_get, option_copied, Bor}
+use Rattle.std.proofs.Common.{◌≡◌, ℕ, ◌+◌, ◌<◌, ◌≤◌, ◌^◌, not, ◌&&◌, cond, Option, Some, None, List, [], ◌∷◌, length, get_or, drop, refl, sym, ◌∙◌, arith, inl, inr, slice_get, option_copied, Bor}
 use Rattle.std.proofs.lemmas.Option.{gets, slice_get_within}
 use Rattle.std.proofs.lemmas.Bool.{cases_Bool}
 use Rattle.lexical_format.specs.Word.{bit}
 use Rattle.lexical_digits.specs.declared.skip.rule.Rule.{Rule}
 use Rattle.lexical_digits.specs.declared.skip.component.Component.{Component}
 use Rattle.lexical_digits.specs.declared.skip.component.Component.TheVariants.{Special}
-use Rattle.lexical_digits.specs.Separators.{kept_positions, place, drain, has_flags}
+use Rattle.lexical_digits.specs.Separators.{kept_positions, drain, has_flags}
 use Rattle.lexical_digits.specs.State.{State, IsState, with_cursor, rule, own, with_own, counts, count_after, is_special}
 use Rattle.lexical_digits.specs.CallTable.{place_of, settled, taken, drain_of, own_after, after_drain, byte_at_place, Takes}
 use Rattle.lexical_digits.specs.Laws.Kept.{Counts}
@@ -117,7 +117,6 @@ takes k s None v e =
     grind (arith, drain_none k s at_end, drained_none k s v.within at_end)
 takes k s (Some item) v e =
     let within : place_of k s < length s.buffer = grind (arith, gets) in
-    let there : get_or s.buffer (place_of k s) 0 ≡ item.now = grind (arith, gets) in
     let first = drain_some k s within in
     let same = drained_some k s v.within within in
     grind (arith, gets, place_from k s v.within, taken_some k s within)

@@ -1,5 +1,5 @@
 -- What the components of one word share.
-use Rattle.std.proofs.Common.{◌≡◌, ℕ, ◌+◌, Bool, true, false, cond, not, List, [], ◌∷◌, length, drop, refl, arith, sym, ◌∙◌, inl, inr, is_some, map, count_by, filter}
+use Rattle.std.proofs.Common.{◌≡◌, ℕ, Bool, true, cond, not, List, [], ◌∷◌, length, drop, refl, arith, sym, ◌∙◌, inl, inr, is_some, map, count_by, filter}
 use Rattle.std.proofs.lemmas.Bool.{cases_lt}
 use Rattle.std.proofs.lemmas.List.Sums.{length-filter}
 use Rattle.lexical_format.specs.Word.{separator, bit}
@@ -57,20 +57,14 @@ pub moved_changes : (k : Component) (s : State) (i : ℕ) → ChangesOwn k s (wi
 moved_changes k s i = record { count = own k s; cursor = i; is = sym (with_own_same k s i) }
 
 pub taken_changes : (k : Component) (s : State) → ChangesOwn k s (taken k s)
-taken_changes k s = elim (cases_lt (place_of k s) (length s.buffer)) [
-  | inl l ↦ record { count = next_count k s; cursor = place_of k s + 1; is = taken_some k s l }
-  | inr l ↦ rw (taken_none k s l) (moved_changes k s (place_of k s))
-]
+taken_changes k s = grind (arith, cases_lt, next_count, taken_some, taken_none, moved_changes)
 
 pub counted_changes : (k : Component) (s : State) → ChangesOwn k s (counted k s)
 counted_changes k s = record { count = one_more (own k s); cursor = s.cursor; is = grind arith }
 
 pub read_changes : (k : Component) (s : State)
     → ChangesOwn k s (cond (is_some (byte_at_place k s)) (past_place k s) (settled k s))
-read_changes k s =
-    elim (is_some (byte_at_place k s))
-    as (λ b. ChangesOwn k s (cond b (past_place k s) (settled k s)))
-    [ true ↦ moved_changes k s (place_of k s + 1) | false ↦ moved_changes k s (place_of k s) ]
+read_changes k s = grind (arith, moved_changes)
 
 pub zeros_change : (k : Component) (s : State) → ChangesOwn k s (past_zeros_of k s)
 zeros_change k s = record {

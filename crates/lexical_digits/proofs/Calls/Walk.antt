@@ -1,5 +1,5 @@
 -- Walks whose steps lower a number: any bound that is not below it gives the same.
-use Rattle.std.proofs.Common.{◌≡◌, ℕ, zero, suc, ◌<◌, ◌≤◌, Bool, true, false, refl, ap, arith, ◌∙◌, inl, inr}
+use Rattle.std.proofs.Common.{◌≡◌, ℕ, zero, suc, ◌<◌, ◌≤◌, Bool, true, false, refl, arith, inl, inr}
 use Rattle.std.proofs.lemmas.Bool.{cases_Bool}
 use Rattle.lexical_digits.specs.Cursor.{walk}
 
@@ -41,10 +41,7 @@ module _ {M : Type 0} {valid : M → Type 0} {left : M → ℕ} {goes : M → Bo
         → walk goes next at_end at_step (left m) m
         ≡ at_step m (walk goes next at_end at_step (left (next m)) (next m))
     unfolding walk
-    walk_step m v e =
-        walk_same (left m) (suc (left m)) m v (omega arith) (omega arith)
-        ∙ rw e (ap (at_step m) (walk_same (left m) (left (next m)) (next m) (steps.stays m v e)
-        (omega (arith, steps.falls m v e)) (omega arith)))
+    walk_step m v e = grind (arith, walk_same)
 
     pub walk_end : (m : M) → goes m ≡ false → walk goes next at_end at_step (left m) m ≡ at_end m
     unfolding walk

@@ -1,26 +1,24 @@
 -- Reading where the cursor stands: nothing is passed over there, and nothing scanned.
-use Rattle.std.specs.Prelude.{is_some, slice_get}
-use Rattle.std.specs.Borrow.{Bor}
-use Rattle.std.proofs.Common.{◌≡◌, ℕ, ◌+◌, ◌-◌, ◌≤◌, ◌^◌, ◌&&◌, ◌||◌, Bool, true, false, not, cond, min, Option, Some, None, [], refl, sym, ap, ◌∙◌, arith}
-use Rattle.std.proofs.lemmas.Bool.{not-true, or_parts, and_parts, and_left, and_right, false≢true, false_from_ne_true}
+use Rattle.std.proofs.Common.{◌≡◌, ℕ, ◌+◌, ◌≤◌, ◌&&◌, ◌||◌, Bool, true, false, not, cond, Option, Some, None, [], refl, sym, ap, ◌∙◌, arith, slice_get, Bor}
+use Rattle.std.proofs.lemmas.Bool.{not-true, or_parts, and_parts, and_left, and_right}
 use Rattle.std.proofs.lemmas.Bool.Decides.{nat_tests}
 use Rattle.lexical_digits.specs.declared.skip.component.Component.{Component}
 use Rattle.lexical_digits.specs.declared.skip.component.Component.TheVariants.{Integer, Fraction, Exponent, Special}
 use Rattle.lexical_digits.specs.declared.skip.rule.Rule.{Rule}
 use Rattle.lexical_format.specs.Word.{separator}
 use Rattle.lexical_digits.specs.Separators.{is_digit, is_separator, has_flags, IsSupported}
-use Rattle.lexical_digits.specs.State.{State, with_cursor, rule, is_special, is_contiguous, own, with_own, counts, count_after, one_more, saturating}
+use Rattle.lexical_digits.specs.State.{State, with_cursor, rule, is_special, is_contiguous, own, with_own, counts, count_after, saturating}
 use Rattle.lexical_digits.specs.declared.skip.bytes.tally.Tally.{Tally}
 use Rattle.lexical_digits.specs.Tally.{passed_by}
 use Rattle.lexical_digits.specs.Shortcuts.{is_told}
 use Rattle.lexical_digits.specs.Bytes.{has_no_flags}
-use Rattle.lexical_digits.specs.CallTable.{place_of, byte_at_place, counted}
-use Rattle.lexical_digits.specs.Looks.{separator_at, scans, one_if, Held, Reads, Settles, Yields}
+use Rattle.lexical_digits.specs.CallTable.{place_of, counted}
+use Rattle.lexical_digits.specs.Looks.{separator_at, scans, Held, Reads, Settles, Yields}
 use Rattle.lexical_digits.specs.Laws.Table.{place_contiguous}
 use Rattle.lexical_digits.proofs.Rule.Supported.{supported_rule}
 use Rattle.lexical_digits.proofs.Rule.Runs.{separator_no_digit}
 use Rattle.lexical_digits.proofs.Looks.WhereSeparatorsStand.{place_at_other}
-use Rattle.lexical_digits.proofs.Looks.Owing.{reads_unscanned, separator_of}
+use Rattle.lexical_digits.proofs.Looks.Owing.{reads_unscanned, separator_of, reads_then}
 use Rattle.lexical_digits.proofs.Calls.NextTakesFirst.{takes_none, takes_some, with_own_same}
 
 -- the place of a component is at the cursor, and no run is looked for there
@@ -31,7 +29,8 @@ pub record IsHere (k : Component) (a : Held) : Type 0 where
 pub here_contiguous : (k : Component) (a : Held) → is_contiguous k a.state.word ≡ true → IsHere k a
 here_contiguous k a e = record {
   place = place_contiguous k a.state e a.holds.within;
-  unscanned = and_left _ _ (and_left _ _ (or_parts _ (rule k a.state).consecutive (not-true _ e)).1);
+  unscanned = let flags = or_parts _ (rule k a.state).consecutive (not-true _ e) in
+      and_left _ _ (and_left _ _ flags.1);
 }
 
 pub here_other : (k : Component) (a : Held)
@@ -55,31 +54,23 @@ here_byte k a byte e other = here_other k a (rw e other)
 
 -- ---- what it costs
 
-reads_looked : (k : Component) (a b : Held) → IsHere k a → b.run ≡ a.run
-    → a.state.cursor ≤ b.state.cursor
-    → min (a.looks + one_if (is_some (byte_at_place k a.state))) (2 ^ 64 - 1) ≤ b.looks
-    → b.looks ≤ a.looks + 4 → Reads k a b
-reads_looked k a b here run l least most =
-    reads_unscanned k a b run l least most (and_left _ _ here.unscanned)
-
 -- so many looks more, with a byte that is answered or without
 reads_on : (k : Component) (a b : Held) (n : ℕ) → IsHere k a → b.run ≡ a.run
     → a.state.cursor ≤ b.state.cursor → b.looks ≡ saturating a.looks n → 1 ≤ n → n ≤ 4 → Reads k a b
 reads_on k a b n here run l e low high =
-    reads_looked k a b here run l (grind (arith, nat_tests)) (omega (arith, e))
+    reads_unscanned k a b run l (grind (arith, nat_tests)) (omega (arith, e))
+    (and_left _ _ here.unscanned)
 
 reads_end : (k : Component) (a : Held) → IsHere k a → slice_get a.state.buffer a.state.cursor ≡ None
     → Reads k a a
-reads_end k a here e = reads_looked k a a here refl (omega arith) none (omega arith)
-  where
-    none : min (a.looks + one_if (is_some (byte_at_place k a.state))) (2 ^ 64 - 1) ≤ a.looks
-    none = rw (here.place, e) (omega arith)
+reads_end k a here e =
+    reads_unscanned k a a refl (omega arith) (rw (here.place, e) (omega arith)) (omega arith)
+    (and_left _ _ here.unscanned)
 
 -- a digit is no separator
 pub digit_apart : (rule : Rule) (byte : ℕ) → IsSupported rule → is_digit rule byte ≡ true
     → is_separator rule.separator byte ≡ false
-digit_apart rule byte supported d = false_from_ne_true _
-    (λ e. false≢true (sym (separator_no_digit rule [] supported byte e) ∙ d))
+digit_apart rule byte supported d = grind (arith, separator_no_digit rule [] supported byte)
 
 -- where a byte is passed at once
 pub here_told : (k : Component) (a : Held) (byte : ℕ)
@@ -89,8 +80,10 @@ here_told k a byte e p = here (is_contiguous k a.state.word) refl
   where
     here : (b : Bool) → is_contiguous k a.state.word ≡ b → IsHere k a
     here true f = here_contiguous k a f
-    here false f = here_byte k a byte e (rw (sym (separator_of k a.state.word))
-        (digit_apart (rule k a.state) byte (supported_rule a.state.word k a.holds.word) (rw f at p)))
+    here false f =
+        let supported = supported_rule a.state.word k a.holds.word in
+        here_byte k a byte e (rw (sym (separator_of k a.state.word))
+        (digit_apart (rule k a.state) byte supported (rw f at p)))
 
 -- at the end nothing is left to be judged
 pub here_end : (k : Component) (a : Held) → slice_get a.state.buffer a.state.cursor ≡ None
@@ -112,8 +105,8 @@ here_all k a e = here_contiguous k a (contiguous_all k a.state.word e)
 -- ---- what counts
 
 -- without a flag `next` counts nothing
-counts_none : (k : Component) (word : ℕ) → is_contiguous k word ≡ true → counts k word ≡ false
-counts_none k word e = and_right _ _ (not-true _ e)
+counts_none : (k : Component) (word : ℕ) → has_no_flags word ≡ true → counts k word ≡ false
+counts_none k word e = and_right _ _ (not-true _ (contiguous_all k word e))
 
 -- a byte that is passed at once is counted if digits are
 pub told_counts : (k : Component) (s : State) (byte : ℕ) → is_told (rule k s) byte ≡ true
@@ -131,11 +124,8 @@ pub stepped : (k : Component) (s : State) (byte i : ℕ) (b : Bool)
     → b ≡ (counts k s.word && is_digit (rule k s) byte)
     → with_cursor (cond b (counted k s) s) i
     ≡ with_cursor (with_own k s (count_after (rule k s) (counts k s.word) byte (own k s))) i
-stepped k s byte i true e =
-    ap (λ b. with_cursor (with_own k s (cond b (one_more (own k s)) (own k s))) i) e
-stepped k s byte i false e =
-    sym (with_own_same k s i)
-    ∙ ap (λ b. with_cursor (with_own k s (cond b (one_more (own k s)) (own k s))) i) e
+stepped k s byte i true e = rw (sym e) refl
+stepped k s byte i false e = rw (sym e) (sym (with_own_same k s i))
 
 -- ---- a read that stays
 
@@ -167,27 +157,21 @@ yields_end k a result here none e = record {
   reads = reads_end k a here none;
 }
 
--- the byte at the cursor, after which so many digits are counted, by so many looks
+-- the byte at the cursor, by so many looks
 module _ (k : Component) (a b : Held) (item : Bor ℕ) (here : IsHere k a)
     (at : slice_get a.state.buffer a.state.cursor ≡ Some item.now)
     (run : b.run ≡ a.run) (seen : ℕ) (looks : b.looks ≡ saturating a.looks seen)
     (few : (1 ≤ seen) × (seen ≤ 4)) where
-  yields_at : b.state ≡ with_cursor
-      (with_own k a.state (count_after (rule k a.state) (counts k a.state.word) item.now
-      (own k a.state))) (a.state.cursor + 1)
-      → b.state.cursor ≡ a.state.cursor + 1 → Yields k a b (Some item)
-  yields_at left cursor = record {
-    takes = takes_some k a.state a.state b.state item a.holds (rw here.place (sym at))
-        (rw here.place refl) left;
-    reads = reads_on k a b seen here run (omega (arith, cursor)) looks few.0 few.1;
-  }
-
-  -- which are one more or as many as before, as it is told
+  -- which is counted or not, as it is told
   yields_by : (t : Bool) → t ≡ (counts k a.state.word && is_digit (rule k a.state) item.now)
       → b.state ≡ with_cursor (cond t (counted k a.state) a.state) (a.state.cursor + 1)
       → Yields k a b (Some item)
-  yields_by t e left = yields_at (left ∙ stepped k a.state item.now (a.state.cursor + 1) t e)
-      (ap (λ (s : State). s.cursor) left)
+  yields_by t e left = record {
+    takes = takes_some k a.state a.state b.state item a.holds (rw here.place (sym at))
+        (rw here.place refl) (left ∙ stepped k a.state item.now (a.state.cursor + 1) t e);
+    reads = let moved = ap (λ (s : State). s.cursor) left in
+        reads_on k a b seen here run (omega (arith, moved)) looks few.0 few.1;
+  }
 
   -- a byte that tells itself, by a tally of this component
   pub yields_told : (r : Tally) → is_told (rule k a.state) item.now ≡ true → r.reader ≡ k
@@ -202,12 +186,16 @@ module _ (k : Component) (a b : Held) (item : Bor ℕ) (here : IsHere k a)
       → b.state ≡ with_cursor a.state (a.state.cursor + 1)
       → Yields k a b (Some item)
   yields_skipped told left =
-      yields_by false (sym (and_right _ _ (or_parts _ (is_digit (rule k a.state) item.now) told).1)) left
+      let other = or_parts _ (is_digit (rule k a.state) item.now) told in
+      yields_by false (sym (and_right _ _ other.1)) left
 
   -- any byte, where no component has a flag, by a tally of any component
   pub yields_unflagged : (r : Tally) → has_no_flags a.state.word ≡ true
       → r.is_counting ≡ counts r.reader a.state.word
       → b.state ≡ with_cursor (passed_by r a.state) (a.state.cursor + 1) → Yields k a b (Some item)
   yields_unflagged r free counting left =
-      let none = λ (q : Component). counts_none q a.state.word (contiguous_all q a.state.word free) in
-      yields_by false (sym (and_left _ _ (none k))) (left ∙ rw (counting, none r.reader) refl)
+      yields_by false (sym (and_left _ _ (counts_none k a.state.word free)))
+      (left ∙ rw (counting, counts_none r.reader a.state.word free) refl)
+
+-- a read arrived at its place, and steps past it or finds none
+pub ruleset steps_past = (takes_none, reads_then)

@@ -1,6 +1,6 @@
 -- What the cursor carries: the state, the looks and the reader of a `Bytes` where its fields
 -- change.
-use Rattle.std.proofs.Common.{◌≡◌, ℕ, ◌+◌, ◌<◌, ◌≤◌, ◌^◌, Bool, true, false, cond, Option, Some, None, List, length, refl, sym, ap, subst, ◌∙◌, arith, ◌≤ℤ◌}
+use Rattle.std.proofs.Common.{rules, ◌≡◌, ℕ, ◌+◌, ◌<◌, ◌≤◌, Bool, true, false, cond, Option, Some, None, List, length, refl, sym, ap, ◌∙◌, arith, ◌≤ℤ◌, unwrap_or}
 use Rattle.std.proofs.lemmas.Bool.{false≢true, lt-ltb}
 use Rattle.lexical_digits.specs.declared.skip.component.Component.{Component}
 use Rattle.lexical_digits.specs.declared.skip.component.Component.TheVariants.{Integer, Fraction, Exponent, Special}
@@ -12,8 +12,7 @@ use Rattle.lexical_digits.specs.declared.skip.bytes.Bytes.TheInside.{Inside}
 use Rattle.lexical_format.specs.Word.{separator}
 use Rattle.lexical_digits.specs.State.{State, IsState, with_cursor, rule_of, counts, own, one_more}
 use Rattle.lexical_digits.specs.CallTable.{counted}
-use Rattle.std.specs.Prelude.{unwrap_or}
-use Rattle.lexical_digits.specs.Looks.{IsRun, IsRunOrNone, run_between, owed_by}
+use Rattle.lexical_digits.specs.Looks.{IsRunOrNone, run_between, owed_by}
 use Rattle.lexical_digits.specs.Laws.Table.{with_own_buffer}
 use Rattle.lexical_digits.specs.Tally.{integer_of, fraction_of, exponent_of, state_of, looks_of, Leaves}
 use Rattle.lexical_digits.specs.Shortcuts.{AreShortcuts, IsInner}
@@ -23,34 +22,13 @@ use Rattle.lexical_digits.proofs.Looks.Owing.{owed_onward}
 -- ---- states that the invariant holds for
 
 pub state_moved : (s : State) (i : ℕ) → IsState s → i ≤ length s.buffer → IsState (with_cursor s i)
-state_moved s i v l = record {
-  buffer = v.buffer;
-  within = l;
-  word = v.word;
-  integer = v.integer;
-  fraction = v.fraction;
-  exponent = v.exponent;
-}
+state_moved s i v l = search rules
 
 pub state_counted : (k : Component) (s : State) → IsState s → IsState (counted k s)
-state_counted k s v = here k
-  where
-    same : (t : State) → t.buffer ≡ s.buffer → t.word ≡ s.word → t.cursor ≡ s.cursor
-        → t.integer < 2 ^ 64 → t.fraction < 2 ^ 64 → t.exponent < 2 ^ 64 → IsState t
-    same t b w c i f e = record {
-      buffer = rw b v.buffer;
-      within = rw (b, c) v.within;
-      word = rw w v.word;
-      integer = i;
-      fraction = f;
-      exponent = e;
-    }
-
-    here : (k : Component) → IsState (counted k s)
-    here Integer = same (counted Integer s) refl refl refl (omega arith) v.fraction v.exponent
-    here Fraction = same (counted Fraction s) refl refl refl v.integer (omega arith) v.exponent
-    here Exponent = same (counted Exponent s) refl refl refl v.integer v.fraction (omega arith)
-    here Special = v
+state_counted Integer s v = search rules
+state_counted Fraction s v = search rules
+state_counted Exponent s v = search rules
+state_counted Special s v = v
 
 pub counted_moved : (k : Component) (s : State) (i : ℕ)
     → counted k (with_cursor s i) ≡ with_cursor (counted k s) i
@@ -81,55 +59,45 @@ module _ (word : ℕ) (t u : Tally) (step : State → State) (i n : ℕ)
     (steps : Leaves t u step i n) where
   pub state_after : (buffer : List ℕ) → IsState (step (state_of buffer word t))
       → IsState (state_of buffer word u)
-  state_after buffer v = subst IsState (sym (steps.state buffer word)) v
+  state_after buffer v = rw (steps.state buffer word) v
 
   pub reading_after : (s : Shortcuts) → IsReading word t.reader t.is_counting s
       → IsReading word u.reader u.is_counting s
-  reading_after s h =
-      subst (λ x. IsReading word x u.is_counting s) (sym steps.reader)
-      (subst (λ x. IsReading word t.reader x s) (sym steps.is_counting) h)
+  reading_after s h = rw (steps.reader, steps.is_counting) h
 
 -- the ghost fields of a `Bytes` whose tally made a step, and what it owes
 module _ (b : Inside) {u : Tally} {step : State → State} {i n : ℕ}
     (steps : Leaves b.tally u step i n) where
   pub carried : IsState (step (state_of b.slc.now b.format b.tally)) → Carries b u
-  carried v = (
-    state_after b.format b.tally u step i n steps b.slc.now v,
-    (
-      b.flags,
-      (reading_after b.format b.tally u step i n steps b.shortcuts b.reading, (b.remembers, tt)),
-    ),
-  )
+  carried v =
+      let reading = reading_after b.format b.tally u step i n steps b.shortcuts b.reading in
+      (rw (steps.state b.slc.now b.format) v, (b.flags, (reading, (b.remembers, tt))))
 
   pub owes_no_more : n ≡ looks_of b.tally → b.tally.index ≤ i
       → owed_by (run_between b.run.from b.run.to) u.index (looks_of u)
       ≤ℤ owed_by (run_between b.run.from b.run.to) b.tally.index (looks_of b.tally)
-  owes_no_more e l =
-      rw (steps.looks, e) (owed_onward (run_between b.run.from b.run.to) (looks_of b.tally) b.tally.index
-      u.index (omega (arith, l, steps.index)))
+  owes_no_more e l = rw (steps.looks, e)
+      (owed_onward (run_between b.run.from b.run.to) (looks_of b.tally) b.tally.index u.index
+      (omega (arith, l, steps.index)))
 
 -- what a component that takes over reads by
 pub reading_of : (k q : Component) (word : ℕ) (t u : Bool) (s : Shortcuts) (rule : Rule)
     → rule ≡ rule_of word k → t ≡ counts k word → AreShortcuts rule s
     → (s.inner < 256 → IsInner rule t s.inner) → q ≡ k → u ≡ t → IsReading word q u s
-reading_of k q word t u s rule same counting told inner e f =
-    subst (λ x. IsReading word x u s) (sym e)
-    (subst (λ x. IsReading word k x s) (sym f) (record {
-      counting = counting;
-      told = subst (λ r. AreShortcuts r s) same told;
-      inner = λ l. subst (λ r. IsInner r t s.inner) same (inner l);
-    }))
+reading_of k q word t u s rule same counting told inner e f = rw (e, f) (record {
+  counting = counting;
+  told = rw (sym same) told;
+  inner = λ l. rw (sym same) (inner l);
+})
 
 -- the run that a decision gives, as the two ends that are remembered
 pub remembered_run : (separator : ℕ) (buffer : List ℕ) (o : Option Run) (r : Run)
     → r ≡ unwrap_or o (record { from = 0; to = 0 }) → IsRunOrNone separator buffer o
     → Remembers separator buffer r × (run_between r.from r.to ≡ o)
 remembered_run separator buffer None r e h =
-    let none : run_between r.from r.to ≡ None = rw e refl in
-    ((λ l. absurd (omega (arith, l, ap (λ (x : Run). x.to) e))), none)
+    ((λ l. absurd (omega (arith, l, ap (λ (x : Run). x.to) e))), rw e refl)
 remembered_run separator buffer (Some run) r e h =
-    let some : run_between r.from r.to ≡ Some run = rw (e, lt-ltb run.from run.to h.some) refl in
-    ((λ l. subst (λ (x : Run). IsRun separator buffer x.from x.to) (sym e) h), some)
+    ((λ l. rw e h), rw (e, lt-ltb run.from run.to h.some) refl)
 
 -- ---- where the cursor is behind the mark, something was counted
 

@@ -1,8 +1,5 @@
 -- A separator that stands alone between a counted digit and a digit, and is passed over in place.
-use Rattle.std.specs.Prelude.{IsTrue, slice_get}
-use Rattle.std.specs.Borrow.{Bor}
-use Rattle.std.specs.Option.{option_map_or}
-use Rattle.std.proofs.Common.{◌≡◌, ℕ, ◌+◌, ◌-◌, ◌<◌, ◌≤◌, ◌^◌, Bool, true, false, min, Some, List, length, refl, sym, ap, subst, ◌∙◌, arith}
+use Rattle.std.proofs.Common.{◌||◌, not, ltb, ◌≡◌, ℕ, ◌+◌, ◌<◌, ◌≤◌, Bool, true, false, Some, List, length, refl, sym, ap, ◌∙◌, arith, IsTrue, slice_get, Bor}
 use Rattle.std.proofs.lemmas.Bool.{and_right, or_from, not_from_true, lt-ltb}
 use Rattle.std.proofs.lemmas.Bool.Decides.{nat_tests}
 use Rattle.std.proofs.lemmas.Option.{slice_get_within}
@@ -13,8 +10,8 @@ use Rattle.lexical_digits.specs.declared.skip.bytes.tally.Tally.{Tally}
 use Rattle.lexical_digits.specs.declared.skip.bytes.shortcuts.Shortcuts.{Shortcuts}
 use Rattle.lexical_digits.specs.Separators.{class, is_digit, is_separator, right_side, place, is_kept, holds_separator, IsSupported}
 use Rattle.lexical_digits.specs.State.{State, with_cursor, rule, rule_of, own, counts, saturating}
-use Rattle.lexical_digits.specs.CallTable.{place_of, counted}
-use Rattle.lexical_digits.specs.Looks.{separator_at, Held, Reads, Settles, Yields}
+use Rattle.lexical_digits.specs.CallTable.{place_of}
+use Rattle.lexical_digits.specs.Looks.{separator_at, Held, Settles, Yields}
 use Rattle.lexical_digits.specs.Tally.{passed_by, state_of}
 use Rattle.lexical_digits.specs.Shortcuts.{is_told, IsInner}
 use Rattle.lexical_digits.specs.Bytes.{IsInnerAt, IsInnerDigit, IsReading}
@@ -33,43 +30,41 @@ use Rattle.lexical_digits.proofs.Calls.NextTakesFirst.{takes_some}
 there : (separator : ℕ) (buffer : List ℕ) (q byte : ℕ) → slice_get buffer q ≡ Some byte
     → separator_at separator buffer q ≡ is_separator separator byte
 unfolding separator_at
-there separator buffer q byte e = ap (λ o. option_map_or (is_separator separator) o false) e
+there separator buffer q byte e = rw e refl
 
-module _ (rule : Rule) (buffer : List ℕ) (supported : IsSupported rule) (q byte digit : ℕ)
-    (at : slice_get buffer q ≡ Some byte) (is : is_separator rule.separator byte ≡ true)
-    (next : slice_get buffer (q + 1) ≡ Some digit) (is_next : is_digit rule digit ≡ true) where
-  pub apart : separator_at rule.separator buffer (q + 1) ≡ false
-  apart = there rule.separator buffer (q + 1) digit next ∙ digit_apart rule digit supported is_next
+-- a lone separator behind counted digits and before a digit is passed over
+place_inner : (rule : Rule) (buffer : List ℕ) (q digit count : ℕ) → IsSupported rule
+    → separator_at rule.separator buffer q ≡ true
+    → separator_at rule.separator buffer (q + 1) ≡ false
+    → slice_get buffer (q + 1) ≡ Some digit → is_digit rule digit ≡ true
+    → rule.internal ≡ true → 0 < count → place rule buffer q count ≡ q + 1
+place_inner rule buffer q digit count supported stands apart next is_next internal some =
+    here rule.consecutive refl
+  where
+    l : q + 1 < length buffer
+    l = slice_get_within buffer (q + 1) digit next
 
-  pub place_inner : (count : ℕ) → rule.internal ≡ true → 0 < count
-      → place rule buffer q count ≡ q + 1
-  place_inner count internal some = here rule.consecutive refl
-    where
-      l : q + 1 < length buffer
-      l = slice_get_within buffer (q + 1) digit next
+    holds : holds_separator rule buffer q ≡ true
+    holds = holds_separator_at rule buffer supported q ∙ stands
 
-      holds : holds_separator rule buffer q ≡ true
-      holds = holds_separator_at rule buffer supported q
-          ∙ there rule.separator buffer q byte at ∙ is
+    stops : holds_separator rule buffer (q + 1) ≡ false
+    stops = holds_separator_at rule buffer supported (q + 1) ∙ apart
 
-      stops : holds_separator rule buffer (q + 1) ≡ false
-      stops = holds_separator_at rule buffer supported (q + 1) ∙ apart
+    all : (i : ℕ) → q ≤ i → i < q + 1 → holds_separator rule buffer i ≡ true
+    all i low high = let same : i ≡ q = omega arith in rw same holds
 
-      all : (i : ℕ) → q ≤ i → i < q + 1 → holds_separator rule buffer i ≡ true
-      all i low high = let same : i ≡ q = omega arith in rw same holds
+    gone : class rule (slice_get buffer (q + 1)) ≡ right_side rule buffer q
+        → is_kept rule buffer q count q ≡ false
+    gone right =
+        kept_by_sides rule buffer supported q count true (sym (lt-ltb 0 count some)) holds
+        ∙ rw (sym right, next, is_next, internal) refl
 
-      gone : class rule (slice_get buffer (q + 1)) ≡ right_side rule buffer q
-          → is_kept rule buffer q count q ≡ false
-      gone right =
-          kept_by_sides rule buffer supported q count true (sym (lt-ltb 0 count some)) holds
-          ∙ rw (sym right, next, is_next, internal) refl
-
-      here : (b : Bool) → rule.consecutive ≡ b → place rule buffer q count ≡ q + 1
-      here true e = place_run rule buffer e 1 q (q + 1) count refl all stops (omega (arith, l))
-          (gone (right_many rule buffer supported e q (q + 1) holds (omega arith) all stops
-          (omega (arith, l))))
-      here false e = place_next rule buffer e q count (omega (arith, l))
-          (gone (right_one rule buffer supported e q))
+    here : (b : Bool) → rule.consecutive ≡ b → place rule buffer q count ≡ q + 1
+    here true e = place_run rule buffer e 1 q (q + 1) count refl all stops (omega (arith, l))
+        (gone (right_many rule buffer supported e q (q + 1) holds (omega arith) all stops
+        (omega (arith, l))))
+    here false e = place_next rule buffer e q count (omega (arith, l))
+        (gone (right_one rule buffer supported e q))
 
 -- ---- while a component reads
 
@@ -78,47 +73,43 @@ pub record PassesOver (k : Component) (s : State) (digit : ℕ) : Type 0 where
   pub place : place_of k s ≡ s.cursor + 1
   pub next : slice_get s.buffer (s.cursor + 1) ≡ Some digit
   pub told : is_told (rule k s) digit ≡ true
-  pub apart : separator_at (separator s.word) s.buffer (s.cursor + 1) ≡ false
-  pub counted : 0 < own k s
+  pub free : (separator_at (separator s.word) s.buffer (s.cursor + 1) || not (ltb 0 (own k s)))
+      ≡ false
 
 module _ (k : Component) (buffer : List ℕ) (word : ℕ) (t : Tally) (s : Shortcuts) (byte : ℕ)
     (reading : IsReading word t.reader t.is_counting s) (reader : t.reader ≡ k)
     (fits : byte < 256) where
-  counting : t.is_counting ≡ counts k word
-  counting = reader_counts word t.reader k t.is_counting s reading reader
-
   -- such a separator stands behind a digit that was counted
   pub counted_before : IsInnerAt t s byte → 0 < own k (state_of buffer word t)
   counted_before is =
-      counted_since buffer word t k reader counting
+      counted_since buffer word t k reader
+      (reader_counts word t.reader k t.is_counting s reading reader)
       (reading.inner (omega (arith, is.inner, fits))).counting is.since
 
   pub passes_over : (digit : ℕ) → IsTrue (is_supported word) → slice_get buffer t.index ≡ Some byte
       → IsInnerDigit buffer t s byte digit → PassesOver k (state_of buffer word t) digit
   unfolding place_of
   passes_over digit supported at is = record {
-    place = place_inner r buffer rule_supported t.index byte digit at separates is.behind is_next
-        (own k (state_of buffer word t)) inner.internal (counted_before is.here);
+    place = place_inner (rule_of word k) buffer t.index digit (own k (state_of buffer word t))
+        rule_supported stands apart is.behind is_next inner.internal counted;
     next = is.behind;
     told = told;
-    apart = ap (λ x. separator_at x buffer (t.index + 1)) (sym (separator_of k word))
-        ∙ apart r buffer rule_supported t.index byte digit at separates is.behind is_next;
-    counted = counted_before is.here;
+    free = or_from _ _ (rw (sym (separator_of k word)) apart)
+        (not_from_true _ (lt-ltb 0 (own k (state_of buffer word t)) counted));
   }
     where
-      r : Rule
-      r = rule_of word k
-
       rule_supported : IsSupported (rule_of word k)
       rule_supported = supported_rule word k supported
 
-      inner : IsInner (rule_of word k) t.is_counting s.inner
-      inner = subst (λ q. IsInner (rule_of word q) t.is_counting s.inner) reader
-          (reading.inner (omega (arith, is.here.inner, fits)))
+      counted : 0 < own k (state_of buffer word t)
+      counted = counted_before is.here
 
-      separates : is_separator (rule_of word k).separator byte ≡ true
-      separates = subst (λ x. is_separator (rule_of word k).separator x ≡ true) is.here.inner
-          inner.separates
+      inner : IsInner (rule_of word k) t.is_counting s.inner
+      inner = rw reader at (reading.inner (omega (arith, is.here.inner, fits)))
+
+      stands : separator_at (rule_of word k).separator buffer t.index ≡ true
+      stands = there (rule_of word k).separator buffer t.index byte at
+          ∙ (rw is.here.inner at inner.separates)
 
       told : is_told (rule_of word k) digit ≡ true
       told = reader_tells word t.reader k t.is_counting s digit true supported reading reader
@@ -127,28 +118,21 @@ module _ (k : Component) (buffer : List ℕ) (word : ℕ) (t : Tally) (s : Short
       is_next : is_digit (rule_of word k) digit ≡ true
       is_next = rw inner.internal at told
 
--- ---- what it costs
-
-reads_over : (k : Component) (a b : Held)
-    → separator_at (separator a.state.word) a.state.buffer (a.state.cursor + 1) ≡ false
-    → 0 < own k a.state → b.run ≡ a.run → a.state.cursor ≤ b.state.cursor
-    → min (a.looks + 1) (2 ^ 64 - 1) ≤ b.looks → b.looks ≤ a.looks + 4 → Reads k a b
-reads_over k a b apart counted run l least most =
-    reads_unscanned k a b run l (grind (arith, nat_tests)) most
-    (and_right _ _ (or_from _ _ apart (not_from_true _ (lt-ltb 0 (own k a.state) counted))))
+      apart : separator_at (rule_of word k).separator buffer (t.index + 1) ≡ false
+      apart = there (rule_of word k).separator buffer (t.index + 1) digit is.behind
+          ∙ digit_apart (rule_of word k) digit rule_supported is_next
 
 -- ---- what it answers
 
 pub peeks_over : (k : Component) (a b : Held) (digit : ℕ) → PassesOver k a.state digit
     → b.state ≡ with_cursor a.state (a.state.cursor + 1) → b.run ≡ a.run
-    → b.looks ≡ saturating a.looks 2
-    → Settles k a b (Some digit)
+    → b.looks ≡ saturating a.looks 2 → Settles k a b (Some digit)
 peeks_over k a b digit over state run looks = record {
   byte = rw over.place (sym over.next);
   settles = rw over.place state;
   reads = let at = ap (λ (s : State). s.cursor) state in
-      reads_over k a b over.apart over.counted run (omega (arith, at)) (omega (arith, looks))
-      (omega (arith, looks));
+      reads_unscanned k a b run (omega (arith, at)) (grind (arith, nat_tests))
+      (omega (arith, looks)) (and_right _ _ over.free);
 }
 
 -- the separator is passed, which leaves m and the tally r; and then the digit
@@ -164,8 +148,8 @@ yields_over k a b m r item over moved index reader counting left run looks = rec
       (left ∙ rw (moved, index, reader, counting) refl
       ∙ stepped k n item.now (n.cursor + 1) (counts k n.word) (told_counts k n item.now over.told));
   reads = let at = ap (λ (s : State). s.cursor) left in
-      reads_over k a b over.apart over.counted run (omega (arith, at, index)) (omega (arith, looks))
-      (omega (arith, looks));
+      reads_unscanned k a b run (omega (arith, at, index)) (grind (arith, nat_tests))
+      (omega (arith, looks)) (and_right _ _ over.free);
 }
   where
     n : State

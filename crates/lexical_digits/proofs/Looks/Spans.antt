@@ -1,20 +1,15 @@
 -- What a separator is judged by.
-use Rattle.std.proofs.Common.{subst, ◌≡◌, ℕ, ◌+◌, ◌-◌, ◌<◌, ◌≤◌, Bool, true, false, ltb, Option, Some, List, length, sym, ap, ◌∙◌, arith}
-use Rattle.std.specs.List.{slice_get, list_any}
+use Rattle.std.proofs.Common.{◌≡◌, ℕ, ◌+◌, ◌-◌, ◌<◌, ◌≤◌, Bool, true, false, ltb, List, length, sym, ◌∙◌, arith, slice_get}
+use Rattle.std.specs.List.{list_any}
 use Rattle.lexical_digits.specs.declared.skip.rule.Rule.{Rule}
-use Rattle.lexical_digits.specs.declared.skip.decision.Run.{Run}
 use Rattle.lexical_digits.specs.declared.skip.rule.Class.{Class}
-use Rattle.lexical_digits.specs.Separators.{class, holds_separator, left_side, right_side, roles, grants, place, IsSupported}
-use Rattle.lexical_digits.specs.Looks.{separator_at, IsRun, IsRunOrNone, IsSpan}
+use Rattle.lexical_digits.specs.Separators.{class, holds_separator, left_side, roles, grants, place, IsSupported}
+use Rattle.lexical_digits.specs.Looks.{separator_at, IsRun, IsSpan}
 use Rattle.lexical_digits.specs.Laws.Kept.{place_kept, separator_within}
 use Rattle.lexical_digits.proofs.Rule.Runs.{place_next, place_run}
 use Rattle.lexical_digits.proofs.Rule.Sides.{left_one, right_one, left_many, right_many, kept_by_sides}
 use Rattle.lexical_digits.proofs.Looks.WhereSeparatorsStand.{holds_separator_at}
 use Rattle.std.proofs.lemmas.Bool.{not_from_true, not_from_false}
-
-pub known_run : (separator : ℕ) (buffer : List ℕ) (o : Option Run) (run : Run) → o ≡ Some run
-    → IsRunOrNone separator buffer o → IsRun separator buffer run.from run.to
-known_run separator buffer o run e h = subst (IsRunOrNone separator buffer) e h
 
 module _ (rule : Rule) (buffer : List ℕ) (supported : IsSupported rule) where
   -- a separator under a rule that judges each alone
@@ -53,24 +48,19 @@ module _ (rule : Rule) (buffer : List ℕ) (supported : IsSupported rule) where
     here : holds_separator rule buffer q ≡ true
     here = holds_separator_at rule buffer supported q ∙ is
 
-    by_sides : list_any (grants rule)
-        (roles (left_side rule buffer counted q) (right_side rule buffer q))
-        ≡ list_any (grants rule) (roles left (class rule (slice_get buffer to)))
-    by_sides =
-        ap (λ r. list_any (grants rule) (roles (left_side rule buffer counted q) r))
-        (sym span.right)
-        ∙ ap (λ l. list_any (grants rule) (roles l (class rule (slice_get buffer to))))
-        (sym at_left)
-
     pub place_dropped_by : list_any (grants rule) (roles left (class rule (slice_get buffer to)))
         ≡ true → place rule buffer q count ≡ to
     place_dropped_by some =
         span.reach count (kept_by_sides rule buffer supported q count counted above here
-        ∙ not_from_true _ (by_sides ∙ some))
+        ∙ rw (sym at_left, sym span.right) (not_from_true _ some))
 
     pub place_kept_by : list_any (grants rule) (roles left (class rule (slice_get buffer to)))
         ≡ false → place rule buffer q count ≡ q
     place_kept_by none =
         place_kept rule buffer q count (separator_within rule buffer q here)
         (kept_by_sides rule buffer supported q count counted above here
-        ∙ not_from_false _ (by_sides ∙ none))
+        ∙ rw (sym at_left, sym span.right) (not_from_false _ none))
+
+pub ruleset spans = (span_alone, span_of_run)
+
+pub ruleset places = (place_dropped_by, place_kept_by)

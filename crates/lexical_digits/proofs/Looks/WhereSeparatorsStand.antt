@@ -1,7 +1,5 @@
 -- Where a separator stands, by its byte alone.
-use Rattle.std.proofs.Common.{◌≡◌, ℕ, ◌<◌, ◌≤◌, ◌⊎◌, inl, inr, sym, true, false, Option, Some, None, List, length, get_or, refl, ap, ◌∙◌}
-use Rattle.std.proofs.lemmas.Bool.{cases_lt, false≢true}
-use Rattle.std.specs.List.{slice_get}
+use Rattle.std.proofs.Common.{◌≡◌, ℕ, ◌<◌, ◌≤◌, false, Option, Some, None, List, length, get_or, refl, ◌∙◌, slice_get}
 use Rattle.std.specs.Option.{option_map_or}
 use Rattle.std.proofs.lemmas.Option.{slice_get-get_or, slice_get_past}
 use Rattle.lexical_digits.specs.declared.skip.rule.Rule.{Rule}
@@ -14,20 +12,11 @@ module _ (separator : ℕ) (buffer : List ℕ) where
   pub separator_byte_at : (k : ℕ) → k < length buffer
       → separator_at separator buffer k ≡ is_separator separator (get_or buffer k 0)
   unfolding separator_at
-  separator_byte_at k l =
-      ap (λ o. option_map_or (is_separator separator) o false) (slice_get-get_or buffer k 0 l)
+  separator_byte_at k l = rw (slice_get-get_or buffer k 0 l) refl
 
   pub separator_at_past : (k : ℕ) → length buffer ≤ k → separator_at separator buffer k ≡ false
   unfolding separator_at
-  separator_at_past k l =
-      ap (λ o. option_map_or (is_separator separator) o false) (slice_get_past buffer k l)
-
-  pub stands_within : (k : ℕ) → separator_at separator buffer k ≡ true → k < length buffer
-  stands_within k e = here (cases_lt k (length buffer))
-    where
-      here : (k < length buffer) ⊎ (length buffer ≤ k) → k < length buffer
-      here (inl l) = l
-      here (inr l) = absurd (false≢true (sym (separator_at_past k l) ∙ e))
+  separator_at_past k l = rw (slice_get_past buffer k l) refl
 
 module _ (rule : Rule) (buffer : List ℕ) (supported : IsSupported rule) where
   -- the class of a position tells the same
@@ -46,3 +35,7 @@ module _ (rule : Rule) (buffer : List ℕ) (supported : IsSupported rule) where
       → q ≤ length buffer → place rule buffer q count ≡ q
   place_at_other q count other l =
       place_after_run rule buffer q count (holds_separator_at q ∙ other) l
+
+pub ruleset separators = (separator_byte_at, separator_at_past)
+
+pub ruleset separators_and_others = (separators, place_at_other)

@@ -50,8 +50,7 @@ pub digits_of_drain : (rule : Rule) (buffer : List ℕ) (s c : ℕ)
     → filter (is_digit rule) (drain rule buffer s c) ≡ filter (is_digit rule) (drop s buffer)
 unfolding drain kept_positions
 digits_of_drain rule buffer s c =
-    filter_of_filter _ (is_digit rule) (λ k. get_or buffer k 0) (kept_at_digit rule buffer s c) _
-    ∙ ap (filter (is_digit rule)) (reads_positions buffer s)
+    grind (arith, gets, filter_of_filter, kept_at_digit, reads_positions)
 
 pub digit_same : (one other : Rule) → one.radix ≡ other.radix → is_digit one ≡ is_digit other
 unfolding is_digit

@@ -92,9 +92,7 @@ module _ (rule : Rule) (buffer : List ℕ) where
       → holds_separator rule buffer (s + 1) ≡ true
       → is_kept rule buffer (s + 1) c (s + 1) ≡ is_kept rule buffer s c s
   unfolding is_kept is_dropped
-  kept_in_run many s c h k =
-      rw (seen_none rule buffer s c, seen_none rule buffer (s + 1) c)
-      (rw (h, k, left_in_run many s h, right_in_run many (s + 1) k))
+  kept_in_run many s c h k = grind (arith, gets, seen_none, left_in_run, right_in_run)
 
   -- the run from s to e goes as its first separator goes
   pub place_run : rule.consecutive ≡ true → (d s e c : ℕ) → s + d ≡ e → Separators s e

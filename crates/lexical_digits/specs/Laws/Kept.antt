@@ -91,16 +91,13 @@ module _ (rule : Rule) (buffer : List ℕ) where
       ≡ s ∷ kept_positions rule buffer (s + 1) (count_after rule counts (get_or buffer s 0) c)
   unfolding kept_positions
   positions_kept counts w s c l h =
-      rw (range_first s (length buffer) l, h)
-      (ap (λ ks. s ∷ ks) (filter_same_from _ _ (s + 1) _
-      (λ k m. kept_behind_kept counts w s c k l (omega arith))))
+      grind (arith, gets, range_first, filter_same_from, kept_behind_kept)
 
   pub positions_dropped : (s c : ℕ) → s < length buffer → is_kept rule buffer s c s ≡ false
       → kept_positions rule buffer s c ≡ kept_positions rule buffer (s + 1) c
   unfolding kept_positions
   positions_dropped s c l h =
-      rw (range_first s (length buffer) l, h)
-      (filter_same_from _ _ (s + 1) _ (λ k m. kept_behind_dropped s c k h l (omega arith)))
+      grind (arith, gets, range_first, filter_same_from, kept_behind_dropped)
 
   pub positions_end : (s c : ℕ) → length buffer ≤ s → kept_positions rule buffer s c ≡ []
   unfolding kept_positions

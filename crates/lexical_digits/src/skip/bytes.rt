@@ -1,6 +1,6 @@
 //! What a `Bytes` is, and what it says of its word and its counts. How it reads is in `reading`.
 
-ghost use Rattle.std.specs.Prelude.{◌≡◌, ◌&&◌, not, ℕ, ◌+◌, ◌*◌, ◌<◌, ◌≤◌, length, List, Some, None, IsTrue, pos, ◌≤ℤ◌, ◌+ℤ◌};
+ghost use Rattle.std.specs.Prelude.{◌≡◌, ◌&&◌, not, ℕ, ◌+◌, ◌*◌, ◌<◌, ◌≤◌, length, List, None, IsTrue, pos, ◌≤ℤ◌, ◌+ℤ◌};
 ghost use Rattle.lexical_format.specs.Word.{separator, is_supported};
 ghost use Rattle.lexical_digits.specs.Separators.{is_digit, is_separator, has_flags, IsSupported};
 ghost use Rattle.lexical_digits.specs.State.{IsState, with_cursor, start, rule, own, is_special, counts, is_contiguous, has_no_separator, count_of_all, current_count, cut, cut_end};
@@ -227,7 +227,7 @@ impl<'a> Bytes<'a> {
     }
 
     /// Moves the cursor anywhere in the buffer.
-    #[tactic(auto, using(crate::proofs::Looks::Owing::owed_onward, crate::proofs::Looks::Owing::owed_back))]
+    #[tactic(auto, using(crate::proofs::Looks::Owing::owed_by_moves))]
     #[inline(always)]
     pub(crate) fn move_to(&mut self, index: usize)
         requires { index ≤ length self.old.state.buffer }

@@ -42,7 +42,7 @@ pub struct Sight {
 /// Asks that `at` is at most the length, that the rule's radix is 2 to 36 and its separator no
 /// digit of it, and that `run` is `None` or a maximal run of this source. lexical-util has no such
 /// call.
-#[tactic(auto, using(crate::proofs::Looks::WhereSeparatorsStand::separator_byte_at, crate::proofs::Looks::WhereSeparatorsStand::separator_at_past, crate::proofs::Looks::WhereSeparatorsStand::place_at_other))]
+#[tactic(auto, using(crate::proofs::Looks::WhereSeparatorsStand::separators_and_others))]
 pub fn decide<S: ByteSource>(
     src: &mut S,
     rule: Rule,
@@ -88,7 +88,7 @@ pub fn decide<S: ByteSource>(
 
 /// What is judged as one at a separator: under a consecutive rule the run that holds it, remembered
 /// or scanned, and else the separator alone.
-#[tactic(auto, using(crate::proofs::Looks::Spans::span_alone, crate::proofs::Looks::Spans::span_of_run))]
+#[tactic(auto, using(crate::proofs::Looks::Spans::spans))]
 fn span_at<S: ByteSource>(src: &mut S, rule: Rule, at: usize, run: Option<Run>) -> Run
     requires supported { IsSupported rule }
     requires within { at < length (S.content src.old) }
@@ -124,7 +124,7 @@ fn span_at<S: ByteSource>(src: &mut S, rule: Rule, at: usize, run: Option<Run>) 
 }
 
 /// The place from a separator on, by what stands on both sides of the span that is judged as one.
-#[tactic(auto, using(crate::proofs::Looks::Spans::place_dropped_by, crate::proofs::Looks::Spans::place_kept_by))]
+#[tactic(auto, using(crate::proofs::Looks::Spans::places))]
 #[inline(always)]
 pub(super) fn judge<S: ByteSource>(
     src: &mut S,
@@ -228,7 +228,7 @@ fn run_start<S: ByteSource>(src: &mut S, rule: Rule, to: usize) -> usize
 }
 
 /// Where the separators end that stand from a position on.
-#[tactic(auto, using(crate::proofs::Looks::WhereSeparatorsStand::separator_byte_at, crate::proofs::Looks::WhereSeparatorsStand::separator_at_past))]
+#[tactic(auto, using(crate::proofs::Looks::WhereSeparatorsStand::separators))]
 fn run_end<S: ByteSource>(src: &mut S, rule: Rule, from: usize) -> usize
     requires { from ≤ length (S.content src.old) }
     ensures low { from ≤ result }

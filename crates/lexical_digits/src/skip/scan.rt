@@ -1,8 +1,8 @@
 //! A run of separators, looked for in a slice at once: its looks are added up where it ends. The
 //! decision, which knows no slice, looks for one byte by byte.
 
-ghost use Rattle.std.specs.Prelude.{◌≡◌, ℕ, ◌+◌, ◌-◌, ◌<◌, ◌≤◌, length, true, false};
-ghost use Rattle.lexical_digits.specs.Looks.{separator_at, scans, run_holds, run_length, IsRun, IsRunOrNone, IsLooked};
+ghost use Rattle.std.specs.Prelude.{◌≡◌, ℕ, ◌+◌, ◌<◌, ◌≤◌, length, true, false};
+ghost use Rattle.lexical_digits.specs.Looks.{separator_at, scans, run_holds, run_length, IsRunOrNone, IsLooked};
 
 use super::decision::Run;
 use super::rule::{Rule, is_separator};
@@ -40,8 +40,8 @@ pub(super) fn known_run(slc: &[u8], rule: Rule, at: usize, run: Option<Run>) -> 
     scan(slc, rule.separator, at)
 }
 
-/// Whether a position holds the separator.
-#[tactic(auto, using(crate::proofs::Looks::WhereSeparatorsStand::separator_byte_at, crate::proofs::Looks::WhereSeparatorsStand::separator_at_past))]
+/// Whether a position holds the separator. The decision counts the look at it.
+#[tactic(auto, using(crate::proofs::Looks::WhereSeparatorsStand::separators))]
 fn holds_separator(slc: &[u8], separator: u8, at: usize) -> bool
     ensures { result ≡ separator_at separator slc.now at }
 {
@@ -49,7 +49,7 @@ fn holds_separator(slc: &[u8], separator: u8, at: usize) -> bool
 }
 
 /// The run of the separator at a position, by a scan to both sides.
-#[tactic(auto, using(crate::proofs::Looks::WhereSeparatorsStand::stands_within))]
+#[tactic(auto, using(crate::proofs::Looks::WhereSeparatorsStand::separator_at_past))]
 fn scan(slc: &[u8], separator: u8, at: usize) -> Known
     requires { separator_at separator slc.now at ≡ true }
     ensures run { IsRunOrNone separator slc.now result.run }
@@ -84,7 +84,7 @@ fn run_start(slc: &[u8], separator: u8, to: usize) -> usize
 }
 
 /// Where the separators end that stand from a position on.
-#[tactic(auto, using(crate::proofs::Looks::WhereSeparatorsStand::separator_byte_at, crate::proofs::Looks::WhereSeparatorsStand::separator_at_past))]
+#[tactic(auto, using(crate::proofs::Looks::WhereSeparatorsStand::separators))]
 fn run_end(slc: &[u8], separator: u8, from: usize) -> usize
     requires { from ≤ length slc.now }
     ensures low { from ≤ result }

@@ -372,7 +372,7 @@ impl<'a> Bytes<'a> {
     }
 
     /// The byte at a place that was found, which is passed and, if it is a digit, counted.
-    #[tactic(auto, using(crate::proofs::Calls::NextTakesFirst::takes_none, crate::proofs::Looks::Owing::reads_then))]
+    #[tactic(auto, using(crate::proofs::Fields::AtTheCursor::steps_past))]
     #[inline(always)]
     fn take_at(&mut self, component: Component, rule: Rule, found: Found) -> Option<&'a u8>
         requires rule { rule ≡ rule_of self.old.state.word component }

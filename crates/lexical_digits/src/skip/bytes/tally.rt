@@ -34,7 +34,7 @@ pub(super) struct Tally {
     ghost started: { start ≤ index },
 }
 
-#[tactic(auto, unfolding(crate::specs::Tally::integer_of, crate::specs::Tally::fraction_of, crate::specs::Tally::exponent_of, crate::specs::Tally::looks_of))]
+#[tactic(auto, unfolding(crate::specs::Tally::all_of))]
 impl Tally {
     ghost use Rattle.lexical_digits.specs.State.{saturating};
     ghost use Rattle.lexical_digits.specs.Tally.{count_since, integer_of, fraction_of, exponent_of, state_of, looks_of, passed_by, Leaves};

@@ -9,7 +9,7 @@ use std::process::Abort;
 const WORD: u128 = (10 << 104) | (0x5f << 64) | INTEGER_INTERNAL_DIGIT_SEPARATOR;
 
 /// The start of a text, with a full count of the integer, and this count of the fraction.
-#[tactic(auto, unfolding(crate::specs::Tally::integer_of, crate::specs::Tally::fraction_of, crate::specs::Tally::exponent_of))]
+#[tactic(auto, unfolding(crate::specs::Tally::all_of))]
 fn full<'a>(rt: &impl Abort, text: &'a [u8], fraction: usize) -> Bytes<'a> {
     assert!(rt; is_supported(WORD));
     let mut bytes = Bytes::new(text, WORD);

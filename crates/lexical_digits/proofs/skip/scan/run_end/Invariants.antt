@@ -3,7 +3,4 @@ use Rattle.lexical_digits.specs.Looks.{separator_at}
 use Rattle.lexical_digits.proofs.skip.scan.run_end.Given as goal
 
 abbrev pub invariant-loop-i : goal.invariant-loop-i
-invariant-loop-i l =
-    record {
-      run : (k : ℕ) → l.from ≤ k → k < l.i → separator_at l.separator l.slc k ≡ true;
-    }
+invariant-loop-i l = (k : ℕ) → l.from ≤ k → k < l.i → separator_at l.separator l.slc k ≡ true

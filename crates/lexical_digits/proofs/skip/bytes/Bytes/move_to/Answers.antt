@@ -1,6 +1,5 @@
-use Rattle.std.proofs.Common.{refl, sym, subst, length, ◌≤◌}
+use Rattle.std.proofs.Common.{refl, sym}
 use Rattle.lexical_format.specs.Word.{separator}
-use Rattle.lexical_digits.specs.Looks.{Held}
 use Rattle.lexical_digits.specs.Tally.{looks_of}
 use Rattle.lexical_digits.proofs.Looks.Owing.{owed_back}
 use Rattle.lexical_digits.proofs.Fields.CarriedByCursor.{state_moved, carried, owes_no_more}
@@ -9,8 +8,7 @@ use Rattle.lexical_digits.proofs.skip.bytes.Bytes.move_to.Goals as goal
 pub invariant_of-self-inside : goal.invariant_of-self-inside
 invariant_of-self-inside c =
     let b = c.self.inside in
-    let within = subst (λ (h : Held). c.args.index ≤ length h.state.buffer) (sym c.self.view_is)
-    c.requires in
+    let within = rw (sym c.self.view_is) at c.requires in
     carried b c.move_to.ensures (state_moved _ c.args.index b.holds within)
 
 pub returns-clause-state : goal.returns-clause-state
@@ -19,7 +17,7 @@ returns-clause-state c =
 
 pub returns-clause-owes : goal.returns-clause-owes
 returns-clause-owes c =
-    rw (sym c.self.view_is) (λ l. owes_no_more c.self.inside c.move_to.ensures refl l)
+    rw (sym c.self.view_is) (owes_no_more c.self.inside c.move_to.ensures refl)
 
 pub returns-clause-owes_back : goal.returns-clause-owes_back
 returns-clause-owes_back c =

@@ -1,14 +1,12 @@
-use Rattle.std.proofs.Common.{rules, ap, ◌∙◌}
-use Rattle.lexical_digits.specs.CallTable.{counted}
-use Rattle.lexical_digits.specs.Tally.{state_of}
+use Rattle.std.proofs.Common.{rules}
 use Rattle.lexical_digits.proofs.Fields.CarriedByCursor.{counted_moved}
 use Rattle.lexical_digits.proofs.skip.bytes.tally.Tally.step.Goals as goal
 
 pub returns-then-is_counted : goal.returns-then-is_counted
 returns-then-is_counted c = rw c.if-is_counted.true (record {
-  state = λ buffer word. (c.raise.ensures.state buffer word
-      ∙ ap (counted c.args.component) (c.go_on.ensures.state buffer word)
-      ∙ counted_moved c.args.component (state_of buffer word c.args.self.now) _);
+  state = λ buffer word.
+      rw (c.raise.ensures.state buffer word, c.go_on.ensures.state buffer word)
+      (counted_moved c.args.component _ _);
   index = search rules;
   looks = search rules;
   reader = search rules;
