@@ -1,12 +1,11 @@
 -- A field is read as a value exactly if it is what the value is spelled as.
-use Rattle.std.proofs.Common.{◌≡◌, ◌≢◌, ◌⊎◌, ℕ, ◌+◌, ◌<◌, ◌≤◌, ◌==◌, ◌&&◌, Bool, true, false, cond, List, [], ◌∷◌, ◌++◌, length, get_or, All, Option, Some, None, refl, sym, ◌∙◌, ap, subst, arith, lt-ltb}
+use Rattle.std.proofs.Common.{◌≡◌, ◌≢◌, ℕ, ◌+◌, ◌<◌, ◌≤◌, ◌==◌, ◌&&◌, Bool, true, false, cond, List, [], ◌∷◌, length, get_or, All, Option, Some, None, refl, sym, ◌∙◌, ap, subst, arith, lt-ltb}
 use mathlib.Core.Logic.{inl, inr}
 use Rattle.std.specs.Prelude.{nat_eq, nat_le, nat_lt, codes, bytes_eq, if◌then◌else◌}
 use Rattle.std.specs.List.{list_all, IsDistinct, AllByRecursion}
 use Rattle.std.specs.Char.{digit_value}
-use Rattle.std.specs.Str.{byte}
 use Rattle.std.specs.Str.Parse.{AllDigits, digits_value}
-use Rattle.std.proofs.lemmas.Bool.{ltb-true, ltb-false}
+use Rattle.std.proofs.lemmas.Bool.{ltb-true}
 use Rattle.std.proofs.lemmas.Bool.Decides.{nat_tests}
 use Rattle.std.proofs.lemmas.Slice.Eq.{bytes_eq-Decides}
 use Rattle.std.proofs.lemmas.List.Elements.{All-head, All-tail, All-cons, All-nil}
@@ -17,7 +16,7 @@ use Rattle.lexical_digits.specs.declared.skip.component.Component.{Component}
 use Rattle.lexical_digits.specs.declared.skip.component.Component.TheVariants.{Integer, Fraction, Exponent, Special}
 use Rattle.digit_drain.specs.declared.line.Radix.{Radix}
 use Rattle.digit_drain.specs.declared.line.Flags.{Flags}
-use Rattle.digit_drain.specs.Line.{◌>>=◌, cut, name_of, component_of, IsDecimal, IsHexadecimal, AreRadixes, IsRadix, IsFlagLetter, stands, AreNumberFlags, AreLetters, AreFlags, no_flags, number_of, decimal_of, hexadecimal_of, radix_of_parts, radix_of, times, are_number_flags, number_flags_of, letters_of, flags_of}
+use Rattle.digit_drain.specs.Line.{◌>>=◌, cut, name_of, component_of, IsDecimal, IsHexadecimal, IsRadix, IsFlagLetter, stands, AreNumberFlags, AreLetters, AreFlags, no_flags, number_of, decimal_of, hexadecimal_of, radix_of_parts, radix_of, times, are_number_flags, number_flags_of, letters_of, flags_of}
 use Rattle.digit_drain.proofs.Cuts.{cut_splits, cut_joined, cut_of_none}
 
 -- ---- tests

@@ -1,5 +1,5 @@
 -- A line is read as a request exactly if it is spelled as one.
-use Rattle.std.proofs.Common.{◌≡◌, ℕ, List, ◌∷◌, ◌++◌, refl, ap, ◌∙◌, subst, Some}
+use Rattle.std.proofs.Common.{◌≡◌, ℕ, List, refl, ap, ◌∙◌, subst, Some}
 use Rattle.std.proofs.lemmas.Option.{same_Some}
 use Rattle.digit_drain.specs.Line.{cut, component_of, radix_of, hexadecimal_of, flags_of, Asked, Spells, with_space, request_of}
 use Rattle.digit_drain.proofs.Cuts.{cut_splits, cut_joined}

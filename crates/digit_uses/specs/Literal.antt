@@ -1,5 +1,5 @@
 -- Rust's integer literals.
-use Rattle.std.specs.Prelude.{ℕ, Bool, true, false, ◌&&◌, ◌==◌, if◌then◌else◌, nat_le, List, length, slice_index}
+use Rattle.std.specs.Prelude.{ℕ, Bool, true, ◌&&◌, ◌==◌, if◌then◌else◌, nat_le, List, length, slice_index}
 use Rattle.lexical_digits.specs.declared.skip.rule.Rule.{Rule}
 use Rattle.digit_uses.specs.declared.literal.Base.{Base}
 use Rattle.digit_uses.specs.declared.literal.Base.TheVariants.{Binary, Octal, Decimal, Hexadecimal}

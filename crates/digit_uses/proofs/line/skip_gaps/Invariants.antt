@@ -1,4 +1,3 @@
-use Rattle.std.proofs.Common.{◌≡◌}
 use Rattle.digit_uses.specs.Line.{AreGaps}
 use Rattle.digit_uses.proofs.line.skip_gaps.Given as goal
 
