@@ -171,9 +171,6 @@ radix_to field radix (inr r) =
 same_bytes : (xs ys : List ℕ) → bytes_eq xs ys ≡ true → xs ≡ ys
 same_bytes xs ys e = (bytes_eq-Decides xs ys).0 e
 
-bytes_same : (xs : List ℕ) → bytes_eq xs xs ≡ true
-bytes_same xs = (bytes_eq-Decides xs xs).1 refl
-
 -- which of two arms a test took
 by_arms : {A P : Type 0} (b : Bool) (x y : A) (o : Option A) → (if b then Some x else o) ≡ Some y →
     (b ≡ true → x ≡ y → P) → (o ≡ Some y → P) → P

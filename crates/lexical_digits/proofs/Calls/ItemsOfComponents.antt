@@ -1,8 +1,7 @@
 -- What reads one after another come to on the iterator of a component: the items are the drain, and
 -- the zeros are its zeros.
-use Rattle.std.proofs.Common.{◌≡◌, ℕ, ◌+◌, ◌<◌, ◌^◌, Bool, true, false, cond, not, eqb, List, length, get_or, refl, sym, ◌∙◌, arith, inl}
+use Rattle.std.proofs.Common.{◌≡◌, ℕ, ◌+◌, ◌<◌, ◌^◌, Bool, true, false, cond, not, eqb, length, get_or, refl, sym, ◌∙◌, arith, inl}
 use Rattle.std.proofs.lemmas.Option.{gets, slice_get-get_or, slice_get_past}
-use Rattle.lexical_digits.specs.declared.skip.rule.Rule.{Rule}
 use Rattle.lexical_digits.specs.declared.skip.component.Component.{Component}
 use Rattle.lexical_digits.specs.declared.skip.component.Component.TheVariants.{Special}
 use Rattle.lexical_digits.specs.State.{State, IsState, with_cursor, rule, own, with_own, is_special, one_more, saturating}
@@ -66,12 +65,6 @@ count_past k s = cond (not (is_special k)) (one_more (own k s)) (own k s)
 counts_zeros : (k : Component) (s : State) → Counts (rule k s) s.buffer (not (is_special k))
 counts_zeros Special s = each_counts Special s
 counts_zeros k s = inl refl
-
--- what a function of rule, buffer, cursor and own count is of the state past a zero
-of_past : {A : Type 0} (f : Rule → List ℕ → ℕ → ℕ → A) (k : Component) (s : State)
-    → (let t = past_zero_in k s in f (rule k t) t.buffer t.cursor (own k t))
-    ≡ f (rule k s) s.buffer (place_of k s + 1) (count_past k s)
-of_past f k s = grind arith
 
 -- a zero counted first, or with the others
 counted_first : (k : Component) (s : State) (z i : ℕ)
