@@ -31,7 +31,7 @@ cursor_is : (s : State) → IsState s → s.cursor ≤ length s.buffer
 cursor_is s v = v.within
 
 moved_is : (s : State) (i : ℕ) → IsState s → i ≤ length s.buffer → IsState (with_cursor s i)
-moved_is s i v h = assumption
+moved_is s i v h = search (v, h)
 
 with_own_is : (k : Component) (s : State) (n : ℕ) → IsState s → n < 2 ^ 64
     → IsState (with_own k s n)
@@ -129,12 +129,12 @@ ruleset steps = (taken_again, taken_is, taken_some, taken_none, taken_buffer, ta
 
 pub bytes_laws : IterLaws IsState (λ m. m.buffer) (λ m. m.cursor) (λ m. has_no_separator m.word)
     (λ m b. is_separator (separator m.word) b) with_cursor
-bytes_laws = assumption moved_is
+bytes_laws = search (moved_is, cursor_is)
 
 pub iter_laws : (k : Component)
     → IterLaws IsState (λ m. m.buffer) (λ m. m.cursor) (λ m. is_contiguous k m.word)
     (λ m b. is_separator (separator m.word) b) with_cursor
-iter_laws k = assumption moved_is
+iter_laws k = search (moved_is, cursor_is)
 
 pub digit_laws : (k : Component)
     → DigitLaws IsState (λ m. m.buffer) (λ m. m.cursor) (current_count k)
