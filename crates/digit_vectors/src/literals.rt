@@ -37,3 +37,13 @@ pub fn pass_places(bytes: &mut Bytes) -> usize
     let mut digits = FractionDigitsIterator { byte: bytes };
     skip_digits(&mut digits)
 }
+
+/// Passes the integer's digits, and answers where they end: at the first byte that is kept and is
+/// no digit, or else at the end of the text.
+pub fn pass_whole(bytes: &mut Bytes) -> usize
+    ensures { result ≡ stop_of Integer bytes.old.state }
+{
+    digits_end();
+    skip_digits(&mut IntegerDigitsIterator { byte: bytes });
+    bytes.cursor()
+}

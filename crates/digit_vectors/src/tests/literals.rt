@@ -4,7 +4,7 @@ use self::Reading::{Reads, Skips};
 use super::steps::Step::{Count, Cursor, MoveTo};
 use super::steps::{Part, assert_part, assert_steps};
 use super::{INTERNAL, LEADING, PLAIN, TRAILING, bytes_of, move_to};
-use crate::literals::{pass_places, read_whole};
+use crate::literals::{pass_places, pass_whole, read_whole};
 use crate::spaced::Spaced;
 use digit_literals::{LiteralError, read_digits, read_integer, skip_digits};
 use lexical_digits::iterator::DigitsIter;
@@ -181,6 +181,8 @@ fn parts_of_a_number_are_read_one_after_another(rt: HostRuntime) {
     assert_part(&rt, &mut bytes, Part::Whole, &[Cursor(3), MoveTo(4)]);
     assert_eq!(rt; pass_places(&mut bytes), 2);
     assert_part(&rt, &mut bytes, Part::Whole, &[Cursor(7)]);
+    let mut bytes = bytes_of(&rt, b"1_2.5_0e", word);
+    assert_eq!(rt; pass_whole(&mut bytes), 3);
 }
 
 #[test]
