@@ -8,6 +8,7 @@ ghost use Rattle.lexical_digits.specs.Stop.{stop_of, leading_digits_of, past_dig
 ghost use Rattle.lexical_digits.specs.declared.skip.component.Component.TheVariants.{Integer, Fraction};
 
 use digit_literals::{LiteralError, read_digits, skip_digits};
+use lexical_digits::iterator::Iter;
 use lexical_digits::skip::{Bytes, FractionDigitsIterator, IntegerDigitsIterator};
 use lexical_digits::stop::digits_end;
 
@@ -44,6 +45,7 @@ pub fn pass_whole(bytes: &mut Bytes) -> usize
     ensures { result ≡ stop_of Integer bytes.old.state }
 {
     digits_end();
-    skip_digits(&mut IntegerDigitsIterator { byte: bytes });
-    bytes.cursor()
+    let mut digits = IntegerDigitsIterator { byte: bytes };
+    skip_digits(&mut digits);
+    digits.cursor()
 }
