@@ -1,3 +1,4 @@
 pub mod Digits
 pub mod Word
 pub mod Builder
+pub mod Words

@@ -1,23 +1,27 @@
-//! The maker of format words.
+//! A format word from its parts.
 
 ghost use Rattle.std.specs.Prelude.{◌≡◌, ◌<◌, ◌≤◌};
 ghost use Rattle.lexical_format.specs.Word.{is_supported};
 ghost use Rattle.lexical_format.specs.Builder.{bit_if, flags_number, word_of, serves_for, Says};
 
-/// Which separators of a component are dropped. Without a flag none is.
+/// The separators of a component that are dropped. Without a flag none is. docs/RULES.md has the
+/// rule.
+///
+/// Not in lexical-util, where each flag has a method of the builder.
 #[derive(Clone, Copy, Debug, PartialEq, Eq)]
 pub struct DigitSeparatorFlags {
-    /// Drops internal separators: those between digits.
+    /// Drops internal separators: a digit on both sides.
     pub internal: bool,
-    /// Drops leading separators: those with no digit before them.
+    /// Drops leading separators: no digit was read before, and no other separator is beside it.
     pub leading: bool,
-    /// Drops trailing separators: those with no digit behind them.
+    /// Drops trailing separators: neither a digit nor another separator follows, and no separator
+    /// is before it unless a digit was read.
     pub trailing: bool,
-    /// Judges a run of separators as a single one. Alone it drops nothing.
+    /// Judges a run of separators as one separator. By itself it drops nothing.
     pub consecutive: bool,
 }
 
-/// No flag of a component.
+/// No flag: every separator is kept. Not in lexical-util.
 pub const NO_FLAGS: DigitSeparatorFlags = DigitSeparatorFlags {
     internal: false,
     leading: false,
@@ -25,7 +29,7 @@ pub const NO_FLAGS: DigitSeparatorFlags = DigitSeparatorFlags {
     consecutive: false,
 };
 
-/// All flags of a component: every separator is dropped.
+/// All four flags: every separator is dropped. Not in lexical-util.
 pub const ALL_FLAGS: DigitSeparatorFlags = DigitSeparatorFlags {
     internal: true,
     leading: true,
@@ -33,10 +37,10 @@ pub const ALL_FLAGS: DigitSeparatorFlags = DigitSeparatorFlags {
     consecutive: true,
 };
 
-/// What a format word is made of. A builder is written out, mostly on top of [`DECIMAL`]:
+/// The parts of a format word. Write one on top of [`DECIMAL`]:
 /// `NumberFormatBuilder { digit_separator: b'_', integer: ALL_FLAGS, ..DECIMAL }`.
 ///
-/// It stands for lexical-util's `NumberFormatBuilder`, which has a method for each field.
+/// lexical-util's `NumberFormatBuilder` has a method for each field.
 #[derive(Clone, Copy, Debug, PartialEq, Eq)]
 pub struct NumberFormatBuilder {
     /// The mantissa radix.
@@ -55,7 +59,8 @@ pub struct NumberFormatBuilder {
     pub special: bool,
 }
 
-/// Radix 10, no separator and no flags: the builder of [`STANDARD`](crate::STANDARD).
+/// Radix 10, no separator, no flags: the builder of [`STANDARD`](crate::STANDARD). Not in
+/// lexical-util.
 pub const DECIMAL: NumberFormatBuilder = NumberFormatBuilder {
     mantissa_radix: 10,
     exponent_radix: 0,
@@ -85,7 +90,7 @@ fn flags_number(flags: DigitSeparatorFlags) -> u128
 }
 
 impl NumberFormatBuilder {
-    /// Each part in its place. A radix and a separator are bytes.
+    /// The sum of the parts, each in its place.
     #[tactic(auto, unfolding(crate::specs::Builder::word_of))]
     fn sum(self) -> u128
         ensures value { result ≡ word_of self }
@@ -101,9 +106,9 @@ impl NumberFormatBuilder {
             + (flags_number(self.integer) << 32)
     }
 
-    /// The word that says what this builder says, and has zero in every other bit. It is supported
-    /// exactly if both radixes are 2 to 36, where a zero exponent radix stands for the mantissa
-    /// radix, and the separator is a digit of neither.
+    /// The word with these parts; every other bit is zero. It is supported exactly if both radixes
+    /// are 2 to 36 and the separator is a digit of neither; a zero exponent radix means the
+    /// mantissa radix. lexical-util has this call, which refuses a word that isn't supported.
     pub fn build(self) -> u128
         ensures value { result ≡ word_of self }
         ensures says { Says result self }

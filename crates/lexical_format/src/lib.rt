@@ -1,5 +1,5 @@
-//! The format word: the byte that separates digits, the flags that say where such separators are
-//! dropped, and the radixes.
+//! The format word: the radixes, the byte that separates digits, and the flags that say where a
+//! separator is dropped.
 //!
 //! | Bits | Field |
 //! |---|---|
@@ -12,12 +12,16 @@
 //! | 104 to 111 | mantissa radix |
 //! | 120 to 127 | exponent radix; zero means the mantissa radix |
 //!
-//! No other bit is read. The names are those of lexical-util's number formats; the places of the
-//! bits are this crate's own. Radix 10 with the separator `_` between the digits of the integer is
-//! `(10 << 104) | (0x5f << 64) | INTEGER_INTERNAL_DIGIT_SEPARATOR`. A [`NumberFormatBuilder`] makes
-//! a word of its parts, also of parts that are known only when the program runs.
+//! Other bits are ignored. The names are those of lexical-util's number formats; the bits are this
+//! crate's own. There are three ways to a word:
 //!
-//! That a word which is written out is supported is proved where the function has
+//! - [`words`] has the words of languages by name, such as `RUST_LITERAL`.
+//! - A constant: radix 10 with `_` between the digits of the integer is
+//!   `(10 << 104) | (0x5f << 64) | INTEGER_INTERNAL_DIGIT_SEPARATOR`.
+//! - [`NumberFormatBuilder`] makes a word of its parts, also of parts that are known only at run
+//!   time.
+//!
+//! A proof sees that a constant word is supported if the function has
 //! `#[tactic(auto, unfolding(lexical_format::proofs::OnLiterals::lexical_on_literals))]`.
 #![tactic(auto)]
 
@@ -26,38 +30,46 @@ ghost use Rattle.lexical_format.specs.Word.{bit, separator, mantissa_radix, expo
 
 mod builder;
 mod digit;
+pub mod laws;
 #[cfg(test)]
 mod tests;
+pub mod words;
 
 pub use builder::{ALL_FLAGS, DECIMAL, DigitSeparatorFlags, NO_FLAGS, NumberFormatBuilder};
 pub use digit::{char_is_digit_const, char_to_digit_const};
 
-/// Drops the integer's internal separators: those between digits.
+/// Drops the integer's internal separators: a digit on both sides.
 pub const INTEGER_INTERNAL_DIGIT_SEPARATOR: u128 = 1 << 32;
-/// Drops the fraction's internal separators: those between digits.
+/// Drops the fraction's internal separators: a digit on both sides.
 pub const FRACTION_INTERNAL_DIGIT_SEPARATOR: u128 = 1 << 33;
-/// Drops the exponent's internal separators: those between digits.
+/// Drops the exponent's internal separators: a digit on both sides.
 pub const EXPONENT_INTERNAL_DIGIT_SEPARATOR: u128 = 1 << 34;
 
-/// Drops the integer's leading separators: those with no digit before them.
+/// Drops the integer's leading separators: no digit was read before, and no other separator is
+/// beside it.
 pub const INTEGER_LEADING_DIGIT_SEPARATOR: u128 = 1 << 35;
-/// Drops the fraction's leading separators: those with no digit before them.
+/// Drops the fraction's leading separators: no digit was read before, and no other separator
+/// is beside it.
 pub const FRACTION_LEADING_DIGIT_SEPARATOR: u128 = 1 << 36;
-/// Drops the exponent's leading separators: those with no digit before them.
+/// Drops the exponent's leading separators: no digit was read before, and no other separator
+/// is beside it.
 pub const EXPONENT_LEADING_DIGIT_SEPARATOR: u128 = 1 << 37;
 
-/// Drops the integer's trailing separators: those with no digit behind them.
+/// Drops the integer's trailing separators: neither a digit nor another separator follows, and no
+/// separator is before it unless a digit was read.
 pub const INTEGER_TRAILING_DIGIT_SEPARATOR: u128 = 1 << 38;
-/// Drops the fraction's trailing separators: those with no digit behind them.
+/// Drops the fraction's trailing separators: neither a digit nor another separator follows, and no
+/// separator is before it unless a digit was read.
 pub const FRACTION_TRAILING_DIGIT_SEPARATOR: u128 = 1 << 39;
-/// Drops the exponent's trailing separators: those with no digit behind them.
+/// Drops the exponent's trailing separators: neither a digit nor another separator follows, and no
+/// separator is before it unless a digit was read.
 pub const EXPONENT_TRAILING_DIGIT_SEPARATOR: u128 = 1 << 40;
 
-/// Judges a run of the integer's separators as a single one. Alone it drops nothing.
+/// Judges a run of the integer's separators as one separator. By itself it drops nothing.
 pub const INTEGER_CONSECUTIVE_DIGIT_SEPARATOR: u128 = 1 << 41;
-/// Judges a run of the fraction's separators as a single one. Alone it drops nothing.
+/// Judges a run of the fraction's separators as one separator. By itself it drops nothing.
 pub const FRACTION_CONSECUTIVE_DIGIT_SEPARATOR: u128 = 1 << 42;
-/// Judges a run of the exponent's separators as a single one. Alone it drops nothing.
+/// Judges a run of the exponent's separators as one separator. By itself it drops nothing.
 pub const EXPONENT_CONSECUTIVE_DIGIT_SEPARATOR: u128 = 1 << 43;
 
 /// Drops every separator of a special value, such as `nan`.
@@ -84,34 +96,18 @@ pub const DIGIT_SEPARATOR_FLAG_MASK: u128 = 0x1FFF << 32;
 /// The word of plain decimal numbers: radix 10, no separator, no flags.
 pub const STANDARD: u128 = 10 << 104;
 
-// No flag belongs to two components, and there is none but these thirteen.
-const _: () = prove!(INTEGER_DIGIT_SEPARATOR_FLAG_MASK & FRACTION_DIGIT_SEPARATOR_FLAG_MASK == 0);
-
-const _: () = prove!(INTEGER_DIGIT_SEPARATOR_FLAG_MASK & EXPONENT_DIGIT_SEPARATOR_FLAG_MASK == 0);
-
-const _: () = prove!(FRACTION_DIGIT_SEPARATOR_FLAG_MASK & EXPONENT_DIGIT_SEPARATOR_FLAG_MASK == 0);
-
-const _: () = prove!(
-    DIGIT_SEPARATOR_FLAG_MASK
-        == INTEGER_DIGIT_SEPARATOR_FLAG_MASK
-            | FRACTION_DIGIT_SEPARATOR_FLAG_MASK
-            | EXPONENT_DIGIT_SEPARATOR_FLAG_MASK
-            | SPECIAL_DIGIT_SEPARATOR
-);
-
-/// What a format word says. Any word may be asked; [`is_supported`] tells whether digits can be
+/// Reads the fields of a word. Any word is allowed; [`is_supported`] tells whether digits can be
 /// read by it.
 ///
-/// This is lexical-util's `NumberFormat`, which has the word as a const parameter in place of a
-/// field.
+/// lexical-util's `NumberFormat` has the word as a const parameter; here it is a field.
 #[derive(Clone, Copy, Debug, PartialEq, Eq)]
 pub struct NumberFormat {
-    /// The word itself, with all of its bits.
+    /// The word, with all of its bits.
     pub word: u128,
 }
 
 impl NumberFormat {
-    /// The format of a word, of any bits. This call is the crate's own.
+    /// The format of a word. Not in lexical-util.
     #[inline(always)]
     pub fn new(word: u128) -> NumberFormat
         ensures { result.word ≡ word }
@@ -119,7 +115,8 @@ impl NumberFormat {
         NumberFormat { word }
     }
 
-    /// The byte that separates digits: bits 64 to 71. Zero means that no byte does.
+    /// The byte that separates digits: bits 64 to 71. Zero means that no byte does. lexical-util's
+    /// `digit_separator`.
     #[inline(always)]
     pub fn digit_separator(&self) -> u8
         ensures { result ≡ separator self.now.word }
@@ -127,7 +124,7 @@ impl NumberFormat {
         ((self.word >> 64) & 0xFF) as u8
     }
 
-    /// The mantissa radix: bits 104 to 111.
+    /// The mantissa radix: bits 104 to 111. lexical-util's `mantissa_radix`.
     #[inline(always)]
     pub fn mantissa_radix(&self) -> u32
         ensures { result ≡ mantissa_radix self.now.word }
@@ -135,7 +132,8 @@ impl NumberFormat {
         ((self.word >> 104) & 0xFF) as u32
     }
 
-    /// The exponent radix: bits 120 to 127; where they are zero, the mantissa radix.
+    /// The exponent radix: bits 120 to 127; if they are zero, the mantissa radix. lexical-util's
+    /// `exponent_radix`.
     #[inline(always)]
     pub fn exponent_radix(&self) -> u32
         ensures { result ≡ exponent_radix self.now.word }
@@ -148,7 +146,8 @@ impl NumberFormat {
         }
     }
 
-    /// The thirteen flags, bits 32 to 44, each in its place; every other bit of the answer is zero.
+    /// The thirteen flags, each in its place: bits 32 to 44 of the word. Every other bit of the
+    /// answer is zero. lexical-util's `digit_separator_flags`.
     #[inline(always)]
     #[tactic(auto, using(crate::proofs::Flags::and_flags))]
     pub fn digit_separator_flags(&self) -> u128
@@ -157,7 +156,8 @@ impl NumberFormat {
         self.word & DIGIT_SEPARATOR_FLAG_MASK
     }
 
-    /// Whether the separators of special values are dropped: bit 44.
+    /// Whether separators of special values are dropped: bit 44. lexical-util's
+    /// `special_digit_separator`.
     #[inline(always)]
     #[tactic(auto, using(crate::proofs::Flags::special_test))]
     pub fn special_digit_separator(&self) -> bool
@@ -167,7 +167,7 @@ impl NumberFormat {
     }
 }
 
-/// Whether a radix serves beside a separator: it is 2 to 36, and the separator is no digit of it.
+/// Whether a radix is 2 to 36 and the separator is no digit of it.
 #[inline(always)]
 fn serves(radix: u32, separator: u8) -> bool
     ensures { result ≡ serves radix separator }
@@ -175,12 +175,10 @@ fn serves(radix: u32, separator: u8) -> bool
     (2..=36).contains(&radix) && !char_is_digit_const(separator, radix)
 }
 
-/// Whether digits can be read by this word: its mantissa radix and its exponent radix, as
-/// [`NumberFormat::exponent_radix`] answers it, are 2 to 36, and its separator is a digit of
-/// neither. A separator of zero, a sign, and each byte from 128 on are fine; flags aren't looked
-/// at.
-///
-/// This call is the crate's own: whoever reads digits by a word asks it first.
+/// Whether digits can be read by this word: its mantissa radix and its exponent radix are 2 to 36,
+/// and its separator is a digit of neither. The exponent radix is what
+/// [`NumberFormat::exponent_radix`] answers. A separator may be zero, a sign, or a byte from 128
+/// on. Flags don't matter. Not in lexical-util: calls that read digits ask that it is true.
 #[inline(always)]
 pub fn is_supported(word: u128) -> bool
     ensures { result ≡ is_supported word }

@@ -1,40 +1,7 @@
 use super::*;
 
-const FLAGS: [u128; 13] = [
-    INTEGER_INTERNAL_DIGIT_SEPARATOR,
-    FRACTION_INTERNAL_DIGIT_SEPARATOR,
-    EXPONENT_INTERNAL_DIGIT_SEPARATOR,
-    INTEGER_LEADING_DIGIT_SEPARATOR,
-    FRACTION_LEADING_DIGIT_SEPARATOR,
-    EXPONENT_LEADING_DIGIT_SEPARATOR,
-    INTEGER_TRAILING_DIGIT_SEPARATOR,
-    FRACTION_TRAILING_DIGIT_SEPARATOR,
-    EXPONENT_TRAILING_DIGIT_SEPARATOR,
-    INTEGER_CONSECUTIVE_DIGIT_SEPARATOR,
-    FRACTION_CONSECUTIVE_DIGIT_SEPARATOR,
-    EXPONENT_CONSECUTIVE_DIGIT_SEPARATOR,
-    SPECIAL_DIGIT_SEPARATOR,
-];
-
 fn word_of(mantissa_radix: u8, separator: u8) -> u128 {
     (u128::from(mantissa_radix) << 104) | (u128::from(separator) << 64)
-}
-
-#[test]
-fn the_flags_are_bits_32_to_44_in_order(rt: HostRuntime) {
-    let mut expected: u128 = 0x1_0000_0000;
-    for flag in FLAGS {
-        assert_eq!(rt; flag, expected);
-        expected = expected.wrapping_mul(2);
-    }
-}
-
-#[test]
-fn each_mask_has_the_bits_of_its_flags(rt: HostRuntime) {
-    assert_eq!(rt; INTEGER_DIGIT_SEPARATOR_FLAG_MASK, 0x249 << 32);
-    assert_eq!(rt; FRACTION_DIGIT_SEPARATOR_FLAG_MASK, 0x492 << 32);
-    assert_eq!(rt; EXPONENT_DIGIT_SEPARATOR_FLAG_MASK, 0x924 << 32);
-    assert_eq!(rt; DIGIT_SEPARATOR_FLAG_MASK, 0x1FFF << 32);
 }
 
 #[test]
@@ -51,17 +18,6 @@ fn a_word_is_read_field_by_field(rt: HostRuntime) {
     );
     assert!(rt; !format.special_digit_separator());
     assert!(rt; is_supported(word));
-}
-
-#[test]
-fn the_standard_word_has_radix_10_and_nothing_else(rt: HostRuntime) {
-    let format = NumberFormat::new(STANDARD);
-    assert_eq!(rt; format.digit_separator(), 0);
-    assert_eq!(rt; format.mantissa_radix(), 10);
-    assert_eq!(rt; format.exponent_radix(), 10);
-    assert_eq!(rt; format.digit_separator_flags(), 0);
-    assert!(rt; !format.special_digit_separator());
-    assert!(rt; is_supported(STANDARD));
 }
 
 #[test]
@@ -303,4 +259,39 @@ fn a_builder_puts_each_flag_in_its_place(rt: HostRuntime) {
     }
     .build();
     assert_eq!(rt; word, STANDARD | FRACTION_TRAILING_DIGIT_SEPARATOR);
+}
+
+#[test]
+fn equal_values_have_equal_parts(rt: HostRuntime) {
+    let (standard, json) = (NumberFormat::new(STANDARD), NumberFormat::new(words::JSON));
+    assert!(rt; laws::same_format(standard, json));
+    assert!(rt; !laws::same_format(standard, NumberFormat::new(words::HEXADECIMAL)));
+    assert!(rt; laws::same_flags(NO_FLAGS, DECIMAL.integer));
+    assert!(rt; !laws::same_flags(NO_FLAGS, ALL_FLAGS));
+    assert!(rt; laws::same_builder(DECIMAL, DECIMAL));
+    let special = NumberFormatBuilder {
+        special: true,
+        ..DECIMAL
+    };
+    assert!(rt; !laws::same_builder(DECIMAL, special));
+}
+
+#[test]
+fn words_with_names_by_their_bits(rt: HostRuntime) {
+    // Internal is 7 << 32, consecutive 7 << 41, trailing of integer and fraction 3 << 38.
+    let exponent = (1 << 37) | (1 << 40);
+    let rust = (7 << 32) | (3 << 38) | exponent | (7 << 41);
+    assert_eq!(rt; words::RUST_LITERAL, (10 << 104) | (0x5f << 64) | rust);
+    assert_eq!(rt;
+        words::RUST_HEX_LITERAL,
+        (16 << 104) | (0x5f << 64) | (0x249 << 32)
+    );
+    assert_eq!(rt;
+        words::CXX14_HEX_LITERAL,
+        (10 << 120) | (16 << 104) | (0x27 << 64) | (7 << 32)
+    );
+    assert_eq!(rt;
+        words::JAVA_LITERAL,
+        (10 << 104) | (0x5f << 64) | (7 << 32) | (7 << 41)
+    );
 }
