@@ -1,6 +1,5 @@
 -- What the fields of a `Bytes` stand for while it reads.
 pub mod CarriedByCursor
 pub mod AtTheCursor
-pub mod TellingBytes
+pub mod DirectBytes
 pub mod InnerSeparator
-pub mod InTheRun

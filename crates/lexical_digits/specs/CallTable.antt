@@ -1,5 +1,4 @@
--- The call table: what each call answers, and the state that it leaves. No row scans, steps or
--- loops.
+-- The call table: what each call answers, and the state that it leaves. No row loops.
 use Rattle.std.specs.Prelude.{◌≡◌, ℕ, ◌+◌, ◌<◌, ◌==◌, ◌||◌, Bool, true, false, if◌then◌else◌, nat_lt, nat_le, List, [], ◌∷◌, length, drop, count_by, slice_get, slice_index, Option, Some, None, is_none, is_some, MatchOption, option_copied}
 use Rattle.std.specs.Borrow.{Bor}
 use Rattle.std.specs.Int.{w32, w64}
@@ -24,7 +23,7 @@ byte_at_place k s = slice_get s.buffer (place_of k s)
 abbrev pub settled : Component → State → State
 settled k s = with_cursor s (place_of k s)
 
--- a read that is not counted passes the byte there
+-- a read that does not count moves the cursor past the byte there
 abbrev pub past_place : Component → State → State
 past_place k s = with_cursor s (place_of k s + 1)
 
@@ -32,7 +31,7 @@ past_place k s = with_cursor s (place_of k s + 1)
 abbrev pub counted : Component → State → State
 counted k s = with_own k s (one_more (own k s))
 
--- `next` passes the byte at the place, and counts a digit
+-- `next` moves the cursor past the byte at the place, and counts it if it is a digit
 unfoldable pub taken : Component → State → State
 taken k s =
     let p = place_of k s in
@@ -41,7 +40,7 @@ taken k s =
     (count_after (rule k s) (counts k s.word) (slice_index s.buffer p) (own k s))) (p + 1)
     else settled k s
 
--- the bytes that `next` answers until None, and the state that it leaves then
+-- the bytes that `next` answers before None, and the state that it leaves at the end
 abbrev pub drain_of : Component → State → List ℕ
 drain_of k s = drain (rule k s) s.buffer s.cursor (own k s)
 
@@ -54,7 +53,7 @@ own_after k s =
 unfoldable pub after_drain : Component → State → State
 after_drain k s = with_cursor (with_own k s (own_after k s)) (length s.buffer)
 
--- zeros that are read one after another, each counted, and the state past them
+-- the zeros that `skip_zeros` reads and counts, and the state after them
 abbrev pub zeros_of : Component → State → ℕ
 zeros_of k s = zeros (rule k s) s.buffer s.cursor (own k s)
 
@@ -62,16 +61,16 @@ abbrev pub past_zeros_of : Component → State → State
 past_zeros_of k s = with_cursor (with_own k s (saturating (own k s) (zeros_of k s)))
     (past_zeros (rule k s) s.buffer s.cursor (own k s))
 
--- `take_n`: the view, and what is left
+-- `take_n`: the view, and the state that it leaves
 unfoldable pub view : Component → State → ℕ → Option State
 view k s n = if is_contiguous k s.word then Some (cut s (cut_end s n)) else None
 
 unfoldable pub after_view : Component → State → ℕ → State
 after_view k s n = if is_contiguous k s.word then with_cursor s (cut_end s n) else s
 
--- A call of `next` from s to t: it answers the byte at the place and leaves `taken`; what it
--- answers is the first of what the filter keeps, or None where that is nothing; the whole drain
--- leaves the same state from s and from t.
+-- A call of `next` from s to t: it answers the byte at the place and leaves `taken`; that byte is
+-- the first of the drain, or None if the drain is empty; a whole drain leaves the same state from s
+-- and from t.
 pub record Takes (k : Component) (s t : State) (result : Option (Bor ℕ)) : Type 0 where
   pub byte : option_copied result ≡ byte_at_place k s
   pub takes : t ≡ taken k s
@@ -87,7 +86,7 @@ pub record ChangesOwn (k : Component) (s t : State) : Type 0 where
 
 -- ---- calls by their names
 
--- what is called: a `Bytes`, or the iterator of a component over it
+-- what a call is made on: a `Bytes`, or the iterator of a component over it
 pub data Part : Type 0 where
   OnBytes : Part
   On : Component → Part
@@ -148,7 +147,7 @@ pub record Row : Type 0 where
 abbrev pub row : Answer → State → Row
 row a s = record { answer = a; state = s }
 
--- ---- the rows of every part
+-- ---- the rows that every part has
 
 abbrev pub contiguous_on : Part → State → Bool
 contiguous_on OnBytes s = has_no_separator s.word
@@ -166,27 +165,27 @@ abbrev pub may_step : Part → ℕ → State → Bool
 may_step part n s =
     can_step s.buffer s.cursor (contiguous_on part s) (is_separator (separator s.word)) n
 
--- a call within its condition, and else a refusal that changes nothing
+-- a call whose condition holds, or a refusal that changes nothing
 abbrev pub within : Bool → State → State → Row
 within true s t = row Done t
 within false s t = row Refused s
 
--- a read of the byte at the place where it passes
+-- a read of the byte at the place, by what the call answers
 abbrev pub read_where : Component → State → Option ℕ → Row
 read_where k s read = row (Byte read) (if is_some read then past_place k s else settled k s)
 
-abbrev pub told_view : Option State → Option (ℕ × ℕ)
-told_view None = None
-told_view (Some s) = Some (length s.buffer, s.cursor)
+abbrev pub view_answer : Option State → Option (ℕ × ℕ)
+view_answer None = None
+view_answer (Some s) = Some (length s.buffer, s.cursor)
 
 -- ---- the table
 
--- `take_n` is on the components that count
+-- special has no `take_n`
 abbrev pub view_row : Component → ℕ → State → Row
 view_row Special n s = row Refused s
-view_row Integer n s = row (View (told_view (view Integer s n))) (after_view Integer s n)
-view_row Fraction n s = row (View (told_view (view Fraction s n))) (after_view Fraction s n)
-view_row Exponent n s = row (View (told_view (view Exponent s n))) (after_view Exponent s n)
+view_row Integer n s = row (View (view_answer (view Integer s n))) (after_view Integer s n)
+view_row Fraction n s = row (View (view_answer (view Fraction s n))) (after_view Fraction s n)
+view_row Exponent n s = row (View (view_answer (view Exponent s n))) (after_view Exponent s n)
 
 -- the calls that every part has
 abbrev pub shared_row : Part → Call → State → Row
@@ -210,7 +209,7 @@ shared_row part PeekU64 s =
     row (Eight (next_number w64 (contiguous_on part s) (drop s.cursor s.buffer))) s
 shared_row part call s = row Refused s
 
--- and the calls that the iterators alone have
+-- the whole table: some calls are only on iterators
 abbrev pub row_of : Part → Call → State → Row
 row_of (On k) IsConsumed s = row (Flag (is_none (byte_at_place k s))) (settled k s)
 row_of (On k) IncrementCount s = row Done (counted k s)
@@ -238,9 +237,9 @@ row_of (On k) (IsDigitSeparator v) s = row (Flag (is_separator (separator s.word
 row_of (On k) (TakeN n) s = view_row k n s
 row_of part call s = shared_row part call s
 
--- ---- a run of calls
+-- ---- a list of calls
 
--- one after another: each answer, and the state in the end
+-- each answer, and the state at the end
 pub record Ran : Type 0 where
   pub answers : List Answer
   pub state : State

@@ -11,7 +11,7 @@ use Rattle.lexical_digits.specs.Separators.{is_separator}
 use Rattle.lexical_digits.specs.State.{State, with_cursor, is_contiguous}
 use Rattle.lexical_digits.specs.CallTable.{place_of, byte_at_place, settled, counted, taken, view, after_view, drain_of, Takes}
 use Rattle.lexical_digits.specs.Cursor.{CanStep, items, after_items, zeros, after_zeros}
-use Rattle.lexical_digits.specs.Looks.{Held, owed, Reads, Unread}
+use Rattle.lexical_digits.specs.Looks.{Held, owed, Costs, Unread}
 
 -- ---- before a call
 
@@ -86,11 +86,11 @@ pub record Cuts (k : Component) (a b : MutBor Held) (n : ℕ) (result : Option H
 pub record Peeks (k : Component) (a b : MutBor Held) (result : Option (Bor ℕ)) : Type 0 where
   pub byte : option_copied result ≡ byte_at_place k a.now.state
   pub settles : b.now.state ≡ settled k a.now.state
-  pub reads : Reads k a.now b.now
+  pub costs : Costs k a.now b.now
   pub keeps_loan : b.ghost_name ≡ a.ghost_name
 
 -- `next`: what it takes by the call table, where it is told that the items are the drain
 pub record Nexts (k : Component) (a b : MutBor Held) (result : Option (Bor ℕ)) : Type 0 where
   pub takes : Takes k a.now.state b.now.state result
-  pub reads : Reads k a.now b.now
+  pub costs : Costs k a.now b.now
   pub keeps_loan : b.ghost_name ≡ a.ghost_name

@@ -1,5 +1,6 @@
--- The laws that the iterators of this crate prove to the traits, and the lemmas below them. (A law
--- of an `impl` can cite specs/ alone, so these lemmas stand here and not in proofs/.)
+-- The laws of the traits, proved for the iterators of this crate, and their lemmas. (A law of an
+-- `impl` can cite only specs/, so these lemmas are here and not in proofs/.)
+pub mod Terms
 pub mod Ranges
 pub mod Kept
 pub mod Place

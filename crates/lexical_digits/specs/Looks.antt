@@ -28,6 +28,10 @@ abbrev pub IsRunOrNone : ℕ → List ℕ → Option Run → Type 0
 IsRunOrNone separator buffer None = ⊤
 IsRunOrNone separator buffer (Some run) = IsRun separator buffer run.from run.to
 
+-- what is remembered is a maximal run, if anything is
+abbrev pub Remembers : ℕ → List ℕ → Option Run → Type 0
+Remembers separator buffer run = (r : Run) → run ≡ Some r → IsRun separator buffer r.from r.to
+
 -- whether a position is in the run
 abbrev pub run_holds : Option Run → ℕ → Bool
 run_holds None at = false
@@ -63,11 +67,11 @@ pub record IsSpan (rule : Rule) (buffer : List ℕ) (at from to : ℕ) : Type 0 
 -- a source of bytes that counts the looks at them
 pub record Source : Type 0 where
   pub content : List ℕ
-  pub looked : ℕ
+  pub looks : ℕ
 
 -- at least `low` looks more, as far as a counter goes that stops at its greatest number, and at
 -- most `high` more
-pub record IsLooked (old low high new : ℕ) : Type 0 where
+pub record LooksBetween (old low high new : ℕ) : Type 0 where
   pub at_least : min (old + low) (2 ^ 64 - 1) ≤ new
   pub at_most : new ≤ old + high
 
@@ -82,10 +86,11 @@ pub record Finds (most : ℕ) (rule : Rule) (buffer : List ℕ) (at : ℕ) (run 
   pub is_run : IsRunOrNone rule.separator buffer left
   pub unscanned_run : scans rule buffer at run ≡ false → left ≡ run
   pub unscanned_looks : scans rule buffer at run ≡ false
-      → IsLooked looks (one_if answered) most seen
+      → LooksBetween looks (one_if answered) most seen
   pub scanned_run : scans rule buffer at run ≡ true → run_holds left at ≡ true
   pub scanned_looks : scans rule buffer at run ≡ true
-      → IsLooked looks (one_if answered + run_length left) (most + 3 * run_length left) seen
+      → LooksBetween looks (one_if answered + run_length left) (most + 3 * run_length left) seen
+  pub without_separator : separator_at rule.separator buffer at ≡ false → seen ≤ looks + 2
 
 -- ---- what is owed
 
@@ -101,10 +106,6 @@ owed_by run cursor looks = pos looks -ℤ pos (3 * far run cursor)
 
 -- ---- what a `Bytes` holds
 
--- two positions as the run between them, and as none where nothing is between them
-abbrev pub run_between : ℕ → ℕ → Option Run
-run_between from to = if nat_lt from to then Some (record { from = from; to = to }) else None
-
 -- The state that calls speak of, and beside it what is kept for speed: the remembered run, which is
 -- a maximal run of the buffer, and the looks so far.
 pub record Held : Type 0 where
@@ -112,7 +113,7 @@ pub record Held : Type 0 where
   pub run : Option Run
   pub looks : ℕ
   pub holds : IsState state
-  pub remembers : (r : Run) → run ≡ Some r → IsRun (separator state.word) state.buffer r.from r.to
+  pub remembers : Remembers (separator state.word) state.buffer run
 
 abbrev pub owed : Held → ℤ
 owed h = owed_by h.run h.state.cursor h.looks
@@ -137,8 +138,9 @@ needs_run k a =
 -- A read of the iterator of a component from a to b: it owes at most 4 more. It looked at least at
 -- the byte that it answers and at the run that it scanned, as far as the counter goes, and at most
 -- four times and three times for each separator of that run. A run that it scanned is remembered;
--- else the run stays as it was.
-pub record Reads (k : Component) (a b : Held) : Type 0 where
+-- else the run stays as it was. It scans only under a consecutive rule, at a separator that the
+-- remembered run doesn't hold. Where no separator is at the cursor, it looks at most twice.
+pub record Costs (k : Component) (a b : Held) : Type 0 where
   pub owes : owed b ≤ℤ (owed a +ℤ pos 4)
   pub at_least : min (a.looks + one_if (is_some (byte_at_place k a.state)) + scanned_length a b)
       (2 ^ 64 - 1) ≤ b.looks
@@ -146,18 +148,23 @@ pub record Reads (k : Component) (a b : Held) : Type 0 where
   pub unscanned : has_scanned a b ≡ false → b.run ≡ a.run
   pub scanned : has_scanned a b ≡ true → IsRunOrNone (separator a.state.word) a.state.buffer b.run
   pub needed : needs_run k a ≡ true → has_scanned a b ≡ true
+  pub allowed : has_scanned a b ≡ true
+      → scans (rule k a.state) a.state.buffer a.state.cursor a.run ≡ true
+  pub without_separator :
+      separator_at (separator a.state.word) a.state.buffer a.state.cursor ≡ false
+      → b.looks ≤ a.looks + 2
 
 -- A read from a to b that leaves the byte where it is: it answers the byte at the place, where the
 -- cursor then stands.
 pub record Settles (k : Component) (a b : Held) (answer : Option ℕ) : Type 0 where
   pub byte : answer ≡ byte_at_place k a.state
   pub settles : b.state ≡ settled k a.state
-  pub reads : Reads k a b
+  pub costs : Costs k a b
 
 -- A read from a to b that takes the byte, and counts it if it is a digit that counts.
 pub record Yields (k : Component) (a b : Held) (result : Option (Bor ℕ)) : Type 0 where
   pub takes : Takes k a.state b.state result
-  pub reads : Reads k a b
+  pub costs : Costs k a b
 
 -- nothing was looked at, and the run stays
 pub record Unread (a b : Held) : Type 0 where

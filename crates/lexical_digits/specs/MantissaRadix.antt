@@ -1,5 +1,5 @@
--- The call table as it was while each component went by the mantissa radix. Nothing but the law
--- `equal_radixes` speaks of it.
+-- A second call table, in which every component has the mantissa radix. Only the law
+-- `equal_radixes` uses it.
 use Rattle.std.specs.Prelude.{ℕ, ◌+◌, ◌&&◌, Bool, true, false, not, if◌then◌else◌, nat_lt, List, [], ◌∷◌, length, drop, slice_get, slice_index, Option, Some, None, is_none, is_some}
 use Rattle.std.specs.Int.{w32, w64}
 use Rattle.lexical_format.specs.Word.{separator, mantissa_radix, serves}
@@ -9,9 +9,9 @@ use Rattle.lexical_digits.specs.declared.skip.component.Component.TheVariants.{I
 use Rattle.lexical_digits.specs.Separators.{is_digit, is_separator, place, zeros, past_zeros, has_flags}
 use Rattle.lexical_digits.specs.State.{State, with_cursor, own, with_own, is_special, rule_at, special_rule, saturating, count_after, count_of_all, cut_end, cut}
 use Rattle.lexical_digits.specs.Cursor.{can_step, holds_of, byte_if, is_value, next_number}
-use Rattle.lexical_digits.specs.CallTable.{Part, OnBytes, On, Call, Answer, Count, Flag, Byte, Four, Eight, View, Refused, CurrentCount, IsContiguous, StepBy, Step, PeekU32, PeekU64, IsConsumed, Peek, TryRead, Next, PeekIsCased, PeekIsUncased, PeekIs, ReadIfEqual, ReadIfNever, ReadIfValueCased, ReadIfValueUncased, ReadIfValue, SkipZeros, IsDigit, TakeN, Row, row, within, told_view, row_of, Ran}
+use Rattle.lexical_digits.specs.CallTable.{Part, OnBytes, On, Call, Answer, Count, Flag, Byte, Four, Eight, View, Refused, CurrentCount, IsContiguous, StepBy, Step, PeekU32, PeekU64, IsConsumed, Peek, TryRead, Next, PeekIsCased, PeekIsUncased, PeekIs, ReadIfEqual, ReadIfNever, ReadIfValueCased, ReadIfValueUncased, ReadIfValue, SkipZeros, IsDigit, TakeN, Row, row, within, view_answer, row_of, Ran}
 
--- ---- what a word said
+-- ---- the rules
 
 abbrev pub mantissa_rule_of : ℕ → Component → Rule
 mantissa_rule_of word Integer = rule_at word (mantissa_radix word) 32
@@ -23,9 +23,9 @@ mantissa_rule_of word Special = special_rule word (mantissa_radix word)
 abbrev pub mantissa_is_supported : ℕ → Bool
 mantissa_is_supported word = serves (mantissa_radix word) (separator word)
 
--- ---- the call table, by whatever rules
+-- ---- the call table, by any rules
 
--- what the iterator of a component finds and leaves, where a rule is handed in
+-- what the iterator of a component finds and leaves, by a rule
 module _ (rule : Rule) (k : Component) (s : State) where
   abbrev pub contiguous_by : Bool
   contiguous_by = not (has_flags rule)
@@ -72,9 +72,9 @@ module _ (rule : Rule) (k : Component) (s : State) where
       let end = cut_end s n in
       let view = if contiguous_by then Some (cut s end) else None in
       if is_special k then row Refused s
-      else row (View (told_view view)) (if contiguous_by then with_cursor s end else s)
+      else row (View (view_answer view)) (if contiguous_by then with_cursor s end else s)
 
--- the rows of the iterator of a component; the last line is for the rows that go by no rule
+-- the rows of the iterator of a component; the last line is for the rows that need no rule
 abbrev pub row_by : Rule → Component → Call → State → Row
 row_by rule k CurrentCount s =
     row (Count (if contiguous_by rule k s then count_of_all s else own k s)) s
@@ -109,12 +109,12 @@ row_by rule k (IsDigit v) s = row (Flag (is_digit rule v)) s
 row_by rule k (TakeN n) s = view_by rule k s n
 row_by rule k call s = row_of (On k) call s
 
--- the rows of every part; a `Bytes` itself goes by no rule
+-- the rows of every part; a `Bytes` itself needs no rule
 abbrev pub row_on : (ℕ → Component → Rule) → Part → Call → State → Row
 row_on rules OnBytes call s = row_of OnBytes call s
 row_on rules (On k) call s = row_by (rules s.word k) k call s
 
--- one after another, as in the call table
+-- a list of calls, as in the call table
 abbrev pub run_on : (ℕ → Component → Rule) → State → List (Part × Call) → Ran
 run_on rules s [] = record { answers = []; state = s }
 run_on rules s (call ∷ calls) =

@@ -1,6 +1,6 @@
--- The role rule: which bytes of a buffer are kept. A separator is dropped where one of its roles is
--- granted, all else stays. What is kept is said of each position of the whole buffer; there is no
--- cursor that moves, and no call.
+-- The role rule: which bytes of a buffer are kept. A separator is dropped if one of its roles is
+-- granted; every other byte is kept. The rule is stated for each position of the whole buffer,
+-- without a moving cursor and without calls.
 use Rattle.std.specs.Prelude.{◌≡◌, ℕ, ◌+◌, ◌-◌, ◌≤◌, Bool, true, false, not, ◌&&◌, ◌||◌, if◌then◌else◌, nat_lt, ◌==◌, Option, Some, None, List, [], ◌∷◌, map, reverse, length, take, drop, slice_get, slice_index, slice_index_or, slice_range, count_by, filter, find}
 use Rattle.std.specs.List.{range_with_len, list_any, prefix_len}
 use Rattle.lexical_format.specs.Digits.{is_digit_of_radix}
@@ -17,7 +17,7 @@ is_digit rule byte = is_digit_of_radix rule.radix byte
 unfoldable pub is_separator : ℕ → ℕ → Bool
 is_separator separator byte = not (separator == 0) && (byte == separator)
 
--- what stands outside of the buffer is other
+-- a position outside of the buffer is `Other`
 abbrev pub class : Rule → Option ℕ → Class
 class rule None = Other
 class rule (Some byte) =
@@ -38,8 +38,8 @@ holds_separator rule buffer q = is_separator_class (class rule (slice_get buffer
 
 -- ---- the sides of a separator
 
--- Of the bytes that lead away from a separator, the nearest first: the first, or with the
--- consecutive flag the first that is no separator.
+-- the side of a separator, in the bytes on that side, nearest first: the first byte, or with the
+-- consecutive flag the first byte that is no separator
 unfoldable pub neighbour : Rule → List ℕ → Option ℕ
 neighbour rule bytes =
     if rule.consecutive
@@ -49,8 +49,7 @@ neighbour rule bytes =
 abbrev pub right_side : Rule → List ℕ → ℕ → Class
 right_side rule buffer q = class rule (neighbour rule (drop (q + 1) buffer))
 
--- a digit where one was seen, whatever stands there; the look to the left does not stop at any
--- start
+-- a digit if one was seen before; otherwise the side to the left, also beyond the start
 abbrev pub left_side : Rule → List ℕ → Bool → ℕ → Class
 left_side rule buffer digit_seen q =
     if digit_seen
@@ -97,16 +96,16 @@ unfoldable pub is_kept : Rule → List ℕ → ℕ → ℕ → ℕ → Bool
 is_kept rule buffer start count q =
     not (is_dropped rule buffer (nat_lt 0 (digits_seen rule buffer start count q)) q)
 
--- of the positions from start to the end, the kept ones in rising order
+-- the kept positions from start to the end, in rising order
 unfoldable pub kept_positions : Rule → List ℕ → ℕ → ℕ → List ℕ
 kept_positions rule buffer start count =
     filter (is_kept rule buffer start count) (range_with_len start (length buffer - start))
 
--- the bytes there
+-- the bytes at them
 unfoldable pub drain : Rule → List ℕ → ℕ → ℕ → List ℕ
 drain rule buffer start count = map (slice_index buffer) (kept_positions rule buffer start count)
 
--- the least of them, from the cursor on, or else the length
+-- the first of them from the cursor on, or the length if there is none
 unfoldable pub place : Rule → List ℕ → ℕ → ℕ → ℕ
 place rule buffer cursor count =
     slice_index_or (kept_positions rule buffer cursor count) 0 (length buffer)
@@ -115,7 +114,7 @@ place rule buffer cursor count =
 unfoldable pub zeros : Rule → List ℕ → ℕ → ℕ → ℕ
 zeros rule buffer start count = prefix_len (λ byte. byte == 48) (drain rule buffer start count)
 
--- the next kept position after them, or else the length
+-- the next kept position after them, or the length if there is none
 unfoldable pub past_zeros : Rule → List ℕ → ℕ → ℕ → ℕ
 past_zeros rule buffer start count =
     slice_index_or (kept_positions rule buffer start count) (zeros rule buffer start count)
@@ -139,7 +138,7 @@ pub record IsSupported (rule : Rule) : Type 0 where
   pub high : rule.radix ≤ 36
   pub apart : is_digit rule rule.separator ≡ false
 
--- the greater grants at least what the lesser grants, for the same separator and radix
+-- the greater rule grants at least what the lesser grants, with the same separator and radix
 pub record GrantsAtLeast (lesser greater : Rule) : Type 0 where
   pub separator : lesser.separator ≡ greater.separator
   pub radix : lesser.radix ≡ greater.radix

@@ -1,4 +1,4 @@
--- The state of a `Bytes`, and what the iterator of a component knows of it.
+-- The state of a `Bytes`, and the rule and count of each component.
 use Rattle.std.specs.Prelude.{ℕ, ◌+◌, ◌-◌, ◌^◌, ◌<◌, ◌≤◌, min, Bool, true, false, not, ◌&&◌, if◌then◌else◌, ◌==◌, List, length, take, IsTrue}
 use Rattle.lexical_format.specs.Word.{separator, mantissa_radix, exponent_radix, bit, is_supported}
 use Rattle.lexical_digits.specs.declared.skip.rule.Rule.{Rule}
@@ -36,6 +36,10 @@ start buffer word = record {
 abbrev pub with_cursor : State → ℕ → State
 with_cursor s i = record s { cursor = i }
 
+-- every count at 0
+abbrev pub with_no_counts : State → State
+with_no_counts s = record s { integer = 0; fraction = 0; exponent = 0 }
+
 -- ---- what a component grants
 
 -- the radix of a component's digits
@@ -45,18 +49,18 @@ radix_of word Fraction = mantissa_radix word
 radix_of word Exponent = exponent_radix word
 radix_of word Special = mantissa_radix word
 
--- four flags, of which the internal one is at a place, beside digits of a radix
+-- a rule with four flags: the internal one is bit `at`, the others 3, 6 and 9 bits above it
 abbrev pub rule_at : ℕ → ℕ → ℕ → Rule
-rule_at word radix place = record {
+rule_at word radix at = record {
   separator = separator word;
   radix = radix;
-  internal = bit word place;
-  leading = bit word (place + 3);
-  trailing = bit word (place + 6);
-  consecutive = bit word (place + 9);
+  internal = bit word at;
+  leading = bit word (at + 3);
+  trailing = bit word (at + 6);
+  consecutive = bit word (at + 9);
 }
 
--- one flag that grants everything, beside digits of a radix
+-- a rule with one flag, which grants everything
 abbrev pub special_rule : ℕ → ℕ → Rule
 special_rule word radix = record {
   separator = separator word;
@@ -78,7 +82,7 @@ rule k s = rule_of s.word k
 
 -- ---- counts
 
--- the count that a component's rule is judged by
+-- the component's own count: digits were seen if it is above zero
 abbrev pub own : Component → State → ℕ
 own Integer s = s.integer
 own Fraction s = s.fraction
@@ -102,22 +106,22 @@ is_special Special = true
 abbrev pub has_no_separator : ℕ → Bool
 has_no_separator word = separator word == 0
 
--- the component has none of its flags, and so passes over nothing
+-- the component has no flags, so it drops nothing
 abbrev pub is_contiguous : Component → ℕ → Bool
 is_contiguous k word = not (has_flags (rule_of word k))
 
--- whether `next` counts the digits that it passes
+-- whether `next` counts the digits that it takes
 abbrev pub counts : Component → ℕ → Bool
 counts k word = not (is_special k) && has_flags (rule_of word k)
 
--- a sum stops at the greatest number that a count holds
+-- a sum that stops at `u64::MAX`
 abbrev pub saturating : ℕ → ℕ → ℕ
 saturating m n = min (m + n) (2 ^ 64 - 1)
 
 abbrev pub one_more : ℕ → ℕ
 one_more count = saturating count 1
 
--- the count after a byte is passed by `next`
+-- the count after `next` takes a byte
 abbrev pub count_after : Rule → Bool → ℕ → ℕ → ℕ
 count_after rule counting byte count =
     if counting && is_digit rule byte

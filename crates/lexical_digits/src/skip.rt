@@ -1,4 +1,4 @@
-//! A buffer with a cursor, and the iterators of its components, which pass over separators:
+//! A buffer with a cursor, and the iterators of its components, which drop separators:
 //! lexical-util's `skip.rs`.
 
 mod bytes;
@@ -6,7 +6,6 @@ mod component;
 mod decision;
 mod digits;
 mod rule;
-mod scan;
 mod source;
 
 pub use bytes::{AsBytes, Bytes};
@@ -17,3 +16,30 @@ pub use digits::{
 };
 pub use rule::{Class, Rule};
 pub use source::{ByteSource, SliceSource};
+
+/// Makes one call on the iterator of a component over a `Bytes`, for any of the four components:
+/// `on_iterator!(bytes, component, iter => iter.skip_zeros())`. The macro makes the iterator in
+/// place, as a `&mut`, so that a proof knows what the call leaves. Not in lexical-util.
+#[macro_export]
+macro_rules! on_iterator {
+    ($bytes:expr, $component:expr, $iter:ident => $call:expr) => {
+        match $component {
+            $crate::skip::Component::Integer => {
+                let $iter = &mut $crate::skip::IntegerDigitsIterator { byte: $bytes };
+                $call
+            }
+            $crate::skip::Component::Fraction => {
+                let $iter = &mut $crate::skip::FractionDigitsIterator { byte: $bytes };
+                $call
+            }
+            $crate::skip::Component::Exponent => {
+                let $iter = &mut $crate::skip::ExponentDigitsIterator { byte: $bytes };
+                $call
+            }
+            $crate::skip::Component::Special => {
+                let $iter = &mut $crate::skip::SpecialDigitsIterator { byte: $bytes };
+                $call
+            }
+        }
+    };
+}

@@ -1,5 +1,5 @@
-//! Where the digits end, for the iterators of the components: laws, each the contract of a
-//! function.
+//! Where the digits of a component end: laws of its iterator. Each law is the contract of a
+//! function. Not in lexical-util.
 
 ghost use Rattle.std.specs.Prelude.{◌≡◌, ℕ, ◌<◌, [], length, filter, slice_range};
 ghost use Rattle.std.specs.Fn.{iterate};
@@ -10,14 +10,15 @@ ghost use Rattle.lexical_digits.specs.CallTable.{place_of, settled, taken};
 ghost use Rattle.lexical_digits.specs.Stop.{leading, after_leading, stop_of, leading_digits_of, past_digits_of, IsNthDigit};
 ghost use Rattle.lexical_digits.specs.declared.skip.component.Component.{Component};
 
-/// The digits that lead what the iterator of a component yields, those before the first item that
-/// is no digit, are the digits of the buffer from the cursor to the stop: the least kept position
-/// that holds no digit, or the length. Where `next` was called for each of them, and then `peek`,
-/// the cursor is at the stop, and an iterator that counts has them on its count. Where there is
-/// none, the place is the stop.
+/// The leading digits of a component's iterator are the items before the first one that is no
+/// digit. They are the digits of the buffer from the cursor to the stop: the first kept position
+/// that holds no digit, or the length of the buffer. If `next` is called once for each of them,
+/// and then `peek`, the cursor is at the stop, and an iterator that counts has counted them. If
+/// there is none, the place is the stop. The n-th digit is at the place after n calls of
+/// `next`.
 ///
-/// A caller of a generic function that reads digits calls this, and then knows of an iterator over
-/// a `Bytes` what the function's contract says in words of any implementer.
+/// A generic function that reads digits states its contract for any implementer. Its caller calls
+/// this, and then knows what that contract says of an iterator over a `Bytes`.
 #[tactic(auto, using(crate::proofs::Calls::Stops::ends))]
 pub fn digits_end()
     ensures digits { (k : Component) (s : State) → IsState s →
@@ -28,7 +29,7 @@ pub fn digits_end()
         after_leading (λ (m : State). m.buffer) (λ m. m.cursor) (place_of k) (taken k) (settled k)
         (is_digit (rule k s)) s
         ≡ past_digits_of k s }
-    // the same where digits are told by a radix, which is the component's
+    // the same, where a digit is a digit of the component's radix
     ensures digits_by_radix { (k : Component) (s : State) (radix : ℕ) → IsState s →
         radix ≡ (rule k s).radix →
         leading (λ (m : State). m.buffer) (λ m. m.cursor) (place_of k) (taken k)

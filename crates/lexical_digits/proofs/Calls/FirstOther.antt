@@ -1,10 +1,7 @@
 -- The stop, in words of positions: the first from the start on that is kept and holds no digit. For
 -- callers.
-use Rattle.std.proofs.Common.{◌≡◌, ℕ, zero, suc, ◌+◌, ◌<◌, ◌≤◌, Bool, true, false, not, List, ◌∷◌, length, arith, slice_index, unwrap_or}
-use Rattle.std.specs.List.{find, filter, range_with_len}
-use Rattle.lexical_digits.specs.declared.skip.rule.Rule.{Rule}
-use Rattle.lexical_digits.specs.Separators.{is_digit, is_kept, kept_positions}
-use Rattle.lexical_digits.specs.Stop.{stop}
+use Rattle.std.proofs.Common.{◌≡◌, ℕ, zero, suc, ◌+◌, ◌<◌, ◌≤◌, Bool, true, false, not, List, ◌∷◌, length, arith, slice_index, unwrap_or, find, filter}
+use Rattle.lexical_digits.specs.Laws.Terms.{range_with_len, Rule, is_digit, is_kept, kept_positions, stop}
 
 module _ (is_kept other : ℕ → Bool) where
   -- r is the first position from s on that is kept and another, or else n

@@ -1,10 +1,9 @@
 -- For those who write an iterator of their own, from the laws that it proves: what its items are,
 -- how many, and what std's chains of iterators give over it.
 use Rattle.std.proofs.Common.{◌≡◌, ℕ, ◌+◌, ◌<◌, ◌≤◌, ◌∷◌, [], Bool, List, length, slice_get, slice_index, Option, Some, None, sym, ap, ◌∙◌, arith, Bor, option_copied}
+use Rattle.lexical_digits.specs.Laws.Terms.{option_map_or, items, DigitLaws}
 use Rattle.std.proofs.lemmas.Iterator.{YieldsList}
 use Rattle.std.proofs.lemmas.Iterator.Consumers.{YieldsList-from_shown}
-use Rattle.std.specs.Option.{option_map_or}
-use Rattle.lexical_digits.specs.Cursor.{items, DigitLaws}
 use Rattle.lexical_digits.proofs.Calls.Items.{by_items, items_step, items_end, items_unroll}
 
 module _ {M : Type 0} {valid : M → Type 0} {buffer : M → List ℕ} {cursor current_count : M → ℕ}

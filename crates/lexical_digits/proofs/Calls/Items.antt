@@ -1,13 +1,8 @@
 -- For any implementer, what reads one after another come to: the items, the digits that lead, and
 -- the zeros.
-use Rattle.std.proofs.Common.{◌≡◌, ℕ, ◌<◌, ◌≤◌, ◌∷◌, [], suc, Bool, List, Some, length, slice_get, slice_index, refl, arith, length-drop, nat_lt, if◌then◌else◌, inl, inr, is_some, zero, true, false, ◌+◌}
-use Rattle.std.proofs.lemmas.Option.{gets, slice_get-get_or, slice_get_past}
-use Rattle.std.proofs.lemmas.Bool.{ltb-true, ltb-false, lt-ltb, le-ltb, cases_lt}
-use Rattle.std.specs.Option.{option_map_or}
-use Rattle.std.specs.Fn.{iterate}
-use Rattle.std.proofs.lemmas.List.Sums.{take_while-cons}
-use Rattle.lexical_digits.specs.Stop.{leading, after_leading}
-use Rattle.lexical_digits.specs.Cursor.{holds_of, at_zero, past_zero, zeros, after_zeros, IterLaws, bytes_left, items, after_items, DigitLaws}
+use Rattle.std.proofs.Common.{◌≡◌, ℕ, ◌<◌, ◌≤◌, ◌∷◌, [], suc, Bool, List, Some, length, slice_get, slice_index, refl, arith, length-drop, nat_lt, if◌then◌else◌, inl, inr, is_some, zero, true, false, ◌+◌, ltb-true, ltb-false, lt-ltb, le-ltb}
+use Rattle.lexical_digits.specs.Laws.Terms.{gets, slice_get-get_or, slice_get_past, cases_lt, option_map_or, iterate, take_while-cons, leading, after_leading, holds_of, at_zero, past_zero, after_zeros, IterLaws, bytes_left, items, after_items, DigitLaws}
+use Rattle.lexical_digits.specs.Cursor.{zeros}
 use Rattle.lexical_digits.proofs.Calls.Walk.{Falls, by_walk, walk_step, walk_end}
 
 pub iterate_last : {A : Type 0} (f : A → A) (n : ℕ) (x : A)

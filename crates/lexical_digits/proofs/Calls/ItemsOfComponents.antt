@@ -1,17 +1,11 @@
--- What reads one after another come to on the iterator of a component: the items are the drain, and
--- the zeros are its zeros.
-use Rattle.std.proofs.Common.{◌≡◌, ℕ, ◌+◌, ◌<◌, ◌^◌, Bool, true, false, cond, not, eqb, length, get_or, refl, sym, ◌∙◌, arith, inl}
-use Rattle.std.proofs.lemmas.Option.{gets, slice_get-get_or, slice_get_past}
-use Rattle.lexical_digits.specs.declared.skip.component.Component.{Component}
-use Rattle.lexical_digits.specs.declared.skip.component.Component.TheVariants.{Special}
-use Rattle.lexical_digits.specs.State.{State, IsState, with_cursor, rule, own, with_own, is_special, one_more, saturating}
-use Rattle.lexical_digits.specs.CallTable.{place_of, settled, counted, drain_of, after_drain, zeros_of, past_zeros_of}
-use Rattle.lexical_digits.specs.Iterators.{items_in, after_items_in, zeros_in, after_zeros_in}
-use Rattle.lexical_digits.specs.Cursor.{at_zero, past_zero}
-use Rattle.lexical_digits.specs.Laws.Kept.{Counts}
+-- On the iterator of a component the items are the drain, and the zeros are its zeros.
+use Rattle.std.proofs.Common.{◌≡◌, ℕ, ◌+◌, ◌<◌, ◌^◌, Bool, true, false, cond, not, eqb, List, length, get_or, drop, filter, count_by, refl, sym, ◌∙◌, arith, inl}
+use Rattle.lexical_digits.specs.Laws.Terms.{gets, slice_get-get_or, slice_get_past, length-filter, separator, bit, is_digit, is_separator, drain, Component, Special, State, IsState, with_cursor, rule, radix_of, rule_of, own, with_own, counts, is_special, one_more, saturating, place_of, settled, counted, drain_of, after_drain, zeros_of, past_zeros_of, items_in, after_items_in, zeros_in, after_zeros_in, at_zero, past_zero}
+use Rattle.lexical_digits.specs.Laws.Kept.{CountsOrIgnores}
 use Rattle.lexical_digits.specs.Laws.Table.{iter_laws, digit_laws, place_to, own_fits}
 use Rattle.lexical_digits.proofs.Rule.Drain as places
 use Rattle.lexical_digits.proofs.Rule.Supported.{supported_rule}
+use Rattle.lexical_digits.proofs.Rule.Grants.{digits_of_drain, digit_same, drain_if_all}
 use Rattle.lexical_digits.proofs.Calls.NextTakesFirst.{each_counts, drain_some, drain_none, drained_some, drained_end, with_own_same}
 use Rattle.lexical_digits.proofs.Calls.Walk.{by_walk}
 use Rattle.lexical_digits.proofs.Calls.Items.{by_items, after_items_unroll, zeros_fall, zeros_by, after_zeros_by}
@@ -24,10 +18,6 @@ items_are_drain k = each.items_are (digit_laws k) (drain_of k) (λ s v e. drain_
     (λ s v l. drain_some k s l)
 
 -- how many there are
-pub items_count : (k : Component) (s : State) (n : ℕ) → IsState s → n ≡ length (items_in k s)
-    → n ≡ length (drain_of k s)
-items_count k s n v e = rw (← items_are_drain k s v) e
-
 pub items_fit : (k : Component) (s : State) → IsState s → length (items_in k s) < 2 ^ 64
 items_fit k s v =
     omega (arith, each.items_fit (digit_laws k) (length s.buffer) s v (omega arith), v.buffer)
@@ -43,10 +33,6 @@ after_items_are k =
     rw (after_items_unroll (digit_laws k) s v, slice_get-get_or s.buffer (place_of k s) 0 h)
     (rest ∙ drained_some k s v.within h))
 
-pub items_leave : (k : Component) (s t : State) → IsState s → t ≡ after_items_in k s
-    → t ≡ after_drain k s
-items_leave k s t v e = e ∙ after_items_are k s v
-
 -- ---- the zeros
 
 abbrev at_zero_in : Component → State → Bool
@@ -61,8 +47,9 @@ past_zero_in k = past_zero (λ (m : State). m.buffer) (λ m. m.cursor) (place_of
 abbrev count_past : Component → State → ℕ
 count_past k s = cond (not (is_special k)) (one_more (own k s)) (own k s)
 
--- counting zeros is counting digits, and special ignores what was seen
-counts_zeros : (k : Component) (s : State) → Counts (rule k s) s.buffer (not (is_special k))
+-- zeros count as digits do, and special ignores what was seen
+counts_zeros : (k : Component) (s : State)
+    → CountsOrIgnores (rule k s) s.buffer (not (is_special k))
 counts_zeros Special s = each_counts Special s
 counts_zeros k s = inl refl
 
@@ -119,7 +106,34 @@ after_zeros_are k =
     (λ s v e. after_zeros_by digits iter false s e v ∙ past_none k s v e)
     (λ s v e rest. after_zeros_by digits iter true s e v ∙ rest ∙ (zero_there k s v e).past)
 
--- what the laws promise of them
-pub ruleset are_drain = (items_are_drain, after_items_are, zeros_are, after_zeros_are)
+-- ---- which bytes the drain has
 
-pub ruleset drains = (items_count, items_leave)
+pub digits_same : (k : Component) (one other : ℕ) (buffer : List ℕ) (start count : ℕ)
+    → radix_of one k ≡ radix_of other k
+    → filter (is_digit (rule_of one k)) (drain (rule_of one k) buffer start count)
+    ≡ filter (is_digit (rule_of one k)) (drain (rule_of other k) buffer start count)
+digits_same k one other buffer start count e =
+    let same : (rule_of one k).radix ≡ (rule_of other k).radix = grind arith in
+    let digits = digits_of_drain (rule_of one k) buffer start count in
+    rw (digits, digit_same (rule_of one k) (rule_of other k) same)
+    (sym (digits_of_drain (rule_of other k) buffer start count))
+
+pub special_drains : (s : State) → IsState s → bit s.word 44 ≡ true
+    → drain_of Special s ≡ filter (λ b. not (is_separator (separator s.word) b))
+    (drop s.cursor s.buffer)
+special_drains s v e =
+    drain_if_all (rule Special s) s.buffer (supported_rule s.word Special v.word) (e, e, e, e)
+    s.cursor s.integer
+
+pub drain_is_counted : (k : Component) (s : State) → counts k s.word ≡ true
+    → own k (after_drain k s) ≡ saturating (own k s) (count_by (is_digit (rule k s)) (drain_of k s))
+unfolding after_drain
+drain_is_counted k s e =
+    let p : ℕ → Bool = is_digit (rule k s) in
+    let digits = digits_of_drain (rule k s) s.buffer s.cursor (own k s) in
+    let same : count_by p (drop s.cursor s.buffer) ≡ count_by p (drain_of k s) =
+    cc (length-filter p (drop s.cursor s.buffer), length-filter p (drain_of k s)) in
+    rw (← same) (grind arith)
+
+-- what `items_are_drain` states
+pub ruleset are_drain = (items_are_drain, after_items_are, zeros_are, after_zeros_are)

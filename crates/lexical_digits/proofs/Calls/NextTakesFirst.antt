@@ -1,16 +1,8 @@
 -- Draining the iterator of any component by `next` gives what the filter over the whole buffer
 -- keeps.
 use Rattle.std.proofs.Common.{◌≡◌, ℕ, ◌+◌, ◌<◌, ◌≤◌, ◌^◌, not, ◌&&◌, cond, Option, Some, None, List, [], ◌∷◌, length, get_or, drop, refl, sym, ◌∙◌, arith, inl, inr, slice_get, option_copied, Bor}
-use Rattle.std.proofs.lemmas.Option.{gets, slice_get_within}
-use Rattle.std.proofs.lemmas.Bool.{cases_Bool}
-use Rattle.lexical_format.specs.Word.{bit}
-use Rattle.lexical_digits.specs.declared.skip.rule.Rule.{Rule}
-use Rattle.lexical_digits.specs.declared.skip.component.Component.{Component}
-use Rattle.lexical_digits.specs.declared.skip.component.Component.TheVariants.{Special}
-use Rattle.lexical_digits.specs.Separators.{kept_positions, drain, has_flags}
-use Rattle.lexical_digits.specs.State.{State, IsState, with_cursor, rule, own, with_own, counts, count_after, is_special}
-use Rattle.lexical_digits.specs.CallTable.{place_of, settled, taken, drain_of, own_after, after_drain, byte_at_place, Takes}
-use Rattle.lexical_digits.specs.Laws.Kept.{Counts}
+use Rattle.lexical_digits.specs.Laws.Terms.{gets, slice_get_within, cases_Bool, bit, Rule, Component, Special, kept_positions, drain, has_flags, State, IsState, with_cursor, rule, own, with_own, counts, count_after, is_special, place_of, settled, taken, drain_of, own_after, after_drain, byte_at_place, Takes}
+use Rattle.lexical_digits.specs.Laws.Kept.{CountsOrIgnores}
 use Rattle.lexical_digits.proofs.Rule.Drain.{counted, counted_at_place, counted_at_end, digits_from_place, positions_at_place, positions_at_end}
 use Rattle.lexical_digits.proofs.Rule.Grants.{ignores_seen}
 use Rattle.lexical_digits.specs.Laws.Table.{none_without_flags, place_from, place_to, place_again, next_count, own_fits, taken_some, taken_none, taken_buffer}
@@ -20,9 +12,10 @@ use Rattle.lexical_digits.specs.Laws.Table.{none_without_flags, place_from, plac
 none_past : (xs : List ℕ) (i : ℕ) → slice_get xs i ≡ None → length xs ≤ i
 none_past xs i e = grind (arith, gets)
 
--- ---- where digits are not counted, nothing hangs on the count
+-- ---- where digits are not counted, the count makes no difference
 
-pub each_counts : (k : Component) (s : State) → Counts (rule k s) s.buffer (counts k s.word)
+pub each_counts : (k : Component) (s : State)
+    → CountsOrIgnores (rule k s) s.buffer (counts k s.word)
 each_counts Special s = inr (ignores_seen (rule Special s) s.buffer
     (elim (cases_Bool (bit s.word 44)) [ inl e ↦ inr (e, e, e, e) | inr e ↦ inl (e, e, e) ]))
 each_counts k s = elim (cases_Bool (has_flags (rule k s))) [

@@ -1,78 +1,15 @@
--- Where the digits end on the iterator of a component: at the stop, and between the cursor and the
--- stop are those that lead.
-use Rattle.std.proofs.Common.{◌≡◌, ℕ, zero, suc, ◌+◌, ◌-◌, ◌<◌, ◌≤◌, Bool, true, false, cond, List, [], ◌∷◌, length, get_or, take, sym, ap, ◌∙◌, arith, inl, inr, slice_get, slice_range, filter}
-use Rattle.std.specs.Fn.{iterate}
-use Rattle.std.proofs.lemmas.Bool.{cases_Bool}
-use Rattle.std.proofs.lemmas.Option.{gets, slice_get-get_or}
-use Rattle.std.proofs.lemmas.List.{drop_more}
-use Rattle.std.proofs.lemmas.List.Sums.{take_while-cons}
-use Rattle.lexical_format.specs.Digits.{is_digit_of_radix}
-use Rattle.lexical_digits.specs.declared.skip.rule.Rule.{Rule}
-use Rattle.lexical_digits.specs.declared.skip.component.Component.{Component}
-use Rattle.lexical_digits.specs.Separators.{is_digit, place}
-use Rattle.lexical_digits.specs.State.{State, IsState, rule, rule_of, own}
-use Rattle.lexical_digits.specs.CallTable.{place_of, settled, taken}
-use Rattle.lexical_digits.specs.Cursor.{holds_of}
-use Rattle.lexical_digits.specs.Stop.{leading, after_leading, stop, leading_digits, stop_of, leading_digits_of, past_digits_of, IsNthDigit}
+-- On the iterator of a component the leading digits are those from the cursor to the stop.
+use Rattle.std.proofs.Common.{◌≡◌, ℕ, zero, suc, ◌+◌, ◌-◌, ◌<◌, ◌≤◌, Bool, cond, List, [], ◌∷◌, length, get_or, take, sym, ap, ◌∙◌, arith, slice_range, filter}
+use Rattle.lexical_digits.specs.Laws.Terms.{iterate, slice_get-get_or, drop_more, is_digit_of_radix, Rule, Component, is_digit, place, State, IsState, with_cursor, rule, rule_of, own, with_own, counts, saturating, place_of, settled, taken, leading, after_leading, leading_digits, stop_of, leading_digits_of, past_digits_of, IsNthDigit}
+use Rattle.std.specs.Prelude.{if◌then◌else◌}
 use Rattle.lexical_digits.specs.Laws.Kept.{place_kept, place_end}
 use Rattle.lexical_digits.specs.Laws.Place.{by_steps, place_low}
-use Rattle.lexical_digits.specs.Laws.Table.{digit_laws, place_to, place_from, own_fits, taken_buffer, taken_word}
+use Rattle.lexical_digits.specs.Laws.Table.{digit_laws, place_from, own_fits, taken_buffer, taken_word}
 use Rattle.lexical_digits.proofs.Rule.Drain.{passed}
-use Rattle.lexical_digits.proofs.Calls.NextTakesFirst.{of_taken, positions_some, positions_none, drain_some, drain_none, with_own_taken, with_own_same}
-use Rattle.lexical_digits.proofs.Calls.Items.{by_items, after_digit, after_none}
+use Rattle.lexical_digits.proofs.Calls.NextTakesFirst.{of_taken, with_own_taken, with_own_same}
+use Rattle.lexical_digits.proofs.Calls.DigitAtPlace.{Digit, digit_there, none_there, by_digits}
+use Rattle.lexical_digits.proofs.Calls.Items.{after_digit, after_none}
 use Rattle.lexical_digits.proofs.Calls.ItemsOfComponents.{items_are_drain}
-
--- whether a digit stands at the place
-abbrev at_digit : Component → State → Bool
-at_digit k s = holds_of (is_digit (rule k s)) (slice_get s.buffer (place_of k s))
-
--- what leads, and the stop, are those of what `next` leaves, behind the digit
-record Digit (k : Component) (s : State) : Type 0 where
-  pub within : place_of k s < length s.buffer
-  pub is : is_digit (rule k s) (get_or s.buffer (place_of k s) 0) ≡ true
-  pub stop : stop_of k s ≡ stop_of k (taken k s)
-  pub leading : leading_digits_of k s
-      ≡ get_or s.buffer (place_of k s) 0 ∷ leading_digits_of k (taken k s)
-  pub on : (taken k s).cursor ≡ place_of k s + 1
-
-digit_there : (k : Component) (s : State) → at_digit k s ≡ true → Digit k s
-unfolding stop leading_digits
-digit_there k s e =
-    let l : place_of k s < length s.buffer = grind (arith, gets) in
-    let is : is_digit (rule k s) (get_or s.buffer (place_of k s) 0) ≡ true = grind (arith, gets) in
-    record {
-      within = l;
-      is = is;
-      stop = rw (positions_some k s l, is, taken_word k s, taken_buffer k s);
-      leading = rw (drain_some k s l, take_while-cons (is_digit (rule k s)), is, taken_word k s);
-      on = of_taken (λ r b i c. i) k s l;
-    }
-
--- where no digit stands at the place
-record None_there (k : Component) (s : State) : Type 0 where
-  pub stop : stop_of k s ≡ place_of k s
-  pub leading : leading_digits_of k s ≡ []
-
-none_there : (k : Component) (s : State) → at_digit k s ≡ false → None_there k s
-unfolding stop leading_digits
-none_there k s e =
-    let some = positions_some k s in
-    let none = positions_none k s in
-    let first = drain_some k s in
-    grind (arith, gets, place_to k s, drain_none k s, take_while-cons {X = ℕ})
-
--- by steps over one digit: a claim that holds where no digit stands at the place, and holds of a
--- state if it holds of what `next` leaves
-by_digits : (k : Component) (P : State → Type 0)
-    → ((s : State) → IsState s → at_digit k s ≡ false → P s)
-    → ((s : State) → IsState s → Digit k s → P (taken k s) → P s)
-    → (s : State) → IsState s → P s
-by_digits k P stops steps = by_items (digit_laws k) P
-    (λ s v h. stops s v (grind (arith, gets)))
-    (λ s v h rest. elim (cases_Bool (at_digit k s)) [
-      | inl e ↦ steps s v (digit_there k s e) rest
-      | inr e ↦ stops s v e
-    ])
 
 -- ---- the digits, and what they leave
 
@@ -89,11 +26,6 @@ past_more k s d =
     let same = λ (n : ℕ). with_own_taken k s n (stop_of k s) d.within in
     grind (arith, d, taken_word k s)
 
-past_none : (k : Component) (s : State) → IsState s → at_digit k s ≡ false
-    → settled k s ≡ past_digits_of k s
-past_none k s v e =
-    grind (arith, none_there k s e, own_fits k s v, with_own_same k s (place_of k s))
-
 abbrev after_in : Component → (ℕ → Bool) → State → State
 after_in k p s =
     after_leading (λ (m : State). m.buffer) (λ m. m.cursor) (place_of k) (taken k) (settled k) p s
@@ -103,7 +35,8 @@ pub after_leading_are : (k : Component) (s : State) → IsState s
     (is_digit (rule k s)) s ≡ past_digits_of k s
 after_leading_are k =
     by_digits k (λ s. after_in k (is_digit (rule k s)) s ≡ past_digits_of k s)
-    (λ s v e. after_none (digit_laws k) (is_digit (rule k s)) s v e ∙ past_none k s v e)
+    (λ s v e. after_none (digit_laws k) (is_digit (rule k s)) s v e
+    ∙ grind (arith, none_there k s e, own_fits k s v, with_own_same k s (place_of k s)))
     (λ s v d rest.
     after_digit (digit_laws k) (is_digit (rule k s)) s _ v
     (slice_get-get_or s.buffer (place_of k s) 0 d.within) d.is
@@ -200,6 +133,25 @@ nth_digit (suc n) k s v l =
     nth_more k s n (place_of k (iterate (taken k) n (taken k s))) v d
     (nth_digit n k (taken k s) ((digit_laws k).taken_valid s v)
     (omega (arith, l, ap length d.leading)))
+
+-- After n digits `peek` leaves the cursor at the next, and n more on the own count, where `next`
+-- counts at all.
+pub nth_leaves : (n : ℕ) (k : Component) (s : State) → IsState s
+    → n < length (leading_digits_of k s)
+    → settled k (iterate (taken k) n s)
+    ≡ with_cursor
+    (with_own k s (if counts k s.word then saturating (own k s) n else own k s))
+    (place_of k (iterate (taken k) n s))
+nth_leaves zero k s v l = grind (arith, own_fits k s v, with_own_same k s (place_of k s))
+nth_leaves (suc n) k s v l =
+    let d = digit_first k s (omega arith) in
+    let own_taken = of_taken (λ r b i c. c) k s d.within in
+    let at : ℕ = place_of k (iterate (taken k) n (taken k s)) in
+    let same = λ (c : ℕ). with_own_taken k s c at d.within in
+    let less : n < length (leading_digits_of k (taken k s)) =
+    omega (arith, l, ap length d.leading) in
+    let rest = nth_leaves n k (taken k s) ((digit_laws k).taken_valid s v) less in
+    grind (arith, d, taken_word k s)
 
 -- where none leads, the place is the stop
 pub none_leads : (k : Component) (s : State) → leading_digits_of k s ≡ []

@@ -1,7 +1,6 @@
 -- Walks whose steps lower a number: any bound that is not below it gives the same.
 use Rattle.std.proofs.Common.{◌≡◌, ℕ, zero, suc, ◌<◌, ◌≤◌, Bool, true, false, refl, arith, inl, inr}
-use Rattle.std.proofs.lemmas.Bool.{cases_Bool}
-use Rattle.lexical_digits.specs.Cursor.{walk}
+use Rattle.lexical_digits.specs.Laws.Terms.{cases_Bool, walk}
 
 -- each step from a meaning that is valid leaves a valid one, with less left
 pub record Falls {M : Type 0} (valid : M → Type 0) (left : M → ℕ) (goes : M → Bool)

@@ -1,24 +1,11 @@
 -- Reading where the cursor stands: nothing is passed over there, and nothing scanned.
-use Rattle.std.proofs.Common.{◌≡◌, ℕ, ◌+◌, ◌≤◌, ◌&&◌, ◌||◌, Bool, true, false, not, cond, Option, Some, None, [], refl, sym, ap, ◌∙◌, arith, slice_get, Bor}
-use Rattle.std.proofs.lemmas.Bool.{not-true, or_parts, and_parts, and_left, and_right}
-use Rattle.std.proofs.lemmas.Bool.Decides.{nat_tests}
-use Rattle.lexical_digits.specs.declared.skip.component.Component.{Component}
-use Rattle.lexical_digits.specs.declared.skip.component.Component.TheVariants.{Integer, Fraction, Exponent, Special}
-use Rattle.lexical_digits.specs.declared.skip.rule.Rule.{Rule}
-use Rattle.lexical_format.specs.Word.{separator}
-use Rattle.lexical_digits.specs.Separators.{is_digit, is_separator, has_flags, IsSupported}
-use Rattle.lexical_digits.specs.State.{State, with_cursor, rule, is_special, is_contiguous, own, with_own, counts, count_after, saturating}
-use Rattle.lexical_digits.specs.declared.skip.bytes.tally.Tally.{Tally}
-use Rattle.lexical_digits.specs.Tally.{passed_by}
-use Rattle.lexical_digits.specs.Shortcuts.{is_told}
-use Rattle.lexical_digits.specs.Bytes.{has_no_flags}
-use Rattle.lexical_digits.specs.CallTable.{place_of, counted}
-use Rattle.lexical_digits.specs.Looks.{separator_at, scans, Held, Reads, Settles, Yields}
+use Rattle.std.proofs.Common.{◌≡◌, ℕ, ◌+◌, ◌≤◌, ◌&&◌, Bool, true, false, cond, Option, Some, None, [], refl, sym, ap, ◌∙◌, arith, slice_get, Bor}
+use Rattle.lexical_digits.specs.Laws.Terms.{Component, Integer, Fraction, Exponent, Special, Rule, separator, is_digit, is_separator, IsSupported, State, with_cursor, rule, is_contiguous, own, with_own, counts, count_after, saturating, Tally, passed_by, is_direct, has_no_flags, place_of, counted, separator_at, scans, Held, Costs, Settles, Yields, not-true, or_parts, and_parts, and_left, and_right, nat_tests}
 use Rattle.lexical_digits.specs.Laws.Table.{place_contiguous}
 use Rattle.lexical_digits.proofs.Rule.Supported.{supported_rule}
 use Rattle.lexical_digits.proofs.Rule.Runs.{separator_no_digit}
 use Rattle.lexical_digits.proofs.Looks.WhereSeparatorsStand.{place_at_other}
-use Rattle.lexical_digits.proofs.Looks.Owing.{reads_unscanned, separator_of, reads_then}
+use Rattle.lexical_digits.proofs.Looks.Owing.{costs_unscanned, separator_of, costs_then}
 use Rattle.lexical_digits.proofs.Calls.NextTakesFirst.{takes_none, takes_some, with_own_same}
 
 -- the place of a component is at the cursor, and no run is looked for there
@@ -29,22 +16,19 @@ pub record IsHere (k : Component) (a : Held) : Type 0 where
 pub here_contiguous : (k : Component) (a : Held) → is_contiguous k a.state.word ≡ true → IsHere k a
 here_contiguous k a e = record {
   place = place_contiguous k a.state e a.holds.within;
-  unscanned = let flags = or_parts _ (rule k a.state).consecutive (not-true _ e) in
-      and_left _ _ (and_left _ _ flags.1);
+  unscanned =
+      and_left _ _ (and_left _ _ (or_parts _ (rule k a.state).consecutive (not-true _ e)).1);
 }
 
 pub here_other : (k : Component) (a : Held)
     → separator_at (separator a.state.word) a.state.buffer a.state.cursor ≡ false → IsHere k a
 unfolding place_of
-here_other k a e = record {
+here_other k a e = let other = rw (sym (separator_of k a.state.word)) at e in record {
   place = place_at_other (rule k a.state) a.state.buffer
       (supported_rule a.state.word k a.holds.word) a.state.cursor (own k a.state) other
       a.holds.within;
   unscanned = and_left _ _ (and_right _ _ other);
 }
-  where
-    other : separator_at (rule k a.state).separator a.state.buffer a.state.cursor ≡ false
-    other = rw separator_of e
 
 pub here_byte : (k : Component) (a : Held) (byte : ℕ)
     → slice_get a.state.buffer a.state.cursor ≡ Some byte
@@ -52,20 +36,26 @@ pub here_byte : (k : Component) (a : Held) (byte : ℕ)
 unfolding separator_at
 here_byte k a byte e other = here_other k a (rw e other)
 
+-- at the end nothing is left to be judged
+pub here_end : (k : Component) (a : Held) → slice_get a.state.buffer a.state.cursor ≡ None
+    → IsHere k a
+unfolding separator_at
+here_end k a e = here_other k a (rw e refl)
+
 -- ---- what it costs
 
--- so many looks more, with a byte that is answered or without
-reads_on : (k : Component) (a b : Held) (n : ℕ) → IsHere k a → b.run ≡ a.run
-    → a.state.cursor ≤ b.state.cursor → b.looks ≡ saturating a.looks n → 1 ≤ n → n ≤ 4 → Reads k a b
-reads_on k a b n here run l e low high =
-    reads_unscanned k a b run l (grind (arith, nat_tests)) (omega (arith, e))
-    (and_left _ _ here.unscanned)
+-- one look more or two, with a byte that is answered or without
+costs_on : (k : Component) (a b : Held) (n : ℕ) → IsHere k a → b.run ≡ a.run
+    → a.state.cursor ≤ b.state.cursor → b.looks ≡ saturating a.looks n → 1 ≤ n → n ≤ 2 → Costs k a b
+costs_on k a b n here run l e low high =
+    costs_unscanned k a b run l (grind (arith, nat_tests)) (omega (arith, e))
+    (λ _. omega (arith, e)) (and_left _ _ here.unscanned)
 
-reads_end : (k : Component) (a : Held) → IsHere k a → slice_get a.state.buffer a.state.cursor ≡ None
-    → Reads k a a
-reads_end k a here e =
-    reads_unscanned k a a refl (omega arith) (rw (here.place, e) (omega arith)) (omega arith)
-    (and_left _ _ here.unscanned)
+costs_end : (k : Component) (a : Held) → slice_get a.state.buffer a.state.cursor ≡ None
+    → Costs k a a
+costs_end k a e = let here = here_end k a e in
+    costs_unscanned k a a refl (omega arith) (rw (here.place, e) (omega arith)) (omega arith)
+    (λ _. omega arith) (and_left _ _ here.unscanned)
 
 -- a digit is no separator
 pub digit_apart : (rule : Rule) (byte : ℕ) → IsSupported rule → is_digit rule byte ≡ true
@@ -73,10 +63,10 @@ pub digit_apart : (rule : Rule) (byte : ℕ) → IsSupported rule → is_digit r
 digit_apart rule byte supported d = grind (arith, separator_no_digit rule [] supported byte)
 
 -- where a byte is passed at once
-pub here_told : (k : Component) (a : Held) (byte : ℕ)
-    → slice_get a.state.buffer a.state.cursor ≡ Some byte → is_told (rule k a.state) byte ≡ true
+pub here_direct : (k : Component) (a : Held) (byte : ℕ)
+    → slice_get a.state.buffer a.state.cursor ≡ Some byte → is_direct (rule k a.state) byte ≡ true
     → IsHere k a
-here_told k a byte e p = here (is_contiguous k a.state.word) refl
+here_direct k a byte e p = here (is_contiguous k a.state.word) refl
   where
     here : (b : Bool) → is_contiguous k a.state.word ≡ b → IsHere k a
     here true f = here_contiguous k a f
@@ -84,12 +74,6 @@ here_told k a byte e p = here (is_contiguous k a.state.word) refl
         let supported = supported_rule a.state.word k a.holds.word in
         here_byte k a byte e (rw (sym (separator_of k a.state.word))
         (digit_apart (rule k a.state) byte supported (rw f at p)))
-
--- at the end nothing is left to be judged
-pub here_end : (k : Component) (a : Held) → slice_get a.state.buffer a.state.cursor ≡ None
-    → IsHere k a
-unfolding separator_at
-here_end k a e = here_other k a (rw e refl)
 
 -- ---- where no component has a flag
 
@@ -109,15 +93,9 @@ counts_none : (k : Component) (word : ℕ) → has_no_flags word ≡ true → co
 counts_none k word e = and_right _ _ (not-true _ (contiguous_all k word e))
 
 -- a byte that is passed at once is counted if digits are
-pub told_counts : (k : Component) (s : State) (byte : ℕ) → is_told (rule k s) byte ≡ true
+pub direct_counts : (k : Component) (s : State) (byte : ℕ) → is_direct (rule k s) byte ≡ true
     → counts k s.word ≡ (counts k s.word && is_digit (rule k s) byte)
-told_counts k s byte p =
-    here (not (is_special k)) (has_flags (rule k s)) (is_digit (rule k s) byte) p
-  where
-    here : (n f d : Bool) → (not f || d) ≡ true → (n && f) ≡ ((n && f) && d)
-    here false f d e = refl
-    here true false d e = refl
-    here true true d e = sym e
+direct_counts k s byte p = grind (arith, nat_tests, p)
 
 -- a byte that is counted exactly if it is a digit that counts
 pub stepped : (k : Component) (s : State) (byte i : ℕ) (b : Bool)
@@ -129,13 +107,10 @@ stepped k s byte i false e = rw (sym e) (sym (with_own_same k s i))
 
 -- ---- a read that stays
 
-pub peeks_end : (k : Component) (a : Held) (answer : Option ℕ) → IsHere k a
+pub peeks_end : (k : Component) (a : Held) (answer : Option ℕ)
     → slice_get a.state.buffer a.state.cursor ≡ None → answer ≡ None → Settles k a a answer
-peeks_end k a answer here none e = record {
-  byte = rw (here.place, none) e;
-  settles = rw here.place refl;
-  reads = reads_end k a here none;
-}
+peeks_end k a answer none e = let here = (here_end k a none).place in
+    record { byte = rw (here, none) e; settles = rw here refl; costs = costs_end k a none }
 
 pub peeks_at : (k : Component) (a b : Held) (byte : ℕ) → IsHere k a
     → slice_get a.state.buffer a.state.cursor ≡ Some byte
@@ -143,51 +118,40 @@ pub peeks_at : (k : Component) (a b : Held) (byte : ℕ) → IsHere k a
 peeks_at k a b byte here at state run looks = record {
   byte = rw here.place (sym at);
   settles = rw here.place state;
-  reads = reads_on k a b 1 here run (omega (arith, ap (λ (s : State). s.cursor) state)) looks
+  costs = costs_on k a b 1 here run (omega (arith, ap (λ (s : State). s.cursor) state)) looks
       (omega arith) (omega arith);
 }
 
 -- ---- a read that takes the byte
 
-pub yields_end : (k : Component) (a : Held) (result : Option (Bor ℕ)) → IsHere k a
+pub yields_end : (k : Component) (a : Held) (result : Option (Bor ℕ))
     → slice_get a.state.buffer a.state.cursor ≡ None → result ≡ None → Yields k a a result
-yields_end k a result here none e = record {
-  takes = rw e (takes_none k a.state a.state a.holds (rw here.place (sym none))
-      (rw here.place refl));
-  reads = reads_end k a here none;
+yields_end k a result none e = let here = (here_end k a none).place in record {
+  takes = rw e (takes_none k a.state a.state a.holds (rw here (sym none)) (rw here refl));
+  costs = costs_end k a none;
 }
 
--- the byte at the cursor, by so many looks
+-- the byte at the cursor, by two looks
 module _ (k : Component) (a b : Held) (item : Bor ℕ) (here : IsHere k a)
     (at : slice_get a.state.buffer a.state.cursor ≡ Some item.now)
-    (run : b.run ≡ a.run) (seen : ℕ) (looks : b.looks ≡ saturating a.looks seen)
-    (few : (1 ≤ seen) × (seen ≤ 4)) where
-  -- which is counted or not, as it is told
-  yields_by : (t : Bool) → t ≡ (counts k a.state.word && is_digit (rule k a.state) item.now)
+    (run : b.run ≡ a.run) (looks : b.looks ≡ saturating a.looks 2) where
+  -- counted or not
+  pub yields_by : (t : Bool) → t ≡ (counts k a.state.word && is_digit (rule k a.state) item.now)
       → b.state ≡ with_cursor (cond t (counted k a.state) a.state) (a.state.cursor + 1)
       → Yields k a b (Some item)
-  yields_by t e left = record {
+  yields_by t e left = let moved = ap (λ (s : State). s.cursor) left in record {
     takes = takes_some k a.state a.state b.state item a.holds (rw here.place (sym at))
         (rw here.place refl) (left ∙ stepped k a.state item.now (a.state.cursor + 1) t e);
-    reads = let moved = ap (λ (s : State). s.cursor) left in
-        reads_on k a b seen here run (omega (arith, moved)) looks few.0 few.1;
+    costs = costs_on k a b 2 here run (omega (arith, moved)) looks (omega arith) (omega arith);
   }
 
-  -- a byte that tells itself, by a tally of this component
-  pub yields_told : (r : Tally) → is_told (rule k a.state) item.now ≡ true → r.reader ≡ k
+  -- a direct byte, by a tally of this component
+  pub yields_direct : (r : Tally) → is_direct (rule k a.state) item.now ≡ true → r.reader ≡ k
       → r.is_counting ≡ counts k a.state.word
       → b.state ≡ with_cursor (passed_by r a.state) (a.state.cursor + 1)
       → Yields k a b (Some item)
-  yields_told r told reader counting left = yields_by (counts k a.state.word)
-      (told_counts k a.state item.now told) (left ∙ rw (reader, counting) refl)
-
-  -- a byte that is no digit is not counted
-  pub yields_skipped : is_told (rule k a.state) item.now ≡ false
-      → b.state ≡ with_cursor a.state (a.state.cursor + 1)
-      → Yields k a b (Some item)
-  yields_skipped told left =
-      let other = or_parts _ (is_digit (rule k a.state) item.now) told in
-      yields_by false (sym (and_right _ _ other.1)) left
+  yields_direct r direct reader counting left = yields_by (counts k a.state.word)
+      (direct_counts k a.state item.now direct) (left ∙ rw (reader, counting) refl)
 
   -- any byte, where no component has a flag, by a tally of any component
   pub yields_unflagged : (r : Tally) → has_no_flags a.state.word ≡ true
@@ -198,4 +162,4 @@ module _ (k : Component) (a b : Held) (item : Bor ℕ) (here : IsHere k a)
       (left ∙ rw (counting, counts_none r.reader a.state.word free) refl)
 
 -- a read arrived at its place, and steps past it or finds none
-pub ruleset steps_past = (takes_none, reads_then)
+pub ruleset steps_past = (takes_none, costs_then)

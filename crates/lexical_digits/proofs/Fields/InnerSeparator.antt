@@ -1,28 +1,14 @@
--- A separator that stands alone between a counted digit and a digit, and is passed over in place.
-use Rattle.std.proofs.Common.{◌||◌, not, ltb, ◌≡◌, ℕ, ◌+◌, ◌<◌, ◌≤◌, Bool, true, false, Some, List, length, refl, sym, ap, ◌∙◌, arith, IsTrue, slice_get, Bor}
-use Rattle.std.proofs.lemmas.Bool.{and_right, or_from, not_from_true, lt-ltb}
-use Rattle.std.proofs.lemmas.Bool.Decides.{nat_tests}
-use Rattle.std.proofs.lemmas.Option.{slice_get_within}
-use Rattle.lexical_format.specs.Word.{separator, is_supported}
-use Rattle.lexical_digits.specs.declared.skip.component.Component.{Component}
-use Rattle.lexical_digits.specs.declared.skip.rule.Rule.{Rule}
-use Rattle.lexical_digits.specs.declared.skip.bytes.tally.Tally.{Tally}
-use Rattle.lexical_digits.specs.declared.skip.bytes.shortcuts.Shortcuts.{Shortcuts}
-use Rattle.lexical_digits.specs.Separators.{class, is_digit, is_separator, right_side, place, is_kept, holds_separator, IsSupported}
-use Rattle.lexical_digits.specs.State.{State, with_cursor, rule, rule_of, own, counts, saturating}
-use Rattle.lexical_digits.specs.CallTable.{place_of}
-use Rattle.lexical_digits.specs.Looks.{separator_at, Held, Settles, Yields}
-use Rattle.lexical_digits.specs.Tally.{passed_by, state_of}
-use Rattle.lexical_digits.specs.Shortcuts.{is_told, IsInner}
-use Rattle.lexical_digits.specs.Bytes.{IsInnerAt, IsInnerDigit, IsReading}
+-- A lone separator between a counted digit and a digit, which is passed over in place.
+use Rattle.std.proofs.Common.{◌||◌, not, ltb, ◌≡◌, ℕ, ◌+◌, ◌<◌, ◌≤◌, Bool, true, false, Some, List, length, refl, sym, ap, ◌∙◌, arith, slice_get, Bor}
+use Rattle.lexical_digits.specs.Laws.Terms.{separator, Component, Rule, Inside, Tally, class, is_digit, is_separator, right_side, place, is_kept, holds_separator, IsSupported, State, with_cursor, rule, rule_of, own, counts, saturating, place_of, separator_at, Held, Settles, Yields, passed_by, state_of, is_direct, IsInner, IsInnerAt, IsInnerDigit, FollowsDigit, false≢true, and_right, or_from, not_from_true, lt-ltb, nat_tests, slice_get_within}
 use Rattle.lexical_digits.proofs.Rule.Supported.{supported_rule}
-use Rattle.lexical_digits.proofs.Fields.TellingBytes.{reader_tells, reader_counts}
+use Rattle.lexical_digits.proofs.Fields.DirectBytes.{rule_by, counts_by, direct_by}
 use Rattle.lexical_digits.proofs.Fields.CarriedByCursor.{counted_since}
-use Rattle.lexical_digits.proofs.Looks.Owing.{separator_of, reads_unscanned}
+use Rattle.lexical_digits.proofs.Looks.Owing.{separator_of, costs_unscanned}
 use Rattle.lexical_digits.proofs.Looks.WhereSeparatorsStand.{holds_separator_at}
 use Rattle.lexical_digits.proofs.Rule.Sides.{right_one, right_many, kept_by_sides}
 use Rattle.lexical_digits.proofs.Rule.Runs.{place_next, place_run}
-use Rattle.lexical_digits.proofs.Fields.AtTheCursor.{digit_apart, told_counts, stepped}
+use Rattle.lexical_digits.proofs.Fields.AtTheCursor.{digit_apart, direct_counts, stepped}
 use Rattle.lexical_digits.proofs.Calls.NextTakesFirst.{takes_some}
 
 -- ---- at a position of a buffer
@@ -32,7 +18,7 @@ there : (separator : ℕ) (buffer : List ℕ) (q byte : ℕ) → slice_get buffe
 unfolding separator_at
 there separator buffer q byte e = rw e refl
 
--- a lone separator behind counted digits and before a digit is passed over
+-- a lone separator after counted digits and before a digit is dropped
 place_inner : (rule : Rule) (buffer : List ℕ) (q digit count : ℕ) → IsSupported rule
     → separator_at rule.separator buffer q ≡ true
     → separator_at rule.separator buffer (q + 1) ≡ false
@@ -41,8 +27,8 @@ place_inner : (rule : Rule) (buffer : List ℕ) (q digit count : ℕ) → IsSupp
 place_inner rule buffer q digit count supported stands apart next is_next internal some =
     here rule.consecutive refl
   where
-    l : q + 1 < length buffer
-    l = slice_get_within buffer (q + 1) digit next
+    within : q + 1 ≤ length buffer
+    within = let l = slice_get_within buffer (q + 1) digit next in omega (arith, l)
 
     holds : holds_separator rule buffer q ≡ true
     holds = holds_separator_at rule buffer supported q ∙ stands
@@ -60,67 +46,61 @@ place_inner rule buffer q digit count supported stands apart next is_next intern
         ∙ rw (sym right, next, is_next, internal) refl
 
     here : (b : Bool) → rule.consecutive ≡ b → place rule buffer q count ≡ q + 1
-    here true e = place_run rule buffer e 1 q (q + 1) count refl all stops (omega (arith, l))
-        (gone (right_many rule buffer supported e q (q + 1) holds (omega arith) all stops
-        (omega (arith, l))))
-    here false e = place_next rule buffer e q count (omega (arith, l))
+    here true e = place_run rule buffer e 1 q (q + 1) count refl all stops within
+        (gone (right_many rule buffer supported e q (q + 1) holds (omega arith) all stops within))
+    here false e = place_next rule buffer e q count (omega (arith, within))
         (gone (right_one rule buffer supported e q))
 
 -- ---- while a component reads
 
--- the separator at the cursor is passed over, and the digit behind it told
+-- the separator at the cursor is passed over, and the digit after it is direct
 pub record PassesOver (k : Component) (s : State) (digit : ℕ) : Type 0 where
   pub place : place_of k s ≡ s.cursor + 1
+  pub follows : FollowsDigit k s
   pub next : slice_get s.buffer (s.cursor + 1) ≡ Some digit
-  pub told : is_told (rule k s) digit ≡ true
+  pub direct : is_direct (rule k s) digit ≡ true
   pub free : (separator_at (separator s.word) s.buffer (s.cursor + 1) || not (ltb 0 (own k s)))
       ≡ false
 
-module _ (k : Component) (buffer : List ℕ) (word : ℕ) (t : Tally) (s : Shortcuts) (byte : ℕ)
-    (reading : IsReading word t.reader t.is_counting s) (reader : t.reader ≡ k)
-    (fits : byte < 256) where
-  -- such a separator stands behind a digit that was counted
-  pub counted_before : IsInnerAt t s byte → 0 < own k (state_of buffer word t)
-  counted_before is =
-      counted_since buffer word t k reader
-      (reader_counts word t.reader k t.is_counting s reading reader)
-      (reading.inner (omega (arith, is.inner, fits))).counting is.since
+module _ (b : Inside) (k : Component) (reader : b.tally.reader ≡ k) (byte : ℕ)
+    (fits : byte < 256) (at : slice_get b.slc.now b.tally.index ≡ Some byte) where
+  inner_by : IsInnerAt b.tally b.shortcuts byte
+      → IsInner (rule_of b.format k) b.tally.is_counting byte
+  inner_by is = rw (is.inner, rule_by b k reader) at
+      (b.reading.inner (omega (arith, is.inner, fits)))
 
-  pub passes_over : (digit : ℕ) → IsTrue (is_supported word) → slice_get buffer t.index ≡ Some byte
-      → IsInnerDigit buffer t s byte digit → PassesOver k (state_of buffer word t) digit
-  unfolding place_of
-  passes_over digit supported at is = record {
-    place = place_inner (rule_of word k) buffer t.index digit (own k (state_of buffer word t))
-        rule_supported stands apart is.behind is_next inner.internal counted;
-    next = is.behind;
-    told = told;
-    free = or_from _ _ (rw (sym (separator_of k word)) apart)
-        (not_from_true _ (lt-ltb 0 (own k (state_of buffer word t)) counted));
+  pub follows_by : IsInnerAt b.tally b.shortcuts byte
+      → FollowsDigit k (state_of b.slc.now b.format b.tally)
+  follows_by is = record {
+    here = rw (sym (separator_of k b.format))
+        (there (rule_of b.format k).separator b.slc.now b.tally.index byte at
+        ∙ (inner_by is).separates);
+    counted = counted_since b.slc.now b.format b.tally k reader (counts_by b k reader)
+        (inner_by is).counting is.since;
   }
-    where
-      rule_supported : IsSupported (rule_of word k)
-      rule_supported = supported_rule word k supported
 
-      counted : 0 < own k (state_of buffer word t)
-      counted = counted_before is.here
-
-      inner : IsInner (rule_of word k) t.is_counting s.inner
-      inner = rw reader at (reading.inner (omega (arith, is.here.inner, fits)))
-
-      stands : separator_at (rule_of word k).separator buffer t.index ≡ true
-      stands = there (rule_of word k).separator buffer t.index byte at
-          ∙ (rw is.here.inner at inner.separates)
-
-      told : is_told (rule_of word k) digit ≡ true
-      told = reader_tells word t.reader k t.is_counting s digit true supported reading reader
-          is.fits is.told
-
-      is_next : is_digit (rule_of word k) digit ≡ true
-      is_next = rw inner.internal at told
-
-      apart : separator_at (rule_of word k).separator buffer (t.index + 1) ≡ false
-      apart = there (rule_of word k).separator buffer (t.index + 1) digit is.behind
-          ∙ digit_apart (rule_of word k) digit rule_supported is_next
+  pub over_by : (digit : ℕ) → IsInnerDigit b.slc.now b.tally b.shortcuts byte digit
+      → PassesOver k (state_of b.slc.now b.format b.tally) digit
+  unfolding place_of
+  over_by digit is =
+      let r = rule_of b.format k in
+      let follows = follows_by is.here in
+      let direct = direct_by b k reader digit true is.fits is.direct in
+      let is_next = rw (inner_by is.here).internal at direct in
+      let supported = supported_rule b.format k b.holds.word in
+      let apart = there r.separator b.slc.now (b.tally.index + 1) digit is.next
+      ∙ digit_apart r digit supported is_next in
+      let own_count = own k (state_of b.slc.now b.format b.tally) in
+      record {
+        place = place_inner r b.slc.now b.tally.index digit own_count supported
+            (rw separator_of follows.here) apart is.next is_next (inner_by is.here).internal
+            follows.counted;
+        follows = follows;
+        next = is.next;
+        direct = direct;
+        free = or_from _ _ (rw (sym (separator_of k b.format)) apart)
+            (not_from_true _ (lt-ltb 0 own_count follows.counted));
+      }
 
 -- ---- what it answers
 
@@ -130,9 +110,10 @@ pub peeks_over : (k : Component) (a b : Held) (digit : ℕ) → PassesOver k a.s
 peeks_over k a b digit over state run looks = record {
   byte = rw over.place (sym over.next);
   settles = rw over.place state;
-  reads = let at = ap (λ (s : State). s.cursor) state in
-      reads_unscanned k a b run (omega (arith, at)) (grind (arith, nat_tests))
-      (omega (arith, looks)) (and_right _ _ over.free);
+  costs = let at = ap (λ (s : State). s.cursor) state in
+      costs_unscanned k a b run (omega (arith, at)) (grind (arith, nat_tests))
+      (omega (arith, looks)) (λ e. absurd (false≢true (sym e ∙ over.follows.here)))
+      (and_right _ _ over.free);
 }
 
 -- the separator is passed, which leaves m and the tally r; and then the digit
@@ -146,10 +127,12 @@ yields_over k a b m r item over moved index reader counting left run looks = rec
   takes = takes_some k a.state n b.state item a.holds (rw over.place (sym over.next))
       (rw over.place refl)
       (left ∙ rw (moved, index, reader, counting) refl
-      ∙ stepped k n item.now (n.cursor + 1) (counts k n.word) (told_counts k n item.now over.told));
-  reads = let at = ap (λ (s : State). s.cursor) left in
-      reads_unscanned k a b run (omega (arith, at, index)) (grind (arith, nat_tests))
-      (omega (arith, looks)) (and_right _ _ over.free);
+      ∙ stepped k n item.now (n.cursor + 1) (counts k n.word)
+      (direct_counts k n item.now over.direct));
+  costs = let at = ap (λ (s : State). s.cursor) left in
+      costs_unscanned k a b run (omega (arith, at, index)) (grind (arith, nat_tests))
+      (omega (arith, looks)) (λ e. absurd (false≢true (sym e ∙ over.follows.here)))
+      (and_right _ _ over.free);
 }
   where
     n : State

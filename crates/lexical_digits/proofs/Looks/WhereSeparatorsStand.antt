@@ -1,10 +1,7 @@
 -- Where a separator stands, by its byte alone.
 use Rattle.std.proofs.Common.{◌≡◌, ℕ, ◌<◌, ◌≤◌, false, Option, Some, None, List, length, get_or, refl, ◌∙◌, slice_get}
 use Rattle.std.specs.Option.{option_map_or}
-use Rattle.std.proofs.lemmas.Option.{slice_get-get_or, slice_get_past}
-use Rattle.lexical_digits.specs.declared.skip.rule.Rule.{Rule}
-use Rattle.lexical_digits.specs.Separators.{class, is_separator, is_separator_class, holds_separator, place, IsSupported}
-use Rattle.lexical_digits.specs.Looks.{separator_at}
+use Rattle.lexical_digits.specs.Laws.Terms.{Rule, class, is_separator, is_separator_class, holds_separator, place, IsSupported, separator_at, slice_get-get_or, slice_get_past}
 use Rattle.lexical_digits.proofs.Rule.Runs.{separator_class, place_after_run}
 
 module _ (separator : ℕ) (buffer : List ℕ) where

@@ -1,16 +1,8 @@
 -- What one read does to a drain.
 use Rattle.std.proofs.Common.{◌≡◌, ℕ, ◌+◌, ◌-◌, ◌<◌, ◌≤◌, ◌^◌, min, Bool, true, false, cond, eqb, List, [], ◌∷◌, length, get_or, drop, refl, arith, one-add, inl, count_by, slice_get}
-use Rattle.std.proofs.lemmas.Option.{gets}
-use Rattle.std.proofs.lemmas.Bool.Decides.{nat_tests}
-use Rattle.std.proofs.lemmas.List.{drop_more, drop_all}
-use Rattle.std.proofs.lemmas.List.Sums.{sum_by-cons}
-use Rattle.lexical_digits.specs.declared.skip.rule.Rule.{Rule}
-use Rattle.lexical_digits.specs.Separators.{is_digit, kept_positions, drain, place, zeros, past_zeros, IsSupported}
-use Rattle.lexical_digits.specs.State.{count_after, one_more}
-use Rattle.lexical_format.specs.Digits.{digit_value}
-use Rattle.lexical_digits.specs.Laws.Kept.{Counts, positions_kept, positions_dropped, positions_end, place_kept, place_dropped, place_end, no_digit_at_separator}
+use Rattle.lexical_digits.specs.Laws.Terms.{gets, nat_tests, drop_more, drop_all, sum_by-cons, Rule, is_digit, kept_positions, drain, place, zeros, past_zeros, IsSupported, count_after, one_more, digit_value, holds_of}
+use Rattle.lexical_digits.specs.Laws.Kept.{CountsOrIgnores, positions_kept, positions_dropped, positions_end, place_kept, place_dropped, place_end, no_digit_at_separator}
 use Rattle.lexical_digits.specs.Laws.Place.{by_steps, place_high}
-use Rattle.lexical_digits.specs.Cursor.{holds_of}
 use Rattle.lexical_digits.proofs.Rule.Runs.{dropped_is_separator}
 
 -- one element more on the left
@@ -31,7 +23,7 @@ module _ (rule : Rule) (buffer : List ℕ) where
   past counts s c = count_after rule counts (get_or buffer (at s c) 0) c
 
   -- the place is kept, from the same start and from itself
-  pub positions_at_place : (counts : Bool) → Counts rule buffer counts → (s c : ℕ)
+  pub positions_at_place : (counts : Bool) → CountsOrIgnores rule buffer counts → (s c : ℕ)
       → at s c < length buffer → kept_positions rule buffer s c
       ≡ at s c ∷ kept_positions rule buffer (at s c + 1) (past counts s c)
   positions_at_place counts w s c =
@@ -75,7 +67,7 @@ module _ (rule : Rule) (buffer : List ℕ) where
 
   -- ---- zeros
 
-  pub zeros_at_place : (counts : Bool) → Counts rule buffer counts → (s c : ℕ)
+  pub zeros_at_place : (counts : Bool) → CountsOrIgnores rule buffer counts → (s c : ℕ)
       → at s c < length buffer → eqb (get_or buffer (at s c) 0) 48 ≡ true
       → zeros rule buffer s c ≡ 1 + zeros rule buffer (at s c + 1) (past counts s c)
   unfolding zeros drain
@@ -87,7 +79,7 @@ module _ (rule : Rule) (buffer : List ℕ) where
   zeros_none s c e =
       grind (arith, gets, place_high, positions_at_place true (inl refl), positions_at_end)
 
-  pub past_at_place : (counts : Bool) → Counts rule buffer counts → (s c : ℕ)
+  pub past_at_place : (counts : Bool) → CountsOrIgnores rule buffer counts → (s c : ℕ)
       → at s c < length buffer → eqb (get_or buffer (at s c) 0) 48 ≡ true
       → past_zeros rule buffer s c ≡ past_zeros rule buffer (at s c + 1) (past counts s c)
   unfolding past_zeros

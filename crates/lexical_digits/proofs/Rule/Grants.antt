@@ -1,12 +1,6 @@
 -- What flags do to a drain.
-use Rattle.std.proofs.Common.{◌≡◌, ℕ, ◌+◌, Bool, true, false, not, Option, List, [], ◌∷◌, get_or, drop, map, refl, sym, ap, ◌∙◌, arith, ◌⊎◌, inl, inr}
-use Rattle.std.specs.List.{slice_get, find, filter, count_by, slice_range}
-use Rattle.std.proofs.lemmas.List.{get_or_past}
-use Rattle.std.proofs.lemmas.Option.{gets}
-use Rattle.std.proofs.lemmas.Bool.Decides.{nat_tests}
-use Rattle.lexical_digits.specs.declared.skip.rule.Rule.{Rule}
-use Rattle.lexical_format.specs.Digits.{is_digit_of_radix}
-use Rattle.lexical_digits.specs.Separators.{is_digit, is_separator, class, is_separator_class, neighbour, holds_separator, is_dropped, digits_seen, is_kept, kept_positions, drain, GrantsNone, GrantsAll, GrantsAtLeast, IsSupported}
+use Rattle.std.proofs.Common.{◌≡◌, ℕ, ◌+◌, Bool, true, false, not, Option, List, [], ◌∷◌, get_or, drop, map, refl, sym, ap, ◌∙◌, arith, ◌⊎◌, inl, inr, slice_get, find, filter, count_by, slice_range}
+use Rattle.lexical_digits.specs.Laws.Terms.{get_or_past, gets, nat_tests, Rule, is_digit_of_radix, is_digit, is_separator, class, is_separator_class, neighbour, holds_separator, is_dropped, digits_seen, is_kept, kept_positions, drain, GrantsNone, GrantsAll, GrantsAtLeast, IsSupported}
 use Rattle.lexical_digits.specs.Laws.Ranges.{reads_positions}
 use Rattle.lexical_digits.specs.Laws.Place.{grants_no_list}
 use Rattle.lexical_digits.specs.Laws.Kept.{no_digit_at_separator, dropped_holds_separator, IgnoresSeen}
@@ -23,7 +17,7 @@ module _ (rule : Rule) where
 
   module _ (buffer : List ℕ) where
     -- where all is granted, each separator is dropped
-    dropped_if_all : GrantsAll rule → (t : Bool) (q : ℕ)
+    pub dropped_if_all : GrantsAll rule → (t : Bool) (q : ℕ)
         → is_dropped rule buffer t q ≡ holds_separator rule buffer q
     unfolding is_dropped
     dropped_if_all all t q = grind (arith, all, neighbour_class all.3)

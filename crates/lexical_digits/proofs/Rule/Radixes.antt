@@ -1,20 +1,18 @@
 -- Where a word's two radixes are equal, each row of the call table is as it was by the mantissa
 -- radix alone.
-use Rattle.std.proofs.Common.{◌≡◌, ℕ, List, [], ◌∷◌, refl, arith}
-use Rattle.lexical_format.specs.Word.{mantissa_radix, exponent_radix, is_supported}
-use Rattle.lexical_digits.specs.declared.skip.component.Component.{Component}
-use Rattle.lexical_digits.specs.State.{State, rule, rule_of}
-use Rattle.lexical_digits.specs.CallTable.{Part, OnBytes, On, Call, TakeN, row_of, view, after_view, taken, place_of, run_of}
-use Rattle.lexical_digits.specs.MantissaRadix.{mantissa_rule_of, mantissa_is_supported, row_by, row_on, run_on}
+use Rattle.std.proofs.Common.{◌≡◌, ℕ, List, [], ◌∷◌, refl, ◌∙◌, arith}
+use Rattle.lexical_digits.specs.Laws.Terms.{mantissa_radix, exponent_radix, is_supported, Component, State, rule_of, Part, OnBytes, On, Call, TakeN, row_of, view, after_view, taken, place_of, run_of}
+use Rattle.lexical_digits.specs.MantissaRadix.{mantissa_rule_of, mantissa_is_supported, row_on, run_on}
 use Rattle.lexical_digits.specs.Laws.Table.{with_own_word, taken_word}
 
 -- ---- the table is the one by the rules of the word
 
-row_by_rule : (k : Component) (call : Call) (s : State)
-    → row_of (On k) call s ≡ row_by (rule k s) k call s
+pub table_by_rule : (part : Part) (call : Call) (s : State)
+    → row_of part call s ≡ row_on rule_of part call s
 unfolding place_of taken view after_view
-row_by_rule k (TakeN n) s = grind arith
-row_by_rule k call s = refl
+table_by_rule OnBytes call s = refl
+table_by_rule (On k) (TakeN n) s = grind arith
+table_by_rule (On k) call s = refl
 
 -- ---- and its rules are those of the mantissa radix
 
@@ -25,7 +23,7 @@ rule_same word e k = grind arith
 row_same : (part : Part) (call : Call) (s : State) → exponent_radix s.word ≡ mantissa_radix s.word
     → row_of part call s ≡ row_on mantissa_rule_of part call s
 row_same OnBytes call s e = refl
-row_same (On k) call s e = rw (← rule_same s.word e k) (row_by_rule k call s)
+row_same (On k) call s e = rw (← rule_same s.word e k) (table_by_rule (On k) call s)
 
 -- ---- no row changes the word
 
@@ -35,24 +33,13 @@ row_word part call s = grind (arith, with_own_word, taken_word)
 
 -- ---- all of it
 
-run_from : (calls : List (Part × Call)) (s : State)
-    → exponent_radix s.word ≡ mantissa_radix s.word
-    → run_of s calls ≡ run_on mantissa_rule_of s calls
-run_from [] s e = refl
-run_from (call ∷ calls) s e =
-    rw (
-      ← row_same call.0 call.1 s e,
-      run_from calls (row_of call.0 call.1 s).state (rw (row_word call.0 call.1 s) e),
-    ) refl
-
 pub run_same : (word : ℕ) → exponent_radix word ≡ mantissa_radix word → (s : State) → s.word ≡ word
     → (calls : List (Part × Call)) → run_of s calls ≡ run_on mantissa_rule_of s calls
-run_same word e s is calls = run_from calls s (rw is e)
-
-pub table_by_rule : (part : Part) (call : Call) (s : State)
-    → row_of part call s ≡ row_on rule_of part call s
-table_by_rule OnBytes call s = refl
-table_by_rule (On k) call s = row_by_rule k call s
+run_same word e s is [] = refl
+run_same word e s is (call ∷ calls) =
+    let row = row_of call.0 call.1 s in
+    let next = run_same word e row.state (row_word call.0 call.1 s ∙ is) calls in
+    rw (← row_same call.0 call.1 s (rw is e), next) refl
 
 pub supported_same : (word : ℕ) → exponent_radix word ≡ mantissa_radix word
     → is_supported word ≡ mantissa_is_supported word

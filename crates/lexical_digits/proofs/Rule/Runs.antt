@@ -1,11 +1,6 @@
 -- Why a look nearby finds the place.
-use Rattle.std.proofs.Common.{◌≡◌, ℕ, zero, suc, ◌+◌, ◌-◌, ◌<◌, ◌≤◌, true, false, not, Some, List, ◌∷◌, length, drop, take, reverse, sym, ap, ◌∙◌, arith, length-drop, slice_get, find}
-use Rattle.std.proofs.lemmas.Bool.{cases_lt, not-false}
-use Rattle.std.proofs.lemmas.Bool.Decides.{nat_tests}
-use Rattle.std.proofs.lemmas.List.{drop_more, take_more, reverse-append, get_or-drop}
-use Rattle.std.proofs.lemmas.Option.{gets}
-use Rattle.lexical_digits.specs.declared.skip.rule.Rule.{Rule}
-use Rattle.lexical_digits.specs.Separators.{is_digit, holds_separator, is_dropped, is_kept, place, class, is_separator_class, is_separator, neighbour, right_side, IsSupported}
+use Rattle.std.proofs.Common.{◌≡◌, ℕ, zero, suc, ◌+◌, ◌-◌, ◌<◌, ◌≤◌, true, false, not, Some, List, ◌∷◌, length, drop, take, reverse, sym, ap, ◌∙◌, arith, length-drop, slice_get, find, get_or-drop}
+use Rattle.lexical_digits.specs.Laws.Terms.{cases_lt, not-false, nat_tests, drop_more, take_more, reverse-append, gets, Rule, is_digit, holds_separator, is_dropped, is_kept, place, class, is_separator_class, is_separator, neighbour, right_side, IsSupported}
 use Rattle.lexical_digits.specs.Laws.Kept.{separator_within, separator_byte, dropped_holds_separator, place_kept, place_dropped, place_end, seen_none}
 
 -- what stays over each step stays over all of them

@@ -1,12 +1,6 @@
 -- What the scans to both sides find.
-use Rattle.std.proofs.Common.{◌≡◌, ℕ, zero, suc, ◌+◌, ◌-◌, ◌<◌, ◌≤◌, Bool, true, false, not, ltb, List, [], ◌∷◌, length, get_or, drop, take, reverse, refl, sym, ap, ◌∙◌, arith, inl, inr}
-use Rattle.std.specs.List.{slice_get, list_any}
-use Rattle.std.proofs.lemmas.Bool.{cases_lt}
-use Rattle.std.proofs.lemmas.List.{drop_more, drop_all, take_more, reverse-append}
-use Rattle.std.proofs.lemmas.Option.{gets}
-use Rattle.lexical_digits.specs.declared.skip.rule.Rule.{Rule}
-use Rattle.lexical_digits.specs.Separators.{is_separator, class, neighbour, right_side, left_side, roles, grants, holds_separator, is_dropped, is_kept, IsSupported}
-use Rattle.lexical_digits.specs.Looks.{slice_before}
+use Rattle.std.proofs.Common.{◌≡◌, ℕ, zero, suc, ◌+◌, ◌-◌, ◌<◌, ◌≤◌, Bool, true, false, not, ltb, List, [], ◌∷◌, length, get_or, drop, take, reverse, refl, sym, ap, ◌∙◌, arith, inl, inr, slice_get}
+use Rattle.lexical_digits.specs.Laws.Terms.{list_any, cases_lt, drop_more, drop_all, take_more, reverse-append, gets, Rule, is_separator, class, neighbour, right_side, left_side, roles, grants, holds_separator, is_dropped, is_kept, IsSupported, slice_before}
 use Rattle.lexical_digits.specs.Laws.Kept.{seen_none}
 use Rattle.lexical_digits.proofs.Rule.Runs.{separator_class, neighbour_many, neighbour_single, along, Separators, right_in_run, left_in_run, right_single}
 
@@ -17,7 +11,7 @@ module _ (rule : Rule) (buffer : List ℕ) (supported : IsSupported rule) where
   no_separator_byte k l h = grind (arith, gets, separator_class rule buffer supported)
 
   -- the end of a run is what stands to its right
-  right_at : rule.consecutive ≡ true → (e : ℕ) → holds_separator rule buffer e ≡ false
+  pub right_at : rule.consecutive ≡ true → (e : ℕ) → holds_separator rule buffer e ≡ false
       → neighbour rule (drop e buffer) ≡ slice_get buffer e
   right_at many e stop = elim (cases_lt e (length buffer)) [
     | inl l ↦ rw (drop_more buffer e 0 l)

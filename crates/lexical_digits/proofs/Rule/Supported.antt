@@ -1,11 +1,6 @@
 -- What a supported word says of its rules.
 use Rattle.std.proofs.Common.{◌≡◌, ℕ, subst, sym, arith, IsTrue}
-use Rattle.std.proofs.lemmas.Bool.Decides.{nat_tests}
-use Rattle.lexical_format.specs.Word.{is_supported}
-use Rattle.lexical_digits.specs.declared.skip.rule.Rule.{Rule}
-use Rattle.lexical_digits.specs.declared.skip.component.Component.{Component}
-use Rattle.lexical_digits.specs.Separators.{is_digit, IsSupported}
-use Rattle.lexical_digits.specs.State.{rule_of}
+use Rattle.lexical_digits.specs.Laws.Terms.{nat_tests, is_supported, Rule, Component, is_digit, IsSupported, rule_of}
 
 pub supported_rule : (word : ℕ) (k : Component) → IsTrue (is_supported word)
     → IsSupported (rule_of word k)

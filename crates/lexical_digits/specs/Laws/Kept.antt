@@ -1,15 +1,10 @@
--- A step over one position: what it does to what is kept behind it.
-use Rattle.std.proofs.Common.{◌≡◌, ℕ, zero, ◌+◌, ◌-◌, ◌<◌, ◌≤◌, Bool, true, false, cond, not, ltb, Option, Some, List, [], ◌∷◌, length, get_or, map, refl, ap, arith, add-zero, ◌⊎◌, inl, inr}
-use Rattle.std.proofs.lemmas.Option.{gets}
-use Rattle.std.proofs.lemmas.Bool.{and_parts}
-use Rattle.std.proofs.lemmas.Bool.Decides.{nat_tests}
-use Rattle.lexical_digits.specs.declared.skip.rule.Rule.{Rule}
-use Rattle.lexical_digits.specs.Separators.{is_digit, holds_separator, is_dropped, digits_seen, is_kept, kept_positions, drain, place, class, is_separator_class, is_separator}
-use Rattle.lexical_digits.specs.State.{count_after}
+-- What is kept after a position, by whether that position is kept.
+use Rattle.std.proofs.Common.{◌≡◌, ℕ, zero, ◌+◌, ◌-◌, ◌<◌, ◌≤◌, Bool, true, false, cond, not, ltb, Option, Some, List, [], ◌∷◌, length, get_or, refl, ap, arith, add-zero, ◌⊎◌, inl, inr}
+use Rattle.lexical_digits.specs.Laws.Terms.{gets, and_parts, nat_tests, Rule, is_digit, holds_separator, is_dropped, digits_seen, is_kept, kept_positions, place, class, is_separator_class, is_separator, count_after}
 use Rattle.lexical_digits.specs.Laws.Ranges.{filter_same_from, range_first, range_none, count_first}
 
 module _ (rule : Rule) (buffer : List ℕ) where
-  -- a digit is kept, and so a position that is dropped holds none
+  -- a separator is no digit; a position that is dropped holds one
   pub separator_is : (o : Option ℕ) → is_separator_class (class rule o) ≡ true → (byte : ℕ)
       × (o ≡ Some byte) × (is_digit rule byte ≡ false) × (is_separator rule.separator byte ≡ true)
   separator_is o h = grind arith
@@ -47,7 +42,7 @@ module _ (rule : Rule) (buffer : List ℕ) where
   unfolding digits_seen
   seen_none s c = let e : s - s ≡ zero = omega arith in rw e (add-zero c)
 
-  -- what is kept behind s, judged from s + 1 with another count
+  -- what is kept after s, from s + 1 with another count
   pub kept_same : (s c d k : ℕ) → s < length buffer → s < k
       → ltb 0 (c + cond (is_digit rule (get_or buffer s 0)) 1 0) ≡ ltb 0 d
       → is_kept rule buffer s c k ≡ is_kept rule buffer (s + 1) d k
@@ -57,7 +52,7 @@ module _ (rule : Rule) (buffer : List ℕ) where
 
   -- ---- a step over one position, kept or dropped
 
-  -- s is dropped, so it holds no digit, and what is kept behind it is judged alike from s + 1
+  -- s is dropped, so it holds no digit: what is kept after it is the same from s + 1
   pub kept_behind_dropped : (s c k : ℕ) → is_kept rule buffer s c s ≡ false → s < length buffer
       → s < k → is_kept rule buffer s c k ≡ is_kept rule buffer (s + 1) c k
   unfolding is_kept
@@ -69,23 +64,23 @@ module _ (rule : Rule) (buffer : List ℕ) where
       → ltb 0 (c + cond (is_digit rule byte) 1 0) ≡ ltb 0 (count_after rule true byte c)
   count_after_positive c byte = grind (arith, nat_tests)
 
-  -- what was seen before does not matter
+  -- whether a digit was seen makes no difference
   abbrev pub IgnoresSeen : Type 0
   IgnoresSeen = (t u : Bool) (q : ℕ) → is_dropped rule buffer t q ≡ is_dropped rule buffer u q
 
-  -- either the reads count digits, or nothing hangs on the count
-  abbrev pub Counts : Bool → Type 0
-  Counts counts = (counts ≡ true) ⊎ IgnoresSeen
+  -- the reads count digits, or the count makes no difference
+  abbrev pub CountsOrIgnores : Bool → Type 0
+  CountsOrIgnores counts = (counts ≡ true) ⊎ IgnoresSeen
 
-  pub kept_behind_kept : (counts : Bool) → Counts counts → (s c k : ℕ) → s < length buffer → s < k
-      → is_kept rule buffer s c k
+  pub kept_behind_kept : (counts : Bool) → CountsOrIgnores counts → (s c k : ℕ)
+      → s < length buffer → s < k → is_kept rule buffer s c k
       ≡ is_kept rule buffer (s + 1) (count_after rule counts (get_or buffer s 0) c) k
   unfolding is_kept
   kept_behind_kept counts (inl e) s c k l m =
       rw e (kept_same s c _ k l m (count_after_positive c (get_or buffer s 0)))
   kept_behind_kept counts (inr ignores) s c k l m = ap not (ignores _ _ k)
 
-  pub positions_kept : (counts : Bool) → Counts counts → (s c : ℕ) → s < length buffer
+  pub positions_kept : (counts : Bool) → CountsOrIgnores counts → (s c : ℕ) → s < length buffer
       → is_kept rule buffer s c s ≡ true
       → kept_positions rule buffer s c
       ≡ s ∷ kept_positions rule buffer (s + 1) (count_after rule counts (get_or buffer s 0) c)
@@ -116,12 +111,3 @@ module _ (rule : Rule) (buffer : List ℕ) where
   pub place_end : (s c : ℕ) → length buffer ≤ s → place rule buffer s c ≡ length buffer
   unfolding place
   place_end s c l = ap (λ ks. get_or ks 0 (length buffer)) (positions_end s c l)
-
-  pub drain_dropped : (s c : ℕ) → s < length buffer → is_kept rule buffer s c s ≡ false
-      → drain rule buffer s c ≡ drain rule buffer (s + 1) c
-  unfolding drain
-  drain_dropped s c l h = ap (map (λ k. get_or buffer k 0)) (positions_dropped s c l h)
-
-  pub drain_end : (s c : ℕ) → length buffer ≤ s → drain rule buffer s c ≡ []
-  unfolding drain
-  drain_end s c l = ap (map (λ k. get_or buffer k 0)) (positions_end s c l)

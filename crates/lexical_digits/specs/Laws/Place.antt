@@ -1,9 +1,6 @@
 -- Where the place is.
 use Rattle.std.proofs.Common.{◌≡◌, ℕ, zero, suc, ◌+◌, ◌<◌, ◌≤◌, true, false, List, [], ◌∷◌, length, drop, refl, arith, inl, inr}
-use Rattle.std.specs.List.{list_any}
-use Rattle.std.proofs.lemmas.Bool.{cases_lt, cases_Bool}
-use Rattle.lexical_digits.specs.declared.skip.rule.Rule.{Rule}
-use Rattle.lexical_digits.specs.Separators.{Role, grants, is_dropped, is_kept, kept_positions, drain, place, GrantsNone}
+use Rattle.lexical_digits.specs.Laws.Terms.{list_any, cases_lt, cases_Bool, Rule, Role, grants, is_dropped, is_kept, kept_positions, drain, place, GrantsNone}
 use Rattle.lexical_digits.specs.Laws.Ranges.{filter_all, reads_positions}
 use Rattle.lexical_digits.specs.Laws.Kept.{place_kept, place_dropped, place_end}
 
@@ -35,7 +32,7 @@ module _ (rule : Rule) (buffer : List ℕ) where
       (grind (arith, place_end)) (grind (arith, place_kept)) (grind (arith, place_dropped))
       (length buffer) s c (omega arith)
 
-  -- ---- settled at the place, nothing changes
+  -- ---- the place from the place
 
   pub place_settled : (s c : ℕ)
       → place rule buffer (place rule buffer s c) c ≡ place rule buffer s c

@@ -1,13 +1,6 @@
 -- What holds of the calls on the iterator of every component.
-use Rattle.std.proofs.Common.{◌≡◌, ℕ, ◌+◌, ◌<◌, ◌≤◌, ◌^◌, true, false, length, get_or, arith, ◌∙◌}
-use Rattle.std.proofs.lemmas.Bool.{lt-ltb, le-ltb, cases_lt}
-use Rattle.lexical_format.specs.Word.{separator}
-use Rattle.lexical_digits.specs.declared.skip.rule.Rule.{Rule}
-use Rattle.lexical_digits.specs.declared.skip.component.Component.{Component}
-use Rattle.lexical_digits.specs.Separators.{is_digit, is_separator, place, has_flags, GrantsNone}
-use Rattle.lexical_digits.specs.State.{State, IsState, with_cursor, rule, own, with_own, rule_of, counts, count_after, is_contiguous, has_no_separator, current_count}
-use Rattle.lexical_digits.specs.CallTable.{place_of, settled, counted, taken}
-use Rattle.lexical_digits.specs.Cursor.{IterLaws, DigitLaws}
+use Rattle.std.proofs.Common.{◌≡◌, ℕ, ◌+◌, ◌<◌, ◌≤◌, ◌^◌, true, false, length, get_or, arith, ◌∙◌, lt-ltb, le-ltb}
+use Rattle.lexical_digits.specs.Laws.Terms.{cases_lt, separator, Rule, Component, is_digit, is_separator, place, has_flags, GrantsNone, State, IsState, with_cursor, rule, own, with_own, rule_of, counts, count_after, is_contiguous, has_no_separator, current_count, place_of, settled, counted, taken, IterLaws, DigitLaws}
 use Rattle.lexical_digits.specs.Laws.Kept.{place_kept, place_end}
 use Rattle.lexical_digits.specs.Laws.Place.{place_low, place_high, place_settled, kept_if_none}
 
@@ -60,7 +53,7 @@ unfolding place_of
 place_again k s =
     place_moved k s (place_of k s) ∙ place_settled (rule k s) s.buffer s.cursor (own k s)
 
--- without a flag nothing is granted, and so nothing is passed over
+-- without flags nothing is granted, so nothing is dropped
 pub none_without_flags : (r : Rule) → has_flags r ≡ false → GrantsNone r
 none_without_flags r h = grind arith
 
@@ -119,7 +112,7 @@ taken_is k s v =
     let counted = with_own_is k s (next_count k s) v fits in
     grind (arith, moved_is, with_own_buffer, settled_is k s v)
 
--- ---- all of it
+-- ---- all laws
 
 ruleset places = (cursor_is, place_from, place_to, place_again, settled_is, settled_count)
 

@@ -1,14 +1,14 @@
-//! What a `Bytes` is, and what it says of its word and its counts. How it reads is in `reading`.
+//! A `Bytes`: its fields, its word, its counts and its cursor. The module `reading` has the reads.
 
-ghost use Rattle.std.specs.Prelude.{◌≡◌, ◌&&◌, not, ℕ, ◌+◌, ◌*◌, ◌<◌, ◌≤◌, length, List, None, IsTrue, pos, ◌≤ℤ◌, ◌+ℤ◌};
+ghost use Rattle.std.specs.Prelude.{◌≡◌, ℕ, ◌+◌, ◌*◌, ◌<◌, ◌≤◌, length, List, None, IsTrue, pos, ◌≤ℤ◌, ◌+ℤ◌};
 ghost use Rattle.lexical_format.specs.Word.{separator, is_supported};
-ghost use Rattle.lexical_digits.specs.Separators.{is_digit, is_separator, has_flags, IsSupported};
-ghost use Rattle.lexical_digits.specs.State.{IsState, with_cursor, start, rule, own, is_special, counts, is_contiguous, has_no_separator, count_of_all, current_count, cut, cut_end};
+ghost use Rattle.lexical_digits.specs.Separators.{is_digit, is_separator, IsSupported};
+ghost use Rattle.lexical_digits.specs.State.{IsState, with_cursor, with_no_counts, start, rule, is_contiguous, has_no_separator, count_of_all, current_count, cut, cut_end};
 ghost use Rattle.lexical_digits.specs.CallTable.{counted};
 ghost use Rattle.lexical_digits.specs.Cursor.{CanStep};
-ghost use Rattle.lexical_digits.specs.Looks.{owed, Unread};
+ghost use Rattle.lexical_digits.specs.Looks.{owed, Unread, Remembers};
 ghost use Rattle.lexical_digits.specs.Tally.{state_of};
-ghost use Rattle.lexical_digits.specs.Bytes.{IsReading, Remembers, has_no_flags as has_no_flags_of};
+ghost use Rattle.lexical_digits.specs.Bytes.{IsReading, has_no_flags as has_no_flags_of};
 
 mod reading;
 mod shortcuts;
@@ -20,7 +20,7 @@ use self::shortcuts::Shortcuts;
 use self::tally::Tally;
 use super::component::Component;
 use super::decision::Run;
-use super::rule::{Rule, is_separator};
+use super::rule::Rule;
 use crate::iterator::Iter;
 use lexical_format::NumberFormat;
 use std::alloc::AllocError;
@@ -35,21 +35,22 @@ pub struct Bytes<'a> {
     slc: &'a [u8],
     /// The format word.
     format: u128,
-    /// Whether no component of the word has a flag; decoded once.
+    /// Whether no component of the word has a flag.
     has_no_flags: bool,
-    /// What one byte tells, for the component that reads.
+    /// The rule of the component that reads.
+    rule: Rule,
+    /// The direct bytes of the component that reads.
     shortcuts: Shortcuts,
-    /// The cursor, the counts and the looks; and which component reads.
+    /// The cursor, the counts, the looks, and the component that reads.
     tally: Tally,
-    /// The run of separators that is remembered; none is where `from` isn't below `to`.
-    run: Run,
+    /// The run of separators that is remembered.
+    run: Option<Run>,
     // The cursor is within the buffer, the word is supported, and the counts fit.
     ghost holds: { IsState (state_of slc.now format tally) },
     // `has_no_flags` is of the word.
     ghost flags: { has_no_flags ≡ has_no_flags_of format },
-    // `shortcuts` and `is_counting` are of the component that reads: who changes it makes both
-    // anew.
-    ghost reading: { IsReading format tally.reader tally.is_counting shortcuts },
+    // `rule`, `shortcuts` and `is_counting` are those of the component that reads.
+    ghost reading: { IsReading format tally.reader tally.is_counting rule shortcuts },
     // `run` is a maximal run of this buffer, or none.
     ghost remembers: { Remembers (separator format) slc.now run },
 }
@@ -63,7 +64,7 @@ impl<'a> Model for Bytes<'a> {
     ghost view = { λ b. held_of b.slc.now b.format b.tally b.run b.holds b.remembers };
 }
 
-/// Names the state of a `Bytes` as a type. It has no value.
+/// The type whose model is the state of a `Bytes`. It has no value. Not in lexical-util.
 pub struct Meaning {
     _none: Infallible,
 }
@@ -75,33 +76,6 @@ impl Model for Meaning {
     ghost Value = { State };
 
     ghost view = { λ _. start [] 0 };
-}
-
-/// The separator of a word, zero where it has none.
-#[inline(always)]
-fn separator_of(word: u128) -> u8
-    ensures { result ≡ separator word }
-{
-    NumberFormat::new(word).digit_separator()
-}
-
-/// Whether `next` counts the digits of a component with that rule.
-#[inline(always)]
-fn is_counting(component: Component, rule: Rule) -> bool
-    ensures { result ≡ (not (is_special component) && has_flags rule) }
-{
-    match component {
-        Component::Special => false,
-        _ => rule.has_flags(),
-    }
-}
-
-/// Whether `next` counts that byte for a component with that rule.
-#[inline(always)]
-fn is_counted(component: Component, rule: Rule, byte: u8) -> bool
-    ensures { result ≡ ((not (is_special component) && has_flags rule) && is_digit rule byte) }
-{
-    is_counting(component, rule) && rule.is_digit(byte)
 }
 
 /// Whether no component has a flag.
@@ -116,8 +90,8 @@ fn has_no_flags(word: u128) -> bool
 }
 
 impl<'a> Bytes<'a> {
-    /// A buffer with the cursor and all counts at 0, no run remembered, and no look counted. Asks
-    /// that the word is supported.
+    /// A `Bytes` with the cursor and all counts at 0, no remembered run, and no look counted.
+    /// Requires that the word is supported. lexical-util's `Bytes::new`.
     pub fn new(slc: &'a [u8], format: u128) -> Self
         requires { IsTrue (is_supported format) }
         ensures state { result.state ≡ start slc.now format }
@@ -130,40 +104,42 @@ impl<'a> Bytes<'a> {
             slc,
             format,
             has_no_flags: has_no_flags(format),
+            rule,
             shortcuts: Shortcuts::of(rule, is_counting),
             tally: Tally::new(0, Component::Integer, is_counting),
-            run: Run { from: 0, to: 0 },
+            run: None,
         }
     }
 
-    /// How many looks at a byte the reads on this `Bytes` counted, stopping at `u64::MAX`. Not in
-    /// lexical-util.
+    /// How many looks at a byte the reads on this `Bytes` counted. The counter stops at `u64::MAX`.
+    /// Not in lexical-util.
     pub fn looks(&self) -> u64
         ensures { result ≡ self.now.looks }
     {
         self.tally.looks()
     }
 
-    /// Whether a byte is the separator; a separator of zero means that no byte is one.
+    /// Whether a byte is the separator. A separator of zero means that no byte is one.
     #[inline(always)]
     pub(crate) fn is_separator(&self, value: u8) -> bool
         ensures { result ≡ is_separator (separator self.now.state.word) value }
     {
-        is_separator(separator_of(self.format), value)
+        self.rule.is_separator(value)
     }
 
-    /// What the word grants a component.
+    /// The rule of a component by the word. Not in lexical-util.
     #[inline(always)]
-    fn rule(&self, component: Component) -> Rule
+    pub fn rule(&self, component: Component) -> Rule
         ensures value { result ≡ rule component self.now.state }
         ensures supported { IsSupported result }
     {
         Rule::of(self.format, component)
     }
 
-    /// Whether a byte is a digit of a component's radix.
+    /// Whether a byte is a digit of a component's radix. This is `is_digit` of the component's
+    /// iterator. Not in lexical-util.
     #[inline(always)]
-    pub(crate) fn is_digit(&self, component: Component, value: u8) -> bool
+    pub fn is_digit_of(&self, component: Component, value: u8) -> bool
         ensures { result ≡ is_digit (rule component self.now.state) value }
     {
         self.rule(component).is_digit(value)
@@ -177,27 +153,16 @@ impl<'a> Bytes<'a> {
         !self.rule(component).has_flags()
     }
 
-    /// The count by which the separators of a component are judged.
+    /// The count of a component; where the component has no flags, the sum of the counts. This is
+    /// `current_count` of the component's iterator. Not in lexical-util.
     #[inline(always)]
-    fn own(&self, component: Component) -> usize
-        ensures { result ≡ own component self.now.state }
-    {
-        match component {
-            Component::Integer | Component::Special => self.tally.integer(),
-            Component::Fraction => self.tally.fraction(),
-            Component::Exponent => self.tally.exponent(),
-        }
-    }
-
-    /// What `current_count` answers on the iterator of a component.
-    #[inline(always)]
-    pub(crate) fn count_for(&self, component: Component) -> usize
+    pub fn current_count_of(&self, component: Component) -> usize
         ensures { result ≡ current_count component self.now.state }
     {
         if self.is_contiguous_for(component) {
             self.count_of_all()
         } else {
-            self.own(component)
+            self.tally.count(component)
         }
     }
 
@@ -206,17 +171,17 @@ impl<'a> Bytes<'a> {
     fn count_of_all(&self) -> usize
         ensures { result ≡ count_of_all self.now.state }
     {
-        if separator_of(self.format) == 0 {
+        if self.is_contiguous() {
             self.tally.index
         } else {
-            let integer = self.tally.integer();
+            let integer = self.tally.count(Component::Integer);
             integer
-                .saturating_add(self.tally.fraction())
-                .saturating_add(self.tally.exponent())
+                .saturating_add(self.tally.count(Component::Fraction))
+                .saturating_add(self.tally.count(Component::Exponent))
         }
     }
 
-    /// Raises the count of a component by one.
+    /// Counts one digit for a component.
     #[inline(always)]
     pub(crate) fn raise(&mut self, component: Component)
         ensures state { self.new.state ≡ counted component self.old.state }
@@ -226,7 +191,19 @@ impl<'a> Bytes<'a> {
         self.tally.raise(component);
     }
 
-    /// Moves the cursor anywhere in the buffer.
+    /// Sets the three counts to 0, for a number that begins at the cursor. Its separators are then
+    /// judged as in a fresh `Bytes` at this cursor. The cursor, the looks and the remembered run
+    /// stay. Not in lexical-util.
+    #[inline]
+    pub fn clear_counts(&mut self)
+        ensures state { self.new.state ≡ with_no_counts self.old.state }
+        ensures unread { Unread self.old self.new }
+        ensures owes { owed self.new ≤ℤ owed self.old }
+    {
+        self.tally.clear();
+    }
+
+    /// Moves the cursor to any position of the buffer. Counts no look.
     #[tactic(auto, using(crate::proofs::Looks::Owing::owed_by_moves))]
     #[inline(always)]
     pub(crate) fn move_to(&mut self, index: usize)
@@ -240,7 +217,7 @@ impl<'a> Bytes<'a> {
         self.tally.move_to(index);
     }
 
-    /// Moves the cursor on, past bytes that are not looked at.
+    /// Moves the cursor onward by that many bytes. Counts no look.
     #[inline(always)]
     pub(crate) fn advance(&mut self, count: usize)
         requires { self.old.state.cursor + count ≤ length self.old.state.buffer }
@@ -253,8 +230,8 @@ impl<'a> Bytes<'a> {
         self.move_to(self.tally.index + count);
     }
 
-    /// The buffer cut `n` bytes behind the cursor, with this cursor and no counts. The cursor goes
-    /// to where it is cut.
+    /// A view: the buffer up to `n` bytes after the cursor, with this cursor and no counts. The
+    /// cursor of this `Bytes` moves to the end of the view.
     #[tactic(auto, using(crate::proofs::Looks::Owing::owed_onward))]
     pub(crate) fn cut(&mut self, n: usize) -> Bytes<'a>
         ensures view { result.state ≡ cut self.old.state (cut_end self.old.state n) }
@@ -269,9 +246,10 @@ impl<'a> Bytes<'a> {
             slc: &self.slc[..end],
             format: self.format,
             has_no_flags: self.has_no_flags,
+            rule: self.rule,
             shortcuts: self.shortcuts,
             tally: Tally::new(self.tally.index, self.tally.reader, self.tally.is_counting),
-            run: Run { from: end, to: end },
+            run: None, // a view remembers no run
         };
         self.move_to(end);
         view
@@ -290,6 +268,7 @@ impl<'a> Clone for Bytes<'a> {
             slc: self.slc,
             format: self.format,
             has_no_flags: self.has_no_flags,
+            rule: self.rule,
             shortcuts: self.shortcuts,
             tally: self.tally,
             run: self.run,
@@ -360,7 +339,7 @@ impl<'a> Iter<'a> for Bytes<'a> {
 
     #[inline(always)]
     fn is_contiguous(&self) -> bool {
-        separator_of(self.format) == 0
+        self.rule.separator == 0
     }
 
     #[inline(always)]
@@ -386,7 +365,7 @@ pub trait AsBytes<'a> {
     // The bytes that the value has.
     ghost bytes_of: { Self → List ℕ };
 
-    /// As [`Bytes::new`]. Asks that the word is supported.
+    /// The same as [`Bytes::new`]. Requires that the word is supported.
     fn bytes(&self, format: u128) -> Bytes<'a>
         requires { IsTrue (is_supported format) }
         ensures state { result.state ≡ start (bytes_of self.now) format }

@@ -1,24 +1,16 @@
 //! The components of a number.
 
-ghost use Rattle.std.specs.Prelude.{◌≡◌, true};
-
-/// A part of a number, by which an iterator goes: its flags say which separators are dropped, and
-/// its count how many digits were read.
+/// A component of a number. Its flags in the format word say which separators are dropped; its
+/// count says how many digits were read. Not in lexical-util.
 #[derive(Clone, Copy, Debug, PartialEq, Eq)]
 pub enum Component {
+    /// The digits before the point.
     Integer,
+    /// The digits after the point.
     Fraction,
+    /// The digits of the exponent, after its mark and its sign.
     Exponent,
-    /// What is no number, as `nan`. It has one flag, which grants everything, and counts nothing.
+    /// A value that is no number, such as `nan`. It has one flag, which grants everything, and
+    /// counts nothing.
     Special,
-}
-
-impl Component {
-    /// Whether it is that component.
-    #[inline(always)]
-    pub(crate) fn is(self, other: Component) -> bool
-        ensures { result ≡ true → self ≡ other }
-    {
-        self == other
-    }
 }

@@ -1,47 +1,51 @@
-//! The decision: which byte comes next, and how many bytes are looked at to find it. It knows a
-//! rule and a source of bytes, and no word, component or cursor.
+//! The decision: which byte comes next, and how many looks that takes. It knows a rule and a source
+//! of bytes, and no word, component or cursor.
 //!
-//! In lexical-util each of fifteen rules has code of its own. Here one function judges by any rule.
+//! lexical-util has code of its own for each of fifteen rules. Here one function judges by any
+//! rule.
 
 ghost use Rattle.std.specs.Prelude.{◌≡◌, ℕ, ◌+◌, ◌-◌, ◌*◌, ◌<◌, ◌≤◌, Some, length, slice_get, nat_lt, not, true, false};
 ghost use Rattle.lexical_digits.specs.Separators.{class, left_side, place, IsSupported};
-ghost use Rattle.lexical_digits.specs.Looks.{separator_at, slice_before, scans, run_holds, run_length, IsRun, IsRunOrNone, IsSpan, IsLooked, one_if};
+ghost use Rattle.lexical_digits.specs.Looks.{separator_at, scans, run_holds, run_length, IsRun, IsRunOrNone, IsSpan, LooksBetween, one_if};
 
 use super::rule::{Class, Rule};
 use super::source::ByteSource;
 
-/// A maximal run of separators, at the positions `from..to`.
+/// A maximal run of separators, at the positions `from..to`. Positions count bytes from 0.
 ///
-/// It says where separators stand and nothing of what becomes of them, so it serves every rule with
-/// the same separator.
+/// It says where separators are, and not which of them are dropped. So one run serves every rule
+/// with the same separator. Not in lexical-util.
 #[derive(Clone, Copy, Debug, PartialEq, Eq)]
 pub struct Run {
+    /// The position of the first separator.
     pub from: usize,
+    /// The position after the last separator.
     pub to: usize,
 }
 
-/// What [`decide`] answers.
+/// The answer of [`decide`]. Not in lexical-util.
 #[derive(Clone, Copy, Debug, PartialEq, Eq)]
 pub struct Sight {
     /// The position of the next kept byte, or the length where no byte is kept.
     pub place: usize,
-    /// The run to be handed to the next decision.
+    /// The run to remember: the next decision takes it.
     pub run: Option<Run>,
 }
 
-/// The position of the next kept byte, from position `at` on, and the run to be remembered.
+/// Answers the position of the next kept byte, from position `at` on, and the run to remember.
 ///
-/// `counted` says that the count of digits is above zero: then a digit is the left side of each
-/// separator, whatever stands there. `run` is a run of this source that was answered before, under
-/// any rule with the same separator, or `None`.
+/// `counted` says that the count of digits is above zero: then the left side of every separator is
+/// a digit. `run` is a run of this source that an earlier decision answered, under any rule with
+/// the same separator, or `None`.
 ///
-/// A run is looked for only at a separator that `run` doesn't hold, under a consecutive rule. Of a
-/// length r, it then takes r to 3 + 3r looks, and is answered. Else there are at most 3 looks, and
-/// the answer has `run` as it was. Where digits were counted it takes one look less at most.
+/// Where `at` holds no separator, the decision takes at most one look. It looks for a run only
+/// under a consecutive rule, at a separator that `run` doesn't hold. A run of r separators then
+/// takes r to 3 + 3r looks, and is answered. In all other cases there are at most 3 looks, and the
+/// answer has the `run` that was passed. Where digits were counted, the upper bound is one look
+/// less.
 ///
-/// Asks that `at` is at most the length, that the rule's radix is 2 to 36 and its separator no
-/// digit of it, and that `run` is `None` or a maximal run of this source. lexical-util has no such
-/// call.
+/// Requires that `at` is at most the length, that the rule's radix is 2 to 36 and its separator no
+/// digit of it, and that `run` is `None` or a maximal run of this source. Not in lexical-util.
 #[tactic(auto, using(crate::proofs::Looks::WhereSeparatorsStand::separators_and_others))]
 pub fn decide<S: ByteSource>(
     src: &mut S,
@@ -58,18 +62,22 @@ pub fn decide<S: ByteSource>(
     ensures content { S.content src.new ≡ S.content src.old }
     ensures run { IsRunOrNone rule.separator (S.content src.old) result.run }
 
-    // Where no run had to be looked for.
+    // At a byte that is no separator, or at the end.
+    ensures other_looks { separator_at rule.separator (S.content src.old) at ≡ false
+        → LooksBetween (S.looks src.old) 0 1 (S.looks src.new) }
+
+    // Where no run has to be looked for.
     ensures unscanned_run { scans rule (S.content src.old) at run ≡ false
         → result.run ≡ run }
     ensures unscanned_looks { scans rule (S.content src.old) at run ≡ false
-        → IsLooked (S.looked src.old) 0 (2 + one_if (not counted)) (S.looked src.new) }
+        → LooksBetween (S.looks src.old) 0 (2 + one_if (not counted)) (S.looks src.new) }
 
-    // Where one was.
+    // Where a run has to be looked for.
     ensures scanned_run { scans rule (S.content src.old) at run ≡ true
         → run_holds result.run at ≡ true }
     ensures scanned_looks { scans rule (S.content src.old) at run ≡ true
         → let r = run_length result.run in
-        IsLooked (S.looked src.old) r (2 + one_if (not counted) + 3 * r) (S.looked src.new) }
+        LooksBetween (S.looks src.old) r (2 + one_if (not counted) + 3 * r) (S.looks src.new) }
 {
     if at == src.length() {
         return Sight { place: at, run };
@@ -86,8 +94,8 @@ pub fn decide<S: ByteSource>(
     }
 }
 
-/// What is judged as one at a separator: under a consecutive rule the run that holds it, remembered
-/// or scanned, and else the separator alone.
+/// What is judged as one at a separator: under a consecutive rule the run that holds it, which is
+/// remembered or scanned; under any other rule the separator by itself.
 #[tactic(auto, using(crate::proofs::Looks::Spans::spans))]
 fn span_at<S: ByteSource>(src: &mut S, rule: Rule, at: usize, run: Option<Run>) -> Run
     requires supported { IsSupported rule }
@@ -101,10 +109,10 @@ fn span_at<S: ByteSource>(src: &mut S, rule: Rule, at: usize, run: Option<Run>) 
     ensures holds { rule.consecutive ≡ true → run_holds (Some result) at ≡ true }
     ensures known { rule.consecutive ≡ true → run_holds run at ≡ true → run ≡ Some result }
     ensures unscanned_looks { scans rule (S.content src.old) at run ≡ false
-        → S.looked src.new ≡ S.looked src.old }
+        → S.looks src.new ≡ S.looks src.old }
     ensures scanned_looks { scans rule (S.content src.old) at run ≡ true
-        → IsLooked (S.looked src.old)
-        (result.to - result.from) (result.to - result.from + 2) (S.looked src.new) }
+        → LooksBetween (S.looks src.old)
+        (result.to - result.from) (result.to - result.from + 2) (S.looks src.new) }
 {
     if !rule.consecutive {
         let end = src.length();
@@ -123,65 +131,46 @@ fn span_at<S: ByteSource>(src: &mut S, rule: Rule, at: usize, run: Option<Run>) 
     scan(src, rule, at)
 }
 
-/// The place from a separator on, by what stands on both sides of the span that is judged as one.
+/// The place from a separator on, by the bytes on both sides of the span that is judged as one.
 #[tactic(auto, using(crate::proofs::Looks::Spans::places))]
 #[inline(always)]
-pub(super) fn judge<S: ByteSource>(
-    src: &mut S,
-    rule: Rule,
-    at: usize,
-    counted: bool,
-    span: Run,
-) -> usize
+fn judge<S: ByteSource>(src: &mut S, rule: Rule, at: usize, counted: bool, span: Run) -> usize
     requires supported { IsSupported rule }
     requires separator { separator_at rule.separator (S.content src.old) at ≡ true }
     requires span { IsSpan rule (S.content src.old) at span.from span.to }
     ensures place { (count : ℕ) → counted ≡ nat_lt 0 count
         → result ≡ place rule (S.content src.old) at count }
     ensures content { S.content src.new ≡ S.content src.old }
-    ensures looks { IsLooked (S.looked src.old) 0 (1 + one_if (not counted)) (S.looked src.new) }
+    ensures looks { LooksBetween (S.looks src.old) 0 (1 + one_if (not counted)) (S.looks src.new) }
 {
     let left = left_of(src, rule, at, counted, span);
     let right = class_at(src, rule, span.to);
     if rule.drops(left, right) { span.to } else { at }
 }
 
-/// The left side of a separator.
+/// The left side of a separator: a digit where digits were counted, else the byte before the span.
 #[inline(always)]
 fn left_of<S: ByteSource>(src: &mut S, rule: Rule, at: usize, counted: bool, span: Run) -> Class
     requires { IsSpan rule (S.content src.old) at span.from span.to }
     ensures class { result ≡ left_side rule (S.content src.old) counted at }
     ensures content { S.content src.new ≡ S.content src.old }
-    ensures looks { IsLooked (S.looked src.old) 0 (one_if (not counted)) (S.looked src.new) }
+    ensures looks { LooksBetween (S.looks src.old) 0 (one_if (not counted)) (S.looks src.new) }
 {
     if counted {
         Class::Digit
-    } else {
-        class_before(src, rule, span.from)
-    }
-}
-
-/// What stands before a position.
-#[inline(always)]
-fn class_before<S: ByteSource>(src: &mut S, rule: Rule, index: usize) -> Class
-    requires { index ≤ length (S.content src.old) }
-    ensures class { result ≡ class rule (slice_before (S.content src.old) index) }
-    ensures content { S.content src.new ≡ S.content src.old }
-    ensures looks { IsLooked (S.looked src.old) 0 1 (S.looked src.new) }
-{
-    if index == 0 {
+    } else if span.from == 0 {
         Class::Other
     } else {
-        rule.class_of(src.at(index - 1))
+        rule.class_of(src.at(span.from - 1))
     }
 }
 
-/// What stands at a position, which may be the length.
+/// The class of a position, which may be the length.
 #[inline(always)]
 fn class_at<S: ByteSource>(src: &mut S, rule: Rule, index: usize) -> Class
     ensures class { result ≡ class rule (slice_get (S.content src.old) index) }
     ensures content { S.content src.new ≡ S.content src.old }
-    ensures looks { IsLooked (S.looked src.old) 0 1 (S.looked src.new) }
+    ensures looks { LooksBetween (S.looks src.old) 0 1 (S.looks src.new) }
 {
     if index < src.length() {
         rule.class_of(src.at(index))
@@ -198,15 +187,15 @@ fn scan<S: ByteSource>(src: &mut S, rule: Rule, at: usize) -> Run
     ensures low { result.from ≤ at }
     ensures high { at < result.to }
     ensures content { S.content src.new ≡ S.content src.old }
-    ensures looks { IsLooked (S.looked src.old)
-        (result.to - result.from) (result.to - result.from + 2) (S.looked src.new) }
+    ensures looks { LooksBetween (S.looks src.old)
+        (result.to - result.from) (result.to - result.from + 2) (S.looks src.new) }
 {
     let from = run_start(src, rule, at);
     let to = run_end(src, rule, at);
     Run { from, to }
 }
 
-/// Where the separators start that stand right before a position.
+/// The start of the separators right before a position.
 #[tactic(auto, using(crate::proofs::Looks::WhereSeparatorsStand::separator_byte_at))]
 fn run_start<S: ByteSource>(src: &mut S, rule: Rule, to: usize) -> usize
     requires { to ≤ length (S.content src.old) }
@@ -216,7 +205,8 @@ fn run_start<S: ByteSource>(src: &mut S, rule: Rule, to: usize) -> usize
     ensures before { (k : ℕ) → k + 1 ≡ result
         → separator_at rule.separator (S.content src.old) k ≡ false }
     ensures content { S.content src.new ≡ S.content src.old }
-    ensures looks { IsLooked (S.looked src.old) (to - result) (to - result + 1) (S.looked src.new) }
+    ensures looks { LooksBetween (S.looks src.old)
+        (to - result) (to - result + 1) (S.looks src.new) }
 {
     for i in (0..to).rev() {
         let byte = src.at(i);
@@ -227,7 +217,7 @@ fn run_start<S: ByteSource>(src: &mut S, rule: Rule, to: usize) -> usize
     0
 }
 
-/// Where the separators end that stand from a position on.
+/// The end of the separators from a position on.
 #[tactic(auto, using(crate::proofs::Looks::WhereSeparatorsStand::separators))]
 fn run_end<S: ByteSource>(src: &mut S, rule: Rule, from: usize) -> usize
     requires { from ≤ length (S.content src.old) }
@@ -237,8 +227,8 @@ fn run_end<S: ByteSource>(src: &mut S, rule: Rule, from: usize) -> usize
         → separator_at rule.separator (S.content src.old) k ≡ true }
     ensures behind { separator_at rule.separator (S.content src.old) result ≡ false }
     ensures content { S.content src.new ≡ S.content src.old }
-    ensures looks { IsLooked (S.looked src.old)
-        (result - from) (result - from + 1) (S.looked src.new) }
+    ensures looks { LooksBetween (S.looks src.old)
+        (result - from) (result - from + 1) (S.looks src.new) }
 {
     let end = src.length();
     for i in from..end {

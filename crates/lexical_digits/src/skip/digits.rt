@@ -1,6 +1,6 @@
-//! The iterators of the four components. Each holds a borrowed `Bytes` and nothing else, and each
-//! of its calls is one call of that `Bytes` for its component. They differ in the component alone,
-//! and in that special has no `new` and no `take_n`.
+//! The iterators of the four components. Each holds only a borrowed `Bytes`. Each of its calls is
+//! one call on that `Bytes` for its component. The four differ only in the component, and special
+//! has no `new` and no `take_n`.
 
 ghost use Rattle.lexical_digits.specs.Iterators.{Makes};
 
@@ -14,45 +14,62 @@ pub use self::fraction::FractionDigitsIterator;
 pub use self::integer::IntegerDigitsIterator;
 pub use self::special::SpecialDigitsIterator;
 use super::bytes::Bytes;
+use super::component::Component;
 
 impl<'a> Bytes<'a> {
-    /// The iterator of the integer over this `Bytes`. It goes on from the cursor and the counts,
-    /// and leaves those that it reaches. A proof knows all that it answers; where a proof goes on
-    /// with the `Bytes` when the iterator has ended, make it by the literal
+    /// The iterator of the integer over this `Bytes`. It reads from the cursor on and goes on with
+    /// the counts. The `Bytes` keeps the cursor and the counts that it reaches. lexical-util's
+    /// `integer_iter`.
+    ///
+    /// A proof that goes on with the `Bytes` after the iterator makes the iterator by the literal
     /// `IntegerDigitsIterator { byte: &mut bytes }`.
+    #[inline(always)]
     pub fn integer_iter<'b>(&'b mut self) -> IntegerDigitsIterator<'a, 'b>
         ensures { Makes self.entry result.byte }
     {
+        self.hand_to(Component::Integer);
         IntegerDigitsIterator { byte: self }
     }
 
-    /// The iterator of the fraction over this `Bytes`. It goes on from the cursor and the counts,
-    /// and leaves those that it reaches. A proof knows all that it answers; where a proof goes on
-    /// with the `Bytes` when the iterator has ended, make it by the literal
+    /// The iterator of the fraction over this `Bytes`. It reads from the cursor on and goes on with
+    /// the counts. The `Bytes` keeps the cursor and the counts that it reaches. lexical-util's
+    /// `fraction_iter`.
+    ///
+    /// A proof that goes on with the `Bytes` after the iterator makes the iterator by the literal
     /// `FractionDigitsIterator { byte: &mut bytes }`.
+    #[inline(always)]
     pub fn fraction_iter<'b>(&'b mut self) -> FractionDigitsIterator<'a, 'b>
         ensures { Makes self.entry result.byte }
     {
+        self.hand_to(Component::Fraction);
         FractionDigitsIterator { byte: self }
     }
 
-    /// The iterator of the exponent over this `Bytes`. It goes on from the cursor and the counts,
-    /// and leaves those that it reaches. A proof knows all that it answers; where a proof goes on
-    /// with the `Bytes` when the iterator has ended, make it by the literal
+    /// The iterator of the exponent over this `Bytes`. It reads from the cursor on and goes on with
+    /// the counts. The `Bytes` keeps the cursor and the counts that it reaches. lexical-util's
+    /// `exponent_iter`.
+    ///
+    /// A proof that goes on with the `Bytes` after the iterator makes the iterator by the literal
     /// `ExponentDigitsIterator { byte: &mut bytes }`.
+    #[inline(always)]
     pub fn exponent_iter<'b>(&'b mut self) -> ExponentDigitsIterator<'a, 'b>
         ensures { Makes self.entry result.byte }
     {
+        self.hand_to(Component::Exponent);
         ExponentDigitsIterator { byte: self }
     }
 
-    /// The iterator of a special value over this `Bytes`. It goes on from the cursor and the
-    /// counts, and leaves those that it reaches. A proof knows all that it answers; where a proof
-    /// goes on with the `Bytes` when the iterator has ended, make it by the literal
+    /// The iterator of a special value over this `Bytes`. It reads from the cursor on and goes on
+    /// with the counts. The `Bytes` keeps the cursor and the counts that it reaches. lexical-util's
+    /// `special_iter`.
+    ///
+    /// A proof that goes on with the `Bytes` after the iterator makes the iterator by the literal
     /// `SpecialDigitsIterator { byte: &mut bytes }`.
+    #[inline(always)]
     pub fn special_iter<'b>(&'b mut self) -> SpecialDigitsIterator<'a, 'b>
         ensures { Makes self.entry result.byte }
     {
+        self.hand_to(Component::Special);
         SpecialDigitsIterator { byte: self }
     }
 }

@@ -1,19 +1,19 @@
-//! The rule by which a component's separators are judged: what it is made of, what it says of a
-//! byte and of two sides, and how it is read off a format word. It knows no buffer and no cursor.
+//! The rule by which a component's separators are judged: its fields, its verdict on a byte and on
+//! two sides, and how a format word gives it. It knows no buffer and no cursor.
 
-ghost use Rattle.std.specs.Prelude.{◌≡◌, ◌+◌, ◌<◌, Some};
+ghost use Rattle.std.specs.Prelude.{◌≡◌, ◌+◌, ◌<◌, ◌&&◌, not, Some};
 ghost use Rattle.std.specs.List.{list_any};
 ghost use Rattle.lexical_format.specs.Word.{bit};
 ghost use Rattle.lexical_digits.specs.Separators.{class, is_digit, is_separator, roles, grants, has_flags};
-ghost use Rattle.lexical_digits.specs.State.{radix_of, rule_at, special_rule, rule_of};
+ghost use Rattle.lexical_digits.specs.State.{radix_of, rule_at, special_rule, rule_of, is_special};
 
 use super::component::Component;
 use lexical_format::{NumberFormat, char_is_digit_const};
 
-/// Which bytes of a component are digits and separators, and which separators are dropped.
+/// The bytes that are a component's digits and separators, and the separators that it drops.
 ///
 /// A separator that has another one as its left or right side is kept. Where neither side is a
-/// digit, it is both a leading and a trailing one.
+/// digit, it is both a leading and a trailing separator. Not in lexical-util.
 #[derive(Clone, Copy, Debug, PartialEq, Eq)]
 pub struct Rule {
     /// The byte that separates digits; zero means that none does.
@@ -24,20 +24,20 @@ pub struct Rule {
     pub internal: bool,
     /// Drops a separator with no digit before it.
     pub leading: bool,
-    /// Drops a separator with no digit behind it.
+    /// Drops a separator with no digit after it.
     pub trailing: bool,
     /// Judges a run of separators as a single one.
     pub consecutive: bool,
 }
 
-/// What stands at a position, in the eyes of a rule.
+/// The class of a position under a rule. Not in lexical-util.
 #[derive(Clone, Copy, Debug, PartialEq, Eq)]
 pub enum Class {
     /// A digit of the rule's radix.
     Digit,
     /// The rule's separator.
     Separator,
-    /// Another byte, or the outside of the buffer.
+    /// Any other byte, or a position outside of the buffer.
     Other,
 }
 
@@ -62,8 +62,8 @@ fn radix_of(word: u128, component: Component) -> u32
     }
 }
 
-/// The rule of the four flags of which the internal one is at that place of the word, and the
-/// others three places apart.
+/// The rule of four flags: the internal flag is that bit of the word, and the others follow at
+/// distances of three bits.
 fn rule_at(word: u128, radix: u32, place: u32) -> Rule
     requires { place < 100 }
     ensures { result ≡ rule_at word radix place }
@@ -94,19 +94,10 @@ fn special_rule(word: u128, radix: u32) -> Rule
     }
 }
 
-/// Whether the byte is that separator; a separator of zero means that no byte is one.
-#[tactic(auto, unfolding(crate::specs::Separators::is_separator))]
-#[inline(always)]
-pub(crate) fn is_separator(separator: u8, byte: u8) -> bool
-    ensures { result ≡ is_separator separator byte }
-{
-    separator != 0 && byte == separator
-}
-
 impl Rule {
-    /// What a format word grants a component. The exponent goes by the exponent radix, the others
-    /// by the mantissa radix; integer, fraction and exponent have four flags each, and special has
-    /// one that stands for all four.
+    /// The rule of a component by a format word. The exponent uses the exponent radix, the others
+    /// use the mantissa radix. Integer, fraction and exponent have four flags each; special has one
+    /// flag, which means all four. Not in lexical-util.
     #[inline(always)]
     pub fn of(word: u128, component: Component) -> Rule
         ensures { result ≡ rule_of word component }
@@ -120,21 +111,23 @@ impl Rule {
         }
     }
 
-    /// Whether the byte is a digit.
+    /// Whether a byte is a digit of the radix. Not in lexical-util.
     #[tactic(auto, unfolding(crate::specs::Separators::is_digit))]
     #[inline(always)]
-    pub(crate) fn is_digit(self, byte: u8) -> bool
+    pub fn is_digit(self, byte: u8) -> bool
         ensures { result ≡ is_digit self byte }
     {
         char_is_digit_const(byte, self.radix)
     }
 
-    /// Whether the byte is a separator.
+    /// Whether a byte is the separator. A separator of zero means that no byte is one. Not in
+    /// lexical-util.
+    #[tactic(auto, unfolding(crate::specs::Separators::is_separator))]
     #[inline(always)]
-    pub(crate) fn is_separator(self, byte: u8) -> bool
+    pub fn is_separator(self, byte: u8) -> bool
         ensures { result ≡ is_separator self.separator byte }
     {
-        is_separator(self.separator, byte)
+        self.separator != 0 && byte == self.separator
     }
 
     /// Whether any flag is set.
@@ -145,7 +138,23 @@ impl Rule {
         self.internal || self.leading || self.trailing || self.consecutive
     }
 
-    /// What that byte is.
+    /// Whether `next` of a component with this rule counts its digits.
+    #[inline(always)]
+    pub(crate) fn counts(self, component: Component) -> bool
+        ensures { result ≡ (not (is_special component) && has_flags self) }
+    {
+        !matches!(component, Component::Special) && self.has_flags()
+    }
+
+    /// Whether `next` of a component with this rule counts that byte.
+    #[inline(always)]
+    pub(crate) fn counts_byte(self, component: Component, byte: u8) -> bool
+        ensures { result ≡ ((not (is_special component) && has_flags self) && is_digit self byte) }
+    {
+        self.counts(component) && self.is_digit(byte)
+    }
+
+    /// The class of that byte.
     #[inline(always)]
     pub(crate) fn class_of(self, byte: u8) -> Class
         ensures { result ≡ class self (Some byte) }

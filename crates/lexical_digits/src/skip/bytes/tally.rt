@@ -1,28 +1,28 @@
-//! The cursor, and the counts that it carries. No buffer and no word.
+//! The cursor, and the counts and looks that it carries. No buffer and no word.
 
-ghost use Rattle.std.specs.Prelude.{◌≡◌, ℕ, ◌+◌, ◌-◌, ◌<◌, ◌≤◌, ◌&&◌, if◌then◌else◌, List};
-ghost use Rattle.lexical_digits.specs.State.{State, start, with_cursor};
+ghost use Rattle.std.specs.Prelude.{◌≡◌, ℕ, ◌+◌, ◌-◌, ◌<◌, ◌≤◌, ◌&&◌, true, List};
+ghost use Rattle.lexical_digits.specs.State.{start, with_cursor, with_no_counts};
 ghost use Rattle.lexical_digits.specs.CallTable.{counted};
 
 use crate::skip::component::Component;
 
 /// A cursor, and what was counted on the way to it.
 ///
-/// While a component reads, its digits change nothing but the cursor: each byte since the mark is
-/// one that the reader counts, if it counts, and each byte since the start took two looks. Both are
-/// added to what is stored where they are asked for, and stored where the cursor goes on in another
-/// way.
+/// While one component reads, a digit changes only the cursor. Each byte from `counted_from` to the
+/// cursor counts for the reader, if the reader counts. Each byte from `looked_from` to the cursor
+/// took two looks. A call that asks for a count or for the looks adds them; a call that moves the
+/// cursor in another way stores them.
 #[derive(Clone, Copy)]
 pub(super) struct Tally {
-    /// Where the cursor stands.
+    /// The cursor.
     pub(super) index: usize,
-    /// The bytes from here to the cursor are counted for the reader, if it counts.
-    pub(super) mark: usize,
+    /// The bytes from here to the cursor count for the reader, if it counts.
+    pub(super) counted_from: usize,
     /// The bytes from here to the cursor took two looks each.
-    pub(super) start: usize,
-    /// The looks but for those, stopping at `u64::MAX`.
+    pub(super) looked_from: usize,
+    /// The other looks, stopping at `u64::MAX`.
     pub(super) looks: u64,
-    /// The integer's count, but for the bytes since the mark; and so the two below.
+    /// The integer's count, without the bytes from `counted_from` on; the same of the next two.
     pub(super) integer: usize,
     pub(super) fraction: usize,
     pub(super) exponent: usize,
@@ -30,16 +30,16 @@ pub(super) struct Tally {
     pub(super) reader: Component,
     /// Whether `next` counts the reader's digits.
     pub(super) is_counting: bool,
-    ghost marked: { mark ≤ index },
-    ghost started: { start ≤ index },
+    ghost counted_before: { counted_from ≤ index },
+    ghost looked_before: { looked_from ≤ index },
 }
 
 #[tactic(auto, unfolding(crate::specs::Tally::all_of))]
 impl Tally {
     ghost use Rattle.lexical_digits.specs.State.{saturating};
-    ghost use Rattle.lexical_digits.specs.Tally.{count_since, integer_of, fraction_of, exponent_of, state_of, looks_of, passed_by, Leaves};
+    ghost use Rattle.lexical_digits.specs.Tally.{count_of, count_since, state_of, looks_of, passed_by, Leaves};
 
-    /// At a position, where nothing was counted.
+    /// A cursor before anything was counted.
     #[inline(always)]
     pub(super) fn new(index: usize, reader: Component, is_counting: bool) -> Tally
         ensures state { (buffer : List ℕ) → (word : ℕ) →
@@ -50,8 +50,8 @@ impl Tally {
     {
         Tally {
             index,
-            mark: index,
-            start: index,
+            counted_from: index,
+            looked_from: index,
             looks: 0,
             integer: 0,
             fraction: 0,
@@ -61,41 +61,43 @@ impl Tally {
         }
     }
 
-    /// A count, with the bytes since the mark if they are counted for it.
+    /// Whether that component reads.
+    #[inline(always)]
+    pub(super) fn is_reader(self, component: Component) -> bool
+        ensures { result ≡ true → self.reader ≡ component }
+    {
+        self.reader == component
+    }
+
+    /// A stored count, with the bytes from `counted_from` on if they count for it.
     #[inline(always)]
     fn count_since(self, is_reader: bool, stored: usize) -> usize
-        ensures { let since = self.index - self.mark in
+        ensures { let since = self.index - self.counted_from in
             result ≡ count_since (self.is_counting && is_reader) stored since }
     {
         if self.is_counting && is_reader {
-            stored.saturating_add(self.index - self.mark)
+            stored.saturating_add(self.index - self.counted_from)
         } else {
             stored
         }
     }
 
-    /// The count of the integer.
+    /// The count by which the separators of a component are judged: special has the integer's.
     #[inline(always)]
-    pub(super) fn integer(self) -> usize
-        ensures { result ≡ integer_of self }
+    pub(super) fn count(self, component: Component) -> usize
+        ensures { result ≡ count_of component self }
     {
-        self.count_since(matches!(self.reader, Component::Integer), self.integer)
-    }
-
-    /// The count of the fraction.
-    #[inline(always)]
-    pub(super) fn fraction(self) -> usize
-        ensures { result ≡ fraction_of self }
-    {
-        self.count_since(matches!(self.reader, Component::Fraction), self.fraction)
-    }
-
-    /// The count of the exponent.
-    #[inline(always)]
-    pub(super) fn exponent(self) -> usize
-        ensures { result ≡ exponent_of self }
-    {
-        self.count_since(matches!(self.reader, Component::Exponent), self.exponent)
+        match component {
+            Component::Integer | Component::Special => {
+                self.count_since(matches!(self.reader, Component::Integer), self.integer)
+            }
+            Component::Fraction => {
+                self.count_since(matches!(self.reader, Component::Fraction), self.fraction)
+            }
+            Component::Exponent => {
+                self.count_since(matches!(self.reader, Component::Exponent), self.exponent)
+            }
+        }
     }
 
     /// The looks, stopping at `u64::MAX`.
@@ -103,11 +105,11 @@ impl Tally {
     pub(super) fn looks(self) -> u64
         ensures { result ≡ looks_of self }
     {
-        let since = (self.index - self.start) as u64;
+        let since = (self.index - self.looked_from) as u64;
         self.looks.saturating_add(since).saturating_add(since)
     }
 
-    /// The same counts, all stored, with the cursor elsewhere and so many looks.
+    /// The same counts, all stored, with another cursor and another number of looks.
     #[inline(always)]
     fn stored(self, index: usize, looks: u64, reader: Component, is_counting: bool) -> Tally
         ensures state { (buffer : List ℕ) → (word : ℕ) →
@@ -119,18 +121,18 @@ impl Tally {
     {
         Tally {
             index,
-            mark: index,
-            start: index,
+            counted_from: index,
+            looked_from: index,
             looks,
-            integer: self.integer(),
-            fraction: self.fraction(),
-            exponent: self.exponent(),
+            integer: self.count(Component::Integer),
+            fraction: self.count(Component::Fraction),
+            exponent: self.count(Component::Exponent),
             reader,
             is_counting,
         }
     }
 
-    /// Lets a component read from the cursor on.
+    /// Makes a component the reader, from the cursor on. Counts no digit and no look.
     #[inline(always)]
     pub(super) fn hand_over(&mut self, reader: Component, is_counting: bool)
         ensures state { (buffer : List ℕ) → (word : ℕ) →
@@ -143,15 +145,32 @@ impl Tally {
         *self = self.stored(self.index, self.looks(), reader, is_counting);
     }
 
-    /// Moves the cursor anywhere. Nothing is looked at.
+    /// Moves the cursor to any position. Counts no digit and no look.
     #[inline(always)]
     pub(super) fn move_to(&mut self, index: usize)
         ensures { Leaves self.old self.new (λ s. with_cursor s index) index (looks_of self.old) }
     {
-        *self = self.stored(index, self.looks(), self.reader, self.is_counting);
+        if index < self.index {
+            *self = self.stored(index, self.looks(), self.reader, self.is_counting);
+        } else {
+            self.move_onward(index);
+        }
     }
 
-    /// Moves the cursor to a place that was found by so many looks in all.
+    /// Moves the cursor onward. Counts no digit and no look.
+    #[inline(always)]
+    fn move_onward(&mut self, index: usize)
+        requires { self.old.index ≤ index }
+        ensures { Leaves self.old self.new (λ s. with_cursor s index) index (looks_of self.old) }
+    {
+        let bytes = index - self.index;
+        self.index = index;
+        self.counted_from += bytes;
+        self.looked_from += bytes;
+    }
+
+    /// Moves the cursor to a place that was found, where `looks` are all looks so far. Counts no
+    /// digit.
     #[inline(always)]
     pub(super) fn arrive(&mut self, place: usize, looks: u64)
         ensures { Leaves self.old self.new (λ s. with_cursor s place) place looks }
@@ -159,7 +178,7 @@ impl Tally {
         *self = self.stored(place, looks, self.reader, self.is_counting);
     }
 
-    /// Raises the count of a component by one.
+    /// Counts one digit for a component.
     #[inline(always)]
     pub(super) fn raise(&mut self, component: Component)
         ensures { Leaves self.old self.new (counted component) self.old.index (looks_of self.old) }
@@ -172,7 +191,18 @@ impl Tally {
         }
     }
 
-    /// Counts one look.
+    /// Sets the three counts to 0.
+    #[inline]
+    pub(super) fn clear(&mut self)
+        ensures { Leaves self.old self.new with_no_counts self.old.index (looks_of self.old) }
+    {
+        self.counted_from = self.index;
+        self.integer = 0;
+        self.fraction = 0;
+        self.exponent = 0;
+    }
+
+    /// Counts one look. The cursor stays.
     #[inline(always)]
     pub(super) fn look(&mut self)
         ensures { let looks = saturating (looks_of self.old) 1 in
@@ -181,9 +211,9 @@ impl Tally {
         self.looks = self.looks.saturating_add(1);
     }
 
-    /// Goes one byte on, which took two looks, and is counted if the reader counts.
+    /// Passes one byte: counts two looks, and a digit if the reader counts.
     #[inline(always)]
-    pub(super) fn pass(&mut self)
+    pub(super) fn pass_digit(&mut self)
         requires { self.old.index < usize.MAX }
         ensures { let next = self.old.index + 1 in
             let looks = saturating (looks_of self.old) 2 in
@@ -192,55 +222,25 @@ impl Tally {
         self.index += 1;
     }
 
-    /// Goes one byte on, which took two looks, and is not counted.
+    /// Passes one byte: counts two looks, and no digit.
     #[inline(always)]
-    pub(super) fn skip(&mut self)
+    pub(super) fn pass_other(&mut self)
         requires { self.old.index < usize.MAX }
         ensures { let next = self.old.index + 1 in
             let looks = saturating (looks_of self.old) 2 in
             Leaves self.old self.new (λ s. with_cursor s next) next looks }
     {
         self.index += 1;
-        self.mark += 1;
+        self.counted_from += 1;
     }
 
-    /// Goes one byte on, which took so many looks, and is not counted.
+    /// Passes one byte whose looks were counted before. Counts no look and no digit.
     #[inline(always)]
-    pub(super) fn skip_by(&mut self, looks: u64)
-        requires { self.old.index < usize.MAX }
-        ensures { let next = self.old.index + 1 in
-            let seen = saturating (looks_of self.old) looks in
-            Leaves self.old self.new (λ s. with_cursor s next) next seen }
-    {
-        self.looks = self.looks.saturating_add(looks);
-        self.go_on();
-    }
-
-    /// Goes one byte on, whose looks were counted before.
-    #[inline(always)]
-    fn go_on(&mut self)
+    pub(super) fn pass_seen(&mut self)
         requires { self.old.index < usize.MAX }
         ensures { let next = self.old.index + 1 in
             Leaves self.old self.new (λ s. with_cursor s next) next (looks_of self.old) }
     {
-        self.index += 1;
-        self.mark += 1;
-        self.start += 1;
-    }
-
-    /// Goes one byte on, whose looks were counted before, and counts it for a component if it is
-    /// told so.
-    #[inline(always)]
-    pub(super) fn step(&mut self, component: Component, is_counted: bool)
-        requires { self.old.index < usize.MAX }
-        ensures { let next = self.old.index + 1 in
-            let step = λ (s : State).
-            with_cursor (if is_counted then counted component s else s) next in
-            Leaves self.old self.new step next (looks_of self.old) }
-    {
-        self.go_on();
-        if is_counted {
-            self.raise(component);
-        }
+        self.move_onward(self.index + 1);
     }
 }

@@ -13,20 +13,22 @@ use crate::skip::component::Component;
 /// The digits of the exponent in a `Bytes`: lexical-util's `ExponentDigitsIterator`.
 #[derive(Drop)]
 pub struct ExponentDigitsIterator<'a: 'b, 'b> {
+    /// The `Bytes` that the iterator reads.
     pub byte: &'b mut Bytes<'a>,
 }
 
 impl<'a: 'b, 'b> ExponentDigitsIterator<'a, 'b> {
-    /// As [`Bytes::exponent_iter`], also in what a proof knows of the iterator and its `Bytes`.
+    /// The same as [`Bytes::exponent_iter`]. lexical-util's `new`.
     pub fn new(byte: &'b mut Bytes<'a>) -> Self
         ensures { Makes byte.entry result.byte }
     {
-        ExponentDigitsIterator { byte }
+        byte.exponent_iter()
     }
 
-    /// The next `n` bytes as a view of their own, and the cursor behind them. The view has the
-    /// buffer up to there, this cursor, the same word, and no counts. `None`, and nothing moves,
-    /// unless the iterator is contiguous.
+    /// A view of the next `n` bytes, if the iterator is contiguous. Otherwise the answer is `None`
+    /// and the cursor stays. The view is a `Bytes` over the buffer up to the end of those bytes,
+    /// with this cursor, the same word, and no counts. The iterator's cursor moves to that end,
+    /// which is at most the length. lexical-util's `take_n`.
     #[tactic(auto, unfolding(crate::specs::CallTable::view, crate::specs::CallTable::after_view))]
     pub fn take_n(&mut self, n: usize) -> Option<Bytes<'a>>
         ensures { Cuts Exponent self.old.byte self.new.byte n result }
@@ -38,14 +40,15 @@ impl<'a: 'b, 'b> ExponentDigitsIterator<'a, 'b> {
         }
     }
 
-    /// Whether a byte is a sign, `+` or `-`.
+    /// Whether a byte is a sign, `+` or `-`. lexical-util's `is_sign`.
     pub fn is_sign(&self, value: u8) -> bool
         ensures { result ≡ ((value == 43) || (value == 45)) }
     {
         value == b'+' || value == b'-'
     }
 
-    /// Whether a byte is the separator; no byte is where the separator is zero.
+    /// Whether a byte is the separator. A separator of zero means that no byte is one.
+    /// lexical-util's `is_digit_separator`.
     pub fn is_digit_separator(&self, value: u8) -> bool
         ensures { result ≡ is_separator (separator self.now.byte.now.state.word) value }
     {
@@ -108,7 +111,7 @@ impl<'a: 'b, 'b> Iter<'a> for ExponentDigitsIterator<'a, 'b> {
 
     #[inline(always)]
     fn current_count(&self) -> usize {
-        self.byte.count_for(Component::Exponent)
+        self.byte.current_count_of(Component::Exponent)
     }
 
     #[inline(always)]
@@ -146,10 +149,10 @@ impl<'a: 'b, 'b> Iterator for ExponentDigitsIterator<'a, 'b> {
 
     #[inline(always)]
     fn next(&mut self) -> Option<&'a u8> {
-        self.byte.take(Component::Exponent)
+        self.byte.next_of(Component::Exponent)
     }
 
-    /// Foretells nothing: `(0, None)`.
+    /// The size hint of lexical-util's iterators: `(0, None)`.
     fn size_hint(&self) -> (usize, Option<usize>)
         ensures value { result ≡ (0, None) }
         ensures lower { IsWithinCount result.0 (bytes_left Exponent self.now.byte.now.state) }
@@ -187,12 +190,12 @@ impl<'a: 'b, 'b> DigitsIter<'a> for ExponentDigitsIterator<'a, 'b> {
     fn peek(&mut self) -> Option<&'a u8>
         ensures { Peeks Exponent self.old.byte self.new.byte result }
     {
-        self.byte.peek(Component::Exponent)
+        self.byte.peek_of(Component::Exponent)
     }
 
     #[inline(always)]
     fn is_digit(&self, value: u8) -> bool {
-        self.byte.is_digit(Component::Exponent, value)
+        self.byte.is_digit_of(Component::Exponent, value)
     }
 
     ghost can_next_law = { λ s. tt };
@@ -201,7 +204,7 @@ impl<'a: 'b, 'b> DigitsIter<'a> for ExponentDigitsIterator<'a, 'b> {
 
     ghost next_takes = { λ s t r h. h.takes.takes };
 
-    ghost next_owes = { λ s t r h. h.reads.owes };
+    ghost next_owes = { λ s t r h. h.costs.owes };
 
     ghost next_keeps_loan = { λ s t r h. h.keeps_loan };
 

@@ -10,22 +10,24 @@ use crate::iterator::{DigitsIter, Iter};
 use crate::skip::bytes::{Bytes, Meaning};
 use crate::skip::component::Component;
 
-/// The bytes of a special value, as `nan`, in a `Bytes`: lexical-util's `SpecialDigitsIterator`. It
-/// counts nothing and hands out no views.
+/// The bytes of a special value, such as `nan`, in a `Bytes`: lexical-util's
+/// `SpecialDigitsIterator`. It counts nothing and has no `take_n`.
 #[derive(Drop)]
 pub struct SpecialDigitsIterator<'a: 'b, 'b> {
+    /// The `Bytes` that the iterator reads.
     pub byte: &'b mut Bytes<'a>,
 }
 
 impl<'a: 'b, 'b> SpecialDigitsIterator<'a, 'b> {
-    /// Whether a byte is a sign, `+` or `-`.
+    /// Whether a byte is a sign, `+` or `-`. lexical-util's `is_sign`.
     pub fn is_sign(&self, value: u8) -> bool
         ensures { result ≡ ((value == 43) || (value == 45)) }
     {
         value == b'+' || value == b'-'
     }
 
-    /// Whether a byte is the separator; no byte is where the separator is zero.
+    /// Whether a byte is the separator. A separator of zero means that no byte is one.
+    /// lexical-util's `is_digit_separator`.
     pub fn is_digit_separator(&self, value: u8) -> bool
         ensures { result ≡ is_separator (separator self.now.byte.now.state.word) value }
     {
@@ -88,7 +90,7 @@ impl<'a: 'b, 'b> Iter<'a> for SpecialDigitsIterator<'a, 'b> {
 
     #[inline(always)]
     fn current_count(&self) -> usize {
-        self.byte.count_for(Component::Special)
+        self.byte.current_count_of(Component::Special)
     }
 
     #[inline(always)]
@@ -126,10 +128,10 @@ impl<'a: 'b, 'b> Iterator for SpecialDigitsIterator<'a, 'b> {
 
     #[inline(always)]
     fn next(&mut self) -> Option<&'a u8> {
-        self.byte.take(Component::Special)
+        self.byte.next_of(Component::Special)
     }
 
-    /// Foretells nothing: `(0, None)`.
+    /// The size hint of lexical-util's iterators: `(0, None)`.
     fn size_hint(&self) -> (usize, Option<usize>)
         ensures value { result ≡ (0, None) }
         ensures lower { IsWithinCount result.0 (bytes_left Special self.now.byte.now.state) }
@@ -167,12 +169,12 @@ impl<'a: 'b, 'b> DigitsIter<'a> for SpecialDigitsIterator<'a, 'b> {
     fn peek(&mut self) -> Option<&'a u8>
         ensures { Peeks Special self.old.byte self.new.byte result }
     {
-        self.byte.peek(Component::Special)
+        self.byte.peek_of(Component::Special)
     }
 
     #[inline(always)]
     fn is_digit(&self, value: u8) -> bool {
-        self.byte.is_digit(Component::Special, value)
+        self.byte.is_digit_of(Component::Special, value)
     }
 
     ghost can_next_law = { λ s. tt };
@@ -181,7 +183,7 @@ impl<'a: 'b, 'b> DigitsIter<'a> for SpecialDigitsIterator<'a, 'b> {
 
     ghost next_takes = { λ s t r h. h.takes.takes };
 
-    ghost next_owes = { λ s t r h. h.reads.owes };
+    ghost next_owes = { λ s t r h. h.costs.owes };
 
     ghost next_keeps_loan = { λ s t r h. h.keeps_loan };
 

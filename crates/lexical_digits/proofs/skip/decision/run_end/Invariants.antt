@@ -1,5 +1,5 @@
 use Rattle.std.proofs.Common.{◌≡◌, ℕ, ◌-◌, ◌<◌, ◌≤◌, true}
-use Rattle.lexical_digits.specs.Looks.{separator_at, IsLooked}
+use Rattle.lexical_digits.specs.Looks.{separator_at, LooksBetween}
 use Rattle.lexical_digits.proofs.skip.decision.run_end.Given as goal
 
 abbrev pub invariant-loop-i : goal.invariant-loop-i
@@ -9,5 +9,5 @@ invariant-loop-i g l =
       content : s.content l.src ≡ s.content l.initial.src;
       run : (k : ℕ) → l.from ≤ k → k < l.i
           → separator_at l.rule.separator (s.content l.initial.src) k ≡ true;
-      looks : IsLooked (s.looked l.initial.src) (l.i - l.from) (l.i - l.from) (s.looked l.src);
+      looks : LooksBetween (s.looks l.initial.src) (l.i - l.from) (l.i - l.from) (s.looks l.src);
     }

@@ -48,7 +48,7 @@ returns g c =
     let same_end = after_zeros_by digits met.laws false m none v in
     record {
       answers = omega (arith, c.loop-self.invariant.counts);
-      reads = c.peek_is_cased.ensures.settles ∙ (sym same_end ∙ c.loop-self.invariant.leaves);
+      leaves = c.peek_is_cased.ensures.settles ∙ (sym same_end ∙ c.loop-self.invariant.leaves);
       owes = omega (arith, ints, c.loop-self.invariant.owes, c.peek_is_cased.ensures.owes);
       keeps_loan = cc;
     }

@@ -1,6 +1,5 @@
 use Rattle.std.proofs.Common.{refl, sym}
-use Rattle.lexical_format.specs.Word.{separator}
-use Rattle.lexical_digits.specs.Tally.{looks_of}
+use Rattle.lexical_digits.specs.Laws.Terms.{separator, looks_of}
 use Rattle.lexical_digits.proofs.Looks.Owing.{owed_back}
 use Rattle.lexical_digits.proofs.Fields.CarriedByCursor.{state_moved, carried, owes_no_more}
 use Rattle.lexical_digits.proofs.skip.bytes.Bytes.move_to.Goals as goal
@@ -23,5 +22,5 @@ pub returns-clause-owes_back : goal.returns-clause-owes_back
 returns-clause-owes_back c =
     let b = c.self.inside in
     rw (sym c.self.view_is, c.move_to.ensures.looks)
-    (owed_back (separator b.format) b.slc.now b.run.from b.run.to (looks_of b.tally) b.tally.index
+    (owed_back (separator b.format) b.slc.now b.run (looks_of b.tally) b.tally.index
     c.move_to.new.self.index b.remembers)

@@ -13,7 +13,7 @@ invariant_of-result c =
     let cuts = c.of.ensures in
     let state = tally.state c.args.slc.now c.args.format in
     let counting = rw c.of-rule.ensures at c.has_flags-is_counting.ensures in
-    let reading = reading_of Integer _ c.args.format _ _ _ _ c.of-rule.ensures counting cuts.told
+    let reading = reading_of Integer _ c.args.format _ _ _ _ c.of-rule.ensures counting cuts.direct
     cuts.inner tally.reader tally.is_counting in
     (rw state (search rules), (search rules, (reading, (search rules, tt))))
 

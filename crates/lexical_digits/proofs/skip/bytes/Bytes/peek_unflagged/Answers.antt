@@ -4,11 +4,8 @@ use Rattle.lexical_digits.proofs.Fields.AtTheCursor.{here_all, peeks_at, peeks_e
 use Rattle.lexical_digits.proofs.skip.bytes.Bytes.peek_unflagged.Goals as goal
 
 pub returns-in_err-byte : goal.returns-in_err-byte
-returns-in_err-byte c =
-    let free = rw (sym c.self.view_is) at c.requires in
-    rw (sym c.self.view_is, c.from_residual.ensures)
-    (peeks_end c.args.component _ _ (here_all c.args.component _ free) (sym c.in_err-byte.ensures)
-    refl)
+returns-in_err-byte c = rw (sym c.self.view_is, c.from_residual.ensures)
+    (peeks_end c.args.component _ _ (sym c.in_err-byte.ensures) refl)
 
 pub invariant_of-self-inside : goal.invariant_of-self-inside
 invariant_of-self-inside c = carried c.self.inside c.look.ensures c.self.inside.holds

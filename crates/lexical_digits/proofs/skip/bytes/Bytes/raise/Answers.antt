@@ -4,8 +4,7 @@ use Rattle.lexical_digits.proofs.skip.bytes.Bytes.raise.Goals as goal
 
 pub invariant_of-self-inside : goal.invariant_of-self-inside
 invariant_of-self-inside c =
-    let b = c.self.inside in
-    carried b c.raise.ensures (state_counted c.args.component _ b.holds)
+    carried c.self.inside c.raise.ensures (state_counted c.args.component _ c.self.inside.holds)
 
 pub returns-clause-owes : goal.returns-clause-owes
 returns-clause-owes c =

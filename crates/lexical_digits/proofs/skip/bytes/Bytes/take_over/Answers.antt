@@ -12,9 +12,9 @@ invariant_of-self-inside c =
     let b = c.self.inside in
     let hands = c.hand_over.ensures in
     let cuts = c.of-self-inside.ensures in
-    let counting = rw c.of-rule.ensures at c.is_counting-is_counting.ensures in
+    let counting = rw c.of-rule.ensures at c.counts-is_counting.ensures in
     let reading = reading_of c.args.component _ b.format _ _ _ _ c.of-rule.ensures counting
-    cuts.told cuts.inner hands.reader hands.is_counting in
+    cuts.direct cuts.inner hands.reader hands.is_counting in
     (rw (hands.state b.slc.now b.format) b.holds, (b.flags, (reading, (b.remembers, tt))))
 
 pub returns-clause-state : goal.returns-clause-state

@@ -1,0 +1,45 @@
+-- Direct bytes: which they are by the shortcuts, and by the rule of the reader.
+use Rattle.std.proofs.Common.{◌≡◌, ℕ, ◌+◌, ◌-◌, ◌<◌, ◌≤◌, ◌%◌, ◌||◌, Bool, true, false, not, min, leb, ltb, refl, sym, ◌∙◌, ap, arith}
+use Rattle.lexical_format.specs.Digits.{digit_value}
+use Rattle.lexical_digits.specs.Laws.Terms.{Rule, Shortcuts, separator, is_digit, is_separator, has_flags, IsSupported, Component, Inside, rule_of, counts, lower, is_direct, is_direct_by, AreShortcuts, le-leb, nat_tests, and_pow}
+use Rattle.std.specs.Int.Bits.{bit_or, or_add_and}
+use Rattle.lexical_digits.proofs.Rule.Supported.{supported_rule}
+use Rattle.lexical_digits.proofs.Looks.Owing.{separator_of}
+
+pub lower_by_or : (byte : ℕ) → bit_or byte 32 ≡ lower byte
+lower_by_or byte = omega (arith, or_add_and byte 32, and_pow byte 5)
+
+digit_test : (rule : Rule) (byte last letters : ℕ) → byte < 256 → 2 ≤ rule.radix
+    → rule.radix ≤ 36 → last + 1 ≡ min rule.radix 10 → letters ≡ rule.radix - 10
+    → (leb ((byte + 208) % 256) last || ltb ((lower byte + 159) % 256) letters)
+    ≡ is_digit rule byte
+unfolding is_digit digit_value
+digit_test rule byte last letters fits low high e f = grind (arith, nat_tests)
+
+direct_test : (rule : Rule) (s : Shortcuts) (byte : ℕ) → byte < 256 → IsSupported rule
+    → AreShortcuts rule s → is_direct_by s byte ≡ is_direct rule byte
+direct_test rule s byte fits supported are = here (has_flags rule) refl
+  where
+    here : (b : Bool) → has_flags rule ≡ b → is_direct_by s byte ≡ (not b || is_digit rule byte)
+    here true e = digit_test rule byte s.last_figure s.letters fits supported.low supported.high
+        (are.figures e) (are.letters e)
+    here false e = rw (le-leb ((byte + 208) % 256) s.last_figure (omega (arith, are.all e))) refl
+
+-- what is decoded is that of the component that reads
+module _ (b : Inside) (k : Component) (reader : b.tally.reader ≡ k) where
+  pub rule_by : b.rule ≡ rule_of b.format k
+  rule_by = b.reading.rule ∙ ap (rule_of b.format) reader
+
+  pub counts_by : b.tally.is_counting ≡ counts k b.format
+  counts_by = b.reading.counting ∙ ap (λ r. counts r b.format) reader
+
+  pub direct_by : (byte : ℕ) (t : Bool) → byte < 256 → is_direct_by b.shortcuts byte ≡ t
+      → is_direct (rule_of b.format k) byte ≡ t
+  direct_by byte t fits e =
+      sym (direct_test (rule_of b.format k) b.shortcuts byte fits
+      (supported_rule b.format k b.holds.word) (rw rule_by at b.reading.direct)) ∙ e
+
+  -- a byte that is no separator by the rule, by the word
+  pub other_by : (byte : ℕ) → is_separator b.rule.separator byte ≡ false
+      → is_separator (separator b.format) byte ≡ false
+  other_by byte e = rw (rule_by, separator_of k b.format) at e

@@ -1,0 +1,97 @@
+use Rattle.std.proofs.Common.{false, refl, sym, ◌∙◌, ◌<◌, ap, arith, min, length, ◌+◌, ◌-◌, ◌^◌}
+use Rattle.std.proofs.lemmas.Option.{slice_get_within}
+use Rattle.std.proofs.lemmas.Bool.{and_right, or_parts}
+use Rattle.lexical_digits.specs.Laws.Terms.{is_digit, rule_of, counts}
+use Rattle.lexical_digits.proofs.Fields.CarriedByCursor.{state_passed, state_moved, carried, carried_on}
+use Rattle.lexical_digits.proofs.Fields.DirectBytes.{rule_by, direct_by, counts_by, other_by}
+use Rattle.lexical_digits.proofs.Fields.AtTheCursor.{here_byte, here_direct, yields_direct, yields_by, yields_end}
+use Rattle.lexical_digits.proofs.Fields.InnerSeparator.{over_by, yields_over, follows_by}
+use Rattle.lexical_digits.proofs.skip.bytes.Bytes.next_of.Goals as goal
+
+pub returns-in_err-byte : goal.returns-in_err-byte
+returns-in_err-byte c = rw (sym c.self.view_is)
+    (yields_end c.args.component _ _ (sym c.in_err-byte.ensures) c.from_residual.ensures)
+
+-- ---- a direct byte
+
+pub invariant_of-self-inside : goal.invariant_of-self-inside
+invariant_of-self-inside c =
+    let b = c.self.inside in
+    let within = slice_get_within b.slc.now _ _ (sym c.in_ok-byte.ensures) in
+    carried b c.pass_digit.ensures
+    (state_passed b.tally.reader b.tally.is_counting _ b.holds within)
+
+pub returns-then-is_direct : goal.returns-then-is_direct
+returns-then-is_direct c =
+    let b = c.self.inside in
+    let k = c.args.component in
+    let reader = c.is_reader.ensures c.if-not-is_reader.false in
+    let at = sym c.in_ok-byte.ensures in
+    let direct = direct_by b k reader _ _ c.is_direct.ensures.fits
+    (sym c.is_direct.ensures.value ∙ c.if-is_direct.true) in
+    rw (sym c.self.view_is)
+    (yields_direct k _ _ _ (here_direct k _ _ at direct) at refl c.pass_digit.ensures.looks
+    b.tally direct reader (counts_by b k reader) (c.pass_digit.ensures.state b.slc.now b.format))
+
+-- ---- a lone separator, and the digit after it
+
+pub inner_digit-saw_next-requires : goal.inner_digit-saw_next-requires
+inner_digit-saw_next-requires c = sym c.in_ok-byte.ensures
+
+pub invariant_of-self-inside-in-Some : goal.invariant_of-self-inside-in-Some
+invariant_of-self-inside-in-Some c =
+    let b = c.self.inside in
+    let over = rw c.in-Some.is at c.inner_digit-saw_next.ensures.digit in
+    let within = slice_get_within b.slc.now _ _ over.next in
+    let moved = carried b c.pass_other.ensures (state_moved _ _ b.holds (omega (arith, within))) in
+    let after : c.pass_other.new.self.index < length b.slc.now =
+    omega (arith, within, c.pass_other.ensures.index) in
+    carried_on b c.pass_digit-in-Some.ensures moved (state_passed _ _ _ moved.0 after)
+
+pub returns-in-Some : goal.returns-in-Some
+returns-in-Some c =
+    let b = c.self.inside in
+    let k = c.args.component in
+    let reader = c.is_reader.ensures c.if-not-is_reader.false in
+    let over = over_by b k reader _ c.is_direct.ensures.fits (sym c.in_ok-byte.ensures) _
+    (rw c.in-Some.is at c.inner_digit-saw_next.ensures.digit) in
+    rw (sym c.self.view_is) (yields_over k _ _ _ c.pass_other.new.self _ over
+    (c.pass_other.ensures.state b.slc.now b.format) c.pass_other.ensures.index
+    (c.pass_other.ensures.reader ∙ reader) (c.pass_other.ensures.is_counting ∙ counts_by b k reader)
+    (c.pass_digit-in-Some.ensures.state b.slc.now b.format) refl
+    (c.pass_digit-in-Some.ensures.looks
+    ∙ ap (λ n. min (n + 2) (2 ^ 64 - 1)) c.pass_other.ensures.looks))
+
+-- ---- neither digit nor separator
+
+pub invariant_of-self-inside-then-not-is_separator : goal.invariant_of-self-inside-then-not-is_separator
+invariant_of-self-inside-then-not-is_separator c =
+    let within = slice_get_within c.self.inside.slc.now _ _ (sym c.in_ok-byte.ensures) in
+    carried c.self.inside c.pass_other-then-not-is_separator.ensures
+    (state_moved _ _ c.self.inside.holds (omega (arith, within)))
+
+pub returns-then-not-is_separator : goal.returns-then-not-is_separator
+returns-then-not-is_separator c =
+    let b = c.self.inside in
+    let k = c.args.component in
+    let reader = c.is_reader.ensures c.if-not-is_reader.false in
+    let at = sym c.in_ok-byte.ensures in
+    let direct = direct_by b k reader _ _ c.is_direct.ensures.fits
+    (sym c.is_direct.ensures.value ∙ c.if-is_direct.false) in
+    let digit = is_digit (rule_of b.format k) c.in_ok-byte.byte.now in
+    let other = other_by b k reader _ (sym c.is_separator.ensures ∙ c.if-not-is_separator.true) in
+    rw (sym c.self.view_is) (yields_by k _ _ _ (here_byte k _ _ at other) at refl
+    c.pass_other-then-not-is_separator.ensures.looks false
+    (sym (and_right (counts k b.format) digit (or_parts _ digit direct).1))
+    (c.pass_other-then-not-is_separator.ensures.state b.slc.now b.format))
+
+-- ---- another separator
+
+pub next_decided-requires-2-clause-rule : goal.next_decided-requires-2-clause-rule
+next_decided-requires-2-clause-rule c = rw (sym c.self.view_is)
+    (rule_by c.self.inside _ (c.is_reader.ensures c.if-not-is_reader.false))
+
+pub next_decided-requires-2-clause-saw_next : goal.next_decided-requires-2-clause-saw_next
+next_decided-requires-2-clause-saw_next c e = rw (sym c.self.view_is)
+    (follows_by c.self.inside _ (c.is_reader.ensures c.if-not-is_reader.false) _
+    c.is_direct.ensures.fits (sym c.in_ok-byte.ensures) (c.inner_digit-saw_next.ensures.saw_next e))

@@ -1,0 +1,58 @@
+use Rattle.std.proofs.Common.{◌≡◌, sym, refl, ◌∙◌, ap, rules, min, ◌+◌, ◌^◌, ◌-◌, slice_get}
+use Rattle.lexical_digits.specs.Laws.Terms.{with_cursor, one_if, state_of, held_of}
+use Rattle.lexical_digits.proofs.Rule.Supported.{supported_by}
+use Rattle.lexical_digits.proofs.Looks.Owing.{arrives, place_by, place_within, remembers_by}
+use Rattle.lexical_digits.proofs.Fields.CarriedByCursor.{own_counted, state_moved, carried}
+use Rattle.lexical_digits.proofs.skip.bytes.Bytes.peek_decided.Goals as goal
+
+pub find-found-requires-clause-supported : goal.find-found-requires-clause-supported
+find-found-requires-clause-supported c =
+    let b = c.self.inside in
+    let rule_is = rw (sym c.self.view_is) at c.requires.rule in
+    supported_by c.args.rule b.format c.args.component rule_is b.holds.word
+
+pub invariant_of-self-inside : goal.invariant_of-self-inside
+invariant_of-self-inside c =
+    let b = c.self.inside in
+    let k = c.args.component in
+    let s = state_of b.slc.now b.format b.tally in
+    let rule_is = rw (sym c.self.view_is) at c.requires.rule in
+    let own_is = c.count-counted.ensures ∙ sym (own_counted k b.slc.now b.format b.tally) in
+    let place_is = place_by k s c.args.rule _ _ _ rule_is c.after-src.ensures.content own_is
+    (c.find-found.ensures.place _ refl) in
+    let carries = carried b c.arrive.ensures
+    (state_moved s _ b.holds (place_within k s _ place_is)) in (
+      carries.0,
+      (
+        b.flags,
+        (
+          carries.1.1.0,
+          (
+            remembers_by k b.format c.args.rule _ _ _ rule_is c.after-src.ensures.content
+                c.find-found.ensures.finds.is_run,
+            tt,
+          ),
+        ),
+      ),
+    )
+
+pub returns : goal.returns
+returns c =
+    let b = c.self.inside in
+    let k = c.args.component in
+    let a = held_of b.slc.now b.format b.tally b.run b.holds b.remembers in
+    let rule_is = rw (sym c.self.view_is) at c.requires.rule in
+    let follows = rw (sym c.self.view_is) at c.requires.saw_next in
+    let own_is = c.count-counted.ensures ∙ sym (own_counted k b.slc.now b.format b.tally) in
+    let place_is = place_by k a.state c.args.rule _ _ _ rule_is c.after-src.ensures.content own_is
+    (c.find-found.ensures.place _ refl) in
+    let looks : c.after-src.result.looks
+    ≡ min (a.looks + one_if c.args.saw_next) (2 ^ 64 - 1) = search rules in
+    let left = c.arrive.ensures.state b.slc.now b.format ∙ ap (with_cursor a.state) place_is in
+    rw (sym c.self.view_is) (record {
+      byte = c.byte_at.ensures ∙ ap (slice_get b.slc.now) place_is;
+      settles = left;
+      costs = arrives k a _ c.args.saw_next c.args.rule _ _ _ _ follows rule_is
+          c.after-src.ensures.content own_is place_is looks left
+          (rw c.arrive.ensures.looks c.find-found.ensures.finds);
+    })
