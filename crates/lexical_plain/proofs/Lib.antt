@@ -1,4 +1,4 @@
-pub mod Steps
-pub mod Comes
-pub mod Ungranted
-pub mod Agrees
+pub mod NextTakesFirst
+pub mod ItemsAndZeros
+pub mod NoFlags
+pub mod AgreesWithSkip

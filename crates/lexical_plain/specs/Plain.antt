@@ -1,5 +1,5 @@
--- The plain call table: what each call of a cursor answers and leaves where nothing is passed over.
--- The place is the cursor, and so is the count. No row scans, steps or loops.
+-- The plain call table: what each call answers, and the state that it leaves, where no byte is
+-- dropped. The place and the count are the cursor. No row scans, steps or loops.
 use Rattle.std.specs.Prelude.{◌≡◌, ℕ, ◌+◌, ◌-◌, ◌<◌, ◌≤◌, min, ◌==◌, Bool, true, false, if◌then◌else◌, nat_lt, nat_le, List, [], ◌∷◌, length, take, drop, slice_get, Option, Some, None, is_none, is_some, MatchOption, option_copied, IsTrue}
 use Rattle.std.specs.List.{prefix_len}
 use Rattle.std.specs.Borrow.{Bor}
@@ -37,15 +37,15 @@ with_cursor s i = record s { cursor = i }
 abbrev pub first : Plain → Option ℕ
 first s = slice_get s.buffer s.cursor
 
--- the bytes from the cursor on: all of them come, one after another
+-- the bytes from the cursor on, all of which `next` answers
 abbrev pub rest : Plain → List ℕ
 rest s = drop s.cursor s.buffer
 
--- how many those are
+-- how many they are
 abbrev pub bytes_left : Plain → ℕ
 bytes_left s = length s.buffer - s.cursor
 
--- the radix is the mantissa's, whatever the component
+-- a digit of the mantissa radix, for every component
 abbrev pub is_digit : Plain → ℕ → Bool
 is_digit s byte = is_digit_of_radix (mantissa_radix s.word) byte
 
@@ -53,11 +53,11 @@ is_digit s byte = is_digit_of_radix (mantissa_radix s.word) byte
 unfoldable pub taken : Plain → Plain
 taken s = if nat_lt s.cursor (length s.buffer) then with_cursor s (s.cursor + 1) else s
 
--- what `next` leaves in the end
+-- what `next` leaves at the end
 abbrev pub drained : Plain → Plain
 drained s = with_cursor s (length s.buffer)
 
--- how many bytes `0` come first
+-- how many bytes `0` stand first from the cursor on
 abbrev pub zeros : Plain → ℕ
 zeros s = prefix_len (λ byte. byte == 48) (rest s)
 
@@ -68,9 +68,9 @@ cut_end s n = min (length s.buffer) (s.cursor + n)
 abbrev pub view : Plain → ℕ → Plain
 view s n = record s { buffer = take (cut_end s n) s.buffer }
 
--- A call of `next` from s to t: it answers the byte at the cursor and leaves `taken`; what it
--- answers is the first of the bytes left, or None where none is; the whole drain leaves the same
--- state from s and from t.
+-- A call of `next` from s to t: it answers the byte at the cursor and leaves `taken`; that byte is
+-- the first of those that were left, or None where none was; a whole drain leaves the same state
+-- from s and from t.
 pub record Takes (s t : Plain) (result : Option (Bor ℕ)) : Type 0 where
   pub byte : option_copied result ≡ first s
   pub takes : t ≡ taken s
@@ -78,7 +78,7 @@ pub record Takes (s t : Plain) (result : Option (Bor ℕ)) : Type 0 where
   pub leaves : drained t ≡ drained s
   pub ends : MatchOption result (t ≡ drained s) (λ item. s.cursor < t.cursor)
 
--- A call of `next` on an iterator: what it takes, and the `Bytes` that it holds stays the same one.
+-- A call of `next` on an iterator: what it takes; the iterator still holds the same `Bytes`.
 pub record Nexts (s t : Plain) (loan left : ℕ) (result : Option (Bor ℕ)) : Type 0 where
   pub takes : Takes s t result
   pub keeps_loan : left ≡ loan
@@ -104,17 +104,17 @@ abbrev pub within : Bool → Plain → Plain → Row
 within true s t = row Done t
 within false s t = row Refused s
 
--- the cursor goes to a position of the buffer, or to its end
+-- `set_cursor` and the steps: to a position of the buffer or its end
 abbrev pub to : ℕ → Plain → Row
 to i s = within (nat_le i (length s.buffer)) s (with_cursor s i)
 
--- a read of the byte at the cursor where it passes
+-- a read of the byte at the cursor, by what the call answers
 abbrev pub read_where : Plain → Option ℕ → Row
 read_where s read = row (Byte read) (if is_some read then with_cursor s (s.cursor + 1) else s)
 
--- a view is told by its length and its cursor
-abbrev pub told_view : Plain → Answer
-told_view s = View (Some (length s.buffer, s.cursor))
+-- a view is shown by its length and its cursor
+abbrev pub view_answer : Plain → Answer
+view_answer s = View (Some (length s.buffer, s.cursor))
 
 -- the calls that every part has
 abbrev pub shared_row : Call → Plain → Row
@@ -136,8 +136,8 @@ shared_row PeekU32 s = row (Four (next_number w32 true (rest s))) s
 shared_row PeekU64 s = row (Eight (next_number w64 true (rest s))) s
 shared_row call s = row Refused s
 
--- and the calls that the iterators alone have; the iterators of all four components are one type,
--- and answer alike
+-- The whole table. Some calls are only on iterators; the four components have one iterator type,
+-- with the same rows.
 abbrev pub row_of : Part → Call → Plain → Row
 row_of (On k) IsConsumed s = row (Flag (is_none (first s))) s
 row_of (On k) IncrementCount s = row Done s
@@ -154,7 +154,7 @@ row_of (On k) (ReadIfValueUncased v) s = read_where s (byte_if (is_value v false
 row_of (On k) (ReadIfValue v is_cased) s = read_where s (byte_if (is_value v is_cased) (first s))
 row_of (On k) SkipZeros s = row (Count (zeros s)) (with_cursor s (s.cursor + zeros s))
 row_of (On k) (IsDigit v) s = row (Flag (is_digit s v)) s
-row_of (On k) (TakeN n) s = row (told_view (view s n)) (with_cursor s (cut_end s n))
+row_of (On k) (TakeN n) s = row (view_answer (view s n)) (with_cursor s (cut_end s n))
 row_of part call s = shared_row call s
 
 -- a call on a part, from s to t, is answered by its row
@@ -162,11 +162,18 @@ pub record Makes (part : Part) (call : Call) (s t : Plain) (answer : Answer) : T
   pub answers : answer ≡ (row_of part call s).answer
   pub leaves : t ≡ (row_of part call s).state
 
--- and so it is on the iterator of whichever component
+-- the same on the iterator of each component
 abbrev pub MakesOnDigits : Call → Plain → Plain → Answer → Type 0
 MakesOnDigits call s t answer = (k : Component) → Makes (On k) call s t answer
 
--- one after another: each answer, and the state in the end
+-- a call that leaves its state
+abbrev pub Answers : Part → Call → Plain → Answer → Type 0
+Answers part call s answer = Makes part call s s answer
+
+abbrev pub AnswersOnDigits : Call → Plain → Answer → Type 0
+AnswersOnDigits call s answer = MakesOnDigits call s s answer
+
+-- a list of calls: each answer, and the state at the end
 pub record Ran : Type 0 where
   pub answers : List Answer
   pub state : Plain
@@ -180,8 +187,8 @@ run_of s (call ∷ calls) =
 
 -- ---- beside `skip`
 
--- the calls that a part has both here and in `skip`: here no iterator tells signs and separators,
--- and there no special one gives views
+-- the calls that a part has both here and in `skip`: here no iterator has `is_sign` and
+-- `is_digit_separator`, and there the special iterator has no `take_n`
 abbrev pub is_on_both : Part → Call → Bool
 is_on_both (On k) (IsSign v) = false
 is_on_both (On k) (IsDigitSeparator v) = false
@@ -191,13 +198,12 @@ is_on_both part call = true
 abbrev pub both_have : Part × Call → Bool
 both_have call = is_on_both call.0 call.1
 
--- the words for which `skip` answers the same: no byte is a separator, nothing is granted, and the
--- exponent has the digits of the mantissa
+-- the words for which `skip` answers the same: no separator, no flag, equal radixes
 pub record IsPlainWord (word : ℕ) : Type 0 where
   pub no_separator : separator word ≡ 0
   pub no_flags : separator_flags word ≡ 0
   pub one_radix : exponent_radix word ≡ mantissa_radix word
 
--- what is left of a state of `skip` without its counts
+-- a state of `skip` without its counts
 abbrev pub without_counts : State → Plain
 without_counts s = record { buffer = s.buffer; word = s.word; cursor = s.cursor }

@@ -1,4 +1,4 @@
-//! Laws, each the contract of a function.
+//! Laws of the plain module. Each law is the contract of a function.
 
 ghost use Rattle.std.specs.Prelude.{◌≡◌, ◌+◌, List};
 ghost use Rattle.std.specs.List.{AllPass};
@@ -11,11 +11,12 @@ ghost use Rattle.lexical_plain.specs.Plain.{start, with_cursor, rest, zeros, tak
 use crate::noskip::DigitsIterator;
 use lexical_digits::iterator::DigitsBodies;
 
-/// The plain module may stand in for `skip` where the word has no separator, no flag and no
-/// exponent radix but the mantissa radix. On a fresh `Bytes` of `skip` and a fresh one of `noskip`,
-/// over the same buffer and word, every list of calls that both have is answered alike, and the
-/// cursor ends at the same position. Calls on the `Bytes` and on its iterators may be mixed.
-#[tactic(auto, using(crate::proofs::Agrees::fresh_agree))]
+/// [`noskip`](crate::noskip) can replace `skip` for a word with no separator, no flag and an
+/// exponent radix that equals the mantissa radix. Take a new `Bytes` of each module over the same
+/// buffer and word, and a list of calls that both modules have, on the `Bytes` and on its
+/// iterators in any order: both give the same answers, and their cursors end at the same position.
+/// Not in lexical-util.
+#[tactic(auto, using(crate::proofs::AgreesWithSkip::fresh_agree))]
 pub fn plain_agrees(buffer: &[u8], word: u128)
     ensures answers { IsPlainWord word → (calls : List (Part × Call)) → AllPass both_have calls →
         (skip.run_of (skip_state.start buffer.now word) calls).answers ≡
@@ -25,21 +26,21 @@ pub fn plain_agrees(buffer: &[u8], word: u128)
         (run_of (start buffer.now word) calls).state }
 {}
 
-/// Skips zeros, and answers how many it passed: the bytes `0` that come first from the cursor on.
-/// The cursor ends behind them, and no count but the cursor changes.
-#[tactic(auto, using(crate::proofs::Comes::zeros_first, crate::proofs::Comes::after_first))]
+/// Calls `skip_zeros`, and answers how many zeros it read: the bytes `0` that come first from the
+/// cursor on. The cursor ends after them. Not in lexical-util.
+#[tactic(auto, using(crate::proofs::ItemsAndZeros::first))]
 pub fn zeros_come_first<'a, 'b>(iter: &mut DigitsIterator<'a, 'b>) -> usize
     ensures answers { result ≡ zeros iter.old.byte.now.state }
-    ensures reads { let s = iter.old.byte.now.state in
+    ensures leaves { let s = iter.old.byte.now.state in
         iter.new.byte.now.state ≡ with_cursor s (s.cursor + zeros s) }
     ensures keeps_loan { iter.new.byte.ghost_name ≡ iter.old.byte.ghost_name }
 {
     iter.skip_zeros()
 }
 
-/// The items of an iterator, the bytes that `next` answers until `None`, are all the bytes from the
-/// cursor on.
-#[tactic(auto, using(crate::proofs::Comes::items_rest))]
+/// The items of an iterator, the bytes that `next` answers before `None`, are all the bytes from
+/// the cursor on. Not in lexical-util.
+#[tactic(auto, using(crate::proofs::ItemsAndZeros::items_rest))]
 pub fn items_are_rest<'a, 'b>(iter: &DigitsIterator<'a, 'b>)
     ensures { let s = iter.now.byte.now.state in
         items (λ p. p.buffer) (λ p. p.cursor) (λ p. p.cursor) taken s ≡ rest s }

@@ -1,6 +1,6 @@
-//! The cursor and the iterator that pass over nothing: lexical-util's `noskip.rs`. They are for
-//! words that grant nothing, and know exactly how many bytes are left. Traits and default bodies
-//! are those of `lexical_digits`.
+//! A cursor and an iterator that drop no byte: lexical-util's `noskip.rs`. They are for words
+//! without flags, and know exactly how many bytes are left. They implement the traits of
+//! `lexical_digits`, and have its default bodies.
 #![tactic(auto)]
 
 pub mod laws;

@@ -1,4 +1,4 @@
-//! A buffer with a cursor.
+//! A buffer with a cursor that drops no byte.
 
 ghost use Rattle.std.specs.Prelude.{◌≡◌, ℕ, ◌+◌, List, option_copied, IsTrue};
 ghost use Rattle.lexical_format.specs.Word.{is_supported};
@@ -10,7 +10,7 @@ use std::alloc::AllocError;
 use std::convert::Infallible;
 use std::marker::Model;
 
-/// Names the state of a `Bytes` as a type. It has no value.
+/// The type of a `Bytes`' state in the logic. It has no value. Not in lexical-util.
 pub struct Meaning {
     _none: Infallible,
 }
@@ -25,9 +25,9 @@ impl Model for Meaning {
 }
 
 /// A buffer with a format word and a cursor: lexical-util's `noskip::Bytes`, which has no field for
-/// the word. The word gives the radix of
-/// [`is_digit`](lexical_digits::iterator::DigitsIter::is_digit), the mantissa radix; its separator
-/// and its flags are not looked at. Positions count bytes from 0.
+/// the word. Only the word's mantissa radix is used, as the radix of
+/// [`is_digit`](lexical_digits::iterator::DigitsIter::is_digit); its separator and its flags are
+/// ignored. Positions count bytes from 0.
 #[derive(Drop)]
 pub struct Bytes<'a> {
     slc: &'a [u8],
@@ -48,7 +48,8 @@ impl<'a> Model for Bytes<'a> {
 }
 
 impl<'a> Bytes<'a> {
-    /// A buffer with its cursor at 0. Asks that the word is supported.
+    /// A `Bytes` over `slc` with its cursor at 0. Requires a supported word. Its counterpart in
+    /// lexical-util is `Bytes::new`, where the word is a type parameter.
     pub fn new(slc: &'a [u8], format: u128) -> Self
         requires { IsTrue (is_supported format) }
         ensures { result.state ≡ start slc.now format }
@@ -60,7 +61,7 @@ impl<'a> Bytes<'a> {
         }
     }
 
-    /// Whether a byte is a digit of the mantissa radix.
+    /// Whether `value` is a digit of the mantissa radix.
     #[inline(always)]
     pub(crate) fn is_digit(&self, value: u8) -> bool
         ensures { result ≡ is_digit self.now.state value }
@@ -76,7 +77,7 @@ impl<'a> Bytes<'a> {
         self.slc.len() - self.index
     }
 
-    /// The byte at the cursor.
+    /// The byte at the cursor, or `None` at the end.
     #[inline(always)]
     pub(crate) fn peek(&self) -> Option<&'a u8>
         ensures { option_copied result ≡ first self.now.state }
@@ -84,8 +85,8 @@ impl<'a> Bytes<'a> {
         self.slc.get(self.index)
     }
 
-    /// The byte at the cursor, which is passed.
-    #[tactic(auto, using(crate::proofs::Steps::takes_none, crate::proofs::Steps::takes_some))]
+    /// Answers the byte at the cursor, and moves the cursor past it. At the end it answers `None`.
+    #[tactic(auto, using(crate::proofs::NextTakesFirst::takes))]
     #[inline(always)]
     pub(crate) fn take(&mut self) -> Option<&'a u8>
         ensures { Takes self.old.state self.new.state result }
@@ -99,8 +100,8 @@ impl<'a> Bytes<'a> {
         }
     }
 
-    /// The buffer cut `n` bytes behind the cursor, with this cursor. The cursor goes to where it is
-    /// cut.
+    /// A copy whose buffer ends `n` bytes after the cursor, or where this buffer ends. The cursor
+    /// of this `Bytes` moves to that end.
     pub(crate) fn cut(&mut self, n: usize) -> Bytes<'a>
         ensures view { result.state ≡ view self.old.state n }
         ensures state { self.new.state ≡ with_cursor self.old.state (cut_end self.old.state n) }
@@ -193,12 +194,12 @@ impl<'a> Iter<'a> for Bytes<'a> {
     ghost laws = { iter_laws };
 }
 
-/// Makes a [`Bytes`] of a value: lexical-util's `AsBytes`.
+/// Values that a [`Bytes`] can be made over: lexical-util's `AsBytes`.
 pub trait AsBytes<'a> {
     // The bytes that the value has.
     ghost bytes_of: { Self → List ℕ };
 
-    /// As [`Bytes::new`]. Asks that the word is supported.
+    /// [`Bytes::new`] over the value's bytes. Requires a supported word.
     fn bytes(&self, format: u128) -> Bytes<'a>
         requires { IsTrue (is_supported format) }
         ensures { result.state ≡ start (bytes_of self.now) format };

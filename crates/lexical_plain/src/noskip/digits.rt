@@ -1,4 +1,4 @@
-//! The iterator of every component.
+//! The one iterator, which serves every component.
 
 ghost use Rattle.std.specs.Prelude.{◌≡◌, Some, option_map};
 ghost use Rattle.lexical_plain.specs.Plain.{with_cursor, cut_end, view};
@@ -6,11 +6,10 @@ ghost use Rattle.lexical_plain.specs.Plain.{with_cursor, cut_end, view};
 use super::bytes::{Bytes, Meaning};
 use lexical_digits::iterator::{DigitsIter, Iter};
 
-/// The iterator of any component of a `Bytes`: each byte from the cursor on comes, whatever it is.
-/// It is lexical-util's `noskip::DigitsIterator`. It holds nothing but the borrowed `Bytes`, so
-/// making it and ending it takes no memory, and when it ends, the `Bytes` holds the cursor reached.
-/// A proved caller that goes on with the `Bytes` writes the literal,
-/// `DigitsIterator { byte: &mut bytes }`, in place of a call.
+/// The iterator of every component of a `Bytes`: it yields each byte from the cursor on. It is
+/// lexical-util's `noskip::DigitsIterator`. It holds only the borrowed `Bytes`, takes no memory,
+/// and leaves its cursor in that `Bytes`. A proved caller that uses the `Bytes` afterwards writes
+/// the literal `DigitsIterator { byte: &mut bytes }` instead of a call.
 #[derive(Drop)]
 pub struct DigitsIterator<'a: 'b, 'b> {
     /// The `Bytes` that is read.
@@ -18,7 +17,7 @@ pub struct DigitsIterator<'a: 'b, 'b> {
 }
 
 impl<'a> Bytes<'a> {
-    /// The iterator of the integer over this `Bytes`, which holds the cursor reached when it ends.
+    /// The iterator of the integer over this `Bytes`: lexical-util's `integer_iter`.
     pub fn integer_iter<'b>(&'b mut self) -> DigitsIterator<'a, 'b>
         ensures same_loan { result.byte.ghost_name ≡ self.entry.ghost_name }
         ensures state { result.byte.now.state ≡ self.old.state }
@@ -26,7 +25,7 @@ impl<'a> Bytes<'a> {
         DigitsIterator { byte: self }
     }
 
-    /// The iterator of the fraction over this `Bytes`, which holds the cursor reached when it ends.
+    /// The iterator of the fraction over this `Bytes`: lexical-util's `fraction_iter`.
     pub fn fraction_iter<'b>(&'b mut self) -> DigitsIterator<'a, 'b>
         ensures same_loan { result.byte.ghost_name ≡ self.entry.ghost_name }
         ensures state { result.byte.now.state ≡ self.old.state }
@@ -34,7 +33,7 @@ impl<'a> Bytes<'a> {
         DigitsIterator { byte: self }
     }
 
-    /// The iterator of the exponent over this `Bytes`, which holds the cursor reached when it ends.
+    /// The iterator of the exponent over this `Bytes`: lexical-util's `exponent_iter`.
     pub fn exponent_iter<'b>(&'b mut self) -> DigitsIterator<'a, 'b>
         ensures same_loan { result.byte.ghost_name ≡ self.entry.ghost_name }
         ensures state { result.byte.now.state ≡ self.old.state }
@@ -42,7 +41,7 @@ impl<'a> Bytes<'a> {
         DigitsIterator { byte: self }
     }
 
-    /// The special iterator over this `Bytes`, which holds the cursor reached when it ends.
+    /// The special iterator over this `Bytes`: lexical-util's `special_iter`.
     pub fn special_iter<'b>(&'b mut self) -> DigitsIterator<'a, 'b>
         ensures same_loan { result.byte.ghost_name ≡ self.entry.ghost_name }
         ensures state { result.byte.now.state ≡ self.old.state }
@@ -52,7 +51,7 @@ impl<'a> Bytes<'a> {
 }
 
 impl<'a: 'b, 'b> DigitsIterator<'a, 'b> {
-    /// The iterator over this `Bytes`, which holds the cursor reached when it ends.
+    /// The iterator over this `Bytes`: lexical-util's `DigitsIterator::new`.
     pub fn new(byte: &'b mut Bytes<'a>) -> Self
         ensures same_loan { result.byte.ghost_name ≡ byte.entry.ghost_name }
         ensures state { result.byte.now.state ≡ byte.old.state }
@@ -60,9 +59,9 @@ impl<'a: 'b, 'b> DigitsIterator<'a, 'b> {
         DigitsIterator { byte }
     }
 
-    /// The next `n` bytes as a view of their own, always `Some`; fewer, where fewer are left. The
-    /// view has the buffer up to the end of those bytes, this cursor and the same word. The
-    /// iterator's cursor goes behind them.
+    /// A view of the next `n` bytes, or of the rest if fewer are left: always `Some`. The view has
+    /// the buffer up to the end of those bytes, and the same cursor and word. The iterator's cursor
+    /// moves to that end. Its counterpart in lexical-util is `take_n`.
     pub fn take_n(&mut self, n: usize) -> Option<Bytes<'a>>
         ensures view { option_map (λ b. b.state) result ≡ Some (view self.old.byte.now.state n) }
         ensures state { let s = self.old.byte.now.state in
@@ -149,13 +148,13 @@ impl<'a: 'b, 'b> Iterator for DigitsIterator<'a, 'b> {
 
     ghost remaining = { λ s. at_most (bytes_left s.byte.now.state) };
 
-    #[tactic(auto, using(crate::proofs::Steps::fewer_left))]
+    #[tactic(auto, using(crate::proofs::NextTakesFirst::fewer_left))]
     #[inline(always)]
     fn next(&mut self) -> Option<&'a u8> {
         self.byte.take()
     }
 
-    /// How many bytes are left, exactly.
+    /// How many bytes are left from the cursor on, exactly.
     #[inline(always)]
     fn size_hint(&self) -> (usize, Option<usize>)
         ensures exact { let n = bytes_left self.now.byte.now.state in result ≡ (n, Some n) }
@@ -190,7 +189,7 @@ impl<'a: 'b, 'b> DigitsIter<'a> for DigitsIterator<'a, 'b> {
 
     ghost taken = { taken };
 
-    /// Does nothing, since the count is the cursor.
+    /// Changes nothing: the count is the cursor.
     #[inline(always)]
     fn increment_count(&mut self) {}
 

@@ -1,4 +1,4 @@
--- What `skip` makes of a word with no separator and no flag: nothing is passed over.
+-- `skip` for a word with no separator and no flag: no byte is dropped.
 use Rattle.std.proofs.Common.{◌≡◌, ℕ, zero, suc, ◌+◌, ◌-◌, ◌*◌, ◌/◌, ◌%◌, ◌^◌, ◌<◌, ◌≤◌, true, false, nat_eq, List, ◌∷◌, length, drop, get_or, refl, sym, ap, ◌∙◌, arith, length-drop, ◌⊎◌, inl, inr}
 use Rattle.std.proofs.Math.Nat.{div-div-eq-div-mul}
 use Rattle.std.proofs.lemmas.Bool.{cases_lt}
@@ -29,7 +29,7 @@ no_bit word i none below =
     ∙ bit_at_cat_low flags 13 0 i below
     ∙ bit_at-zero i
 
--- nothing is granted, and so no component passes over a byte
+-- nothing is granted, and so every component is contiguous
 module _ (word : ℕ) (none : separator_flags word ≡ 0) where
   no_flag : (i : ℕ) → i < 13 → nat_eq ((word / (2 ^ 32 * 2 ^ i)) % 2) 1 ≡ false
   no_flag i below = ap (λ (n : ℕ). nat_eq n 1) (no_bit word i none below)

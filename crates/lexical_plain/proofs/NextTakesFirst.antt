@@ -44,7 +44,9 @@ takes_some s item e =
       ends = omega arith;
     }
 
--- with each byte that comes one fewer is left
+pub ruleset takes = (takes_none, takes_some)
+
+-- each byte that `next` answers leaves one byte less
 pub fewer_left : (s t : Plain) (byte : ℕ) → rest s ≡ byte ∷ rest t → bytes_left t < bytes_left s
 fewer_left s t byte e =
     let longer = ap length e in
