@@ -20,7 +20,7 @@ module _ {M : Type 0} (buffer : M → List ℕ) (cursor place : M → ℕ) (take
         reads.fits,
         most.passes,
         digits_value-take-le radix
-            (digits buffer cursor place taken settled radix m) (most.before + 1) some,
+            (digits buffer cursor place taken settled radix m) (most.read + 1) some,
       )
 
   pub none_or_most : (at over : ℕ) (left other : M)

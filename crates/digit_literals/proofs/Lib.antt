@@ -1,8 +1,9 @@
 pub mod Taking
 pub mod Values
-pub mod Skipping
-pub mod Integers
 pub mod Apart
+pub mod States
+pub mod StopSteps
+pub mod Leads
+pub mod Whole
 pub mod Within
-pub mod Parts
-pub mod DigitsAlone
+pub mod Calling

@@ -1,188 +1,182 @@
--- The value of digits that were taken.
-use Rattle.std.proofs.Common.{◌≡◌, ℕ, suc, add-one, ◌+◌, ◌*◌, ◌^◌, ◌<◌, ◌≤◌, Bool, true, false, cond, List, [], ◌∷◌, ◌++◌, length, take, slice_get, Option, Some, None, is_some, option_and_then, refl, ap, sym, ◌∙◌, arith, length-append, ℤ, pos, ◌≤ℤ◌, ◌+ℤ◌}
-use Rattle.std.proofs.lemmas.Int.{ints}
+-- The value of digits that were taken, after that of others.
+use Rattle.std.proofs.Common.{◌≡◌, ◌≢◌, ℕ, ◌+◌, ◌*◌, ◌-◌, ◌^◌, ◌<◌, ◌≤◌, Bool, true, false, List, [], ◌∷◌, ◌++◌, length, take, slice_get, slice_index, Option, Some, None, is_some, option_and_then, refl, ap, sym, ◌∙◌, arith}
 use Rattle.std.specs.Char.{digit_value}
 use Rattle.std.specs.Fn.{iterate}
-use Rattle.std.specs.Str.Parse.{digits_value}
-use Rattle.std.proofs.lemmas.Int.Digits.{digits_value_push}
+use Rattle.std.specs.Str.Parse.{digits_value_after}
 use Rattle.std.proofs.lemmas.Bool.Decides.{nat_tests}
-use Rattle.std.specs.Prelude.{nat_lt}
+use Rattle.std.proofs.lemmas.List.{take_more, take_all}
+use Rattle.std.proofs.lemmas.Option.{gets}
 use Rattle.lexical_format.specs.Digits.{digit_of_radix, is_digit_of_radix}
 use Rattle.lexical_format.specs.Digits as words
 use Rattle.lexical_digits.specs.Cursor.{holds_of, DigitLaws}
-use Rattle.lexical_digits.specs.Stop.{leading}
-use Rattle.lexical_digits.proofs.Calls.Items.{leading_digit}
-use Rattle.digit_literals.specs.Outcomes.{ReadsAll, FindsNone, PassesMost}
-use Rattle.digit_literals.proofs.Taking.{HasTaken, none_taken, one_taken, all_taken, leaves_all}
+use Rattle.lexical_digits.specs.Stop.{after_leading}
+use Rattle.digit_literals.specs.declared.reading.Digits.{Digits}
+use Rattle.digit_literals.specs.Outcomes.{digits, value_with, ReadsAfter, ExceedsMost, ReadsAll, FindsNone}
+use Rattle.digit_literals.proofs.Taking.{HasTaken, none_taken, has_next, one_taken, moves_on, counts_bytes, all_taken, leaves_all}
 
-below_is : (radix d : ℕ) (o : Option ℕ) → words.value_below radix o ≡ Some d → o ≡ Some d
-below_is radix d None e = cc
-below_is radix d (Some v) e = here (nat_lt v radix) e
-  where
-    here : (b : Bool) → cond b (Some v) None ≡ Some d → Some v ≡ Some d
-    here true h = h
-    here false h = cc
+-- ---- a byte
 
 -- the value of a digit is that of std
-spelled_is : (byte d : ℕ) → words.digit_value byte ≡ Some d → digit_value byte ≡ d
-unfolding words.digit_value
-spelled_is byte d e = grind (arith, nat_tests)
-
 pub value_is : (radix byte d : ℕ) → digit_of_radix radix byte ≡ Some d → digit_value byte ≡ d
-value_is radix byte d e = spelled_is byte d (below_is radix d (words.digit_value byte) e)
+unfolding words.digit_value
+value_is radix byte d e = grind (arith, nat_tests)
 
-taken_before : (xs ys : List ℕ) → take (length xs) (xs ++ ys) ≡ xs
-taken_before [] ys = refl
-taken_before (x ∷ xs) ys = ap (λ zs. x ∷ zs) (taken_before xs ys)
+pub record IsDigitAt (radix : ℕ) (xs : List ℕ) (i d : ℕ) : Type 0 where
+  pub is : holds_of (is_digit_of_radix radix) (slice_get xs i) ≡ true
+  pub value : digit_value (slice_index xs i) ≡ d
 
-taken_upto : (xs : List ℕ) (y : ℕ) (ys : List ℕ)
-    → take (suc (length xs)) (xs ++ y ∷ ys) ≡ xs ++ y ∷ []
-taken_upto [] y ys = refl
-taken_upto (x ∷ xs) y ys = ap (λ zs. x ∷ zs) (taken_upto xs y ys)
+digit_at : (radix : ℕ) (xs : List ℕ) (i d : ℕ)
+    → option_and_then (digit_of_radix radix) (slice_get xs i) ≡ Some d → IsDigitAt radix xs i d
+digit_at radix xs i d e = here (slice_get xs i) refl e
+  where
+    here : (o : Option ℕ) → slice_get xs i ≡ o
+        → option_and_then (digit_of_radix radix) o ≡ Some d → IsDigitAt radix xs i d
+    here None there h = cc
+    here (Some byte) there h =
+        let same : slice_index xs i ≡ byte = grind (arith, gets) in
+        record {
+          is = rw there (ap is_some h);
+          value = rw same (value_is radix byte d h);
+        }
 
-taken_with : (xs : List ℕ) (y : ℕ) (ys : List ℕ)
-    → take (length xs + 1) (xs ++ y ∷ ys) ≡ xs ++ y ∷ []
-taken_with xs y ys = rw add-one (taken_upto xs y ys)
-
--- a digit of that value
-pub record IsDigit (radix : ℕ) (o : Option ℕ) (d : ℕ) : Type 0 where
-  pub byte : ℕ
-  pub there : o ≡ Some byte
-  pub value : digit_of_radix radix byte ≡ Some d
-
-pub digit_is : (radix d : ℕ) (o : Option ℕ) → option_and_then (digit_of_radix radix) o ≡ Some d
-    → IsDigit radix o d
-digit_is radix d None e = cc
-digit_is radix d (Some byte) e = record { byte = byte; there = refl; value = e }
-
-pub no_digit : (radix : ℕ) (o : Option ℕ) → option_and_then (digit_of_radix radix) o ≡ None
+none_at : (radix : ℕ) (o : Option ℕ) → option_and_then (digit_of_radix radix) o ≡ None
     → holds_of (is_digit_of_radix radix) o ≡ false
-no_digit radix None e = refl
-no_digit radix (Some byte) e = ap is_some e
+none_at radix None e = refl
+none_at radix (Some byte) e = ap is_some e
 
--- the digits `read` were taken from m on, and this is their value
-pub record HasRead {M : Type 0} (buffer : M → List ℕ) (cursor place : M → ℕ) (taken : M → M)
-    (radix : ℕ) (m n : M) (before after : ℤ) (value : ℕ) (is_empty : Bool) : Type 0 where
-  pub read : List ℕ
-  pub so_far : HasTaken buffer cursor place taken (is_digit_of_radix radix) m n read before after
-  pub worth : value ≡ digits_value radix read
-  pub fits : value < 2 ^ 64
-  pub empty : is_empty ≡ true → read ≡ []
-  pub some : is_empty ≡ false → 0 < length read
+-- ---- a list
+
+value_push : (radix n : ℕ) (ds : List ℕ) (c : ℕ)
+    → digits_value_after radix n (ds ++ c ∷ [])
+    ≡ digits_value_after radix n ds * radix + digit_value c
+value_push radix n [] c = refl
+value_push radix n (d ∷ ds) c = value_push radix (n * radix + digit_value d) ds c
+
+-- with one more digit
+pub value_more : (radix before : ℕ) (ds : List ℕ) (n : ℕ) → n < length ds
+    → digits_value_after radix before (take (n + 1) ds)
+    ≡ digits_value_after radix before (take n ds) * radix + digit_value (slice_index ds n)
+value_more radix before ds n l =
+    rw (take_more ds n 0 l) (value_push radix before (take n ds) (slice_index ds n))
+
+-- ---- what was read
+
+-- of the digits that lead m, `count` were taken, and `value` is the value with them
+pub record HasRead {M : Type 0} (buffer : M → List ℕ) (cursor place : M → ℕ) (taken settled : M → M)
+    (radix before most : ℕ) (m n : M) (value count : ℕ) : Type 0 where
+  pub led : HasTaken buffer cursor place taken (is_digit_of_radix radix) m n count
+  pub worth : value ≡ value_with buffer cursor place taken settled radix before most m count
+  pub fits : value ≤ most
 
 module _ {M : Type 0} {valid : M → Type 0} {buffer : M → List ℕ} {cursor current_count : M → ℕ}
     {contiguous : M → Bool} {separates : M → ℕ → Bool} {moved : M → ℕ → M} {place : M → ℕ}
     {digit : M → ℕ → Bool} {settled counted taken : M → M}
     (laws : DigitLaws valid buffer cursor current_count contiguous separates moved place digit
-    settled counted taken) (radix : ℕ) where
-  pub none_read : (m : M) (owed : ℤ) → HasRead buffer cursor place taken radix m m owed owed 0 true
-  none_read m owed = record {
-    read = [];
-    so_far = none_taken laws (is_digit_of_radix radix) m owed;
-    worth = refl;
-    fits = omega arith;
-    empty = λ e. refl;
-    some = λ e. cc;
+    settled counted taken) (n : M) (v : valid n) (radix before most : ℕ) where
+  abbrev Read : M → M → ℕ → ℕ → Type 0
+  Read = HasRead buffer cursor place taken settled radix before most
+
+  abbrev peeked : Option ℕ
+  peeked = option_and_then (digit_of_radix radix) (slice_get (buffer n) (place n))
+
+  -- with the digit at the place
+  value_next : (m : M) (d value count : ℕ) → Read m n value count → peeked ≡ Some d
+      → value_with buffer cursor place taken settled radix before most m (count + 1)
+      ≡ value * radix + d
+  value_next m d value count so e =
+      let found = digit_at radix (buffer n) (place n) d e in
+      let next = has_next laws n v (is_digit_of_radix radix) m count so.led found.is in
+      value_more radix before (digits buffer cursor place taken settled radix m) count next.within
+      ∙ rw (← so.worth, next.byte, found.value) refl
+
+  pub one_read : (m s t : M) (d value more count : ℕ) → Read m n value count → peeked ≡ Some d
+      → more ≡ value * radix + d → more ≤ most → s ≡ settled n → t ≡ taken s
+      → Read m t more (count + 1)
+  one_read m s t d value more count so e worth fits settles takes = record {
+    led = one_taken laws n v (is_digit_of_radix radix) m s t count so.led
+        (digit_at radix (buffer n) (place n) d e).is settles takes;
+    worth = worth ∙ sym (value_next m d value count so e);
+    fits = fits;
   }
 
-  -- one digit more
-  pub one_read : (m n t : M) (d : ℕ) (before after later : ℤ) (value more : ℕ) (is_empty : Bool)
-      → HasRead buffer cursor place taken radix m n before after value is_empty → valid n
-      → option_and_then (digit_of_radix radix) (slice_get (buffer n) (place n)) ≡ Some d
-      → more ≡ value * radix + d → more < 2 ^ 64 → t ≡ taken n → later ≤ℤ (after +ℤ pos 8)
-      → HasRead buffer cursor place taken radix m t before later more false
-  one_read m n t d before after later value more is_empty so v e worth fits is owes =
-      let found = digit_is radix d (slice_get (buffer n) (place n)) e in
+  pub reads_on : (s t : M) (d : ℕ) → peeked ≡ Some d → s ≡ settled n → t ≡ taken s
+      → length (buffer t) - cursor t < length (buffer n) - cursor n
+  reads_on s t d e = moves_on laws n v (is_digit_of_radix radix) s t
+      (digit_at radix (buffer n) (place n) d e).is
+
+  pub counts_read : (m s : M) (value count : ℕ) → Read m n value count → s ≡ settled n
+      → count ≤ cursor s
+  counts_read m s value count so = counts_bytes laws n v (is_digit_of_radix radix) m s count so.led
+
+  pub exceeds : (m t : M) (d value count at : ℕ) → Read m n value count → peeked ≡ Some d
+      → most < value * radix + d → t ≡ settled n → at ≡ cursor t
+      → ExceedsMost buffer cursor place taken settled radix before most m at t
+  exceeds m t d value count at so e over settles stands =
+      let found = digit_at radix (buffer n) (place n) d e in
+      let next = has_next laws n v (is_digit_of_radix radix) m count so.led found.is in
       record {
-        read = so.read ++ found.byte ∷ [];
-        so_far = one_taken laws (is_digit_of_radix radix) m n t so.read found.byte before after
-            later so.so_far v found.there (ap is_some found.value) is owes;
-        worth = worth ∙ ap (λ (x : ℕ). x * radix + d) so.worth
-            ∙ ap (λ (x : ℕ). digits_value radix so.read * radix + x)
-            (sym (value_is radix found.byte d found.value))
-            ∙ sym (digits_value_push radix so.read found.byte);
-        fits = fits;
-        empty = λ e. cc;
-        some = λ e. omega (arith, length-append so.read (found.byte ∷ []));
+        read = count;
+        within = next.within;
+        fits = rw (← so.worth) so.fits;
+        passes = rw (value_next m d value count so e) over;
+        stands = stands ∙ ap cursor settles ∙ laws.settled_cursor n v ∙ ap place so.led.stands;
+        leaves = settles ∙ ap settled so.led.stands;
       }
 
-  pub reads_all : (m n t : M) (before after : ℤ) (value : ℕ) (is_empty : Bool)
-      → HasRead buffer cursor place taken radix m n before after value is_empty → is_empty ≡ false
-      → valid n → option_and_then (digit_of_radix radix) (slice_get (buffer n) (place n)) ≡ None
-      → t ≡ settled n → ReadsAll buffer cursor place taken settled radix m value t
-  reads_all m n t before after value is_empty so some v e is =
-      let none = no_digit radix (slice_get (buffer n) (place n)) e in
-      let all =
-      all_taken laws (is_digit_of_radix radix) m n so.read before after so.so_far v none in
+  pub reads_after : (m t : M) (read : Digits) → Read m n read.value read.count → peeked ≡ None
+      → t ≡ settled n → ReadsAfter buffer cursor place taken settled radix before most m read t
+  reads_after m t read so e settles =
+      let none = none_at radix (slice_get (buffer n) (place n)) e in
+      let p : ℕ → Bool = is_digit_of_radix radix in
+      let counts = all_taken laws n v p m read.count so.led none in
       record {
-        some = omega (arith, ap length all, so.some some);
-        is = so.worth ∙ ap (digits_value radix) (sym all);
+        is = so.worth ∙ ap (digits_value_after radix before)
+            (take_all read.count (digits buffer cursor place taken settled radix m)
+            (omega (arith, counts)));
         fits = so.fits;
-        leaves = leaves_all laws (is_digit_of_radix radix) m n t so.read before after so.so_far v
-            none is;
+        counts = counts;
+        leaves = leaves_all laws n v p m t read.count so.led none settles;
       }
 
-  pub finds_none : (m n t : M) (before after : ℤ) (value at : ℕ) (is_empty : Bool)
-      → HasRead buffer cursor place taken radix m n before after value is_empty → is_empty ≡ true
-      → valid n → option_and_then (digit_of_radix radix) (slice_get (buffer n) (place n)) ≡ None
-      → t ≡ settled n → at ≡ cursor t → FindsNone buffer cursor place taken settled radix m at t
-  finds_none m n t before after value at is_empty so empty v e is stands =
-      let none = no_digit radix (slice_get (buffer n) (place n)) e in
-      let all =
-      all_taken laws (is_digit_of_radix radix) m n so.read before after so.so_far v none in
-      let same : n ≡ m =
-      so.so_far.stands ∙ ap (λ (xs : List ℕ). iterate taken (length xs) m) (so.empty empty) in
+pub none_read : {M : Type 0} {buffer : M → List ℕ} {cursor place : M → ℕ} {taken settled : M → M}
+    (radix before most : ℕ) (m : M) → before ≤ most
+    → HasRead buffer cursor place taken settled radix before most m m before 0
+none_read radix before most m fits = record {
+  led = none_taken (is_digit_of_radix radix) m;
+  worth = refl;
+  fits = fits;
+}
+
+pub ruleset reading = (none_read, one_read, reads_on, counts_read, exceeds, reads_after)
+
+-- ---- a literal
+
+module _ {M : Type 0} (buffer : M → List ℕ) (cursor place : M → ℕ) (taken settled : M → M)
+    (radix : ℕ) (m : M) where
+  pub reads_all : (read : Digits) (t : M)
+      → ReadsAfter buffer cursor place taken settled radix 0 (2 ^ 64 - 1) m read t
+      → read.count ≢ 0 → ReadsAll buffer cursor place taken settled radix m read.value t
+  reads_all read t h some = record {
+    some = omega (arith, some, h.counts);
+    is = h.is;
+    fits = omega (arith, h.fits);
+    leaves = h.leaves;
+  }
+
+  pub finds_none : (read : Digits) (at : ℕ) (t : M)
+      → ReadsAfter buffer cursor place taken settled radix 0 (2 ^ 64 - 1) m read t
+      → read.count ≡ 0 → at ≡ cursor t → cursor (settled m) ≡ place m
+      → FindsNone buffer cursor place taken settled radix m at t
+  unfolding after_leading
+  finds_none read at t h none stands settles =
+      let left : t ≡ settled m = h.leaves
+      ∙ ap (λ (n : ℕ). settled (iterate taken n m)) (sym h.counts ∙ none) in
       record {
-        none = all ∙ so.empty empty;
-        stands = stands ∙ ap cursor is ∙ laws.settled_cursor n v ∙ ap place same;
-        leaves = is ∙ ap settled same;
+        none = empty (digits buffer cursor place taken settled radix m) (sym h.counts ∙ none);
+        stands = stands ∙ ap cursor left ∙ settles;
+        leaves = left;
       }
-
-  pub passes_most : (m n t : M) (d : ℕ) (before after : ℤ) (value at : ℕ) (is_empty : Bool)
-      → HasRead buffer cursor place taken radix m n before after value is_empty → valid n
-      → option_and_then (digit_of_radix radix) (slice_get (buffer n) (place n)) ≡ Some d
-      → 2 ^ 64 ≤ value * radix + d → t ≡ settled n → at ≡ cursor t
-      → PassesMost buffer cursor place taken settled radix m at t
-  passes_most m n t d before after value at is_empty so v e over is stands =
-      let found = digit_is radix d (slice_get (buffer n) (place n)) e in
-      let rest : List ℕ = leading buffer cursor place taken (is_digit_of_radix radix) (taken n) in
-      let first = leading_digit laws (is_digit_of_radix radix) n found.byte v found.there
-      (ap is_some found.value) in
-      let all : leading buffer cursor place taken (is_digit_of_radix radix) m
-      ≡ so.read ++ found.byte ∷ rest = so.so_far.digits ∙ ap (λ xs. so.read ++ xs) first in
-      let upto : take (length so.read)
-      (leading buffer cursor place taken (is_digit_of_radix radix) m)
-      ≡ so.read = ap (take (length so.read)) all ∙ taken_before so.read (found.byte ∷ rest) in
-      let with_it : take (length so.read + 1)
-      (leading buffer cursor place taken (is_digit_of_radix radix) m)
-      ≡ so.read ++ found.byte ∷ [] = ap (take (length so.read + 1)) all
-      ∙ taken_with so.read found.byte rest in
-      let worth : digits_value radix (so.read ++ found.byte ∷ [])
-      ≡ value * radix + d = digits_value_push radix so.read found.byte
-      ∙ ap (λ (x : ℕ). digits_value radix so.read * radix + x)
-      (value_is radix found.byte d found.value)
-      ∙ ap (λ (x : ℕ). x * radix + d) (sym so.worth) in
-      record {
-        before = length so.read;
-        within = omega (arith, ap length all, length-append so.read (found.byte ∷ rest));
-        fits = rw (upto, ← so.worth) so.fits;
-        passes = rw (with_it, worth) over;
-        stands = stands ∙ ap cursor is ∙ laws.settled_cursor n v ∙ ap place so.so_far.stands;
-        leaves = is ∙ ap settled so.so_far.stands;
-      }
-
-  -- what is owed then, with one peek more
-  pub owes_all : (m n : M) (before after later : ℤ) (value : ℕ) (is_empty : Bool)
-      → HasRead buffer cursor place taken radix m n before after value is_empty
-      → later ≤ℤ (after +ℤ pos 4)
-      → later ≤ℤ (before +ℤ pos
-      (8 * length (leading buffer cursor place taken (is_digit_of_radix radix) m) + 4))
-  owes_all m n before after later value is_empty so owes = omega (
-    arith,
-    ints,
-    so.so_far.owes,
-    owes,
-    ap length so.so_far.digits,
-    length-append so.read
-        (leading buffer cursor place taken (is_digit_of_radix radix) n),
-  )
+    where
+      empty : (xs : List ℕ) → length xs ≡ 0 → xs ≡ []
+      empty [] e = refl
+      empty (x ∷ xs) e = cc

@@ -17,7 +17,7 @@ no_digit_within rule text at h =
 pub too_large_within : (rule : Rule) (text : List ℕ) (at : ℕ) →
     IsTooLarge rule text at → at < length text
 too_large_within rule text at h =
-    omega (arith, h.before, (stop_is_first rule text 0 0 (omega arith)).within)
+    omega (arith, h.before_stop, (stop_is_first rule text 0 0 (omega arith)).within)
 
 -- the three, to be named in an attribute
 pub ruleset positions_within = (integer_within, no_digit_within, too_large_within)

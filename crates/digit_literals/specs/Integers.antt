@@ -1,30 +1,40 @@
--- What the integer is that a text begins with.
-use Rattle.std.specs.Prelude.{◌≡◌, ℕ, ◌+◌, ◌^◌, ◌<◌, ◌≤◌, List, [], length, take, filter}
+-- What the integer is that stands in a text from a start on. No two of the three can hold of one
+-- text.
+use Rattle.std.specs.Prelude.{◌≡◌, ℕ, ◌-◌, ◌^◌, ◌<◌, ◌≤◌, List, [], length}
 use Rattle.std.specs.Str.Parse.{digits_value}
 use Rattle.lexical_digits.specs.declared.skip.rule.Rule.{Rule}
-use Rattle.lexical_digits.specs.Separators.{is_digit}
 use Rattle.lexical_digits.specs.Stop.{stop}
+use Rattle.digit_literals.specs.After.{digits_between, ExceedsAt}
 
--- No two of the three can hold of one text.
+module _ (rule : Rule) (text : List ℕ) (start : ℕ) where
+  -- there are digits before the stop, and their value is at most `most`
+  pub record IsIntegerFrom (most value end : ℕ) : Type 0 where
+    pub ends : end ≡ stop rule text start 0
+    pub some : 0 < length (digits_between rule text start end)
+    pub is : value ≡ digits_value rule.radix (digits_between rule text start end)
+    pub fits : value ≤ most
+
+  -- there is none
+  pub record HasNoDigitFrom (at : ℕ) : Type 0 where
+    pub stops : at ≡ stop rule text start 0
+    pub none : digits_between rule text start at ≡ []
+
+  -- the one at this position is the first with which the value is above `most`
+  abbrev pub IsTooLargeFrom : ℕ → ℕ → Type 0
+  IsTooLargeFrom most at = ExceedsAt rule text start 0 0 most at
+
+-- ---- what a text begins with, up to `u64::MAX`
+
 module _ (rule : Rule) (text : List ℕ) where
   -- the digits of the text that stand before a position
   abbrev pub digits_before : ℕ → List ℕ
-  digits_before at = filter (is_digit rule) (take at text)
+  digits_before at = digits_between rule text 0 at
 
-  -- there are digits before the stop, and their value fits
-  pub record IsInteger (value end : ℕ) : Type 0 where
-    pub ends : end ≡ stop rule text 0 0
-    pub some : 0 < length (digits_before end)
-    pub is : value ≡ digits_value rule.radix (digits_before end)
-    pub fits : value < 2 ^ 64
+  abbrev pub IsInteger : ℕ → ℕ → Type 0
+  IsInteger value end = IsIntegerFrom rule text 0 (2 ^ 64 - 1) value end
 
-  -- there is none
-  pub record HasNoDigit (at : ℕ) : Type 0 where
-    pub stops : at ≡ stop rule text 0 0
-    pub none : digits_before at ≡ []
+  abbrev pub HasNoDigit : ℕ → Type 0
+  HasNoDigit at = HasNoDigitFrom rule text 0 at
 
-  -- the one at this position is the first with which the value does not fit
-  pub record IsTooLarge (at : ℕ) : Type 0 where
-    pub before : at < stop rule text 0 0
-    pub fits : digits_value rule.radix (digits_before at) < 2 ^ 64
-    pub passes : 2 ^ 64 ≤ digits_value rule.radix (digits_before (at + 1))
+  abbrev pub IsTooLarge : ℕ → Type 0
+  IsTooLarge at = IsTooLargeFrom rule text 0 (2 ^ 64 - 1) at

@@ -1,2 +1,4 @@
 pub mod Outcomes
+pub mod After
 pub mod Integers
+pub mod Whole

@@ -1,11 +1,12 @@
 -- What reading the digits that lead an iterator answers, and what it leaves.
-use Rattle.std.specs.Prelude.{◌≡◌, ⊤, ℕ, ◌+◌, ◌^◌, ◌<◌, ◌≤◌, List, [], length, take, Result, Ok, Err}
+use Rattle.std.specs.Prelude.{◌≡◌, ⊤, ℕ, ◌+◌, ◌-◌, ◌^◌, ◌<◌, ◌≤◌, List, [], length, take, Result, Ok, Err}
 use Rattle.std.specs.Fn.{iterate}
-use Rattle.std.specs.Str.Parse.{digits_value}
+use Rattle.std.specs.Str.Parse.{digits_value, digits_value_after}
 use Rattle.lexical_format.specs.Digits.{is_digit_of_radix}
 use Rattle.lexical_digits.specs.Stop.{leading, after_leading}
 use Rattle.digit_literals.specs.declared.LiteralError.{LiteralError}
 use Rattle.digit_literals.specs.declared.LiteralError.TheVariants.{Empty, Overflow}
+use Rattle.digit_literals.specs.declared.reading.Digits.{Digits}
 
 -- a fact for one error, with its position
 abbrev pub IfEmpty : {T : Type 0} → Result T LiteralError → (ℕ → Type 0) → Type 0
@@ -18,31 +19,53 @@ IfOverflow (Ok v) P = ⊤
 IfOverflow (Err (Empty at)) P = ⊤
 IfOverflow (Err (Overflow at)) P = P at
 
--- The digits of a radix that lead the items of a meaning are read. No two of the three can hold of
--- one meaning.
 module _ {M : Type 0} (buffer : M → List ℕ) (cursor place : M → ℕ) (taken settled : M → M)
-    (radix : ℕ) (m : M) where
-  abbrev pub digits : List ℕ
-  digits = leading buffer cursor place taken (is_digit_of_radix radix) m
+    (radix : ℕ) where
+  -- the digits of a radix that lead the items of a meaning
+  abbrev pub digits : M → List ℕ
+  digits m = leading buffer cursor place taken (is_digit_of_radix radix) m
 
-  -- there are some, and their value fits: each was taken
-  pub record ReadsAll (value : ℕ) (left : M) : Type 0 where
-    pub some : 0 < length digits
-    pub is : value ≡ digits_value radix digits
-    pub fits : value < 2 ^ 64
-    pub leaves : left ≡ after_leading buffer cursor place taken settled (is_digit_of_radix radix) m
+  -- ---- after a value, up to a greatest value
 
-  -- there is none: nothing was taken
-  pub record FindsNone (at : ℕ) (left : M) : Type 0 where
-    pub none : digits ≡ []
-    pub stands : at ≡ place m
-    pub leaves : left ≡ settled m
+  module _ (before most : ℕ) (m : M) where
+    -- the value with the first n of them
+    abbrev pub value_with : ℕ → ℕ
+    value_with n = digits_value_after radix before (take n (digits m))
 
-  -- one of them is the first with which the value does not fit: those before it were taken
-  pub record PassesMost (at : ℕ) (left : M) : Type 0 where
-    pub before : ℕ
-    pub within : before < length digits
-    pub fits : digits_value radix (take before digits) < 2 ^ 64
-    pub passes : 2 ^ 64 ≤ digits_value radix (take (before + 1) digits)
-    pub stands : at ≡ place (iterate taken before m)
-    pub leaves : left ≡ settled (iterate taken before m)
+    -- the value is at most `most` with all of them: each was taken
+    pub record ReadsAfter (read : Digits) (after : M) : Type 0 where
+      pub is : read.value ≡ digits_value_after radix before (digits m)
+      pub fits : read.value ≤ most
+      pub counts : read.count ≡ length (digits m)
+      pub leaves : after
+          ≡ after_leading buffer cursor place taken settled (is_digit_of_radix radix) m
+
+    -- one of them is the first with which the value is above `most`: those before it were taken
+    pub record ExceedsMost (at : ℕ) (after : M) : Type 0 where
+      pub read : ℕ
+      pub within : read < length (digits m)
+      pub fits : value_with read ≤ most
+      pub passes : most < value_with (read + 1)
+      pub stands : at ≡ place (iterate taken read m)
+      pub leaves : after ≡ settled (iterate taken read m)
+
+  -- ---- a literal: no two of the three can hold of one meaning
+
+  module _ (m : M) where
+    -- there are some, and their value fits: each was taken
+    pub record ReadsAll (value : ℕ) (after : M) : Type 0 where
+      pub some : 0 < length (digits m)
+      pub is : value ≡ digits_value radix (digits m)
+      pub fits : value < 2 ^ 64
+      pub leaves : after
+          ≡ after_leading buffer cursor place taken settled (is_digit_of_radix radix) m
+
+    -- there is none: nothing was taken
+    pub record FindsNone (at : ℕ) (after : M) : Type 0 where
+      pub none : digits m ≡ []
+      pub stands : at ≡ place m
+      pub leaves : after ≡ settled m
+
+    -- one of them is the first with which the value does not fit: those before it were taken
+    abbrev pub PassesMost : ℕ → M → Type 0
+    PassesMost at after = ExceedsMost 0 (2 ^ 64 - 1) m at after

@@ -1,14 +1,15 @@
-use Rattle.std.proofs.Common.{◌≡◌, ◌-◌, length}
+use Rattle.std.proofs.Common.{◌≡◌, ◌-◌, ◌*◌, length, pos, ◌≤ℤ◌, ◌+ℤ◌}
 use Rattle.digit_literals.proofs.Values.{HasRead}
-use Rattle.digit_literals.proofs.read_digits.Given as goal
+use Rattle.digit_literals.proofs.reading.read_digits_after.Given as goal
 
 abbrev pub invariant-loop-digit : goal.invariant-loop-digit
 invariant-loop-digit g l =
     let i = g.I.Iter in
     let d = g.I.DigitsIter in
     record {
-      has_read : HasRead i.buffer i.cursor d.place d.taken l.radix (i.meaning l.initial.iter)
-          (i.meaning l.iter) (i.owed l.initial.iter) (i.owed l.iter) l.value l.is_empty;
+      read : HasRead i.buffer i.cursor d.place d.taken d.settled l.radix l.before l.most
+          (i.meaning l.initial.iter) (i.meaning l.iter) l.value l.count;
+      owes : i.owed l.iter ≤ℤ (i.owed l.initial.iter +ℤ pos (8 * l.count));
       keeps_loan : i.loan l.iter ≡ i.loan l.initial.iter;
     }
 

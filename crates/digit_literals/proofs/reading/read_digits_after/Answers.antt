@@ -1,0 +1,28 @@
+use Rattle.std.proofs.Common.{rules, arith}
+use Rattle.std.proofs.lemmas.Int.{ints}
+use Rattle.digit_literals.proofs.Values.{one_read, reads_after}
+use Rattle.digit_literals.proofs.reading.read_digits_after.Goals as goal
+
+pub loop-digit-preserved : goal.loop-digit-preserved
+loop-digit-preserved g c =
+    let peeked = c.peek_digit.ensures in
+    let more = c.in-Some-add_digit.ensures in
+    record {
+      read = one_read peeked.laws _ peeked.valid c.args.radix c.args.before c.args.most _ _ _
+          c.in-Some.digit c.loop-digit.value _ c.loop-digit.count c.loop-digit.invariant.read
+          (search rules) (search rules) (search rules) peeked.settles c.take_byte.ensures.takes;
+      owes = omega (
+        arith,
+        ints,
+        c.take_byte.ensures.owes,
+        peeked.owes,
+        c.loop-digit.invariant.owes,
+      );
+      keeps_loan = search rules;
+    }
+
+pub returns-clause-ok : goal.returns-clause-ok
+returns-clause-ok g c =
+    let peeked = c.peek_digit.ensures in
+    reads_after peeked.laws _ peeked.valid c.args.radix c.args.before c.args.most _ _ _
+    c.loop-digit.invariant.read (search rules) peeked.settles

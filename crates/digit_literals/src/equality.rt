@@ -1,0 +1,38 @@
+//! `==` on the public plain values of this crate: it answers `true` exactly if the two values are
+//! the same, part by part.
+
+ghost use Rattle.std.specs.Prelude.{◌≡◌, true};
+
+use super::{Digits, LiteralError, ParseError, TooLarge};
+
+/// Two errors of a literal are equal exactly if they are the same. Not in lexical-util.
+pub fn same_literal_error(a: LiteralError, b: LiteralError) -> bool
+    ensures same { result ≡ true → a ≡ b }
+    ensures equal { a ≡ b → result ≡ true }
+{
+    a == b
+}
+
+/// Two errors of a whole text are equal exactly if they are the same. Not in lexical-util.
+pub fn same_parse_error(a: ParseError, b: ParseError) -> bool
+    ensures same { result ≡ true → a ≡ b }
+    ensures equal { a ≡ b → result ≡ true }
+{
+    a == b
+}
+
+/// Two answers of digits are equal exactly if they are the same. Not in lexical-util.
+pub fn same_digits(a: Digits, b: Digits) -> bool
+    ensures same { result ≡ true → a ≡ b }
+    ensures equal { a ≡ b → result ≡ true }
+{
+    a == b
+}
+
+/// Two positions of a digit too many are equal exactly if they are the same. Not in lexical-util.
+pub fn same_too_large(a: TooLarge, b: TooLarge) -> bool
+    ensures same { result ≡ true → a ≡ b }
+    ensures equal { a ≡ b → result ≡ true }
+{
+    a == b
+}
