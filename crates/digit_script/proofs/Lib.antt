@@ -1,0 +1,3 @@
+pub mod CallEquality
+pub mod Equality
+pub mod Scripts
