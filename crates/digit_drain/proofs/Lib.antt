@@ -1,9 +1,9 @@
-pub mod Counts
-pub mod Cuts
-pub mod Drains
-pub mod Fields
-pub mod Lines
+pub mod DrainFromStart
+pub mod FirstLine
+pub mod FirstMark
+pub mod Flags
+pub mod Numbers
 pub mod Reading
 pub mod Spelled
-pub mod Words
-pub mod Scripts
+pub mod Steps
+pub mod WordSays

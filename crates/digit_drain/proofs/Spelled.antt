@@ -2,8 +2,10 @@
 use Rattle.std.proofs.Common.{◌≡◌, ℕ, List, refl, ap, ◌∙◌, subst, Some}
 use Rattle.std.proofs.lemmas.Option.{same_Some}
 use Rattle.digit_drain.specs.Line.{cut, component_of, radix_of, hexadecimal_of, flags_of, Asked, Spells, with_space, request_of}
-use Rattle.digit_drain.proofs.Cuts.{cut_splits, cut_joined}
-use Rattle.digit_drain.proofs.Fields.{bind_then, component_from, component_to, radix_from, radix_to, hexadecimal_from, hexadecimal_to, flags_from, flags_to}
+use Rattle.digit_drain.proofs.FirstMark.{cut_splits, cut_joined}
+use Rattle.digit_drain.proofs.Flags.{component_from, component_to, flags_from, flags_to}
+use Rattle.digit_drain.proofs.Numbers.{radix_from, radix_to, hexadecimal_from, hexadecimal_to}
+use Rattle.digit_drain.proofs.Steps.{bind_then}
 
 pub read_spells : (line : List ℕ) (asked : Asked) → request_of line ≡ Some asked → Spells line asked
 unfolding request_of

@@ -1,4 +1,3 @@
 pub mod Line
 pub mod Outcome
 pub mod Report
-pub mod Script

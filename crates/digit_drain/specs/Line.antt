@@ -1,10 +1,13 @@
 -- A line of the input: four fields, each followed by one space, and then the text.
-use Rattle.std.specs.Prelude.{◌≡◌, ◌≢◌, ◌⊎◌, ℕ, ◌+◌, ◌*◌, ◌^◌, ◌<◌, ◌≤◌, ◌==◌, ◌&&◌, nat_eq, nat_le, nat_lt, if◌then◌else◌, Bool, false, true, List, ◌∷◌, ◌++◌, length, take, drop, position, count_by, All, Option, Some, None, option_map, codes, bytes_eq}
+use Rattle.std.specs.Prelude.{◌≡◌, ◌≢◌, ◌⊎◌, ℕ, ◌+◌, ◌<◌, ◌≤◌, ◌==◌, ◌&&◌, ◌||◌, not, nat_eq, nat_le, nat_lt, if◌then◌else◌, Bool, false, true, List, [], ◌∷◌, ◌++◌, length, take, drop, position, All, Option, Some, None, option_map, codes, bytes_eq}
 use Rattle.std.specs.List.{list_all, list_any, IsDistinct}
 use Rattle.std.specs.Char.{digit_value}
 use Rattle.std.specs.Str.{byte}
 use Rattle.std.specs.Str.Parse.{IsNumeral, digits_value}
-use Rattle.lexical_format.specs.Word.{bits}
+use Rattle.lexical_format.specs.Word.{mantissa_radix, exponent_radix}
+use Rattle.lexical_format.specs.declared.builder.DigitSeparatorFlags.{DigitSeparatorFlags}
+use Rattle.lexical_format.specs.declared.builder.NumberFormatBuilder.{NumberFormatBuilder}
+use Rattle.lexical_format.specs.Builder as Builder
 use Rattle.lexical_digits.specs.State.{rule_of}
 use Rattle.lexical_digits.specs.declared.skip.rule.Rule.{Rule}
 use Rattle.lexical_digits.specs.declared.skip.component.Component.{Component}
@@ -18,7 +21,7 @@ abbrev pub ◌>>=◌ : {A B : Type 0} → Option A → (A → Option B) → Opti
 (Some x) >>= f = f x
 None >>= f = None
 
--- what stands before the first `mark`, and what stands after it
+-- the bytes before the first `mark`, and the bytes after it
 abbrev pub cut : ℕ → List ℕ → Option (List ℕ × List ℕ)
 cut mark bytes =
     option_map (λ i. (take i bytes, drop (i + 1) bytes)) (position (λ b. b == mark) bytes)
@@ -53,7 +56,7 @@ pub record AreRadixes (field : List ℕ) (radix : Radix) : Type 0 where
   pub mantissa_is : IsDecimal mantissa radix.mantissa
   pub exponent_is : IsDecimal exponent radix.exponent
 
--- the mantissa's radix alone, where the exponent's is zero, or both
+-- only the mantissa's radix, and then the exponent's is zero; or both
 abbrev pub IsRadix : List ℕ → Radix → Type 0
 IsRadix field radix =
     (IsDecimal field radix.mantissa × (radix.exponent ≡ 0)) ⊎ AreRadixes field radix
@@ -63,20 +66,20 @@ abbrev pub IsFlagLetter : ℕ → Type 0
 IsFlagLetter letter =
     (letter ≡ byte "I") ⊎ (letter ≡ byte "L") ⊎ (letter ≡ byte "T") ⊎ (letter ≡ byte "C")
 
--- whether a letter stands in a field
-abbrev pub stands : ℕ → List ℕ → Bool
-stands letter field = list_any (λ b. b == letter) field
+-- whether a letter is in a field
+abbrev pub has_letter : ℕ → List ℕ → Bool
+has_letter letter field = list_any (λ b. b == letter) field
 
 -- One or more of the letters I, L, T and C, in any order, none of them twice; and each flag is set
--- exactly if its letter stands.
+-- exactly if its letter is there.
 pub record AreNumberFlags (field : List ℕ) (flags : Flags) : Type 0 where
   pub some : 0 < length field
   pub letters : All IsFlagLetter field
   pub none_twice : IsDistinct nat_eq field
-  pub internal : flags.internal ≡ stands (byte "I") field
-  pub leading : flags.leading ≡ stands (byte "L") field
-  pub trailing : flags.trailing ≡ stands (byte "T") field
-  pub consecutive : flags.consecutive ≡ stands (byte "C") field
+  pub internal : flags.internal ≡ has_letter (byte "I") field
+  pub leading : flags.leading ≡ has_letter (byte "L") field
+  pub trailing : flags.trailing ≡ has_letter (byte "T") field
+  pub consecutive : flags.consecutive ≡ has_letter (byte "C") field
   pub special : flags.special ≡ false
 
 abbrev pub no_flags : Flags
@@ -88,7 +91,7 @@ no_flags = record {
   special = false;
 }
 
--- the letter S alone
+-- the one letter S
 abbrev pub AreSpecialFlags : List ℕ → Flags → Type 0
 AreSpecialFlags field flags =
     (field ≡ codes "S") × (flags ≡ record no_flags { special = true })
@@ -143,26 +146,26 @@ radix_of_parts field (Some parts) = do
 unfoldable pub radix_of : List ℕ → Option Radix
 radix_of field = radix_of_parts field (cut 47 field)
 
--- how often a letter stands in a field
-abbrev pub times : ℕ → List ℕ → ℕ
-times letter field = count_by (λ b. b == letter) field
+abbrev pub is_flag_letter : ℕ → Bool
+is_flag_letter b = (b == 73) || (b == 76) || (b == 84) || (b == 67)
 
--- one or more of the letters I, L, T and C, none twice, and nothing else
-abbrev pub are_number_flags : List ℕ → Bool
-are_number_flags field =
-    nat_le (times 73 field) 1 && nat_le (times 76 field) 1
-    && nat_le (times 84 field) 1 && nat_le (times 67 field) 1
-    && (times 73 field + times 76 field + times 84 field + times 67 field == length field)
-    && nat_lt 0 (length field)
+-- the letters I, L, T and C, none twice, and nothing else
+abbrev pub are_flag_letters : List ℕ → Bool
+are_flag_letters [] = true
+are_flag_letters (letter ∷ letters) =
+    if is_flag_letter letter && not (has_letter letter letters)
+    then are_flag_letters letters
+    else false
 
+-- one or more of these letters
 abbrev pub number_flags_of : List ℕ → Option Flags
 number_flags_of field =
-    if are_number_flags field
+    if nat_lt 0 (length field) && are_flag_letters field
     then Some (record {
-      internal = times 73 field == 1;
-      leading = times 76 field == 1;
-      trailing = times 84 field == 1;
-      consecutive = times 67 field == 1;
+      internal = has_letter 73 field;
+      leading = has_letter 76 field;
+      trailing = has_letter 84 field;
+      consecutive = has_letter 67 field;
       special = false;
     })
     else None
@@ -238,26 +241,41 @@ pub record Spells (line : List ℕ) (asked : Asked) : Type 0 where
 
 -- ---- the word
 
--- how far above those of integer a component's flags stand; special has one flag, which stands
--- elsewhere
-abbrev pub flags_above : Component → ℕ
-flags_above Integer = 0
-flags_above Fraction = 1
-flags_above Exponent = 2
-flags_above Special = 0
+-- a number's flags, and none, as a builder has them
+abbrev pub number_flags : Flags → DigitSeparatorFlags
+number_flags flags = record {
+  internal = flags.internal;
+  leading = flags.leading;
+  trailing = flags.trailing;
+  consecutive = flags.consecutive;
+}
 
-abbrev pub bit_if : Bool → ℕ → ℕ
-bit_if is_set place = if is_set then 2 ^ place else 0
+abbrev pub plain_builder : Radix → ℕ → NumberFormatBuilder
+plain_builder radix separator = record {
+  mantissa_radix = radix.mantissa;
+  exponent_radix = radix.exponent;
+  digit_separator = separator;
+  integer = number_flags no_flags;
+  fraction = number_flags no_flags;
+  exponent = number_flags no_flags;
+  special = false;
+}
+
+-- what a line names, as a builder has it: its flags are the component's, and the others have none
+abbrev pub builder_of : Component → Radix → ℕ → Flags → NumberFormatBuilder
+builder_of Integer radix separator flags =
+    record (plain_builder radix separator) { integer = number_flags flags }
+builder_of Fraction radix separator flags =
+    record (plain_builder radix separator) { fraction = number_flags flags }
+builder_of Exponent radix separator flags =
+    record (plain_builder radix separator) { exponent = number_flags flags }
+builder_of Special radix separator flags =
+    record (plain_builder radix separator) { special = flags.special }
 
 -- the format word with the radixes, the separator and the flags that a line names, and nothing else
 unfoldable pub word_of : Asked → ℕ
 word_of asked =
-    asked.radix.exponent * 2 ^ 120 + asked.radix.mantissa * 2 ^ 104 + asked.separator * 2 ^ 64
-    + bit_if asked.flags.internal (32 + flags_above asked.component)
-    + bit_if asked.flags.leading (35 + flags_above asked.component)
-    + bit_if asked.flags.trailing (38 + flags_above asked.component)
-    + bit_if asked.flags.consecutive (41 + flags_above asked.component)
-    + bit_if asked.flags.special 44
+    Builder.word_of (builder_of asked.component asked.radix asked.separator asked.flags)
 
 -- the radix of a component's digits; for the exponent a zero stands for the mantissa radix
 abbrev pub radix_asked : Component → Radix → ℕ
@@ -283,7 +301,8 @@ rule_asked component asked = record {
   consecutive = asked.flags.consecutive;
 }
 
--- a word gives a request's component the rule that the request asks for, and has its exponent radix
+-- a word gives a request's component the rule that the request asks for, and it has the two radixes
 pub record Says (word : ℕ) (asked : Asked) : Type 0 where
   pub rule : rule_of word asked.component ≡ rule_asked asked.component asked
-  pub exponent_radix : bits word 120 8 ≡ asked.radix.exponent
+  pub mantissa_radix : mantissa_radix word ≡ asked.radix.mantissa
+  pub exponent_radix : exponent_radix word ≡ radix_asked Exponent asked.radix

@@ -1,5 +1,5 @@
--- What a run leaves in its reader and its writer, by what it answers. Where a reader or a writer
--- does not tell its bytes, nothing is said of them.
+-- What a run leaves in its reader and its writer, by what it answers. Nothing is said of a reader
+-- or a writer whose contract does not describe its bytes.
 use Rattle.std.specs.Prelude.{◌≡◌, ℕ, ◌<◌, ◌≤◌, List, ◌++◌, length, Option, None, Some, Result, Ok, Err, IfSome, codes, decimal}
 use Rattle.std.specs.Io.KnownBytes.{Appends, Consumes, Keeps, IsAtEnd}
 use Rattle.digit_drain.specs.declared.fault.Fault.{Fault}
@@ -15,30 +15,30 @@ most_bytes = 65536
 -- the known bytes grow by a prefix of `bytes`, and not by the whole
 pub record AppendsPart (old new : Option (List ℕ)) (bytes : List ℕ) : Type 0 where
   pub written : List ℕ
-  pub left : List ℕ
-  pub split : bytes ≡ written ++ left
-  pub some_left : 0 < length left
+  pub rest : List ℕ
+  pub split : bytes ≡ written ++ rest
+  pub some_rest : 0 < length rest
   pub appended : Appends old new written
 
--- what the reader had and has left, and what the writer held and holds
+-- the bytes that the reader had and has left, and those that the writer had and has now
 pub record Streams : Type 0 where
   pub input : Option (List ℕ)
   pub rest : Option (List ℕ)
-  pub held : Option (List ℕ)
-  pub holds : Option (List ℕ)
+  pub had : Option (List ℕ)
+  pub has : Option (List ℕ)
 
 -- The input was read to its end, its first bad line is this one, and all of its report was written.
 pub record WritesReport (s : Streams) (bad_line : Option BadLine) : Type 0 where
   pub short : IfSome s.input (λ input. length input ≤ most_bytes)
   pub ended : IsAtEnd s.rest
   pub bad : IfSome s.input (λ input. (report_of input).fault ≡ bad_line)
-  pub written : IfSome s.input (λ input. Appends s.held s.holds (report_of input).output)
+  pub written : IfSome s.input (λ input. Appends s.had s.has (report_of input).output)
 
 -- The input was read to its end, and a prefix of its report was written, never the whole.
 pub record WritesPart (s : Streams) : Type 0 where
   pub short : IfSome s.input (λ input. length input ≤ most_bytes)
   pub ended : IsAtEnd s.rest
-  pub written : IfSome s.input (λ input. AppendsPart s.held s.holds (report_of input).output)
+  pub written : IfSome s.input (λ input. AppendsPart s.had s.has (report_of input).output)
 
 -- more bytes than an input has were read, and are gone from what the reader has left
 pub record ReadsPast (old new : Option (List ℕ)) : Type 0 where
@@ -49,7 +49,7 @@ pub record ReadsPast (old new : Option (List ℕ)) : Type 0 where
 -- More bytes than an input has were read, and nothing was written.
 pub record IsTooLong (s : Streams) : Type 0 where
   pub past : ReadsPast s.input s.rest
-  pub kept : Keeps s.held s.holds
+  pub kept : Keeps s.had s.has
 
 -- what a run does, by its answer
 abbrev pub Runs : Streams → Result (Unit {0}) Fault → Type 0
@@ -57,9 +57,9 @@ Runs s (Ok done) = WritesReport s None
 Runs s (Err (Line n)) = WritesReport s (Some (NotARequest n))
 Runs s (Err (Word n)) = WritesReport s (Some (NotSupported n))
 Runs s (Err TooLong) = IsTooLong s
-Runs s (Err Read) = Keeps s.held s.holds
+Runs s (Err Read) = Keeps s.had s.has
 Runs s (Err Write) = WritesPart s
-Runs s (Err Memory) = Keeps s.held s.holds
+Runs s (Err Memory) = Keeps s.had s.has
 
 -- the line that is written for a fault
 abbrev pub line_of : Fault → List ℕ
@@ -70,12 +70,12 @@ line_of Read = codes "error: read failed\n"
 line_of Write = codes "error: write failed\n"
 line_of Memory = codes "error: out of memory\n"
 
--- what telling a fault does, by its answer; there are no others
-abbrev pub Tells : (held holds : Option (List ℕ)) → Fault → Result (Unit {0}) Fault → Type 0
-Tells held holds fault (Ok done) = Appends held holds (line_of fault)
-Tells held holds fault (Err Write) = AppendsPart held holds (line_of fault)
-Tells held holds fault (Err Memory) = Keeps held holds
-Tells held holds fault (Err _) = ⊥
+-- what `tell` does, by its answer; it can answer no other fault
+abbrev pub Tells : (had has : Option (List ℕ)) → Fault → Result (Unit {0}) Fault → Type 0
+Tells had has fault (Ok done) = Appends had has (line_of fault)
+Tells had has fault (Err Write) = AppendsPart had has (line_of fault)
+Tells had has fault (Err Memory) = Keeps had has
+Tells had has fault (Err _) = ⊥
 
 abbrev pub status_of : Fault → ℕ
 status_of (Line n) = 2
@@ -84,3 +84,18 @@ status_of TooLong = 4
 status_of Read = 5
 status_of Write = 6
 status_of Memory = 7
+
+-- what is written after the run, and the status: nothing more and 0, or what `tell` writes and the
+-- status of the fault
+abbrev pub EndsWith : (between has : Option (List ℕ)) → Result (Unit {0}) Fault → ℕ → Type 0
+EndsWith between has (Ok done) status = (status ≡ 0) × (has ≡ between)
+EndsWith between has (Err fault) status =
+    (status ≡ status_of fault) × (answer : Result (Unit {0}) Fault) × Tells between has fault answer
+
+-- A run, and what follows it: the writer has `between` when the run ends.
+pub record Serves (input rest had has : Option (List ℕ)) (status : ℕ) : Type 0 where
+  pub answer : Result (Unit {0}) Fault
+  pub between : Option (List ℕ)
+  pub runs : Runs
+      (record { input = input; rest = rest; had = had; has = between }) answer
+  pub ends : EndsWith between has answer status

@@ -1,5 +1,5 @@
--- What is written for an input, and the fault of its first bad line. It makes no call and keeps no
--- count.
+-- What is written for an input, and the fault of its first bad line. No definition here makes a
+-- call or keeps a count.
 use Rattle.std.specs.Prelude.{ℕ, ◌+◌, ◌≡◌, ◌==◌, ◌&&◌, if◌then◌else◌, List, [], ◌∷◌, ◌++◌, length, count_by, Option, None, Some, Result, Ok, Err, IfOk, codes, decimal}
 use Rattle.std.specs.List.{onto_first}
 use Rattle.lexical_format.specs.Word.{is_supported}
@@ -10,8 +10,8 @@ use Rattle.digit_drain.specs.declared.report.Drained.{Drained}
 use Rattle.digit_drain.specs.declared.report.BadLine.TheVariants.{NotARequest, NotSupported}
 use Rattle.digit_drain.specs.Line.{Asked, request_of, word_of}
 
--- a line is what stands up to a line feed or the end; a line feed at the very end begins no further
--- line
+-- a line ends before a line feed or at the end of the input; no line begins after a line feed that
+-- ends the input
 abbrev pub lines_of : List ℕ → List (List ℕ)
 lines_of [] = []
 lines_of (byte ∷ bytes) =
@@ -36,8 +36,8 @@ count_of asked =
     else if is_contiguous asked.component word && has_no_separator word then length asked.text
     else 0
 
-unfoldable pub answer_of : Asked → List ℕ
-answer_of asked =
+unfoldable pub answer_to : Asked → List ℕ
+answer_to asked =
     drain (rule_of (word_of asked) asked.component) asked.text 0 0
     ++ codes " count=" ++ decimal (count_of asked)
     ++ codes " cursor=" ++ decimal (length asked.text) ++ codes "\n"
@@ -49,7 +49,7 @@ pub record Report : Type 0 where
 -- line n, before the report of the lines after it; a bad line ends the report
 abbrev pub report_line : Result Asked BadLine → Report → Report
 report_line (Ok asked) rest = record {
-  output = answer_of asked ++ rest.output;
+  output = answer_to asked ++ rest.output;
   fault = rest.fault;
 }
 report_line (Err bad_line) rest = record { output = []; fault = Some bad_line }
@@ -62,9 +62,9 @@ report_from n (line ∷ lines) = report_line (request_at n line) (report_from (n
 abbrev pub report_of : List ℕ → Report
 report_of input = report_from 1 (lines_of input)
 
--- ---- on the way
+-- ---- while the output is made
 
--- bytes are added to an output, and the iterator that yielded them tells this count and this cursor
+-- bytes are added to an output, and the iterator that yielded them ends with this count and cursor
 abbrev pub AddsDrain : {E : Type 0} → (old new bytes : List ℕ) → (count cursor : ℕ) →
     Result Drained E → Type 0
 AddsDrain old new bytes count cursor result =

@@ -1,7 +1,7 @@
-//! From the bytes in to the bytes out.
+//! Runs the program over any reader and writer: input, output and status.
 
 ghost use Rattle.std.specs.Prelude.{◌≡◌, IfOk, string_bytes};
-ghost use Rattle.digit_drain.specs.Outcome.{Runs, Tells, line_of};
+ghost use Rattle.digit_drain.specs.Outcome.{Runs, Tells, Serves, line_of};
 
 pub use super::fault::Fault;
 use super::input::read_input;
@@ -11,25 +11,25 @@ use std::alloc::{AllocError, Allocator, Global};
 use std::io::{Read, Write};
 
 /// Answers each line of an input: reads the input to its end, makes the whole output, and then
-/// writes it.
+/// writes it. Not in lexical-util.
 ///
-/// The first bad line ends the run: the answers to the lines before it are written, and its fault
-/// is answered. While the input is read, [`Fault::Read`], [`Fault::TooLong`] or [`Fault::Memory`]
-/// ends the run, whichever is met first, and while the output is made [`Fault::Memory`] does: then
-/// nothing was written. On [`Fault::Write`] a prefix of the output was written, never the whole; it
-/// comes in place of a bad line's fault.
+/// The first bad line ends the run: the answers to the lines before it are written, and the line's
+/// fault is the answer. Reading can end with [`Fault::Read`], [`Fault::TooLong`] or
+/// [`Fault::Memory`], and making the output with [`Fault::Memory`]; then nothing was written. On
+/// [`Fault::Write`] a prefix of the output was written, never the whole. A failed write replaces
+/// the fault of a bad line.
 pub fn run<R: Read, W: Write>(alloc: Global, reader: &mut R, writer: &mut W) -> Result<(), Fault>
     ensures { Runs (record {
       input = R.remaining reader.old;
       rest = R.remaining reader.new;
-      held = W.contents writer.old;
-      holds = W.contents writer.new;
+      had = W.contents writer.old;
+      has = W.contents writer.new;
     }) result }
 {
     run_in(&alloc, reader, writer)
 }
 
-/// As [`run`], over any allocator.
+/// As [`run`], with any allocator.
 pub fn run_in<A: Allocator, R: Read, W: Write>(
     alloc: &A,
     reader: &mut R,
@@ -38,8 +38,8 @@ pub fn run_in<A: Allocator, R: Read, W: Write>(
     ensures { Runs (record {
       input = R.remaining reader.old;
       rest = R.remaining reader.new;
-      held = W.contents writer.old;
-      holds = W.contents writer.new;
+      had = W.contents writer.old;
+      has = W.contents writer.new;
     }) result }
 {
     let input = read_input(alloc, reader)?;
@@ -52,7 +52,7 @@ pub fn run_in<A: Allocator, R: Read, W: Write>(
     }
 }
 
-/// The line that says what went wrong, with its line feed.
+/// The error line of a fault, with its line feed.
 fn line_for<A: Allocator>(alloc: A, fault: &Fault) -> Result<String<A>, AllocError>
     ensures { IfOk result (λ line. string_bytes line ≡ line_of fault.now) }
 {
@@ -66,20 +66,37 @@ fn line_for<A: Allocator>(alloc: A, fault: &Fault) -> Result<String<A>, AllocErr
     }
 }
 
-/// Writes the line that says what went wrong, with its line feed.
+/// Writes the error line of a fault, with its line feed. Not in lexical-util.
 ///
-/// It answers two faults alone: on [`Fault::Write`] a prefix of the line was written, never the
-/// whole, and on [`Fault::Memory`] nothing was.
+/// It can answer only two faults: on [`Fault::Write`] a prefix of the line was written, never the
+/// whole, and on [`Fault::Memory`] nothing was written.
 pub fn tell<W: Write>(alloc: Global, fault: &Fault, writer: &mut W) -> Result<(), Fault>
     ensures { Tells (W.contents writer.old) (W.contents writer.new) fault.now result }
 {
     tell_in(alloc, fault, writer)
 }
 
-/// As [`tell`], over any allocator.
+/// As [`tell`], with any allocator.
 pub fn tell_in<A: Allocator, W: Write>(alloc: A, fault: &Fault, writer: &mut W) -> Result<(), Fault>
     ensures { Tells (W.contents writer.old) (W.contents writer.new) fault.now result }
 {
     let line = line_for(alloc, fault)?;
     write_output(writer, line.as_bytes())
+}
+
+/// Runs the whole program: answers each line of an input by [`run`], and writes the error line of a
+/// fault to the same writer by [`tell`]. The answer is the exit status: 0, or the status of the
+/// fault, even if its error line could not be written. Not in lexical-util.
+pub fn serve<R: Read, W: Write>(alloc: Global, reader: &mut R, writer: &mut W) -> u8
+    ensures { Serves (R.remaining reader.old) (R.remaining reader.new)
+        (W.contents writer.old) (W.contents writer.new) result }
+{
+    match run(alloc, reader, writer) {
+        Ok(()) => 0,
+        Err(fault) => {
+            // A failed `tell` does not change the status.
+            let _ = tell(alloc, &fault, writer);
+            fault.status()
+        }
+    }
 }

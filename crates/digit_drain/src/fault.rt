@@ -1,31 +1,31 @@
-//! What ends a run before all of its answers are written.
+//! The reasons for which a run ends early.
 
-ghost use Rattle.std.specs.Prelude.{◌≡◌};
+ghost use Rattle.std.specs.Prelude.{◌≡◌, true};
 ghost use Rattle.digit_drain.specs.declared.fault.Fault.TheVariants.{Memory};
 
 use std::alloc::{AllocError, AllocFailed};
 
-/// Why a run ended. Lines are counted from 1.
+/// Why a run ended early. Lines count from 1.
 #[derive(Clone, Copy, Debug, PartialEq, Eq)]
 pub enum Fault {
-    /// This line is no request.
+    /// The line with this number is not a request.
     Line(usize),
-    /// The word of this line isn't supported.
+    /// The format word of the line with this number is not supported.
     Word(usize),
     /// More than 65,536 bytes were read.
     TooLong,
-    /// A read failed or was interrupted, or the input didn't end within 131,072 reads.
+    /// A read failed or was interrupted, or 131,072 reads did not reach the end of the input.
     Read,
-    /// A write failed or was interrupted, or took nothing.
+    /// A write failed, was interrupted, or wrote nothing although bytes were left.
     Write,
-    /// Memory was refused.
+    /// The allocator refused memory.
     Memory,
 }
 
 impl Fault {
     ghost use Rattle.digit_drain.specs.Outcome.{status_of};
 
-    /// The status that the program ends with, from 2 to 7.
+    /// The exit status of the program for this fault: 2 to 7 in the order of the variants.
     pub fn status(&self) -> u8
         ensures { result ≡ status_of self.now }
     {
@@ -54,4 +54,13 @@ impl<T: Drop> From<AllocFailed<T>> for Fault {
     fn from(_error: AllocFailed<T>) -> Fault {
         Fault::Memory
     }
+}
+
+/// Whether two faults are equal: exactly if they are the same variant with the same line number.
+/// Not in lexical-util.
+pub fn same_fault(a: Fault, b: Fault) -> bool
+    ensures same { result ≡ true → a ≡ b }
+    ensures equal { a ≡ b → result ≡ true }
+{
+    a == b
 }

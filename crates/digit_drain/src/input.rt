@@ -1,4 +1,4 @@
-//! Reading to the end, within bounds.
+//! Reads the input to its end, within bounds.
 
 ghost use Rattle.std.specs.Prelude.{◌≡◌, ◌⊎◌, ◌<◌, ◌≤◌, length, IfErr, IfOk, IfSome};
 ghost use Rattle.std.specs.Io.KnownBytes.{IsAtEnd};
@@ -8,16 +8,16 @@ use super::fault::Fault;
 use std::alloc::Allocator;
 use std::io::Read;
 
-/// The most bytes that an input has.
+/// The greatest length of an input, in bytes.
 pub const LIMIT: usize = 65536;
 
-/// The most calls of `read` in a run. It is a guard: a reader that gives a byte at each turn meets
-/// [`LIMIT`] first.
+/// The most calls of `read` in a run. It is a guard: a reader that gives at least one byte each
+/// time reaches [`LIMIT`] first.
 pub const READS: u32 = 131072;
 
-/// All that the reader has left. It answers [`Fault::TooLong`] at the first byte past [`LIMIT`],
-/// and [`Fault::Read`] if a read failed or the last that is allowed didn't end the input; a read
-/// that was interrupted failed.
+/// Reads all the bytes that a reader has left. It answers [`Fault::TooLong`] at the first byte
+/// after [`LIMIT`] bytes, and [`Fault::Read`] if a read failed or was interrupted, or if [`READS`]
+/// reads did not reach the end. Not in lexical-util.
 pub fn read_input<A: Allocator, R: Read>(alloc: A, reader: &mut R) -> Result<Vec<u8, A>, Fault>
     ensures short { IfOk result (λ input. length input.items ≤ most_bytes) }
     ensures all { IfOk result (λ input.

@@ -1,29 +1,32 @@
-//! A line of the input: what it asks for.
+//! Reads a line of the input as a request.
 
 ghost use Rattle.std.specs.Prelude.{◌≡◌, ◌≤◌, ◌==◌, ℕ, List, length, position, option_map};
 ghost use Rattle.digit_drain.specs.Line as Line;
 
 use lexical_digits::skip::Component;
+use lexical_format::{DECIMAL, DigitSeparatorFlags, NumberFormatBuilder};
 
-/// What a line asks for: the drain of a text by the iterator of a component, under a format word.
+/// The request of a line: the drain of a text by the iterator of a component, under a format word
+/// with this radix, separator and flags.
 #[derive(Clone, Copy, Debug, PartialEq, Eq)]
 pub struct Request<'a> {
     pub component: Component,
     pub radix: Radix,
-    /// Zero where there is none.
+    /// The separator byte, or zero for none.
     pub separator: u8,
     pub flags: Flags,
     pub text: &'a [u8],
 }
 
-/// The radixes of a request. An exponent radix of zero stands for the mantissa radix.
+/// The radixes of a request. An exponent radix of zero means the mantissa radix.
 #[derive(Clone, Copy, Debug, PartialEq, Eq)]
 pub struct Radix {
     pub mantissa: u8,
     pub exponent: u8,
 }
 
-/// The flags of a request's component: the first four of a number's, the last of special's.
+/// The flags of a request's component. Integer, fraction and exponent have the first four, and
+/// special has the last.
 #[derive(Clone, Copy, Debug, PartialEq, Eq)]
 pub struct Flags {
     pub internal: bool,
@@ -47,7 +50,8 @@ fn find(bytes: &[u8], mark: u8) -> Option<usize>
     bytes.iter().position(|byte| *byte == mark)
 }
 
-/// What stands before the first `mark`, and what stands after it.
+/// The bytes before the first `mark`, and the bytes after it. `None` if there is no `mark`. Not in
+/// lexical-util.
 pub fn cut(bytes: &[u8], mark: u8) -> Option<(&[u8], &[u8])>
     ensures { Line.cut mark bytes.now ≡ option_map (λ parts. (parts.0.now, parts.1.now)) result }
 {
@@ -71,7 +75,7 @@ fn read_component(field: &[u8]) -> Option<Component>
     }
 }
 
-/// The number that at most three digits write, if a byte holds it.
+/// The number that at most three digits write, if it is at most 255.
 fn read_number(field: &[u8], radix: u32) -> Option<u8>
     requires few { length field.now ≤ 3 }
     requires from_two { 2 ≤ radix }
@@ -119,31 +123,45 @@ fn read_radix(field: &[u8]) -> Option<Radix>
     }
 }
 
-fn count(field: &[u8], letter: u8) -> usize
-    ensures { result ≡ Line.times letter field.now }
+fn has_letter(field: &[u8], letter: u8) -> bool
+    ensures { result ≡ Line.has_letter letter field.now }
 {
-    field.iter().filter(|byte| **byte == letter).count()
+    field.iter().any(|byte| *byte == letter)
 }
 
-/// One or more of the letters `I`, `L`, `T` and `C`, none twice, in any order.
+fn is_flag_letter(byte: u8) -> bool
+    ensures { result ≡ Line.is_flag_letter byte }
+{
+    byte == b'I' || byte == b'L' || byte == b'T' || byte == b'C'
+}
+
+/// Whether the bytes are letters of a number's flags, none of them twice.
+fn are_flag_letters(field: &[u8]) -> bool
+    ensures { result ≡ Line.are_flag_letters field.now }
+{
+    let mut rest = field;
+    while !rest.is_empty() {
+        let letter = rest[0];
+        rest = &rest[1..];
+        if !is_flag_letter(letter) || has_letter(rest, letter) {
+            return false;
+        }
+    }
+    true
+}
+
+/// One or more of the letters `I`, `L`, `T` and `C`, none of them twice, in any order.
 fn read_number_flags(field: &[u8]) -> Option<Flags>
     ensures { result ≡ Line.number_flags_of field.now }
 {
-    let internal = count(field, b'I');
-    let leading = count(field, b'L');
-    let trailing = count(field, b'T');
-    let consecutive = count(field, b'C');
-    if internal > 1 || leading > 1 || trailing > 1 || consecutive > 1 {
-        return None;
-    }
-    if field.is_empty() || internal + leading + trailing + consecutive != field.len() {
+    if field.is_empty() || !are_flag_letters(field) {
         return None;
     }
     Some(Flags {
-        internal: internal == 1,
-        leading: leading == 1,
-        trailing: trailing == 1,
-        consecutive: consecutive == 1,
+        internal: has_letter(field, b'I'),
+        leading: has_letter(field, b'L'),
+        trailing: has_letter(field, b'T'),
+        consecutive: has_letter(field, b'C'),
         special: false,
     })
 }
@@ -169,7 +187,7 @@ fn read_flags(component: Component, field: &[u8]) -> Option<Flags>
     }
 }
 
-/// What a line asks for, without its line feed; `None` if it is no request.
+/// Reads a line, without its line feed, as a request. `None` if it is not one. Not in lexical-util.
 #[tactic(auto, unfolding(crate::specs::Line::request_of))]
 pub fn read_request(line: &[u8]) -> Option<Request<'_>>
     ensures { Line.request_of line.now ≡ option_map Line.asked_by result }
@@ -191,36 +209,47 @@ pub fn read_request(line: &[u8]) -> Option<Request<'_>>
     })
 }
 
-fn bit_if(is_set: bool, place: u32) -> u128
-    requires { place ≤ 127 }
-    ensures { result ≡ Line.bit_if is_set place }
-{
-    if is_set { 1 << place } else { 0 }
-}
-
-/// The format word that a request names.
-#[tactic(auto, unfolding(crate::specs::Line::word_of))]
+/// The format word of a request. Not in lexical-util.
+#[tactic(auto, unfolding(crate::specs::Line::word_of), using(crate::proofs::WordSays::word_says))]
 pub fn word(request: &Request<'_>) -> u128
     ensures value { result ≡ Line.word_of (Line.asked_by request.now) }
     ensures says { Line.Says result (Line.asked_by request.now) }
 {
-    let above = match request.component {
-        Component::Integer | Component::Special => 0,
-        Component::Fraction => 1,
-        Component::Exponent => 2,
-    };
     let flags = request.flags;
-    (u128::from(request.radix.exponent) << 120)
-        + (u128::from(request.radix.mantissa) << 104)
-        + (u128::from(request.separator) << 64)
-        + bit_if(flags.internal, 32 + above)
-        + bit_if(flags.leading, 35 + above)
-        + bit_if(flags.trailing, 38 + above)
-        + bit_if(flags.consecutive, 41 + above)
-        + bit_if(flags.special, 44)
+    let number = DigitSeparatorFlags {
+        internal: flags.internal,
+        leading: flags.leading,
+        trailing: flags.trailing,
+        consecutive: flags.consecutive,
+    };
+    let plain = NumberFormatBuilder {
+        mantissa_radix: request.radix.mantissa,
+        exponent_radix: request.radix.exponent,
+        digit_separator: request.separator,
+        ..DECIMAL
+    };
+    let builder = match request.component {
+        Component::Integer => NumberFormatBuilder {
+            integer: number,
+            ..plain
+        },
+        Component::Fraction => NumberFormatBuilder {
+            fraction: number,
+            ..plain
+        },
+        Component::Exponent => NumberFormatBuilder {
+            exponent: number,
+            ..plain
+        },
+        Component::Special => NumberFormatBuilder {
+            special: flags.special,
+            ..plain
+        },
+    };
+    builder.build()
 }
 
-/// A line is read as a request exactly if it is spelled as one.
+/// The law of [`read_request`]: a line is read as a request exactly if it is spelled as one.
 pub fn read_is_spelled()
     ensures read { (line : List ℕ) (asked : Line.Asked) →
         Line.request_of line ≡ Some asked → Line.Spells line asked }

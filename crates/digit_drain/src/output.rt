@@ -1,4 +1,4 @@
-//! Writing, by a loop over `write`.
+//! Writes the output, by a loop over `write`.
 
 ghost use Rattle.std.specs.Prelude.{◌≡◌, IfErr, OnErr, OnOk};
 ghost use Rattle.std.specs.Io.KnownBytes.{Appends};
@@ -7,8 +7,9 @@ ghost use Rattle.digit_drain.specs.Outcome.{AppendsPart};
 use super::fault::Fault;
 use std::io::Write;
 
-/// Writes all the bytes. It answers [`Fault::Write`] if a write failed, was interrupted, or took
-/// nothing of a rest that isn't empty; then a prefix of the bytes was written, never the whole.
+/// Writes all the bytes. It answers [`Fault::Write`] if a write failed, was interrupted, or wrote
+/// nothing although bytes were left; then a prefix of the bytes was written, never the whole. Not
+/// in lexical-util.
 pub fn write_output<W: Write>(writer: &mut W, bytes: &[u8]) -> Result<(), Fault>
     ensures ok { OnOk result (Appends (W.contents writer.old) (W.contents writer.new) bytes.now) }
     ensures part { OnErr result

@@ -1,34 +1,29 @@
-//! The answers to the lines of an input.
+//! Makes the output for an input: the answer to each line, up to the first bad line.
 
 ghost use Rattle.std.specs.Prelude.{◌≡◌, ◌<◌, ◌∷◌, ◌++◌, length, IfOk, IsTrue, OnOk, MatchResult};
-ghost use Rattle.std.specs.Iterator.{IsFinite};
 ghost use Rattle.lexical_format.specs.Word.{is_supported};
 ghost use Rattle.lexical_digits.specs.Separators.{drain};
 ghost use Rattle.lexical_digits.specs.State.{rule_of, current_count};
 ghost use Rattle.lexical_digits.specs.CallTable.{drain_of, after_drain};
-ghost use Rattle.lexical_digits.specs.Cursor.{items, after_items};
 ghost use Rattle.digit_drain.specs.Line.{asked_by, word_of};
-ghost use Rattle.digit_drain.specs.Report.{lines_of, request_at, count_of, answer_of, report_of, AddsDrain};
+ghost use Rattle.digit_drain.specs.Report.{lines_of, request_at, count_of, answer_to, report_of, AddsDrain};
 
 use super::line::{Request, cut, read_request, word};
-use lexical_digits::iterator::{DigitsIter, Iter};
-use lexical_digits::skip::{
-    Bytes, Component, ExponentDigitsIterator, FractionDigitsIterator, IntegerDigitsIterator,
-    SpecialDigitsIterator,
-};
+use lexical_digits::iterator::Iter;
+use lexical_digits::skip::{Bytes, Component};
 use lexical_format::is_supported;
 use std::alloc::{AllocError, Allocator};
 
-/// A line that ends a report. Lines are counted from 1.
+/// A line that ends a report. Lines count from 1.
 #[derive(Clone, Copy, Debug, PartialEq, Eq)]
 pub enum BadLine {
-    /// It isn't of a request's form.
+    /// The line with this number does not have the form of a request.
     NotARequest(usize),
-    /// Its word isn't supported.
+    /// The format word of the line with this number is not supported.
     NotSupported(usize),
 }
 
-/// The first line, and what comes after its line feed.
+/// The first line of an input, and the bytes after its line feed.
 fn first_line(input: &[u8]) -> (&[u8], &[u8])
     requires { 0 < length input.now }
     ensures lines { lines_of input.now ≡ result.0.now ∷ lines_of result.1.now }
@@ -40,7 +35,7 @@ fn first_line(input: &[u8]) -> (&[u8], &[u8])
     }
 }
 
-/// The request of a line and its word, if it is a request and its word is supported.
+/// The request of a line and its format word, if the line is a request and the word is supported.
 fn supported_request(number: usize, line: &[u8]) -> Result<(Request<'_>, u128), BadLine>
     ensures { MatchResult result
         (λ good. (request_at number line.now ≡ Ok (asked_by good.0))
@@ -58,59 +53,40 @@ fn supported_request(number: usize, line: &[u8]) -> Result<(Request<'_>, u128), 
     }
 }
 
-/// The output for an input, and its first bad line, which ends the report.
+/// The output for an input, and the bad line that ended it, if there is one.
 #[derive(Drop)]
 pub struct Report<A: Allocator> {
     pub output: Vec<u8, A>,
     pub fault: Option<BadLine>,
 }
 
-/// What an iterator tells of itself once it is drained.
+/// The count and the cursor of a drained iterator.
 #[derive(Clone, Copy)]
 struct Drained {
     count: usize,
     cursor: usize,
 }
 
-/// Adds the bytes that an iterator yields.
-fn push_items<'a, I: DigitsIter<'a>, A: Allocator>(
-    output: &mut Vec<u8, A>,
-    iter: &mut I,
-) -> Result<Drained, AllocError>
-    requires ends { IsFinite (I.remaining iter.old) }
-    ensures { let m = I.meaning iter.old in
-        let left = after_items I.buffer I.cursor I.place I.taken m in
-        AddsDrain output.old.items output.new.items (items I.buffer I.cursor I.place I.taken m)
-        (I.current_count left) (I.cursor left) result }
-{
-    while let Some(byte) = iter.next() {
-        output.push(*byte)?;
-    }
-    Ok(Drained {
-        count: iter.current_count(),
-        cursor: iter.cursor(),
-    })
-}
-
-/// Adds the bytes that the iterator of a component yields.
+/// Drains a component, and adds the bytes that it yields to the output.
 fn push_component<A: Allocator>(
     output: &mut Vec<u8, A>,
     bytes: &mut Bytes<'_>,
     component: Component,
 ) -> Result<Drained, AllocError>
-    ensures { let s = bytes.old.state in let left = after_drain component s in
+    ensures { let s = bytes.old.state in let end = after_drain component s in
         AddsDrain output.old.items output.new.items (drain_of component s)
-        (current_count component left) left.cursor result }
+        (current_count component end) end.cursor result }
 {
-    match component {
-        Component::Integer => push_items(output, &mut IntegerDigitsIterator { byte: bytes }),
-        Component::Fraction => push_items(output, &mut FractionDigitsIterator { byte: bytes }),
-        Component::Exponent => push_items(output, &mut ExponentDigitsIterator { byte: bytes }),
-        Component::Special => push_items(output, &mut SpecialDigitsIterator { byte: bytes }),
+    while let Some(byte) = bytes.next_of(component) {
+        output.push(*byte)?;
     }
+    Ok(Drained {
+        count: bytes.current_count_of(component),
+        cursor: bytes.cursor(),
+    })
 }
 
-/// Adds the bytes that a request's iterator yields from the start of its text.
+/// Drains the text of a request, and adds the bytes that its component yields to the output.
 fn push_text<A: Allocator>(
     output: &mut Vec<u8, A>,
     request: &Request<'_>,
@@ -127,8 +103,8 @@ fn push_text<A: Allocator>(
     push_component(output, &mut bytes, request.component)
 }
 
-/// Adds the answer to a request, by its word.
-#[tactic(auto, unfolding(crate::specs::Report::answer_of))]
+/// Adds the answer to a request to the output.
+#[tactic(auto, unfolding(crate::specs::Report::answer_to))]
 fn push_answer<A: Allocator>(
     alloc: &A,
     output: &mut Vec<u8, &A>,
@@ -138,14 +114,15 @@ fn push_answer<A: Allocator>(
     requires word { word ≡ word_of (asked_by request.now) }
     requires supported { IsTrue (is_supported word) }
     ensures { OnOk result
-        (output.new.items ≡ output.old.items ++ answer_of (asked_by request.now)) }
+        (output.new.items ≡ output.old.items ++ answer_to (asked_by request.now)) }
 {
     let Drained { count, cursor } = push_text(output, request, word)?;
     let numbers = format!(in alloc; " count={count} cursor={cursor}\n")?;
     output.extend_from_slice(numbers.as_bytes())
 }
 
-/// The answers to the lines before the first bad one, and that one.
+/// Makes the answers to the lines before the first bad line, and names that line. It fails only if
+/// memory is refused. Not in lexical-util.
 pub fn make_report<'a, A: Allocator>(
     alloc: &'a A,
     input: &[u8],

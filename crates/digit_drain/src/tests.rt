@@ -7,19 +7,19 @@
 //! - memory refused at each request in turn, to a run: `refused_memory_leaves_nothing_written`; to
 //!   `tell`: `a_fault_is_not_told_without_memory`; to a script:
 //!   `a_refused_reservation_changes_nothing`
-//! - a reader that fails or is interrupted at once, in the middle or at the end:
+//! - a reader that fails or is interrupted at the start, in the middle or at the end:
 //!   `a_failing_reader_leaves_nothing_written`; one byte at a turn, with an end and without:
 //!   `a_slow_reader_gives_the_whole_input`, `a_reader_without_end_gives_too_much`; one that fails
-//!   behind the greatest input, and behind the byte after it:
+//!   after the longest input, and after one byte more:
 //!   `the_first_byte_too_many_ends_the_reading`
 //! - a writer that takes three bytes a call: `a_slow_writer_gets_the_whole_output`; one that fails,
-//!   is interrupted or takes nothing, at once and after three bytes, also where a bad line would be
-//!   answered: `a_failing_writer_gets_a_prefix`
+//!   is interrupted or takes nothing, at the start and after three bytes, with and without a bad
+//!   line: `a_failing_writer_gets_a_prefix`
 //! - each fault's line and status: `each_fault_has_its_line_and_status`; told to such writers:
 //!   `a_fault_is_told_to_a_slow_writer`, `a_fault_is_not_told_to_a_failing_writer`
 //! - calls whose answers are known, on all five parts: `scripts`
 //! - lists of 1,000 random calls over all five parts, also under hostile words, each answer and
-//!   state beside the call table in plain code: `lists`
+//!   state compared with the call table in slow code: `lists`
 
 mod failures;
 mod limited;
@@ -29,9 +29,8 @@ mod scripts;
 mod streams;
 mod table;
 
-use crate::engine::{run, tell};
+use crate::engine::serve;
 use std::alloc::Global;
-use std::test::Fail;
 
 /// Five lines with their line feeds.
 const FIVE_LINES: &str = "integer 10 5f I 4_5
@@ -51,15 +50,10 @@ __45 count=2 cursor=4
 /// A line, and one whose separator is a digit.
 const UNSUPPORTED: &str = "integer 10 5f I 4_5\ninteger 16 61 I a1";
 
-/// What the program writes for an input, and the status that it ends with.
-fn answer(alloc: Global, input: &[u8]) -> Result<(Vec<u8>, u8), Fail> {
+/// What the program writes for an input, and its exit status.
+fn answer(alloc: Global, input: &[u8]) -> (Vec<u8>, u8) {
     let mut reader = input;
     let mut writer = Vec::new(alloc);
-    match run(alloc, &mut reader, &mut writer) {
-        Ok(()) => Ok((writer, 0)),
-        Err(fault) => {
-            tell(alloc, &fault, &mut writer)?;
-            Ok((writer, fault.status()))
-        }
-    }
+    let status = serve(alloc, &mut reader, &mut writer);
+    (writer, status)
 }

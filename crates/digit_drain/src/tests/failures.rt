@@ -3,7 +3,7 @@
 use super::limited::Limited;
 use super::streams::{ScriptedReader, ScriptedWriter, Turn, Turns};
 use super::{FIVE_ANSWERS, FIVE_LINES, UNSUPPORTED};
-use crate::engine::{Fault, run, run_in, tell, tell_in};
+use crate::engine::{Fault, run, run_in, serve, tell, tell_in};
 use std::alloc::Global;
 use std::process::Abort;
 
@@ -19,7 +19,7 @@ const FAULTS: [(Fault, u8, &str); 6] = [
 /// More requests for memory than a run makes.
 const REQUESTS: u64 = 100;
 
-/// Passes all that it is handed.
+/// Passes all bytes.
 const ALL: Turn = Turn::Pass(usize::MAX);
 
 /// The length of the first two lines.
@@ -27,7 +27,8 @@ const TWO_LINES: usize = 41;
 
 // ---- memory
 
-/// Whether a run of the five lines that may make so many requests ends so, and writes this.
+/// Whether a run of the five lines with at most `requests` requests for memory answers this and
+/// writes this.
 fn runs_within(alloc: Global, requests: u64, answer: Result<(), Fault>, text: &str) -> bool {
     let limited = Limited::new(alloc, requests);
     let mut reader = FIVE_LINES.as_bytes();
@@ -54,7 +55,7 @@ fn refused_memory_leaves_nothing_written(rt: HostRuntime) {
     assert!(rt; answered);
 }
 
-/// Whether a fault that may be told with so many requests is answered so, and writes this.
+/// Whether `tell` with at most `requests` requests for memory answers this and writes this.
 fn tells_within(
     alloc: Global,
     requests: u64,
@@ -68,7 +69,7 @@ fn tells_within(
     answered == answer && writer.as_slice() == text.as_bytes()
 }
 
-/// The fault is told from some number of requests on, and with fewer, one at least, is not.
+/// `tell` succeeds from some number of requests on, which is not 0, and fails with fewer.
 fn assert_told(rt: &impl Abort, alloc: Global, fault: Fault, line: &str) {
     let mut told = false;
     for requests in 0..REQUESTS {
@@ -104,7 +105,7 @@ fn five_lines<'a>(first: &'a [Turn], then: Turn) -> ScriptedReader<'a> {
     }
 }
 
-/// A reader of a text over and over.
+/// A reader that gives a text repeatedly.
 fn endless<'a>(again: &'a [u8], first: &'a [Turn], then: Turn) -> ScriptedReader<'a> {
     ScriptedReader {
         rest: &[],
@@ -113,7 +114,7 @@ fn endless<'a>(again: &'a [u8], first: &'a [Turn], then: Turn) -> ScriptedReader
     }
 }
 
-/// Whether a run of what a reader gives ends so, and writes this.
+/// Whether a run with this reader answers this and writes this.
 fn reads_so(
     alloc: Global,
     mut reader: ScriptedReader,
@@ -135,7 +136,7 @@ const FAILING_READERS: [(&[Turn], Turn); 7] = [
     (&[ALL, Turn::Interrupt], ALL),
 ];
 
-/// A reader that would go on after an interruption is read no further: it failed.
+/// An interrupted read counts as failed, even if the reader could go on.
 #[test]
 fn a_failing_reader_leaves_nothing_written(rt: HostRuntime) {
     for (first, then) in FAILING_READERS {
@@ -166,6 +167,15 @@ fn a_reader_without_end_gives_too_much(rt: HostRuntime) {
     assert_eq!(rt; Fault::TooLong.status(), 4);
 }
 
+#[test]
+fn a_reader_without_end_is_told_so(rt: HostRuntime) {
+    let mut reader = endless(b"1", &[], Turn::Pass(1));
+    let mut writer = Vec::new(rt.alloc());
+    let status = serve(rt.alloc(), &mut reader, &mut writer);
+    let line = b"error: input longer than 65536 bytes\n".as_slice();
+    assert!(rt; status == 4 && writer.as_slice() == line);
+}
+
 /// 65,536 bytes in sixteen reads, and then one more byte or none before the reader fails.
 #[test]
 fn the_first_byte_too_many_ends_the_reading(rt: HostRuntime) {
@@ -178,7 +188,7 @@ fn the_first_byte_too_many_ends_the_reading(rt: HostRuntime) {
 
 // ---- the writer
 
-/// Whether a run ends so where the writer takes such turns, and writes this.
+/// Whether a run with a writer of these turns answers this and writes this.
 fn writes_so(
     alloc: Global,
     input: &str,
@@ -215,8 +225,8 @@ const FAILING_WRITERS: [(&str, &[Turn], Turn, &str); 8] = [
     (UNSUPPORTED, &[Turn::Interrupt], ALL, ""),
 ];
 
-/// A writer that would go on after an interruption, or after taking nothing, is written to no
-/// further: it failed. So it did where a bad line's fault would be answered.
+/// An interrupted write, or one that takes nothing, counts as failed, even if the writer could go
+/// on. The fault replaces that of a bad line.
 #[test]
 fn a_failing_writer_gets_a_prefix(rt: HostRuntime) {
     for (input, first, then, text) in FAILING_WRITERS {
@@ -255,7 +265,7 @@ fn each_fault_has_its_line_and_status(rt: HostRuntime) {
     }
 }
 
-/// Whether a fault is answered so where the writer takes such turns, and writes this.
+/// Whether `tell` with a writer of these turns answers this and writes this.
 fn tells_so(
     alloc: Global,
     fault: Fault,

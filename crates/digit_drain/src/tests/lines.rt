@@ -5,7 +5,7 @@ use std::alloc::Global;
 use std::process::Abort;
 use std::test::Fail;
 
-/// An input is answered so, and the program ends with this status.
+/// The program writes this text for an input and ends with this status.
 fn assert_answer(
     rt: &impl Abort,
     alloc: Global,
@@ -13,7 +13,7 @@ fn assert_answer(
     text: &[u8],
     status: u8,
 ) -> Result<(), Fail> {
-    let (written, ended) = answer(alloc, input)?;
+    let (written, ended) = answer(alloc, input);
     assert!(rt;
         written.as_slice() == text && ended == status,
         "{written:?}, {ended}"
@@ -27,7 +27,7 @@ fn run_answers_with_ample_memory(rt: HostRuntime) -> Result<(), Fail> {
     assert_answer(&rt, rt.alloc(), input, FIVE_ANSWERS.as_bytes(), 0)
 }
 
-/// Lines, and what they are answered.
+/// Lines, and the answers to them.
 const REQUESTS: [(&str, &str); 17] = [
     ("", ""),
     ("integer 10 5f - 1_2", "1_2 count=0 cursor=3\n"),
@@ -56,7 +56,7 @@ fn requests_are_answered(rt: HostRuntime) -> Result<(), Fail> {
     Ok(())
 }
 
-/// Lines the last of which is bad, what they are answered, and the status.
+/// Lines of which the last is bad, what is written for them, and the status.
 const BAD_LINES: [(&str, &str, u8); 12] = [
     ("\n", "error: line 1: not a request\n", 2),
     ("integer 10 5f II 4", "error: line 1: not a request\n", 2),

@@ -1,5 +1,5 @@
-//! Random lists of calls over all five parts, each answer and each state of which is compared with
-//! the call table in plain code.
+//! Random lists of calls over all five parts. Each answer and each state is compared with the call
+//! table written as slow code in `table`.
 
 use super::scripts::{PARTS, answers, bytes_of};
 use super::table::{Format, Table};
@@ -18,7 +18,7 @@ use std::test::Fail;
 /// Runs of separators, written `_`, with a digit, another byte or an end on either side.
 const PATTERN: &[u8] = b"__1__00_._10__0___0_a__zZ_0__0_.__.+_1__";
 
-/// Values that a call is handed: digits, letters, signs and separators.
+/// Arguments of calls: digits, letters, signs and separators.
 const VALUES: [u8; 10] = [b'0', b'1', b'a', b'A', b'Z', b'g', b'_', b'+', b'.', 0xff];
 
 /// Integer internal, trailing and consecutive; fraction leading; exponent none; and special.
@@ -82,7 +82,7 @@ impl Numbers {
         }
     }
 
-    /// A call that the iterators alone have.
+    /// A call that only the iterators have.
     fn read_op(&mut self) -> Op {
         match self.next() % 20 {
             0 => Op::IsConsumed,
@@ -106,7 +106,7 @@ impl Numbers {
         }
     }
 
-    /// A call; one in eight sets the cursor, to a place in the text, its end, or one past that.
+    /// A call; one in eight sets the cursor, to a position in the text, its end, or one past that.
     fn call(&mut self) -> Call {
         let part = PARTS[self.next() % 5];
         let op = match self.next() % 8 {
@@ -135,7 +135,7 @@ fn random_calls(
     Ok((calls, answers))
 }
 
-/// Calls that tell the cursor and the counts.
+/// Calls that answer the cursor and the counts.
 const STATE: [Call; 5] = [
     Call {
         part: Part::Bytes,

@@ -16,10 +16,10 @@ use std::process::Abort;
 use std::test::Fail;
 
 /// Radix 10 and the separator `_`.
-const PLAIN: u128 = STANDARD | (0x5f << 64);
+const NO_FLAGS: u128 = STANDARD | (0x5f << 64);
 
 /// Radix 10, the separator `_`, and the integer's internal flag.
-const INTERNAL: u128 = PLAIN | INTEGER_INTERNAL_DIGIT_SEPARATOR;
+const INTERNAL: u128 = NO_FLAGS | INTEGER_INTERNAL_DIGIT_SEPARATOR;
 
 pub const PARTS: [Part; 5] = [
     Part::Bytes,
@@ -29,7 +29,7 @@ pub const PARTS: [Part; 5] = [
     Part::Special,
 ];
 
-/// A fresh `Bytes` over a text, by a word that is supported.
+/// A fresh `Bytes` over a text, with a supported word.
 pub fn bytes_of<'a>(rt: &impl Abort, text: &'a [u8], word: u128) -> Bytes<'a>
     ensures { result.state ≡ start text.entry.now word }
 {
@@ -65,7 +65,7 @@ const REFUSED: [Answer; 4] = [
     Answer::Refused,
 ];
 
-/// Runs a script: whether it answers so.
+/// Whether a list of calls answers this.
 pub fn answers(alloc: Global, bytes: &mut Bytes, calls: &[Call], expected: &[Answer]) -> bool {
     match run(alloc, bytes, calls) {
         Ok(answers) => answers.as_slice() == expected,
@@ -73,7 +73,7 @@ pub fn answers(alloc: Global, bytes: &mut Bytes, calls: &[Call], expected: &[Ans
     }
 }
 
-/// Runs those calls with so many requests for memory: whether there is an answer.
+/// Whether those calls are answered where at most `requests` requests for memory succeed.
 fn is_run_within(alloc: Global, bytes: &mut Bytes, requests: u64) -> bool {
     let limited = Limited::new(alloc, requests);
     run_in(&limited, bytes, &REFUSALS).is_ok()
@@ -109,7 +109,7 @@ fn an_empty_script_has_an_empty_answer(rt: HostRuntime) {
     assert_eq!(rt; bytes.cursor(), 0);
 }
 
-/// Calls on `1_2._3`, what each answers, and where the cursor stands after it. The word has the
+/// Calls on `1_2._3`, what each answers, and the cursor after it. The word has the
 /// integer's internal, the fraction's trailing and the special flag.
 const STEPS: [(Part, Op, Answer, usize); 17] = [
     (Part::Integer, Op::Next, Answer::Byte(Some(b'1')), 1),
@@ -131,7 +131,7 @@ const STEPS: [(Part, Op, Answer, usize); 17] = [
     (Part::Exponent, Op::StepBy(2), Answer::Done, 6),
 ];
 
-/// The calls of `STEPS`, each with one of the cursor behind it, and what they answer.
+/// The calls of `STEPS`, each followed by a call of `cursor`, and what they answer.
 fn script_of_steps(alloc: Global) -> Result<(Vec<Call>, Vec<Answer>), AllocError> {
     let mut calls = Vec::new(alloc);
     let mut expected = Vec::new(alloc);
@@ -155,7 +155,7 @@ fn all_parts_share_one_cursor(rt: HostRuntime) -> Result<(), Fail> {
         | FRACTION_TRAILING_DIGIT_SEPARATOR
         | SPECIAL_DIGIT_SEPARATOR;
     let (calls, expected) = script_of_steps(rt.alloc())?;
-    let mut bytes = bytes_of(&rt, b"1_2._3", PLAIN | flags);
+    let mut bytes = bytes_of(&rt, b"1_2._3", NO_FLAGS | flags);
     assert!(rt; answers(rt.alloc(), &mut bytes, &calls, &expected));
     Ok(())
 }
@@ -222,8 +222,8 @@ fn every_part_has_the_calls_of_a_cursor(rt: HostRuntime) {
     }
 }
 
-/// Calls that the fraction, which is contiguous, answers as no other part does, and the cursor that
-/// it leaves.
+/// Calls that only the fraction, which is contiguous, answers in this way, and the cursor that each
+/// leaves.
 const CONTIGUOUS: [(Op, Answer, Answer, usize); 6] = [
     (Op::IsContiguous, NO, YES, 0),
     (Op::Step, Answer::Refused, Answer::Done, 1),
@@ -253,7 +253,7 @@ fn a_contiguous_part_goes_over_separators(rt: HostRuntime) {
     }
 }
 
-/// Calls that the iterators alone have: the answer and the cursor where the first separator is
+/// Calls that only the iterators have: the answer and the cursor where the first separator is
 /// kept, and where it is dropped.
 const READS: [(Op, (Answer, usize), (Answer, usize)); 19] = [
     (Op::IsConsumed, (NO, 0), (NO, 1)),

@@ -1,4 +1,4 @@
-//! A reader and a writer that follow a script, and tell nothing of their bytes.
+//! A reader and a writer that follow a list of turns. Their contracts do not describe their bytes.
 
 use std::io;
 use std::io::{ErrorKind, Read, Write};
@@ -6,7 +6,7 @@ use std::io::{ErrorKind, Read, Write};
 /// What a stream does at a call.
 #[derive(Clone, Copy, Debug, PartialEq, Eq)]
 pub enum Turn {
-    /// Gives or takes at most so many bytes.
+    /// Gives or takes at most this many bytes.
     Pass(usize),
     Fail,
     Interrupt,
@@ -37,7 +37,7 @@ impl Turns<'_> {
     }
 }
 
-/// Gives `rest`, and after it `again` over and over; where `again` is empty it has an end.
+/// Gives `rest`, and then `again` repeatedly. If `again` is empty, the input ends.
 #[derive(Drop)]
 pub struct ScriptedReader<'a> {
     pub rest: &'a [u8],

@@ -1,5 +1,5 @@
 //! The call table in plain code: what each call answers and leaves, by a slow filter over the whole
-//! buffer that looks at every byte anew.
+//! buffer that looks at every byte again.
 
 ghost use Rattle.std.specs.Prelude.{◌<◌, ◌≤◌, length};
 
@@ -9,11 +9,11 @@ use crate::script::{Answer, Call, Op, Part};
 #[derive(Clone, Copy, Debug)]
 pub struct Format {
     pub radix: u8,
-    /// Zero stands for `radix`.
+    /// Zero means `radix`.
     pub exponent_radix: u8,
     /// Zero where there is none.
     pub separator: u8,
-    /// The bits 32 to 44 of the word, where they stand.
+    /// The bits 32 to 44 of the word, in their places.
     pub flags: u128,
 }
 
@@ -24,7 +24,7 @@ impl Format {
     }
 }
 
-/// How the bytes of a component are told apart.
+/// The separator and the radix that class the bytes of a component.
 #[derive(Clone, Copy)]
 struct Alphabet {
     radix: u8,
@@ -50,7 +50,7 @@ fn flags_at(flags: u128, internal: u128) -> Flags {
     }
 }
 
-/// What stands on a side of a separator.
+/// What is on one side of a separator.
 #[derive(Clone, Copy, Debug, PartialEq, Eq)]
 enum Class {
     Digit,
@@ -76,7 +76,7 @@ fn is_separator(alphabet: Alphabet, byte: u8) -> bool {
     alphabet.separator != 0 && byte == alphabet.separator
 }
 
-/// Past either end of the buffer stands something else.
+/// Beyond either end of the buffer the class is `Other`.
 fn class_of(alphabet: Alphabet, byte: Option<u8>) -> Class {
     match byte {
         None => Class::Other,
@@ -86,9 +86,9 @@ fn class_of(alphabet: Alphabet, byte: Option<u8>) -> Class {
     }
 }
 
-/// What a separator has on its right, of the bytes behind it.
-fn right_side(alphabet: Alphabet, flags: Flags, behind: &[u8]) -> Class {
-    for byte in behind {
+/// The class of the right side of a separator, from the bytes after it.
+fn right_side(alphabet: Alphabet, flags: Flags, after: &[u8]) -> Class {
+    for byte in after {
         if !flags.consecutive || !is_separator(alphabet, *byte) {
             return class_of(alphabet, Some(*byte));
         }
@@ -96,7 +96,7 @@ fn right_side(alphabet: Alphabet, flags: Flags, behind: &[u8]) -> Class {
     Class::Other
 }
 
-/// What a separator has on its left, of the bytes before it.
+/// The class of the left side of a separator, from the bytes before it.
 fn left_side(alphabet: Alphabet, flags: Flags, before: &[u8]) -> Class {
     for byte in before.iter().rev() {
         if !flags.consecutive || !is_separator(alphabet, *byte) {
@@ -144,7 +144,7 @@ fn is_kept(
     }
 }
 
-/// Whether a byte is a value, where case may be told apart.
+/// Whether a byte is this value; `is_cased` says whether case matters.
 fn is_value(byte: Option<u8>, value: u8, is_cased: bool) -> bool {
     match byte {
         None => false,
@@ -349,7 +349,7 @@ impl Table<'_> {
         Answer::View(Some((self.cursor, from)))
     }
 
-    /// The row of a call that the iterators alone have.
+    /// The row of a call that only the iterators have.
     fn read(&mut self, part: Part, op: Op) -> Answer {
         let alphabet = self.alphabet(part);
         let place = self.place(part);
@@ -402,7 +402,7 @@ impl Table<'_> {
         }
     }
 
-    /// What a call answers; what it leaves is what the table then is.
+    /// Makes a call: answers as the call table does, and leaves its state.
     pub fn answer(&mut self, call: Call) -> Answer {
         let Call { part, op } = call;
         let first = self.byte_at(self.cursor);

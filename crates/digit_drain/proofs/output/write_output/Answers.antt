@@ -26,9 +26,9 @@ returns-in-Ok-eq0-clause-part g c =
     let (done, split, appended) = c.loop-rest.invariant in
     record {
       written = done;
-      left = c.loop-rest.rest.now;
+      rest = c.loop-rest.rest.now;
       split = split;
-      some_left = search rules;
+      some_rest = search rules;
       appended = subst (Appends _ _) (append-nil done)
           (Appends-trans _ _ _ done [] appended
           (rw c.in-Ok-eq0.field-0-test at c.in-Ok-eq0.ensures.bytes));
@@ -39,8 +39,8 @@ returns-in-Err-clause-part g c =
     let (done, split, appended) = c.loop-rest.invariant in
     record {
       written = done;
-      left = c.loop-rest.rest.now;
+      rest = c.loop-rest.rest.now;
       split = split;
-      some_left = search rules;
+      some_rest = search rules;
       appended = Appends-kept _ _ _ _ appended c.in-Err.ensures.bytes;
     }

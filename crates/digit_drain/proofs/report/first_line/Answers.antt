@@ -1,4 +1,4 @@
-use Rattle.digit_drain.proofs.Lines.{lines_of_cut, lines_of_last}
+use Rattle.digit_drain.proofs.FirstLine.{lines_of_cut, lines_of_last}
 use Rattle.digit_drain.proofs.report.first_line.Goals as goal
 
 pub returns-in-Some-clause-lines : goal.returns-in-Some-clause-lines

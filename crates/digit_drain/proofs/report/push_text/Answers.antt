@@ -1,7 +1,7 @@
 use Rattle.std.proofs.Common.{◌<◌, ◌^◌, ◌≡◌, length, arith}
 use Rattle.lexical_digits.specs.State.{start}
 use Rattle.digit_drain.specs.Line.{asked_by, word_of}
-use Rattle.digit_drain.proofs.Drains.{adds_text}
+use Rattle.digit_drain.proofs.DrainFromStart.{adds_text}
 use Rattle.digit_drain.proofs.report.push_text.Goals as goal
 
 pub returns : goal.returns

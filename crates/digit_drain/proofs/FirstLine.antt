@@ -4,7 +4,7 @@ use Rattle.std.proofs.lemmas.Bool.Decides.{nat_tests}
 use Rattle.std.proofs.lemmas.List.Elements.{All-head, All-tail}
 use Rattle.digit_drain.specs.Line.{cut}
 use Rattle.digit_drain.specs.Report.{lines_of}
-use Rattle.digit_drain.proofs.Cuts.{cut_splits, cut_none}
+use Rattle.digit_drain.proofs.FirstMark.{cut_splits, cut_none}
 
 no_feed : (byte : ℕ) → byte ≢ 10 → (byte == 10) ≡ false
 no_feed byte h = grind (arith, nat_tests)

@@ -1,14 +1,15 @@
--- What a drained iterator tells of itself is what the report says.
-use Rattle.std.proofs.Common.{◌≡◌, ℕ, ◌<◌, ◌^◌, ◌&&◌, Bool, true, false, not, List, length, refl, arith}
+-- The drain of a text from its start is the report's: its bytes, its count and its cursor.
+use Rattle.std.proofs.Common.{◌≡◌, ℕ, ◌<◌, ◌^◌, ◌&&◌, Bool, true, false, not, List, ◌++◌, Result, Ok, Err, length, refl, ap, ◌∙◌, arith}
 use Rattle.std.specs.Prelude.{if◌then◌else◌, count_by}
 use Rattle.std.proofs.lemmas.List.Sums.{count_by-le-length}
 use Rattle.lexical_digits.specs.declared.skip.component.Component.{Component}
 use Rattle.lexical_digits.specs.declared.skip.component.Component.TheVariants.{Integer, Fraction, Exponent, Special}
 use Rattle.lexical_digits.specs.Separators.{is_digit, has_flags, drain}
-use Rattle.lexical_digits.specs.State.{start, rule_of, own, counts, is_contiguous, has_no_separator, saturating, current_count}
+use Rattle.lexical_digits.specs.State.{State, start, rule_of, own, counts, is_contiguous, has_no_separator, saturating, current_count}
 use Rattle.lexical_digits.specs.CallTable.{drain_of, after_drain}
+use Rattle.digit_drain.specs.declared.report.Drained.{Drained}
 use Rattle.digit_drain.specs.Line.{Asked, word_of}
-use Rattle.digit_drain.specs.Report.{count_of}
+use Rattle.digit_drain.specs.Report.{count_of, AddsDrain}
 
 none_saturates : (n : ℕ) → n < 2 ^ 64 → saturating 0 n ≡ n
 none_saturates n h = omega arith
@@ -17,7 +18,7 @@ none_saturates n h = omega arith
 count_if : Bool → Bool → ℕ → ℕ → ℕ
 count_if flags plain n m = if flags then n else if not flags && plain then m else 0
 
-pub no_count : (k : Component) (text : List ℕ) (word : ℕ) → own k (start text word) ≡ 0
+no_count : (k : Component) (text : List ℕ) (word : ℕ) → own k (start text word) ≡ 0
 no_count Integer text word = refl
 no_count Fraction text word = refl
 no_count Exponent text word = refl
@@ -77,18 +78,41 @@ count_by_kind Exponent word text h =
 count_by_kind Special word text h =
     special_count (has_flags (rule_of word Special)) (has_no_separator word) (length text)
 
-pub count_of_drained : (asked : Asked) → length asked.text < 2 ^ 64 →
+count_of_drained : (asked : Asked) → length asked.text < 2 ^ 64 →
     current_count asked.component (after_drain asked.component (start asked.text (word_of asked)))
     ≡ count_of asked
 unfolding count_of
 count_of_drained asked h = count_by_kind asked.component (word_of asked) asked.text h
 
-pub cursor_of_drained : (k : Component) (text : List ℕ) (word : ℕ)
+cursor_of_drained : (k : Component) (text : List ℕ) (word : ℕ)
     → (after_drain k (start text word)).cursor ≡ length text
 unfolding after_drain
 cursor_of_drained k text word = refl
 
 -- from no count the bytes drained are the report's
-pub drain_from_start : (k : Component) (text : List ℕ) (word : ℕ)
+drain_from_start : (k : Component) (text : List ℕ) (word : ℕ)
     → drain_of k (start text word) ≡ drain (rule_of word k) text 0 0
 drain_from_start k text word = rw no_count refl
+
+-- the same drain in other words
+same_drain : {E : Type 0} (old new bytes bytes' : List ℕ) (n n' c c' : ℕ) (r : Result Drained E) →
+    bytes ≡ bytes' → n ≡ n' → c ≡ c' →
+    AddsDrain old new bytes n c r → AddsDrain old new bytes' n' c' r
+same_drain old new bytes bytes' n n' c c' (Ok end) eb en ec h =
+    (h.0 ∙ ap (λ l. old ++ l) eb, h.1 ∙ en, h.2 ∙ ec)
+same_drain old new bytes bytes' n n' c c' (Err e) eb en ec h = h
+
+-- from the start of a text it is that of a report
+pub adds_text : {E : Type 0} (asked : Asked) (s : State) (old new : List ℕ) (r : Result Drained E) →
+    length asked.text < 2 ^ 64 → s ≡ start asked.text (word_of asked) →
+    AddsDrain old new (drain_of asked.component s)
+    (current_count asked.component (after_drain asked.component s))
+    (after_drain asked.component s).cursor r →
+    AddsDrain old new (drain (rule_of (word_of asked) asked.component) asked.text 0 0)
+    (count_of asked) (length asked.text) r
+adds_text asked s old new r short e h =
+    let k = asked.component in
+    same_drain old new _ _ _ _ _ _ r
+    (ap (drain_of k) e ∙ drain_from_start k asked.text (word_of asked))
+    (ap (λ t. current_count k (after_drain k t)) e ∙ count_of_drained asked short)
+    (ap (λ t. (after_drain k t).cursor) e ∙ cursor_of_drained k asked.text (word_of asked)) h
