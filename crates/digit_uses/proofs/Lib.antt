@@ -1,1 +1,3 @@
-pub mod FirstFault
+mod FewDigits
+mod FloatFaults
+mod Tokens

@@ -1,4 +1,6 @@
-pub mod Number
+pub mod Bytes
+pub mod Float
+pub mod Groups
+pub mod Lexer
 pub mod Literal
-pub mod Line
-pub mod Faults
+pub mod Loops

@@ -11,7 +11,7 @@ ghost use Rattle.lexical_digits.specs.declared.skip.component.Component.TheVaria
 use lexical_digits::skip::Bytes;
 use std::alloc::{AllocError, Global};
 
-/// The bytes of a text without the separators that the word lets stand: `1_000` gives `1000`.
+/// The bytes of a text without the separators that the word drops: `1_000` gives `1000`.
 pub fn without_separators(alloc: Global, text: &[u8], word: u128) -> Result<Vec<u8>, AllocError>
     requires { IsTrue (is_supported word) }
     ensures { IfOk result (λ v. v.items ≡ drain (rule_of word Integer) text.now 0 0) }

@@ -1,4 +1,4 @@
-//! What an integer is worth in figures: the zeros in front, and the digits from the first that is
+//! The digits that count in an integer: the zeros in front, and the digits from the first that is
 //! none, as a reader of floats asks for them.
 //!
 //! Proof by hand: none.
@@ -19,7 +19,7 @@ use lexical_digits::skip::{Bytes, Component};
 pub struct Figures {
     /// How many zeros lead.
     pub zeros: usize,
-    /// How many digits stand behind them.
+    /// How many digits follow them.
     pub significant: usize,
     /// Where the digits end.
     pub end: usize,

@@ -1,13 +1,17 @@
 //! Uses of the digit iterators, each proved, in a file of its own.
 #![tactic(auto)]
 
+pub mod back;
+pub mod calls;
 pub mod drained;
 pub mod figures;
 pub mod first;
-pub mod line;
+pub mod float;
+pub mod groups;
+pub mod lexer;
 pub mod literal;
-pub mod number;
-pub mod pass_through;
+pub mod loops;
+pub mod rest;
 #[cfg(test)]
 mod tests;
 pub mod validate;

@@ -1,20 +1,21 @@
-//! Rust's integer literals: a prefix that says the base, digits with `_`, and then whatever the
-//! text goes on with, as a suffix.
+//! Rust's integer literals: a prefix that says the base, digits with `_`, and then whatever
+//! follows, such as a suffix.
 //!
-//! Proof by hand: 29 lines, three answers.
+//! Proof by hand: none.
 
-ghost use Rattle.std.specs.Prelude.{◌≡◌, ◌+◌, ◌-◌, ◌≤◌, length, drop, IfOk, IsTrue};
+ghost use Rattle.std.specs.Prelude.{◌≡◌, ◌≤◌, length, IfOk, IsTrue};
 ghost use Rattle.lexical_format.specs.Word.{is_supported};
 ghost use Rattle.lexical_digits.specs.State.{rule_of};
 ghost use Rattle.lexical_digits.specs.declared.skip.component.Component.TheVariants.{Integer};
 ghost use Rattle.digit_literals.specs.Outcomes.{IfEmpty, IfOverflow};
-ghost use Rattle.digit_literals.specs.Integers.{IsInteger, HasNoDigit, IsTooLarge};
-ghost use Rattle.digit_uses.specs.Literal.{base_of, prefix_of, rule_for};
+ghost use Rattle.digit_literals.specs.After.{PassesAt};
+ghost use Rattle.digit_uses.specs.Literal.{base_of, prefix_of, rule_for, IsLiteral, HasNoDigit};
 
-use digit_literals::{LiteralError, read_integer};
-use lexical_format::{
-    INTEGER_CONSECUTIVE_DIGIT_SEPARATOR, INTEGER_INTERNAL_DIGIT_SEPARATOR,
-    INTEGER_LEADING_DIGIT_SEPARATOR, INTEGER_TRAILING_DIGIT_SEPARATOR,
+use digit_literals::{LiteralError, read_digits_of};
+use lexical_digits::iterator::Iter;
+use lexical_digits::skip::{Bytes, Component};
+use lexical_format::words::{
+    RUST_BINARY_LITERAL, RUST_HEX_LITERAL, RUST_LITERAL, RUST_OCTAL_LITERAL,
 };
 
 /// The bases of Rust's integer literals.
@@ -30,18 +31,9 @@ pub enum Base {
 #[derive(Clone, Copy, Debug, PartialEq, Eq)]
 pub struct Literal {
     pub value: u64,
-    /// Where the digits end: a suffix begins here.
+    /// Where the digits end. A suffix begins here.
     pub end: usize,
 }
-
-/// Separators `_` behind the first digit, and as many as one likes.
-const SEPARATED: u128 = (0x5f << 64)
-    | INTEGER_INTERNAL_DIGIT_SEPARATOR
-    | INTEGER_TRAILING_DIGIT_SEPARATOR
-    | INTEGER_CONSECUTIVE_DIGIT_SEPARATOR;
-
-/// And in front of it, behind a prefix.
-const PREFIXED: u128 = SEPARATED | INTEGER_LEADING_DIGIT_SEPARATOR;
 
 /// The format word of a base.
 #[tactic(auto, unfolding(lexical_format::proofs::OnLiterals::lexical_on_literals))]
@@ -50,10 +42,10 @@ fn word_of(base: Base) -> u128
     ensures rule { rule_of result Integer ≡ rule_for base }
 {
     match base {
-        Base::Binary => (2 << 104) | PREFIXED,
-        Base::Octal => (8 << 104) | PREFIXED,
-        Base::Decimal => (10 << 104) | SEPARATED,
-        Base::Hexadecimal => (16 << 104) | PREFIXED,
+        Base::Binary => RUST_BINARY_LITERAL,
+        Base::Octal => RUST_OCTAL_LITERAL,
+        Base::Decimal => RUST_LITERAL,
+        Base::Hexadecimal => RUST_HEX_LITERAL,
     }
 }
 
@@ -74,28 +66,37 @@ fn base_of(text: &[u8]) -> (Base, usize)
     }
 }
 
-/// The integer literal that a text begins with: its base by `0b`, `0o` or `0x`, and then the
-/// digits, with `_` among them. What stands behind the digits is left. Positions are those of the
-/// text.
-#[tactic(auto, using(digit_literals::proofs::Within::positions_within))]
+/// The integer from a position on.
+fn read_from(text: &[u8], start: usize, word: u128) -> Result<Literal, LiteralError>
+    requires supported { IsTrue (is_supported word) }
+    requires within { start ≤ length text.now }
+    ensures ok { IfOk result (IsLiteral (rule_of word Integer) text.now start) }
+    ensures empty { IfEmpty result (HasNoDigit (rule_of word Integer) text.now start) }
+    ensures overflow { IfOverflow result (PassesAt (rule_of word Integer) text.now start 0 0) }
+{
+    let mut bytes = Bytes::new(text, word);
+    bytes.set_cursor(start);
+    let digits = read_digits_of(&mut bytes, Component::Integer, 0)?;
+    let end = bytes.cursor();
+    if digits.count == 0 {
+        return Err(LiteralError::Empty(end));
+    }
+    Ok(Literal {
+        value: digits.value,
+        end,
+    })
+}
+
+/// The integer literal at the start of a text: its base by `0b`, `0o` or `0x`, and then the digits,
+/// with `_` among them. A suffix is not read. Positions count from the start of the text.
 pub fn read_literal(text: &[u8]) -> Result<Literal, LiteralError>
-    ensures ok { let b = base_of text.now in let p = prefix_of b in
-        IfOk result (λ l. IsInteger (rule_for b) (drop p text.now) l.value (l.end - p)) }
-    ensures within { let p = prefix_of (base_of text.now) in
-        IfOk result (λ l. (p ≤ l.end) × (l.end ≤ length text.now)) }
-    ensures empty { let b = base_of text.now in let p = prefix_of b in
-        IfEmpty result (λ at. HasNoDigit (rule_for b) (drop p text.now) (at - p)) }
-    ensures overflow { let b = base_of text.now in let p = prefix_of b in
-        IfOverflow result (λ at. IsTooLarge (rule_for b) (drop p text.now) (at - p)) }
+    ensures ok { let b = base_of text.now in
+        IfOk result (IsLiteral (rule_for b) text.now (prefix_of b)) }
+    ensures empty { let b = base_of text.now in
+        IfEmpty result (HasNoDigit (rule_for b) text.now (prefix_of b)) }
+    ensures overflow { let b = base_of text.now in
+        IfOverflow result (PassesAt (rule_for b) text.now (prefix_of b) 0 0) }
 {
     let (base, prefix) = base_of(text);
-    let digits = &text[prefix..];
-    match read_integer(digits, word_of(base)) {
-        Ok((value, len)) => Ok(Literal {
-            value,
-            end: prefix + len,
-        }),
-        Err(LiteralError::Empty(at)) => Err(LiteralError::Empty(prefix + at)),
-        Err(LiteralError::Overflow(at)) => Err(LiteralError::Overflow(prefix + at)),
-    }
+    read_from(text, prefix, word_of(base))
 }

@@ -1,47 +1,69 @@
-//! A validator: whether a text is a number throughout, and if not, at which byte it ceases to be
-//! one.
+//! A validator: whether a text is one integer and nothing else, in words of its bytes for the
+//! states of the flags that are met most.
 //!
-//! Proof by hand: 30 lines: an answer of 10, and in `proofs/FirstFault.antt` two lemmas.
+//! Proof by hand: none.
 
-ghost use Rattle.std.specs.Prelude.{◌≡◌, ◌<◌, length, filter, IfOk, IfErr, IsTrue};
+ghost use Rattle.std.specs.Prelude.{◌≡◌, ◌<◌, ◌≤◌, length, true, IfOk, IfErr, IsTrue};
 ghost use Rattle.lexical_format.specs.Word.{is_supported};
-ghost use Rattle.lexical_digits.specs.Separators.{is_digit};
+ghost use Rattle.lexical_digits.specs.Separators.{GrantsAll};
 ghost use Rattle.lexical_digits.specs.State.{rule_of};
 ghost use Rattle.lexical_digits.specs.Stop.{stop};
-ghost use Rattle.digit_uses.specs.Faults.{IsAllDigits, OffendsFirst};
+ghost use Rattle.lexical_digits.specs.Texts.{IsInternalAlone, IsInternalInRuns, is_digit_or_between, IsFirstFault, AllDigitsOrBetween, AllDigitsOrSeparators, IsFromDigitToDigit};
 ghost use Rattle.lexical_digits.specs.declared.skip.component.Component.TheVariants.{Integer};
 
 use digit_literals::pass_digits;
-use lexical_digits::iterator::{Iter, IterBodies};
+use lexical_digits::iterator::Iter;
 use lexical_digits::skip::{Bytes, Component};
-use lexical_digits::stop::digits_end;
+use lexical_digits::texts::{all_flags_read_every, internal_reads_between, runs_read_between};
 
-/// How many digits a text has, if it holds nothing else but separators that the word drops. Else
-/// the position of the first byte that offends.
-#[tactic(auto, using(crate::proofs::FirstFault::first_fault))]
-pub fn count_digits(text: &[u8], word: u128) -> Result<usize, usize>
+/// Where the digits at the start of a text end.
+#[tactic(auto, using(digit_literals::proofs::Calling::stop_within))]
+fn digits_end(text: &[u8], word: u128, component: Component) -> usize
     requires { IsTrue (is_supported word) }
-    ensures digits { IfOk result (IsAllDigits (rule_of word Integer) text.now) }
-    ensures offends { IfErr result (OffendsFirst (rule_of word Integer) text.now) }
+    ensures end { result ≡ stop (rule_of word component) text.now 0 0 }
+    ensures within { result ≤ length text.now }
 {
-    pass_all(text, word)
+    let mut bytes = Bytes::new(text, word);
+    pass_digits(&mut bytes, component);
+    bytes.cursor()
 }
 
-/// How many digits a text has, if they end at its end; and else where they end.
-fn pass_all(text: &[u8], word: u128) -> Result<usize, usize>
+/// Whether a text is one integer and nothing else, and if not, the position of the first byte at
+/// fault. With only the internal flag, as in Python and C++, that is the first byte that is
+/// neither a digit nor a separator between two digits.
+pub fn validate(text: &[u8], word: u128) -> Result<(), usize>
     requires { IsTrue (is_supported word) }
-    ensures digits { let r = rule_of word Integer in
-        IfOk result (λ n. n ≡ length (filter (is_digit r) text.now)) }
-    ensures all { IfOk result (λ _. stop (rule_of word Integer) text.now 0 0 ≡ length text.now) }
-    ensures offends { IfErr result (λ at. at ≡ stop (rule_of word Integer) text.now 0 0) }
+    ensures valid { let r = rule_of word Integer in
+        IsInternalAlone r → IfOk result (λ _. AllDigitsOrBetween r text.now) }
+    ensures fault { let r = rule_of word Integer in IsInternalAlone r →
+        IfErr result (IsFirstFault (is_digit_or_between r text.now) (length text.now)) }
     ensures within { IfErr result (λ at. at < length text.now) }
 {
-    digits_end();
-    let mut bytes = Bytes::new(text, word);
-    let digits = pass_digits(&mut bytes, Component::Integer);
-    if bytes.is_buffer_empty() {
-        Ok(digits)
-    } else {
-        Err(bytes.cursor())
-    }
+    internal_reads_between(text, word, Component::Integer);
+    let end = digits_end(text, word, Component::Integer);
+    if end == text.len() { Ok(()) } else { Err(end) }
+}
+
+/// Whether a text is one integer and nothing else. Examples with the separator `_`: with the
+/// internal flag only `1_000` is an integer, and `1__0`, `_1` and `1_` are not; with the
+/// consecutive flag too `1__0` is one; with all flags `_1` and `1_` are too. The empty text is one.
+pub fn is_integer(text: &[u8], word: u128) -> bool
+    requires { IsTrue (is_supported word) }
+    ensures is_grouped { let r = rule_of word Integer in IsInternalAlone r →
+        result ≡ true → AllDigitsOrBetween r text.now }
+    ensures grouped { let r = rule_of word Integer in IsInternalAlone r →
+        AllDigitsOrBetween r text.now → result ≡ true }
+    ensures is_spread { let r = rule_of word Integer in IsInternalInRuns r →
+        result ≡ true → IsFromDigitToDigit r text.now }
+    ensures spread { let r = rule_of word Integer in IsInternalInRuns r →
+        IsFromDigitToDigit r text.now → result ≡ true }
+    ensures is_loose { let r = rule_of word Integer in GrantsAll r →
+        result ≡ true → AllDigitsOrSeparators r text.now }
+    ensures loose { let r = rule_of word Integer in GrantsAll r →
+        AllDigitsOrSeparators r text.now → result ≡ true }
+{
+    internal_reads_between(text, word, Component::Integer);
+    runs_read_between(text, word, Component::Integer);
+    all_flags_read_every(text, word, Component::Integer);
+    digits_end(text, word, Component::Integer) == text.len()
 }
