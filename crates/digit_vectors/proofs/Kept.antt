@@ -31,7 +31,7 @@ kept_from_place : (m : Meaning) → kept m ≡ filter no_space (drop (place m) m
 kept_from_place m =
     skipped (rest m) ∙ ap (filter no_space) (drop-drop (spaces m) m.cursor m.buffer)
 
--- no space stands at the place
+-- the byte at the place is no space
 none_there : (m : Meaning) → place m < length m.buffer →
     is_space (get_or m.buffer (place m) 0) ≡ false
 none_there m l =

@@ -1,5 +1,6 @@
-//! Std's chains of iterators over the digits of a component: what they make is said of the drain,
-//! the filter over the whole buffer.
+//! Chains of std's iterators over the bytes that a component keeps. Each contract names the drain,
+//! which is a filter over the whole buffer. Every call asks that the word is supported. Not in
+//! lexical-util.
 
 ghost use Rattle.std.specs.Prelude.{◌≡◌, length, IsTrue, IfOk, None, slice_get, fold, ◌+◌, ◌%◌};
 ghost use Rattle.std.specs.List.{last_or};
@@ -11,7 +12,7 @@ ghost use Rattle.lexical_digits.specs.declared.skip.component.Component.TheVaria
 use lexical_digits::skip::Bytes;
 use std::alloc::{AllocError, Global};
 
-/// How many bytes the integer of a text keeps.
+/// The number of bytes that the integer of a text keeps, by `count`.
 pub fn kept_count(text: &[u8], word: u128) -> usize
     requires { IsTrue (is_supported word) }
     ensures { result ≡ length (drain (rule_of word Integer) text.now 0 0) }
@@ -20,7 +21,7 @@ pub fn kept_count(text: &[u8], word: u128) -> usize
     bytes.integer_iter().count()
 }
 
-/// The bytes that the fraction of a text keeps.
+/// The bytes that the fraction of a text keeps, by `collect`. Refuses if memory is refused.
 pub fn kept_bytes(alloc: Global, text: &[u8], word: u128) -> Result<Vec<u8>, AllocError>
     requires { IsTrue (is_supported word) }
     ensures { IfOk result (λ v. v.items ≡ drain (rule_of word Fraction) text.now 0 0) }
@@ -29,7 +30,7 @@ pub fn kept_bytes(alloc: Global, text: &[u8], word: u128) -> Result<Vec<u8>, All
     bytes.fraction_iter().copied().collect(alloc)
 }
 
-/// The same bytes, by a `for`.
+/// The bytes that the exponent of a text keeps, by a `for`. Refuses if memory is refused.
 pub fn kept_by_for(alloc: Global, text: &[u8], word: u128) -> Result<Vec<u8>, AllocError>
     requires { IsTrue (is_supported word) }
     ensures { IfOk result (λ v. v.items ≡ drain (rule_of word Exponent) text.now 0 0) }
@@ -42,7 +43,7 @@ pub fn kept_by_for(alloc: Global, text: &[u8], word: u128) -> Result<Vec<u8>, Al
     Ok(kept)
 }
 
-/// The byte of that index among those that the special iterator keeps.
+/// The byte with that index, from 0, among those that the special iterator keeps, by `nth`.
 pub fn kept_at(text: &[u8], word: u128, index: usize) -> Option<u8>
     requires { IsTrue (is_supported word) }
     ensures { result ≡ slice_get (drain (rule_of word Special) text.now 0 0) index }
@@ -51,7 +52,7 @@ pub fn kept_at(text: &[u8], word: u128, index: usize) -> Option<u8>
     bytes.special_iter().nth(index).copied()
 }
 
-/// The last byte that the integer of a text keeps.
+/// The last byte that the integer of a text keeps, by `last`.
 pub fn last_kept(text: &[u8], word: u128) -> Option<u8>
     requires { IsTrue (is_supported word) }
     ensures { result ≡ last_or None (drain (rule_of word Integer) text.now 0 0) }
@@ -60,7 +61,7 @@ pub fn last_kept(text: &[u8], word: u128) -> Option<u8>
     bytes.integer_iter().last().copied()
 }
 
-/// A checksum of the bytes that the integer of a text keeps.
+/// The sum, modulo 256, of the bytes that the integer of a text keeps, by `fold`.
 pub fn checksum(text: &[u8], word: u128) -> u8
     requires { IsTrue (is_supported word) }
     ensures { let kept = drain (rule_of word Integer) text.now 0 0 in

@@ -1,12 +1,13 @@
-//! A caller of the iterators, in two ways. A call such as `integer_iter` makes an iterator whose
-//! answers are known. A literal makes one of which it is also known what the `Bytes` holds when the
-//! iterator has ended.
+//! Callers of the iterators. A call such as `integer_iter` makes an iterator whose answers a proof
+//! knows. A literal makes the same iterator, and after it a proof also knows what the `Bytes`
+//! holds. Not in lexical-util.
 
-ghost use Rattle.std.specs.Prelude.{◌≡◌, ◌+◌, IsTrue, if◌then◌else◌, is_some, option_copied, slice_get};
+ghost use Rattle.std.specs.Prelude.{◌≡◌, ◌+◌, IsTrue, if◌then◌else◌, is_some, option_copied, slice_get, pos, ◌≤ℤ◌, ◌+ℤ◌};
 ghost use Rattle.lexical_format.specs.Word.{is_supported};
 ghost use Rattle.lexical_digits.specs.Separators.{is_digit, place};
 ghost use Rattle.lexical_digits.specs.State.{rule_of, rule, with_cursor};
 ghost use Rattle.lexical_digits.specs.CallTable.{byte_at_place, settled, taken};
+ghost use Rattle.lexical_digits.specs.Looks.{owed, Unread};
 ghost use Rattle.lexical_digits.specs.Cursor.{byte_if, holds_of};
 ghost use Rattle.digit_vectors.specs.Sign.{is_sign};
 ghost use Rattle.lexical_digits.specs.declared.skip.component.Component.TheVariants.{Integer};
@@ -14,13 +15,14 @@ ghost use Rattle.lexical_digits.specs.declared.skip.component.Component.TheVaria
 use lexical_digits::iterator::{DigitsIter, IterBodies};
 use lexical_digits::skip::{Bytes, IntegerDigitsIterator};
 
-/// Passes a sign that stands at the cursor, and answers whether there was one. A separator is no
-/// sign.
+/// Passes a sign at the cursor, and answers whether there was one. A separator is no sign. The call
+/// reads nothing, so it counts no look.
 pub fn pass_sign(bytes: &mut Bytes) -> bool
     ensures sign { let s = bytes.old.state in
         result ≡ holds_of (is_sign s) (slice_get s.buffer s.cursor) }
     ensures state { let s = bytes.old.state in
         bytes.new.state ≡ if result then with_cursor s (s.cursor + 1) else s }
+    ensures unread { Unread bytes.old bytes.new }
 {
     let mut digits = IntegerDigitsIterator { byte: bytes };
     let Some(byte) = digits.first() else {
@@ -33,14 +35,15 @@ pub fn pass_sign(bytes: &mut Bytes) -> bool
     true
 }
 
-/// The next byte of the integer, if it is a digit: it is passed then and counted, and else the
-/// cursor stands before it.
+/// The next byte that the integer keeps, if it is a digit. That digit is passed and counted. On
+/// `None` the cursor is at the byte, or at the end.
 #[tactic(auto, using(crate::proofs::Settled::taken_settled))]
 pub fn next_digit(bytes: &mut Bytes) -> Option<u8>
     ensures digit { let s = bytes.old.state in
         result ≡ byte_if (is_digit (rule Integer s)) (byte_at_place Integer s) }
     ensures state { let s = bytes.old.state in
         bytes.new.state ≡ if is_some result then taken Integer s else settled Integer s }
+    ensures owes { owed bytes.new ≤ℤ (owed bytes.old +ℤ pos 8) }
 {
     let mut digits = IntegerDigitsIterator { byte: bytes };
     let byte = *digits.peek()?;
@@ -51,8 +54,8 @@ pub fn next_digit(bytes: &mut Bytes) -> Option<u8>
     Some(byte)
 }
 
-/// The first byte of a text that the integer keeps. It is a byte of the text, and outlives the
-/// iterator and its `Bytes`.
+/// The first byte of a text that the integer keeps; `None` if it keeps none. The byte is one of the
+/// text, so it outlives the iterator and its `Bytes`. Requires that the word is supported.
 #[tactic(auto, unfolding(lexical_digits::specs::CallTable::place_of))]
 pub fn first_kept<'a>(text: &'a [u8], word: u128) -> Option<&'a u8>
     requires { IsTrue (is_supported word) }

@@ -1,10 +1,9 @@
-//! Worked examples and tests of the digit iterators, and the plain program that they are compared
-//! with.
+//! Worked examples and tests of the digit iterators, and a slow program of the role rule that the
+//! tests compare them with.
 #![tactic(auto)]
 
 pub mod chains;
 pub mod example;
-pub mod literals;
 pub mod slow;
 pub mod spaced;
 #[cfg(test)]

@@ -1,74 +1,54 @@
-//! The role rule as a plain program. It asks of each position anew whether it is kept, by a look at
-//! the whole buffer, and has no cursor and no state. It is slow, and the faster iterators are
-//! compared with it.
+//! The role rule as a slow program, which the tests compare the iterators with. For each position
+//! it looks at the whole buffer. It has no cursor and no state. Positions count bytes from 0. Not
+//! in lexical-util.
 
 ghost use Rattle.std.specs.Prelude.{◌≡◌, ◌+◌, ◌<◌, ◌≤◌, not, length, reverse, Option};
 ghost use Rattle.std.specs.List.{list_any, find};
-ghost use Rattle.lexical_digits.specs.Separators.{class, is_digit, is_separator, neighbour, left_side, right_side, roles, grants, digits_seen, is_kept, place};
+ghost use Rattle.lexical_digits.specs.Separators.{class, is_separator, neighbour, left_side, right_side, roles, grants, digits_seen, is_kept, place};
 
 use lexical_digits::skip::{Class, Rule};
-use lexical_format::char_is_digit_const;
 
-/// Whether the byte is a digit of the rule's radix.
-#[tactic(auto, unfolding(lexical_digits::specs::Separators::is_digit))]
-pub fn is_digit(rule: Rule, byte: u8) -> bool
-    ensures { result ≡ is_digit rule byte }
-{
-    char_is_digit_const(byte, rule.radix)
-}
-
-/// Whether the byte is the rule's separator; a separator of zero means that no byte is one.
-#[tactic(auto, unfolding(lexical_digits::specs::Separators::is_separator))]
-fn is_separator(rule: Rule, byte: u8) -> bool
-    ensures { result ≡ is_separator rule.separator byte }
-{
-    rule.separator != 0 && byte == rule.separator
-}
-
-/// What a byte is to the rule, or what is where no byte stands.
+/// The class of a byte by the rule; `None` is a position outside of the buffer.
 fn side_of(rule: Rule, byte: Option<u8>) -> Class
     ensures { result ≡ class rule byte }
 {
     match byte {
-        Some(byte) if is_digit(rule, byte) => Class::Digit,
-        Some(byte) if is_separator(rule, byte) => Class::Separator,
+        Some(byte) if rule.is_digit(byte) => Class::Digit,
+        Some(byte) if rule.is_separator(byte) => Class::Separator,
         _ => Class::Other,
     }
 }
 
-/// The first byte that is no separator.
+/// The first of these bytes that is no separator.
 fn first_other(rule: Rule, bytes: &[u8]) -> Option<u8>
     ensures { result ≡ find (λ byte. not (is_separator rule.separator byte)) bytes.now }
 {
-    bytes
-        .iter()
-        .copied()
-        .find(|byte| !is_separator(rule, *byte))
+    bytes.iter().copied().find(|byte| !rule.is_separator(*byte))
 }
 
-/// The last byte that is no separator.
+/// The last of these bytes that is no separator.
 fn last_other(rule: Rule, bytes: &[u8]) -> Option<u8>
     ensures { result ≡ find (λ byte. not (is_separator rule.separator byte)) (reverse bytes.now) }
 {
     let mut backwards = bytes.iter().rev().copied();
-    backwards.find(|byte| !is_separator(rule, *byte))
+    backwards.find(|byte| !rule.is_separator(*byte))
 }
 
-/// The byte that a separator is judged by on its right, of the bytes behind it.
+/// The byte that gives a separator its right side, of the bytes after it.
 #[tactic(auto, unfolding(lexical_digits::specs::Separators::neighbour))]
-fn first_judged(rule: Rule, behind: &[u8]) -> Option<u8>
-    ensures { result ≡ neighbour rule behind.now }
+fn right_neighbour(rule: Rule, after: &[u8]) -> Option<u8>
+    ensures { result ≡ neighbour rule after.now }
 {
     if rule.consecutive {
-        first_other(rule, behind)
+        first_other(rule, after)
     } else {
-        behind.first().copied()
+        after.first().copied()
     }
 }
 
-/// The byte that a separator is judged by on its left, of the bytes before it.
+/// The byte that gives a separator its left side, of the bytes before it.
 #[tactic(auto, unfolding(lexical_digits::specs::Separators::neighbour))]
-fn last_judged(rule: Rule, before: &[u8]) -> Option<u8>
+fn left_neighbour(rule: Rule, before: &[u8]) -> Option<u8>
     ensures { result ≡ neighbour rule (reverse before.now) }
 {
     if rule.consecutive {
@@ -78,15 +58,15 @@ fn last_judged(rule: Rule, before: &[u8]) -> Option<u8>
     }
 }
 
-/// The right side of a separator.
+/// The right side of the separator at a position.
 fn right_side(rule: Rule, buffer: &[u8], position: usize) -> Class
     requires { position < length buffer.now }
     ensures { result ≡ right_side rule buffer.now position }
 {
-    side_of(rule, first_judged(rule, &buffer[position + 1..]))
+    side_of(rule, right_neighbour(rule, &buffer[position + 1..]))
 }
 
-/// The left side of a separator: a digit where one was seen, whatever stands there.
+/// The left side of the separator at a position. Once a digit was seen, the side is a digit.
 fn left_side(rule: Rule, buffer: &[u8], digit_seen: bool, position: usize) -> Class
     requires { position ≤ length buffer.now }
     ensures { result ≡ left_side rule buffer.now digit_seen position }
@@ -94,11 +74,11 @@ fn left_side(rule: Rule, buffer: &[u8], digit_seen: bool, position: usize) -> Cl
     if digit_seen {
         Class::Digit
     } else {
-        side_of(rule, last_judged(rule, &buffer[..position]))
+        side_of(rule, left_neighbour(rule, &buffer[..position]))
     }
 }
 
-/// Whether a separator between these sides has a role that the rule grants.
+/// Whether the rule grants a role of a separator that has these sides.
 fn is_granted(rule: Rule, left: Class, right: Class) -> bool
     ensures { result ≡ list_any (grants rule) (roles left right) }
 {
@@ -111,7 +91,7 @@ fn is_granted(rule: Rule, left: Class, right: Class) -> bool
     }
 }
 
-/// The count at the start, and the digits from there up to a position.
+/// The count at the start plus the number of digits from there up to the position.
 #[tactic(auto, unfolding(lexical_digits::specs::Separators::digits_seen))]
 pub fn seen(rule: Rule, buffer: &[u8], start: usize, count: usize, position: usize) -> u128
     requires low { start ≤ position }
@@ -119,11 +99,12 @@ pub fn seen(rule: Rule, buffer: &[u8], start: usize, count: usize, position: usi
     ensures { result ≡ digits_seen rule buffer.now start count position }
 {
     let passed = &buffer[start..position];
-    let digits = passed.iter().filter(|byte| is_digit(rule, **byte)).count();
+    let digits = passed.iter().filter(|byte| rule.is_digit(**byte)).count();
     count as u128 + digits as u128
 }
 
-/// Whether the byte at a position is kept, where reading starts at `start` with that count.
+/// Whether the rule keeps the byte at a position, for a read that starts at `start` with that
+/// count.
 #[tactic(auto, unfolding(crate::proofs::Unfolded::keeping))]
 pub fn is_kept(rule: Rule, buffer: &[u8], start: usize, count: usize, position: usize) -> bool
     requires low { start ≤ position }
@@ -139,7 +120,7 @@ pub fn is_kept(rule: Rule, buffer: &[u8], start: usize, count: usize, position: 
     !is_granted(rule, left, right)
 }
 
-/// The first kept position from `start` on, or the length.
+/// The first kept position from `start` on, or the length if there is none.
 pub fn place(rule: Rule, buffer: &[u8], start: usize, count: usize) -> usize
     requires { start ≤ length buffer.now }
     ensures { result ≡ place rule buffer.now start count }

@@ -1,5 +1,5 @@
-//! An iterator of one's own: it is none of `lexical_digits`, and has all that its traits give. The
-//! document `IMPLEMENTING.md` walks through it.
+//! An iterator of one's own. It isn't one of `lexical_digits`, and the traits give it all their
+//! calls. The page `IMPLEMENTING.md` explains it. Not in lexical-util.
 
 ghost use Rattle.std.specs.Prelude.{◌≡◌, ◌≤◌, length};
 ghost use Rattle.std.specs.List.{prefix_len};
@@ -9,7 +9,7 @@ use lexical_digits::iterator::{DigitsIter, Iter};
 use std::convert::Infallible;
 use std::marker::Model;
 
-/// Names what a [`Spaced`] means as a type. It has no value.
+/// The type whose view is the meaning of a [`Spaced`]. It has no value.
 pub struct Meaning {
     _none: Infallible,
 }
@@ -23,7 +23,8 @@ impl Model for Meaning {
     ghost view = { λ _. spaced.start [] };
 }
 
-/// A cursor over a text in which spaces are passed over, and a count of the digits taken.
+/// A cursor over a text that passes over spaces, and a count of the digits taken. The cursor counts
+/// bytes from 0; the count stops at `usize::MAX`.
 #[derive(Drop)]
 pub struct Spaced<'a> {
     text: &'a [u8],
@@ -44,7 +45,7 @@ impl<'a> Model for Spaced<'a> {
 }
 
 impl<'a> Spaced<'a> {
-    /// The start of a text, with nothing counted.
+    /// The cursor and the count are 0.
     pub fn new(text: &'a [u8]) -> Self
         ensures { result.state ≡ start text.now }
     {
@@ -56,7 +57,7 @@ impl<'a> Spaced<'a> {
     }
 }
 
-/// How many spaces a text begins with.
+/// The number of spaces that a text begins with.
 fn spaces(text: &[u8]) -> usize
     ensures value { result ≡ prefix_len is_space text.now }
     ensures within { result ≤ length text.now }
@@ -183,13 +184,14 @@ impl<'a> DigitsIter<'a> for Spaced<'a> {
     ghost digit_laws = { digit_laws };
 }
 
-/// The bytes that `next` answers until `None` are those from the cursor on that are no spaces.
+/// A law: the bytes that `next` answers until `None` are those from the cursor on that are no
+/// spaces.
 #[tactic(auto, using(crate::proofs::Kept::items_are_kept))]
 pub fn items_are_kept(spaced: &Spaced)
     ensures { items_of spaced.now.state ≡ kept spaced.now.state }
 {}
 
-/// How many bytes of a text are no spaces, by a chain of std's over the iterator.
+/// The number of bytes of a text that are no spaces, by std's `count` over the iterator.
 pub fn kept_count(text: &[u8]) -> usize
     ensures { result ≡ length (kept (start text.now)) }
 {

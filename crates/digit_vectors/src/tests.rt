@@ -6,6 +6,7 @@ ghost use Rattle.lexical_digits.specs.State.{start};
 
 mod agreement;
 mod chains;
+mod components;
 mod counts;
 mod cursors;
 mod decision;
@@ -13,6 +14,7 @@ mod laws;
 mod literals;
 mod loans;
 mod looks;
+mod parsing;
 mod plain;
 mod plain_rows;
 mod radixes;
@@ -33,7 +35,7 @@ use lexical_format::{
 use std::process::Abort;
 
 /// Radix 10, separator `_`, no flags.
-const PLAIN: u128 = (10 << 104) | (0x5f << 64);
+const UNFLAGGED: u128 = (10 << 104) | (0x5f << 64);
 
 /// The integer's flags.
 const INTERNAL: u128 = INTEGER_INTERNAL_DIGIT_SEPARATOR;

@@ -14,7 +14,7 @@ place_within : (m : Meaning) → IsWithin m → place m ≤ length m.buffer
 place_within m v =
     omega (arith, prefix_len-le-length is_space (rest m), length-drop m.cursor m.buffer)
 
--- behind the spaces that come first, no space comes first
+-- after the spaces that come first, no space comes first
 no_more : (xs : List ℕ) → prefix_len is_space (drop (prefix_len is_space xs) xs) ≡ 0
 no_more xs = here (cases_lt n (length xs))
   where
@@ -77,6 +77,6 @@ digit_laws = record {
   moved_digit = λ m i b v h l. refl;
 }
 
--- nobody counts the looks of a `Spaced`
+-- a `Spaced` counts no looks
 pub owes_nothing : pos 0 ≤ℤ (pos 0 +ℤ pos 4)
 owes_nothing = omega (arith, ints)

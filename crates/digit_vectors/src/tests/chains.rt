@@ -1,6 +1,6 @@
 //! Tests of std's chains over the digits.
 
-use super::{INTERNAL, PLAIN};
+use super::{INTERNAL, UNFLAGGED};
 use crate::chains::{checksum, kept_at, kept_by_for, kept_bytes, kept_count, last_kept};
 use lexical_format::{
     EXPONENT_INTERNAL_DIGIT_SEPARATOR, FRACTION_INTERNAL_DIGIT_SEPARATOR,
@@ -9,7 +9,7 @@ use lexical_format::{
 use std::process::Abort;
 use std::test::Fail;
 
-/// The integer of a text keeps so many bytes, of which this is the last.
+/// The integer of a text keeps this number of bytes, and this one last.
 fn assert_integer(rt: &impl Abort, word: u128, text: &[u8], count: usize, last: Option<u8>) {
     assert!(rt; is_supported(word));
     assert_eq!(rt; kept_count(text, word), count);
@@ -18,7 +18,7 @@ fn assert_integer(rt: &impl Abort, word: u128, text: &[u8], count: usize, last: 
 
 #[test]
 fn a_chain_over_the_integer_gives_what_is_kept(rt: HostRuntime) {
-    let word = PLAIN | INTERNAL;
+    let word = UNFLAGGED | INTERNAL;
     for (text, count, last) in [
         (b"4_5".as_slice(), 2, Some(b'5')),
         (b"4__5".as_slice(), 3, Some(b'5')),
@@ -32,11 +32,11 @@ fn a_chain_over_the_integer_gives_what_is_kept(rt: HostRuntime) {
 
 #[test]
 fn kept_bytes_are_collected(rt: HostRuntime) -> Result<(), Fail> {
-    let word = PLAIN | FRACTION_INTERNAL_DIGIT_SEPARATOR | FRACTION_LEADING_DIGIT_SEPARATOR;
+    let word = UNFLAGGED | FRACTION_INTERNAL_DIGIT_SEPARATOR | FRACTION_LEADING_DIGIT_SEPARATOR;
     assert!(rt; is_supported(word));
     let kept = kept_bytes(rt.alloc(), b"_4_5_.56", word)?;
     assert!(rt; kept.as_slice() == b"45_.56".as_slice());
-    let word = PLAIN | EXPONENT_INTERNAL_DIGIT_SEPARATOR;
+    let word = UNFLAGGED | EXPONENT_INTERNAL_DIGIT_SEPARATOR;
     assert!(rt; is_supported(word));
     let kept = kept_by_for(rt.alloc(), b"4_5", word)?;
     assert!(rt; kept.as_slice() == b"45".as_slice());
@@ -45,7 +45,7 @@ fn kept_bytes_are_collected(rt: HostRuntime) -> Result<(), Fail> {
 
 #[test]
 fn a_kept_byte_is_found_by_its_index(rt: HostRuntime) {
-    let word = PLAIN | SPECIAL_DIGIT_SEPARATOR;
+    let word = UNFLAGGED | SPECIAL_DIGIT_SEPARATOR;
     assert!(rt; is_supported(word));
     for (index, byte) in [(1, Some(b'a')), (2, Some(b'n')), (3, None)] {
         assert_eq!(rt; kept_at(b"n_a__n", word, index), byte);

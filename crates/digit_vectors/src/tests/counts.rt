@@ -3,7 +3,7 @@
 use super::steps::Part::{Exponent, Fraction, Integer, Special, Whole};
 use super::steps::Step::{Count, Cursor, Increment, MoveTo, Next, Peek, SkipZeros, StepBy};
 use super::steps::{assert_goes, assert_part, assert_steps, assert_turns};
-use super::{CONSECUTIVE, INTERNAL, LEADING, PLAIN, TRAILING, bytes_of};
+use super::{CONSECUTIVE, INTERNAL, LEADING, TRAILING, UNFLAGGED, bytes_of};
 use lexical_digits::iterator::{DigitsIter, Iter, IterBodies};
 use lexical_digits::skip::{Bytes, IntegerDigitsIterator};
 use lexical_format::{
@@ -13,7 +13,7 @@ use lexical_format::{
 use std::process::Abort;
 use std::test::Fail;
 
-const EVERYTHING: u128 = PLAIN | INTERNAL | LEADING | TRAILING | CONSECUTIVE;
+const EVERYTHING: u128 = UNFLAGGED | INTERNAL | LEADING | TRAILING | CONSECUTIVE;
 
 #[test]
 fn next_counts_the_digits_that_it_yields(rt: HostRuntime) {
@@ -42,7 +42,7 @@ fn step(rt: &impl Abort, iter: &mut IntegerDigitsIterator) {
 
 #[test]
 fn a_step_counts_nothing(rt: HostRuntime) {
-    for word in [EVERYTHING, PLAIN | INTERNAL] {
+    for word in [EVERYTHING, UNFLAGGED | INTERNAL] {
         let mut bytes = bytes_of(&rt, b"123_45", word);
         let mut iter = bytes.integer_iter();
         step(&rt, &mut iter);
@@ -66,7 +66,7 @@ fn without_separators_the_cursor_is_the_count(rt: HostRuntime) {
 
 #[test]
 fn each_component_has_a_count_of_its_own(rt: HostRuntime) {
-    let word = PLAIN | INTERNAL | FRACTION_LEADING_DIGIT_SEPARATOR;
+    let word = UNFLAGGED | INTERNAL | FRACTION_LEADING_DIGIT_SEPARATOR;
     let turns = [
         (Integer, Next(Some(b'4'))),
         (Whole, Cursor(1)),
@@ -87,7 +87,7 @@ fn an_iterator_that_makes_no_call_changes_nothing(rt: HostRuntime) {
         (Whole, &[Cursor(1)]),
         (Integer, &[Count(1)]),
     ];
-    let mut bytes = bytes_of(&rt, b"12", PLAIN | INTERNAL);
+    let mut bytes = bytes_of(&rt, b"12", UNFLAGGED | INTERNAL);
     for (part, steps) in turns {
         assert_part(&rt, &mut bytes, part, steps);
     }
@@ -95,7 +95,7 @@ fn an_iterator_that_makes_no_call_changes_nothing(rt: HostRuntime) {
 
 #[test]
 fn zeros_count_where_next_does_not(rt: HostRuntime) {
-    let word = PLAIN | FRACTION_INTERNAL_DIGIT_SEPARATOR;
+    let word = UNFLAGGED | FRACTION_INTERNAL_DIGIT_SEPARATOR;
     let steps = [
         SkipZeros(2),
         Cursor(2),
@@ -124,12 +124,12 @@ fn a_bytes_with_a_separator_sums_the_counts(rt: HostRuntime) {
         (Whole, Count(4)),
         (Whole, Cursor(0)),
     ];
-    assert_turns(&rt, PLAIN | INTERNAL | flags, b"12", &turns);
+    assert_turns(&rt, UNFLAGGED | INTERNAL | flags, b"12", &turns);
 }
 
 #[test]
 fn a_clone_goes_on_from_the_same_state(rt: HostRuntime) -> Result<(), Fail> {
-    let mut bytes = bytes_of(&rt, b"1__2", PLAIN | INTERNAL | CONSECUTIVE);
+    let mut bytes = bytes_of(&rt, b"1__2", UNFLAGGED | INTERNAL | CONSECUTIVE);
     assert_part(&rt, &mut bytes, Integer, &[Next(Some(b'1'))]);
     assert_part(&rt, &mut bytes, Integer, &[Peek(Some(b'2'))]);
     let mut copy: Bytes = bytes.clone()?;

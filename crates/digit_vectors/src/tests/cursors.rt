@@ -1,35 +1,29 @@
-//! Where the cursor stands, and what stands at it.
+//! The cursor, the byte at it, and what a contiguous part allows.
 
 use super::steps::Part::{Integer, Special, Whole};
 use super::steps::Step::{
-    self, Buffer, Count, Cursor, Drains, First, FirstIs, FirstIsCased, FirstIsUncased, IsAtEnd,
-    IsConsumed, IsContiguous, Length, MoveTo, Next, Peek, Rest, SizeHint, StepBy, StepOne,
+    self, Buffer, Count, Cursor, First, FirstIs, FirstIsCased, FirstIsUncased, IsAtEnd, IsConsumed,
+    IsContiguous, Length, MoveTo, Next, Peek, Rest, SizeHint, StepBy, StepOne,
 };
 use super::steps::{ITERATORS, PARTS, assert_goes, assert_part, assert_steps, assert_turns};
-use super::{CONSECUTIVE, INTERNAL, LEADING, PLAIN, TRAILING, bytes_of};
+use super::{CONSECUTIVE, INTERNAL, LEADING, TRAILING, UNFLAGGED, bytes_of};
 use lexical_digits::iterator::Iter;
 use lexical_digits::skip::{
     Bytes, ExponentDigitsIterator, FractionDigitsIterator, IntegerDigitsIterator,
 };
-use lexical_format::{SPECIAL_DIGIT_SEPARATOR, STANDARD};
+use lexical_format::{
+    FRACTION_INTERNAL_DIGIT_SEPARATOR, SPECIAL_DIGIT_SEPARATOR, STANDARD, is_supported,
+};
 use std::process::Abort;
 
 #[test]
 fn an_empty_buffer_has_no_byte(rt: HostRuntime) {
-    let word = PLAIN | INTERNAL | LEADING | TRAILING | CONSECUTIVE;
+    let word = UNFLAGGED | INTERNAL | LEADING | TRAILING | CONSECUTIVE;
     let steps = [Peek(None), Next(None), IsConsumed(true)];
     assert_goes(&rt, word, b"", Integer, &steps);
 }
 
-#[test]
-fn a_run_is_judged_whole_from_within_it(rt: HostRuntime) {
-    let turns = [(Whole, MoveTo(2)), (Integer, Drains(b"2", 1))];
-    assert_turns(&rt, PLAIN | INTERNAL | CONSECUTIVE, b"1__2", &turns);
-    let turns = [(Whole, MoveTo(2)), (Integer, Drains(b"_2", 1))];
-    assert_turns(&rt, PLAIN | INTERNAL, b"1__2", &turns);
-}
-
-/// Makes these calls on an iterator that the `new` of its type makes.
+/// Makes these calls on an iterator that `new` of its type makes.
 fn assert_new_integer(rt: &impl Abort, bytes: &mut Bytes, steps: &[Step]) {
     assert_steps(rt, &mut IntegerDigitsIterator::new(bytes), steps);
 }
@@ -44,7 +38,7 @@ fn assert_new_exponent(rt: &impl Abort, bytes: &mut Bytes, steps: &[Step]) {
 
 #[test]
 fn the_iterators_of_one_buffer_share_its_cursor(rt: HostRuntime) {
-    let mut bytes = bytes_of(&rt, b"1_.2", PLAIN | TRAILING | SPECIAL_DIGIT_SEPARATOR);
+    let mut bytes = bytes_of(&rt, b"1_.2", UNFLAGGED | TRAILING | SPECIAL_DIGIT_SEPARATOR);
     let steps = [Next(Some(b'1')), Peek(Some(b'.')), Cursor(2)];
     assert_new_integer(&rt, &mut bytes, &steps);
     assert_part(&rt, &mut bytes, Special, &[Next(Some(b'.')), Cursor(3)]);
@@ -54,7 +48,7 @@ fn the_iterators_of_one_buffer_share_its_cursor(rt: HostRuntime) {
 
 #[test]
 fn first_passes_nothing_over(rt: HostRuntime) {
-    for word in [PLAIN | INTERNAL, PLAIN | LEADING] {
+    for word in [UNFLAGGED | INTERNAL, UNFLAGGED | LEADING] {
         let steps = [First(Some(b'_')), Rest(b"_5"), IsAtEnd(false), Cursor(0)];
         assert_goes(&rt, word, b"_5", Integer, &steps);
     }
@@ -69,7 +63,7 @@ fn first_is_told_with_and_without_case(rt: HostRuntime) {
         First(None),
         FirstIs(b'a', true, false),
     ];
-    assert_goes(&rt, PLAIN | INTERNAL, b"a", Integer, &steps);
+    assert_goes(&rt, UNFLAGGED | INTERNAL, b"a", Integer, &steps);
 }
 
 #[test]
@@ -81,7 +75,7 @@ fn only_is_consumed_passes_a_dropped_end(rt: HostRuntime) {
         IsAtEnd(true),
         Cursor(2),
     ];
-    assert_goes(&rt, PLAIN | TRAILING, b"4_", Integer, &steps);
+    assert_goes(&rt, UNFLAGGED | TRAILING, b"4_", Integer, &steps);
 }
 
 #[test]
@@ -96,7 +90,7 @@ fn a_separator_may_be_a_sign(rt: HostRuntime) {
     }
 }
 
-/// Each call of a cursor once that needs no more than its trait, over `12aB` from the cursor 0.
+/// Each call that every part has, once, over `12aB` from the cursor 0.
 const CURSOR_CALLS: [Step; 14] = [
     Buffer(b"12aB"),
     Rest(b"12aB"),
@@ -117,7 +111,7 @@ const CURSOR_CALLS: [Step; 14] = [
 #[test]
 fn every_part_has_the_calls_of_a_cursor(rt: HostRuntime) {
     for part in PARTS {
-        assert_goes(&rt, PLAIN | INTERNAL, b"12aB", part, &CURSOR_CALLS);
+        assert_goes(&rt, UNFLAGGED | INTERNAL, b"12aB", part, &CURSOR_CALLS);
     }
 }
 
@@ -138,10 +132,42 @@ fn every_contiguous_part_steps_over_any_bytes(rt: HostRuntime) {
     }
 }
 
+/// Whether a `Bytes` and its integer iterator are contiguous, by the word of the table in RULES.md.
+const CONTIGUOUS: [(u128, bool, bool); 5] = [
+    (STANDARD, true, true),
+    (UNFLAGGED | INTERNAL, false, false),
+    (UNFLAGGED | FRACTION_INTERNAL_DIGIT_SEPARATOR, false, true),
+    (UNFLAGGED | CONSECUTIVE, false, false),
+    (
+        STANDARD | INTERNAL | LEADING | TRAILING | CONSECUTIVE,
+        true,
+        false,
+    ),
+];
+
+/// The first word of which a `Bytes` or its integer iterator answers otherwise.
+fn wrong_contiguity() -> Option<u128> {
+    for (word, whole, integer) in CONTIGUOUS {
+        if !is_supported(word) {
+            return Some(word);
+        }
+        let mut bytes = Bytes::new(b"1_2", word);
+        if bytes.is_contiguous() != whole || bytes.integer_iter().is_contiguous() != integer {
+            return Some(word);
+        }
+    }
+    None
+}
+
+#[test]
+fn a_bytes_and_its_iterator_can_differ_in_being_contiguous(rt: HostRuntime) {
+    assert_eq!(rt; wrong_contiguity(), None);
+}
+
 #[test]
 fn a_size_hint_foretells_nothing(rt: HostRuntime) {
     for part in ITERATORS {
         let steps = [SizeHint((0, None))];
-        assert_goes(&rt, PLAIN | INTERNAL, b"1_2", part, &steps);
+        assert_goes(&rt, UNFLAGGED | INTERNAL, b"1_2", part, &steps);
     }
 }

@@ -1,15 +1,16 @@
 //! The laws, each called once, with what it answers and leaves.
 
 use super::steps::{Part, Step, assert_part};
-use super::{CONSECUTIVE, INTERNAL, LEADING, PLAIN, TRAILING, bytes_of};
+use super::{CONSECUTIVE, INTERNAL, LEADING, TRAILING, UNFLAGGED, bytes_of};
 use crate::slow::is_kept;
 use lexical_digits::iterator::DigitsIter;
+use lexical_digits::laws::equality::{same_class, same_component, same_rule, same_run, same_sight};
 use lexical_digits::laws::{
     Component, digits_agree, drain_counts, grants_monotone, items_are_drain, items_unroll,
     next_after_peek, own_count_only, peek_settles, read_if_none, special_drops_all,
     ungranted_keeps_all, zeros_unroll,
 };
-use lexical_digits::skip::{Bytes, Rule};
+use lexical_digits::skip::{Bytes, Class, Rule, Run, Sight};
 use lexical_format::{
     EXPONENT_INTERNAL_DIGIT_SEPARATOR, FRACTION_INTERNAL_DIGIT_SEPARATOR, SPECIAL_DIGIT_SEPARATOR,
 };
@@ -21,13 +22,13 @@ pub fn is_settled<'a, D: DigitsIter<'a>>(iter: &mut D, byte: u8) -> bool {
     first.copied() == Some(byte) && second.copied() == Some(byte)
 }
 
-/// The peek and the `next` behind it find this byte.
+/// The peek and the `next` after it find this byte.
 pub fn is_next_as_peeked<'a, D: DigitsIter<'a>>(iter: &mut D, byte: u8) -> bool {
     let (peeked, next) = next_after_peek(iter);
     peeked.copied() == Some(byte) && next.copied() == Some(byte)
 }
 
-/// A test that asks for this byte reads so, and if it read none then the peek behind it finds so.
+/// `read_if` with a test for this byte reads `read`, and the peek after a `None` finds `peeked`.
 fn is_read_if<'a, D: DigitsIter<'a>>(
     iter: &mut D,
     value: u8,
@@ -66,7 +67,7 @@ fn the_laws_hold_for_every_iterator(rt: HostRuntime) {
         Component::Exponent,
         Component::Special,
     ] {
-        let mut bytes = bytes_of(&rt, b"1x2", PLAIN | INTERNAL);
+        let mut bytes = bytes_of(&rt, b"1x2", UNFLAGGED | INTERNAL);
         assert_laws_of(&rt, &mut bytes, component);
     }
 }
@@ -81,7 +82,7 @@ fn assert_left(rt: &impl Abort, bytes: &mut Bytes, cursor: usize, counts: [usize
 }
 
 /// Internal separators of each component are dropped, so that each answers a count of its own.
-const EACH: u128 = PLAIN
+const EACH: u128 = UNFLAGGED
     | INTERNAL
     | FRACTION_INTERNAL_DIGIT_SEPARATOR
     | EXPONENT_INTERNAL_DIGIT_SEPARATOR;
@@ -101,7 +102,7 @@ fn a_drain_counts_its_digits(rt: HostRuntime) {
 
 #[test]
 fn a_drain_with_nothing_granted_keeps_every_byte(rt: HostRuntime) {
-    let mut bytes = bytes_of(&rt, b"1__2", PLAIN | CONSECUTIVE);
+    let mut bytes = bytes_of(&rt, b"1__2", UNFLAGGED | CONSECUTIVE);
     assert_eq!(rt; ungranted_keeps_all(&mut bytes, Component::Integer), 4);
     assert_part(&rt, &mut bytes, Part::Whole, &[Step::Cursor(4)]);
     assert_part(&rt, &mut bytes, Part::Integer, &[Step::Count(2)]);
@@ -130,8 +131,8 @@ fn the_calls_of_an_iterator_change_its_own_count(rt: HostRuntime) {
 
 #[test]
 fn digits_are_the_same_for_all_flags(rt: HostRuntime) {
-    let some = PLAIN | LEADING;
-    let other = PLAIN | INTERNAL | TRAILING | CONSECUTIVE;
+    let some = UNFLAGGED | LEADING;
+    let other = UNFLAGGED | INTERNAL | TRAILING | CONSECUTIVE;
     digits_agree(b"_4_5__6_", some, other, Component::Integer, 0, 0);
     for word in [some, other] {
         let mut bytes = bytes_of(&rt, b"_4_5__6_", word);
@@ -142,7 +143,7 @@ fn digits_are_the_same_for_all_flags(rt: HostRuntime) {
 
 #[test]
 fn more_flags_drop_at_least_as_much(rt: HostRuntime) {
-    let some = PLAIN | LEADING;
+    let some = UNFLAGGED | LEADING;
     let more = some | CONSECUTIVE;
     let all = more | INTERNAL | TRAILING;
     for position in 0..4 {
@@ -159,4 +160,70 @@ fn more_flags_drop_at_least_as_much(rt: HostRuntime) {
 #[test]
 fn the_items_of_each_iterator_are_its_drain(_rt: HostRuntime) {
     items_are_drain();
+}
+
+/// Whether a rule equals itself, and no rule that differs in one part.
+fn rules_are_told_apart(rule: Rule) -> bool {
+    same_rule(rule, rule)
+        && !same_rule(
+            rule,
+            Rule {
+                separator: b'-',
+                ..rule
+            },
+        )
+        && !same_rule(rule, Rule { radix: 16, ..rule })
+        && !same_rule(
+            rule,
+            Rule {
+                internal: !rule.internal,
+                ..rule
+            },
+        )
+        && !same_rule(
+            rule,
+            Rule {
+                leading: !rule.leading,
+                ..rule
+            },
+        )
+        && !same_rule(
+            rule,
+            Rule {
+                trailing: !rule.trailing,
+                ..rule
+            },
+        )
+        && !same_rule(
+            rule,
+            Rule {
+                consecutive: !rule.consecutive,
+                ..rule
+            },
+        )
+}
+
+/// The same of runs, sights, components and classes.
+fn small_values_are_told_apart(run: Run, sight: Sight) -> bool {
+    same_run(run, run)
+        && !same_run(run, Run { from: 0, ..run })
+        && !same_run(run, Run { to: 9, ..run })
+        && same_sight(sight, sight)
+        && !same_sight(sight, Sight { place: 0, ..sight })
+        && !same_sight(sight, Sight { run: None, ..sight })
+        && same_component(Component::Integer, Component::Integer)
+        && !same_component(Component::Integer, Component::Special)
+        && same_class(Class::Other, Class::Other)
+        && !same_class(Class::Other, Class::Digit)
+}
+
+#[test]
+fn equal_values_have_equal_parts(rt: HostRuntime) {
+    assert!(rt; rules_are_told_apart(Rule::of(UNFLAGGED | INTERNAL, Component::Integer)));
+    let run = Run { from: 1, to: 3 };
+    let sight = Sight {
+        place: 3,
+        run: Some(run),
+    };
+    assert!(rt; small_values_are_told_apart(run, sight));
 }

@@ -1,13 +1,17 @@
 //! Literals, and runs of digits, read from every kind of iterator.
 
-use self::Reading::{Reads, Skips};
+use self::Reading::{Reads, Takes};
 use super::steps::Step::{Count, Cursor, MoveTo};
 use super::steps::{Part, assert_part, assert_steps};
-use super::{INTERNAL, LEADING, PLAIN, TRAILING, bytes_of, move_to};
-use crate::literals::{pass_places, pass_whole, read_whole};
+use super::{INTERNAL, LEADING, TRAILING, UNFLAGGED, bytes_of, move_to};
 use crate::spaced::Spaced;
-use digit_literals::{LiteralError, read_digits, read_integer, skip_digits};
+use digit_literals::equality::{same_digits, same_literal_error, same_parse_error, same_too_large};
+use digit_literals::{
+    Digits, LiteralError, ParseError, TooLarge, pass_digits, read_digits, read_digits_of,
+    read_integer, take_digits,
+};
 use lexical_digits::iterator::DigitsIter;
+use lexical_digits::skip::Bytes;
 use lexical_digits::skip::Component::{self, Exponent, Fraction, Integer, Special};
 use lexical_format::{
     EXPONENT_INTERNAL_DIGIT_SEPARATOR, FRACTION_INTERNAL_DIGIT_SEPARATOR, SPECIAL_DIGIT_SEPARATOR,
@@ -32,15 +36,15 @@ fn assert_integer(
 enum Reading {
     /// `read_digits` answers this value, or that cause.
     Reads(Result<u64, LiteralError>),
-    /// `skip_digits` skips so many.
-    Skips(usize),
+    /// `take_digits` takes this many.
+    Takes(usize),
 }
 
 /// Makes the call: whether it answers so.
 fn is_reading<'a, D: DigitsIter<'a>>(iter: &mut D, reading: Reading) -> bool {
     match reading {
         Reads(read) => read_digits(iter, 10) == read,
-        Skips(digits) => skip_digits(iter) == digits,
+        Takes(digits) => take_digits(iter) == digits,
     }
 }
 
@@ -77,9 +81,9 @@ fn assert_digits_of(
 
 #[test]
 fn an_integer_ends_at_the_first_kept_byte_that_is_no_digit(rt: HostRuntime) {
-    assert_integer(&rt, PLAIN | INTERNAL, b"1_000", Ok((1000, 5)));
-    assert_integer(&rt, PLAIN | LEADING, b"_12", Ok((12, 3)));
-    assert_integer(&rt, STANDARD, b"12x", Ok((12, 2)));
+    assert_integer(&rt, UNFLAGGED | INTERNAL, b"1_000", Ok((1000, 5)));
+    assert_integer(&rt, UNFLAGGED | LEADING, b"_12", Ok((12, 3)));
+    assert_integer(&rt, UNFLAGGED, b"12x", Ok((12, 2)));
     let word = (16 << 104) | (0x5f << 64) | TRAILING;
     assert_integer(&rt, word, b"ff_", Ok((255, 3)));
     assert_integer(&rt, 36 << 104, b"zz", Ok((1295, 2)));
@@ -87,9 +91,14 @@ fn an_integer_ends_at_the_first_kept_byte_that_is_no_digit(rt: HostRuntime) {
 
 #[test]
 fn an_integer_without_digits_is_empty_where_it_ends(rt: HostRuntime) {
-    assert_integer(&rt, PLAIN | INTERNAL, b"_1", Err(LiteralError::Empty(0)));
-    assert_integer(&rt, PLAIN | LEADING, b"_", Err(LiteralError::Empty(1)));
-    assert_integer(&rt, STANDARD, b"", Err(LiteralError::Empty(0)));
+    assert_integer(
+        &rt,
+        UNFLAGGED | INTERNAL,
+        b"_1",
+        Err(LiteralError::Empty(0)),
+    );
+    assert_integer(&rt, UNFLAGGED | LEADING, b"_", Err(LiteralError::Empty(1)));
+    assert_integer(&rt, UNFLAGGED, b"", Err(LiteralError::Empty(0)));
 }
 
 #[test]
@@ -101,7 +110,7 @@ fn the_greatest_value_is_read_and_one_more_is_not(rt: HostRuntime) {
     let parted = b"1844674407370955161_6";
     assert_integer(
         &rt,
-        PLAIN | INTERNAL,
+        UNFLAGGED | INTERNAL,
         parted,
         Err(LiteralError::Overflow(20)),
     );
@@ -109,7 +118,7 @@ fn the_greatest_value_is_read_and_one_more_is_not(rt: HostRuntime) {
 
 #[test]
 fn digits_are_read_from_each_iterator(rt: HostRuntime) {
-    let word = PLAIN
+    let word = UNFLAGGED
         | INTERNAL
         | FRACTION_INTERNAL_DIGIT_SEPARATOR
         | EXPONENT_INTERNAL_DIGIT_SEPARATOR
@@ -123,14 +132,14 @@ fn digits_are_read_from_each_iterator(rt: HostRuntime) {
 }
 
 #[test]
-fn the_cursor_stands_behind_separators_that_were_passed_over(rt: HostRuntime) {
+fn the_cursor_is_past_the_separators_that_were_dropped(rt: HostRuntime) {
     let read = Reads(Ok(12));
-    assert_digits_of(&rt, PLAIN | TRAILING, b"12_x", Integer, read, 3, 2);
+    assert_digits_of(&rt, UNFLAGGED | TRAILING, b"12_x", Integer, read, 3, 2);
     let read = Reads(Err(LiteralError::Empty(1)));
-    assert_digits_of(&rt, PLAIN | TRAILING, b"_x", Integer, read, 1, 0);
+    assert_digits_of(&rt, UNFLAGGED | TRAILING, b"_x", Integer, read, 1, 0);
     let parted = b"1844674407370955161_6";
     let read = Reads(Err(LiteralError::Overflow(20)));
-    assert_digits_of(&rt, PLAIN | INTERNAL, parted, Integer, read, 20, 19);
+    assert_digits_of(&rt, UNFLAGGED | INTERNAL, parted, Integer, read, 20, 19);
 }
 
 #[test]
@@ -145,15 +154,15 @@ fn digits_are_read_from_an_iterator_of_ones_own(rt: HostRuntime) {
     for (text, reading, cursor, count) in [
         (b"1 2x".as_slice(), Reads(Ok(12)), 3, 2),
         (b"  ".as_slice(), none, 2, 0),
-        (b"1 2x".as_slice(), Skips(2), 3, 2),
+        (b"1 2x".as_slice(), Takes(2), 3, 2),
     ] {
         assert_digits(&rt, &mut Spaced::new(text), reading, cursor, count);
     }
 }
 
 #[test]
-fn digits_are_skipped_on_each_iterator(rt: HostRuntime) {
-    let word = PLAIN
+fn digits_are_taken_on_each_iterator(rt: HostRuntime) {
+    let word = UNFLAGGED
         | TRAILING
         | FRACTION_INTERNAL_DIGIT_SEPARATOR
         | EXPONENT_INTERNAL_DIGIT_SEPARATOR
@@ -164,32 +173,57 @@ fn digits_are_skipped_on_each_iterator(rt: HostRuntime) {
         (b"1_2_x".as_slice(), Exponent, 3, 2),
         (b"1_2_x".as_slice(), Special, 4, 0),
     ] {
-        assert_digits_of(&rt, word, text, component, Skips(2), cursor, count);
+        assert_digits_of(&rt, word, text, component, Takes(2), cursor, count);
     }
     assert!(rt; is_supported(STANDARD));
     let mut plain = noskip::Bytes::new(b"x12", STANDARD);
-    assert_digits(&rt, &mut plain.integer_iter(), Skips(0), 0, 0);
+    assert_digits(&rt, &mut plain.integer_iter(), Takes(0), 0, 0);
     move_to(&rt, &mut plain, 1);
-    assert_digits(&rt, &mut plain.fraction_iter(), Skips(2), 3, 3);
+    assert_digits(&rt, &mut plain.fraction_iter(), Takes(2), 3, 3);
 }
 
 #[test]
-fn parts_of_a_number_are_read_one_after_another(rt: HostRuntime) {
-    let word = PLAIN | INTERNAL | FRACTION_INTERNAL_DIGIT_SEPARATOR;
+fn components_are_passed_one_after_another(rt: HostRuntime) {
+    let word = UNFLAGGED | INTERNAL | FRACTION_INTERNAL_DIGIT_SEPARATOR;
     let mut bytes = bytes_of(&rt, b"1_2.5_0e", word);
-    assert_eq!(rt; read_whole(&mut bytes, 10), Ok(12));
+    assert_eq!(rt; pass_digits(&mut bytes, Integer), 2);
     assert_part(&rt, &mut bytes, Part::Whole, &[Cursor(3), MoveTo(4)]);
-    assert_eq!(rt; pass_places(&mut bytes), 2);
+    assert_eq!(rt; pass_digits(&mut bytes, Fraction), 2);
     assert_part(&rt, &mut bytes, Part::Whole, &[Cursor(7)]);
-    let mut bytes = bytes_of(&rt, b"1_2.5_0e", word);
-    assert_eq!(rt; pass_whole(&mut bytes), 3);
+}
+
+/// Reads the integer's digits after a value: whether this comes of it.
+fn is_read_of(bytes: &mut Bytes, before: u64, read: Result<Digits, TooLarge>) -> bool {
+    read_digits_of(bytes, Integer, before) == read
+}
+
+#[test]
+fn digits_are_read_after_a_value(rt: HostRuntime) {
+    let word = UNFLAGGED | INTERNAL;
+    let mut bytes = bytes_of(&rt, b"12_5.", word);
+    assert!(rt;
+        is_read_of(
+            &mut bytes,
+            4,
+            Ok(Digits {
+                value: 4125,
+                count: 3
+            })
+        )
+    );
+    assert!(rt; is_read_of(&mut bytes, 7, Ok(Digits { value: 7, count: 0 })));
+    let mut bytes = bytes_of(&rt, b"0", word);
+    assert!(rt; is_read_of(&mut bytes, u64::MAX, Err(TooLarge { at: 0 })));
 }
 
 #[test]
 fn causes_are_told_apart(rt: HostRuntime) {
     let empty = LiteralError::Empty(3);
-    let copied = empty;
-    assert_eq!(rt; empty, copied);
-    assert_ne!(rt; empty, LiteralError::Overflow(3));
-    assert_ne!(rt; empty, LiteralError::Empty(4));
+    assert!(rt; same_literal_error(empty, LiteralError::Empty(3)));
+    assert!(rt; !same_literal_error(empty, LiteralError::Overflow(3)));
+    assert!(rt; !same_literal_error(empty, LiteralError::Empty(4)));
+    assert!(rt; !same_parse_error(ParseError::Empty(3), ParseError::Invalid(3)));
+    let digits = Digits { value: 1, count: 1 };
+    assert!(rt; same_digits(digits, digits) && !same_digits(digits, Digits { count: 2, ..digits }));
+    assert!(rt; !same_too_large(TooLarge { at: 1 }, TooLarge { at: 2 }));
 }

@@ -3,14 +3,14 @@
 use super::steps::Part::Whole;
 use super::steps::Step::{Cursor, Peek};
 use super::steps::{assert_part, assert_steps};
-use super::{INTERNAL, PLAIN, TRAILING, bytes_of};
+use super::{INTERNAL, TRAILING, UNFLAGGED, bytes_of};
 use crate::example::{first_kept, next_digit, pass_sign};
 use lexical_format::is_supported;
 use std::process::Abort;
 
 /// The second byte that is kept, which outlives the iterator and the `Bytes`.
 fn second_kept<'a>(rt: &impl Abort, text: &'a [u8]) -> Option<&'a u8> {
-    let mut bytes = bytes_of(rt, text, PLAIN | INTERNAL);
+    let mut bytes = bytes_of(rt, text, UNFLAGGED | INTERNAL);
     let mut iter = bytes.integer_iter();
     let _first = iter.next();
     iter.next()
@@ -25,7 +25,7 @@ fn a_byte_outlives_its_iterator_and_its_buffer(rt: HostRuntime) {
 
 #[test]
 fn iterators_borrow_one_buffer_in_turn(rt: HostRuntime) {
-    let mut bytes = bytes_of(&rt, b"1_.25", PLAIN | TRAILING);
+    let mut bytes = bytes_of(&rt, b"1_.25", UNFLAGGED | TRAILING);
     let one = {
         let mut integer = bytes.integer_iter();
         integer.next()
@@ -42,14 +42,14 @@ fn iterators_borrow_one_buffer_in_turn(rt: HostRuntime) {
 
 #[test]
 fn a_caller_reads_a_signed_number(rt: HostRuntime) {
-    let mut bytes = bytes_of(&rt, b"-1_2x", PLAIN | INTERNAL);
+    let mut bytes = bytes_of(&rt, b"-1_2x", UNFLAGGED | INTERNAL);
     assert!(rt; pass_sign(&mut bytes));
     assert!(rt; !pass_sign(&mut bytes));
     for digit in [Some(b'1'), Some(b'2'), None] {
         assert_eq!(rt; next_digit(&mut bytes), digit);
     }
     assert_part(&rt, &mut bytes, Whole, &[Cursor(4)]);
-    let word = PLAIN | INTERNAL;
+    let word = UNFLAGGED | INTERNAL;
     assert!(rt; is_supported(word));
     assert_eq!(rt; first_kept(b"4_5", word).copied(), Some(b'4'));
 }

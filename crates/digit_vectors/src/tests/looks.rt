@@ -3,7 +3,7 @@
 use super::steps::Part::{Fraction, Integer, Whole};
 use super::steps::Step::{Cursor, Drains, Increment, MoveTo, Next, Peek};
 use super::steps::{assert_goes, assert_part, assert_turns};
-use super::{CONSECUTIVE, INTERNAL, LEADING, PLAIN, bytes_of};
+use super::{CONSECUTIVE, INTERNAL, LEADING, UNFLAGGED, bytes_of};
 use lexical_digits::skip::Bytes;
 use lexical_format::{FRACTION_CONSECUTIVE_DIGIT_SEPARATOR, FRACTION_LEADING_DIGIT_SEPARATOR};
 use std::alloc::{AllocError, Global};
@@ -35,7 +35,7 @@ fn assert_looks(rt: &impl Abort, bytes: &Bytes, least: u64, most: u64) {
 #[test]
 fn a_run_that_is_kept_is_scanned_once(rt: HostRuntime) -> Result<(), Fail> {
     let text = separators_between(rt.alloc(), b'1', 1_000, b'.')?;
-    let mut bytes = bytes_of(&rt, &text, PLAIN | INTERNAL | CONSECUTIVE);
+    let mut bytes = bytes_of(&rt, &text, UNFLAGGED | INTERNAL | CONSECUTIVE);
     assert_part(&rt, &mut bytes, Integer, &[Drains(&text, 1)]);
     assert_looks(&rt, &bytes, 2_002, 7_018);
     assert_part(&rt, &mut bytes, Whole, &[MoveTo(0)]);
@@ -47,7 +47,7 @@ fn a_run_that_is_kept_is_scanned_once(rt: HostRuntime) -> Result<(), Fail> {
 #[test]
 fn a_long_run_is_dropped_by_one_scan(rt: HostRuntime) -> Result<(), Fail> {
     let text = separators_between(rt.alloc(), b'1', 100_000, b'2')?;
-    let mut bytes = bytes_of(&rt, &text, PLAIN | INTERNAL | CONSECUTIVE);
+    let mut bytes = bytes_of(&rt, &text, UNFLAGGED | INTERNAL | CONSECUTIVE);
     let steps = [Drains(b"12", 2), Cursor(100_002)];
     assert_part(&rt, &mut bytes, Integer, &steps);
     assert_looks(&rt, &bytes, 0, 300_018);
@@ -59,7 +59,7 @@ fn without_consecutive_a_long_run_loses_its_last_separator(rt: HostRuntime) -> R
     let text = separators_between(rt.alloc(), b'1', 100_000, b'2')?;
     let kept = separators_between(rt.alloc(), b'1', 99_999, b'2')?;
     let steps = [Drains(&kept, 2)];
-    assert_goes(&rt, PLAIN | INTERNAL, &text, Integer, &steps);
+    assert_goes(&rt, UNFLAGGED | INTERNAL, &text, Integer, &steps);
     Ok(())
 }
 
@@ -67,9 +67,15 @@ fn without_consecutive_a_long_run_loses_its_last_separator(rt: HostRuntime) -> R
 fn separators_alone_lead_only_as_a_run(rt: HostRuntime) -> Result<(), Fail> {
     let text = separators_between(rt.alloc(), b'_', 99_998, b'_')?;
     let steps = [Drains(&text, 0)];
-    assert_goes(&rt, PLAIN | LEADING, &text, Integer, &steps);
+    assert_goes(&rt, UNFLAGGED | LEADING, &text, Integer, &steps);
     let steps = [Drains(b"", 0), Cursor(100_000)];
-    assert_goes(&rt, PLAIN | LEADING | CONSECUTIVE, &text, Integer, &steps);
+    assert_goes(
+        &rt,
+        UNFLAGGED | LEADING | CONSECUTIVE,
+        &text,
+        Integer,
+        &steps,
+    );
     Ok(())
 }
 
@@ -83,7 +89,7 @@ fn a_run_is_judged_for_each_component(rt: HostRuntime) {
         (Integer, Peek(Some(b'2'))),
         (Whole, Cursor(3)),
     ];
-    let word = PLAIN | INTERNAL | CONSECUTIVE | flags;
+    let word = UNFLAGGED | INTERNAL | CONSECUTIVE | flags;
     assert_turns(&rt, word, b"1__2", &turns);
 }
 
@@ -97,7 +103,7 @@ fn a_run_is_judged_anew_when_the_count_has_risen(rt: HostRuntime) {
         Peek(Some(b'2')),
         Cursor(3),
     ];
-    let word = PLAIN | INTERNAL | CONSECUTIVE;
+    let word = UNFLAGGED | INTERNAL | CONSECUTIVE;
     assert_goes(&rt, word, b".__2", Integer, &steps);
 }
 
@@ -111,6 +117,6 @@ fn a_run_says_nothing_of_another(rt: HostRuntime) {
         Peek(Some(b'_')),
         Cursor(5),
     ];
-    let word = PLAIN | INTERNAL | CONSECUTIVE;
+    let word = UNFLAGGED | INTERNAL | CONSECUTIVE;
     assert_goes(&rt, word, b"1__2.__3", Integer, &steps);
 }

@@ -15,7 +15,7 @@ use lexical_format::{
 use lexical_plain::noskip::{AsBytes, Bytes, DigitsIterator};
 use std::process::Abort;
 
-/// Radix 10 with the separator `_`, dropped wherever it stands in an integer.
+/// Radix 10 with the separator `_`, which an integer always drops.
 const ALL_INTEGER_SEPARATORS: u128 = (10 << 104)
     + (0x5f << 64)
     + INTEGER_INTERNAL_DIGIT_SEPARATOR

@@ -10,26 +10,43 @@ use lexical_plain::noskip::{Bytes, DigitsIterator};
 use lexical_plain::rows;
 use std::process::Abort;
 
-/// The rows of a cursor over `a2345678`, each of which answers for the `Bytes` and its iterator:
-/// whether both answer so.
-fn cursor_rows(bytes: &mut Bytes) -> [bool; 13] {
+/// The rows of a `Bytes` over `a2345678`: whether each answers so.
+fn bytes_rows(bytes: &Bytes) -> [bool; 13] {
     let all = b"a2345678".as_slice();
-    let four = Some(0x3433_3261);
-    let eight = Some(0x3837_3635_3433_3261);
     [
-        rows::as_slice(bytes) == (all, all),
-        rows::get_buffer(bytes) == (all, all),
-        rows::buffer_length(bytes) == (8, 8),
-        rows::is_buffer_empty(bytes) == (false, false),
-        rows::cursor(bytes) == (0, 0),
-        rows::current_count(bytes) == (0, 0),
-        rows::is_contiguous(bytes) == (true, true),
-        rows::first(bytes) == (Some(b'a'), Some(b'a')),
-        rows::first_is_cased(bytes, b'A') == (false, false),
-        rows::first_is_uncased(bytes, b'A') == (true, true),
-        rows::first_is(bytes, b'A', true) == (false, false),
-        rows::peek_u32(bytes) == (four, four),
-        rows::peek_u64(bytes) == (eight, eight),
+        rows::bytes::as_slice(bytes) == all,
+        rows::bytes::get_buffer(bytes) == all,
+        rows::bytes::buffer_length(bytes) == 8,
+        !rows::bytes::is_buffer_empty(bytes),
+        rows::bytes::cursor(bytes) == 0,
+        rows::bytes::current_count(bytes) == 0,
+        rows::bytes::is_contiguous(bytes),
+        rows::bytes::first(bytes) == Some(b'a'),
+        !rows::bytes::first_is_cased(bytes, b'A'),
+        rows::bytes::first_is_uncased(bytes, b'A'),
+        !rows::bytes::first_is(bytes, b'A', true),
+        rows::bytes::peek_u32(bytes) == Some(0x3433_3261),
+        rows::bytes::peek_u64(bytes) == Some(0x3837_3635_3433_3261),
+    ]
+}
+
+/// The same rows of an iterator.
+fn digits_rows(iter: &DigitsIterator) -> [bool; 13] {
+    let all = b"a2345678".as_slice();
+    [
+        rows::digits::as_slice(iter) == all,
+        rows::digits::get_buffer(iter) == all,
+        rows::digits::buffer_length(iter) == 8,
+        !rows::digits::is_buffer_empty(iter),
+        rows::digits::cursor(iter) == 0,
+        rows::digits::current_count(iter) == 0,
+        rows::digits::is_contiguous(iter),
+        rows::digits::first(iter) == Some(b'a'),
+        !rows::digits::first_is_cased(iter, b'A'),
+        rows::digits::first_is_uncased(iter, b'A'),
+        !rows::digits::first_is(iter, b'A', true),
+        rows::digits::peek_u32(iter) == Some(0x3433_3261),
+        rows::digits::peek_u64(iter) == Some(0x3837_3635_3433_3261),
     ]
 }
 
@@ -43,74 +60,78 @@ fn assert_rows(rt: &impl Abort, rows: &[bool]) {
 #[test]
 fn a_bytes_and_its_iterator_answer_alike(rt: HostRuntime) {
     let mut bytes = plain_bytes(&rt, b"a2345678");
-    assert_rows(&rt, &cursor_rows(&mut bytes));
+    assert_rows(&rt, &bytes_rows(&bytes));
+    assert_rows(&rt, &digits_rows(&DigitsIterator { byte: &mut bytes }));
 }
 
 /// Moves to 1, 2 and 3 on a `Bytes`.
 fn move_on_bytes(rt: &impl Abort, bytes: &mut Bytes) {
     assert!(rt; bytes.buffer_length() == 3);
-    rows::set_cursor(bytes, 1);
-    rows::step_by_unchecked(bytes, 1);
-    rows::step_unchecked(bytes);
+    rows::bytes::set_cursor(bytes, 1);
+    rows::bytes::step_by_unchecked(bytes, 1);
+    rows::bytes::step_unchecked(bytes);
 }
 
 /// Moves to 1, 2 and 3 on an iterator.
-fn move_on_digits(rt: &impl Abort, bytes: &mut Bytes) {
-    assert!(rt; bytes.buffer_length() == 3);
-    rows::set_cursor_on_digits(bytes, 1);
-    assert!(rt; bytes.cursor() + 1 <= bytes.buffer_length());
-    rows::step_by_unchecked_on_digits(bytes, 1);
-    assert!(rt; bytes.cursor() + 1 <= bytes.buffer_length());
-    rows::step_unchecked_on_digits(bytes);
+fn move_on_digits(rt: &impl Abort, iter: &mut DigitsIterator) {
+    assert!(rt; iter.buffer_length() == 3);
+    rows::digits::set_cursor(iter, 1);
+    assert!(rt; iter.cursor() + 1 <= iter.buffer_length());
+    rows::digits::step_by_unchecked(iter, 1);
+    assert!(rt; iter.cursor() + 1 <= iter.buffer_length());
+    rows::digits::step_unchecked(iter);
 }
 
 #[test]
 fn moves_carry_the_count_along(rt: HostRuntime) {
     let mut bytes = plain_bytes(&rt, b"123");
     move_on_bytes(&rt, &mut bytes);
-    assert_eq!(rt; rows::current_count(&mut bytes), (3, 3));
+    assert_eq!(rt; rows::bytes::current_count(&bytes), 3);
     let mut bytes = plain_bytes(&rt, b"123");
-    move_on_digits(&rt, &mut bytes);
-    assert_eq!(rt; rows::is_buffer_empty(&mut bytes), (true, true));
+    let mut iter = DigitsIterator { byte: &mut bytes };
+    move_on_digits(&rt, &mut iter);
+    assert_eq!(rt; rows::digits::current_count(&iter), 3);
+    assert!(rt; rows::digits::is_buffer_empty(&iter));
 }
 
 /// The rows of an iterator over `00_aBcd9`, one after another: whether each answers so.
-fn reading_rows(bytes: &mut Bytes) -> [bool; 8] {
-    let before = !rows::is_consumed(bytes);
-    let zeros = rows::skip_zeros(bytes) == 2;
-    rows::increment_count(bytes);
+fn reading_rows(iter: &mut DigitsIterator) -> [bool; 8] {
+    let before = !rows::digits::is_consumed(iter);
+    let zeros = rows::digits::skip_zeros(iter) == 2;
+    rows::digits::increment_count(iter);
     [
         before,
         zeros,
-        rows::cursor(bytes) == (2, 2),
-        rows::peek(bytes) == Some(b'_'),
-        rows::try_read(bytes) == Some(b'_'),
-        rows::next(bytes) == Some(b'a'),
-        !rows::peek_is_cased(bytes, b'b'),
-        rows::peek_is_uncased(bytes, b'b'),
+        rows::digits::cursor(iter) == 2,
+        rows::digits::peek(iter) == Some(b'_'),
+        rows::digits::try_read(iter) == Some(b'_'),
+        rows::digits::next(iter) == Some(b'a'),
+        !rows::digits::peek_is_cased(iter, b'b'),
+        rows::digits::peek_is_uncased(iter, b'b'),
     ]
 }
 
 /// The rows that follow, from the `B` on.
-fn further_rows(bytes: &mut Bytes) -> [bool; 9] {
+fn further_rows(iter: &mut DigitsIterator) -> [bool; 9] {
     [
-        rows::peek_is(bytes, b'b', false),
-        rows::read_if_never(bytes) == None,
-        rows::read_if_equal(bytes, b'B') == Some(b'B'),
-        rows::read_if_value_cased(bytes, b'c') == Some(b'c'),
-        rows::read_if_value_uncased(bytes, b'D') == Some(b'd'),
-        rows::read_if_value(bytes, b'8', true) == None,
-        rows::is_digit(bytes, b'9'),
-        rows::take_n(bytes, 5) == Some((8, 7)),
-        rows::is_consumed(bytes),
+        rows::digits::peek_is(iter, b'b', false),
+        rows::digits::read_if_never(iter) == None,
+        rows::digits::read_if_equal(iter, b'B') == Some(b'B'),
+        rows::digits::read_if_value_cased(iter, b'c') == Some(b'c'),
+        rows::digits::read_if_value_uncased(iter, b'D') == Some(b'd'),
+        rows::digits::read_if_value(iter, b'8', true) == None,
+        rows::digits::is_digit(iter, b'9'),
+        rows::digits::take_n(iter, 5) == Some((8, 7)),
+        rows::digits::is_consumed(iter),
     ]
 }
 
 #[test]
 fn an_iterator_reads_by_its_rows(rt: HostRuntime) {
     let mut bytes = plain_bytes(&rt, b"00_aBcd9");
-    assert_rows(&rt, &reading_rows(&mut bytes));
-    assert_rows(&rt, &further_rows(&mut bytes));
+    let mut iter = DigitsIterator { byte: &mut bytes };
+    assert_rows(&rt, &reading_rows(&mut iter));
+    assert_rows(&rt, &further_rows(&mut iter));
 }
 
 #[test]

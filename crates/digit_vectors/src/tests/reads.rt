@@ -7,7 +7,7 @@ use super::steps::Step::{
     TryRead,
 };
 use super::steps::{ITERATORS, assert_goes};
-use super::{INTERNAL, LEADING, PLAIN};
+use super::{INTERNAL, LEADING, UNFLAGGED};
 use lexical_format::{
     EXPONENT_INTERNAL_DIGIT_SEPARATOR, FRACTION_INTERNAL_DIGIT_SEPARATOR, SPECIAL_DIGIT_SEPARATOR,
 };
@@ -21,7 +21,7 @@ fn try_read_reads_a_refused_separator_and_counts_nothing(rt: HostRuntime) {
         Cursor(2),
         Count(0),
     ];
-    assert_goes(&rt, PLAIN | INTERNAL, b"_5", Integer, &steps);
+    assert_goes(&rt, UNFLAGGED | INTERNAL, b"_5", Integer, &steps);
 }
 
 #[test]
@@ -35,32 +35,32 @@ fn a_value_is_read_with_and_without_case(rt: HostRuntime) {
         Cursor(2),
         Count(0),
     ];
-    assert_goes(&rt, PLAIN | INTERNAL, b"aB", Integer, &steps);
+    assert_goes(&rt, UNFLAGGED | INTERNAL, b"aB", Integer, &steps);
 }
 
 #[test]
 fn a_test_that_answers_true_is_called_once_and_reads(rt: HostRuntime) {
     let steps = [ReadIf(true, Some(97), Some(b'a')), Cursor(2)];
-    assert_goes(&rt, PLAIN | LEADING, b"_a", Integer, &steps);
+    assert_goes(&rt, UNFLAGGED | LEADING, b"_a", Integer, &steps);
 }
 
 #[test]
 fn a_test_that_answers_false_is_called_once_and_leaves_the_byte(rt: HostRuntime) {
     let steps = [ReadIf(false, Some(97), None), Cursor(1), Peek(Some(b'a'))];
-    assert_goes(&rt, PLAIN | LEADING, b"_a", Integer, &steps);
+    assert_goes(&rt, UNFLAGGED | LEADING, b"_a", Integer, &steps);
 }
 
 #[test]
 fn at_the_end_no_test_is_called(rt: HostRuntime) {
     let steps = [ReadIf(true, None, None), Cursor(1)];
-    assert_goes(&rt, PLAIN | LEADING, b"_", Integer, &steps);
+    assert_goes(&rt, UNFLAGGED | LEADING, b"_", Integer, &steps);
 }
 
 #[test]
 fn zeros_are_read_past_dropped_separators(rt: HostRuntime) {
     let steps = [SkipZeros(2), Cursor(4), Count(2)];
-    assert_goes(&rt, PLAIN | INTERNAL, b"0_0_5", Integer, &steps);
-    let word = PLAIN | SPECIAL_DIGIT_SEPARATOR;
+    assert_goes(&rt, UNFLAGGED | INTERNAL, b"0_0_5", Integer, &steps);
+    let word = UNFLAGGED | SPECIAL_DIGIT_SEPARATOR;
     let steps = [SkipZeros(2), Cursor(3), Count(0)];
     assert_goes(&rt, word, b"0_05", Special, &steps);
 }
@@ -87,7 +87,7 @@ const READS: [Step; 16] = [
 
 #[test]
 fn every_iterator_has_the_calls_of_a_reader(rt: HostRuntime) {
-    let word = PLAIN
+    let word = UNFLAGGED
         | INTERNAL
         | FRACTION_INTERNAL_DIGIT_SEPARATOR
         | EXPONENT_INTERNAL_DIGIT_SEPARATOR

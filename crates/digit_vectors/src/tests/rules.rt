@@ -1,114 +1,286 @@
-//! Which separators are dropped: drains by `next`.
+//! Which separators are dropped, by drains: the tables of the page RULES.md, each value by hand.
 
 use super::steps::Part::{Fraction, Integer, Special, Whole};
 use super::steps::Step::{Count, Cursor, Drains};
-use super::steps::{assert_goes, assert_turns};
-use super::{CONSECUTIVE, INTERNAL, LEADING, PLAIN, TRAILING, assert_kept};
+use super::steps::{assert_goes, assert_turns, is_drain};
+use super::{CONSECUTIVE, INTERNAL, LEADING, TRAILING, UNFLAGGED};
+use lexical_digits::iterator::{DigitsIter, Iter};
+use lexical_digits::skip::Bytes;
+use lexical_format::words::{
+    CXX14_LITERAL, HEXADECIMAL, JAVA_LITERAL, JSON, PYTHON_LITERAL, RUST_BINARY_LITERAL,
+    RUST_HEX_LITERAL, RUST_LITERAL, RUST_OCTAL_LITERAL, TOML,
+};
 use lexical_format::{
     FRACTION_INTERNAL_DIGIT_SEPARATOR, FRACTION_LEADING_DIGIT_SEPARATOR, SPECIAL_DIGIT_SEPARATOR,
+    is_supported,
 };
 
-#[test]
-fn no_flag_drops_nothing(rt: HostRuntime) {
-    assert_kept(&rt, PLAIN, b"1_2", b"1_2", 0);
+/// All four flags of the integer.
+const ALL: u128 = INTERNAL | LEADING | TRAILING | CONSECUTIVE;
+
+/// Whether the drain of the integer of a text, from a cursor and with a count of 0 or 1, yields
+/// these bytes, and the count is this after it.
+fn is_drained(
+    word: u128,
+    text: &[u8],
+    (cursor, count): (usize, usize),
+    kept: &[u8],
+    count_after: usize,
+) -> bool {
+    if !is_supported(word) || cursor > text.len() {
+        return false;
+    }
+    let mut bytes = Bytes::new(text, word);
+    bytes.set_cursor(cursor);
+    let mut iter = bytes.integer_iter();
+    if count > 0 {
+        iter.increment_count();
+    }
+    is_drain(&mut iter, kept, count_after)
+}
+
+/// Eight texts, and the number of digits in each.
+const TEXTS: [(&str, usize); 8] = [
+    ("4_5", 2),
+    ("4__5", 2),
+    ("_45", 2),
+    ("__45", 2),
+    ("45_", 2),
+    ("45__", 2),
+    ("_", 0),
+    ("__", 0),
+];
+
+/// The sixteen states of the flags: what the drain of each text yields.
+const STATES: [(u128, [&str; 8]); 16] = [
+    (0, ["4_5", "4__5", "_45", "__45", "45_", "45__", "_", "__"]),
+    (
+        INTERNAL,
+        ["45", "4_5", "_45", "__45", "45_", "45__", "_", "__"],
+    ),
+    (
+        LEADING,
+        ["4_5", "4__5", "45", "__45", "45_", "45__", "", "__"],
+    ),
+    (
+        TRAILING,
+        ["4_5", "4__5", "_45", "__45", "45", "45_", "", "__"],
+    ),
+    (
+        INTERNAL | LEADING,
+        ["45", "4_5", "45", "__45", "45_", "45__", "", "__"],
+    ),
+    (
+        INTERNAL | TRAILING,
+        ["45", "4_5", "_45", "__45", "45", "45_", "", "__"],
+    ),
+    (
+        LEADING | TRAILING,
+        ["4_5", "4__5", "45", "__45", "45", "45_", "", "__"],
+    ),
+    (
+        INTERNAL | LEADING | TRAILING,
+        ["45", "4_5", "45", "__45", "45", "45_", "", "__"],
+    ),
+    (
+        CONSECUTIVE,
+        ["4_5", "4__5", "_45", "__45", "45_", "45__", "_", "__"],
+    ),
+    (
+        INTERNAL | CONSECUTIVE,
+        ["45", "45", "_45", "__45", "45_", "45__", "_", "__"],
+    ),
+    (
+        LEADING | CONSECUTIVE,
+        ["4_5", "4__5", "45", "45", "45_", "45__", "", ""],
+    ),
+    (
+        TRAILING | CONSECUTIVE,
+        ["4_5", "4__5", "_45", "__45", "45", "45", "", ""],
+    ),
+    (
+        INTERNAL | LEADING | CONSECUTIVE,
+        ["45", "45", "45", "45", "45_", "45__", "", ""],
+    ),
+    (
+        INTERNAL | TRAILING | CONSECUTIVE,
+        ["45", "45", "_45", "__45", "45", "45", "", ""],
+    ),
+    (
+        LEADING | TRAILING | CONSECUTIVE,
+        ["4_5", "4__5", "45", "45", "45", "45", "", ""],
+    ),
+    (ALL, ["45", "45", "45", "45", "45", "45", "", ""]),
+];
+
+/// Whether a state of the flags yields these bytes of the eight texts.
+fn state_holds(flags: u128, kept: [&str; 8]) -> bool {
+    for ((text, digits), kept) in TEXTS.into_iter().zip(kept) {
+        let count = if flags == 0 { 0 } else { digits };
+        let word = UNFLAGGED | flags;
+        if !is_drained(word, text.as_bytes(), (0, 0), kept.as_bytes(), count) {
+            return false;
+        }
+    }
+    true
+}
+
+/// The first state that doesn't.
+fn wrong_state() -> Option<u128> {
+    for (flags, kept) in STATES {
+        if !state_holds(flags, kept) {
+            return Some(flags);
+        }
+    }
+    None
 }
 
 #[test]
-fn internal_drops_single_separators_between_digits(rt: HostRuntime) {
-    let word = PLAIN | INTERNAL;
-    assert_kept(&rt, word, b"4_5", b"45", 2);
-    assert_kept(&rt, word, b"4__5", b"4_5", 2);
-    assert_kept(&rt, word, b"_45_5", b"_455", 3);
-    assert_kept(&rt, word, b"1 2", b"1 2", 2);
+fn each_state_of_the_flags_drops_its_separators(rt: HostRuntime) {
+    assert_eq!(rt; wrong_state(), None);
+}
+
+/// Flags, a text, the bytes that its drain yields, and the count after it.
+const EXAMPLES: [(u128, &str, &str, usize); 26] = [
+    (0, "1_2", "1_2", 0),
+    (INTERNAL, "4_5", "45", 2),
+    (INTERNAL, "4__5", "4_5", 2),
+    (INTERNAL, "_45_5", "_455", 3),
+    (LEADING, "_.45_5", ".45_5", 3),
+    (LEADING, "__1", "__1", 1),
+    (TRAILING, "4_5_.5", "4_5.5", 3),
+    (TRAILING, "4__", "4_", 1),
+    (INTERNAL | LEADING, "__45", "__45", 2),
+    (INTERNAL | LEADING, "_4_5_.56", "45_.56", 4),
+    (INTERNAL | TRAILING, "__.", "__.", 0),
+    (INTERNAL | TRAILING, "_4_5_", "_45", 2),
+    (LEADING | TRAILING, "_4_5_", "4_5", 2),
+    (INTERNAL | LEADING | TRAILING, "_4__5_", "4_5", 2),
+    (CONSECUTIVE, "1__2", "1__2", 2),
+    (INTERNAL | CONSECUTIVE, "1__2", "12", 2),
+    (INTERNAL | CONSECUTIVE, "1__.", "1__.", 1),
+    (LEADING | CONSECUTIVE, "+__+1", "++1", 1),
+    (LEADING | CONSECUTIVE, "__4__5", "4__5", 2),
+    (TRAILING | CONSECUTIVE, "4__.5_6", "4.5_6", 3),
+    (INTERNAL | LEADING | CONSECUTIVE, "4_", "4_", 1),
+    (INTERNAL | LEADING | CONSECUTIVE, "__4__5__", "45__", 2),
+    (INTERNAL | TRAILING | CONSECUTIVE, "+__1", "+__1", 1),
+    (INTERNAL | TRAILING | CONSECUTIVE, "+1__23__", "+123", 3),
+    (LEADING | TRAILING | CONSECUTIVE, "__4__5__", "4__5", 2),
+    (ALL, "__4__5__", "45", 2),
+];
+
+/// The first example whose drain is another.
+fn wrong_example() -> Option<&'static str> {
+    for (flags, text, kept, count) in EXAMPLES {
+        let word = UNFLAGGED | flags;
+        if !is_drained(word, text.as_bytes(), (0, 0), kept.as_bytes(), count) {
+            return Some(text);
+        }
+    }
+    None
 }
 
 #[test]
-fn leading_drops_separators_before_the_first_digit(rt: HostRuntime) {
-    assert_kept(&rt, PLAIN | LEADING, b"_.45_5", b".45_5", 3);
+fn a_separator_is_dropped_by_its_sides_and_flags(rt: HostRuntime) {
+    assert_eq!(rt; wrong_example(), None);
+}
+
+/// Flags, a text, the cursor and the count at the start, the bytes that the drain yields from
+/// there, and the count after it.
+const FROM_WITHIN: [(u128, &str, usize, usize, &str, usize); 11] = [
+    (INTERNAL, "1_2", 1, 0, "2", 1),
+    (LEADING | TRAILING, "1_2", 1, 0, "_2", 1),
+    (INTERNAL | CONSECUTIVE, "1__2", 2, 0, "2", 1),
+    (INTERNAL, "1__2", 2, 0, "_2", 1),
+    (INTERNAL, "_5", 0, 0, "_5", 1),
+    (INTERNAL, "_5", 0, 1, "5", 2),
+    (LEADING, "_5", 0, 1, "_5", 2),
+    (INTERNAL | CONSECUTIVE, ".__2", 1, 0, "__2", 1),
+    (INTERNAL | CONSECUTIVE, ".__2", 1, 1, "2", 2),
+    (TRAILING, "1__", 1, 1, "_", 1),
+    (TRAILING, "1__", 1, 0, "__", 0),
+];
+
+/// The first of them whose drain is another.
+fn wrong_from_within() -> Option<&'static str> {
+    for (flags, text, cursor, count, kept, count_after) in FROM_WITHIN {
+        let start = (cursor, count);
+        let word = UNFLAGGED | flags;
+        if !is_drained(word, text.as_bytes(), start, kept.as_bytes(), count_after) {
+            return Some(text);
+        }
+    }
+    None
 }
 
 #[test]
-fn trailing_drops_separators_with_no_digit_behind_them(rt: HostRuntime) {
-    assert_kept(&rt, PLAIN | TRAILING, b"4_5_.5", b"4_5.5", 3);
+fn a_drain_from_within_a_text_sees_what_is_left_of_it(rt: HostRuntime) {
+    assert_eq!(rt; wrong_from_within(), None);
+}
+
+/// Words of other separators and radixes: a text, the bytes that its drain yields, and the count.
+const OTHER_WORDS: [(u128, &[u8], &[u8], usize); 20] = [
+    ((16 << 104) | (0x5f << 64) | INTERNAL, b"a_F_g", b"aF_g", 2),
+    ((2 << 104) | (0x39 << 64) | INTERNAL, b"1909", b"109", 2),
+    ((16 << 104) | (0x67 << 64) | INTERNAL, b"1g2", b"12", 2),
+    ((10 << 104) | (0x2b << 64) | LEADING, b"+12", b"12", 2),
+    ((10 << 104) | (0xFF << 64) | INTERNAL, b"4\xFF5", b"45", 2),
+    ((10 << 104) | ALL, b"1_2", b"1_2", 2),
+    // the words with names
+    (JSON, b"1_0", b"1_0", 3),
+    (HEXADECIMAL, b"fF", b"fF", 2),
+    (RUST_LITERAL, b"1_000__", b"1000", 4),
+    (RUST_LITERAL, b"_1", b"_1", 1),
+    (RUST_HEX_LITERAL, b"_ff__00_", b"ff00", 4),
+    (RUST_OCTAL_LITERAL, b"_7_8", b"78", 1),
+    (RUST_BINARY_LITERAL, b"__1_0", b"10", 2),
+    (CXX14_LITERAL, b"1'000", b"1000", 4),
+    (CXX14_LITERAL, b"1''0", b"1'0", 2),
+    (PYTHON_LITERAL, b"1_000", b"1000", 4),
+    (PYTHON_LITERAL, b"1__0_", b"1_0_", 2),
+    (TOML, b"1_0", b"10", 2),
+    (JAVA_LITERAL, b"1__0", b"10", 2),
+    (JAVA_LITERAL, b"1_", b"1_", 1),
+];
+
+/// The first of them whose drain is another.
+fn wrong_word() -> Option<&'static [u8]> {
+    for (word, text, kept, count) in OTHER_WORDS {
+        if !is_drained(word, text, (0, 0), kept, count) {
+            return Some(text);
+        }
+    }
+    None
 }
 
 #[test]
-fn single_separators_take_the_roles_that_two_flags_grant(rt: HostRuntime) {
-    let internal_leading = PLAIN | INTERNAL | LEADING;
-    assert_kept(&rt, internal_leading, b"__45", b"__45", 2);
-    assert_kept(&rt, internal_leading, b"_4_5_.56", b"45_.56", 4);
-    assert_kept(&rt, PLAIN | INTERNAL | TRAILING, b"__.", b"__.", 0);
-}
-
-#[test]
-fn consecutive_separators_are_judged_as_one(rt: HostRuntime) {
-    assert_kept(&rt, PLAIN | INTERNAL | CONSECUTIVE, b"1__2", b"12", 2);
-    assert_kept(&rt, PLAIN | LEADING | CONSECUTIVE, b"+__+1", b"++1", 1);
-    let internal_trailing = PLAIN | INTERNAL | TRAILING | CONSECUTIVE;
-    assert_kept(&rt, internal_trailing, b"+__1", b"+__1", 1);
-    let internal_leading = PLAIN | INTERNAL | LEADING | CONSECUTIVE;
-    assert_kept(&rt, internal_leading, b"4_", b"4_", 1);
-}
-
-#[test]
-fn consecutive_alone_drops_nothing(rt: HostRuntime) {
-    assert_kept(&rt, PLAIN | CONSECUTIVE, b"1__2", b"1__2", 2);
+fn a_word_has_its_own_separator_and_radix(rt: HostRuntime) {
+    assert_eq!(rt; wrong_word(), None);
 }
 
 #[test]
 fn a_separator_of_zero_is_none(rt: HostRuntime) {
-    let word = (10 << 104) | INTERNAL | LEADING | TRAILING | CONSECUTIVE;
     let turns = [(Integer, Drains(b"\x31\x00\x32", 2)), (Whole, Count(3))];
-    assert_turns(&rt, word, b"\x31\x00\x32", &turns);
+    assert_turns(&rt, (10 << 104) | ALL, b"\x31\x00\x32", &turns);
 }
 
 #[test]
-fn any_byte_but_a_digit_may_be_the_separator(rt: HostRuntime) {
-    assert_kept(
-        &rt,
-        (10 << 104) | (0xFF << 64) | INTERNAL,
-        b"4\xFF5",
-        b"45",
-        2,
-    );
-    assert_kept(&rt, (10 << 104) | (0x2b << 64) | LEADING, b"+12", b"12", 2);
-}
-
-#[test]
-fn what_is_a_digit_goes_by_the_radix(rt: HostRuntime) {
-    assert_kept(
-        &rt,
-        (2 << 104) | (0x39 << 64) | INTERNAL,
-        b"1909",
-        b"109",
-        2,
-    );
-    assert_kept(
-        &rt,
-        (16 << 104) | (0x5f << 64) | INTERNAL,
-        b"a_F_g",
-        b"aF_g",
-        2,
-    );
-    assert_kept(&rt, (16 << 104) | (0x67 << 64) | INTERNAL, b"1g2", b"12", 2);
-}
-
-#[test]
-fn the_fraction_goes_by_its_own_flags(rt: HostRuntime) {
-    let word = PLAIN | FRACTION_INTERNAL_DIGIT_SEPARATOR | FRACTION_LEADING_DIGIT_SEPARATOR;
+fn the_fraction_has_flags_of_its_own(rt: HostRuntime) {
+    let word = UNFLAGGED | FRACTION_INTERNAL_DIGIT_SEPARATOR | FRACTION_LEADING_DIGIT_SEPARATOR;
     assert_goes(&rt, word, b"_4_5_.56", Fraction, &[Drains(b"45_.56", 4)]);
-    let word = PLAIN | INTERNAL;
+    let word = UNFLAGGED | INTERNAL;
     assert_goes(&rt, word, b"1_2", Fraction, &[Drains(b"1_2", 0)]);
 }
 
 #[test]
 fn a_special_value_loses_all_separators_or_none(rt: HostRuntime) {
-    let word = PLAIN | SPECIAL_DIGIT_SEPARATOR;
+    let word = UNFLAGGED | SPECIAL_DIGIT_SEPARATOR;
     let turns = [
         (Special, Drains(b"nan", 0)),
         (Whole, Cursor(6)),
         (Integer, Count(0)),
     ];
     assert_turns(&rt, word, b"n_a__n", &turns);
-    assert_goes(&rt, PLAIN, b"n_a", Special, &[Drains(b"n_a", 0)]);
+    assert_goes(&rt, UNFLAGGED, b"n_a", Special, &[Drains(b"n_a", 0)]);
 }

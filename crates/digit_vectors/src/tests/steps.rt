@@ -1,4 +1,4 @@
-//! Rows of calls, one after another, each with what it answers.
+//! Lists of calls, each with its answer.
 
 use super::bytes_of;
 use lexical_digits::iterator::{DigitsBodies, DigitsIter, Iter, IterBodies};
@@ -26,9 +26,8 @@ pub const PARTS: [Part; 5] = [
 /// The parts that are iterators.
 pub const ITERATORS: [Part; 4] = [Part::Integer, Part::Fraction, Part::Exponent, Part::Special];
 
-/// A call, and behind what it is handed what it answers. Where the cursor stands and what the count
-/// is are calls too. Those of a cursor come first, which every part has; the others are of the
-/// iterators.
+/// A call: its arguments, then its answer. `Cursor` and `Count` ask for the cursor and the count.
+/// The calls up to `PeekU64` are those that every part has; the others are those of the iterators.
 #[derive(Clone, Copy)]
 pub enum Step<'s> {
     Cursor(usize),
@@ -81,7 +80,7 @@ fn moves_to<'a, D: Iter<'a>>(iter: &mut D, index: usize) -> bool {
     has
 }
 
-/// Steps over so many bytes, if they are there and the part is contiguous.
+/// Steps over this many bytes, if they are left and the part is contiguous.
 fn steps_by<'a, D: Iter<'a>>(iter: &mut D, count: usize) -> bool {
     let may = iter.is_contiguous() && count <= iter.as_slice().len();
     if may {
@@ -90,7 +89,7 @@ fn steps_by<'a, D: Iter<'a>>(iter: &mut D, count: usize) -> bool {
     may
 }
 
-/// Steps over one byte, if it is there and the part is contiguous.
+/// Steps over one byte, if one is left and the part is contiguous.
 fn steps_one<'a, D: Iter<'a>>(iter: &mut D) -> bool {
     let may = iter.is_contiguous() && !iter.is_buffer_empty();
     if may {
@@ -151,7 +150,7 @@ fn is_next<'a, D: DigitsIter<'a>>(iter: &mut D, byte: Option<u8>) -> bool {
 }
 
 /// Calls `next` until there is no byte: whether it yields these bytes, and then has this count.
-fn is_drain<'a, D: DigitsIter<'a>>(iter: &mut D, bytes: &[u8], count: usize) -> bool {
+pub fn is_drain<'a, D: DigitsIter<'a>>(iter: &mut D, bytes: &[u8], count: usize) -> bool {
     for byte in bytes {
         if !is_next(iter, Some(*byte)) {
             return false;
@@ -191,7 +190,7 @@ pub fn assert_steps<'a, D: DigitsIter<'a>>(rt: &impl Abort, iter: &mut D, steps:
     }
 }
 
-/// Makes these calls on what is no iterator.
+/// Makes these calls on a part that is no iterator.
 fn assert_cursor_steps<'a, D: Iter<'a>>(rt: &impl Abort, iter: &mut D, steps: &[Step]) {
     for (at, step) in steps.iter().enumerate() {
         assert!(rt; is_cursor_step(iter, *step), "step {at}");

@@ -3,7 +3,7 @@
 use super::steps::Part::{self, Exponent, Fraction, Integer, Whole};
 use super::steps::Step::{Cursor, MoveTo, Next, Peek};
 use super::steps::assert_part;
-use super::{CONSECUTIVE, INTERNAL, PLAIN, bytes_of};
+use super::{CONSECUTIVE, INTERNAL, UNFLAGGED, bytes_of};
 use lexical_digits::iterator::{AsBytes, Iter, IterBodies};
 use lexical_digits::skip::Bytes;
 use lexical_format::{
@@ -45,14 +45,14 @@ fn an_empty_buffer_has_an_empty_view(rt: HostRuntime) {
 
 #[test]
 fn there_is_no_view_where_bytes_may_be_dropped(rt: HostRuntime) {
-    let mut bytes = bytes_of(&rt, b"1__2", PLAIN | CONSECUTIVE);
+    let mut bytes = bytes_of(&rt, b"1__2", UNFLAGGED | CONSECUTIVE);
     assert!(rt; take(&mut bytes, Integer, 1).is_none());
     assert_part(&rt, &mut bytes, Whole, &[Cursor(0)]);
 }
 
 #[test]
 fn a_view_ends_where_the_cursor_goes(rt: HostRuntime) {
-    let mut bytes = bytes_of(&rt, b"12345", PLAIN | FRACTION_INTERNAL_DIGIT_SEPARATOR);
+    let mut bytes = bytes_of(&rt, b"12345", UNFLAGGED | FRACTION_INTERNAL_DIGIT_SEPARATOR);
     assert_view(&rt, &mut bytes, Integer, 2, 2, 0);
     assert_part(&rt, &mut bytes, Integer, &[Cursor(2)]);
     assert_view(&rt, &mut bytes, Exponent, 1, 3, 2);
@@ -82,7 +82,7 @@ fn a_view_judges_its_runs_by_its_own_end(rt: HostRuntime) {
     let flags = FRACTION_INTERNAL_DIGIT_SEPARATOR
         | FRACTION_TRAILING_DIGIT_SEPARATOR
         | FRACTION_CONSECUTIVE_DIGIT_SEPARATOR;
-    let mut bytes = bytes_of(&rt, b"1__2", PLAIN | flags);
+    let mut bytes = bytes_of(&rt, b"1__2", UNFLAGGED | flags);
     assert_part(&rt, &mut bytes, Fraction, &[Next(Some(b'1'))]);
     assert_part(&rt, &mut bytes, Fraction, &[Peek(Some(b'2'))]);
     assert_part(&rt, &mut bytes, Whole, &[MoveTo(1)]);

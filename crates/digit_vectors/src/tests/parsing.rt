@@ -1,0 +1,82 @@
+//! Texts that are one integer throughout, and digits up to a greatest value.
+
+use super::{INTERNAL, UNFLAGGED, bytes_of};
+use digit_literals::{
+    Digits, ParseError, TooLarge, count_digits, parse_integer, parse_signed, read_digits_after,
+};
+use lexical_digits::iterator::Iter;
+use lexical_format::is_supported;
+use std::process::Abort;
+
+/// The whole text has this value, or this first fault; `_` may stand between two digits.
+fn assert_whole(rt: &impl Abort, text: &[u8], read: Result<u64, ParseError>) {
+    assert!(rt; is_supported(UNFLAGGED | INTERNAL));
+    assert_eq!(rt; parse_integer(text, UNFLAGGED | INTERNAL), read, "{text:?}");
+}
+
+/// The same with a sign.
+fn assert_signed(rt: &impl Abort, text: &[u8], read: Result<i64, ParseError>) {
+    assert!(rt; is_supported(UNFLAGGED | INTERNAL));
+    assert_eq!(rt; parse_signed(text, UNFLAGGED | INTERNAL), read, "{text:?}");
+}
+
+#[test]
+fn the_first_fault_of_a_text_is_reported(rt: HostRuntime) {
+    assert_whole(&rt, b"1_000", Ok(1000));
+    assert_whole(&rt, b"18446744073709551615", Ok(u64::MAX));
+    assert_whole(&rt, b"", Err(ParseError::Empty(0)));
+    assert_whole(&rt, b"_1", Err(ParseError::Invalid(0)));
+    assert_whole(&rt, b"1_", Err(ParseError::Invalid(1)));
+    assert_whole(&rt, b"12x4", Err(ParseError::Invalid(2)));
+    assert_whole(&rt, b"18446744073709551616x", Err(ParseError::Overflow(19)));
+}
+
+#[test]
+fn positions_count_the_sign(rt: HostRuntime) {
+    assert_signed(&rt, b"-1_000", Ok(-1000));
+    assert_signed(&rt, b"+7", Ok(7));
+    assert_signed(&rt, b"9223372036854775807", Ok(i64::MAX));
+    assert_signed(&rt, b"-9223372036854775808", Ok(i64::MIN));
+    assert_signed(&rt, b"9223372036854775808", Err(ParseError::Overflow(18)));
+    assert_signed(&rt, b"-9223372036854775809", Err(ParseError::Overflow(19)));
+    assert_signed(&rt, b"-", Err(ParseError::Empty(1)));
+    assert_signed(&rt, b"--1", Err(ParseError::Invalid(1)));
+    assert_signed(&rt, b"-_1", Err(ParseError::Invalid(1)));
+    assert_signed(&rt, b"-1x", Err(ParseError::Invalid(2)));
+}
+
+#[test]
+fn a_greatest_value_is_not_passed(rt: HostRuntime) {
+    let mut bytes = bytes_of(&rt, b"2_55", UNFLAGGED | INTERNAL);
+    let read = read_digits_after(&mut bytes.integer_iter(), 10, 0, 255);
+    assert_eq!(rt;
+        read,
+        Ok(Digits {
+            value: 255,
+            count: 3
+        })
+    );
+    let mut bytes = bytes_of(&rt, b"2_56", UNFLAGGED | INTERNAL);
+    let read = read_digits_after(&mut bytes.integer_iter(), 10, 0, 255);
+    assert_eq!(rt; read, Err(TooLarge { at: 3 }));
+    assert_eq!(rt; bytes.cursor(), 3);
+}
+
+/// The whole text has that number of digits, or stops at that position; `_` may be between two
+/// digits.
+fn assert_digits(rt: &impl Abort, text: &[u8], digits: Result<usize, usize>) {
+    assert!(rt; is_supported(UNFLAGGED | INTERNAL));
+    assert_eq!(rt;
+        count_digits(text, UNFLAGGED | INTERNAL),
+        digits,
+        "{text:?}"
+    );
+}
+
+#[test]
+fn the_digits_of_a_whole_text_are_counted(rt: HostRuntime) {
+    assert_digits(&rt, b"1_000", Ok(4));
+    assert_digits(&rt, b"", Ok(0));
+    assert_digits(&rt, b"1_", Err(1));
+    assert_digits(&rt, b"1x", Err(1));
+}
