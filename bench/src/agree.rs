@@ -6,8 +6,8 @@ use crate::work::{Sides, Work};
 
 /// The longest of the texts.
 const LONGEST: usize = 6;
-/// A digit, a byte that is neither, the separator, and another that is neither.
-const ALPHABET: [u8; 4] = *b"7a_.";
+/// A zero, another digit, the separator, and a byte that is neither.
+const ALPHABET: [u8; 4] = *b"07_.";
 
 /// Checks each of the flag states that are named.
 macro_rules! check_states {
@@ -22,7 +22,7 @@ pub fn check_all() {
     check_states!(&all_texts(), 0 1 2 3 4 5 6 7 8 9 10 11 12 13 14 15);
 }
 
-/// Checks the flag state of a word: in the integer alone, and in all three parts of a number.
+/// Checks the flag state of a word: in the integer only, and in all three components.
 fn check<const WORD: u128, const IN_ALL: u128>(texts: &[Text]) {
     for work in [Work::Sum, Work::Number, Work::Peeked, Work::Handed] {
         let sides = Sides::skip::<WORD>(work);
@@ -30,9 +30,18 @@ fn check<const WORD: u128, const IN_ALL: u128>(texts: &[Text]) {
             sides.check(&name_of(WORD, text), text);
         }
     }
-    let floats = Sides::skip::<IN_ALL>(Work::Floats);
+    for work in [Work::Stopped, Work::Literals, Work::Digits, Work::Zeros] {
+        check_calls::<WORD>(work, texts);
+    }
+    for work in [Work::Floats, Work::FloatsOf, Work::Mantissas] {
+        check_calls::<IN_ALL>(work, texts);
+    }
+}
+
+fn check_calls<const WORD: u128>(work: Work, texts: &[Text]) {
+    let sides = Sides::skip::<WORD>(work);
     for text in texts {
-        floats.check_calls(&name_of(IN_ALL, text), text);
+        sides.check_calls(&name_of(WORD, text), text);
     }
 }
 

@@ -1,10 +1,10 @@
-//! The calls that a Rust user has where the word is a const parameter, and what is done by them.
+//! The calls that a Rust user has, and what is done by them.
 
 use crate::library::Outcome;
 use crate::texts::Text;
-use crate::work::{each, float_of, with_digit, Work};
+use crate::work::{each, float_of, with_digit, Way, Work};
 
-/// An iterator over the digits of one part of a number.
+/// An iterator over the digits of a component of a number.
 pub trait Digits<'a>: Iterator<Item = &'a u8> {
     /// The next kept byte, where the cursor then stands.
     fn peek(&mut self) -> Option<&'a u8>;
@@ -14,36 +14,48 @@ pub trait Digits<'a>: Iterator<Item = &'a u8> {
     fn cursor(&self) -> usize;
     /// Whether the byte is a digit.
     fn is_digit(&self, byte: u8) -> bool;
+    /// Passes the zeros that come next, and counts each. Answers how many they are.
+    fn skip_zeros(&mut self) -> usize;
 }
 
 /// A text with a cursor, which its iterators share.
 pub trait Buffer<'a>: Sized {
     /// The cursor at the start of a text.
-    fn over(text: &'a [u8]) -> Self;
+    fn over(text: &'a [u8], word: u128) -> Self;
     fn integer(&mut self) -> impl Digits<'a>;
     fn fraction(&mut self) -> impl Digits<'a>;
     fn exponent(&mut self) -> impl Digits<'a>;
-    /// How many digits the three parts counted, or the cursor where the word has no separator.
+    /// How many digits the three components counted, or the cursor where the word has no separator.
     fn current_count(&self) -> usize;
 }
 
-/// A kind of buffers under one word.
-pub trait Buffers {
-    const RADIX: u32;
+/// A kind of buffers. Those with the word as a const parameter ignore the word that they are
+/// handed.
+pub trait Buffers: 'static {
     type Bytes<'a>: Buffer<'a>;
+    /// The radix of the integer.
+    fn radix(word: u128) -> u32;
 }
 
-/// The work by the calls of one kind.
-pub fn drained<B: Buffers>(work: Work) -> fn(&Text) -> Outcome {
+/// The work by the calls of one kind, under a word.
+pub fn drained<B: Buffers>(work: Work, word: u128) -> Way {
     match work {
-        Work::Sum => |text| sum::<B>(&text.bytes),
-        Work::Number => |text| number::<B>(&text.bytes),
-        Work::Peeked => |text| peeked::<B>(&text.bytes),
-        Work::Handed => |text| handed::<B>(&text.bytes),
-        Work::Numbers => |text| each(text, number::<B>),
-        Work::Literals => |text| each(text, literal::<B>),
-        Work::Floats => |text| each(text, float::<B>),
+        Work::Sum => Box::new(move |text| sum::<B>(&text.bytes, word)),
+        Work::Number => Box::new(move |text| number::<B>(&text.bytes, word)),
+        Work::Peeked => Box::new(move |text| peeked::<B>(&text.bytes, word)),
+        Work::Handed => Box::new(move |text| handed::<B>(&text.bytes, word)),
+        Work::Numbers => on_each(move |text| number::<B>(text, word)),
+        Work::Stopped => on_each(move |text| stopped::<B>(text, word)),
+        Work::Literals => on_each(move |text| literal::<B>(text, word)),
+        Work::Digits => on_each(move |text| digits::<B>(text, word)),
+        Work::Zeros => on_each(move |text| zeros::<B>(text, word)),
+        Work::Floats | Work::FloatsOf => on_each(move |text| float::<B>(text, word)),
+        Work::Mantissas => on_each(move |text| mantissa::<B>(text, word)),
     }
+}
+
+fn on_each(work: impl Fn(&[u8]) -> Outcome + 'static) -> Way {
+    Box::new(move |text: &Text| each(text, &work))
 }
 
 /// What a drain of the integer came to.
@@ -54,8 +66,8 @@ fn outcome<'a>(value: u64, bytes: &mut impl Buffer<'a>) -> Outcome {
 }
 
 #[inline(always)]
-fn sum<B: Buffers>(text: &[u8]) -> Outcome {
-    let mut bytes = B::Bytes::over(text);
+fn sum<B: Buffers>(text: &[u8], word: u128) -> Outcome {
+    let mut bytes = B::Bytes::over(text, word);
     let mut sum = 0u64;
     for &byte in bytes.integer() {
         sum = sum.wrapping_add(u64::from(byte));
@@ -64,15 +76,15 @@ fn sum<B: Buffers>(text: &[u8]) -> Outcome {
 }
 
 #[inline(always)]
-fn number<B: Buffers>(text: &[u8]) -> Outcome {
-    let mut bytes = B::Bytes::over(text);
+fn number<B: Buffers>(text: &[u8], word: u128) -> Outcome {
+    let mut bytes = B::Bytes::over(text, word);
     let number = integer_number(&mut bytes);
     outcome(number, &mut bytes)
 }
 
 #[inline(always)]
-fn peeked<B: Buffers>(text: &[u8]) -> Outcome {
-    let mut bytes = B::Bytes::over(text);
+fn peeked<B: Buffers>(text: &[u8], word: u128) -> Outcome {
+    let mut bytes = B::Bytes::over(text, word);
     let mut number = 0;
     let mut iter = bytes.integer();
     while let Some(&byte) = iter.peek() {
@@ -84,8 +96,8 @@ fn peeked<B: Buffers>(text: &[u8]) -> Outcome {
 }
 
 #[inline(always)]
-fn handed<B: Buffers>(text: &[u8]) -> Outcome {
-    let mut bytes = B::Bytes::over(text);
+fn handed<B: Buffers>(text: &[u8], word: u128) -> Outcome {
+    let mut bytes = B::Bytes::over(text, word);
     let number = number_of::<B>(&mut bytes);
     outcome(number, &mut bytes)
 }
@@ -104,43 +116,82 @@ fn integer_number<'a>(bytes: &mut impl Buffer<'a>) -> u64 {
     number
 }
 
+/// The number that the digits make which come first.
+#[inline(always)]
+fn stopped<B: Buffers>(text: &[u8], word: u128) -> Outcome {
+    let mut bytes = B::Bytes::over(text, word);
+    let mut number = 0;
+    pass_digits(&mut bytes.integer(), |byte| number = with_digit(number, byte));
+    outcome(number, &mut bytes)
+}
+
+/// How many digits come first.
+#[inline(always)]
+fn digits<B: Buffers>(text: &[u8], word: u128) -> Outcome {
+    let mut bytes = B::Bytes::over(text, word);
+    let mut digits = 0;
+    pass_digits(&mut bytes.integer(), |_| digits += 1);
+    outcome(digits, &mut bytes)
+}
+
+#[inline(always)]
+fn pass_digits<'a>(iter: &mut impl Digits<'a>, mut tell: impl FnMut(u8)) {
+    while let Some(&byte) = iter.peek() {
+        if !iter.is_digit(byte) {
+            break;
+        }
+        tell(byte);
+        iter.next();
+    }
+}
+
+/// How many zeros come first.
+#[inline(always)]
+fn zeros<B: Buffers>(text: &[u8], word: u128) -> Outcome {
+    let mut bytes = B::Bytes::over(text, word);
+    let zeros = bytes.integer().skip_zeros() as u64;
+    outcome(zeros, &mut bytes)
+}
+
 /// The value of the digits that lead, and where they end: nothing of a value that `u64` does not
 /// hold, or where there is none.
 #[inline(always)]
-fn literal<B: Buffers>(text: &[u8]) -> Outcome {
-    let mut bytes = B::Bytes::over(text);
+fn literal<B: Buffers>(text: &[u8], word: u128) -> Outcome {
+    let mut bytes = B::Bytes::over(text, word);
     let mut iter = bytes.integer();
-    let mut value = 0u64;
-    let mut is_empty = true;
-    while let Some(digit) = iter.peek().and_then(|&byte| char::from(byte).to_digit(B::RADIX)) {
-        let more = value.checked_mul(B::RADIX.into());
-        let Some(more) = more.and_then(|more| more.checked_add(digit.into())) else {
-            return Outcome::default();
-        };
-        value = more;
-        is_empty = false;
-        iter.next();
+    match value_after(&mut iter, B::radix(word), 0) {
+        Some((value, 1..)) => Outcome { value, count: iter.cursor() as u64, looks: 0 },
+        _ => Outcome::default(),
     }
-    if is_empty {
-        return Outcome::default();
-    }
-    Outcome { value, count: iter.cursor() as u64, looks: 0 }
 }
 
-/// The three parts of a number, each with the byte that ends it.
+/// The value of the digits that lead, after a value, and how many they are, if `u64` holds it.
 #[inline(always)]
-fn float<B: Buffers>(text: &[u8]) -> Outcome {
-    let mut bytes = B::Bytes::over(text);
-    let integer = part(bytes.integer());
-    let fraction = part(bytes.fraction());
-    let exponent = part(bytes.exponent());
+fn value_after<'a>(iter: &mut impl Digits<'a>, radix: u32, before: u64) -> Option<(u64, usize)> {
+    let mut value = before;
+    let mut digits = 0;
+    while let Some(digit) = iter.peek().and_then(|&byte| char::from(byte).to_digit(radix)) {
+        value = value.checked_mul(radix.into())?.checked_add(digit.into())?;
+        digits += 1;
+        iter.next();
+    }
+    Some((value, digits))
+}
+
+/// The three components of a number, each with the byte that ends it.
+#[inline(always)]
+fn float<B: Buffers>(text: &[u8], word: u128) -> Outcome {
+    let mut bytes = B::Bytes::over(text, word);
+    let integer = leading_number(bytes.integer());
+    let fraction = leading_number(bytes.fraction());
+    let exponent = leading_number(bytes.exponent());
     let value = float_of([integer, fraction, exponent]);
     Outcome { value, count: bytes.current_count() as u64, looks: 0 }
 }
 
 /// The number that the digits make which come next. The byte that ends them is taken too.
 #[inline(always)]
-fn part<'a>(mut iter: impl Digits<'a>) -> u64 {
+fn leading_number<'a>(mut iter: impl Digits<'a>) -> u64 {
     let mut number = 0;
     while let Some(&byte) = iter.next() {
         if !iter.is_digit(byte) {
@@ -149,4 +200,24 @@ fn part<'a>(mut iter: impl Digits<'a>) -> u64 {
         number = with_digit(number, byte);
     }
     number
+}
+
+/// The integer and the fraction as one value, and the exponent; 0 where `u64` does not hold one.
+#[inline(always)]
+fn mantissa<B: Buffers>(text: &[u8], word: u128) -> Outcome {
+    let radix = B::radix(word);
+    let mut bytes = B::Bytes::over(text, word);
+    let integer = component_value(bytes.integer(), radix, 0);
+    let mantissa = component_value(bytes.fraction(), radix, integer);
+    let exponent = value_after(&mut bytes.exponent(), radix, 0).map_or(0, |read| read.0);
+    let value = float_of([0, mantissa, exponent]);
+    Outcome { value, count: bytes.current_count() as u64, looks: 0 }
+}
+
+/// The value of a component that another one follows. The byte that ends it is passed.
+#[inline(always)]
+fn component_value<'a>(mut iter: impl Digits<'a>, radix: u32, before: u64) -> u64 {
+    let value = value_after(&mut iter, radix, before).map_or(0, |read| read.0);
+    iter.next();
+    value
 }

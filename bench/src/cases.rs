@@ -1,98 +1,143 @@
 //! The ordinary texts.
 
-use crate::measure::{measure, Job};
-use crate::texts::{digits, each_third, floats, literals, numbers, others, runs, Text};
-use crate::word::{I, IC, ILTC, I_IN_ALL, NONE};
+use crate::measure::Job;
+use crate::texts::{
+    digits, each_third, floats, hex_digits, hex_numbers, literals, numbers, others, runs,
+    stopped_numbers, zeros, Text,
+};
+use crate::word::{I, IC, ILTC, I_16, I_IN_ALL, NONE};
 use crate::work::Sides;
-use crate::work::Work::{Floats, Handed, Literals, Number, Numbers, Peeked, Sum};
+use crate::work::Work::{
+    Digits, Floats, FloatsOf, Handed, Literals, Mantissas, Number, Numbers, Peeked, Stopped, Sum,
+    Zeros,
+};
+
+/// The greatest wanted ratio of the library, with its word at run time, to the floor.
+pub const TO_FLOOR: f64 = 1.1;
 
 /// What is done with one text.
 pub struct Case {
     pub name: &'static str,
-    /// The greatest wanted ratio of the library to the original, or else to the fixed word.
-    pub target: f64,
     text: fn() -> Text,
     sides: Sides,
 }
 
 impl Case {
-    fn new(name: &'static str, target: f64, text: fn() -> Text, sides: Sides) -> Self {
-        Case { name, target, text, sides }
+    fn new(name: &'static str, text: fn() -> Text, sides: Sides) -> Self {
+        Case { name, text, sides }
     }
 
-    fn measure(&self) {
+    /// The greatest wanted ratio of the library with a constant word to the original.
+    pub fn to_original(&self) -> f64 {
+        if self.name.starts_with("e:") {
+            1.3
+        } else {
+            1.1
+        }
+    }
+
+    fn run(&self, run: fn(&[Job])) {
         let text = &(self.text)();
         self.sides.check(self.name, text);
         let job = |(side, way)| Job { case: self.name, side, text, way };
-        measure(&self.sides.named().map(job).collect::<Vec<_>>());
+        run(&self.sides.named().map(job).collect::<Vec<_>>());
     }
 }
 
-/// Measures the wanted cases.
-pub fn measure_all(is_wanted: impl Fn(&str) -> bool) {
-    all().iter().filter(|case| is_wanted(case.name)).for_each(Case::measure);
+/// Runs the wanted cases: measures them, or runs them once.
+pub fn run_all(run: fn(&[Job]), is_wanted: impl Fn(&str) -> bool) {
+    all().iter().filter(|case| is_wanted(case.name)).for_each(|case| case.run(run));
 }
 
 /// The cases, in the order of the table.
 pub fn all() -> Vec<Case> {
-    [drains(), short_texts(), other_calls(), other_texts()].into_iter().flatten().collect()
+    let groups = [drains(), short_texts(), other_calls(), literal_texts(), other_texts()];
+    groups.into_iter().flatten().collect()
 }
 
 /// Long texts, by `next`.
 fn drains() -> Vec<Case> {
     let [runs_16, runs_1000]: [fn() -> Text; 2] = [|| runs(16), || runs(1000)];
     vec![
-        Case::new("a: no flags, digits, sum", 1.05, digits, Sides::skip::<NONE>(Sum)),
-        Case::new("a: no flags, digits, number", 1.05, digits, Sides::skip::<NONE>(Number)),
-        Case::new("a: plain cursor, sum", 1.05, digits, Sides::plain(Sum)),
-        Case::new("a: plain cursor, number", 1.05, digits, Sides::plain(Number)),
-        Case::new("b: I, digits, sum", 1.1, digits, Sides::skip::<I>(Sum)),
-        Case::new("b: I, digits, number", 1.1, digits, Sides::skip::<I>(Number)),
-        Case::new("c: I, each third, sum", 1.1, each_third, Sides::skip::<I>(Sum)),
-        Case::new("c: I, each third, number", 1.1, each_third, Sides::skip::<I>(Number)),
-        Case::new("d: IC, each third, sum", 1.1, each_third, Sides::skip::<IC>(Sum)),
-        Case::new("d: IC, each third, number", 1.1, each_third, Sides::skip::<IC>(Number)),
-        Case::new("e: ILTC, runs of 16, number", 1.3, runs_16, Sides::skip::<ILTC>(Number)),
-        Case::new("e: ILTC, runs of 1,000, number", 1.1, runs_1000, Sides::skip::<ILTC>(Number)),
+        Case::new("a: no flags, digits, sum", digits, Sides::skip::<NONE>(Sum)),
+        Case::new("a: no flags, digits, number", digits, Sides::skip::<NONE>(Number)),
+        Case::new("a: plain cursor, sum", digits, Sides::plain(Sum)),
+        Case::new("a: plain cursor, number", digits, Sides::plain(Number)),
+        Case::new("b: I, digits, sum", digits, Sides::skip::<I>(Sum)),
+        Case::new("b: I, digits, number", digits, Sides::skip::<I>(Number)),
+        Case::new("b: I, radix 16, digits, number", hex_digits, Sides::skip::<I_16>(Number)),
+        Case::new("c: I, each third, sum", each_third, Sides::skip::<I>(Sum)),
+        Case::new("c: I, each third, number", each_third, Sides::skip::<I>(Number)),
+        Case::new("d: IC, each third, sum", each_third, Sides::skip::<IC>(Sum)),
+        Case::new("d: IC, each third, number", each_third, Sides::skip::<IC>(Number)),
+        Case::new("e: ILTC, runs of 16, number", runs_16, Sides::skip::<ILTC>(Number)),
+        Case::new("e: ILTC, runs of 1,000, number", runs_1000, Sides::skip::<ILTC>(Number)),
     ]
 }
 
-/// Many short texts, by `next`.
+/// Many short texts.
 fn short_texts() -> Vec<Case> {
-    let [alone, grouped]: [fn() -> Text; 2] = [|| numbers(false), || numbers(true)];
+    let [plain, grouped]: [fn() -> Text; 2] = [|| numbers(false), || numbers(true)];
+    let [stopped, grouped_stopped]: [fn() -> Text; 2] =
+        [|| stopped_numbers(false), || stopped_numbers(true)];
+    let grouped_hex = || hex_numbers(true);
     vec![
-        Case::new("f: no flags, short numbers", 1.05, alone, Sides::skip::<NONE>(Numbers)),
-        Case::new("f: I, short numbers", 1.1, alone, Sides::skip::<I>(Numbers)),
-        Case::new("f: I, short grouped numbers", 1.1, grouped, Sides::skip::<I>(Numbers)),
+        Case::new("f: no flags, short numbers", plain, Sides::skip::<NONE>(Numbers)),
+        Case::new("f: I, short numbers", plain, Sides::skip::<I>(Numbers)),
+        Case::new("f: I, short grouped numbers", grouped, Sides::skip::<I>(Numbers)),
+        Case::new(
+            "f: I, radix 16, short grouped numbers",
+            grouped_hex,
+            Sides::skip::<I_16>(Numbers),
+        ),
+        Case::new("n: no flags, numbers to a comma", stopped, Sides::skip::<NONE>(Stopped)),
+        Case::new("n: I, numbers to a comma", stopped, Sides::skip::<I>(Stopped)),
+        Case::new("n: I, grouped numbers to a comma", grouped_stopped, Sides::skip::<I>(Stopped)),
     ]
 }
 
-/// Long texts, by `peek` and `next`, and where the `Bytes` is handed in; and the literals.
+/// Long texts, by `peek` and `next`, and where the `Bytes` is handed in.
 fn other_calls() -> Vec<Case> {
-    let [alone, grouped]: [fn() -> Text; 2] = [|| literals(false), || literals(true)];
     vec![
-        Case::new("h: no flags, digits, peeked", 1.05, digits, Sides::skip::<NONE>(Peeked)),
-        Case::new("h: plain cursor, peeked", 1.05, digits, Sides::plain(Peeked)),
-        Case::new("h: I, digits, peeked", 1.1, digits, Sides::skip::<I>(Peeked)),
-        Case::new("h: I, each third, peeked", 1.1, each_third, Sides::skip::<I>(Peeked)),
-        Case::new("i: no flags, digits, handed in", 1.05, digits, Sides::skip::<NONE>(Handed)),
-        Case::new("i: I, digits, handed in", 1.3, digits, Sides::skip::<I>(Handed)),
-        Case::new("i: I, each third, handed in", 1.3, each_third, Sides::skip::<I>(Handed)),
-        Case::new("j: no flags, literals", 1.3, alone, Sides::skip::<NONE>(Literals)),
-        Case::new("j: I, literals", 1.3, alone, Sides::skip::<I>(Literals)),
-        Case::new("j: I, grouped literals", 1.3, grouped, Sides::skip::<I>(Literals)),
+        Case::new("h: no flags, digits, peeked", digits, Sides::skip::<NONE>(Peeked)),
+        Case::new("h: plain cursor, peeked", digits, Sides::plain(Peeked)),
+        Case::new("h: I, digits, peeked", digits, Sides::skip::<I>(Peeked)),
+        Case::new("h: I, each third, peeked", each_third, Sides::skip::<I>(Peeked)),
+        Case::new("i: no flags, digits, handed in", digits, Sides::skip::<NONE>(Handed)),
+        Case::new("i: I, digits, handed in", digits, Sides::skip::<I>(Handed)),
+        Case::new("i: I, each third, handed in", each_third, Sides::skip::<I>(Handed)),
     ]
 }
 
-/// Bytes that are neither digits nor separators, and numbers of three parts.
-fn other_texts() -> Vec<Case> {
-    let [alone, grouped]: [fn() -> Text; 2] = [|| floats(false), || floats(true)];
+/// Integer literals, digits and zeros, by `digit_literals`.
+fn literal_texts() -> Vec<Case> {
+    let [plain, grouped]: [fn() -> Text; 2] = [|| literals(false), || literals(true)];
+    let [stopped, grouped_stopped]: [fn() -> Text; 2] =
+        [|| stopped_numbers(false), || stopped_numbers(true)];
+    let grouped_zeros = || zeros(true);
     vec![
-        Case::new("k: no flags, other bytes, number", 1.05, others, Sides::skip::<NONE>(Number)),
-        Case::new("k: I, other bytes, sum", 1.1, others, Sides::skip::<I>(Sum)),
-        Case::new("k: I, other bytes, number", 1.1, others, Sides::skip::<I>(Number)),
-        Case::new("k: I, other bytes, peeked", 1.1, others, Sides::skip::<I>(Peeked)),
-        Case::new("l: no flags, three parts", 1.05, alone, Sides::skip::<NONE>(Floats)),
-        Case::new("l: I, three grouped parts", 1.3, grouped, Sides::skip::<I_IN_ALL>(Floats)),
+        Case::new("j: no flags, literals", plain, Sides::skip::<NONE>(Literals)),
+        Case::new("j: I, literals", plain, Sides::skip::<I>(Literals)),
+        Case::new("j: I, grouped literals", grouped, Sides::skip::<I>(Literals)),
+        Case::new("o: no flags, pass_digits", stopped, Sides::skip::<NONE>(Digits)),
+        Case::new("o: I, grouped, pass_digits", grouped_stopped, Sides::skip::<I>(Digits)),
+        Case::new("o: I, grouped, pass_zeros", grouped_zeros, Sides::skip::<I>(Zeros)),
+    ]
+}
+
+/// Bytes that are neither digits nor separators, and numbers of three components.
+fn other_texts() -> Vec<Case> {
+    let [plain, grouped]: [fn() -> Text; 2] = [|| floats(false), || floats(true)];
+    vec![
+        Case::new("k: no flags, other bytes, number", others, Sides::skip::<NONE>(Number)),
+        Case::new("k: I, other bytes, sum", others, Sides::skip::<I>(Sum)),
+        Case::new("k: I, other bytes, number", others, Sides::skip::<I>(Number)),
+        Case::new("k: I, other bytes, peeked", others, Sides::skip::<I>(Peeked)),
+        Case::new("l: no flags, three components", plain, Sides::skip::<NONE>(Floats)),
+        Case::new("l: I, three grouped components", grouped, Sides::skip::<I_IN_ALL>(Floats)),
+        Case::new("l: no flags, by next_of", plain, Sides::skip::<NONE>(FloatsOf)),
+        Case::new("l: I, grouped, by next_of", grouped, Sides::skip::<I_IN_ALL>(FloatsOf)),
+        Case::new("l: no flags, by read_digits_of", plain, Sides::skip::<NONE>(Mantissas)),
+        Case::new("l: I, grouped, by read_digits_of", grouped, Sides::skip::<I_IN_ALL>(Mantissas)),
     ]
 }

@@ -1,11 +1,71 @@
 //! The physical side: one pass over the slice that hands on what the rule keeps. There is no
 //! cursor, no call for each byte, and no count.
 
+use crate::library::Outcome;
+use crate::texts::Text;
 use crate::word::{Class, Rule};
+use crate::work::{each, float_of, with_digit, Way, Work};
+
+/// The work by a filter, where there is one.
+pub fn filtered<const WORD: u128>(work: Work) -> Option<Way> {
+    match work {
+        Work::Sum => Some(Box::new(|text| {
+            let mut sum = 0u64;
+            filter::<WORD>(&text.bytes, |byte| sum = sum.wrapping_add(u64::from(byte)));
+            of_value(sum)
+        })),
+        Work::Number | Work::Peeked | Work::Handed => {
+            Some(Box::new(|text| of_value(number::<WORD>(&text.bytes))))
+        }
+        Work::Numbers => Some(Box::new(|text| each(text, |text| of_value(number::<WORD>(text))))),
+        Work::Literals => Some(Box::new(|text| each_parsed(text, Rule::<WORD>::RADIX))),
+        Work::Floats | Work::FloatsOf => Some(Box::new(|text| each(text, float::<WORD>))),
+        Work::Stopped | Work::Digits | Work::Zeros | Work::Mantissas => None,
+    }
+}
+
+/// The value of each number by its digits without separators, added up where `u64` holds it.
+fn each_parsed(text: &Text, radix: u32) -> Outcome {
+    let mut total = 0u64;
+    let mut rest = &text.digits[..];
+    for &length in &text.digit_lengths {
+        let (first, others) = rest.split_at(length.into());
+        let value = match radix {
+            10 => first.parse::<u64>(),
+            _ => u64::from_str_radix(first, radix),
+        };
+        total = total.wrapping_add(value.unwrap_or(0));
+        rest = others;
+    }
+    of_value(total)
+}
+
+#[inline(always)]
+fn number<const WORD: u128>(text: &[u8]) -> u64 {
+    let mut number = 0;
+    filter::<WORD>(text, |byte| number = with_digit(number, byte));
+    number
+}
+
+/// The components of a number, which lie between the bytes that are neither digits nor separators.
+/// All use the integer's flags.
+#[inline(always)]
+fn float<const WORD: u128>(text: &[u8]) -> Outcome {
+    let ends = |&byte: &u8| !Rule::<WORD>::is_digit(byte) && !Rule::<WORD>::is_separator(byte);
+    let mut numbers = [0; 3];
+    for (value, component) in numbers.iter_mut().zip(text.split(ends)) {
+        *value = number::<WORD>(component);
+    }
+    of_value(float_of(numbers))
+}
+
+fn of_value(value: u64) -> Outcome {
+    Outcome { value, ..Outcome::default() }
+}
 
 /// Hands each kept byte to `keep`.
 #[inline(always)]
-pub fn filter<const WORD: u128>(text: &[u8], mut keep: impl FnMut(u8)) {
+fn filter<const WORD: u128>(text: &[u8], mut keep: impl FnMut(u8)) {
     if Rule::<WORD>::CONTIGUOUS {
         text.iter().for_each(|&byte| keep(byte));
         return;
@@ -27,8 +87,8 @@ pub fn filter<const WORD: u128>(text: &[u8], mut keep: impl FnMut(u8)) {
     }
 }
 
-/// Where the separators end that are judged together with the one at `at`: all of its run, or it
-/// alone.
+/// Where the separators end that are judged together with the one at `at`: all of its run, or only
+/// itself.
 #[inline(always)]
 fn span_end<const WORD: u128>(text: &[u8], at: usize) -> usize {
     let mut end = at + 1;

@@ -8,8 +8,7 @@ use crate::work::{Sides, Way, Work};
 
 /// How many separators there are.
 pub const LENGTHS: [usize; 4] = [100, 1_000, 10_000, 100_000];
-/// The longest run that the fixed word and the original are measured on: their time grows with the
-/// square.
+/// The longest run that the other calls are measured on: their time grows with the square.
 const LONGEST_SQUARE: usize = 10_000;
 /// The cases.
 pub const NAMES: [&str; 2] = ["g: IC, a kept run", "g: LC, a kept run"];
@@ -39,8 +38,8 @@ fn measure_word(name: &str, sides: &Sides) {
     measure(&library.collect::<Vec<_>>());
     for (length, (case, text)) in LENGTHS.iter().zip(&texts) {
         let is_wanted = |side: &Side| match side {
-            Side::Library => false,
-            Side::Fixed | Side::Original => *length <= LONGEST_SQUARE,
+            Side::Library | Side::Constant => false,
+            Side::Floor | Side::Fixed | Side::Original => *length <= LONGEST_SQUARE,
             Side::Filter => true,
         };
         let others = sides.named().filter(|(side, _)| is_wanted(side));

@@ -9,7 +9,7 @@ pub struct Outcome {
     pub value: u64,
     /// What `current_count` answers after the drain.
     pub count: u64,
-    /// How many looks at a byte were counted: the library alone counts them.
+    /// How many looks at a byte were counted. Only the library counts them.
     pub looks: u64,
 }
 
@@ -17,7 +17,14 @@ pub struct Outcome {
 macro_rules! exports {
     (text: $($one:ident)*; many: $($many:ident)*) => {
         unsafe extern "C" {
-            $(pub fn $one(text: *const u8, len: usize, low: u64, high: u64, out: *mut Outcome);)*
+            $(pub fn $one(
+                text: *const u8,
+                len: usize,
+                low: u64,
+                high: u64,
+                is_constant: u32,
+                out: *mut Outcome,
+            );)*
             $(pub fn $many(
                 text: *const u8,
                 len: usize,
@@ -25,6 +32,7 @@ macro_rules! exports {
                 count: usize,
                 low: u64,
                 high: u64,
+                is_constant: u32,
                 out: *mut Outcome,
             );)*
             pub safe fn digit_bench_size() -> usize;
@@ -43,29 +51,48 @@ exports! {
         digit_bench_plain_peeked;
     many:
         digit_bench_numbers
+        digit_bench_stopped
         digit_bench_literals
+        digit_bench_digits
+        digit_bench_zeros
         digit_bench_floats
+        digit_bench_floats_of
+        digit_bench_mantissas
 }
 
-pub type Export = unsafe extern "C" fn(*const u8, usize, u64, u64, *mut Outcome);
+pub type Export = unsafe extern "C" fn(*const u8, usize, u64, u64, u32, *mut Outcome);
 pub type ManyExport =
-    unsafe extern "C" fn(*const u8, usize, *const u8, usize, u64, u64, *mut Outcome);
+    unsafe extern "C" fn(*const u8, usize, *const u8, usize, u64, u64, u32, *mut Outcome);
+
+/// A word, and whether the library is to run its code for that word as a constant.
+#[derive(Clone, Copy)]
+pub struct Format {
+    pub word: u128,
+    pub is_constant: bool,
+}
+
+impl Format {
+    fn halves(self) -> (u64, u64, u32) {
+        (self.word as u64, (self.word >> 64) as u64, self.is_constant.into())
+    }
+}
 
 /// Calls an export on a text.
-pub fn call(export: Export, text: &[u8], word: u128) -> Outcome {
+pub fn call(export: Export, text: &[u8], format: Format) -> Outcome {
     let mut outcome = Outcome::default();
-    let (low, high) = (word as u64, (word >> 64) as u64);
+    let (low, high, is_constant) = format.halves();
     // SAFETY: the pointers are those of a slice and of a local, and the export keeps neither.
-    unsafe { export(text.as_ptr(), text.len(), low, high, &mut outcome) };
+    unsafe { export(text.as_ptr(), text.len(), low, high, is_constant, &mut outcome) };
     outcome
 }
 
-/// Calls an export on many texts that stand one behind another.
-pub fn call_many(export: ManyExport, text: &[u8], lengths: &[u8], word: u128) -> Outcome {
+/// Calls an export on many texts, which stand one after another.
+pub fn call_many(export: ManyExport, text: &[u8], lengths: &[u8], format: Format) -> Outcome {
     let mut outcome = Outcome::default();
-    let (low, high) = (word as u64, (word >> 64) as u64);
+    let (low, high, is_constant) = format.halves();
     let (bytes, counts) = (text.as_ptr(), lengths.as_ptr());
+    let (len, count) = (text.len(), lengths.len());
     // SAFETY: as in `call`.
-    unsafe { export(bytes, text.len(), counts, lengths.len(), low, high, &mut outcome) };
+    unsafe { export(bytes, len, counts, count, low, high, is_constant, &mut outcome) };
     outcome
 }

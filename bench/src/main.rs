@@ -3,7 +3,10 @@
 //!
 //! - `bench measure WORD..` tells the medians of the cases whose name holds one of the words, or of
 //!   all;
-//! - `bench table` reads what such programs told and prints it as Markdown;
+//! - `bench once WORD..` does the work of those cases once, for `bench/count`;
+//! - `bench table` reads what such programs told and prints all of it as Markdown;
+//! - `bench page` reads the same and prints the rows of docs/SPEED.md;
+//! - `bench summary` reads the same and prints the sentences of README;
 //! - `bench plot` reads the same and prints a picture of it as SVG.
 
 mod agree;
@@ -11,12 +14,14 @@ mod calls;
 mod cases;
 mod filter;
 mod fixed;
+mod floor;
 mod hostile;
 mod library;
 mod measure;
 mod medians;
 #[cfg(feature = "original")]
 mod original;
+mod page;
 mod place;
 mod plot;
 mod svg;
@@ -31,16 +36,28 @@ fn main() {
     let words: Vec<String> = std::env::args().skip(1).collect();
     match words.first().map(String::as_str) {
         Some("measure") => measure(&words[1..]),
-        Some("table") => table::print(&Medians::read(std::io::stdin().lock())),
-        Some("plot") => print!("{}", plot::svg(&Medians::read(std::io::stdin().lock()))),
-        _ => eprintln!("usage: bench measure [WORD..] | bench table | bench plot"),
+        Some("once") => cases::run_all(measure::run_once, is_one_of(&words[1..])),
+        Some("table") => table::print(&medians()),
+        Some("page") => page::print(&medians()),
+        Some("summary") => page::print_summary(&medians()),
+        Some("plot") => print!("{}", plot::svg(&medians())),
+        _ => eprintln!("usage: bench measure|once [WORD..] | bench table | page | summary | plot"),
     }
+}
+
+/// What programs told, from standard input.
+fn medians() -> Medians {
+    Medians::read(std::io::stdin().lock())
 }
 
 fn measure(words: &[String]) {
     agree::check_all();
-    let is_wanted = |name: &str| words.is_empty() || words.iter().any(|word| name.contains(word));
     medians::tell_program(library::digit_bench_size());
-    cases::measure_all(is_wanted);
-    hostile::measure_all(is_wanted);
+    cases::run_all(measure::measure, is_one_of(words));
+    hostile::measure_all(is_one_of(words));
+}
+
+/// Whether a name holds one of the words, if there are any.
+fn is_one_of(words: &[String]) -> impl Fn(&str) -> bool + '_ {
+    |name| words.is_empty() || words.iter().any(|word| name.contains(word))
 }

@@ -1,5 +1,6 @@
 //! The clock.
 
+use crate::library::Outcome;
 use crate::medians::{self, Side};
 use crate::texts::Text;
 use crate::work::Way;
@@ -30,6 +31,21 @@ pub fn measure(jobs: &[Job]) {
             medians::tell_time(job.case, job.side, job.median(repeats));
         }
     }
+}
+
+/// Does the work of each job once, for a tool that counts instructions, and names the jobs.
+pub fn run_once(jobs: &[Job]) {
+    for job in jobs {
+        black_box(once(job.way, job.text));
+        println!("once\t{}\t{}\t{}", job.case, job.side.name(), job.text.bytes.len());
+    }
+}
+
+/// What such a tool counts in.
+#[inline(never)]
+#[no_mangle]
+fn once(way: &Way, text: &Text) -> Outcome {
+    way(text)
 }
 
 impl Job<'_> {

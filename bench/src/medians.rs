@@ -9,18 +9,23 @@ use std::io::BufRead;
 #[derive(Clone, Copy, Debug, PartialEq, Eq, PartialOrd, Ord)]
 pub enum Side {
     Library,
+    Constant,
+    Floor,
     Fixed,
     Original,
     Filter,
 }
 
 impl Side {
-    const ALL: [Side; 4] = [Side::Library, Side::Fixed, Side::Original, Side::Filter];
+    pub const ALL: [Side; 6] =
+        [Side::Library, Side::Constant, Side::Floor, Side::Fixed, Side::Original, Side::Filter];
 
     /// What the tables call it.
     pub fn name(self) -> &'static str {
         match self {
             Side::Library => "Library",
+            Side::Constant => "Constant",
+            Side::Floor => "Floor",
             Side::Fixed => "Fixed word",
             Side::Original => "Original",
             Side::Filter => "Filter",
@@ -129,6 +134,11 @@ impl Medians {
         self.times.get(&(case.into(), side)).map(Timing::of)
     }
 
+    /// The time of a side in a case to that of another.
+    pub fn ratio(&self, case: &str, side: Side, other: Side) -> Option<f64> {
+        Some(self.timing(case, side)?.least / self.timing(case, other)?.least)
+    }
+
     /// The looks that the library counted in a case, for each byte.
     pub fn looks(&self, case: &str) -> Option<f64> {
         self.looks.get(case).copied()
@@ -143,5 +153,13 @@ impl Medians {
     /// Whether a side was measured in any case.
     pub fn has(&self, side: Side) -> bool {
         self.times.keys().any(|key| key.1 == side)
+    }
+
+    /// The side that has its word fixed: the original, if it was measured in a case.
+    pub fn fixed_side(&self, case: &str) -> Side {
+        match self.timing(case, Side::Original) {
+            Some(_) => Side::Original,
+            None => Side::Fixed,
+        }
     }
 }

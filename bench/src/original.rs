@@ -8,13 +8,16 @@ use lexical_util::iterator::{AsBytes, Bytes, DigitsIter, Iter};
 pub struct Original<const WORD: u128>;
 
 impl<const WORD: u128> Buffers for Original<WORD> {
-    const RADIX: u32 = Rule::<WORD>::RADIX;
     type Bytes<'a> = Bytes<'a, WORD>;
+
+    fn radix(_word: u128) -> u32 {
+        Rule::<WORD>::RADIX
+    }
 }
 
 impl<'a, const WORD: u128> Buffer<'a> for Bytes<'a, WORD> {
     #[inline(always)]
-    fn over(text: &'a [u8]) -> Self {
+    fn over(text: &'a [u8], _word: u128) -> Self {
         text.bytes::<WORD>()
     }
 
@@ -58,5 +61,10 @@ impl<'a, I: DigitsIter<'a>> Digits<'a> for I {
     #[inline(always)]
     fn is_digit(&self, byte: u8) -> bool {
         DigitsIter::is_digit(self, byte)
+    }
+
+    #[inline(always)]
+    fn skip_zeros(&mut self) -> usize {
+        DigitsIter::skip_zeros(self)
     }
 }

@@ -5,11 +5,10 @@ use crate::cases::{self, Case};
 use crate::hostile;
 use crate::medians::{Medians, Side};
 use crate::svg::{ink, Anchor, Font, Mark, Point, Svg};
-use crate::table::KEPT;
 
 const WIDTH: f64 = 960.0;
 /// Where the area of both panels begins and ends.
-const LEFT: f64 = 270.0;
+const LEFT: f64 = 300.0;
 const RIGHT: f64 = 920.0;
 /// Where the rows of the ratios begin, and how high one is.
 const TOP: f64 = 100.0;
@@ -26,8 +25,8 @@ const NOTE: Font = Font { size: 13.0, is_bold: false, colour: ink::SOFT };
 
 /// The colour of a target.
 const TARGET: &str = "#c9a0b8";
-/// The sides that the library is compared with, that which lies on top last.
-const BASELINES: [Side; 2] = [Side::Fixed, Side::Original];
+/// The sides of the library, that which lies on top last.
+const DRAWN: [Side; 2] = [Side::Library, Side::Constant];
 
 /// A logarithmic axis.
 struct Axis {
@@ -54,6 +53,8 @@ impl Axis {
 fn look_of(side: Side) -> (&'static str, Mark) {
     match side {
         Side::Library => ("#1b7f5c", Mark::Disc),
+        Side::Constant => ("#7a3fa0", Mark::Diamond),
+        Side::Floor => ("#b0486a", Mark::Square),
         Side::Fixed => ("#e08a00", Mark::Diamond),
         Side::Original => ("#2563b8", Mark::Disc),
         Side::Filter => ("#8a919b", Mark::Square),
@@ -65,17 +66,16 @@ pub fn svg(medians: &Medians) -> String {
     let is_measured = |case: &Case| medians.timing(case.name, Side::Library).is_some();
     let cases: Vec<Case> = cases::all().into_iter().filter(is_measured).collect();
     let bottom = TOP + ROW * cases.len() as f64;
-    let name = "Time of the library beside the same calls in Rust";
+    let name = "Time of the library to that of the original";
     let mut svg = Svg::new(WIDTH, bottom + GAP + RUNS + 70.0, name);
     draw_ratios(&mut svg, &cases, medians, bottom);
     draw_runs(&mut svg, medians, bottom + GAP);
     svg.finish()
 }
 
-/// The library's time to that of a side.
+/// The time of a side of the library to that of the original.
 fn ratio(medians: &Medians, case: &str, side: Side) -> Option<f64> {
-    let library = medians.timing(case, Side::Library)?.least;
-    Some(library / medians.timing(case, side)?.least)
+    medians.ratio(case, side, medians.fixed_side(case))
 }
 
 fn draw_ratios(svg: &mut Svg, cases: &[Case], medians: &Medians, bottom: f64) {
@@ -99,7 +99,7 @@ fn draw_ratios(svg: &mut Svg, cases: &[Case], medians: &Medians, bottom: f64) {
 /// An axis that all ratios lie on.
 fn ratio_axis(cases: &[Case], medians: &Medians) -> Axis {
     let of_case =
-        |case: &Case| BASELINES.map(|side| ratio(medians, case.name, side)).into_iter().flatten();
+        |case: &Case| DRAWN.map(|side| ratio(medians, case.name, side)).into_iter().flatten();
     let ratios: Vec<f64> = cases.iter().flat_map(of_case).collect();
     let least = ratios.iter().copied().fold(0.5, f64::min) / 1.05;
     let greatest = ratios.iter().copied().fold(2.0, f64::max) * 1.05;
@@ -116,15 +116,15 @@ fn draw_ratio_axis(svg: &mut Svg, axis: &Axis, bottom: f64) {
         svg.text(label, Anchor::Middle, LABEL, &step.to_string());
     }
     let middle = Point { x: (LEFT + RIGHT) / 2.0, y: bottom + 42.0 };
-    let title = "time of the library / time of the other side (left of 1: the library is faster)";
+    let title = "time of the library / time of the original (left of 1: the library is faster)";
     svg.text(middle, Anchor::Middle, NOTE, title);
 }
 
 /// The target as a bar, and the ratios.
 fn draw_case(svg: &mut Svg, case: &Case, medians: &Medians, axis: &Axis, y: f64) {
-    let target = Point { x: axis.at(case.target) - 1.5, y: y - 0.36 * ROW };
+    let target = Point { x: axis.at(case.to_original()) - 1.5, y: y - 0.36 * ROW };
     svg.rect(target, 3.0, 0.72 * ROW, TARGET);
-    for side in BASELINES {
+    for side in DRAWN {
         if let Some(ratio) = ratio(medians, case.name, side) {
             let (colour, mark) = look_of(side);
             svg.mark(mark, Point { x: axis.at(ratio), y }, colour);
@@ -135,20 +135,20 @@ fn draw_case(svg: &mut Svg, case: &Case, medians: &Medians, axis: &Axis, y: f64)
 fn draw_ratio_legend(svg: &mut Svg, medians: &Medians) {
     let y = 72.0;
     let mut x = LEFT;
-    for side in BASELINES.into_iter().filter(|&side| medians.has(side)) {
+    let labels = ["word at run time", "constant word"];
+    for (side, label) in DRAWN.into_iter().zip(labels).filter(|(side, _)| medians.has(*side)) {
         let (colour, mark) = look_of(side);
         svg.mark(mark, Point { x, y: y - 4.5 }, colour);
-        let label = format!("to the {}", side.name().to_lowercase());
-        svg.text(Point { x: x + 12.0, y }, Anchor::Start, LABEL, &label);
+        svg.text(Point { x: x + 12.0, y }, Anchor::Start, LABEL, label);
         x += 150.0;
     }
     svg.rect(Point { x: x - 1.5, y: y - 12.0 }, 3.0, 15.0, TARGET);
-    svg.text(Point { x: x + 10.0, y }, Anchor::Start, LABEL, "target, at most");
+    svg.text(Point { x: x + 10.0, y }, Anchor::Start, LABEL, "target of a constant word");
 }
 
 fn draw_runs(svg: &mut Svg, medians: &Medians, top: f64) {
     let name = hostile::NAMES[0];
-    let sides = [Side::Filter, Side::Fixed, Side::Original, Side::Library];
+    let sides = [Side::Filter, Side::Floor, Side::Original, Side::Library];
     let curves = sides.map(|side| (side, curve(medians, name, side)));
     let greatest = curves.iter().flat_map(|(_, values)| values).map(|value| value.1);
     let greatest = greatest.fold(10.0, f64::max);
@@ -185,10 +185,6 @@ fn draw_run_axes(svg: &mut Svg, across: &Axis, up: &Axis) {
         let label = Point { x: across.from - 10.0, y: y + 4.5 };
         svg.text(label, Anchor::End, LABEL, &grouped(time as usize));
     }
-    let target = up.at(KEPT);
-    svg.line(Point { x: across.from, y: target }, Point { x: across.to, y: target }, TARGET, 2.0);
-    let label = Point { x: across.from + 8.0, y: target + 16.0 };
-    svg.text(label, Anchor::Start, NOTE, "target of the library, at most");
     let corner = Point { x: across.from, y: up.from };
     svg.line(corner, Point { x: across.to, y: up.from }, ink::AXIS, 1.5);
     svg.line(corner, Point { x: across.from, y: up.to }, ink::AXIS, 1.5);

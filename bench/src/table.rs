@@ -1,11 +1,9 @@
-//! The tables, as Markdown.
+//! The tables of all cases, as Markdown, for contributors.
 
-use crate::cases::{self, Case};
+use crate::cases::{self, Case, TO_FLOOR};
 use crate::hostile;
 use crate::medians::{Medians, Side};
 
-/// The longest time that a byte of a kept run is to take, in nanoseconds.
-pub const KEPT: f64 = 6.0;
 /// The greatest wanted ratio of the library's time for each byte of a kept run to that on a run of
 /// [`REFERENCE`].
 const FLAT: f64 = 1.2;
@@ -22,7 +20,7 @@ pub fn print(medians: &Medians) {
 }
 
 /// Prints a table, if it has rows.
-fn print_table(head: &[String], rows: Vec<Vec<String>>) {
+pub fn print_table(head: &[String], rows: Vec<Vec<String>>) {
     if rows.is_empty() {
         return;
     }
@@ -34,60 +32,48 @@ fn print_table(head: &[String], rows: Vec<Vec<String>>) {
     println!();
 }
 
-/// The sides with calls that were measured.
-fn callers(medians: &Medians) -> impl Iterator<Item = Side> + '_ {
-    let sides = [Side::Library, Side::Fixed, Side::Original];
-    sides.into_iter().filter(|&side| medians.has(side))
-}
-
-/// The sides that the library is compared with.
-fn baselines(medians: &Medians) -> impl Iterator<Item = Side> + '_ {
-    callers(medians).filter(|&side| side != Side::Library)
+/// The sides that were measured, in the order of the table.
+fn sides(medians: &Medians) -> impl Iterator<Item = Side> + '_ {
+    Side::ALL.into_iter().filter(|&side| medians.has(side))
 }
 
 fn case_head(medians: &Medians) -> Vec<String> {
     let mut head = vec!["Case".into()];
-    for side in callers(medians) {
-        head.extend([side.name().into(), "Apart".into()]);
-    }
-    head.push(Side::Filter.name().into());
-    head.extend(baselines(medians).map(|side| format!("Library / {}", side.name().to_lowercase())));
-    head.extend(["Target".into(), "Spread".into()]);
+    head.extend(sides(medians).map(|side| side.name().into()));
+    let ratios = ["Library / floor", "Constant / fixed", "Library / fixed", "Apart", "Spread"];
+    head.extend(ratios.map(String::from));
     head
 }
 
-/// The row of a case, if it was measured.
+/// The row of a case, if it was measured. Ratios to what has its word fixed are to the original
+/// where that was measured.
 fn case_row(case: &Case, medians: &Medians) -> Option<Vec<String>> {
-    let library = medians.timing(case.name, Side::Library)?.least;
+    let library = medians.timing(case.name, Side::Library)?;
+    let fixed = medians.fixed_side(case.name);
     let mut row = vec![case.name.into()];
-    for side in callers(medians) {
-        row.extend(time_and_apart(case.name, side, medians));
-    }
-    row.push(time(case.name, Side::Filter, medians));
-    let judged = judge(case, medians);
-    for side in baselines(medians) {
-        let ratio = medians.timing(case.name, side).map(|timing| library / timing.least);
-        let target = if side == judged { case.target } else { f64::INFINITY };
-        row.push(ratio.map_or("–".into(), |ratio| at_most(ratio, target)));
-    }
-    row.extend([format!("{}", case.target), per_cent(medians.spread(case.name))]);
+    row.extend(sides(medians).map(|side| time(case.name, side, medians)));
+    let ratio = |side, other, most| ratio(medians, case.name, side, other, most);
+    row.push(ratio(Side::Library, Side::Floor, TO_FLOOR));
+    row.push(ratio(Side::Constant, fixed, case.to_original()));
+    row.push(ratio(Side::Library, fixed, f64::INFINITY));
+    row.extend([per_cent(library.apart), per_cent(medians.spread(case.name))]);
     Some(row)
 }
 
-/// The side that the target speaks of: the original, if it was measured.
-fn judge(case: &Case, medians: &Medians) -> Side {
-    match medians.timing(case.name, Side::Original) {
-        Some(_) => Side::Original,
-        None => Side::Fixed,
-    }
+/// A ratio, and whether it is above the greatest that is wanted.
+pub fn ratio(medians: &Medians, case: &str, side: Side, other: Side, most: f64) -> String {
+    medians.ratio(case, side, other).map_or("–".into(), |ratio| at_most(ratio, most))
 }
 
 fn hostile_head(medians: &Medians) -> Vec<String> {
-    let mut head = ["Case", "Separators", "Library", "Apart", "Looks"].map(String::from).to_vec();
-    head.extend(baselines(medians).map(|side| side.name().into()));
-    let rest = ["Filter", "Target", "To a run of 1,000", "Target", "Spread"];
-    head.extend(rest.map(String::from));
+    let mut head = ["Case", "Separators", "Looks"].map(String::from).to_vec();
+    head.extend(hostile_sides(medians).map(|side| side.name().into()));
+    head.extend(["To a run of 1,000", "Apart", "Spread"].map(String::from));
     head
+}
+
+fn hostile_sides(medians: &Medians) -> impl Iterator<Item = Side> + '_ {
+    sides(medians).filter(|&side| side != Side::Constant)
 }
 
 fn hostile_rows(name: &str, medians: &Medians) -> Vec<Vec<String>> {
@@ -95,31 +81,28 @@ fn hostile_rows(name: &str, medians: &Medians) -> Vec<Vec<String>> {
     let Some(reference) = reference else {
         return Vec::new();
     };
-    let lengths = hostile::LENGTHS.into_iter();
-    lengths.map(|length| hostile_row(name, length, reference.least, medians)).collect()
+    let row = |length| hostile_row(name, length, reference.least, medians);
+    hostile::LENGTHS.into_iter().filter_map(row).collect()
 }
 
-fn hostile_row(name: &str, length: usize, reference: f64, medians: &Medians) -> Vec<String> {
+fn hostile_row(
+    name: &str,
+    length: usize,
+    reference: f64,
+    medians: &Medians,
+) -> Option<Vec<String>> {
     let case = &hostile::name_at(name, length);
-    let library = medians.timing(case, Side::Library).map_or(f64::NAN, |timing| timing.least);
-    let mut row = vec![name.into(), length.to_string(), at_most(library, KEPT)];
-    row.push(time_and_apart(case, Side::Library, medians)[1].clone());
+    let library = medians.timing(case, Side::Library)?;
+    let mut row = vec![name.into(), length.to_string()];
     row.push(medians.looks(case).map_or("–".into(), |looks| format!("{looks:.2}")));
-    row.extend(baselines(medians).map(|side| time(case, side, medians)));
-    row.push(time(case, Side::Filter, medians));
-    row.push(format!("{KEPT}"));
-    row.push(at_most(library / reference, if length > REFERENCE { FLAT } else { f64::INFINITY }));
-    row.extend([format!("{FLAT}"), per_cent(medians.spread(case))]);
-    row
+    row.extend(hostile_sides(medians).map(|side| time(case, side, medians)));
+    row.push(at_most(library.least / reference, FLAT));
+    row.extend([per_cent(library.apart), per_cent(medians.spread(case))]);
+    Some(row)
 }
 
-/// A side's time in a case, and how far its placements lie apart.
-fn time_and_apart(case: &str, side: Side, medians: &Medians) -> [String; 2] {
-    let apart = medians.timing(case, side).map(|timing| per_cent(timing.apart));
-    [time(case, side, medians), apart.unwrap_or("–".into())]
-}
-
-fn time(case: &str, side: Side, medians: &Medians) -> String {
+/// A side's nanoseconds for each byte.
+pub fn time(case: &str, side: Side, medians: &Medians) -> String {
     match medians.timing(case, side).map(|timing| timing.least) {
         None => "–".into(),
         Some(long) if long >= 100.0 => format!("{long:.0}"),
@@ -127,9 +110,9 @@ fn time(case: &str, side: Side, medians: &Medians) -> String {
     }
 }
 
-/// A number, and whether it is above its target as it is printed.
-fn at_most(number: f64, target: f64) -> String {
-    let over = if (100.0 * number).round() > (100.0 * target).round() { " over" } else { "" };
+/// A number, and whether it is above what is wanted at most, as it is printed.
+fn at_most(number: f64, most: f64) -> String {
+    let over = if (100.0 * number).round() > (100.0 * most).round() { " over" } else { "" };
     format!("{number:.2}{over}")
 }
 

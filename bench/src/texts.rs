@@ -37,8 +37,18 @@ impl Random {
         b'a' + self.below(26) as u8
     }
 
-    /// A number of digits out of a range, with a separator behind each group, but for the last.
-    fn push_part(&mut self, bytes: &mut Vec<u8>, range: RangeInclusive<u64>, group: Option<u64>) {
+    /// A digit of radix 16, its letter in either case.
+    fn hex_digit(&mut self) -> u8 {
+        b"0123456789abcdefABCDEF"[self.below(22) as usize]
+    }
+
+    /// A number of digits out of a range, with a separator after each group except the last.
+    fn push_component(
+        &mut self,
+        bytes: &mut Vec<u8>,
+        range: RangeInclusive<u64>,
+        group: Option<u64>,
+    ) {
         let digits = range.start() + self.below(range.end() - range.start() + 1);
         for at in 0..digits {
             if at > 0 && group.is_some_and(|group| at.is_multiple_of(group)) {
@@ -52,52 +62,71 @@ impl Random {
 const SEED: u64 = 0x9E37_79B9_7F4A_7C15;
 const MEBIBYTE: usize = 1 << 20;
 
+/// A mebibyte of what a function gives for each position.
+fn mebibyte(mut byte: impl FnMut(usize, &mut Random) -> u8) -> Text {
+    let mut random = Random(SEED);
+    let bytes: Vec<u8> = (0..MEBIBYTE).map(|at| byte(at, &mut random)).collect();
+    bytes.into()
+}
+
 /// A mebibyte of digits.
 pub fn digits() -> Text {
-    let mut random = Random(SEED);
-    let bytes: Vec<u8> = (0..MEBIBYTE).map(|_| random.digit()).collect();
-    bytes.into()
+    mebibyte(|_, random| random.digit())
+}
+
+/// A mebibyte of digits of radix 16.
+pub fn hex_digits() -> Text {
+    mebibyte(|_, random| random.hex_digit())
 }
 
 /// A mebibyte with a separator at each third byte, between digits.
 pub fn each_third() -> Text {
-    let mut random = Random(SEED);
-    let byte = |at| if at % 3 == 2 { b'_' } else { random.digit() };
-    let bytes: Vec<u8> = (0..MEBIBYTE).map(byte).collect();
-    bytes.into()
+    mebibyte(|at, random| if at % 3 == 2 { b'_' } else { random.digit() })
 }
 
 /// A mebibyte of as many digits as separators, in runs of that length.
 pub fn runs(length: usize) -> Text {
-    let mut random = Random(SEED);
-    let byte = |at: usize| {
-        if at / length % 2 == 1 {
-            b'_'
-        } else {
-            random.digit()
-        }
-    };
-    let bytes: Vec<u8> = (0..MEBIBYTE).map(byte).collect();
-    bytes.into()
+    mebibyte(|at, random| if at / length % 2 == 1 { b'_' } else { random.digit() })
 }
 
 /// About a mebibyte of numbers of 8 to 20 bytes; grouped by threes where `grouped` says so.
 pub fn numbers(grouped: bool) -> Text {
+    numbers_of(grouped, Random::digit, None)
+}
+
+/// The same in radix 16.
+pub fn hex_numbers(grouped: bool) -> Text {
+    numbers_of(grouped, Random::hex_digit, None)
+}
+
+/// The same, each with a comma after it.
+pub fn stopped_numbers(grouped: bool) -> Text {
+    numbers_of(grouped, Random::digit, Some(b','))
+}
+
+/// About a mebibyte of numbers of 8 to 20 zeros and a 7 after each.
+pub fn zeros(grouped: bool) -> Text {
+    numbers_of(grouped, |_| b'0', Some(b'7'))
+}
+
+/// About a mebibyte of numbers of 8 to 20 bytes, with the byte `end` after each.
+fn numbers_of(grouped: bool, digit: fn(&mut Random) -> u8, end: Option<u8>) -> Text {
     let mut random = Random(SEED);
     let mut text = Text::default();
     while text.bytes.len() < MEBIBYTE {
         let length = 8 + random.below(13) as u8;
         for at in 0..length {
             let is_separator = grouped && at > 0 && (length - at).is_multiple_of(4);
-            text.bytes.push(if is_separator { b'_' } else { random.digit() });
+            text.bytes.push(if is_separator { b'_' } else { digit(&mut random) });
         }
-        text.lengths.push(length);
+        text.bytes.extend(end);
+        text.lengths.push(length + u8::from(end.is_some()));
     }
     text
 }
 
-/// About a mebibyte of numbers of 8 to 20 digits, some above `u64::MAX`, and the digits alone
-/// beside them; grouped by threes where `grouped` says so.
+/// About a mebibyte of numbers of 8 to 20 digits, some above `u64::MAX`, and the same digits
+/// without separators; grouped by threes where `grouped` says so.
 pub fn literals(grouped: bool) -> Text {
     let mut random = Random(SEED);
     let mut text = Text::default();
@@ -120,9 +149,7 @@ pub fn literals(grouped: bool) -> Text {
 
 /// A mebibyte of bytes that are neither digits nor separators.
 pub fn others() -> Text {
-    let mut random = Random(SEED);
-    let bytes: Vec<u8> = (0..MEBIBYTE).map(|_| random.letter()).collect();
-    bytes.into()
+    mebibyte(|_, random| random.letter())
 }
 
 /// About a mebibyte of numbers of an integer, a fraction and an exponent, as `1234.56789e12`; with
@@ -132,11 +159,11 @@ pub fn floats(grouped: bool) -> Text {
     let mut text = Text::default();
     while text.bytes.len() < MEBIBYTE {
         let start = text.bytes.len();
-        random.push_part(&mut text.bytes, 4..=9, grouped.then_some(3));
+        random.push_component(&mut text.bytes, 4..=9, grouped.then_some(3));
         text.bytes.push(b'.');
-        random.push_part(&mut text.bytes, 4..=9, grouped.then_some(3));
+        random.push_component(&mut text.bytes, 4..=9, grouped.then_some(3));
         text.bytes.push(b'e');
-        random.push_part(&mut text.bytes, 2..=2, grouped.then_some(1));
+        random.push_component(&mut text.bytes, 2..=2, grouped.then_some(1));
         text.lengths.push((text.bytes.len() - start) as u8);
     }
     text

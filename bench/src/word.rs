@@ -28,6 +28,13 @@ pub const IC: u128 = I | CONSECUTIVE;
 pub const LC: u128 = UNGRANTED | LEADING | CONSECUTIVE;
 /// Every separator is dropped.
 pub const ILTC: u128 = IC | LEADING | TRAILING;
+/// As [`I`], in radix 16.
+pub const I_16: u128 = I + (6 << 104);
+
+/// Whether the library has code of its own for the word as a constant.
+pub fn is_constant(word: u128) -> bool {
+    [NONE, I, IC, ILTC, I_IN_ALL, I_16].contains(&word)
+}
 
 /// The word with the separator `_` and the flags that the four lowest bits say, internal, leading,
 /// trailing and consecutive.
@@ -45,15 +52,15 @@ pub const fn in_all(word: u128) -> u128 {
     word | flags << FRACTION | flags << EXPONENT
 }
 
-/// The integer, as a part of a number.
+/// The integer, as a component of a number.
 pub const INTEGER: u32 = 0;
 /// The fraction.
 pub const FRACTION: u32 = 1;
 /// The exponent.
 pub const EXPONENT: u32 = 2;
 
-/// Whether the code of lexical-util answers as the role rule does, in each part of a number. In
-/// five of the sixteen flag states it doesn't.
+/// Whether the code of lexical-util answers as the role rule does, in each component. In five of
+/// the sixteen flag states it doesn't.
 #[cfg_attr(not(feature = "original"), allow(dead_code))]
 pub const fn original_agrees(word: u128) -> bool {
     state_agrees(word) && state_agrees(word >> FRACTION) && state_agrees(word >> EXPONENT)
@@ -76,13 +83,13 @@ pub enum Class {
     Other,
 }
 
-/// The rule of a part of a number under a word.
-pub struct Rule<const WORD: u128, const PART: u32 = INTEGER>;
+/// The rule of a component under a word.
+pub struct Rule<const WORD: u128, const COMPONENT: u32 = INTEGER>;
 
-impl<const WORD: u128, const PART: u32> Rule<WORD, PART> {
+impl<const WORD: u128, const COMPONENT: u32> Rule<WORD, COMPONENT> {
     pub const SEPARATOR: u8 = (WORD >> 64) as u8;
     pub const RADIX: u32 = (WORD >> 104) as u8 as u32;
-    const GRANTED: u128 = WORD >> PART;
+    const GRANTED: u128 = WORD >> COMPONENT;
     pub const INTERNAL: bool = Self::GRANTED & INTERNAL != 0;
     pub const LEADING: bool = Self::GRANTED & LEADING != 0;
     pub const TRAILING: bool = Self::GRANTED & TRAILING != 0;

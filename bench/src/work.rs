@@ -1,14 +1,15 @@
 //! What is done with a text, on each of the sides.
 
 use crate::calls::drained;
-use crate::filter::filter;
+use crate::filter::filtered;
 use crate::fixed::Fixed;
-use crate::library::{self, Export, ManyExport, Outcome};
+use crate::floor::Floor;
+use crate::library::{self, Export, Format, ManyExport, Outcome};
 use crate::medians::Side;
 #[cfg(feature = "original")]
 use crate::original::Original;
 use crate::texts::Text;
-use crate::word::{Rule, NONE};
+use crate::word::{is_constant, NONE};
 
 /// What is done with a text.
 #[derive(Clone, Copy)]
@@ -23,12 +24,23 @@ pub enum Work {
     Handed,
     /// Makes a number of each of many short texts, and adds these up.
     Numbers,
+    /// Makes a number of the digits that begin each of many texts, by `peek`, `is_digit` and
+    /// `next`.
+    Stopped,
     /// Reads each of many integer literals, and adds up those that `u64` holds. In place of the
-    /// filter stands `u64::from_str_radix`, on the digits alone.
+    /// filter stands `str::parse`, on the digits without separators.
     Literals,
+    /// Counts the digits that begin each of many texts: the library by `pass_digits`.
+    Digits,
+    /// Counts the zeros that begin each of many texts: the library by `pass_zeros`.
+    Zeros,
     /// Reads the integer, the fraction and the exponent of each of many numbers, each by an
     /// iterator of its own over one `Bytes`.
     Floats,
+    /// The same: the library by `next_of`.
+    FloatsOf,
+    /// Reads integer and fraction as one value, and the exponent: the library by `read_digits_of`.
+    Mantissas,
 }
 
 /// One side's way to do the work.
@@ -36,67 +48,78 @@ pub type Way = Box<dyn Fn(&Text) -> Outcome>;
 
 /// One piece of work on the sides.
 pub struct Sides {
-    /// The proved library.
+    /// The proved library, which learns the word at run time.
     pub library: Way,
-    /// The same calls in Rust, with the word fixed when the program is compiled.
+    /// The same exports with the word as a constant.
+    pub constant: Option<Way>,
+    /// Calls in Rust that learn the word at run time.
+    pub floor: Way,
+    /// Calls in Rust, with the word fixed when the program is compiled.
     pub fixed: Way,
     /// The crate lexical-util, where it is there and its rules are those of the others.
     pub original: Option<Way>,
     /// One pass over the slice.
-    pub filter: Way,
+    pub filter: Option<Way>,
 }
 
 impl Sides {
-    /// The work under a word, by the iterators that pass over separators.
+    /// The work under a word, by the iterators that drop separators.
     pub fn skip<const WORD: u128>(work: Work) -> Sides {
-        Sides::of::<WORD>(skipping(work, WORD), work)
+        Sides::of::<WORD>(|format| skipping(work, format), work)
     }
 
-    /// The work without flags, by the iterator that passes over nothing; not handed in, and not on
-    /// many texts.
+    /// The work without flags, by the iterator that drops nothing; not handed in, and not on many
+    /// texts.
     pub fn plain(work: Work) -> Sides {
         let export = match work {
             Work::Sum => library::digit_bench_plain_sum,
             Work::Peeked => library::digit_bench_plain_peeked,
             _ => library::digit_bench_plain_number,
         };
-        Sides::of::<NONE>(exported(export, NONE), work)
+        Sides::of::<NONE>(|format| exported(export, format), work)
     }
 
-    fn of<const WORD: u128>(library: Way, work: Work) -> Sides {
+    fn of<const WORD: u128>(library: impl Fn(Format) -> Way, work: Work) -> Sides {
+        let at_run_time = Format { word: WORD, is_constant: false };
+        let constant = Format { is_constant: true, ..at_run_time };
         Sides {
-            library,
-            fixed: Box::new(drained::<Fixed<WORD>>(work)),
+            library: library(at_run_time),
+            constant: is_constant(WORD).then(|| library(constant)),
+            floor: drained::<Floor>(work, WORD),
+            fixed: drained::<Fixed<WORD>>(work, WORD),
             original: original::<WORD>(work),
-            filter: Box::new(filtered::<WORD>(work)),
+            filter: filtered::<WORD>(work),
         }
     }
 
     /// The sides that are there.
     pub fn named(&self) -> impl Iterator<Item = (Side, &Way)> {
         [
-            Some((Side::Library, &self.library)),
-            Some((Side::Fixed, &self.fixed)),
-            self.original.as_ref().map(|original| (Side::Original, original)),
-            Some((Side::Filter, &self.filter)),
+            (Side::Library, Some(&self.library)),
+            (Side::Constant, self.constant.as_ref()),
+            (Side::Floor, Some(&self.floor)),
+            (Side::Fixed, Some(&self.fixed)),
+            (Side::Original, self.original.as_ref()),
+            (Side::Filter, self.filter.as_ref()),
         ]
         .into_iter()
-        .flatten()
+        .filter_map(|(side, way)| Some((side, way?)))
     }
 
     /// Ends the program unless the sides agree on a text. The filter has no count.
     pub fn check(&self, name: &str, text: &Text) {
-        let filter = (self.filter)(text);
         let library = self.check_calls(name, text);
-        assert_eq!(library.value, filter.value, "{name}: library and filter");
+        if let Some(filter) = &self.filter {
+            assert_eq!(library.value, filter(text).value, "{name}: library and filter");
+        }
     }
 
     /// Ends the program unless the sides that have calls agree on a text.
     pub fn check_calls(&self, name: &str, text: &Text) -> Outcome {
         let library = (self.library)(text);
-        let fixed = (self.fixed)(text);
-        let original = self.original.as_ref().map_or(fixed, |original| original(text));
-        for (side, other) in [("fixed word", fixed), ("original", original)] {
+        for (side, way) in self.named().filter(|(side, _)| *side != Side::Filter) {
+            let other = way(text);
+            let side = side.name();
             assert_eq!(library.value, other.value, "{name}: library and {side}");
             assert_eq!(library.count, other.count, "{name}: counts of library and {side}");
         }
@@ -104,31 +127,35 @@ impl Sides {
     }
 }
 
-/// The library's work by the iterators that pass over separators.
-fn skipping(work: Work, word: u128) -> Way {
+/// The library's work by the iterators that drop separators.
+fn skipping(work: Work, format: Format) -> Way {
     match work {
-        Work::Sum => exported(library::digit_bench_sum, word),
-        Work::Number => exported(library::digit_bench_number, word),
-        Work::Peeked => exported(library::digit_bench_peeked, word),
-        Work::Handed => exported(library::digit_bench_handed, word),
-        Work::Numbers => exported_many(library::digit_bench_numbers, word),
-        Work::Literals => exported_many(library::digit_bench_literals, word),
-        Work::Floats => exported_many(library::digit_bench_floats, word),
+        Work::Sum => exported(library::digit_bench_sum, format),
+        Work::Number => exported(library::digit_bench_number, format),
+        Work::Peeked => exported(library::digit_bench_peeked, format),
+        Work::Handed => exported(library::digit_bench_handed, format),
+        Work::Numbers => exported_many(library::digit_bench_numbers, format),
+        Work::Stopped => exported_many(library::digit_bench_stopped, format),
+        Work::Literals => exported_many(library::digit_bench_literals, format),
+        Work::Digits => exported_many(library::digit_bench_digits, format),
+        Work::Zeros => exported_many(library::digit_bench_zeros, format),
+        Work::Floats => exported_many(library::digit_bench_floats, format),
+        Work::FloatsOf => exported_many(library::digit_bench_floats_of, format),
+        Work::Mantissas => exported_many(library::digit_bench_mantissas, format),
     }
 }
 
-fn exported(export: Export, word: u128) -> Way {
-    Box::new(move |text| library::call(export, &text.bytes, word))
+fn exported(export: Export, format: Format) -> Way {
+    Box::new(move |text| library::call(export, &text.bytes, format))
 }
 
-fn exported_many(export: ManyExport, word: u128) -> Way {
-    Box::new(move |text| library::call_many(export, &text.bytes, &text.lengths, word))
+fn exported_many(export: ManyExport, format: Format) -> Way {
+    Box::new(move |text| library::call_many(export, &text.bytes, &text.lengths, format))
 }
 
 #[cfg(feature = "original")]
 fn original<const WORD: u128>(work: Work) -> Option<Way> {
-    let agrees = crate::word::original_agrees(WORD);
-    agrees.then(|| Box::new(drained::<Original<WORD>>(work)) as Way)
+    crate::word::original_agrees(WORD).then(|| drained::<Original<WORD>>(work, WORD))
 }
 
 #[cfg(not(feature = "original"))]
@@ -142,7 +169,7 @@ pub fn with_digit(number: u64, byte: u8) -> u64 {
     number.wrapping_mul(10).wrapping_add(u64::from(byte))
 }
 
-/// The three parts of a number as one value.
+/// The three components of a number as one value.
 #[inline(always)]
 pub fn float_of([integer, fraction, exponent]: [u64; 3]) -> u64 {
     let mantissa = integer.wrapping_mul(31).wrapping_add(fraction);
@@ -164,55 +191,4 @@ pub fn each(text: &Text, work: impl Fn(&[u8]) -> Outcome) -> Outcome {
         rest = others;
     }
     total
-}
-
-fn filtered<const WORD: u128>(work: Work) -> fn(&Text) -> Outcome {
-    match work {
-        Work::Sum => |text| {
-            let mut sum = 0u64;
-            filter::<WORD>(&text.bytes, |byte| sum = sum.wrapping_add(u64::from(byte)));
-            of_value(sum)
-        },
-        Work::Number | Work::Peeked | Work::Handed => {
-            |text| of_value(filtered_number::<WORD>(&text.bytes))
-        }
-        Work::Numbers => |text| each(text, |text| of_value(filtered_number::<WORD>(text))),
-        Work::Literals => |text| each_parsed(text, Rule::<WORD>::RADIX),
-        Work::Floats => |text| each(text, filtered_float::<WORD>),
-    }
-}
-
-/// The value of each number by its digits alone, added up where `u64` holds it.
-fn each_parsed(text: &Text, radix: u32) -> Outcome {
-    let mut total = 0u64;
-    let mut rest = &text.digits[..];
-    for &length in &text.digit_lengths {
-        let (first, others) = rest.split_at(length.into());
-        total = total.wrapping_add(u64::from_str_radix(first, radix).unwrap_or(0));
-        rest = others;
-    }
-    of_value(total)
-}
-
-#[inline(always)]
-fn filtered_number<const WORD: u128>(text: &[u8]) -> u64 {
-    let mut number = 0;
-    filter::<WORD>(text, |byte| number = with_digit(number, byte));
-    number
-}
-
-/// The parts of a number, which lie between the bytes that are neither digits nor separators. All
-/// go by the integer's flags.
-#[inline(always)]
-fn filtered_float<const WORD: u128>(text: &[u8]) -> Outcome {
-    let ends = |&byte: &u8| !Rule::<WORD>::is_digit(byte) && !Rule::<WORD>::is_separator(byte);
-    let mut numbers = [0; 3];
-    for (number, part) in numbers.iter_mut().zip(text.split(ends)) {
-        *number = filtered_number::<WORD>(part);
-    }
-    of_value(float_of(numbers))
-}
-
-fn of_value(value: u64) -> Outcome {
-    Outcome { value, ..Outcome::default() }
 }

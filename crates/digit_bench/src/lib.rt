@@ -1,28 +1,46 @@
-//! The digit iterators as a C library, for the benchmark beside the crates. Each export drains a
-//! text by the public calls of the iterators' crates, and tells what came of it; under a word that
-//! isn't supported it leaves the outcome as it was. A word comes as its two halves.
+//! The calls that the benchmark times, as a C library. Each export does one piece of work by the
+//! public calls of the libraries. Under a word that isn't supported it answers nothing. A word
+//! crosses as its two halves, low and high.
 #![tactic(auto)]
 
-mod floats;
+mod components;
+mod drains;
+mod format;
 mod literals;
 mod loops;
 mod plain;
-mod skip;
+mod work;
 
-/// What a drain came to.
+/// What a piece of work came to.
 #[repr(C)]
-#[derive(Drop)]
+#[derive(Clone, Copy)]
 pub struct Outcome {
-    /// The sum of the bytes, or the number that they make, as the export says.
+    /// The sum of the bytes, or the number that they make, as the work says.
     pub value: u64,
-    /// What `current_count` answers after the drain.
+    /// What `current_count` answers after the work.
     pub count: u64,
     /// How many looks at a byte were counted; 0 where none are.
     pub looks: u64,
 }
 
-/// The format word of its two halves.
-#[inline(always)]
-fn word_of(low: u64, high: u64) -> u128 {
-    ((high as u128) << 64) | (low as u128)
+impl Outcome {
+    /// Of no work.
+    #[inline(always)]
+    fn nothing() -> Outcome {
+        Outcome {
+            value: 0,
+            count: 0,
+            looks: 0,
+        }
+    }
+
+    /// Of this work and another.
+    #[inline(always)]
+    fn with(self, other: Outcome) -> Outcome {
+        Outcome {
+            value: self.value.wrapping_add(other.value),
+            count: self.count.wrapping_add(other.count),
+            looks: self.looks.wrapping_add(other.looks),
+        }
+    }
 }

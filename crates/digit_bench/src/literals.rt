@@ -1,42 +1,85 @@
-//! Integer literals by `digit_literals`.
+//! Integer literals, digits and zeros by `digit_literals`.
 
-ghost use Rattle.std.specs.Prelude.{IsTrue};
-ghost use Rattle.lexical_format.specs.Word.{is_supported};
+use super::Outcome;
+use super::drains::drained;
+use super::format::Format;
+use super::work::{Work, run_each};
+use digit_literals::{pass_digits, pass_zeros, read_integer};
+use lexical_digits::skip::{Bytes, Component};
 
-use super::{Outcome, word_of};
-use digit_literals::read_integer;
-use lexical_format::is_supported;
+/// Reads a literal by `read_integer`. The count is where it ends; nothing where there is none.
+struct Literals;
 
-/// Adds the value of a literal, and where it ends; nothing where there is none.
-#[inline(always)]
-fn add_literal(text: &[u8], word: u128, outcome: &mut Outcome)
-    requires { IsTrue (is_supported word) }
-{
-    if let Ok((value, end)) = read_integer(text, word) {
-        outcome.value = outcome.value.wrapping_add(value);
-        outcome.count = outcome.count.wrapping_add(end as u64);
+impl Work for Literals {
+    #[inline(always)]
+    fn on<F: Format>(text: &[u8], format: F) -> Outcome {
+        match read_integer(text, format.word()) {
+            Ok((value, end)) => Outcome {
+                value,
+                count: end as u64,
+                looks: 0,
+            },
+            Err(_) => Outcome::nothing(),
+        }
     }
 }
 
-/// Reads many integer literals: they stand one behind another, and `lengths` are theirs. Adds up
-/// the values, and the positions where each ends. Stops where the bytes don't suffice for a length.
+/// Passes the digits that come first. The value is how many there are.
+struct Digits;
+
+impl Work for Digits {
+    #[inline(always)]
+    fn on<F: Format>(text: &[u8], format: F) -> Outcome {
+        let mut bytes = Bytes::new(text, format.word());
+        let digits = pass_digits(&mut bytes, Component::Integer);
+        drained(digits as u64, &bytes)
+    }
+}
+
+/// Passes the zeros that come first. The value is how many there are.
+struct Zeros;
+
+impl Work for Zeros {
+    #[inline(always)]
+    fn on<F: Format>(text: &[u8], format: F) -> Outcome {
+        let mut bytes = Bytes::new(text, format.word());
+        let zeros = pass_zeros(&mut bytes, Component::Integer);
+        drained(zeros as u64, &bytes)
+    }
+}
+
 #[unsafe(no_mangle)]
 pub extern "C" fn digit_bench_literals(
     text: &[u8],
     lengths: &[u8],
     low: u64,
     high: u64,
+    is_constant: u32,
     outcome: &mut Outcome,
 ) {
-    let word = word_of(low, high);
-    if is_supported(word) {
-        let mut rest = text;
-        for length in lengths {
-            let Some((first, others)) = rest.split_at_checked(*length as usize) else {
-                break;
-            };
-            add_literal(first, word, outcome);
-            rest = others;
-        }
-    }
+    *outcome = run_each::<Literals>(text, lengths, low, high, is_constant);
+}
+
+#[unsafe(no_mangle)]
+pub extern "C" fn digit_bench_digits(
+    text: &[u8],
+    lengths: &[u8],
+    low: u64,
+    high: u64,
+    is_constant: u32,
+    outcome: &mut Outcome,
+) {
+    *outcome = run_each::<Digits>(text, lengths, low, high, is_constant);
+}
+
+#[unsafe(no_mangle)]
+pub extern "C" fn digit_bench_zeros(
+    text: &[u8],
+    lengths: &[u8],
+    low: u64,
+    high: u64,
+    is_constant: u32,
+    outcome: &mut Outcome,
+) {
+    *outcome = run_each::<Zeros>(text, lengths, low, high, is_constant);
 }

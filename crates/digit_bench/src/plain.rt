@@ -1,56 +1,86 @@
-//! Drains by `lexical_plain`, which passes over nothing.
+//! Drains by `lexical_plain`, which drops nothing. No looks are counted.
 
-use super::{Outcome, loops, word_of};
+use super::format::Format;
+use super::work::{Work, run};
+use super::{Outcome, loops};
 use lexical_digits::iterator::Iter;
-use lexical_format::is_supported;
 use lexical_plain::noskip::Bytes;
 
-/// Tells what a drain left. No looks are counted.
+/// What a drain came to.
 #[inline(always)]
-fn tell(value: u64, bytes: &Bytes, outcome: &mut Outcome) {
-    outcome.value = value;
-    outcome.count = bytes.current_count() as u64;
-}
-
-/// Drains by `next`. The value is the sum of the bytes.
-#[unsafe(no_mangle)]
-pub extern "C" fn digit_bench_plain_sum(text: &[u8], low: u64, high: u64, outcome: &mut Outcome) {
-    let word = word_of(low, high);
-    if is_supported(word) {
-        let mut bytes = Bytes::new(text, word);
-        let sum = loops::sum(&mut bytes.integer_iter());
-        tell(sum, &bytes, outcome);
+fn drained(value: u64, bytes: &Bytes) -> Outcome {
+    Outcome {
+        value,
+        count: bytes.current_count() as u64,
+        looks: 0,
     }
 }
 
-/// Drains by `next`. The value is the number that the bytes make.
+/// Sums the bytes, by `next`.
+struct Sum;
+
+impl Work for Sum {
+    #[inline(always)]
+    fn on<F: Format>(text: &[u8], format: F) -> Outcome {
+        let mut bytes = Bytes::new(text, format.word());
+        let sum = loops::sum(&mut bytes.integer_iter(), format);
+        drained(sum, &bytes)
+    }
+}
+
+/// Makes a number of the bytes, by `next`.
+struct Number;
+
+impl Work for Number {
+    #[inline(always)]
+    fn on<F: Format>(text: &[u8], format: F) -> Outcome {
+        let mut bytes = Bytes::new(text, format.word());
+        let number = loops::number(&mut bytes.integer_iter(), format);
+        drained(number, &bytes)
+    }
+}
+
+/// Makes the number by `peek` and then `next`.
+struct Peeked;
+
+impl Work for Peeked {
+    #[inline(always)]
+    fn on<F: Format>(text: &[u8], format: F) -> Outcome {
+        let mut bytes = Bytes::new(text, format.word());
+        let number = loops::peeked_number(&mut bytes.integer_iter(), format);
+        drained(number, &bytes)
+    }
+}
+
+#[unsafe(no_mangle)]
+pub extern "C" fn digit_bench_plain_sum(
+    text: &[u8],
+    low: u64,
+    high: u64,
+    is_constant: u32,
+    outcome: &mut Outcome,
+) {
+    *outcome = run::<Sum>(text, low, high, is_constant);
+}
+
 #[unsafe(no_mangle)]
 pub extern "C" fn digit_bench_plain_number(
     text: &[u8],
     low: u64,
     high: u64,
+    is_constant: u32,
     outcome: &mut Outcome,
 ) {
-    let word = word_of(low, high);
-    if is_supported(word) {
-        let mut bytes = Bytes::new(text, word);
-        let number = loops::number(&mut bytes.integer_iter());
-        tell(number, &bytes, outcome);
-    }
+    *outcome = run::<Number>(text, low, high, is_constant);
 }
 
-/// Drains by `peek` and then `next`. The value is the number that the bytes make.
 #[unsafe(no_mangle)]
 pub extern "C" fn digit_bench_plain_peeked(
     text: &[u8],
     low: u64,
     high: u64,
+    is_constant: u32,
     outcome: &mut Outcome,
 ) {
-    let word = word_of(low, high);
-    if is_supported(word) {
-        let mut bytes = Bytes::new(text, word);
-        let number = loops::peeked_number(&mut bytes.integer_iter());
-        tell(number, &bytes, outcome);
-    }
+    *outcome = run::<Peeked>(text, low, high, is_constant);
 }

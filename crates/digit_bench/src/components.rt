@@ -1,0 +1,123 @@
+//! Numbers of an integer, a fraction and an exponent over one `Bytes`: each component by an
+//! iterator of its own, or by the calls that name the component.
+
+use super::format::Format;
+use super::work::{Work, run_each};
+use super::{Outcome, loops};
+use digit_literals::read_digits_of;
+use lexical_digits::iterator::Iter;
+use lexical_digits::skip::{Bytes, Component};
+
+/// What the components of a number came to.
+#[inline(always)]
+fn read(integer: u64, fraction: u64, exponent: u64, bytes: &Bytes) -> Outcome {
+    let mantissa = integer.wrapping_mul(31).wrapping_add(fraction);
+    Outcome {
+        value: mantissa.wrapping_mul(31).wrapping_add(exponent),
+        count: bytes.current_count() as u64,
+        looks: bytes.looks(),
+    }
+}
+
+/// Reads the components by an iterator each. The byte that ends a component is taken too.
+struct Floats;
+
+impl Work for Floats {
+    #[inline(always)]
+    fn on<F: Format>(text: &[u8], format: F) -> Outcome {
+        let mut bytes = Bytes::new(text, format.word());
+        let integer = loops::leading_number(&mut bytes.integer_iter(), format);
+        let fraction = loops::leading_number(&mut bytes.fraction_iter(), format);
+        let exponent = loops::leading_number(&mut bytes.exponent_iter(), format);
+        read(integer, fraction, exponent, &bytes)
+    }
+}
+
+/// Reads the components by `next_of`. The byte that ends a component is taken too.
+struct FloatsOf;
+
+/// The number that the digits of a component make which come next.
+#[inline(always)]
+fn leading_number_of<F: Format>(bytes: &mut Bytes, component: Component, _format: F) -> u64 {
+    let mut number: u64 = 0;
+    while let Some(byte) = bytes.next_of(component) {
+        if !bytes.is_digit_of(component, *byte) {
+            break;
+        }
+        number = loops::with_digit(number, *byte);
+    }
+    number
+}
+
+impl Work for FloatsOf {
+    #[inline(always)]
+    fn on<F: Format>(text: &[u8], format: F) -> Outcome {
+        let mut bytes = Bytes::new(text, format.word());
+        let integer = leading_number_of(&mut bytes, Component::Integer, format);
+        let fraction = leading_number_of(&mut bytes, Component::Fraction, format);
+        let exponent = leading_number_of(&mut bytes, Component::Exponent, format);
+        read(integer, fraction, exponent, &bytes)
+    }
+}
+
+/// Reads the components by `read_digits_of`, the fraction after the integer's value. The byte that
+/// ends a component is passed by `next_of`.
+struct Mantissas;
+
+/// The value of the digits that come next, after a value; 0 where `u64` doesn't hold it.
+#[inline(always)]
+fn value_of(bytes: &mut Bytes, component: Component, before: u64) -> u64 {
+    match read_digits_of(bytes, component, before) {
+        Ok(digits) => digits.value,
+        Err(_) => 0,
+    }
+}
+
+impl Work for Mantissas {
+    #[inline(always)]
+    fn on<F: Format>(text: &[u8], format: F) -> Outcome {
+        let mut bytes = Bytes::new(text, format.word());
+        let integer = value_of(&mut bytes, Component::Integer, 0);
+        bytes.next_of(Component::Integer);
+        let mantissa = value_of(&mut bytes, Component::Fraction, integer);
+        bytes.next_of(Component::Fraction);
+        let exponent = value_of(&mut bytes, Component::Exponent, 0);
+        read(0, mantissa, exponent, &bytes)
+    }
+}
+
+#[unsafe(no_mangle)]
+pub extern "C" fn digit_bench_floats(
+    text: &[u8],
+    lengths: &[u8],
+    low: u64,
+    high: u64,
+    is_constant: u32,
+    outcome: &mut Outcome,
+) {
+    *outcome = run_each::<Floats>(text, lengths, low, high, is_constant);
+}
+
+#[unsafe(no_mangle)]
+pub extern "C" fn digit_bench_floats_of(
+    text: &[u8],
+    lengths: &[u8],
+    low: u64,
+    high: u64,
+    is_constant: u32,
+    outcome: &mut Outcome,
+) {
+    *outcome = run_each::<FloatsOf>(text, lengths, low, high, is_constant);
+}
+
+#[unsafe(no_mangle)]
+pub extern "C" fn digit_bench_mantissas(
+    text: &[u8],
+    lengths: &[u8],
+    low: u64,
+    high: u64,
+    is_constant: u32,
+    outcome: &mut Outcome,
+) {
+    *outcome = run_each::<Mantissas>(text, lengths, low, high, is_constant);
+}

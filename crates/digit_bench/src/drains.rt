@@ -1,0 +1,157 @@
+//! Drains of the integer by `lexical_digits`.
+
+use super::format::Format;
+use super::work::{Work, run, run_each};
+use super::{Outcome, loops};
+use lexical_digits::iterator::Iter;
+use lexical_digits::skip::{Bytes, Component};
+
+/// What a drain of the integer came to.
+#[inline(always)]
+pub fn drained(value: u64, bytes: &Bytes) -> Outcome {
+    Outcome {
+        value,
+        count: bytes.current_count_of(Component::Integer) as u64,
+        looks: bytes.looks(),
+    }
+}
+
+/// Sums the bytes, by `next`.
+struct Sum;
+
+impl Work for Sum {
+    #[inline(always)]
+    fn on<F: Format>(text: &[u8], format: F) -> Outcome {
+        let mut bytes = Bytes::new(text, format.word());
+        let sum = loops::sum(&mut bytes.integer_iter(), format);
+        drained(sum, &bytes)
+    }
+}
+
+/// Makes a number of the bytes, by `next`.
+struct Number;
+
+impl Work for Number {
+    #[inline(always)]
+    fn on<F: Format>(text: &[u8], format: F) -> Outcome {
+        let mut bytes = Bytes::new(text, format.word());
+        let number = loops::number(&mut bytes.integer_iter(), format);
+        drained(number, &bytes)
+    }
+}
+
+/// Makes the number by `peek` and then `next`.
+struct Peeked;
+
+impl Work for Peeked {
+    #[inline(always)]
+    fn on<F: Format>(text: &[u8], format: F) -> Outcome {
+        let mut bytes = Bytes::new(text, format.word());
+        let number = loops::peeked_number(&mut bytes.integer_iter(), format);
+        drained(number, &bytes)
+    }
+}
+
+/// Makes the number in a function that isn't inlined and gets the `Bytes`.
+struct Handed;
+
+/// The number that the bytes make which a `Bytes` still has.
+#[inline(never)]
+fn number_of<F: Format>(bytes: &mut Bytes, format: F) -> u64 {
+    loops::number(&mut bytes.integer_iter(), format)
+}
+
+impl Work for Handed {
+    #[inline(always)]
+    fn on<F: Format>(text: &[u8], format: F) -> Outcome {
+        let mut bytes = Bytes::new(text, format.word());
+        let number = number_of(&mut bytes, format);
+        drained(number, &bytes)
+    }
+}
+
+/// Makes a number of the digits that come first, by `peek`, `is_digit` and `next`.
+struct Stopped;
+
+impl Work for Stopped {
+    #[inline(always)]
+    fn on<F: Format>(text: &[u8], format: F) -> Outcome {
+        let mut bytes = Bytes::new(text, format.word());
+        let number = loops::stopped_number(&mut bytes.integer_iter(), format);
+        drained(number, &bytes)
+    }
+}
+
+#[unsafe(no_mangle)]
+pub extern "C" fn digit_bench_sum(
+    text: &[u8],
+    low: u64,
+    high: u64,
+    is_constant: u32,
+    outcome: &mut Outcome,
+) {
+    *outcome = run::<Sum>(text, low, high, is_constant);
+}
+
+#[unsafe(no_mangle)]
+pub extern "C" fn digit_bench_number(
+    text: &[u8],
+    low: u64,
+    high: u64,
+    is_constant: u32,
+    outcome: &mut Outcome,
+) {
+    *outcome = run::<Number>(text, low, high, is_constant);
+}
+
+#[unsafe(no_mangle)]
+pub extern "C" fn digit_bench_peeked(
+    text: &[u8],
+    low: u64,
+    high: u64,
+    is_constant: u32,
+    outcome: &mut Outcome,
+) {
+    *outcome = run::<Peeked>(text, low, high, is_constant);
+}
+
+#[unsafe(no_mangle)]
+pub extern "C" fn digit_bench_handed(
+    text: &[u8],
+    low: u64,
+    high: u64,
+    is_constant: u32,
+    outcome: &mut Outcome,
+) {
+    *outcome = run::<Handed>(text, low, high, is_constant);
+}
+
+#[unsafe(no_mangle)]
+pub extern "C" fn digit_bench_numbers(
+    text: &[u8],
+    lengths: &[u8],
+    low: u64,
+    high: u64,
+    is_constant: u32,
+    outcome: &mut Outcome,
+) {
+    *outcome = run_each::<Number>(text, lengths, low, high, is_constant);
+}
+
+#[unsafe(no_mangle)]
+pub extern "C" fn digit_bench_stopped(
+    text: &[u8],
+    lengths: &[u8],
+    low: u64,
+    high: u64,
+    is_constant: u32,
+    outcome: &mut Outcome,
+) {
+    *outcome = run_each::<Stopped>(text, lengths, low, high, is_constant);
+}
+
+/// How many bytes of memory a `Bytes` takes.
+#[unsafe(no_mangle)]
+pub extern "C" fn digit_bench_size() -> usize {
+    size_of::<Bytes<'static>>()
+}
