@@ -10,6 +10,7 @@ mod components;
 mod counts;
 mod cursors;
 mod decision;
+mod format;
 mod laws;
 mod literals;
 mod loans;

@@ -7,7 +7,7 @@ use Rattle.lexical_format.specs.Word.{separator}
 use Rattle.lexical_digits.specs.declared.skip.component.Component.{Component}
 use Rattle.lexical_digits.specs.declared.skip.component.Component.TheVariants.{Integer, Fraction, Exponent, Special}
 use Rattle.lexical_digits.specs.Separators.{is_digit, is_separator, place, drain, zeros, past_zeros}
-use Rattle.lexical_digits.specs.State.{State, with_cursor, rule, own, with_own, has_no_separator, is_contiguous, counts, one_more, saturating, count_after, count_of_all, current_count, cut_end, cut}
+use Rattle.lexical_digits.specs.State.{State, with_cursor, rule, own, with_own, has_no_separator, is_contiguous, counts, saturating, count_after, count_of_all, current_count, cut_end, cut}
 use Rattle.lexical_digits.specs.Cursor.{can_step, holds_of, byte_if, is_value, next_number}
 
 -- ---- what the iterator of a component finds and leaves
@@ -27,9 +27,13 @@ settled k s = with_cursor s (place_of k s)
 abbrev pub past_place : Component → State → State
 past_place k s = with_cursor s (place_of k s + 1)
 
--- `increment_count`
+-- `increment_count_of` counts that many digits
+abbrev pub counted_by : ℕ → Component → State → State
+counted_by digits k s = with_own k s (saturating (own k s) digits)
+
+-- `increment_count` counts one
 abbrev pub counted : Component → State → State
-counted k s = with_own k s (one_more (own k s))
+counted k s = counted_by 1 k s
 
 -- `next` moves the cursor past the byte at the place, and counts it if it is a digit
 unfoldable pub taken : Component → State → State

@@ -31,8 +31,6 @@ ghost use Rattle.lexical_format.specs.Word.{bit, separator, mantissa_radix, expo
 mod builder;
 mod digit;
 pub mod laws;
-#[cfg(test)]
-mod tests;
 pub mod words;
 
 pub use builder::{ALL_FLAGS, DECIMAL, DigitSeparatorFlags, NO_FLAGS, NumberFormatBuilder};

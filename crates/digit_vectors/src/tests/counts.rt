@@ -5,7 +5,7 @@ use super::steps::Step::{Count, Cursor, Increment, MoveTo, Next, Peek, SkipZeros
 use super::steps::{assert_goes, assert_part, assert_steps, assert_turns};
 use super::{CONSECUTIVE, INTERNAL, LEADING, TRAILING, UNFLAGGED, bytes_of};
 use lexical_digits::iterator::{DigitsIter, Iter, IterBodies};
-use lexical_digits::skip::{Bytes, IntegerDigitsIterator};
+use lexical_digits::skip::{Bytes, Component, IntegerDigitsIterator};
 use lexical_format::{
     EXPONENT_INTERNAL_DIGIT_SEPARATOR, FRACTION_INTERNAL_DIGIT_SEPARATOR,
     FRACTION_LEADING_DIGIT_SEPARATOR, SPECIAL_DIGIT_SEPARATOR, STANDARD,
@@ -139,4 +139,47 @@ fn a_clone_goes_on_from_the_same_state(rt: HostRuntime) -> Result<(), Fail> {
     assert_part(&rt, &mut copy, Integer, &[Count(1)]);
     assert_part(&rt, &mut copy, Integer, &[Next(Some(b'2'))]);
     Ok(())
+}
+
+/// The start of a text, with a full count of the integer, and this count of the fraction.
+fn full<'a>(rt: &impl Abort, text: &'a [u8], fraction: usize) -> Bytes<'a> {
+    let mut bytes = bytes_of(rt, text, UNFLAGGED | INTERNAL);
+    bytes.increment_count_of(Component::Integer, 1);
+    bytes.increment_count_of(Component::Integer, usize::MAX);
+    bytes.increment_count_of(Component::Fraction, fraction);
+    bytes
+}
+
+#[test]
+fn a_full_count_stays_full_through_a_drain(rt: HostRuntime) {
+    let mut bytes = full(&rt, b"_5", 0);
+    let steps = [Next(Some(b'5')), Next(None), Count(usize::MAX)];
+    assert_steps(&rt, &mut bytes.integer_iter(), &steps);
+}
+
+#[test]
+fn zeros_are_counted_apart_from_a_full_count(rt: HostRuntime) {
+    let mut bytes = full(&rt, b"00", 0);
+    assert_steps(
+        &rt,
+        &mut bytes.integer_iter(),
+        &[SkipZeros(2), Count(usize::MAX)],
+    );
+}
+
+#[test]
+fn a_full_count_and_another_have_a_full_sum(rt: HostRuntime) {
+    let bytes = full(&rt, b"", 1);
+    assert_eq!(rt; bytes.current_count(), usize::MAX);
+}
+
+#[test]
+fn eight_digits_that_are_read_at_once_are_counted_at_once(rt: HostRuntime) {
+    let mut bytes = bytes_of(&rt, b"12345678_9", UNFLAGGED | INTERNAL);
+    bytes.set_cursor(8);
+    bytes.increment_count_of(Component::Integer, 8);
+    bytes.increment_count_of(Component::Special, 8);
+    let steps = [Count(8), Next(Some(b'9')), Cursor(10), Count(9)];
+    assert_steps(&rt, &mut bytes.integer_iter(), &steps);
+    assert_eq!(rt; bytes.current_count(), 9);
 }

@@ -1,7 +1,7 @@
 -- What the cursor carries: the state, the looks and the reader of a `Bytes` where its fields
 -- change.
 use Rattle.std.proofs.Common.{rules, ◌≡◌, ℕ, ◌+◌, ◌<◌, ◌≤◌, Bool, true, false, cond, List, length, refl, sym, ap, ◌∙◌, arith, ◌≤ℤ◌}
-use Rattle.lexical_digits.specs.Laws.Terms.{Component, Integer, Fraction, Exponent, Special, Rule, Tally, Shortcuts, Inside, separator, State, IsState, with_cursor, with_no_counts, rule_of, counts, own, one_more, counted, Remembers, owed_by, count_of, integer_of, fraction_of, exponent_of, state_of, looks_of, Leaves, AreShortcuts, IsInner, has_no_flags, IsReading, false≢true}
+use Rattle.lexical_digits.specs.Laws.Terms.{Component, Integer, Fraction, Exponent, Special, Rule, Tally, Shortcuts, Inside, separator, State, IsState, with_cursor, with_no_counts, rule_of, counts, own, one_more, counted, counted_by, Remembers, owed_by, count_of, integer_of, fraction_of, exponent_of, state_of, looks_of, Leaves, AreShortcuts, IsInner, has_no_flags, IsReading, false≢true}
 use Rattle.lexical_digits.specs.Laws.Table.{with_own_buffer}
 use Rattle.lexical_digits.proofs.Looks.Owing.{owed_onward}
 
@@ -10,11 +10,11 @@ use Rattle.lexical_digits.proofs.Looks.Owing.{owed_onward}
 pub state_moved : (s : State) (i : ℕ) → IsState s → i ≤ length s.buffer → IsState (with_cursor s i)
 state_moved s i v l = search rules
 
-pub state_counted : (k : Component) (s : State) → IsState s → IsState (counted k s)
-state_counted Integer s v = search rules
-state_counted Fraction s v = search rules
-state_counted Exponent s v = search rules
-state_counted Special s v = v
+pub state_counted : (n : ℕ) (k : Component) (s : State) → IsState s → IsState (counted_by n k s)
+state_counted n Integer s v = search rules
+state_counted n Fraction s v = search rules
+state_counted n Exponent s v = search rules
+state_counted n Special s v = v
 
 pub state_cleared : (s : State) → IsState s → IsState (with_no_counts s)
 state_cleared s v = search rules
@@ -31,7 +31,7 @@ pub state_passed : (k : Component) (b : Bool) (s : State) → IsState s → s.cu
     → IsState (with_cursor (cond b (counted k s) s) (s.cursor + 1))
 state_passed k true s v l =
     let same = ap length (with_own_buffer k s (one_more (own k s))) in
-    state_moved (counted k s) (s.cursor + 1) (state_counted k s v) (omega (arith, l, same))
+    state_moved (counted k s) (s.cursor + 1) (state_counted 1 k s v) (omega (arith, l, same))
 state_passed k false s v l = state_moved s (s.cursor + 1) v (omega (arith, l))
 
 -- the count that a tally answers

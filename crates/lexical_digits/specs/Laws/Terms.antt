@@ -22,7 +22,7 @@ pub use Rattle.lexical_digits.specs.Separators.{has_flags, class, right_side, Gr
 pub use Rattle.lexical_digits.specs.State.{State, IsState, with_cursor, rule, own, one_more, saturating, radix_of, rule_of, with_own, counts, is_special, count_after, is_contiguous, has_no_separator, current_count, with_no_counts}
 unfoldable pub use Rattle.lexical_digits.specs.CallTable.{place_of, taken, after_drain, view}
 unfoldable pub use Rattle.lexical_digits.specs.CallTable.{after_view}
-pub use Rattle.lexical_digits.specs.CallTable.{drain_of, byte_at_place, settled, past_place, counted, zeros_of, past_zeros_of, ChangesOwn, run_of, On, Call, Peek, Next, IncrementCount, TryRead, SkipZeros, Takes, own_after, Part, OnBytes, TakeN, row_of}
+pub use Rattle.lexical_digits.specs.CallTable.{drain_of, byte_at_place, settled, past_place, counted, counted_by, zeros_of, past_zeros_of, ChangesOwn, run_of, On, Call, Peek, Next, IncrementCount, TryRead, SkipZeros, Takes, own_after, Part, OnBytes, TakeN, row_of}
 unfoldable pub use Rattle.lexical_digits.specs.Cursor.{after_zeros, items, after_items, walk}
 pub use Rattle.lexical_digits.specs.Cursor.{holds_of, DigitLaws, at_zero, past_zero, IterLaws, bytes_left}
 unfoldable pub use Rattle.lexical_digits.specs.Stop.{stop, leading_digits, leading, after_leading}

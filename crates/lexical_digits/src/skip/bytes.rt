@@ -4,7 +4,7 @@ ghost use Rattle.std.specs.Prelude.{◌≡◌, ℕ, ◌+◌, ◌*◌, ◌<◌, �
 ghost use Rattle.lexical_format.specs.Word.{separator, is_supported};
 ghost use Rattle.lexical_digits.specs.Separators.{is_digit, is_separator, IsSupported};
 ghost use Rattle.lexical_digits.specs.State.{IsState, with_cursor, with_no_counts, start, rule, is_contiguous, has_no_separator, count_of_all, current_count, cut, cut_end};
-ghost use Rattle.lexical_digits.specs.CallTable.{counted};
+ghost use Rattle.lexical_digits.specs.CallTable.{counted_by};
 ghost use Rattle.lexical_digits.specs.Cursor.{CanStep};
 ghost use Rattle.lexical_digits.specs.Looks.{owed, Unread, Remembers};
 ghost use Rattle.lexical_digits.specs.Tally.{state_of};
@@ -13,8 +13,6 @@ ghost use Rattle.lexical_digits.specs.Bytes.{IsReading, has_no_flags as has_no_f
 mod reading;
 mod shortcuts;
 mod tally;
-#[cfg(test)]
-mod tests;
 
 use self::shortcuts::Shortcuts;
 use self::tally::Tally;
@@ -181,14 +179,16 @@ impl<'a> Bytes<'a> {
         }
     }
 
-    /// Counts one digit for a component.
+    /// Adds that many digits to the count of a component: as many calls of `increment_count` of the
+    /// component's iterator. The count stops at `usize::MAX`, and special has none. It is for digits
+    /// that a caller reads in another way, such as eight at once by `peek_u64`. Not in lexical-util.
     #[inline(always)]
-    pub(crate) fn raise(&mut self, component: Component)
-        ensures state { self.new.state ≡ counted component self.old.state }
+    pub fn increment_count_of(&mut self, component: Component, digits: usize)
+        ensures state { self.new.state ≡ counted_by digits component self.old.state }
         ensures unread { Unread self.old self.new }
         ensures owes { owed self.new ≤ℤ owed self.old }
     {
-        self.tally.raise(component);
+        self.tally.raise(component, digits);
     }
 
     /// Sets the three counts to 0, for a number that begins at the cursor. Its separators are then

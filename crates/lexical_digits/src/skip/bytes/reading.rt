@@ -251,7 +251,7 @@ impl<'a> Bytes<'a> {
     {
         self.tally.pass_seen();
         if is_counted {
-            self.tally.raise(component);
+            self.tally.raise(component, 1);
         }
     }
 }

@@ -2,7 +2,7 @@
 
 ghost use Rattle.std.specs.Prelude.{◌≡◌, ℕ, ◌+◌, ◌-◌, ◌<◌, ◌≤◌, ◌&&◌, true, List};
 ghost use Rattle.lexical_digits.specs.State.{start, with_cursor, with_no_counts};
-ghost use Rattle.lexical_digits.specs.CallTable.{counted};
+ghost use Rattle.lexical_digits.specs.CallTable.{counted_by};
 
 use crate::skip::component::Component;
 
@@ -178,15 +178,16 @@ impl Tally {
         *self = self.stored(place, looks, self.reader, self.is_counting);
     }
 
-    /// Counts one digit for a component.
+    /// Counts that many digits for a component.
     #[inline(always)]
-    pub(super) fn raise(&mut self, component: Component)
-        ensures { Leaves self.old self.new (counted component) self.old.index (looks_of self.old) }
+    pub(super) fn raise(&mut self, component: Component, digits: usize)
+        ensures { let raised = counted_by digits component in
+            Leaves self.old self.new raised self.old.index (looks_of self.old) }
     {
         match component {
-            Component::Integer => self.integer = self.integer.saturating_add(1),
-            Component::Fraction => self.fraction = self.fraction.saturating_add(1),
-            Component::Exponent => self.exponent = self.exponent.saturating_add(1),
+            Component::Integer => self.integer = self.integer.saturating_add(digits),
+            Component::Fraction => self.fraction = self.fraction.saturating_add(digits),
+            Component::Exponent => self.exponent = self.exponent.saturating_add(digits),
             Component::Special => {}
         }
     }

@@ -183,7 +183,7 @@ impl<'a: 'b, 'b> DigitsIter<'a> for ExponentDigitsIterator<'a, 'b> {
     fn increment_count(&mut self)
         ensures { Counts Exponent self.old.byte self.new.byte }
     {
-        self.byte.raise(Component::Exponent);
+        self.byte.increment_count_of(Component::Exponent, 1);
     }
 
     #[inline(always)]

@@ -183,7 +183,7 @@ impl<'a: 'b, 'b> DigitsIter<'a> for FractionDigitsIterator<'a, 'b> {
     fn increment_count(&mut self)
         ensures { Counts Fraction self.old.byte self.new.byte }
     {
-        self.byte.raise(Component::Fraction);
+        self.byte.increment_count_of(Component::Fraction, 1);
     }
 
     #[inline(always)]

@@ -183,7 +183,7 @@ impl<'a: 'b, 'b> DigitsIter<'a> for IntegerDigitsIterator<'a, 'b> {
     fn increment_count(&mut self)
         ensures { Counts Integer self.old.byte self.new.byte }
     {
-        self.byte.raise(Component::Integer);
+        self.byte.increment_count_of(Component::Integer, 1);
     }
 
     #[inline(always)]

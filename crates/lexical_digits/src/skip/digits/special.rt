@@ -162,7 +162,7 @@ impl<'a: 'b, 'b> DigitsIter<'a> for SpecialDigitsIterator<'a, 'b> {
     fn increment_count(&mut self)
         ensures { Counts Special self.old.byte self.new.byte }
     {
-        self.byte.raise(Component::Special);
+        self.byte.increment_count_of(Component::Special, 1);
     }
 
     #[inline(always)]

@@ -9,7 +9,7 @@ invariant_of-self-inside c =
     let b = c.self.inside in
     let within = rw (sym c.self.view_is) at c.requires in
     let moved = carried b c.pass_seen.ensures (state_moved _ _ b.holds (omega (arith, within))) in
-    carried_on b c.raise.ensures moved (state_counted c.args.component _ moved.0)
+    carried_on b c.raise.ensures moved (state_counted 1 c.args.component _ moved.0)
 
 pub returns-then-is_counted-clause-state : goal.returns-then-is_counted-clause-state
 returns-then-is_counted-clause-state c =

@@ -1,4 +1,13 @@
-use super::*;
+//! The format word, its builder, the words with names, and digits.
+
+use lexical_format::{
+    ALL_FLAGS, DECIMAL, DIGIT_SEPARATOR_FLAG_MASK, DigitSeparatorFlags,
+    EXPONENT_DIGIT_SEPARATOR_FLAG_MASK, FRACTION_DIGIT_SEPARATOR_FLAG_MASK,
+    FRACTION_TRAILING_DIGIT_SEPARATOR, INTEGER_DIGIT_SEPARATOR_FLAG_MASK,
+    INTEGER_INTERNAL_DIGIT_SEPARATOR, NO_FLAGS, NumberFormat, NumberFormatBuilder,
+    SPECIAL_DIGIT_SEPARATOR, STANDARD, char_is_digit_const, char_to_digit_const, is_supported,
+    laws, words,
+};
 
 fn word_of(mantissa_radix: u8, separator: u8) -> u128 {
     (u128::from(mantissa_radix) << 104) | (u128::from(separator) << 64)
