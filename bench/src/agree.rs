@@ -30,7 +30,15 @@ fn check<const WORD: u128, const IN_ALL: u128>(texts: &[Text]) {
             sides.check(&name_of(WORD, text), text);
         }
     }
-    for work in [Work::Stopped, Work::Literals, Work::Digits, Work::Zeros] {
+    for work in [
+        Work::Stopped,
+        Work::Literals,
+        Work::Parsed,
+        Work::Signed,
+        Work::Counted,
+        Work::Digits,
+        Work::Zeros,
+    ] {
         check_calls::<WORD>(work, texts);
     }
     for work in [Work::Floats, Work::FloatsOf, Work::Mantissas] {

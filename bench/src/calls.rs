@@ -47,6 +47,10 @@ pub fn drained<B: Buffers>(work: Work, word: u128) -> Way {
         Work::Numbers => on_each(move |text| number::<B>(text, word)),
         Work::Stopped => on_each(move |text| stopped::<B>(text, word)),
         Work::Literals => on_each(move |text| literal::<B>(text, word)),
+        Work::Parsed => on_each(move |text| parsed::<B>(text, word)),
+        Work::Signed => on_each(move |text| signed::<B>(text, word)),
+        Work::Counted => on_each(move |text| counted::<B>(text, word)),
+        Work::Cleared => Box::new(move |text| cleared::<B>(&text.bytes, word)),
         Work::Digits => on_each(move |text| digits::<B>(text, word)),
         Work::Zeros => on_each(move |text| zeros::<B>(text, word)),
         Work::Floats | Work::FloatsOf => on_each(move |text| float::<B>(text, word)),
@@ -163,6 +167,62 @@ fn literal<B: Buffers>(text: &[u8], word: u128) -> Outcome {
         Some((value, 1..)) => Outcome { value, count: iter.cursor() as u64, looks: 0 },
         _ => Outcome::default(),
     }
+}
+
+/// What a text came to as a whole; nothing where it is no literal.
+#[inline(always)]
+fn whole(value: Option<u64>) -> Outcome {
+    Outcome { value: value.unwrap_or(0), ..Outcome::default() }
+}
+
+#[inline(always)]
+fn parsed<B: Buffers>(text: &[u8], word: u128) -> Outcome {
+    whole(whole_value::<B>(text, word))
+}
+
+/// The value of a text that is one literal, if `u64` holds it.
+#[inline(always)]
+fn whole_value<B: Buffers>(text: &[u8], word: u128) -> Option<u64> {
+    let mut bytes = B::Bytes::over(text, word);
+    let mut iter = bytes.integer();
+    let (value, digits) = value_after(&mut iter, B::radix(word), 0)?;
+    (digits > 0 && iter.cursor() == text.len()).then_some(value)
+}
+
+#[inline(always)]
+fn signed<B: Buffers>(text: &[u8], word: u128) -> Outcome {
+    let (magnitude, is_negative) = match text {
+        [b'-', rest @ ..] => (rest, true),
+        [b'+', rest @ ..] => (rest, false),
+        _ => (text, false),
+    };
+    let most = i64::MAX as u64 + u64::from(is_negative);
+    let value = whole_value::<B>(magnitude, word).filter(|&value| value <= most);
+    whole(value.map(|value| if is_negative { value.wrapping_neg() } else { value }))
+}
+
+/// How many digits a text has that is one literal, or none.
+#[inline(always)]
+fn counted<B: Buffers>(text: &[u8], word: u128) -> Outcome {
+    let mut bytes = B::Bytes::over(text, word);
+    let mut digits = 0;
+    let mut iter = bytes.integer();
+    pass_digits(&mut iter, |_| digits += 1);
+    whole((iter.cursor() == text.len()).then_some(digits))
+}
+
+/// The numbers of a text, with a byte after each.
+#[inline(always)]
+fn cleared<B: Buffers>(text: &[u8], word: u128) -> Outcome {
+    let mut total = 0u64;
+    let mut rest = text;
+    while !rest.is_empty() {
+        let mut bytes = B::Bytes::over(rest, word);
+        total = total.wrapping_add(leading_number(bytes.integer()));
+        let end = bytes.integer().cursor();
+        rest = &rest[end..];
+    }
+    Outcome { value: total, count: text.len() as u64, looks: 0 }
 }
 
 /// The value of the digits that lead, after a value, and how many they are, if `u64` holds it.

@@ -3,13 +3,13 @@
 use crate::measure::Job;
 use crate::texts::{
     digits, each_third, floats, hex_digits, hex_numbers, literals, numbers, others, runs,
-    stopped_numbers, zeros, Text,
+    signed_literals, stopped_numbers, zeros, Text,
 };
 use crate::word::{I, IC, ILTC, I_16, I_IN_ALL, NONE};
 use crate::work::Sides;
 use crate::work::Work::{
-    Digits, Floats, FloatsOf, Handed, Literals, Mantissas, Number, Numbers, Peeked, Stopped, Sum,
-    Zeros,
+    Cleared, Counted, Digits, Floats, FloatsOf, Handed, Literals, Mantissas, Number, Numbers,
+    Parsed, Peeked, Signed, Stopped, Sum, Zeros,
 };
 
 /// The greatest wanted ratio of the library, with its word at run time, to the floor.
@@ -114,11 +114,20 @@ fn literal_texts() -> Vec<Case> {
     let [plain, grouped]: [fn() -> Text; 2] = [|| literals(false), || literals(true)];
     let [stopped, grouped_stopped]: [fn() -> Text; 2] =
         [|| stopped_numbers(false), || stopped_numbers(true)];
+    let [signed, grouped_signed]: [fn() -> Text; 2] =
+        [|| signed_literals(false), || signed_literals(true)];
     let grouped_zeros = || zeros(true);
     vec![
         Case::new("j: no flags, literals", plain, Sides::skip::<NONE>(Literals)),
         Case::new("j: I, literals", plain, Sides::skip::<I>(Literals)),
         Case::new("j: I, grouped literals", grouped, Sides::skip::<I>(Literals)),
+        Case::new("p: no flags, parse_integer", plain, Sides::skip::<NONE>(Parsed)),
+        Case::new("p: I, grouped, parse_integer", grouped, Sides::skip::<I>(Parsed)),
+        Case::new("p: no flags, parse_signed", signed, Sides::skip::<NONE>(Signed)),
+        Case::new("p: I, grouped, parse_signed", grouped_signed, Sides::skip::<I>(Signed)),
+        Case::new("p: I, grouped, count_digits", grouped, Sides::skip::<I>(Counted)),
+        Case::new("q: no flags, clear_counts", stopped, Sides::skip::<NONE>(Cleared)),
+        Case::new("q: I, grouped, clear_counts", grouped_stopped, Sides::skip::<I>(Cleared)),
         Case::new("o: no flags, pass_digits", stopped, Sides::skip::<NONE>(Digits)),
         Case::new("o: I, grouped, pass_digits", grouped_stopped, Sides::skip::<I>(Digits)),
         Case::new("o: I, grouped, pass_zeros", grouped_zeros, Sides::skip::<I>(Zeros)),

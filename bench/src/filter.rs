@@ -20,6 +20,10 @@ pub fn filtered<const WORD: u128>(work: Work) -> Option<Way> {
         Work::Numbers => Some(Box::new(|text| each(text, |text| of_value(number::<WORD>(text))))),
         Work::Literals => Some(Box::new(|text| each_parsed(text, Rule::<WORD>::RADIX))),
         Work::Floats | Work::FloatsOf => Some(Box::new(|text| each(text, float::<WORD>))),
+        Work::Parsed => Some(Box::new(|text| each_parsed(text, Rule::<WORD>::RADIX))),
+        Work::Signed => Some(Box::new(each_signed)),
+        Work::Counted => Some(Box::new(|text| each(text, counted::<WORD>))),
+        Work::Cleared => Some(Box::new(|text| of_value(sum_of_numbers::<WORD>(&text.bytes)))),
         Work::Stopped | Work::Digits | Work::Zeros | Work::Mantissas => None,
     }
 }
@@ -38,6 +42,30 @@ fn each_parsed(text: &Text, radix: u32) -> Outcome {
         rest = others;
     }
     of_value(total)
+}
+
+/// The same with a sign, in radix 10.
+fn each_signed(text: &Text) -> Outcome {
+    let mut total = 0u64;
+    let mut rest = &text.digits[..];
+    for &length in &text.digit_lengths {
+        let (first, others) = rest.split_at(length.into());
+        total = total.wrapping_add(first.parse::<i64>().unwrap_or(0) as u64);
+        rest = others;
+    }
+    of_value(total)
+}
+
+/// How many digits a text has.
+#[inline(always)]
+fn counted<const WORD: u128>(text: &[u8]) -> Outcome {
+    of_value(text.iter().filter(|&&byte| Rule::<WORD>::is_digit(byte)).count() as u64)
+}
+
+/// The numbers between commas, added up.
+#[inline(always)]
+fn sum_of_numbers<const WORD: u128>(text: &[u8]) -> u64 {
+    text.split(|&byte| byte == b',').map(number::<WORD>).fold(0, u64::wrapping_add)
 }
 
 #[inline(always)]

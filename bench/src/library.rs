@@ -46,6 +46,7 @@ exports! {
         digit_bench_number
         digit_bench_peeked
         digit_bench_handed
+        digit_bench_cleared
         digit_bench_plain_sum
         digit_bench_plain_number
         digit_bench_plain_peeked;
@@ -53,6 +54,9 @@ exports! {
         digit_bench_numbers
         digit_bench_stopped
         digit_bench_literals
+        digit_bench_parsed
+        digit_bench_signed
+        digit_bench_counted
         digit_bench_digits
         digit_bench_zeros
         digit_bench_floats

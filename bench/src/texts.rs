@@ -128,11 +128,23 @@ fn numbers_of(grouped: bool, digit: fn(&mut Random) -> u8, end: Option<u8>) -> T
 /// About a mebibyte of numbers of 8 to 20 digits, some above `u64::MAX`, and the same digits
 /// without separators; grouped by threes where `grouped` says so.
 pub fn literals(grouped: bool) -> Text {
+    literals_of(grouped, |_| None)
+}
+
+/// The same, with a sign before two of three.
+pub fn signed_literals(grouped: bool) -> Text {
+    literals_of(grouped, |random| [None, Some(b'-'), Some(b'+')][random.below(3) as usize])
+}
+
+fn literals_of(grouped: bool, sign: fn(&mut Random) -> Option<u8>) -> Text {
     let mut random = Random(SEED);
     let mut text = Text::default();
     while text.bytes.len() < MEBIBYTE {
         let digits = 8 + random.below(13) as u8;
         let start = text.bytes.len();
+        let sign = sign(&mut random);
+        text.bytes.extend(sign);
+        text.digits.extend(sign.map(char::from));
         for at in 0..digits {
             if grouped && at > 0 && (digits - at).is_multiple_of(3) {
                 text.bytes.push(b'_');
@@ -142,7 +154,7 @@ pub fn literals(grouped: bool) -> Text {
             text.digits.push(digit.into());
         }
         text.lengths.push((text.bytes.len() - start) as u8);
-        text.digit_lengths.push(digits);
+        text.digit_lengths.push(digits + u8::from(sign.is_some()));
     }
     text
 }

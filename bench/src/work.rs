@@ -30,6 +30,15 @@ pub enum Work {
     /// Reads each of many integer literals, and adds up those that `u64` holds. In place of the
     /// filter stands `str::parse`, on the digits without separators.
     Literals,
+    /// Reads each of many texts that are one literal: the library by `parse_integer`.
+    Parsed,
+    /// The same with a sign: the library by `parse_signed`, and the filter as `i64`.
+    Signed,
+    /// Counts the digits of each of many texts that are one literal: the library by `count_digits`.
+    Counted,
+    /// Reads all numbers of a text: the library by one `Bytes` with `clear_counts`, and the others
+    /// by a new one for each.
+    Cleared,
     /// Counts the digits that begin each of many texts: the library by `pass_digits`.
     Digits,
     /// Counts the zeros that begin each of many texts: the library by `pass_zeros`.
@@ -137,6 +146,10 @@ fn skipping(work: Work, format: Format) -> Way {
         Work::Numbers => exported_many(library::digit_bench_numbers, format),
         Work::Stopped => exported_many(library::digit_bench_stopped, format),
         Work::Literals => exported_many(library::digit_bench_literals, format),
+        Work::Parsed => exported_many(library::digit_bench_parsed, format),
+        Work::Signed => exported_many(library::digit_bench_signed, format),
+        Work::Counted => exported_many(library::digit_bench_counted, format),
+        Work::Cleared => exported(library::digit_bench_cleared, format),
         Work::Digits => exported_many(library::digit_bench_digits, format),
         Work::Zeros => exported_many(library::digit_bench_zeros, format),
         Work::Floats => exported_many(library::digit_bench_floats, format),

@@ -3,7 +3,7 @@
 use super::format::Format;
 use super::work::{Work, run, run_each};
 use super::{Outcome, loops};
-use lexical_digits::iterator::Iter;
+use lexical_digits::iterator::{Iter, IterBodies};
 use lexical_digits::skip::{Bytes, Component};
 
 /// What a drain of the integer came to.
@@ -32,6 +32,19 @@ impl Work for Sum {
 struct Number;
 
 impl Work for Number {
+    #[inline(always)]
+    fn on<F: Format>(text: &[u8], format: F) -> Outcome {
+        let mut bytes = Bytes::new(text, format.word());
+        let number = loops::number(&mut bytes.integer_iter(), format);
+        drained(number, &bytes)
+    }
+}
+
+/// Makes the number of each of many texts. `on` of [`Number`] would have two callers for each word,
+/// and then a compiler doesn't inline it.
+struct Numbers;
+
+impl Work for Numbers {
     #[inline(always)]
     fn on<F: Format>(text: &[u8], format: F) -> Outcome {
         let mut bytes = Bytes::new(text, format.word());
@@ -82,6 +95,31 @@ impl Work for Stopped {
     }
 }
 
+/// Reads the numbers of a text by one `Bytes`, and clears its counts after each. The byte that ends
+/// a number is taken too. The count is where the last one ends.
+struct Cleared;
+
+impl Work for Cleared {
+    #[inline(always)]
+    fn on<F: Format>(text: &[u8], format: F) -> Outcome {
+        let mut bytes = Bytes::new(text, format.word());
+        let mut total: u64 = 0;
+        for _ in 0..text.len() {
+            if bytes.is_buffer_empty() {
+                break;
+            }
+            let number = loops::leading_number(&mut bytes.integer_iter(), format);
+            total = total.wrapping_add(number);
+            bytes.clear_counts();
+        }
+        Outcome {
+            value: total,
+            count: bytes.cursor() as u64,
+            looks: bytes.looks(),
+        }
+    }
+}
+
 #[unsafe(no_mangle)]
 pub extern "C" fn digit_bench_sum(
     text: &[u8],
@@ -127,6 +165,17 @@ pub extern "C" fn digit_bench_handed(
 }
 
 #[unsafe(no_mangle)]
+pub extern "C" fn digit_bench_cleared(
+    text: &[u8],
+    low: u64,
+    high: u64,
+    is_constant: u32,
+    outcome: &mut Outcome,
+) {
+    *outcome = run::<Cleared>(text, low, high, is_constant);
+}
+
+#[unsafe(no_mangle)]
 pub extern "C" fn digit_bench_numbers(
     text: &[u8],
     lengths: &[u8],
@@ -135,7 +184,7 @@ pub extern "C" fn digit_bench_numbers(
     is_constant: u32,
     outcome: &mut Outcome,
 ) {
-    *outcome = run_each::<Number>(text, lengths, low, high, is_constant);
+    *outcome = run_each::<Numbers>(text, lengths, low, high, is_constant);
 }
 
 #[unsafe(no_mangle)]

@@ -4,7 +4,9 @@ use super::Outcome;
 use super::drains::drained;
 use super::format::Format;
 use super::work::{Work, run_each};
-use digit_literals::{pass_digits, pass_zeros, read_integer};
+use digit_literals::{
+    count_digits, parse_integer, parse_signed, pass_digits, pass_zeros, read_integer,
+};
 use lexical_digits::skip::{Bytes, Component};
 
 /// Reads a literal by `read_integer`. The count is where it ends; nothing where there is none.
@@ -19,6 +21,55 @@ impl Work for Literals {
                 count: end as u64,
                 looks: 0,
             },
+            Err(_) => Outcome::nothing(),
+        }
+    }
+}
+
+/// What a text came to as a whole: a value, or nothing.
+#[inline(always)]
+fn whole(value: u64) -> Outcome {
+    Outcome {
+        value,
+        count: 0,
+        looks: 0,
+    }
+}
+
+/// Parses a text by `parse_integer`.
+struct Parsed;
+
+impl Work for Parsed {
+    #[inline(always)]
+    fn on<F: Format>(text: &[u8], format: F) -> Outcome {
+        match parse_integer(text, format.word()) {
+            Ok(value) => whole(value),
+            Err(_) => Outcome::nothing(),
+        }
+    }
+}
+
+/// Parses a text by `parse_signed`.
+struct Signed;
+
+impl Work for Signed {
+    #[inline(always)]
+    fn on<F: Format>(text: &[u8], format: F) -> Outcome {
+        match parse_signed(text, format.word()) {
+            Ok(value) => whole(value.cast_unsigned()),
+            Err(_) => Outcome::nothing(),
+        }
+    }
+}
+
+/// Counts the digits of a text by `count_digits`.
+struct Counted;
+
+impl Work for Counted {
+    #[inline(always)]
+    fn on<F: Format>(text: &[u8], format: F) -> Outcome {
+        match count_digits(text, format.word()) {
+            Ok(digits) => whole(digits as u64),
             Err(_) => Outcome::nothing(),
         }
     }
@@ -82,4 +133,40 @@ pub extern "C" fn digit_bench_zeros(
     outcome: &mut Outcome,
 ) {
     *outcome = run_each::<Zeros>(text, lengths, low, high, is_constant);
+}
+
+#[unsafe(no_mangle)]
+pub extern "C" fn digit_bench_parsed(
+    text: &[u8],
+    lengths: &[u8],
+    low: u64,
+    high: u64,
+    is_constant: u32,
+    outcome: &mut Outcome,
+) {
+    *outcome = run_each::<Parsed>(text, lengths, low, high, is_constant);
+}
+
+#[unsafe(no_mangle)]
+pub extern "C" fn digit_bench_signed(
+    text: &[u8],
+    lengths: &[u8],
+    low: u64,
+    high: u64,
+    is_constant: u32,
+    outcome: &mut Outcome,
+) {
+    *outcome = run_each::<Signed>(text, lengths, low, high, is_constant);
+}
+
+#[unsafe(no_mangle)]
+pub extern "C" fn digit_bench_counted(
+    text: &[u8],
+    lengths: &[u8],
+    low: u64,
+    high: u64,
+    is_constant: u32,
+    outcome: &mut Outcome,
+) {
+    *outcome = run_each::<Counted>(text, lengths, low, high, is_constant);
 }

@@ -28,6 +28,7 @@ use lexical_format::{char_is_digit_const, char_to_digit_const};
 /// ```text
 /// `1_000` with internal separators: Ok((1000, 5))      `_1`: Err(Empty(0))
 /// ```
+#[inline(always)]
 pub fn read_integer(text: &[u8], word: u128) -> Result<(u64, usize), LiteralError>
     requires { IsTrue (is_supported word) }
     ensures ok { IfOk result (λ read. IsInteger (rule_of word Integer) text.now read.0 read.1) }
@@ -63,6 +64,7 @@ pub(super) fn read_from(
 }
 
 /// The same by a `Bytes`.
+#[inline(never)]
 fn read_bytes(
     text: &[u8],
     word: u128,

@@ -46,6 +46,7 @@ impl Error for ParseError {}
 /// with internal `_`: `1_000` is Ok(1000), `1_` and `1x` are Err(Invalid(1)), the empty text is
 /// Err(Empty(0))
 /// ```
+#[inline(always)]
 pub fn parse_integer(text: &[u8], word: u128) -> Result<u64, ParseError>
     requires { IsTrue (is_supported word) }
     ensures ok { IfOk result (λ value.
@@ -63,6 +64,7 @@ pub fn parse_integer(text: &[u8], word: u128) -> Result<u64, ParseError>
 /// ```text
 /// with internal `_`: `-1_000` is Ok(-1000), `-` is Err(Empty(1)), `--1` is Err(Invalid(1))
 /// ```
+#[inline(always)]
 pub fn parse_signed(text: &[u8], word: u128) -> Result<i64, ParseError>
     requires { IsTrue (is_supported word) }
     ensures ok { IfOk result (IsSigned (rule_of word Integer) text.now) }
