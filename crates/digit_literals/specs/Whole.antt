@@ -1,6 +1,6 @@
 -- A text that is one integer throughout, and its first fault if it is none. No two of the three can
 -- be had of one text.
-use Rattle.std.specs.Prelude.{◌≡◌, ℕ, ℤ, pos, neg_ℤ, ◌-◌, ◌^◌, ◌<◌, ◌≤◌, Bool, ◌==◌, ◌||◌, if◌then◌else◌, List, length, slice_get}
+use Rattle.std.specs.Prelude.{◌≡◌, ℕ, ℤ, pos, neg_ℤ, ◌-◌, ◌^◌, ◌<◌, ◌≤◌, Bool, ◌==◌, ◌||◌, if◌then◌else◌, List, ◌++◌, length, slice_get, codes, decimal}
 use Rattle.std.specs.Str.Parse.{digits_value}
 use Rattle.lexical_digits.specs.declared.skip.rule.Rule.{Rule}
 use Rattle.lexical_digits.specs.Cursor.{holds_of}
@@ -26,6 +26,13 @@ module _ (rule : Rule) (text : List ℕ) (start most : ℕ) where
 -- of a text without a sign, up to `u64::MAX`
 abbrev pub IsFault : Rule → List ℕ → ParseError → Type 0
 IsFault rule text error = IsFaultFrom rule text 0 (2 ^ 64 - 1) error
+
+-- what is printed of a fault
+abbrev pub message : ParseError → List ℕ
+message (Empty at) = codes "there is no digit"
+message (Invalid at) = codes "the byte at " ++ decimal at ++ codes " is no part of an integer"
+message (Overflow at) =
+    codes "the number is too large with the digit at " ++ decimal at
 
 -- ---- with a sign
 

@@ -1,11 +1,11 @@
 //! A text that is one integer and nothing else.
 
-ghost use Rattle.std.specs.Prelude.{◌≡◌, ◌-◌, ◌≤◌, length, IfOk, IfErr, IsTrue};
+ghost use Rattle.std.specs.Prelude.{◌≡◌, ◌-◌, ◌≤◌, length, Some, IfOk, IfErr, IsTrue};
 ghost use Rattle.lexical_format.specs.Word.{is_supported};
 ghost use Rattle.lexical_digits.specs.declared.skip.component.Component.TheVariants.{Integer};
 ghost use Rattle.lexical_digits.specs.State.{rule_of};
 ghost use Rattle.digit_literals.specs.Integers.{IsInteger, IsIntegerFrom};
-ghost use Rattle.digit_literals.specs.Whole.{IsFault, IsFaultFrom, IsSigned, IsSignedFault, begins_with, sign_length, most_magnitude, signed};
+ghost use Rattle.digit_literals.specs.Whole.{IsFault, IsFaultFrom, IsSigned, IsSignedFault, message, begins_with, sign_length, most_magnitude, signed};
 
 use super::LiteralError;
 use super::integer::read_from;
@@ -25,6 +25,8 @@ pub enum ParseError {
 }
 
 impl fmt::Display for ParseError {
+    ghost output = { λ e. Some (message e) };
+
     fn fmt<W: fmt::Write>(&self, f: &mut fmt::Formatter<W>) -> fmt::Result {
         match *self {
             ParseError::Empty(_) => write!(f, "there is no digit"),

@@ -30,6 +30,11 @@ pub struct TooLarge {
 }
 
 impl fmt::Display for TooLarge {
+    ghost use Rattle.std.specs.Prelude.{◌++◌, Some, codes, decimal};
+
+    ghost output = { λ e.
+        Some (codes "the number is too large with the digit at " ++ decimal e.at) };
+
     fn fmt<W: fmt::Write>(&self, f: &mut fmt::Formatter<W>) -> fmt::Result {
         write!(f, "the number is too large with the digit at {}", self.at)
     }
