@@ -40,7 +40,7 @@ fn is_drained(
 }
 
 /// Eight texts, and the number of digits in each.
-const TEXTS: [(&str, usize); 8] = [
+static TEXTS: [(&str, usize); 8] = [
     ("4_5", 2),
     ("4__5", 2),
     ("_45", 2),
@@ -52,7 +52,7 @@ const TEXTS: [(&str, usize); 8] = [
 ];
 
 /// The sixteen states of the flags: what the drain of each text yields.
-const STATES: [(u128, [&str; 8]); 16] = [
+static STATES: [(u128, [&str; 8]); 16] = [
     (0, ["4_5", "4__5", "_45", "__45", "45_", "45__", "_", "__"]),
     (
         INTERNAL,
@@ -114,9 +114,9 @@ const STATES: [(u128, [&str; 8]); 16] = [
 ];
 
 /// Whether a state of the flags yields these bytes of the eight texts.
-fn state_holds(flags: u128, kept: [&str; 8]) -> bool {
-    for ((text, digits), kept) in TEXTS.into_iter().zip(kept) {
-        let count = if flags == 0 { 0 } else { digits };
+fn state_holds(flags: u128, kept: &[&str; 8]) -> bool {
+    for ((text, digits), kept) in TEXTS.iter().zip(kept) {
+        let count = if flags == 0 { 0 } else { *digits };
         let word = UNFLAGGED | flags;
         if !is_drained(word, text.as_bytes(), (0, 0), kept.as_bytes(), count) {
             return false;
@@ -127,9 +127,9 @@ fn state_holds(flags: u128, kept: [&str; 8]) -> bool {
 
 /// The first state that doesn't.
 fn wrong_state() -> Option<u128> {
-    for (flags, kept) in STATES {
-        if !state_holds(flags, kept) {
-            return Some(flags);
+    for (flags, kept) in &STATES {
+        if !state_holds(*flags, kept) {
+            return Some(*flags);
         }
     }
     None
@@ -141,7 +141,7 @@ fn each_state_of_the_flags_drops_its_separators(rt: HostRuntime) {
 }
 
 /// Flags, a text, the bytes that its drain yields, and the count after it.
-const EXAMPLES: [(u128, &str, &str, usize); 26] = [
+static EXAMPLES: [(u128, &str, &str, usize); 26] = [
     (0, "1_2", "1_2", 0),
     (INTERNAL, "4_5", "45", 2),
     (INTERNAL, "4__5", "4_5", 2),
@@ -172,9 +172,9 @@ const EXAMPLES: [(u128, &str, &str, usize); 26] = [
 
 /// The first example whose drain is another.
 fn wrong_example() -> Option<&'static str> {
-    for (flags, text, kept, count) in EXAMPLES {
-        let word = UNFLAGGED | flags;
-        if !is_drained(word, text.as_bytes(), (0, 0), kept.as_bytes(), count) {
+    for (flags, text, kept, count) in &EXAMPLES {
+        let word = UNFLAGGED | *flags;
+        if !is_drained(word, text.as_bytes(), (0, 0), kept.as_bytes(), *count) {
             return Some(text);
         }
     }
@@ -188,7 +188,7 @@ fn a_separator_is_dropped_by_its_sides_and_flags(rt: HostRuntime) {
 
 /// Flags, a text, the cursor and the count at the start, the bytes that the drain yields from
 /// there, and the count after it.
-const FROM_WITHIN: [(u128, &str, usize, usize, &str, usize); 11] = [
+static FROM_WITHIN: [(u128, &str, usize, usize, &str, usize); 11] = [
     (INTERNAL, "1_2", 1, 0, "2", 1),
     (LEADING | TRAILING, "1_2", 1, 0, "_2", 1),
     (INTERNAL | CONSECUTIVE, "1__2", 2, 0, "2", 1),
@@ -204,10 +204,10 @@ const FROM_WITHIN: [(u128, &str, usize, usize, &str, usize); 11] = [
 
 /// The first of them whose drain is another.
 fn wrong_from_within() -> Option<&'static str> {
-    for (flags, text, cursor, count, kept, count_after) in FROM_WITHIN {
-        let start = (cursor, count);
-        let word = UNFLAGGED | flags;
-        if !is_drained(word, text.as_bytes(), start, kept.as_bytes(), count_after) {
+    for (flags, text, cursor, count, kept, count_after) in &FROM_WITHIN {
+        let start = (*cursor, *count);
+        let word = UNFLAGGED | *flags;
+        if !is_drained(word, text.as_bytes(), start, kept.as_bytes(), *count_after) {
             return Some(text);
         }
     }
@@ -220,7 +220,7 @@ fn a_drain_from_within_a_text_sees_what_is_left_of_it(rt: HostRuntime) {
 }
 
 /// Words of other separators and radixes: a text, the bytes that its drain yields, and the count.
-const OTHER_WORDS: [(u128, &[u8], &[u8], usize); 20] = [
+static OTHER_WORDS: [(u128, &[u8], &[u8], usize); 20] = [
     ((16 << 104) | (0x5f << 64) | INTERNAL, b"a_F_g", b"aF_g", 2),
     ((2 << 104) | (0x39 << 64) | INTERNAL, b"1909", b"109", 2),
     ((16 << 104) | (0x67 << 64) | INTERNAL, b"1g2", b"12", 2),
@@ -246,8 +246,8 @@ const OTHER_WORDS: [(u128, &[u8], &[u8], usize); 20] = [
 
 /// The first of them whose drain is another.
 fn wrong_word() -> Option<&'static [u8]> {
-    for (word, text, kept, count) in OTHER_WORDS {
-        if !is_drained(word, text, (0, 0), kept, count) {
+    for (word, text, kept, count) in &OTHER_WORDS {
+        if !is_drained(*word, text, (0, 0), kept, *count) {
             return Some(text);
         }
     }
