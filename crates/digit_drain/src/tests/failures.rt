@@ -5,9 +5,8 @@ use super::streams::{ScriptedReader, ScriptedWriter, Turn, Turns};
 use super::{FIVE_ANSWERS, FIVE_LINES, UNSUPPORTED};
 use crate::engine::{Fault, run, run_in, serve, tell, tell_in};
 use std::alloc::Global;
-use std::process::Abort;
 
-const FAULTS: [(Fault, u8, &str); 6] = [
+static FAULTS: [(Fault, u8, &str); 6] = [
     (Fault::Line(7), 2, "error: line 7: not a request\n"),
     (Fault::Word(12), 3, "error: line 12: word not supported\n"),
     (Fault::TooLong, 4, "error: input longer than 65536 bytes\n"),
@@ -37,22 +36,25 @@ fn runs_within(alloc: Global, requests: u64, answer: Result<(), Fault>, text: &s
     answered == answer && writer.as_slice() == text.as_bytes()
 }
 
+/// The number of requests for memory from which on a run succeeds. With fewer it answers so, and
+/// writes nothing.
+fn requests_of_run(alloc: Global) -> Option<u64> {
+    for requests in 0..REQUESTS {
+        if runs_within(alloc, requests, Ok(()), FIVE_ANSWERS) {
+            return Some(requests);
+        }
+        if !runs_within(alloc, requests, Err(Fault::Memory), "") {
+            return None;
+        }
+    }
+    None
+}
+
 #[test]
 fn refused_memory_leaves_nothing_written(rt: HostRuntime) {
-    let mut answered = false;
-    for requests in 0..REQUESTS {
-        if requests > 5 && !answered {
-            answered = runs_within(rt.alloc(), requests, Ok(()), FIVE_ANSWERS);
-        }
-        let (answer, text) = if answered {
-            (Ok(()), FIVE_ANSWERS)
-        } else {
-            (Err(Fault::Memory), "")
-        };
-        let is = runs_within(rt.alloc(), requests, answer, text);
-        assert!(rt; is, "after {requests} requests");
-    }
-    assert!(rt; answered);
+    let requests = requests_of_run(rt.alloc()).unwrap_or(0);
+    assert!(rt; requests > 5);
+    assert!(rt; runs_within(rt.alloc(), REQUESTS, Ok(()), FIVE_ANSWERS));
 }
 
 /// Whether `tell` with at most `requests` requests for memory answers this and writes this.
@@ -69,29 +71,34 @@ fn tells_within(
     answered == answer && writer.as_slice() == text.as_bytes()
 }
 
-/// `tell` succeeds from some number of requests on, which is not 0, and fails with fewer.
-fn assert_told(rt: &impl Abort, alloc: Global, fault: Fault, line: &str) {
-    let mut told = false;
+/// The number of requests for memory from which on `tell` succeeds. With fewer it answers so, and
+/// writes nothing.
+fn requests_of_tell(alloc: Global, fault: Fault, line: &str) -> Option<u64> {
     for requests in 0..REQUESTS {
-        if requests > 0 && !told {
-            told = tells_within(alloc, requests, fault, Ok(()), line);
+        if tells_within(alloc, requests, fault, Ok(()), line) {
+            return Some(requests);
         }
-        let (answer, text) = if told {
-            (Ok(()), line)
-        } else {
-            (Err(Fault::Memory), "")
-        };
-        let is = tells_within(alloc, requests, fault, answer, text);
-        assert!(rt; is, "{line} after {requests} requests");
+        if !tells_within(alloc, requests, fault, Err(Fault::Memory), "") {
+            return None;
+        }
     }
-    assert!(rt; told);
+    None
+}
+
+/// The first fault that is told with no request for memory, or never.
+fn wrongly_told_within(alloc: Global) -> Option<Fault> {
+    for (fault, _, line) in &FAULTS {
+        let requests = requests_of_tell(alloc, *fault, line).unwrap_or(0);
+        if requests == 0 || !tells_within(alloc, REQUESTS, *fault, Ok(()), line) {
+            return Some(*fault);
+        }
+    }
+    None
 }
 
 #[test]
 fn a_fault_is_not_told_without_memory(rt: HostRuntime) {
-    for (fault, _, line) in FAULTS {
-        assert_told(&rt, rt.alloc(), fault, line);
-    }
+    assert_eq!(rt; wrongly_told_within(rt.alloc()), None);
 }
 
 // ---- the reader
@@ -126,7 +133,7 @@ fn reads_so(
     answered == answer && writer.as_slice() == text.as_bytes()
 }
 
-const FAILING_READERS: [(&[Turn], Turn); 7] = [
+static FAILING_READERS: [(&[Turn], Turn); 7] = [
     (&[], Turn::Fail),
     (&[Turn::Pass(TWO_LINES)], Turn::Fail),
     (&[Turn::Pass(3), Turn::Pass(3)], Turn::Fail),
@@ -136,35 +143,48 @@ const FAILING_READERS: [(&[Turn], Turn); 7] = [
     (&[ALL, Turn::Interrupt], ALL),
 ];
 
+/// Whether a run with any of these readers leaves nothing written.
+fn all_readers_fail(alloc: Global) -> bool {
+    for (first, then) in &FAILING_READERS {
+        if !reads_so(alloc, five_lines(first, *then), Err(Fault::Read), "") {
+            return false;
+        }
+    }
+    true
+}
+
 /// An interrupted read counts as failed, even if the reader could go on.
 #[test]
 fn a_failing_reader_leaves_nothing_written(rt: HostRuntime) {
-    for (first, then) in FAILING_READERS {
-        let reader = five_lines(first, then);
-        let is = reads_so(rt.alloc(), reader, Err(Fault::Read), "");
-        assert!(rt; is, "for {first:?}, then {then:?}");
-    }
-    assert_eq!(rt; Fault::Read.status(), 5);
+    assert!(rt; all_readers_fail(rt.alloc()));
+}
+
+/// Whether a run with a reader of this turn at each call answers all five lines.
+fn reads_all(alloc: Global, then: Turn) -> bool {
+    reads_so(alloc, five_lines(&[], then), Ok(()), FIVE_ANSWERS)
 }
 
 #[test]
 fn a_slow_reader_gives_the_whole_input(rt: HostRuntime) {
-    for then in [Turn::Pass(1), Turn::Pass(3), ALL] {
-        let is = reads_so(rt.alloc(), five_lines(&[], then), Ok(()), FIVE_ANSWERS);
-        assert!(rt; is, "for {then:?}");
-    }
+    assert!(rt; reads_all(rt.alloc(), Turn::Pass(1)));
+    assert!(rt; reads_all(rt.alloc(), Turn::Pass(3)));
+    assert!(rt; reads_all(rt.alloc(), ALL));
+}
+
+/// Whether a reader that gives a text repeatedly gives too much.
+fn reads_too_much(alloc: Global, text: &str, then: Turn) -> bool {
+    let reader = endless(text.as_bytes(), &[], then);
+    reads_so(alloc, reader, Err(Fault::TooLong), "")
 }
 
 #[test]
 fn a_reader_without_end_gives_too_much(rt: HostRuntime) {
-    for text in ["1", FIVE_LINES] {
-        for then in [Turn::Pass(1), Turn::Pass(1000), ALL] {
-            let reader = endless(text.as_bytes(), &[], then);
-            let is = reads_so(rt.alloc(), reader, Err(Fault::TooLong), "");
-            assert!(rt; is, "for {text}, {then:?}");
-        }
-    }
-    assert_eq!(rt; Fault::TooLong.status(), 4);
+    assert!(rt; reads_too_much(rt.alloc(), "1", Turn::Pass(1)));
+    assert!(rt; reads_too_much(rt.alloc(), "1", Turn::Pass(1000)));
+    assert!(rt; reads_too_much(rt.alloc(), "1", ALL));
+    assert!(rt; reads_too_much(rt.alloc(), FIVE_LINES, Turn::Pass(1)));
+    assert!(rt; reads_too_much(rt.alloc(), FIVE_LINES, Turn::Pass(1000)));
+    assert!(rt; reads_too_much(rt.alloc(), FIVE_LINES, ALL));
 }
 
 #[test]
@@ -205,16 +225,20 @@ fn writes_so(
     answered == answer && writer.written.as_slice() == text.as_bytes()
 }
 
-#[test]
-fn a_slow_writer_gets_the_whole_output(rt: HostRuntime) {
-    for then in [Turn::Pass(1), Turn::Pass(3), ALL] {
-        let turns = Turns { first: &[], then };
-        let is = writes_so(rt.alloc(), FIVE_LINES, turns, Ok(()), FIVE_ANSWERS);
-        assert!(rt; is, "for {then:?}");
-    }
+/// Whether a writer of this turn at each call gets all five answers.
+fn writes_all(alloc: Global, then: Turn) -> bool {
+    let turns = Turns { first: &[], then };
+    writes_so(alloc, FIVE_LINES, turns, Ok(()), FIVE_ANSWERS)
 }
 
-const FAILING_WRITERS: [(&str, &[Turn], Turn, &str); 8] = [
+#[test]
+fn a_slow_writer_gets_the_whole_output(rt: HostRuntime) {
+    assert!(rt; writes_all(rt.alloc(), Turn::Pass(1)));
+    assert!(rt; writes_all(rt.alloc(), Turn::Pass(3)));
+    assert!(rt; writes_all(rt.alloc(), ALL));
+}
+
+static FAILING_WRITERS: [(&str, &[Turn], Turn, &str); 8] = [
     (FIVE_LINES, &[Turn::Pass(3)], Turn::Fail, "45 "),
     (FIVE_LINES, &[], Turn::Pass(0), ""),
     (FIVE_LINES, &[Turn::Pass(3)], Turn::Pass(0), "45 "),
@@ -225,44 +249,58 @@ const FAILING_WRITERS: [(&str, &[Turn], Turn, &str); 8] = [
     (UNSUPPORTED, &[Turn::Interrupt], ALL, ""),
 ];
 
+/// Whether each of these writers gets its text.
+fn all_writers_fail(alloc: Global) -> bool {
+    for (input, first, then, text) in &FAILING_WRITERS {
+        let turns = Turns { first, then: *then };
+        if !writes_so(alloc, input, turns, Err(Fault::Write), text) {
+            return false;
+        }
+    }
+    true
+}
+
 /// An interrupted write, or one that takes nothing, counts as failed, even if the writer could go
 /// on. The fault replaces that of a bad line.
 #[test]
 fn a_failing_writer_gets_a_prefix(rt: HostRuntime) {
-    for (input, first, then, text) in FAILING_WRITERS {
-        let turns = Turns { first, then };
-        let is = writes_so(rt.alloc(), input, turns, Err(Fault::Write), text);
-        assert!(rt; is, "for {first:?}, then {then:?}");
-    }
-    assert_eq!(rt; Fault::Write.status(), 6);
+    assert!(rt; all_writers_fail(rt.alloc()));
+}
+
+/// Whether a run of an input with an empty output answers this, and calls no writer.
+fn writes_nothing(alloc: Global, input: &str, answer: Result<(), Fault>) -> bool {
+    let turns = Turns {
+        first: &[],
+        then: Turn::Fail,
+    };
+    writes_so(alloc, input, turns, answer, "")
 }
 
 #[test]
 fn a_writer_is_not_called_for_an_empty_output(rt: HostRuntime) {
-    for (input, answer) in [
-        ("", Ok(())),
-        ("\n", Err(Fault::Line(1))),
-        ("integer 37 5f I 1", Err(Fault::Word(1))),
-    ] {
-        let turns = Turns {
-            first: &[],
-            then: Turn::Fail,
-        };
-        let is = writes_so(rt.alloc(), input, turns, answer, "");
-        assert!(rt; is, "for {input}");
-    }
+    assert!(rt; writes_nothing(rt.alloc(), "", Ok(())));
+    assert!(rt; writes_nothing(rt.alloc(), "\n", Err(Fault::Line(1))));
+    let line = "integer 37 5f I 1";
+    assert!(rt; writes_nothing(rt.alloc(), line, Err(Fault::Word(1))));
 }
 
 // ---- telling a fault
 
+/// The first fault that has another line or status.
+fn wrongly_told(alloc: Global) -> Option<Fault> {
+    for (fault, status, line) in &FAULTS {
+        let mut writer = Vec::new(alloc);
+        let told = tell(alloc, fault, &mut writer) == Ok(());
+        if !told || writer.as_slice() != line.as_bytes() || fault.status() != *status {
+            return Some(*fault);
+        }
+    }
+    None
+}
+
 #[test]
 fn each_fault_has_its_line_and_status(rt: HostRuntime) {
-    for (fault, status, line) in FAULTS {
-        let mut writer = Vec::new(rt.alloc());
-        let told = tell(rt.alloc(), &fault, &mut writer) == Ok(());
-        assert!(rt; told && writer.as_slice() == line.as_bytes(), "{line}");
-        assert!(rt; fault.status() == status, "{line}");
-    }
+    assert_eq!(rt; wrongly_told(rt.alloc()), None);
 }
 
 /// Whether `tell` with a writer of these turns answers this and writes this.
@@ -281,19 +319,26 @@ fn tells_so(
     answered == answer && writer.written.as_slice() == text.as_bytes()
 }
 
-#[test]
-fn a_fault_is_told_to_a_slow_writer(rt: HostRuntime) {
-    for (fault, _, line) in FAULTS {
+/// The first fault that a slow writer doesn't get.
+fn wrongly_told_slowly(alloc: Global) -> Option<Fault> {
+    for (fault, _, line) in &FAULTS {
         let turns = Turns {
             first: &[],
             then: Turn::Pass(3),
         };
-        let is = tells_so(rt.alloc(), fault, turns, Ok(()), line);
-        assert!(rt; is, "{line}");
+        if !tells_so(alloc, *fault, turns, Ok(()), line) {
+            return Some(*fault);
+        }
     }
+    None
 }
 
-const FAILING_TELLS: [(&[Turn], Turn, &str); 5] = [
+#[test]
+fn a_fault_is_told_to_a_slow_writer(rt: HostRuntime) {
+    assert_eq!(rt; wrongly_told_slowly(rt.alloc()), None);
+}
+
+static FAILING_TELLS: [(&[Turn], Turn, &str); 5] = [
     (&[], Turn::Fail, ""),
     (&[Turn::Pass(3)], Turn::Fail, "err"),
     (&[], Turn::Pass(0), ""),
@@ -301,13 +346,28 @@ const FAILING_TELLS: [(&[Turn], Turn, &str); 5] = [
     (&[Turn::Pass(3), Turn::Interrupt], ALL, "err"),
 ];
 
-#[test]
-fn a_fault_is_not_told_to_a_failing_writer(rt: HostRuntime) {
-    for (fault, _, line) in FAULTS {
-        for (first, then, text) in FAILING_TELLS {
-            let turns = Turns { first, then };
-            let is = tells_so(rt.alloc(), fault, turns, Err(Fault::Write), text);
-            assert!(rt; is, "{line} for {first:?}, then {then:?}");
+/// Whether each of these writers gets its text of a fault.
+fn all_tells_fail(alloc: Global, fault: Fault) -> bool {
+    for (first, then, text) in &FAILING_TELLS {
+        let turns = Turns { first, then: *then };
+        if !tells_so(alloc, fault, turns, Err(Fault::Write), text) {
+            return false;
         }
     }
+    true
+}
+
+/// The first fault of which such a writer gets another text.
+fn wrongly_cut(alloc: Global) -> Option<Fault> {
+    for (fault, _, _) in &FAULTS {
+        if !all_tells_fail(alloc, *fault) {
+            return Some(*fault);
+        }
+    }
+    None
+}
+
+#[test]
+fn a_fault_is_not_told_to_a_failing_writer(rt: HostRuntime) {
+    assert_eq!(rt; wrongly_cut(rt.alloc()), None);
 }

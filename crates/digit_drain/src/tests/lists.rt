@@ -19,7 +19,7 @@ use std::test::Fail;
 const PATTERN: &[u8] = b"__1__00_._10__0___0_a__zZ_0__0_.__.+_1__";
 
 /// Arguments of calls: digits, letters, signs and separators.
-const VALUES: [u8; 10] = [b'0', b'1', b'a', b'A', b'Z', b'g', b'_', b'+', b'.', 0xff];
+static VALUES: [u8; 10] = [b'0', b'1', b'a', b'A', b'Z', b'g', b'_', b'+', b'.', 0xff];
 
 /// Integer internal, trailing and consecutive; fraction leading; exponent none; and special.
 const MIXED: u128 = INTEGER_INTERNAL_DIGIT_SEPARATOR
@@ -136,7 +136,7 @@ fn random_calls(
 }
 
 /// Calls that answer the cursor and the counts.
-const STATE: [Call; 5] = [
+static STATE: [Call; 5] = [
     Call {
         part: Part::Bytes,
         op: Op::Cursor,
@@ -202,21 +202,22 @@ fn assert_script(
     );
 }
 
+/// The first call of a list that is not answered as by the table, or leaves another state.
+fn wrong_call(alloc: Global, bytes: &mut Bytes, table: &mut Table, calls: &[Call]) -> Option<Call> {
+    for call in calls {
+        if !is_call(alloc, bytes, table, *call) || !is_state(alloc, bytes, table) {
+            return Some(*call);
+        }
+    }
+    None
+}
+
 /// A list call by call, with the state after each.
 fn assert_calls(rt: &impl Abort, alloc: Global, text: &[u8], format: Format, calls: &[Call]) {
     let mut bytes = bytes_of(rt, text, format.word());
     let mut table = Table::new(text, format);
-    for call in calls {
-        let before = table;
-        assert!(rt;
-            is_call(alloc, &mut bytes, &mut table, *call),
-            "{call:?} at {before:?}"
-        );
-        assert!(rt;
-            is_state(alloc, &mut bytes, &mut table),
-            "after {call:?} at {before:?}"
-        );
-    }
+    let wrong = wrong_call(alloc, &mut bytes, &mut table, calls);
+    assert!(rt; wrong.is_none(), "{wrong:?}, which leaves {table:?}");
 }
 
 /// A list as one script, and then call by call with the state after each.
@@ -243,7 +244,7 @@ fn a_thousand_calls_are_answered_by_the_table(rt: HostRuntime) -> Result<(), Fai
 /// The radixes of integer and exponent and the separator of hostile words: a byte that is no text,
 /// a sign, a letter just past the radix and one far from it, the least and the greatest radix, and
 /// no separator at all.
-const HOSTILE: [(u8, u8, u8); 9] = [
+static HOSTILE: [(u8, u8, u8); 9] = [
     (10, 0, 0xff),
     (10, 0, b'+'),
     (16, 0, b'g'),
@@ -257,12 +258,12 @@ const HOSTILE: [(u8, u8, u8); 9] = [
 
 #[test]
 fn hostile_words_are_answered_by_the_table(rt: HostRuntime) -> Result<(), Fail> {
-    for (radix, exponent_radix, separator) in HOSTILE {
+    for (radix, exponent_radix, separator) in &HOSTILE {
         for flags in [MIXED, OTHERS] {
             let format = Format {
-                radix,
-                exponent_radix,
-                separator,
+                radix: *radix,
+                exponent_radix: *exponent_radix,
+                separator: *separator,
                 flags,
             };
             assert_list(&rt, rt.alloc(), format, 3)?;

@@ -21,7 +21,7 @@ const NO_FLAGS: u128 = STANDARD | (0x5f << 64);
 /// Radix 10, the separator `_`, and the integer's internal flag.
 const INTERNAL: u128 = NO_FLAGS | INTEGER_INTERNAL_DIGIT_SEPARATOR;
 
-pub const PARTS: [Part; 5] = [
+pub static PARTS: [Part; 5] = [
     Part::Bytes,
     Part::Integer,
     Part::Fraction,
@@ -38,7 +38,7 @@ pub fn bytes_of<'a>(rt: &impl Abort, text: &'a [u8], word: u128) -> Bytes<'a>
 }
 
 /// A text that begins with a refused separator, and calls of which all but the third are refused.
-const REFUSALS: [Call; 4] = [
+static REFUSALS: [Call; 4] = [
     Call {
         part: Part::Integer,
         op: Op::Step,
@@ -58,7 +58,7 @@ const REFUSALS: [Call; 4] = [
 ];
 
 /// What those calls answer.
-const REFUSED: [Answer; 4] = [
+static REFUSED: [Answer; 4] = [
     Answer::Refused,
     Answer::Refused,
     Answer::Byte(Some(b'_')),
@@ -111,7 +111,7 @@ fn an_empty_script_has_an_empty_answer(rt: HostRuntime) {
 
 /// Calls on `1_2._3`, what each answers, and the cursor after it. The word has the
 /// integer's internal, the fraction's trailing and the special flag.
-const STEPS: [(Part, Op, Answer, usize); 17] = [
+static STEPS: [(Part, Op, Answer, usize); 17] = [
     (Part::Integer, Op::Next, Answer::Byte(Some(b'1')), 1),
     (Part::Integer, Op::Peek, Answer::Byte(Some(b'2')), 2),
     (Part::Integer, Op::Next, Answer::Byte(Some(b'2')), 3),
@@ -135,11 +135,14 @@ const STEPS: [(Part, Op, Answer, usize); 17] = [
 fn script_of_steps(alloc: Global) -> Result<(Vec<Call>, Vec<Answer>), AllocError> {
     let mut calls = Vec::new(alloc);
     let mut expected = Vec::new(alloc);
-    for (part, op, answer, cursor) in STEPS {
-        calls.push(Call { part, op })?;
-        expected.push(answer)?;
+    for (part, op, answer, cursor) in &STEPS {
+        calls.push(Call {
+            part: *part,
+            op: *op,
+        })?;
+        expected.push(*answer)?;
         calls.push(CURSOR)?;
-        expected.push(Answer::Count(cursor))?;
+        expected.push(Answer::Count(*cursor))?;
     }
     Ok((calls, expected))
 }
@@ -194,7 +197,7 @@ fn assert_call(rt: &impl Abort, alloc: Global, part: Part, op: Op, answer: Answe
 }
 
 /// Calls that every part answers alike, and the cursor after them.
-const ALIKE: [(Op, Answer, usize); 16] = [
+static ALIKE: [(Op, Answer, usize); 16] = [
     (Op::AsSlice, Answer::Span(0, 8), 0),
     (Op::GetBuffer, Answer::Span(0, 8), 0),
     (Op::BufferLength, Answer::Count(8), 0),
@@ -215,16 +218,16 @@ const ALIKE: [(Op, Answer, usize); 16] = [
 
 #[test]
 fn every_part_has_the_calls_of_a_cursor(rt: HostRuntime) {
-    for (op, answer, cursor) in ALIKE {
-        for part in PARTS {
-            assert_call(&rt, rt.alloc(), part, op, answer, cursor);
+    for (op, answer, cursor) in &ALIKE {
+        for part in &PARTS {
+            assert_call(&rt, rt.alloc(), *part, *op, *answer, *cursor);
         }
     }
 }
 
 /// Calls that only the fraction, which is contiguous, answers in this way, and the cursor that each
 /// leaves.
-const CONTIGUOUS: [(Op, Answer, Answer, usize); 6] = [
+static CONTIGUOUS: [(Op, Answer, Answer, usize); 6] = [
     (Op::IsContiguous, NO, YES, 0),
     (Op::Step, Answer::Refused, Answer::Done, 1),
     (Op::StepBy(1), Answer::Refused, Answer::Done, 1),
@@ -245,17 +248,17 @@ const CONTIGUOUS: [(Op, Answer, Answer, usize); 6] = [
 
 #[test]
 fn a_contiguous_part_goes_over_separators(rt: HostRuntime) {
-    for (op, answer, contiguous, cursor) in CONTIGUOUS {
+    for (op, answer, contiguous, cursor) in &CONTIGUOUS {
         for part in [Part::Bytes, Part::Integer, Part::Exponent, Part::Special] {
-            assert_call(&rt, rt.alloc(), part, op, answer, 0);
+            assert_call(&rt, rt.alloc(), part, *op, *answer, 0);
         }
-        assert_call(&rt, rt.alloc(), Part::Fraction, op, contiguous, cursor);
+        assert_call(&rt, rt.alloc(), Part::Fraction, *op, *contiguous, *cursor);
     }
 }
 
 /// Calls that only the iterators have: the answer and the cursor where the first separator is
 /// kept, and where it is dropped.
-const READS: [(Op, (Answer, usize), (Answer, usize)); 19] = [
+static READS: [(Op, (Answer, usize), (Answer, usize)); 19] = [
     (Op::IsConsumed, (NO, 0), (NO, 1)),
     (Op::IncrementCount, (Answer::Done, 0), (Answer::Done, 0)),
     (Op::Peek, (SEPARATOR, 0), (ZERO, 1)),
@@ -279,54 +282,40 @@ const READS: [(Op, (Answer, usize), (Answer, usize)); 19] = [
 
 #[test]
 fn the_iterators_alone_read(rt: HostRuntime) {
-    for (op, kept, dropped) in READS {
-        for (part, (answer, cursor)) in [
-            (Part::Bytes, (Answer::Refused, 0)),
-            (Part::Integer, kept),
-            (Part::Fraction, kept),
-            (Part::Exponent, dropped),
-            (Part::Special, dropped),
-        ] {
-            assert_call(&rt, rt.alloc(), part, op, answer, cursor);
+    for (op, (kept, at_kept), (dropped, at_dropped)) in &READS {
+        assert_call(&rt, rt.alloc(), Part::Bytes, *op, Answer::Refused, 0);
+        for part in [Part::Integer, Part::Fraction] {
+            assert_call(&rt, rt.alloc(), part, *op, *kept, *at_kept);
+        }
+        for part in [Part::Exponent, Part::Special] {
+            assert_call(&rt, rt.alloc(), part, *op, *dropped, *at_dropped);
         }
     }
 }
 
-/// What `skip_zeros` and `take_n` answer on the five parts, and the cursor that each leaves.
-const BY_PART: [(Op, [(Answer, usize); 5]); 2] = [
-    (
-        Op::SkipZeros,
-        [
-            (Answer::Refused, 0),
-            (Answer::Count(0), 0),
-            (Answer::Count(0), 0),
-            (Answer::Count(2), 3),
-            (Answer::Count(2), 4),
-        ],
-    ),
-    (
-        Op::TakeN(3),
-        [
-            (Answer::Refused, 0),
-            (Answer::View(None), 0),
-            (Answer::View(Some((3, 0))), 3),
-            (Answer::View(None), 0),
-            (Answer::Refused, 0),
-        ],
-    ),
+/// What `skip_zeros` and `take_n` answer on each part, and the cursor that they leave.
+static BY_PART: [(Part, Op, Answer, usize); 10] = [
+    (Part::Bytes, Op::SkipZeros, Answer::Refused, 0),
+    (Part::Integer, Op::SkipZeros, Answer::Count(0), 0),
+    (Part::Fraction, Op::SkipZeros, Answer::Count(0), 0),
+    (Part::Exponent, Op::SkipZeros, Answer::Count(2), 3),
+    (Part::Special, Op::SkipZeros, Answer::Count(2), 4),
+    (Part::Bytes, Op::TakeN(3), Answer::Refused, 0),
+    (Part::Integer, Op::TakeN(3), Answer::View(None), 0),
+    (Part::Fraction, Op::TakeN(3), Answer::View(Some((3, 0))), 3),
+    (Part::Exponent, Op::TakeN(3), Answer::View(None), 0),
+    (Part::Special, Op::TakeN(3), Answer::Refused, 0),
 ];
 
 #[test]
 fn zeros_and_views_go_by_the_part(rt: HostRuntime) {
-    for (op, expected) in BY_PART {
-        for (part, (answer, cursor)) in PARTS.into_iter().zip(expected) {
-            assert_call(&rt, rt.alloc(), part, op, answer, cursor);
-        }
+    for (part, op, answer, cursor) in &BY_PART {
+        assert_call(&rt, rt.alloc(), *part, *op, *answer, *cursor);
     }
 }
 
 /// How many a call counts on the five parts.
-const COUNTED: [(Op, [usize; 5]); 4] = [
+static COUNTED: [(Op, [usize; 5]); 4] = [
     (Op::Next, [0, 0, 0, 1, 0]),
     (Op::IncrementCount, [0, 1, 1, 1, 0]),
     (Op::SkipZeros, [0, 0, 0, 2, 0]),
@@ -335,16 +324,16 @@ const COUNTED: [(Op, [usize; 5]); 4] = [
 
 #[test]
 fn a_call_counts_for_its_own_part(rt: HostRuntime) {
-    for (op, expected) in COUNTED {
-        for (part, count) in PARTS.into_iter().zip(expected) {
-            let (_, _, counted) = call(&rt, rt.alloc(), part, op);
-            assert!(rt; counted == count, "{op:?} on {part:?}: {counted}");
+    for (op, expected) in &COUNTED {
+        for (part, count) in PARTS.iter().zip(expected) {
+            let (_, _, counted) = call(&rt, rt.alloc(), *part, *op);
+            assert!(rt; counted == *count, "{op:?} on {part:?}: {counted}");
         }
     }
 }
 
 /// Calls on the integer of `aB`, one after another.
-const CASES: [(Op, Answer); 9] = [
+static CASES: [(Op, Answer); 9] = [
     (Op::FirstIsUncased(b'A'), YES),
     (Op::FirstIsCased(b'A'), NO),
     (Op::FirstIs(b'A', false), YES),
@@ -359,10 +348,15 @@ const CASES: [(Op, Answer); 9] = [
 #[test]
 fn case_counts_where_it_is_asked(rt: HostRuntime) {
     let mut bytes = bytes_of(&rt, b"aB", INTERNAL);
-    for (op, answer) in CASES {
-        let part = Part::Integer;
-        let is = answers(rt.alloc(), &mut bytes, &[Call { part, op }], &[answer]);
-        assert!(rt; is, "{op:?}");
+    for (op, answer) in &CASES {
+        let call = Call {
+            part: Part::Integer,
+            op: *op,
+        };
+        assert!(rt;
+            answers(rt.alloc(), &mut bytes, &[call], &[*answer]),
+            "{op:?}"
+        );
     }
     assert_eq!(rt; bytes.cursor(), 2);
 }
