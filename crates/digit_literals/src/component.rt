@@ -22,6 +22,7 @@ use lexical_digits::skip::{
 /// Passes the digits of a component that lead from the cursor on, and answers how many there are.
 /// The cursor is then at the stop: the first byte that the component keeps and that is no digit, or
 /// else the end. Not in lexical-util.
+#[inline(always)]
 #[tactic(auto, using(crate::proofs::States::leading_digits))]
 pub fn pass_digits(bytes: &mut Bytes, component: Component) -> usize
     ensures digits { result ≡ length (leading_digits_of component bytes.old.state) }
@@ -46,6 +47,7 @@ pub fn pass_digits(bytes: &mut Bytes, component: Component) -> usize
 /// ```text
 /// `12_5` with internal `_`, after 4: Ok(Digits { value: 4125, count: 3 })
 /// ```
+#[inline(always)]
 pub fn read_digits_of(
     bytes: &mut Bytes,
     component: Component,
@@ -67,6 +69,7 @@ pub fn read_digits_of(
 }
 
 /// The same up to a greatest value.
+#[inline(always)]
 #[tactic(auto, using(crate::proofs::States::by_state))]
 pub(super) fn read_up_to(
     bytes: &mut Bytes,
@@ -93,6 +96,7 @@ pub(super) fn read_up_to(
 }
 
 /// The same in words of the iterators. `radix` is the component's.
+#[inline(always)]
 #[tactic(auto, using(crate::proofs::States::by_state))]
 fn read_on(
     bytes: &mut Bytes,
@@ -149,6 +153,7 @@ fn read_on(
 /// Passes the bytes `0` of a component that lead from the cursor on, and answers how many there
 /// are. Each is counted if the component counts. The cursor is then at the next byte that the
 /// component keeps, or else at the end. Not in lexical-util.
+#[inline(always)]
 #[tactic(auto, using(crate::proofs::States::leading_zeros))]
 pub fn pass_zeros(bytes: &mut Bytes, component: Component) -> usize
     ensures zeros { result ≡ zeros_of component bytes.old.state }
