@@ -6,7 +6,7 @@ use Rattle.lexical_digits.specs.declared.skip.component.Component.TheVariants.{I
 use Rattle.lexical_digits.specs.declared.skip.rule.Rule.{Rule}
 use Rattle.lexical_digits.specs.declared.skip.decision.Run.{Run}
 use Rattle.lexical_digits.specs.declared.skip.bytes.tally.Tally.{Tally}
-use Rattle.lexical_digits.specs.declared.skip.bytes.shortcuts.Shortcuts.{Shortcuts}
+use Rattle.lexical_digits.specs.declared.skip.rule.Shortcuts.{Shortcuts}
 use Rattle.lexical_digits.specs.State.{State, IsState, rule_of, own, is_contiguous, counts}
 use Rattle.lexical_digits.specs.Looks.{Held, Remembers, separator_at}
 use Rattle.lexical_digits.specs.Tally.{state_of, looks_of}

@@ -1,7 +1,7 @@
 -- Direct bytes: those that a component takes whatever is around them.
 use Rattle.std.specs.Prelude.{◌≡◌, ◌%◌, ◌/◌, ◌*◌, nat_le, nat_lt, ℕ, ◌+◌, ◌-◌, min, Bool, true, false, not, ◌||◌}
 use Rattle.lexical_digits.specs.declared.skip.rule.Rule.{Rule}
-use Rattle.lexical_digits.specs.declared.skip.bytes.shortcuts.Shortcuts.{Shortcuts}
+use Rattle.lexical_digits.specs.declared.skip.rule.Shortcuts.{Shortcuts}
 use Rattle.lexical_digits.specs.Separators.{is_digit, is_separator, has_flags}
 
 -- whether a byte is direct: a digit is, and every byte where there are no flags

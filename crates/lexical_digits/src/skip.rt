@@ -6,16 +6,14 @@ mod component;
 mod decision;
 mod digits;
 mod rule;
-mod source;
 
 pub use bytes::{AsBytes, Bytes};
 pub use component::Component;
-pub use decision::{Run, Sight, decide};
+pub use decision::{ByteSource, Run, Sight, SliceSource, decide};
 pub use digits::{
     ExponentDigitsIterator, FractionDigitsIterator, IntegerDigitsIterator, SpecialDigitsIterator,
 };
 pub use rule::{Class, Rule};
-pub use source::{ByteSource, SliceSource};
 
 /// Makes one call on the iterator of a component over a `Bytes`, for any of the four components:
 /// `on_iterator!(bytes, component, iter => iter.skip_zeros())`. The macro makes the iterator in

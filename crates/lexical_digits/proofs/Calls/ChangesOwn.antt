@@ -1,7 +1,6 @@
 -- The calls on the iterator of a component change only the cursor and the component's own count.
-use Rattle.std.proofs.Common.{◌≡◌, ℕ, ◌+◌, ◌*◌, cond, [], ◌∷◌, length, refl, arith, sym, ◌∙◌, inl, inr, is_some, map}
+use Rattle.std.proofs.Common.{◌≡◌, ℕ, ◌+◌, ◌*◌, cond, [], ◌∷◌, length, refl, arith, sym, ◌∙◌, inl, inr, is_some, map, ℤ, pos, ◌≤ℤ◌, ◌+ℤ◌}
 use Rattle.lexical_digits.specs.Laws.Terms.{cases_lt, slice_get-get_or, slice_get_past, Component, past_zeros, State, IsState, with_cursor, rule, own, one_more, saturating, place_of, byte_at_place, settled, past_place, counted, taken, zeros_of, past_zeros_of, ChangesOwn, run_of, On, Peek, Next, IncrementCount, TryRead, SkipZeros, after_zeros_in}
-use Rattle.std.specs.Prelude.{ℤ, pos, ◌≤ℤ◌, ◌+ℤ◌}
 use Rattle.lexical_digits.specs.Cursor.{zeros}
 use Rattle.lexical_digits.specs.Laws.Table.{iter_laws, digit_laws, next_count, taken_some, taken_none}
 use Rattle.lexical_digits.proofs.Calls.NextTakesFirst.{with_own_same, with_own_twice}

@@ -1,8 +1,7 @@
 -- For a caller's own loops by `next_of` and `peek_of`: what one more call does to the bytes that
 -- are still to be yielded, and to where the digits end.
-use Rattle.std.proofs.Common.{◌≡◌, ℕ, ◌+◌, ◌*◌, true, false, cond, Bool, ◌∷◌, refl, sym, ap, ◌∙◌, arith, Option, Some, None, Bor, option_copied, sum_by, count_by}
+use Rattle.std.proofs.Common.{◌≡◌, ℕ, ◌+◌, ◌*◌, true, false, cond, Bool, ◌∷◌, refl, sym, ap, ◌∙◌, arith, Option, Some, None, Bor, option_copied, sum_by, count_by, ℤ, pos, ◌≤ℤ◌, ◌+ℤ◌}
 use Rattle.lexical_digits.specs.Laws.Terms.{list_any, ints, sum_by-cons, gets, Component, is_digit, State, rule, byte_at_place, taken, drain_of, Takes, Held, Settles, Yields, stop_of}
-use Rattle.std.specs.Prelude.{ℤ, pos, ◌≤ℤ◌, ◌+ℤ◌}
 use Rattle.lexical_digits.specs.Laws.Table.{digit_laws, taken_buffer, taken_word}
 use Rattle.lexical_digits.proofs.Calls.Calling.{drain_fits}
 use Rattle.lexical_digits.proofs.Calls.NextTakesFirst.{drain_some}

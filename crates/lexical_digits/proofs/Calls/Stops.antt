@@ -1,7 +1,6 @@
 -- On the iterator of a component the leading digits are those from the cursor to the stop.
-use Rattle.std.proofs.Common.{◌≡◌, ℕ, zero, suc, ◌+◌, ◌-◌, ◌<◌, ◌≤◌, Bool, cond, List, [], ◌∷◌, length, get_or, take, sym, ap, ◌∙◌, arith, slice_range, filter}
+use Rattle.std.proofs.Common.{◌≡◌, ℕ, zero, suc, ◌+◌, ◌-◌, ◌<◌, ◌≤◌, Bool, cond, List, [], ◌∷◌, length, get_or, take, sym, ap, ◌∙◌, arith, slice_range, filter, if◌then◌else◌}
 use Rattle.lexical_digits.specs.Laws.Terms.{iterate, slice_get-get_or, drop_more, is_digit_of_radix, Rule, Component, is_digit, place, State, IsState, with_cursor, rule, rule_of, own, with_own, counts, saturating, place_of, settled, taken, leading, after_leading, leading_digits, stop_of, leading_digits_of, past_digits_of, IsNthDigit}
-use Rattle.std.specs.Prelude.{if◌then◌else◌}
 use Rattle.lexical_digits.specs.Laws.Kept.{place_kept, place_end}
 use Rattle.lexical_digits.specs.Laws.Place.{by_steps, place_low}
 use Rattle.lexical_digits.specs.Laws.Table.{digit_laws, place_from, own_fits, taken_buffer, taken_word}
@@ -61,13 +60,12 @@ skipped : (rule : Rule) (buffer : List ℕ) (e s c : ℕ) → s ≤ length buffe
     → place rule buffer s c ≤ e
     → filter (is_digit rule) (slice_range buffer s e)
     ≡ filter (is_digit rule) (slice_range buffer (place rule buffer s c) e)
-skipped rule buffer e s c =
+skipped rule buffer e =
     by_steps rule buffer (λ s c. s ≤ length buffer → place rule buffer s c ≤ e
     → filter (is_digit rule) (slice_range buffer s e)
     ≡ filter (is_digit rule) (slice_range buffer (place rule buffer s c) e))
     (grind (arith, place_end)) (grind (arith, place_kept))
     (grind (arith, place_low, passed, filter_first))
-    (length buffer) s c (omega arith)
 
 -- the digits from the cursor up to a position
 abbrev digits_to : Component → State → ℕ → List ℕ

@@ -1,6 +1,6 @@
 -- Reading where the cursor stands: nothing is passed over there, and nothing scanned.
-use Rattle.std.proofs.Common.{◌≡◌, ℕ, ◌+◌, ◌≤◌, ◌&&◌, Bool, true, false, cond, Option, Some, None, [], refl, sym, ap, ◌∙◌, arith, slice_get, Bor}
-use Rattle.lexical_digits.specs.Laws.Terms.{Component, Integer, Fraction, Exponent, Special, Rule, separator, is_digit, is_separator, IsSupported, State, with_cursor, rule, is_contiguous, own, with_own, counts, count_after, saturating, Tally, passed_by, is_direct, has_no_flags, place_of, counted, separator_at, scans, Held, Costs, Settles, Yields, not-true, or_parts, and_parts, and_left, and_right, nat_tests}
+use Rattle.std.proofs.Common.{◌≡◌, ℕ, ◌+◌, ◌<◌, ◌≤◌, ◌≤ℤ◌, ◌&&◌, Bool, true, false, cond, Option, Some, None, [], refl, sym, ap, ◌∙◌, arith, slice_get, Bor, length}
+use Rattle.lexical_digits.specs.Laws.Terms.{Component, Integer, Fraction, Exponent, Special, Rule, separator, is_digit, is_separator, IsSupported, State, with_cursor, rule, is_contiguous, own, with_own, counts, count_after, saturating, Tally, passed_by, is_direct, has_no_flags, place_of, counted, separator_at, scans, Held, Costs, Settles, Yields, Unread, owed, not-true, or_parts, and_parts, and_left, and_right, nat_tests, slice_get_within}
 use Rattle.lexical_digits.specs.Laws.Table.{place_contiguous}
 use Rattle.lexical_digits.proofs.Rule.Supported.{supported_rule}
 use Rattle.lexical_digits.proofs.Rule.Runs.{separator_no_digit}
@@ -31,10 +31,10 @@ here_other k a e = let other = rw (sym (separator_of k a.state.word)) at e in re
 }
 
 pub here_byte : (k : Component) (a : Held) (byte : ℕ)
-    → slice_get a.state.buffer a.state.cursor ≡ Some byte
+    → Some byte ≡ slice_get a.state.buffer a.state.cursor
     → is_separator (separator a.state.word) byte ≡ false → IsHere k a
 unfolding separator_at
-here_byte k a byte e other = here_other k a (rw e other)
+here_byte k a byte e other = here_other k a (rw (sym e) other)
 
 -- at the end nothing is left to be judged
 pub here_end : (k : Component) (a : Held) → slice_get a.state.buffer a.state.cursor ≡ None
@@ -64,7 +64,7 @@ digit_apart rule byte supported d = grind (arith, separator_no_digit rule [] sup
 
 -- where a byte is passed at once
 pub here_direct : (k : Component) (a : Held) (byte : ℕ)
-    → slice_get a.state.buffer a.state.cursor ≡ Some byte → is_direct (rule k a.state) byte ≡ true
+    → Some byte ≡ slice_get a.state.buffer a.state.cursor → is_direct (rule k a.state) byte ≡ true
     → IsHere k a
 here_direct k a byte e p = here (is_contiguous k a.state.word) refl
   where
@@ -113,10 +113,10 @@ peeks_end k a answer none e = let here = (here_end k a none).place in
     record { byte = rw (here, none) e; settles = rw here refl; costs = costs_end k a none }
 
 pub peeks_at : (k : Component) (a b : Held) (byte : ℕ) → IsHere k a
-    → slice_get a.state.buffer a.state.cursor ≡ Some byte
+    → Some byte ≡ slice_get a.state.buffer a.state.cursor
     → b.state ≡ a.state → b.run ≡ a.run → b.looks ≡ saturating a.looks 1 → Settles k a b (Some byte)
 peeks_at k a b byte here at state run looks = record {
-  byte = rw here.place (sym at);
+  byte = rw here.place at;
   settles = rw here.place state;
   costs = costs_on k a b 1 here run (omega (arith, ap (λ (s : State). s.cursor) state)) looks
       (omega arith) (omega arith);
@@ -133,14 +133,14 @@ yields_end k a result none e = let here = (here_end k a none).place in record {
 
 -- the byte at the cursor, by two looks
 module _ (k : Component) (a b : Held) (item : Bor ℕ) (here : IsHere k a)
-    (at : slice_get a.state.buffer a.state.cursor ≡ Some item.now)
+    (at : Some item.now ≡ slice_get a.state.buffer a.state.cursor)
     (run : b.run ≡ a.run) (looks : b.looks ≡ saturating a.looks 2) where
   -- counted or not
   pub yields_by : (t : Bool) → t ≡ (counts k a.state.word && is_digit (rule k a.state) item.now)
       → b.state ≡ with_cursor (cond t (counted k a.state) a.state) (a.state.cursor + 1)
       → Yields k a b (Some item)
   yields_by t e left = let moved = ap (λ (s : State). s.cursor) left in record {
-    takes = takes_some k a.state a.state b.state item a.holds (rw here.place (sym at))
+    takes = takes_some k a.state a.state b.state item a.holds (rw here.place at)
         (rw here.place refl) (left ∙ stepped k a.state item.now (a.state.cursor + 1) t e);
     costs = costs_on k a b 2 here run (omega (arith, moved)) looks (omega arith) (omega arith);
   }
@@ -161,5 +161,24 @@ module _ (k : Component) (a b : Held) (item : Bor ℕ) (here : IsHere k a)
       yields_by false (sym (and_left _ _ (counts_none k a.state.word free)))
       (left ∙ rw (counting, counts_none r.reader a.state.word free) refl)
 
--- a read arrived at its place, and steps past it or finds none
-pub ruleset steps_past = (takes_none, costs_then)
+-- ---- a read that arrived at its place
+
+-- and found a byte
+module _ (k : Component) (a m : Held) (item : Bor ℕ) (peeks : Settles k a m (Some item.now)) where
+  pub arrived : m.state.cursor < length m.state.buffer
+  arrived = rw peeks.settles
+      (slice_get_within a.state.buffer (place_of k a.state) item.now (sym peeks.byte))
+
+  -- which it steps past, counted or not
+  pub steps_past : (b : Held) (t : Bool)
+      → t ≡ (counts k a.state.word && is_digit (rule k a.state) item.now)
+      → b.state ≡ with_cursor (cond t (counted k m.state) m.state) (m.state.cursor + 1)
+      → Unread m b → owed b ≤ℤ owed m → Yields k a b (Some item)
+  steps_past b t e left unread owes = record {
+    takes = takes_some k a.state m.state b.state item a.holds peeks.byte peeks.settles
+        (left ∙ stepped k m.state item.now (m.state.cursor + 1) t (rw peeks.settles e));
+    costs = costs_then k a m b peeks.costs unread owes;
+  }
+
+-- and found none
+pub ruleset finds_none = (takes_none, costs_then)

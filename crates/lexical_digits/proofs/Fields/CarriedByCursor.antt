@@ -1,8 +1,8 @@
 -- What the cursor carries: the state, the looks and the reader of a `Bytes` where its fields
 -- change.
 use Rattle.std.proofs.Common.{rules, ◌≡◌, ℕ, ◌+◌, ◌<◌, ◌≤◌, Bool, true, false, cond, List, length, refl, sym, ap, ◌∙◌, arith, ◌≤ℤ◌}
-use Rattle.lexical_digits.specs.Laws.Terms.{Component, Integer, Fraction, Exponent, Special, Rule, Tally, Shortcuts, Inside, separator, State, IsState, with_cursor, with_no_counts, rule_of, counts, own, one_more, counted, counted_by, Remembers, owed_by, count_of, integer_of, fraction_of, exponent_of, state_of, looks_of, Leaves, AreShortcuts, IsInner, has_no_flags, IsReading, false≢true}
-use Rattle.lexical_digits.specs.Laws.Table.{with_own_buffer}
+use Rattle.lexical_digits.specs.Laws.Terms.{Component, Integer, Fraction, Exponent, Special, Rule, Tally, Shortcuts, Inside, separator, State, IsState, with_cursor, with_no_counts, rule_of, counts, own, one_more, counted, counted_by, saturating, Remembers, owed_by, count_of, integer_of, fraction_of, exponent_of, state_of, looks_of, Leaves, AreShortcuts, IsInner, has_no_flags, IsReading, false≢true}
+use Rattle.lexical_digits.specs.Laws.Table.{with_own_buffer, with_own_is}
 use Rattle.lexical_digits.proofs.Looks.Owing.{owed_onward}
 
 -- ---- states that the invariant holds for
@@ -11,20 +11,19 @@ pub state_moved : (s : State) (i : ℕ) → IsState s → i ≤ length s.buffer 
 state_moved s i v l = search rules
 
 pub state_counted : (n : ℕ) (k : Component) (s : State) → IsState s → IsState (counted_by n k s)
-state_counted n Integer s v = search rules
-state_counted n Fraction s v = search rules
-state_counted n Exponent s v = search rules
-state_counted n Special s v = v
+state_counted n k s v = with_own_is k s (saturating (own k s) n) v (omega arith)
 
 pub state_cleared : (s : State) → IsState s → IsState (with_no_counts s)
 state_cleared s v = search rules
 
 pub counted_moved : (k : Component) (s : State) (i : ℕ)
     → counted k (with_cursor s i) ≡ with_cursor (counted k s) i
-counted_moved Integer s i = refl
-counted_moved Fraction s i = refl
-counted_moved Exponent s i = refl
-counted_moved Special s i = refl
+counted_moved k s i = grind arith
+
+-- a byte passed, and then counted
+pub counted_after : (k : Component) (s m t : State) (i : ℕ) → m ≡ with_cursor s i
+    → t ≡ counted k m → t ≡ with_cursor (counted k s) i
+counted_after k s m t i e f = rw (f, e) (counted_moved k s i)
 
 -- a byte further, which is counted or not
 pub state_passed : (k : Component) (b : Bool) (s : State) → IsState s → s.cursor < length s.buffer
@@ -37,10 +36,7 @@ state_passed k false s v l = state_moved s (s.cursor + 1) v (omega (arith, l))
 -- the count that a tally answers
 pub own_counted : (k : Component) (buffer : List ℕ) (word : ℕ) (t : Tally)
     → own k (state_of buffer word t) ≡ count_of k t
-own_counted Integer buffer word t = refl
-own_counted Fraction buffer word t = refl
-own_counted Exponent buffer word t = refl
-own_counted Special buffer word t = refl
+own_counted k buffer word t = grind arith
 
 -- ---- what a step leaves
 

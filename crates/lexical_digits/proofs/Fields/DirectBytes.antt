@@ -1,7 +1,6 @@
 -- Direct bytes: which they are by the shortcuts, and by the rule of the reader.
 use Rattle.std.proofs.Common.{◌≡◌, ℕ, ◌+◌, ◌-◌, ◌<◌, ◌≤◌, ◌%◌, ◌||◌, Bool, true, false, not, min, leb, ltb, refl, sym, ◌∙◌, ap, arith}
-use Rattle.lexical_format.specs.Digits.{digit_value}
-use Rattle.lexical_digits.specs.Laws.Terms.{Rule, Shortcuts, separator, is_digit, is_separator, has_flags, IsSupported, Component, Inside, rule_of, counts, lower, is_direct, is_direct_by, AreShortcuts, le-leb, nat_tests, and_pow}
+use Rattle.lexical_digits.specs.Laws.Terms.{digit_value, Rule, Shortcuts, separator, is_digit, is_separator, has_flags, IsSupported, Component, Inside, rule_of, counts, lower, is_direct, is_direct_by, AreShortcuts, le-leb, nat_tests, and_pow}
 use Rattle.std.specs.Int.Bits.{bit_or, or_add_and}
 use Rattle.lexical_digits.proofs.Rule.Supported.{supported_rule}
 use Rattle.lexical_digits.proofs.Looks.Owing.{separator_of}

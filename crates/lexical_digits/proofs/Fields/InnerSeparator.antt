@@ -13,10 +13,10 @@ use Rattle.lexical_digits.proofs.Calls.NextTakesFirst.{takes_some}
 
 -- ---- at a position of a buffer
 
-there : (separator : ℕ) (buffer : List ℕ) (q byte : ℕ) → slice_get buffer q ≡ Some byte
+there : (separator : ℕ) (buffer : List ℕ) (q byte : ℕ) → Some byte ≡ slice_get buffer q
     → separator_at separator buffer q ≡ is_separator separator byte
 unfolding separator_at
-there separator buffer q byte e = rw e refl
+there separator buffer q byte e = rw (sym e) refl
 
 -- a lone separator after counted digits and before a digit is dropped
 place_inner : (rule : Rule) (buffer : List ℕ) (q digit count : ℕ) → IsSupported rule
@@ -63,7 +63,7 @@ pub record PassesOver (k : Component) (s : State) (digit : ℕ) : Type 0 where
       ≡ false
 
 module _ (b : Inside) (k : Component) (reader : b.tally.reader ≡ k) (byte : ℕ)
-    (fits : byte < 256) (at : slice_get b.slc.now b.tally.index ≡ Some byte) where
+    (fits : byte < 256) (at : Some byte ≡ slice_get b.slc.now b.tally.index) where
   inner_by : IsInnerAt b.tally b.shortcuts byte
       → IsInner (rule_of b.format k) b.tally.is_counting byte
   inner_by is = rw (is.inner, rule_by b k reader) at
@@ -88,7 +88,7 @@ module _ (b : Inside) (k : Component) (reader : b.tally.reader ≡ k) (byte : �
       let direct = direct_by b k reader digit true is.fits is.direct in
       let is_next = rw (inner_by is.here).internal at direct in
       let supported = supported_rule b.format k b.holds.word in
-      let apart = there r.separator b.slc.now (b.tally.index + 1) digit is.next
+      let apart = there r.separator b.slc.now (b.tally.index + 1) digit (sym is.next)
       ∙ digit_apart r digit supported is_next in
       let own_count = own k (state_of b.slc.now b.format b.tally) in
       record {

@@ -8,10 +8,7 @@ use Rattle.lexical_digits.specs.Laws.Table.{place_from}
 
 -- all components have the separator of the word
 pub separator_of : (k : Component) (word : ℕ) → (rule_of word k).separator ≡ separator word
-separator_of Integer word = refl
-separator_of Fraction word = refl
-separator_of Exponent word = refl
-separator_of Special word = refl
+separator_of k word = grind arith
 
 -- a byte is answered exactly where the place is within the buffer
 answered_by : (xs : List ℕ) (i : ℕ) → is_some (slice_get xs i) ≡ ltb i (length xs)
@@ -74,41 +71,17 @@ costs_unscanned k a b run l least most other free = record {
     none : has_scanned a b ≡ false
     none = rw run (and-not_self (run_holds a.run a.state.cursor))
 
--- what the decision finds, by arguments that were found by calls: the place of a component
-pub place_by : (k : Component) (s : State) (r : Rule) (xs : List ℕ) (n p : ℕ) → r ≡ rule k s
-    → xs ≡ s.buffer → n ≡ own k s → p ≡ place r xs s.cursor n → p ≡ place_of k s
-unfolding place_of
-place_by k s r xs n p er exs en e = rw (er, exs, en) at e
-
-pub place_within : (k : Component) (s : State) (p : ℕ) → p ≡ place_of k s
-    → p ≤ length s.buffer
-unfolding place_of
-place_within k s p e =
-    omega (arith, e, place_high (rule k s) s.buffer s.cursor (own k s))
-
--- and a run that may be remembered
-pub remembers_by : (k : Component) (word : ℕ) (r : Rule) (xs ys : List ℕ) (o : Option Run)
-    → r ≡ rule_of word k → xs ≡ ys → IsRunOrNone r.separator xs o
-    → Remembers (separator word) ys o
-remembers_by k word r xs ys o er exs h run e = rw (er, separator_of k word, exs, e) at h
-
 -- a read of the iterator of a component that left its place, and a run and looks by a decision that
--- was asked after a look at the next byte or none; the decision's arguments were found by calls
-pub arrives : (k : Component) (a b : Held) (saw_next : Bool) (r : Rule) (xs : List ℕ)
-    (n p before : ℕ) → (saw_next ≡ true → FollowsDigit k a.state) → r ≡ rule k a.state
-    → xs ≡ a.state.buffer → n ≡ own k a.state → p ≡ place_of k a.state
-    → before ≡ saturating a.looks (one_if saw_next) → b.state ≡ settled k a.state
-    → Finds (3 + one_if (not (ltb 0 n))) r xs a.state.cursor a.run before (ltb p (length xs)) b.run
-    b.looks
+-- was asked after a look at the next byte or none
+pub arrives : (k : Component) (a b : Held) (saw_next : Bool)
+    → (saw_next ≡ true → FollowsDigit k a.state) → b.state ≡ settled k a.state
+    → Finds (3 + one_if (not (ltb 0 (own k a.state)))) (rule k a.state) a.state.buffer
+    a.state.cursor a.run (saturating a.looks (one_if saw_next))
+    (ltb (place_of k a.state) (length a.state.buffer)) b.run b.looks
     → Costs k a b
-arrives k a b saw_next r xs n p before follows er exs en ep ebefore e h =
+arrives k a b saw_next follows e saw =
     here (scans (rule k a.state) a.state.buffer a.state.cursor a.run) refl
   where
-    saw : Finds (3 + one_if (not (ltb 0 (own k a.state)))) (rule k a.state) a.state.buffer
-        a.state.cursor a.run (saturating a.looks (one_if saw_next))
-        (ltb (place_of k a.state) (length a.state.buffer)) b.run b.looks
-    saw = rw (er, exs, en, ep, ebefore) at h
-
     most : (t : Bool) → (t ≡ true → FollowsDigit k a.state)
         → one_if t + one_if (not (ltb 0 (own k a.state))) ≤ 1
     most false f = grind (arith, nat_tests)

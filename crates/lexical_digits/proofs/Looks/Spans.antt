@@ -1,12 +1,11 @@
 -- What a separator is judged by.
 use Rattle.std.proofs.Common.{◌≡◌, ℕ, ◌+◌, ◌-◌, ◌<◌, ◌≤◌, Bool, true, false, ltb, List, length, sym, ◌∙◌, arith, slice_get}
-use Rattle.std.specs.List.{list_any}
-use Rattle.lexical_digits.specs.Laws.Terms.{Rule, class, holds_separator, left_side, roles, grants, place, IsSupported, separator_at, IsRun, IsSpan, not_from_true, not_from_false}
+use Rattle.lexical_digits.specs.Laws.Terms.{list_any, Rule, class, holds_separator, left_side, roles, grants, place, IsSupported, separator_at, IsRun, IsSpan, not_from_true, not_from_false}
 use Rattle.lexical_digits.specs.declared.skip.rule.Class.{Class}
 use Rattle.lexical_digits.specs.Laws.Kept.{place_kept, separator_within}
 use Rattle.lexical_digits.proofs.Rule.Runs.{place_next, place_run}
 use Rattle.lexical_digits.proofs.Rule.Sides.{left_one, right_one, left_many, right_many, kept_by_sides}
-use Rattle.lexical_digits.proofs.Looks.WhereSeparatorsStand.{holds_separator_at}
+use Rattle.lexical_digits.proofs.Looks.WhereSeparatorsStand.{holds_separator_at, separators_and_others}
 
 module _ (rule : Rule) (buffer : List ℕ) (supported : IsSupported rule) where
   -- a separator under a rule that judges each alone
@@ -60,4 +59,4 @@ module _ (rule : Rule) (buffer : List ℕ) (supported : IsSupported rule) where
 
 pub ruleset spans = (span_alone, span_of_run)
 
-pub ruleset places = (place_dropped_by, place_kept_by)
+pub ruleset judged = (place_dropped_by, place_kept_by, separators_and_others)

@@ -1,7 +1,6 @@
 -- Where a separator stands, by its byte alone.
 use Rattle.std.proofs.Common.{◌≡◌, ℕ, ◌<◌, ◌≤◌, false, Option, Some, None, List, length, get_or, refl, ◌∙◌, slice_get}
-use Rattle.std.specs.Option.{option_map_or}
-use Rattle.lexical_digits.specs.Laws.Terms.{Rule, class, is_separator, is_separator_class, holds_separator, place, IsSupported, separator_at, slice_get-get_or, slice_get_past}
+use Rattle.lexical_digits.specs.Laws.Terms.{option_map_or, Rule, class, is_separator, is_separator_class, holds_separator, place, IsSupported, separator_at, slice_get-get_or, slice_get_past}
 use Rattle.lexical_digits.proofs.Rule.Runs.{separator_class, place_after_run}
 
 module _ (separator : ℕ) (buffer : List ℕ) where

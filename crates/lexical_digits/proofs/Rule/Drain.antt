@@ -26,28 +26,27 @@ module _ (rule : Rule) (buffer : List ℕ) where
   pub positions_at_place : (counts : Bool) → CountsOrIgnores rule buffer counts → (s c : ℕ)
       → at s c < length buffer → kept_positions rule buffer s c
       ≡ at s c ∷ kept_positions rule buffer (at s c + 1) (past counts s c)
-  positions_at_place counts w s c =
+  positions_at_place counts w =
       by_steps rule buffer (λ s c. at s c < length buffer → kept_positions rule buffer s c
       ≡ at s c ∷ kept_positions rule buffer (at s c + 1) (past counts s c))
       (grind (arith, place_end)) (grind (arith, place_kept, positions_kept rule buffer counts w))
-      (grind (arith, place_dropped, positions_dropped)) (length buffer) s c (omega arith)
+      (grind (arith, place_dropped, positions_dropped))
 
   pub positions_at_end : (s c : ℕ) → at s c ≡ length buffer → kept_positions rule buffer s c ≡ []
-  positions_at_end s c =
+  positions_at_end =
       by_steps rule buffer (λ s c. at s c ≡ length buffer → kept_positions rule buffer s c ≡ [])
       (grind (arith, positions_end)) (grind (arith, place_kept))
-      (grind (arith, place_dropped, positions_dropped)) (length buffer) s c (omega arith)
+      (grind (arith, place_dropped, positions_dropped))
 
   -- what is skipped holds no digit
   pub digits_from_place : (s c : ℕ) → s ≤ length buffer
       → count_by (is_digit rule) (drop s buffer)
       ≡ count_by (is_digit rule) (drop (at s c) buffer)
-  digits_from_place s c =
+  digits_from_place =
       by_steps rule buffer (λ s c. s ≤ length buffer → count_by (is_digit rule) (drop s buffer)
       ≡ count_by (is_digit rule) (drop (at s c) buffer))
       (grind (arith, place_end)) (grind (arith, place_kept))
       (grind (arith, passed, count_more))
-      (length buffer) s c (omega arith)
 
   -- ---- the count in the end
 

@@ -6,40 +6,40 @@ use Rattle.lexical_digits.specs.Laws.Kept.{place_kept, place_dropped, place_end}
 
 -- By steps over one position: a claim of start and count holds from any start.
 module _ (rule : Rule) (buffer : List ℕ) where
-  pub by_steps : (P : ℕ → ℕ → Type 0)
-      → ((s c : ℕ) → length buffer ≤ s → P s c)
-      → ((s c : ℕ) → s < length buffer → is_kept rule buffer s c s ≡ true → P s c)
-      → ((s c : ℕ) → s < length buffer → is_kept rule buffer s c s ≡ false → P (s + 1) c → P s c)
-      → (d s c : ℕ) → length buffer ≤ s + d → P s c
-  by_steps P at_end at_kept at_dropped zero s c l = at_end s c (omega arith)
-  by_steps P at_end at_kept at_dropped (suc d) s c l = elim (cases_lt s (length buffer)) [
-    | inl m ↦ elim (cases_Bool (is_kept rule buffer s c s)) [
-      | inl e ↦ at_kept s c m e
-      | inr e ↦ at_dropped s c m e (by_steps P at_end at_kept at_dropped d (s + 1) c (omega arith))
+  module _ (P : ℕ → ℕ → Type 0) (at_end : (s c : ℕ) → length buffer ≤ s → P s c)
+      (at_kept : (s c : ℕ) → s < length buffer → is_kept rule buffer s c s ≡ true → P s c)
+      (at_dropped : (s c : ℕ) → s < length buffer → is_kept rule buffer s c s ≡ false
+      → P (s + 1) c → P s c) where
+    by_more : (d s c : ℕ) → length buffer ≤ s + d → P s c
+    by_more zero s c l = at_end s c (omega arith)
+    by_more (suc d) s c l = elim (cases_lt s (length buffer)) [
+      | inl m ↦ elim (cases_Bool (is_kept rule buffer s c s)) [
+        | inl e ↦ at_kept s c m e
+        | inr e ↦ at_dropped s c m e (by_more d (s + 1) c (omega arith))
+      ]
+      | inr m ↦ at_end s c m
     ]
-    | inr m ↦ at_end s c m
-  ]
+
+    pub by_steps : (s c : ℕ) → P s c
+    by_steps s c = by_more (length buffer) s c (omega arith)
 
   pub place_low : (s c : ℕ) → s ≤ length buffer → s ≤ place rule buffer s c
-  place_low s c =
-      by_steps (λ s c. s ≤ length buffer → s ≤ place rule buffer s c)
-      (grind (arith, place_end)) (grind (arith, place_kept)) (grind (arith, place_dropped))
-      (length buffer) s c (omega arith)
+  place_low =
+      by_steps _ (grind (arith, place_end)) (grind (arith, place_kept))
+      (grind (arith, place_dropped))
 
   pub place_high : (s c : ℕ) → place rule buffer s c ≤ length buffer
-  place_high s c =
-      by_steps (λ s c. place rule buffer s c ≤ length buffer)
-      (grind (arith, place_end)) (grind (arith, place_kept)) (grind (arith, place_dropped))
-      (length buffer) s c (omega arith)
+  place_high =
+      by_steps (λ s c. place rule buffer s c ≤ length buffer) (grind (arith, place_end))
+      (grind (arith, place_kept)) (grind (arith, place_dropped))
 
   -- ---- the place from the place
 
   pub place_settled : (s c : ℕ)
       → place rule buffer (place rule buffer s c) c ≡ place rule buffer s c
-  place_settled s c =
+  place_settled =
       by_steps (λ s c. place rule buffer (place rule buffer s c) c ≡ place rule buffer s c)
       (grind (arith, place_end)) (grind (arith, place_kept)) (grind (arith, place_dropped))
-      (length buffer) s c (omega arith)
 
 -- ---- where nothing is granted
 

@@ -26,7 +26,7 @@ cursor_is s v = v.within
 moved_is : (s : State) (i : ℕ) → IsState s → i ≤ length s.buffer → IsState (with_cursor s i)
 moved_is s i v h = search (v, h)
 
-with_own_is : (k : Component) (s : State) (n : ℕ) → IsState s → n < 2 ^ 64
+pub with_own_is : (k : Component) (s : State) (n : ℕ) → IsState s → n < 2 ^ 64
     → IsState (with_own k s n)
 with_own_is k s n v l = grind arith
 

@@ -37,6 +37,6 @@ unfoldable pub use Rattle.lexical_digits.specs.Tally.{exponent_of, fraction_of, 
 unfoldable pub use Rattle.lexical_digits.specs.Tally.{looks_of}
 pub use Rattle.lexical_digits.specs.Tally.{Leaves, count_of, passed_by, state_of}
 pub use Rattle.lexical_digits.specs.declared.skip.bytes.Bytes.TheInside.{Inside}
-pub use Rattle.lexical_digits.specs.declared.skip.bytes.shortcuts.Shortcuts.{Shortcuts}
+pub use Rattle.lexical_digits.specs.declared.skip.rule.Shortcuts.{Shortcuts}
 pub use Rattle.lexical_digits.specs.declared.skip.bytes.tally.Tally.{Tally}
 pub use Rattle.std.proofs.lemmas.Nat.Bits.{and_pow}

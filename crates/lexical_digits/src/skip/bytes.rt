@@ -11,14 +11,12 @@ ghost use Rattle.lexical_digits.specs.Tally.{state_of};
 ghost use Rattle.lexical_digits.specs.Bytes.{IsReading, has_no_flags as has_no_flags_of};
 
 mod reading;
-mod shortcuts;
 mod tally;
 
-use self::shortcuts::Shortcuts;
 use self::tally::Tally;
 use super::component::Component;
 use super::decision::Run;
-use super::rule::Rule;
+use super::rule::{Rule, Shortcuts};
 use crate::iterator::Iter;
 use lexical_format::NumberFormat;
 use std::alloc::AllocError;

@@ -1,15 +1,15 @@
 //! The decision: which byte comes next, and how many looks that takes. It knows a rule and a source
-//! of bytes, and no word, component or cursor.
+//! of bytes that counts each look, and no word, component or cursor.
 //!
 //! lexical-util has code of its own for each of fifteen rules. Here one function judges by any
 //! rule.
 
-ghost use Rattle.std.specs.Prelude.{◌≡◌, ℕ, ◌+◌, ◌-◌, ◌*◌, ◌<◌, ◌≤◌, Some, length, slice_get, nat_lt, not, true, false};
+ghost use Rattle.std.specs.Prelude.{◌≡◌, ℕ, ◌+◌, ◌-◌, ◌*◌, ◌<◌, ◌≤◌, ◌^◌, List, min, Some, length, slice_index, slice_get, nat_lt, not, true, false};
 ghost use Rattle.lexical_digits.specs.Separators.{class, left_side, place, IsSupported};
 ghost use Rattle.lexical_digits.specs.Looks.{separator_at, scans, run_holds, run_length, IsRun, IsRunOrNone, IsSpan, LooksBetween, one_if};
 
 use super::rule::{Class, Rule};
-use super::source::ByteSource;
+use std::marker::Model;
 
 /// A maximal run of separators, at the positions `from..to`. Positions count bytes from 0.
 ///
@@ -46,7 +46,7 @@ pub struct Sight {
 ///
 /// Requires that `at` is at most the length, that the rule's radix is 2 to 36 and its separator no
 /// digit of it, and that `run` is `None` or a maximal run of this source. Not in lexical-util.
-#[tactic(auto, using(crate::proofs::Looks::WhereSeparatorsStand::separators_and_others))]
+#[tactic(auto, using(crate::proofs::Looks::Spans::judged))]
 pub fn decide<S: ByteSource>(
     src: &mut S,
     rule: Rule,
@@ -87,9 +87,10 @@ pub fn decide<S: ByteSource>(
         return Sight { place: at, run };
     }
     let span = span_at(src, rule, at, run);
-    let place = judge(src, rule, at, counted, span);
+    let left = left_of(src, rule, at, counted, span);
+    let right = class_at(src, rule, span.to);
     Sight {
-        place,
+        place: if rule.drops(left, right) { span.to } else { at },
         run: if rule.consecutive { Some(span) } else { run },
     }
 }
@@ -128,24 +129,9 @@ fn span_at<S: ByteSource>(src: &mut S, rule: Rule, at: usize, run: Option<Run>) 
     {
         return known;
     }
-    scan(src, rule, at)
-}
-
-/// The place from a separator on, by the bytes on both sides of the span that is judged as one.
-#[tactic(auto, using(crate::proofs::Looks::Spans::places))]
-#[inline(always)]
-fn judge<S: ByteSource>(src: &mut S, rule: Rule, at: usize, counted: bool, span: Run) -> usize
-    requires supported { IsSupported rule }
-    requires separator { separator_at rule.separator (S.content src.old) at ≡ true }
-    requires span { IsSpan rule (S.content src.old) at span.from span.to }
-    ensures place { (count : ℕ) → counted ≡ nat_lt 0 count
-        → result ≡ place rule (S.content src.old) at count }
-    ensures content { S.content src.new ≡ S.content src.old }
-    ensures looks { LooksBetween (S.looks src.old) 0 (1 + one_if (not counted)) (S.looks src.new) }
-{
-    let left = left_of(src, rule, at, counted, span);
-    let right = class_at(src, rule, span.to);
-    if rule.drops(left, right) { span.to } else { at }
+    let from = run_start(src, rule, at);
+    let to = run_end(src, rule, at);
+    Run { from, to }
 }
 
 /// The left side of a separator: a digit where digits were counted, else the byte before the span.
@@ -177,22 +163,6 @@ fn class_at<S: ByteSource>(src: &mut S, rule: Rule, index: usize) -> Class
     } else {
         Class::Other
     }
-}
-
-/// The run of the separator at a position, by a scan to both sides.
-fn scan<S: ByteSource>(src: &mut S, rule: Rule, at: usize) -> Run
-    requires within { at < length (S.content src.old) }
-    requires separator { separator_at rule.separator (S.content src.old) at ≡ true }
-    ensures run { IsRun rule.separator (S.content src.old) result.from result.to }
-    ensures low { result.from ≤ at }
-    ensures high { at < result.to }
-    ensures content { S.content src.new ≡ S.content src.old }
-    ensures looks { LooksBetween (S.looks src.old)
-        (result.to - result.from) (result.to - result.from + 2) (S.looks src.new) }
-{
-    let from = run_start(src, rule, at);
-    let to = run_end(src, rule, at);
-    Run { from, to }
 }
 
 /// The start of the separators right before a position.
@@ -238,4 +208,73 @@ fn run_end<S: ByteSource>(src: &mut S, rule: Rule, from: usize) -> usize
         }
     }
     end
+}
+
+/// Bytes that are read one by one. Each look is counted. The bytes never change. Positions count
+/// bytes from 0. Not in lexical-util.
+pub trait ByteSource {
+    // The bytes.
+    ghost content: { Self → List ℕ };
+
+    // How many looks were counted.
+    ghost looks: { Self → ℕ };
+
+    /// How many bytes there are. Counts no look.
+    fn length(&self) -> usize
+        ensures { result ≡ length (content self.now) };
+
+    /// The byte at a position. Counts one look. Requires that the position is below the length.
+    fn at(&mut self, index: usize) -> u8
+        requires { index < length (content self.old) }
+        ensures byte { result ≡ slice_index (content self.old) index }
+        ensures content { content self.new ≡ content self.old }
+        ensures looks { looks self.new ≡ min (looks self.old + 1) (2 ^ 64 - 1) };
+
+    /// How many looks were counted. The counter stops at `u64::MAX`.
+    fn looks(&self) -> u64
+        ensures { result ≡ looks self.now };
+}
+
+/// A source over a slice. Not in lexical-util.
+#[derive(Drop)]
+pub struct SliceSource<'a> {
+    pub(super) slc: &'a [u8],
+    pub(super) looks: u64,
+}
+
+impl<'a> Model for SliceSource<'a> {
+    ghost use Rattle.lexical_digits.specs.Looks.{Source};
+
+    ghost Value = { Source };
+
+    ghost view = { λ s. record { content = s.slc.now; looks = s.looks } };
+}
+
+impl<'a> SliceSource<'a> {
+    /// A source over `slc` with no look counted.
+    pub fn new(slc: &'a [u8]) -> SliceSource<'a>
+        ensures content { result.content ≡ slc.now }
+        ensures looks { result.looks ≡ 0 }
+    {
+        SliceSource { slc, looks: 0 }
+    }
+}
+
+impl<'a> ByteSource for SliceSource<'a> {
+    ghost content = { λ s. s.content };
+
+    ghost looks = { λ s. s.looks };
+
+    fn length(&self) -> usize {
+        self.slc.len()
+    }
+
+    fn at(&mut self, index: usize) -> u8 {
+        self.looks = self.looks.saturating_add(1);
+        self.slc[index]
+    }
+
+    fn looks(&self) -> u64 {
+        self.looks
+    }
 }

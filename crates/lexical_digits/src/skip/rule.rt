@@ -1,10 +1,11 @@
 //! The rule by which a component's separators are judged: its fields, its verdict on a byte and on
-//! two sides, and how a format word gives it. It knows no buffer and no cursor.
+//! two sides, how a format word gives it, and the bytes that it keeps whatever is around them. It
+//! knows no buffer and no cursor.
 
 ghost use Rattle.std.specs.Prelude.{◌≡◌, ◌+◌, ◌<◌, ◌&&◌, not, Some};
 ghost use Rattle.std.specs.List.{list_any};
 ghost use Rattle.lexical_format.specs.Word.{bit};
-ghost use Rattle.lexical_digits.specs.Separators.{class, is_digit, is_separator, roles, grants, has_flags};
+ghost use Rattle.lexical_digits.specs.Separators.{class, is_digit, is_separator, roles, grants, has_flags, IsSupported};
 ghost use Rattle.lexical_digits.specs.State.{radix_of, rule_at, special_rule, rule_of, is_special};
 
 use super::component::Component;
@@ -151,7 +152,7 @@ impl Rule {
     pub(crate) fn counts_byte(self, component: Component, byte: u8) -> bool
         ensures { result ≡ ((not (is_special component) && has_flags self) && is_digit self byte) }
     {
-        self.counts(component) && self.is_digit(byte)
+        !matches!(component, Component::Special) && self.has_flags() && self.is_digit(byte)
     }
 
     /// The class of that byte.
@@ -180,5 +181,60 @@ impl Rule {
             (Class::Other, Class::Other) => self.leading || self.trailing,
             _ => false,
         }
+    }
+}
+
+/// The direct bytes: a component takes them whatever is around them. They are its digits, or
+/// all bytes where it has no flags.
+#[derive(Clone, Copy)]
+pub(super) struct Shortcuts {
+    /// The last direct figure, counted from `0`; 255 where every byte is direct.
+    last_figure: u8,
+    /// How many letters are digits.
+    letters: u8,
+    /// The separator that is dropped between two digits, and 256 where there is none.
+    pub(super) inner_separator: u16,
+}
+
+impl Shortcuts {
+    ghost use Rattle.lexical_digits.specs.Shortcuts.{is_direct_by, AreShortcuts, IsInner};
+
+    /// The shortcuts of a rule, by a reader that counts its digits or doesn't.
+    #[tactic(auto, unfolding(crate::specs::Separators::is_separator))]
+    #[inline(always)]
+    pub(super) fn of(rule: Rule, is_counting: bool) -> Shortcuts
+        requires { IsSupported rule }
+        ensures direct { AreShortcuts rule result }
+        ensures inner { result.inner_separator < 256
+            → IsInner rule is_counting result.inner_separator }
+    {
+        let (last_figure, letters) = if !rule.has_flags() {
+            (255, 0)
+        } else if rule.radix > 10 {
+            (9, (rule.radix - 10) as u8)
+        } else {
+            ((rule.radix - 1) as u8, 0)
+        };
+        let has_inner = is_counting && rule.internal && rule.separator != 0;
+        Shortcuts {
+            last_figure,
+            letters,
+            inner_separator: if has_inner {
+                rule.separator as u16
+            } else {
+                256
+            },
+        }
+    }
+
+    /// Whether the byte is direct. `| 0x20` makes a letter lower case; no other byte becomes one.
+    #[tactic(auto, using(crate::proofs::Fields::DirectBytes::lower_by_or))]
+    #[inline(always)]
+    pub(super) fn is_direct(self, byte: u8) -> bool
+        ensures value { result ≡ is_direct_by self byte }
+        ensures fits { byte < 256 }
+    {
+        byte.wrapping_sub(b'0') <= self.last_figure
+            || (byte | 0x20).wrapping_sub(b'a') < self.letters
     }
 }

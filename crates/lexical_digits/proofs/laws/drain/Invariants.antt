@@ -1,7 +1,5 @@
-use Rattle.std.proofs.Common.{◌≡◌, ◌+◌, ◌*◌, length}
-use Rattle.std.specs.Prelude.{pos, ◌≤ℤ◌, ◌+ℤ◌}
-use Rattle.lexical_digits.specs.CallTable.{drain_of, after_drain}
-use Rattle.lexical_digits.specs.Looks.{owed}
+use Rattle.std.proofs.Common.{◌≡◌, ◌+◌, ◌*◌, length, pos, ◌≤ℤ◌, ◌+ℤ◌}
+use Rattle.lexical_digits.specs.Laws.Terms.{drain_of, after_drain, owed}
 use Rattle.lexical_digits.proofs.laws.drain.Given as goal
 
 -- what was yielded and what is left make up the drain

@@ -22,12 +22,10 @@ ghost use Rattle.lexical_digits.specs.Looks.{IsRunOrNone, Finds, Settles, Yields
 ghost use Rattle.lexical_digits.specs.Bytes.{IsInnerAt, IsInnerDigit, FollowsDigit, has_no_flags};
 
 use super::Bytes;
-use super::shortcuts::Shortcuts;
 use super::tally::Tally;
 use crate::skip::component::Component;
-use crate::skip::decision::{Run, decide};
-use crate::skip::rule::Rule;
-use crate::skip::source::{ByteSource, SliceSource};
+use crate::skip::decision::{ByteSource, Run, SliceSource, decide};
+use crate::skip::rule::{Rule, Shortcuts};
 
 /// The place to which a read goes, the run that it leaves, and all looks so far.
 #[derive(Clone, Copy)]
@@ -57,7 +55,7 @@ fn find(mut src: SliceSource<'_>, rule: Rule, at: usize, counted: bool, run: Opt
     Found {
         place: sight.place,
         run: sight.run,
-        looks: src.looks(),
+        looks: src.looks,
     }
 }
 
@@ -78,7 +76,7 @@ fn inner_digit<'a>(
     shortcuts: Shortcuts,
     byte: u8,
 ) -> (Option<&'a u8>, bool)
-    requires { slice_get slc.now tally.index ≡ Some byte }
+    requires { Some byte ≡ slice_get slc.now tally.index }
     ensures digit { IfSome result.0 (λ next. IsInnerDigit slc.now tally shortcuts byte next.now) }
     ensures saw_next { result.1 ≡ true → IsInnerAt tally shortcuts byte }
 {
@@ -216,7 +214,10 @@ impl<'a> Bytes<'a> {
     {
         let looks = self.tally.looks().saturating_add(saw_next as u64);
         let counted = 0 < self.tally.count(component);
-        let src = SliceSource::after(self.slc, looks);
+        let src = SliceSource {
+            slc: self.slc,
+            looks,
+        };
         let found = find(src, rule, self.tally.index, counted, self.run);
         self.tally.arrive(found.place, found.looks);
         self.run = found.run;
@@ -226,7 +227,7 @@ impl<'a> Bytes<'a> {
     /// The byte at the place, by the decision. The cursor moves past that byte, and the component
     /// counts it if it is a digit. `saw_next` says that the byte after the cursor was looked at
     /// before.
-    #[tactic(auto, using(crate::proofs::Fields::AtTheCursor::steps_past))]
+    #[tactic(auto, using(crate::proofs::Fields::AtTheCursor::finds_none))]
     #[inline(always)]
     fn next_decided(&mut self, component: Component, rule: Rule, saw_next: bool) -> Option<&'a u8>
         requires rule { rule ≡ rule_of self.old.state.word component }
@@ -234,24 +235,8 @@ impl<'a> Bytes<'a> {
         ensures { Yields component self.old self.new result }
     {
         let byte = self.peek_decided(component, rule, saw_next)?;
-        self.pass_seen(component, rule.counts_byte(component, *byte));
+        let is_counted = rule.counts_byte(component, *byte);
+        self.tally.pass_seen(component, is_counted);
         Some(byte)
-    }
-
-    /// Passes the byte at the cursor, whose look was counted before, and counts it for the
-    /// component if `is_counted`.
-    #[inline(always)]
-    fn pass_seen(&mut self, component: Component, is_counted: bool)
-        requires { self.old.state.cursor < length self.old.state.buffer }
-        ensures state { let s = self.old.state in
-            let left = if is_counted then counted component s else s in
-            self.new.state ≡ with_cursor left (s.cursor + 1) }
-        ensures unread { Unread self.old self.new }
-        ensures owes { owed self.new ≤ℤ owed self.old }
-    {
-        self.tally.pass_seen();
-        if is_counted {
-            self.tally.raise(component, 1);
-        }
     }
 }

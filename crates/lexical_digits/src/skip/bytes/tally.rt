@@ -1,8 +1,8 @@
 //! The cursor, and the counts and looks that it carries. No buffer and no word.
 
-ghost use Rattle.std.specs.Prelude.{◌≡◌, ℕ, ◌+◌, ◌-◌, ◌<◌, ◌≤◌, ◌&&◌, true, List};
-ghost use Rattle.lexical_digits.specs.State.{start, with_cursor, with_no_counts};
-ghost use Rattle.lexical_digits.specs.CallTable.{counted_by};
+ghost use Rattle.std.specs.Prelude.{◌≡◌, ℕ, ◌+◌, ◌-◌, ◌<◌, ◌≤◌, true, List, if◌then◌else◌};
+ghost use Rattle.lexical_digits.specs.State.{State, start, with_cursor, with_no_counts};
+ghost use Rattle.lexical_digits.specs.CallTable.{counted, counted_by};
 
 use crate::skip::component::Component;
 
@@ -37,7 +37,7 @@ pub(super) struct Tally {
 #[tactic(auto, unfolding(crate::specs::Tally::all_of))]
 impl Tally {
     ghost use Rattle.lexical_digits.specs.State.{saturating};
-    ghost use Rattle.lexical_digits.specs.Tally.{count_of, count_since, state_of, looks_of, passed_by, Leaves};
+    ghost use Rattle.lexical_digits.specs.Tally.{count_of, state_of, looks_of, passed_by, Leaves};
 
     /// A cursor before anything was counted.
     #[inline(always)]
@@ -69,34 +69,25 @@ impl Tally {
         self.reader == component
     }
 
-    /// A stored count, with the bytes from `counted_from` on if they count for it.
-    #[inline(always)]
-    fn count_since(self, is_reader: bool, stored: usize) -> usize
-        ensures { let since = self.index - self.counted_from in
-            result ≡ count_since (self.is_counting && is_reader) stored since }
-    {
-        if self.is_counting && is_reader {
-            stored.saturating_add(self.index - self.counted_from)
-        } else {
-            stored
-        }
-    }
-
     /// The count by which the separators of a component are judged: special has the integer's.
     #[inline(always)]
     pub(super) fn count(self, component: Component) -> usize
         ensures { result ≡ count_of component self }
     {
-        match component {
-            Component::Integer | Component::Special => {
-                self.count_since(matches!(self.reader, Component::Integer), self.integer)
+        let since = self.index - self.counted_from;
+        match (component, self.reader) {
+            (Component::Integer | Component::Special, Component::Integer) if self.is_counting => {
+                self.integer.saturating_add(since)
             }
-            Component::Fraction => {
-                self.count_since(matches!(self.reader, Component::Fraction), self.fraction)
+            (Component::Fraction, Component::Fraction) if self.is_counting => {
+                self.fraction.saturating_add(since)
             }
-            Component::Exponent => {
-                self.count_since(matches!(self.reader, Component::Exponent), self.exponent)
+            (Component::Exponent, Component::Exponent) if self.is_counting => {
+                self.exponent.saturating_add(since)
             }
+            (Component::Integer | Component::Special, _) => self.integer,
+            (Component::Fraction, _) => self.fraction,
+            (Component::Exponent, _) => self.exponent,
         }
     }
 
@@ -109,30 +100,8 @@ impl Tally {
         self.looks.saturating_add(since).saturating_add(since)
     }
 
-    /// The same counts, all stored, with another cursor and another number of looks.
-    #[inline(always)]
-    fn stored(self, index: usize, looks: u64, reader: Component, is_counting: bool) -> Tally
-        ensures state { (buffer : List ℕ) → (word : ℕ) →
-            state_of buffer word result ≡ with_cursor (state_of buffer word self) index }
-        ensures index { result.index ≡ index }
-        ensures looks { looks_of result ≡ looks }
-        ensures reader { result.reader ≡ reader }
-        ensures is_counting { result.is_counting ≡ is_counting }
-    {
-        Tally {
-            index,
-            counted_from: index,
-            looked_from: index,
-            looks,
-            integer: self.count(Component::Integer),
-            fraction: self.count(Component::Fraction),
-            exponent: self.count(Component::Exponent),
-            reader,
-            is_counting,
-        }
-    }
-
-    /// Makes a component the reader, from the cursor on. Counts no digit and no look.
+    /// Makes a component the reader, from the cursor on, and stores the counts. Counts no digit and
+    /// no look.
     #[inline(always)]
     pub(super) fn hand_over(&mut self, reader: Component, is_counting: bool)
         ensures state { (buffer : List ℕ) → (word : ℕ) →
@@ -142,7 +111,12 @@ impl Tally {
         ensures reader { self.new.reader ≡ reader }
         ensures is_counting { self.new.is_counting ≡ is_counting }
     {
-        *self = self.stored(self.index, self.looks(), reader, is_counting);
+        self.integer = self.count(Component::Integer);
+        self.fraction = self.count(Component::Fraction);
+        self.exponent = self.count(Component::Exponent);
+        self.counted_from = self.index;
+        self.reader = reader;
+        self.is_counting = is_counting;
     }
 
     /// Moves the cursor to any position. Counts no digit and no look.
@@ -151,7 +125,7 @@ impl Tally {
         ensures { Leaves self.old self.new (λ s. with_cursor s index) index (looks_of self.old) }
     {
         if index < self.index {
-            *self = self.stored(index, self.looks(), self.reader, self.is_counting);
+            self.arrive(index, self.looks());
         } else {
             self.move_onward(index);
         }
@@ -175,7 +149,17 @@ impl Tally {
     pub(super) fn arrive(&mut self, place: usize, looks: u64)
         ensures { Leaves self.old self.new (λ s. with_cursor s place) place looks }
     {
-        *self = self.stored(place, looks, self.reader, self.is_counting);
+        *self = Tally {
+            index: place,
+            counted_from: place,
+            looked_from: place,
+            looks,
+            integer: self.count(Component::Integer),
+            fraction: self.count(Component::Fraction),
+            exponent: self.count(Component::Exponent),
+            reader: self.reader,
+            is_counting: self.is_counting,
+        };
     }
 
     /// Counts that many digits for a component.
@@ -197,7 +181,7 @@ impl Tally {
     pub(super) fn clear(&mut self)
         ensures { Leaves self.old self.new with_no_counts self.old.index (looks_of self.old) }
     {
-        self.counted_from = self.index;
+        self.counted_from = self.index; // so no byte before counts
         self.integer = 0;
         self.fraction = 0;
         self.exponent = 0;
@@ -232,16 +216,23 @@ impl Tally {
             Leaves self.old self.new (λ s. with_cursor s next) next looks }
     {
         self.index += 1;
-        self.counted_from += 1;
+        self.counted_from += 1; // so the byte isn't counted
     }
 
-    /// Passes one byte whose looks were counted before. Counts no look and no digit.
+    /// Passes one byte whose looks were counted before, and counts a digit for a component if
+    /// `is_counted`. Counts no look.
     #[inline(always)]
-    pub(super) fn pass_seen(&mut self)
+    pub(super) fn pass_seen(&mut self, component: Component, is_counted: bool)
         requires { self.old.index < usize.MAX }
         ensures { let next = self.old.index + 1 in
-            Leaves self.old self.new (λ s. with_cursor s next) next (looks_of self.old) }
+            let left = λ (s : State). if is_counted then counted component s else s in
+            Leaves self.old self.new (λ s. with_cursor (left s) next) next (looks_of self.old) }
     {
-        self.move_onward(self.index + 1);
+        self.index += 1;
+        self.counted_from += 1;
+        self.looked_from += 1;
+        if is_counted {
+            self.raise(component, 1);
+        }
     }
 }

@@ -1,6 +1,5 @@
 use Rattle.std.proofs.Common.{rules, arith, ◌≡◌, ◌≤◌, true, false, ◌∙◌, sym}
-use Rattle.std.proofs.lemmas.Int.{ints}
-use Rattle.lexical_digits.specs.Cursor.{at_zero, past_zero}
+use Rattle.lexical_digits.specs.Laws.Terms.{at_zero, past_zero, ints}
 use Rattle.lexical_digits.proofs.Calls.Items.{zeros_by, after_zeros_by, past_cursor}
 use Rattle.lexical_digits.proofs.iterator.bodies.AnyDigitsBodies.skip_zeros.Goals as goal
 

@@ -1,26 +1,24 @@
-use Rattle.std.proofs.Common.{ap, sym, ◌∙◌, not, ◌&&◌}
-use Rattle.lexical_digits.specs.Laws.Terms.{Rule, is_digit, has_flags, State, rule_of, is_special}
-use Rattle.lexical_digits.proofs.Calls.NextTakesFirst.{takes_some}
-use Rattle.lexical_digits.proofs.Looks.Owing.{costs_then}
-use Rattle.lexical_digits.proofs.Fields.AtTheCursor.{stepped}
+use Rattle.std.proofs.Common.{refl, sym, arith}
+use Rattle.lexical_digits.proofs.Fields.CarriedByCursor.{state_passed, carried, owes_no_more}
+use Rattle.lexical_digits.proofs.Fields.AtTheCursor.{arrived, steps_past}
 use Rattle.lexical_digits.proofs.skip.bytes.Bytes.next_decided.Goals as goal
+
+pub pass_seen-requires : goal.pass_seen-requires
+pass_seen-requires c =
+    let peeks = rw (sym c.self.view_is) at c.in_ok-byte.ensures in
+    omega (arith, arrived _ _ _ c.in_ok-byte.byte peeks, c.self.inside.holds.buffer)
+
+pub invariant_of-self-inside : goal.invariant_of-self-inside
+invariant_of-self-inside c =
+    let peeks = rw (sym c.self.view_is) at c.in_ok-byte.ensures in
+    carried c.self.inside c.pass_seen.ensures (state_passed c.args.component _ _
+    c.self.inside.holds (arrived _ _ _ c.in_ok-byte.byte peeks))
 
 pub returns : goal.returns
 returns c =
-    let k = c.args.component in
-    let a = c.args.self.now in
-    let m = c.peek_decided.new.self in
-    let byte = c.in_ok-byte.byte in
-    let peeks = c.in_ok-byte.ensures in
-    let rule = c.requires.rule ∙ ap (λ (s : State). rule_of s.word k) (sym peeks.settles) in
-    let counted = c.counts_byte.ensures
-    ∙ ap (λ (r : Rule). (not (is_special k) && has_flags r) && is_digit r byte.now) rule in
-    record {
-      takes =
-          takes_some k a.state m.state c.pass_seen.new.self.state byte a.holds peeks.byte
-          peeks.settles
-          (c.pass_seen.ensures.state ∙ stepped k m.state byte.now _ c.counts_byte.result counted);
-      costs =
-          costs_then k a m c.pass_seen.new.self peeks.costs c.pass_seen.ensures.unread
-          c.pass_seen.ensures.owes;
-    }
+    let b = c.self.inside in
+    let peeks = rw (sym c.self.view_is) at c.in_ok-byte.ensures in
+    steps_past c.args.component _ _ c.in_ok-byte.byte peeks _ _
+    (rw c.requires.rule at c.counts_byte-is_counted.ensures) (c.pass_seen.ensures.state b.slc.now b.format)
+    (record { run = refl; looks = c.pass_seen.ensures.looks })
+    (owes_no_more b c.pass_seen.ensures refl (omega arith))

@@ -1,7 +1,5 @@
 use Rattle.std.proofs.Common.{false, refl, sym, ◌∙◌, ◌<◌, ap, arith, min, length, ◌+◌, ◌-◌, ◌^◌}
-use Rattle.std.proofs.lemmas.Option.{slice_get_within}
-use Rattle.std.proofs.lemmas.Bool.{and_right, or_parts}
-use Rattle.lexical_digits.specs.Laws.Terms.{is_digit, rule_of, counts}
+use Rattle.lexical_digits.specs.Laws.Terms.{is_digit, rule_of, counts, slice_get_within, and_right, or_parts}
 use Rattle.lexical_digits.proofs.Fields.CarriedByCursor.{state_passed, state_moved, carried, carried_on}
 use Rattle.lexical_digits.proofs.Fields.DirectBytes.{rule_by, direct_by, counts_by, other_by}
 use Rattle.lexical_digits.proofs.Fields.AtTheCursor.{here_byte, here_direct, yields_direct, yields_by, yields_end}
@@ -26,7 +24,7 @@ returns-then-is_direct c =
     let b = c.self.inside in
     let k = c.args.component in
     let reader = c.is_reader.ensures c.if-not-is_reader.false in
-    let at = sym c.in_ok-byte.ensures in
+    let at = c.in_ok-byte.ensures in
     let direct = direct_by b k reader _ _ c.is_direct.ensures.fits
     (sym c.is_direct.ensures.value ∙ c.if-is_direct.true) in
     rw (sym c.self.view_is)
@@ -34,9 +32,6 @@ returns-then-is_direct c =
     b.tally direct reader (counts_by b k reader) (c.pass_digit.ensures.state b.slc.now b.format))
 
 -- ---- a lone separator, and the digit after it
-
-pub inner_digit-saw_next-requires : goal.inner_digit-saw_next-requires
-inner_digit-saw_next-requires c = sym c.in_ok-byte.ensures
 
 pub invariant_of-self-inside-in-Some : goal.invariant_of-self-inside-in-Some
 invariant_of-self-inside-in-Some c =
@@ -53,7 +48,7 @@ returns-in-Some c =
     let b = c.self.inside in
     let k = c.args.component in
     let reader = c.is_reader.ensures c.if-not-is_reader.false in
-    let over = over_by b k reader _ c.is_direct.ensures.fits (sym c.in_ok-byte.ensures) _
+    let over = over_by b k reader _ c.is_direct.ensures.fits c.in_ok-byte.ensures _
     (rw c.in-Some.is at c.inner_digit-saw_next.ensures.digit) in
     rw (sym c.self.view_is) (yields_over k _ _ _ c.pass_other.new.self _ over
     (c.pass_other.ensures.state b.slc.now b.format) c.pass_other.ensures.index
@@ -75,7 +70,7 @@ returns-then-not-is_separator c =
     let b = c.self.inside in
     let k = c.args.component in
     let reader = c.is_reader.ensures c.if-not-is_reader.false in
-    let at = sym c.in_ok-byte.ensures in
+    let at = c.in_ok-byte.ensures in
     let direct = direct_by b k reader _ _ c.is_direct.ensures.fits
     (sym c.is_direct.ensures.value ∙ c.if-is_direct.false) in
     let digit = is_digit (rule_of b.format k) c.in_ok-byte.byte.now in
@@ -94,4 +89,4 @@ next_decided-requires-2-clause-rule c = rw (sym c.self.view_is)
 pub next_decided-requires-2-clause-saw_next : goal.next_decided-requires-2-clause-saw_next
 next_decided-requires-2-clause-saw_next c e = rw (sym c.self.view_is)
     (follows_by c.self.inside _ (c.is_reader.ensures c.if-not-is_reader.false) _
-    c.is_direct.ensures.fits (sym c.in_ok-byte.ensures) (c.inner_digit-saw_next.ensures.saw_next e))
+    c.is_direct.ensures.fits c.in_ok-byte.ensures (c.inner_digit-saw_next.ensures.saw_next e))

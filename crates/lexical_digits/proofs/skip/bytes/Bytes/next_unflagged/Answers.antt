@@ -1,5 +1,5 @@
 use Rattle.std.proofs.Common.{refl, sym}
-use Rattle.std.proofs.lemmas.Option.{slice_get_within}
+use Rattle.lexical_digits.specs.Laws.Terms.{slice_get_within}
 use Rattle.lexical_digits.proofs.Fields.CarriedByCursor.{state_passed, carried}
 use Rattle.lexical_digits.proofs.Fields.AtTheCursor.{here_all, yields_unflagged, yields_end}
 use Rattle.lexical_digits.proofs.skip.bytes.Bytes.next_unflagged.Goals as goal
@@ -21,5 +21,5 @@ returns c =
     let free = rw (sym c.self.view_is) at c.requires in
     rw (sym c.self.view_is)
     (yields_unflagged c.args.component _ _ _ (here_all c.args.component _ free)
-    (sym c.in_ok-byte.ensures) refl c.pass_digit.ensures.looks b.tally free
+    c.in_ok-byte.ensures refl c.pass_digit.ensures.looks b.tally free
     b.reading.counting (c.pass_digit.ensures.state b.slc.now b.format))

@@ -1,7 +1,8 @@
-use Rattle.std.proofs.Common.{◌≡◌, sym, refl, ◌∙◌, ap, rules, min, ◌+◌, ◌^◌, ◌-◌, slice_get}
-use Rattle.lexical_digits.specs.Laws.Terms.{with_cursor, one_if, state_of, held_of}
+use Rattle.std.proofs.Common.{◌≡◌, sym, refl, ◌∙◌, ap, rules, min, ◌+◌, ◌-◌, ◌^◌, ◌≤◌, length, slice_get}
+use Rattle.lexical_digits.specs.Laws.Terms.{with_cursor, one_if, place_of, state_of, held_of}
+use Rattle.lexical_digits.specs.Laws.Table.{place_to}
 use Rattle.lexical_digits.proofs.Rule.Supported.{supported_by}
-use Rattle.lexical_digits.proofs.Looks.Owing.{arrives, place_by, place_within, remembers_by}
+use Rattle.lexical_digits.proofs.Looks.Owing.{arrives, separator_of}
 use Rattle.lexical_digits.proofs.Fields.CarriedByCursor.{own_counted, state_moved, carried}
 use Rattle.lexical_digits.proofs.skip.bytes.Bytes.peek_decided.Goals as goal
 
@@ -12,31 +13,29 @@ find-found-requires-clause-supported c =
     supported_by c.args.rule b.format c.args.component rule_is b.holds.word
 
 pub invariant_of-self-inside : goal.invariant_of-self-inside
+unfolding place_of
 invariant_of-self-inside c =
     let b = c.self.inside in
     let k = c.args.component in
     let s = state_of b.slc.now b.format b.tally in
     let rule_is = rw (sym c.self.view_is) at c.requires.rule in
     let own_is = c.count-counted.ensures ∙ sym (own_counted k b.slc.now b.format b.tally) in
-    let place_is = place_by k s c.args.rule _ _ _ rule_is c.after-src.ensures.content own_is
-    (c.find-found.ensures.place _ refl) in
-    let carries = carried b c.arrive.ensures
-    (state_moved s _ b.holds (place_within k s _ place_is)) in (
+    let found = rw (rule_is, own_is) at c.find-found.ensures in
+    let within : c.find-found.result.place ≤ length b.slc.now =
+    rw (found.place _ refl) (place_to k s) in
+    let carries = carried b c.arrive.ensures (state_moved s _ b.holds within) in (
       carries.0,
       (
         b.flags,
         (
           carries.1.1.0,
-          (
-            remembers_by k b.format c.args.rule _ _ _ rule_is c.after-src.ensures.content
-                c.find-found.ensures.finds.is_run,
-            tt,
-          ),
+          ((λ run e. rw (separator_of k b.format, e) at found.finds.is_run), tt),
         ),
       ),
     )
 
 pub returns : goal.returns
+unfolding place_of
 returns c =
     let b = c.self.inside in
     let k = c.args.component in
@@ -44,15 +43,14 @@ returns c =
     let rule_is = rw (sym c.self.view_is) at c.requires.rule in
     let follows = rw (sym c.self.view_is) at c.requires.saw_next in
     let own_is = c.count-counted.ensures ∙ sym (own_counted k b.slc.now b.format b.tally) in
-    let place_is = place_by k a.state c.args.rule _ _ _ rule_is c.after-src.ensures.content own_is
-    (c.find-found.ensures.place _ refl) in
-    let looks : c.after-src.result.looks
+    let looks : c.saturating_add-looks.result
     ≡ min (a.looks + one_if c.args.saw_next) (2 ^ 64 - 1) = search rules in
+    let found = rw (rule_is, own_is, looks) at c.find-found.ensures in
+    let place_is = found.place _ refl in
     let left = c.arrive.ensures.state b.slc.now b.format ∙ ap (with_cursor a.state) place_is in
     rw (sym c.self.view_is) (record {
       byte = c.byte_at.ensures ∙ ap (slice_get b.slc.now) place_is;
       settles = left;
-      costs = arrives k a _ c.args.saw_next c.args.rule _ _ _ _ follows rule_is
-          c.after-src.ensures.content own_is place_is looks left
-          (rw c.arrive.ensures.looks c.find-found.ensures.finds);
+      costs = arrives k a _ c.args.saw_next follows left
+          (rw c.arrive.ensures.looks (rw place_is at found.finds));
     })

@@ -1,5 +1,5 @@
 use Rattle.std.proofs.Common.{refl, sym, ◌∙◌, arith}
-use Rattle.std.proofs.lemmas.Option.{slice_get_within}
+use Rattle.lexical_digits.specs.Laws.Terms.{slice_get_within}
 use Rattle.lexical_digits.proofs.Fields.CarriedByCursor.{state_moved, carried}
 use Rattle.lexical_digits.proofs.Fields.DirectBytes.{rule_by, direct_by, other_by}
 use Rattle.lexical_digits.proofs.Fields.AtTheCursor.{here_byte, here_direct, peeks_at, peeks_end}
@@ -17,16 +17,13 @@ invariant_of-self-inside c = carried c.self.inside c.look.ensures c.self.inside.
 
 pub returns-then-is_direct : goal.returns-then-is_direct
 returns-then-is_direct c =
-    let at = sym c.in_ok-byte.ensures in
+    let at = c.in_ok-byte.ensures in
     let direct = direct_by c.self.inside _ (c.is_reader.ensures c.if-not-is_reader.false) _ _
     c.is_direct.ensures.fits (sym c.is_direct.ensures.value ∙ c.if-is_direct.true) in
     rw (sym c.self.view_is) (peeks_at c.args.component _ _ _ (here_direct _ _ _ at direct) at
     (c.look.ensures.state c.self.inside.slc.now c.self.inside.format) refl c.look.ensures.looks)
 
 -- ---- a lone separator, and the digit after it
-
-pub inner_digit-saw_next-requires : goal.inner_digit-saw_next-requires
-inner_digit-saw_next-requires c = sym c.in_ok-byte.ensures
 
 pub invariant_of-self-inside-in-Some : goal.invariant_of-self-inside-in-Some
 invariant_of-self-inside-in-Some c =
@@ -39,7 +36,7 @@ pub returns-in-Some : goal.returns-in-Some
 returns-in-Some c =
     let b = c.self.inside in
     let over = over_by b _ (c.is_reader.ensures c.if-not-is_reader.false) _
-    c.is_direct.ensures.fits (sym c.in_ok-byte.ensures) _
+    c.is_direct.ensures.fits c.in_ok-byte.ensures _
     (rw c.in-Some.is at c.inner_digit-saw_next.ensures.digit) in
     rw (sym c.self.view_is) (peeks_over c.args.component _ _ _ over
     (c.pass_other.ensures.state b.slc.now b.format) refl c.pass_other.ensures.looks)
@@ -53,7 +50,7 @@ invariant_of-self-inside-then-not-is_separator c =
 pub returns-then-not-is_separator : goal.returns-then-not-is_separator
 returns-then-not-is_separator c =
     let b = c.self.inside in
-    let at = sym c.in_ok-byte.ensures in
+    let at = c.in_ok-byte.ensures in
     let other = other_by b _ (c.is_reader.ensures c.if-not-is_reader.false) _
     (sym c.is_separator.ensures ∙ c.if-not-is_separator.true) in
     rw (sym c.self.view_is) (peeks_at c.args.component _ _ _ (here_byte _ _ _ at other) at
@@ -69,4 +66,4 @@ peek_decided-requires-2-clause-rule c = rw (sym c.self.view_is)
 pub peek_decided-requires-2-clause-saw_next : goal.peek_decided-requires-2-clause-saw_next
 peek_decided-requires-2-clause-saw_next c e = rw (sym c.self.view_is)
     (follows_by c.self.inside _ (c.is_reader.ensures c.if-not-is_reader.false) _
-    c.is_direct.ensures.fits (sym c.in_ok-byte.ensures) (c.inner_digit-saw_next.ensures.saw_next e))
+    c.is_direct.ensures.fits c.in_ok-byte.ensures (c.inner_digit-saw_next.ensures.saw_next e))

@@ -15,5 +15,5 @@ returns c =
     let b = c.self.inside in
     let free = rw (sym c.self.view_is) at c.requires in
     rw (sym c.self.view_is)
-    (peeks_at c.args.component _ _ _ (here_all c.args.component _ free) (sym c.in_ok-byte.ensures)
+    (peeks_at c.args.component _ _ _ (here_all c.args.component _ free) c.in_ok-byte.ensures
     (c.look.ensures.state b.slc.now b.format) refl c.look.ensures.looks)
