@@ -1,5 +1,4 @@
--- The laws of the traits, proved for the iterators of this crate, and their lemmas. (A law of an
--- `impl` can cite only specs/, so these lemmas are here and not in proofs/.)
+-- The laws of the traits, and their lemmas: here, since a law of an `impl` can cite only specs/.
 pub mod Terms
 pub mod Ranges
 pub mod Kept

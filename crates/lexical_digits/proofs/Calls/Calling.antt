@@ -1,5 +1,4 @@
--- For callers of the iterators of the four components. Each lemma is about a component and a state,
--- or about the `&mut Bytes` that an iterator holds, its field `byte`.
+-- For callers: lemmas about a component and a state, or the `&mut Bytes` that an iterator holds.
 use Rattle.std.proofs.Common.{◌≡◌, ℕ, ◌<◌, ◌^◌, List, [], ◌∷◌, ◌++◌, length, refl, sym, ap, ◌∙◌, arith, Option, Some, None, option_copied, map, fold, Bor, MutBor}
 use Rattle.lexical_digits.specs.Laws.Terms.{Called, last_or, FoldsTo, fold-append, Component, State, IsState, drain_of, Held, Nexts}
 use Rattle.std.specs.Iterator.{Drains, FoldTurn}
@@ -9,8 +8,6 @@ use Rattle.std.proofs.lemmas.Iterator.Consumers.{YieldsList-from_shown}
 use denote.Param.Members.{Mut}
 use Rattle.lexical_digits.proofs.Calls.ItemsOfComponents.{items_fit, items_are_drain}
 pub use Rattle.lexical_digits.proofs.Calls.NextTakesFirst.{positions_of, positions_some, positions_none, drain_some, drain_none}
-
--- ---- the drain
 
 -- the drain has no more bytes than a `usize` counts
 pub drain_fits : (k : Component) (s : State) → IsState s → length (drain_of k s) < 2 ^ 64

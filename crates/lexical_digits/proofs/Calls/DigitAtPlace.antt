@@ -44,8 +44,7 @@ none_there k s e =
     let first = drain_some k s in
     grind (arith, gets, place_to k s, drain_none k s, take_while-cons {X = ℕ})
 
--- by steps over one digit: a claim that holds where no digit stands at the place, and holds of a
--- state if it holds of what `next` leaves
+-- a claim that holds where no digit is at the place, and before a digit if it holds after `next`
 pub by_digits : (k : Component) (P : State → Type 0)
     → ((s : State) → IsState s → at_digit k s ≡ false → P s)
     → ((s : State) → IsState s → Digit k s → P (taken k s) → P s)

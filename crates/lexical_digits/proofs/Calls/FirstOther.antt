@@ -1,5 +1,4 @@
--- The stop, in words of positions: the first from the start on that is kept and holds no digit. For
--- callers.
+-- For callers, the stop in words of positions: the first that is kept and holds no digit.
 use Rattle.std.proofs.Common.{◌≡◌, ℕ, zero, suc, ◌+◌, ◌<◌, ◌≤◌, Bool, true, false, not, List, ◌∷◌, length, arith, slice_index, unwrap_or, find, filter}
 use Rattle.lexical_digits.specs.Laws.Terms.{range_with_len, Rule, is_digit, is_kept, kept_positions, stop}
 

@@ -1,5 +1,4 @@
--- For those who write an iterator of their own, from the laws that it proves: what its items are,
--- how many, and what std's chains of iterators give over it.
+-- For implementers, from the laws that they prove: the items, how many, and std's chains over them.
 use Rattle.std.proofs.Common.{◌≡◌, ℕ, ◌+◌, ◌<◌, ◌≤◌, ◌∷◌, [], Bool, List, length, slice_get, slice_index, Option, Some, None, sym, ap, ◌∙◌, arith, Bor, option_copied}
 use Rattle.lexical_digits.specs.Laws.Terms.{option_map_or, items, DigitLaws}
 use Rattle.std.proofs.lemmas.Iterator.{YieldsList}
@@ -20,10 +19,7 @@ module _ {M : Type 0} {valid : M → Type 0} {buffer : M → List ℕ} {cursor c
   abbrev items_of : M → List ℕ
   items_of = items buffer cursor place taken
 
-  -- ---- a list of one's own
-
-  -- a list that is empty at the end, and else has the byte at the place and then the list of what
-  -- `next` leaves
+  -- a list that is empty at the end, and else the byte at the place and the list after `next`
   module _ (shown : M → List ℕ)
       (at_end : (m : M) → valid m → place m ≡ length_of m → shown m ≡ [])
       (at_byte : (m : M) → valid m → place m < length_of m →
@@ -33,8 +29,6 @@ module _ {M : Type 0} {valid : M → Type 0} {buffer : M → List ℕ} {cursor c
     items_are = by_items laws (λ m. items_of m ≡ shown m)
         (λ m v h. items_end laws m h ∙ sym (at_end m v (omega (arith, laws.place_to m v))))
         (λ m v h rest. rw (items_step laws m v h, at_byte m v h, rest))
-
-  -- ---- how many items there are
 
   -- no more than bytes are left
   pub items_fit : (n : ℕ) (m : M) → valid m → length_of m ≤ cursor m + n →
@@ -47,8 +41,6 @@ module _ {M : Type 0} {valid : M → Type 0} {buffer : M → List ℕ} {cursor c
           (λ m v h rest.
           rw (items_step laws m v h)
           (omega (arith, ap length (laws.taken_buffer m v), laws.place_from m v)))
-
-  -- ---- std's chains
 
   -- whatever `next_gives` is, a chain over the iterator gives its items
   pub YieldsList-from_items : {S : Type 0} (gives : S → Option (Bor ℕ) → S → Type 0)

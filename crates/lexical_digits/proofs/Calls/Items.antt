@@ -1,5 +1,4 @@
--- For any implementer, what reads one after another come to: the items, the digits that lead, and
--- the zeros.
+-- For any implementer, what reads come to: the items, the digits that lead, and the zeros.
 use Rattle.std.proofs.Common.{◌≡◌, ℕ, ◌<◌, ◌≤◌, ◌∷◌, [], suc, Bool, List, Some, length, slice_get, slice_index, refl, arith, length-drop, nat_lt, if◌then◌else◌, inl, inr, is_some, zero, true, false, ◌+◌, ltb-true, ltb-false, lt-ltb, le-ltb}
 use Rattle.lexical_digits.specs.Laws.Terms.{gets, slice_get-get_or, slice_get_past, cases_lt, option_map_or, iterate, take_while-cons, leading, after_leading, holds_of, at_zero, past_zero, after_zeros, IterLaws, bytes_left, items, after_items, DigitLaws}
 use Rattle.lexical_digits.specs.Cursor.{zeros}
@@ -66,8 +65,6 @@ module _ {M : Type 0} {valid : M → Type 0} {buffer : M → List ℕ} {cursor c
         (walk_end falls taken (λ _ after. after) m (le-ltb _ _ h))
   ]
 
-  -- ---- the digits that lead
-
   module _ (p : ℕ → Bool) where
     -- a digit at the place, and then those that lead what `next` leaves
     pub leading_digit : (m : M) (b : ℕ) → valid m → slice_get (buffer m) (place m) ≡ Some b
@@ -93,8 +90,6 @@ module _ {M : Type 0} {valid : M → Type 0} {buffer : M → List ℕ} {cursor c
         → after_leading buffer cursor place taken settled p m ≡ settled m
     unfolding after_leading
     after_none m v h = rw (leading_none m v h) refl
-
-  -- ---- the zeros
 
   module _ (iter : IterLaws valid buffer cursor contiguous separates moved) where
     abbrev starts : M → Bool

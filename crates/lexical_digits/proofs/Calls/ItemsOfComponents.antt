@@ -11,8 +11,6 @@ use Rattle.lexical_digits.proofs.Calls.Walk.{by_walk}
 use Rattle.lexical_digits.proofs.Calls.Items.{by_items, after_items_unroll, zeros_fall, zeros_by, after_zeros_by}
 use Rattle.lexical_digits.proofs.Calls.Implementing as each
 
--- ---- the items
-
 pub items_are_drain : (k : Component) (s : State) → IsState s → items_in k s ≡ drain_of k s
 items_are_drain k = each.items_are (digit_laws k) (drain_of k) (λ s v e. drain_none k s e)
     (λ s v l. drain_some k s l)
@@ -21,8 +19,6 @@ items_are_drain k = each.items_are (digit_laws k) (drain_of k) (λ s v e. drain_
 pub items_fit : (k : Component) (s : State) → IsState s → length (items_in k s) < 2 ^ 64
 items_fit k s v =
     omega (arith, each.items_fit (digit_laws k) (length s.buffer) s v (omega arith), v.buffer)
-
--- ---- what the items leave
 
 pub after_items_are : (k : Component) (s : State) → IsState s → after_items_in k s ≡ after_drain k s
 after_items_are k =
@@ -105,8 +101,6 @@ after_zeros_are k =
     by_walk (zeros_fall digits iter) (λ s. after_zeros_in k s ≡ past_zeros_of k s)
     (λ s v e. after_zeros_by digits iter false s e v ∙ past_none k s v e)
     (λ s v e rest. after_zeros_by digits iter true s e v ∙ rest ∙ (zero_there k s v e).past)
-
--- ---- which bytes the drain has
 
 pub digits_same : (k : Component) (one other : ℕ) (buffer : List ℕ) (start count : ℕ)
     → radix_of one k ≡ radix_of other k

@@ -1,5 +1,4 @@
--- For a caller's own loops by `next_of` and `peek_of`: what one more call does to the bytes that
--- are still to be yielded, and to where the digits end.
+-- For a caller's own loops by `next_of` and `peek_of`: what one more call does to drain and stop.
 use Rattle.std.proofs.Common.{◌≡◌, ℕ, ◌+◌, ◌*◌, true, false, cond, Bool, ◌∷◌, refl, sym, ap, ◌∙◌, arith, Option, Some, None, Bor, option_copied, sum_by, count_by, ℤ, pos, ◌≤ℤ◌, ◌+ℤ◌}
 use Rattle.lexical_digits.specs.Laws.Terms.{list_any, ints, sum_by-cons, gets, Component, is_digit, State, rule, byte_at_place, taken, drain_of, Takes, Held, Settles, Yields, stop_of}
 use Rattle.lexical_digits.specs.Laws.Table.{digit_laws, taken_buffer, taken_word}
@@ -7,14 +6,10 @@ use Rattle.lexical_digits.proofs.Calls.Calling.{drain_fits}
 use Rattle.lexical_digits.proofs.Calls.NextTakesFirst.{drain_some}
 use Rattle.lexical_digits.proofs.Calls.DigitAtPlace.{digit_there, none_there}
 
--- ---- what is owed
-
 -- one more read after n reads: `first` is owed before the loop, `now` before the read, `next` after
 pub owes_next : (first now next : ℤ) (n : ℕ) → now ≤ℤ (first +ℤ pos (4 * n))
     → next ≤ℤ (now +ℤ pos 4) → next ≤ℤ (first +ℤ pos (4 * (n + 1)))
 owes_next first now next n before read = omega (arith, ints, before, read)
-
--- ---- what is yielded
 
 -- a byte is taken that fails a test: whether a byte passes is up to the bytes after it
 pub any_after : (p : ℕ → Bool) (k : Component) (s t : State) (r : Option (Bor ℕ)) (item : Bor ℕ)
@@ -82,8 +77,6 @@ module _ (k : Component) {a b : Held} {r : Option (Bor ℕ)} (peeks : Settles k 
     stops_none e =
         let there : None ≡ byte_at_place k a.state = rw e at peeks.byte in
         ap (λ s. s.cursor) peeks.settles ∙ sym (none_there k a.state (rw (sym there) refl)).stop
-
--- ---- to be named in an attribute
 
 -- one turn of a loop by `next_of` that counts
 pub ruleset counts = (count_after, word_after)

@@ -1,16 +1,10 @@
--- Draining the iterator of any component by `next` gives what the filter over the whole buffer
--- keeps.
+-- Draining any component by `next` gives what the filter over the whole buffer keeps.
 use Rattle.std.proofs.Common.{◌≡◌, ℕ, ◌+◌, ◌<◌, ◌≤◌, ◌^◌, not, ◌&&◌, cond, Option, Some, None, List, [], ◌∷◌, length, get_or, drop, refl, sym, ◌∙◌, arith, inl, inr, slice_get, option_copied, Bor}
 use Rattle.lexical_digits.specs.Laws.Terms.{gets, slice_get_within, cases_Bool, bit, Rule, Component, Special, kept_positions, drain, has_flags, State, IsState, with_cursor, rule, own, with_own, counts, count_after, is_special, place_of, settled, taken, drain_of, own_after, after_drain, byte_at_place, Takes}
 use Rattle.lexical_digits.specs.Laws.Kept.{CountsOrIgnores}
 use Rattle.lexical_digits.proofs.Rule.Drain.{counted, counted_at_place, counted_at_end, digits_from_place, positions_at_place, positions_at_end}
 use Rattle.lexical_digits.proofs.Rule.Grants.{ignores_seen}
 use Rattle.lexical_digits.specs.Laws.Table.{none_without_flags, place_from, place_to, place_again, next_count, own_fits, taken_some, taken_none, taken_buffer}
-
--- ---- reading at a position
-
-none_past : (xs : List ℕ) (i : ℕ) → slice_get xs i ≡ None → length xs ≤ i
-none_past xs i e = grind (arith, gets)
 
 -- ---- where digits are not counted, the count makes no difference
 
@@ -114,12 +108,12 @@ takes k s (Some item) v e =
     let same = drained_some k s v.within within in
     grind (arith, gets, place_from k s v.within, taken_some k s within)
 
--- the same at the two ends of a call: where nothing is found the state is settled, else the byte
--- found is passed
+-- the same at both ends of a call: where nothing is found the state is settled, else past the byte
 pub takes_none : (k : Component) (s t : State) → IsState s → None ≡ byte_at_place k s
     → t ≡ settled k s → Takes k s t None
 takes_none k s t v e left =
-    rw (left, ← taken_none k s (none_past s.buffer (place_of k s) (sym e))) (takes k s None v e)
+    let past : length s.buffer ≤ place_of k s = grind (arith, gets) in
+    rw (left, ← taken_none k s past) (takes k s None v e)
 
 pub takes_some : (k : Component) (s m t : State) (item : Bor ℕ) → IsState s
     → Some item.now ≡ byte_at_place k s → m ≡ settled k s

@@ -10,8 +10,6 @@ use Rattle.lexical_digits.proofs.Calls.DigitAtPlace.{Digit, digit_there, none_th
 use Rattle.lexical_digits.proofs.Calls.Items.{after_digit, after_none}
 use Rattle.lexical_digits.proofs.Calls.ItemsOfComponents.{items_are_drain}
 
--- ---- the digits, and what they leave
-
 pub leading_are : (k : Component) (s : State) → IsState s
     → leading (λ (m : State). m.buffer) (λ m. m.cursor) (place_of k) (taken k) (is_digit (rule k s))
     s ≡ leading_digits_of k s
@@ -61,9 +59,7 @@ skipped : (rule : Rule) (buffer : List ℕ) (e s c : ℕ) → s ≤ length buffe
     → filter (is_digit rule) (slice_range buffer s e)
     ≡ filter (is_digit rule) (slice_range buffer (place rule buffer s c) e)
 skipped rule buffer e =
-    by_steps rule buffer (λ s c. s ≤ length buffer → place rule buffer s c ≤ e
-    → filter (is_digit rule) (slice_range buffer s e)
-    ≡ filter (is_digit rule) (slice_range buffer (place rule buffer s c) e))
+    by_steps rule buffer _
     (grind (arith, place_end)) (grind (arith, place_kept))
     (grind (arith, place_low, passed, filter_first))
 
@@ -100,8 +96,6 @@ pub leading_between : (k : Component) (s : State) → IsState s
     ≡ filter (is_digit (rule k s)) (slice_range s.buffer s.cursor (stop_of k s))
 leading_between k s v = (between k s v).digits
 
--- ---- a digit before the stop
-
 -- where digits lead, one stands at the place
 digit_first : (k : Component) (s : State) → 0 < length (leading_digits_of k s) → Digit k s
 digit_first k s l = grind (arith, digit_there k s, none_there k s)
@@ -132,8 +126,7 @@ nth_digit (suc n) k s v l =
     (nth_digit n k (taken k s) ((digit_laws k).taken_valid s v)
     (omega (arith, l, ap length d.leading)))
 
--- After n digits `peek` leaves the cursor at the next, and n more on the own count, where `next`
--- counts at all.
+-- after n digits `peek` leaves the cursor at the next, and n more on the own count, if any count
 pub nth_leaves : (n : ℕ) (k : Component) (s : State) → IsState s
     → n < length (leading_digits_of k s)
     → settled k (iterate (taken k) n s)
@@ -155,8 +148,6 @@ nth_leaves (suc n) k s v l =
 pub none_leads : (k : Component) (s : State) → leading_digits_of k s ≡ []
     → stop_of k s ≡ place_of k s
 none_leads k s e = grind (arith, digit_there k s, none_there k s)
-
--- ---- the same, by the radix
 
 pub leading_by_radix : (k : Component) (s : State) (radix : ℕ) → IsState s
     → radix ≡ (rule k s).radix

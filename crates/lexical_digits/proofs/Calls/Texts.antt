@@ -187,8 +187,6 @@ module _ (rule : Rule) (text : List ℕ) where
     | inr l ↦ omega (arith, l, found.within)
   ]
 
--- ---- to be named in an attribute
-
 pub ruleset between = (fault_between, all_if_end, end_if_all, supported_rule)
 
 pub ruleset every = (fault_every, all_if_end, end_if_all, supported_rule)

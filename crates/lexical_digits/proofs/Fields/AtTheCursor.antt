@@ -1,6 +1,6 @@
 -- Reading where the cursor stands: nothing is passed over there, and nothing scanned.
 use Rattle.std.proofs.Common.{◌≡◌, ℕ, ◌+◌, ◌<◌, ◌≤◌, ◌≤ℤ◌, ◌&&◌, Bool, true, false, cond, Option, Some, None, [], refl, sym, ap, ◌∙◌, arith, slice_get, Bor, length}
-use Rattle.lexical_digits.specs.Laws.Terms.{Component, Integer, Fraction, Exponent, Special, Rule, separator, is_digit, is_separator, IsSupported, State, with_cursor, rule, is_contiguous, own, with_own, counts, count_after, saturating, Tally, passed_by, is_direct, has_no_flags, place_of, counted, separator_at, scans, Held, Costs, Settles, Yields, Unread, owed, not-true, or_parts, and_parts, and_left, and_right, nat_tests, slice_get_within}
+use Rattle.lexical_digits.specs.Laws.Terms.{Component, Integer, Fraction, Exponent, Special, Rule, separator, is_digit, is_separator, IsSupported, State, with_cursor, rule, is_contiguous, own, with_own, counts, count_after, saturating, is_direct, has_no_flags, place_of, counted, separator_at, scans, Held, Costs, Settles, Yields, Unread, owed, not-true, or_parts, and_parts, and_left, and_right, nat_tests, slice_get_within}
 use Rattle.lexical_digits.specs.Laws.Table.{place_contiguous}
 use Rattle.lexical_digits.proofs.Rule.Supported.{supported_rule}
 use Rattle.lexical_digits.proofs.Rule.Runs.{separator_no_digit}
@@ -41,8 +41,6 @@ pub here_end : (k : Component) (a : Held) → slice_get a.state.buffer a.state.c
     → IsHere k a
 unfolding separator_at
 here_end k a e = here_other k a (rw e refl)
-
--- ---- what it costs
 
 -- one look more or two, with a byte that is answered or without
 costs_on : (k : Component) (a b : Held) (n : ℕ) → IsHere k a → b.run ≡ a.run
@@ -86,10 +84,8 @@ contiguous_all Special word e = (and_parts _ _ e).1
 pub here_all : (k : Component) (a : Held) → has_no_flags a.state.word ≡ true → IsHere k a
 here_all k a e = here_contiguous k a (contiguous_all k a.state.word e)
 
--- ---- what counts
-
 -- without a flag `next` counts nothing
-counts_none : (k : Component) (word : ℕ) → has_no_flags word ≡ true → counts k word ≡ false
+pub counts_none : (k : Component) (word : ℕ) → has_no_flags word ≡ true → counts k word ≡ false
 counts_none k word e = and_right _ _ (not-true _ (contiguous_all k word e))
 
 -- a byte that is passed at once is counted if digits are
@@ -144,22 +140,6 @@ module _ (k : Component) (a b : Held) (item : Bor ℕ) (here : IsHere k a)
         (rw here.place refl) (left ∙ stepped k a.state item.now (a.state.cursor + 1) t e);
     costs = costs_on k a b 2 here run (omega (arith, moved)) looks (omega arith) (omega arith);
   }
-
-  -- a direct byte, by a tally of this component
-  pub yields_direct : (r : Tally) → is_direct (rule k a.state) item.now ≡ true → r.reader ≡ k
-      → r.is_counting ≡ counts k a.state.word
-      → b.state ≡ with_cursor (passed_by r a.state) (a.state.cursor + 1)
-      → Yields k a b (Some item)
-  yields_direct r direct reader counting left = yields_by (counts k a.state.word)
-      (direct_counts k a.state item.now direct) (left ∙ rw (reader, counting) refl)
-
-  -- any byte, where no component has a flag, by a tally of any component
-  pub yields_unflagged : (r : Tally) → has_no_flags a.state.word ≡ true
-      → r.is_counting ≡ counts r.reader a.state.word
-      → b.state ≡ with_cursor (passed_by r a.state) (a.state.cursor + 1) → Yields k a b (Some item)
-  yields_unflagged r free counting left =
-      yields_by false (sym (and_left _ _ (counts_none k a.state.word free)))
-      (left ∙ rw (counting, counts_none r.reader a.state.word free) refl)
 
 -- ---- a read that arrived at its place
 

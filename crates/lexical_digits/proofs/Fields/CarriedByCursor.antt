@@ -1,11 +1,9 @@
--- What the cursor carries: the state, the looks and the reader of a `Bytes` where its fields
--- change.
-use Rattle.std.proofs.Common.{rules, ◌≡◌, ℕ, ◌+◌, ◌<◌, ◌≤◌, Bool, true, false, cond, List, length, refl, sym, ap, ◌∙◌, arith, ◌≤ℤ◌}
+-- What the cursor carries: state, looks and reader of a `Bytes` where its fields change.
+use Rattle.std.proofs.Common.{rules, ◌≡◌, ℕ, ◌+◌, ◌<◌, ◌≤◌, Bool, true, false, cond, List, length, refl, sym, ap, ◌∙◌, arith, ◌≤ℤ◌, Option}
 use Rattle.lexical_digits.specs.Laws.Terms.{Component, Integer, Fraction, Exponent, Special, Rule, Tally, Shortcuts, Inside, separator, State, IsState, with_cursor, with_no_counts, rule_of, counts, own, one_more, counted, counted_by, saturating, Remembers, owed_by, count_of, integer_of, fraction_of, exponent_of, state_of, looks_of, Leaves, AreShortcuts, IsInner, has_no_flags, IsReading, false≢true}
+use Rattle.lexical_digits.specs.declared.skip.decision.Run.{Run}
 use Rattle.lexical_digits.specs.Laws.Table.{with_own_buffer, with_own_is}
 use Rattle.lexical_digits.proofs.Looks.Owing.{owed_onward}
-
--- ---- states that the invariant holds for
 
 pub state_moved : (s : State) (i : ℕ) → IsState s → i ≤ length s.buffer → IsState (with_cursor s i)
 state_moved s i v l = search rules
@@ -16,14 +14,10 @@ state_counted n k s v = with_own_is k s (saturating (own k s) n) v (omega arith)
 pub state_cleared : (s : State) → IsState s → IsState (with_no_counts s)
 state_cleared s v = search rules
 
-pub counted_moved : (k : Component) (s : State) (i : ℕ)
-    → counted k (with_cursor s i) ≡ with_cursor (counted k s) i
-counted_moved k s i = grind arith
-
 -- a byte passed, and then counted
 pub counted_after : (k : Component) (s m t : State) (i : ℕ) → m ≡ with_cursor s i
     → t ≡ counted k m → t ≡ with_cursor (counted k s) i
-counted_after k s m t i e f = rw (f, e) (counted_moved k s i)
+counted_after k s m t i e f = rw (f, e) (grind arith)
 
 -- a byte further, which is counted or not
 pub state_passed : (k : Component) (b : Bool) (s : State) → IsState s → s.cursor < length s.buffer
@@ -41,17 +35,18 @@ own_counted k buffer word t = grind arith
 -- ---- what a step leaves
 
 -- the ghost fields of a `Bytes` with another tally
-abbrev Carries : Inside → Tally → Type 0
-Carries b u =
+abbrev Carries : Inside → Tally → Option Run → Type 0
+Carries b u run =
     IsState (state_of b.slc.now b.format u)
     × ((b.has_no_flags ≡ has_no_flags b.format)
     × (IsReading b.format u.reader u.is_counting b.rule b.shortcuts
-    × (Remembers (separator b.format) b.slc.now b.run × Unit {0})))
+    × (Remembers (separator b.format) b.slc.now run × Unit {0})))
 
 -- a step more from a tally that carries them
 module _ (b : Inside) {t u : Tally} {step : State → State} {i n : ℕ}
     (steps : Leaves t u step i n) where
-  pub carried_on : Carries b t → IsState (step (state_of b.slc.now b.format t)) → Carries b u
+  pub carried_on : Carries b t b.run → IsState (step (state_of b.slc.now b.format t))
+      → Carries b u b.run
   carried_on h v = (
     rw (steps.state b.slc.now b.format) v,
     (h.1.0, (rw (steps.reader, steps.is_counting) h.1.1.0, h.1.1.1)),
@@ -60,7 +55,7 @@ module _ (b : Inside) {t u : Tally} {step : State → State} {i n : ℕ}
 -- the ghost fields of a `Bytes` whose tally made a step, and what it owes
 module _ (b : Inside) {u : Tally} {step : State → State} {i n : ℕ}
     (steps : Leaves b.tally u step i n) where
-  pub carried : IsState (step (state_of b.slc.now b.format b.tally)) → Carries b u
+  pub carried : IsState (step (state_of b.slc.now b.format b.tally)) → Carries b u b.run
   carried = carried_on b steps (b.holds, (b.flags, (b.reading, (b.remembers, tt))))
 
   pub owes_no_more : n ≡ looks_of b.tally → b.tally.index ≤ i
@@ -68,6 +63,11 @@ module _ (b : Inside) {u : Tally} {step : State → State} {i n : ℕ}
   owes_no_more e l = rw (steps.looks, e)
       (owed_onward b.run (looks_of b.tally) b.tally.index u.index
       (omega (arith, l, steps.index)))
+
+-- the same with another run
+pub remembered : (b : Inside) (u : Tally) (run : Option Run) → Carries b u b.run
+    → Remembers (separator b.format) b.slc.now run → Carries b u run
+remembered b u run h r = (h.0, (h.1.0, (h.1.1.0, (r, tt))))
 
 -- what a component that takes over reads by
 pub reading_of : (k q : Component) (word : ℕ) (t u : Bool) (r : Rule) (s : Shortcuts)

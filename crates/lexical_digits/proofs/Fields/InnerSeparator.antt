@@ -11,8 +11,6 @@ use Rattle.lexical_digits.proofs.Rule.Runs.{place_next, place_run}
 use Rattle.lexical_digits.proofs.Fields.AtTheCursor.{digit_apart, direct_counts, stepped}
 use Rattle.lexical_digits.proofs.Calls.NextTakesFirst.{takes_some}
 
--- ---- at a position of a buffer
-
 there : (separator : ℕ) (buffer : List ℕ) (q byte : ℕ) → Some byte ≡ slice_get buffer q
     → separator_at separator buffer q ≡ is_separator separator byte
 unfolding separator_at
@@ -101,8 +99,6 @@ module _ (b : Inside) (k : Component) (reader : b.tally.reader ≡ k) (byte : �
         free = or_from _ _ (rw (sym (separator_of k b.format)) apart)
             (not_from_true _ (lt-ltb 0 own_count follows.counted));
       }
-
--- ---- what it answers
 
 pub peeks_over : (k : Component) (a b : Held) (digit : ℕ) → PassesOver k a.state digit
     → b.state ≡ with_cursor a.state (a.state.cursor + 1) → b.run ≡ a.run

@@ -71,8 +71,7 @@ costs_unscanned k a b run l least most other free = record {
     none : has_scanned a b ≡ false
     none = rw run (and-not_self (run_holds a.run a.state.cursor))
 
--- a read of the iterator of a component that left its place, and a run and looks by a decision that
--- was asked after a look at the next byte or none
+-- a read that arrives at its place, by a decision asked after a look at the next byte or none
 pub arrives : (k : Component) (a b : Held) (saw_next : Bool)
     → (saw_next ≡ true → FollowsDigit k a.state) → b.state ≡ settled k a.state
     → Finds (3 + one_if (not (ltb 0 (own k a.state)))) (rule k a.state) a.state.buffer

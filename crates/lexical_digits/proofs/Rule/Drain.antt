@@ -1,6 +1,6 @@
 -- What one read does to a drain.
 use Rattle.std.proofs.Common.{◌≡◌, ℕ, ◌+◌, ◌-◌, ◌<◌, ◌≤◌, ◌^◌, min, Bool, true, false, cond, eqb, List, [], ◌∷◌, length, get_or, drop, refl, arith, one-add, inl, count_by, slice_get}
-use Rattle.lexical_digits.specs.Laws.Terms.{gets, nat_tests, drop_more, drop_all, sum_by-cons, Rule, is_digit, kept_positions, drain, place, zeros, past_zeros, IsSupported, count_after, one_more, digit_value, holds_of}
+use Rattle.lexical_digits.specs.Laws.Terms.{gets, nat_tests, drop_all, sum_by-drop_more, Rule, is_digit, kept_positions, drain, place, zeros, past_zeros, IsSupported, count_after, one_more, digit_value, holds_of}
 use Rattle.lexical_digits.specs.Laws.Kept.{CountsOrIgnores, positions_kept, positions_dropped, positions_end, place_kept, place_dropped, place_end, no_digit_at_separator}
 use Rattle.lexical_digits.specs.Laws.Place.{by_steps, place_high}
 use Rattle.lexical_digits.proofs.Rule.Runs.{dropped_is_separator}
@@ -8,8 +8,7 @@ use Rattle.lexical_digits.proofs.Rule.Runs.{dropped_is_separator}
 -- one element more on the left
 count_more : (p : ℕ → Bool) (xs : List ℕ) (s : ℕ) → s < length xs
     → count_by p (drop s xs) ≡ cond (p (get_or xs s 0)) 1 0 + count_by p (drop (s + 1) xs)
-count_more p xs s l =
-    rw (drop_more xs s 0 l) (sum_by-cons (λ x. cond (p x) 1 0) _ (drop (s + 1) xs))
+count_more p xs s l = sum_by-drop_more (λ x. cond (p x) 1 0) xs s 0 l
 
 -- a dropped position is passed, and holds no digit
 pub ruleset passed = (place_dropped, no_digit_at_separator, dropped_is_separator)
@@ -27,14 +26,13 @@ module _ (rule : Rule) (buffer : List ℕ) where
       → at s c < length buffer → kept_positions rule buffer s c
       ≡ at s c ∷ kept_positions rule buffer (at s c + 1) (past counts s c)
   positions_at_place counts w =
-      by_steps rule buffer (λ s c. at s c < length buffer → kept_positions rule buffer s c
-      ≡ at s c ∷ kept_positions rule buffer (at s c + 1) (past counts s c))
+      by_steps rule buffer _
       (grind (arith, place_end)) (grind (arith, place_kept, positions_kept rule buffer counts w))
       (grind (arith, place_dropped, positions_dropped))
 
   pub positions_at_end : (s c : ℕ) → at s c ≡ length buffer → kept_positions rule buffer s c ≡ []
   positions_at_end =
-      by_steps rule buffer (λ s c. at s c ≡ length buffer → kept_positions rule buffer s c ≡ [])
+      by_steps rule buffer _
       (grind (arith, positions_end)) (grind (arith, place_kept))
       (grind (arith, place_dropped, positions_dropped))
 
@@ -43,8 +41,7 @@ module _ (rule : Rule) (buffer : List ℕ) where
       → count_by (is_digit rule) (drop s buffer)
       ≡ count_by (is_digit rule) (drop (at s c) buffer)
   digits_from_place =
-      by_steps rule buffer (λ s c. s ≤ length buffer → count_by (is_digit rule) (drop s buffer)
-      ≡ count_by (is_digit rule) (drop (at s c) buffer))
+      by_steps rule buffer _
       (grind (arith, place_end)) (grind (arith, place_kept))
       (grind (arith, passed, count_more))
 
@@ -63,8 +60,6 @@ module _ (rule : Rule) (buffer : List ℕ) where
       → at s c ≡ length buffer → counted c (drop s buffer) ≡ c
   counted_at_end s c l small e =
       grind (arith, digits_from_place s c l, drop_all (length buffer) buffer)
-
-  -- ---- zeros
 
   pub zeros_at_place : (counts : Bool) → CountsOrIgnores rule buffer counts → (s c : ℕ)
       → at s c < length buffer → eqb (get_or buffer (at s c) 0) 48 ≡ true

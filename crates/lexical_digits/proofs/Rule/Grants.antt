@@ -27,8 +27,6 @@ module _ (rule : Rule) where
     ignores_seen (inl none) t u q = grind (arith, grants_no_list rule none)
     ignores_seen (inr all) t u q = dropped_if_all all t q ∙ sym (dropped_if_all all u q)
 
-    -- ---- digits
-
     kept_at_digit : (s c k : ℕ) → is_digit rule (get_or buffer k 0) ≡ true
         → is_kept rule buffer s c k ≡ true
     unfolding is_kept
@@ -64,11 +62,6 @@ module _ (lesser greater : Rule) (more : GrantsAtLeast lesser greater)
   seen_same buffer s c k =
       ap (λ t. c + count_by t (slice_range buffer s k)) (digit_same lesser greater more.radix)
 
-  find_same : (xs : List ℕ)
-      → find (λ byte. not (is_separator lesser.separator byte)) xs
-      ≡ find (λ byte. not (is_separator greater.separator byte)) xs
-  find_same xs = ap (λ t. find (λ byte. not (is_separator t byte)) xs) more.separator
-
   -- a first byte that is no separator is the first of these
   first_found : (xs : List ℕ) → is_separator_class (class lesser (slice_get xs 0)) ≡ false
       → slice_get xs 0 ≡ find (λ byte. not (is_separator lesser.separator byte)) xs
@@ -79,7 +72,9 @@ module _ (lesser greater : Rule) (more : GrantsAtLeast lesser greater)
   side_same : (xs : List ℕ) → is_separator_class (class lesser (neighbour lesser xs)) ≡ false
       → class lesser (neighbour lesser xs) ≡ class greater (neighbour greater xs)
   unfolding neighbour
-  side_same xs h = grind (arith, class_same, find_same xs, first_found xs, more.consecutive)
+  side_same xs h =
+      let found = ap (λ t. find (λ byte. not (is_separator t byte)) xs) more.separator in
+      grind (arith, class_same, first_found xs, more.consecutive)
 
   dropped_by_greater : (buffer : List ℕ) (t : Bool) (q : ℕ) → is_dropped lesser buffer t q ≡ true
       → is_dropped greater buffer t q ≡ true
@@ -91,8 +86,6 @@ module _ (lesser greater : Rule) (more : GrantsAtLeast lesser greater)
   unfolding is_kept
   kept_by_greater buffer s c q h =
       grind (arith, seen_same buffer s c q, dropped_by_greater buffer)
-
--- ---- all dropped
 
 -- a filter of positions by what stands there
 filter_reads : (p q : ℕ → Bool) (f : ℕ → ℕ) (ks : List ℕ) → ((k : ℕ) → p k ≡ q (f k))

@@ -1,5 +1,4 @@
--- Where a word's two radixes are equal, each row of the call table is as it was by the mantissa
--- radix alone.
+-- Where a word's two radixes are equal, the call table is the one by the mantissa radix.
 use Rattle.std.proofs.Common.{◌≡◌, ℕ, List, [], ◌∷◌, refl, ◌∙◌, arith}
 use Rattle.lexical_digits.specs.Laws.Terms.{mantissa_radix, exponent_radix, is_supported, Component, State, rule_of, Part, OnBytes, On, Call, TakeN, row_of, view, after_view, taken, place_of, run_of}
 use Rattle.lexical_digits.specs.MantissaRadix.{mantissa_rule_of, mantissa_is_supported, row_on, run_on}
@@ -30,8 +29,6 @@ row_same (On k) call s e = rw (← rule_same s.word e k) (table_by_rule (On k) c
 row_word : (part : Part) (call : Call) (s : State) → (row_of part call s).state.word ≡ s.word
 unfolding after_view
 row_word part call s = grind (arith, with_own_word, taken_word)
-
--- ---- all of it
 
 pub run_same : (word : ℕ) → exponent_radix word ≡ mantissa_radix word → (s : State) → s.word ≡ word
     → (calls : List (Part × Call)) → run_of s calls ≡ run_on mantissa_rule_of s calls

@@ -30,16 +30,14 @@ module _ (rule : Rule) (buffer : List ℕ) where
 
   pub place_high : (s c : ℕ) → place rule buffer s c ≤ length buffer
   place_high =
-      by_steps (λ s c. place rule buffer s c ≤ length buffer) (grind (arith, place_end))
-      (grind (arith, place_kept)) (grind (arith, place_dropped))
-
-  -- ---- the place from the place
+      by_steps _ (grind (arith, place_end)) (grind (arith, place_kept))
+      (grind (arith, place_dropped))
 
   pub place_settled : (s c : ℕ)
       → place rule buffer (place rule buffer s c) c ≡ place rule buffer s c
   place_settled =
-      by_steps (λ s c. place rule buffer (place rule buffer s c) c ≡ place rule buffer s c)
-      (grind (arith, place_end)) (grind (arith, place_kept)) (grind (arith, place_dropped))
+      by_steps _ (grind (arith, place_end)) (grind (arith, place_kept))
+      (grind (arith, place_dropped))
 
 -- ---- where nothing is granted
 

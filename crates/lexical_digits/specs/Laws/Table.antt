@@ -33,8 +33,6 @@ with_own_is k s n v l = grind arith
 pub own_fits : (k : Component) (s : State) → IsState s → own k s < 2 ^ 64
 own_fits k s v = grind arith
 
--- ---- the place
-
 pub place_from : (k : Component) (s : State) → s.cursor ≤ length s.buffer → s.cursor ≤ place_of k s
 unfolding place_of
 place_from k s l = place_low (rule k s) s.buffer s.cursor (own k s) l
@@ -68,16 +66,12 @@ place_contiguous k s e l =
     let kept = kept_if_none (rule k s) s.buffer (contiguous_grants k s.word e) in
     grind (arith, cases_lt s.cursor (length s.buffer), place_kept, place_end)
 
--- ---- `peek`
-
 settled_is : (k : Component) (s : State) → IsState s → IsState (settled k s)
 settled_is k s v = moved_is s (place_of k s) v (place_to k s)
 
 settled_count : (k : Component) (s : State) → IsState s
     → current_count k (settled k s) ≡ current_count k s
 settled_count k s v = grind (arith, place_contiguous k s, own_moved)
-
--- ---- `next`
 
 abbrev pub next_count : Component → State → ℕ
 next_count k s =
@@ -111,8 +105,6 @@ taken_is k s v =
     let fits : next_count k s < 2 ^ 64 = grind (arith, own_fits k s v) in
     let counted = with_own_is k s (next_count k s) v fits in
     grind (arith, moved_is, with_own_buffer, settled_is k s v)
-
--- ---- all laws
 
 ruleset places = (cursor_is, place_from, place_to, place_again, settled_is, settled_count)
 

@@ -5,7 +5,7 @@ pub use Rattle.std.specs.Option.{option_map_or}
 pub use Rattle.std.proofs.lemmas.Bool.{cases_lt, cases_Bool, not-false, and_parts, false≢true, le-leb, not-true, or_parts, and_left, and_right, or_from, not_from_true, lt-ltb, not_from_false}
 pub use Rattle.std.proofs.lemmas.Bool.Decides.{nat_tests}
 pub use Rattle.std.proofs.lemmas.List.{drop_more, drop_all, get_or_past, take_more, reverse-append}
-pub use Rattle.std.proofs.lemmas.List.Sums.{fold-append, take_while-cons, length-filter, sum_by-cons}
+pub use Rattle.std.proofs.lemmas.List.Sums.{fold-append, take_while-cons, length-filter, sum_by-cons, sum_by-drop_more}
 pub use Rattle.std.proofs.lemmas.Option.{slice_get-get_or, slice_get_past, gets, slice_get_within, slice_get_cases}
 pub use Rattle.std.proofs.lemmas.Int.{ints}
 pub use Rattle.lexical_format.specs.Word.{separator, bit, mantissa_radix, exponent_radix, is_supported}

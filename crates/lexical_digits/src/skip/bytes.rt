@@ -178,8 +178,10 @@ impl<'a> Bytes<'a> {
     }
 
     /// Adds that many digits to the count of a component: as many calls of `increment_count` of the
-    /// component's iterator. The count stops at `usize::MAX`, and special has none. It is for digits
-    /// that a caller reads in another way, such as eight at once by `peek_u64`. Not in lexical-util.
+    /// component's iterator. The count stops at `usize::MAX`, and special has none. It is for
+    /// digits that a caller reads in another way, such as eight at once by `peek_u64`. Not in
+    /// lexical-util.
+    #[tactic(auto, using(crate::proofs::Looks::Owing::owed_onward))]
     #[inline(always)]
     pub fn increment_count_of(&mut self, component: Component, digits: usize)
         ensures state { self.new.state ≡ counted_by digits component self.old.state }
@@ -192,6 +194,7 @@ impl<'a> Bytes<'a> {
     /// Sets the three counts to 0, for a number that begins at the cursor. Its separators are then
     /// judged as in a fresh `Bytes` at this cursor. The cursor, the looks and the remembered run
     /// stay. Not in lexical-util.
+    #[tactic(auto, using(crate::proofs::Looks::Owing::owed_onward))]
     #[inline]
     pub fn clear_counts(&mut self)
         ensures state { self.new.state ≡ with_no_counts self.old.state }

@@ -14,11 +14,10 @@
 //! The decision counts the looks that it takes, by its source. It has the only loop over bytes.
 //! At the end of the buffer a read answers `None` and counts nothing.
 
-ghost use Rattle.std.specs.Prelude.{◌≡◌, ℕ, ◌+◌, ◌<◌, ◌≤◌, length, Some, option_copied, nat_lt, not, true, if◌then◌else◌, IfSome, ◌≤ℤ◌, slice_get};
+ghost use Rattle.std.specs.Prelude.{◌≡◌, ℕ, ◌+◌, ◌<◌, ◌≤◌, length, Some, option_copied, nat_lt, not, true, IfSome, slice_get};
 ghost use Rattle.lexical_digits.specs.Separators.{place, IsSupported};
-ghost use Rattle.lexical_digits.specs.State.{rule_of, with_cursor};
-ghost use Rattle.lexical_digits.specs.CallTable.{counted};
-ghost use Rattle.lexical_digits.specs.Looks.{IsRunOrNone, Finds, Settles, Yields, Unread, owed, one_if};
+ghost use Rattle.lexical_digits.specs.State.{rule_of};
+ghost use Rattle.lexical_digits.specs.Looks.{IsRunOrNone, Finds, Settles, Yields, Unread, one_if};
 ghost use Rattle.lexical_digits.specs.Bytes.{IsInnerAt, IsInnerDigit, FollowsDigit, has_no_flags};
 
 use super::Bytes;

@@ -1,5 +1,5 @@
-use Rattle.std.proofs.Common.{refl, sym, arith}
-use Rattle.lexical_digits.proofs.Fields.CarriedByCursor.{state_cleared, carried, owes_no_more}
+use Rattle.std.proofs.Common.{sym}
+use Rattle.lexical_digits.proofs.Fields.CarriedByCursor.{state_cleared, carried}
 use Rattle.lexical_digits.proofs.skip.bytes.Bytes.clear_counts.Goals as goal
 
 pub invariant_of-self-inside : goal.invariant_of-self-inside
@@ -9,7 +9,3 @@ invariant_of-self-inside c =
 pub returns-clause-state : goal.returns-clause-state
 returns-clause-state c =
     rw (sym c.self.view_is) (c.clear.ensures.state c.self.inside.slc.now c.self.inside.format)
-
-pub returns-clause-owes : goal.returns-clause-owes
-returns-clause-owes c =
-    rw (sym c.self.view_is) (owes_no_more c.self.inside c.clear.ensures refl (omega arith))

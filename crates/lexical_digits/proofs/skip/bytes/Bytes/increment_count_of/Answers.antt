@@ -1,11 +1,7 @@
-use Rattle.std.proofs.Common.{refl, sym, arith}
-use Rattle.lexical_digits.proofs.Fields.CarriedByCursor.{state_counted, carried, owes_no_more}
+use Rattle.lexical_digits.proofs.Fields.CarriedByCursor.{state_counted, carried}
 use Rattle.lexical_digits.proofs.skip.bytes.Bytes.increment_count_of.Goals as goal
 
 pub invariant_of-self-inside : goal.invariant_of-self-inside
 invariant_of-self-inside c =
-    carried c.self.inside c.raise.ensures (state_counted c.args.digits c.args.component _ c.self.inside.holds)
-
-pub returns-clause-owes : goal.returns-clause-owes
-returns-clause-owes c =
-    rw (sym c.self.view_is) (owes_no_more c.self.inside c.raise.ensures refl (omega arith))
+    carried c.self.inside c.raise.ensures
+    (state_counted c.args.digits c.args.component _ c.self.inside.holds)

@@ -1,7 +1,7 @@
-use Rattle.std.proofs.Common.{refl, sym}
+use Rattle.std.proofs.Common.{sym}
 use Rattle.lexical_digits.specs.Laws.Terms.{separator, looks_of}
 use Rattle.lexical_digits.proofs.Looks.Owing.{owed_back}
-use Rattle.lexical_digits.proofs.Fields.CarriedByCursor.{state_moved, carried, owes_no_more}
+use Rattle.lexical_digits.proofs.Fields.CarriedByCursor.{state_moved, carried}
 use Rattle.lexical_digits.proofs.skip.bytes.Bytes.move_to.Goals as goal
 
 pub invariant_of-self-inside : goal.invariant_of-self-inside
@@ -13,10 +13,6 @@ invariant_of-self-inside c =
 pub returns-clause-state : goal.returns-clause-state
 returns-clause-state c =
     rw (sym c.self.view_is) (c.move_to.ensures.state c.self.inside.slc.now c.self.inside.format)
-
-pub returns-clause-owes : goal.returns-clause-owes
-returns-clause-owes c =
-    rw (sym c.self.view_is) (owes_no_more c.self.inside c.move_to.ensures refl)
 
 pub returns-clause-owes_back : goal.returns-clause-owes_back
 returns-clause-owes_back c =

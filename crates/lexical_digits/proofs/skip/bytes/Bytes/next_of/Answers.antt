@@ -1,8 +1,8 @@
 use Rattle.std.proofs.Common.{false, refl, sym, ◌∙◌, ◌<◌, ap, arith, min, length, ◌+◌, ◌-◌, ◌^◌}
-use Rattle.lexical_digits.specs.Laws.Terms.{is_digit, rule_of, counts, slice_get_within, and_right, or_parts}
+use Rattle.lexical_digits.specs.Laws.Terms.{is_digit, rule_of, state_of, counts, slice_get_within, and_right, or_parts}
 use Rattle.lexical_digits.proofs.Fields.CarriedByCursor.{state_passed, state_moved, carried, carried_on}
 use Rattle.lexical_digits.proofs.Fields.DirectBytes.{rule_by, direct_by, counts_by, other_by}
-use Rattle.lexical_digits.proofs.Fields.AtTheCursor.{here_byte, here_direct, yields_direct, yields_by, yields_end}
+use Rattle.lexical_digits.proofs.Fields.AtTheCursor.{here_byte, here_direct, direct_counts, yields_by, yields_end}
 use Rattle.lexical_digits.proofs.Fields.InnerSeparator.{over_by, yields_over, follows_by}
 use Rattle.lexical_digits.proofs.skip.bytes.Bytes.next_of.Goals as goal
 
@@ -14,22 +14,21 @@ returns-in_err-byte c = rw (sym c.self.view_is)
 
 pub invariant_of-self-inside : goal.invariant_of-self-inside
 invariant_of-self-inside c =
-    let b = c.self.inside in
-    let within = slice_get_within b.slc.now _ _ (sym c.in_ok-byte.ensures) in
-    carried b c.pass_digit.ensures
-    (state_passed b.tally.reader b.tally.is_counting _ b.holds within)
+    carried c.self.inside c.pass_digit.ensures
+    (state_passed _ _ _ c.self.inside.holds (slice_get_within _ _ _ (sym c.in_ok-byte.ensures)))
 
 pub returns-then-is_direct : goal.returns-then-is_direct
 returns-then-is_direct c =
     let b = c.self.inside in
     let k = c.args.component in
     let reader = c.is_reader.ensures c.if-not-is_reader.false in
-    let at = c.in_ok-byte.ensures in
     let direct = direct_by b k reader _ _ c.is_direct.ensures.fits
     (sym c.is_direct.ensures.value ∙ c.if-is_direct.true) in
     rw (sym c.self.view_is)
-    (yields_direct k _ _ _ (here_direct k _ _ at direct) at refl c.pass_digit.ensures.looks
-    b.tally direct reader (counts_by b k reader) (c.pass_digit.ensures.state b.slc.now b.format))
+    (yields_by k _ _ _ (here_direct k _ _ c.in_ok-byte.ensures direct) c.in_ok-byte.ensures
+    refl c.pass_digit.ensures.looks (counts k b.format)
+    (direct_counts k (state_of b.slc.now b.format b.tally) _ direct)
+    (c.pass_digit.ensures.state b.slc.now b.format ∙ rw (reader, counts_by b k reader) refl))
 
 -- ---- a lone separator, and the digit after it
 
@@ -46,13 +45,12 @@ invariant_of-self-inside-in-Some c =
 pub returns-in-Some : goal.returns-in-Some
 returns-in-Some c =
     let b = c.self.inside in
-    let k = c.args.component in
     let reader = c.is_reader.ensures c.if-not-is_reader.false in
-    let over = over_by b k reader _ c.is_direct.ensures.fits c.in_ok-byte.ensures _
+    let over = over_by b _ reader _ c.is_direct.ensures.fits c.in_ok-byte.ensures _
     (rw c.in-Some.is at c.inner_digit-saw_next.ensures.digit) in
-    rw (sym c.self.view_is) (yields_over k _ _ _ c.pass_other.new.self _ over
+    rw (sym c.self.view_is) (yields_over _ _ _ _ c.pass_other.new.self _ over
     (c.pass_other.ensures.state b.slc.now b.format) c.pass_other.ensures.index
-    (c.pass_other.ensures.reader ∙ reader) (c.pass_other.ensures.is_counting ∙ counts_by b k reader)
+    (c.pass_other.ensures.reader ∙ reader) (c.pass_other.ensures.is_counting ∙ counts_by b _ reader)
     (c.pass_digit-in-Some.ensures.state b.slc.now b.format) refl
     (c.pass_digit-in-Some.ensures.looks
     ∙ ap (λ n. min (n + 2) (2 ^ 64 - 1)) c.pass_other.ensures.looks))
@@ -70,13 +68,12 @@ returns-then-not-is_separator c =
     let b = c.self.inside in
     let k = c.args.component in
     let reader = c.is_reader.ensures c.if-not-is_reader.false in
-    let at = c.in_ok-byte.ensures in
     let direct = direct_by b k reader _ _ c.is_direct.ensures.fits
     (sym c.is_direct.ensures.value ∙ c.if-is_direct.false) in
     let digit = is_digit (rule_of b.format k) c.in_ok-byte.byte.now in
     let other = other_by b k reader _ (sym c.is_separator.ensures ∙ c.if-not-is_separator.true) in
-    rw (sym c.self.view_is) (yields_by k _ _ _ (here_byte k _ _ at other) at refl
-    c.pass_other-then-not-is_separator.ensures.looks false
+    rw (sym c.self.view_is) (yields_by k _ _ _ (here_byte k _ _ c.in_ok-byte.ensures other)
+    c.in_ok-byte.ensures refl c.pass_other-then-not-is_separator.ensures.looks false
     (sym (and_right (counts k b.format) digit (or_parts _ digit direct).1))
     (c.pass_other-then-not-is_separator.ensures.state b.slc.now b.format))
 

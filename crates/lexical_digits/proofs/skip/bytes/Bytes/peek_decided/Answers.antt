@@ -3,7 +3,7 @@ use Rattle.lexical_digits.specs.Laws.Terms.{with_cursor, one_if, place_of, state
 use Rattle.lexical_digits.specs.Laws.Table.{place_to}
 use Rattle.lexical_digits.proofs.Rule.Supported.{supported_by}
 use Rattle.lexical_digits.proofs.Looks.Owing.{arrives, separator_of}
-use Rattle.lexical_digits.proofs.Fields.CarriedByCursor.{own_counted, state_moved, carried}
+use Rattle.lexical_digits.proofs.Fields.CarriedByCursor.{own_counted, state_moved, carried, remembered}
 use Rattle.lexical_digits.proofs.skip.bytes.Bytes.peek_decided.Goals as goal
 
 pub find-found-requires-clause-supported : goal.find-found-requires-clause-supported
@@ -23,16 +23,9 @@ invariant_of-self-inside c =
     let found = rw (rule_is, own_is) at c.find-found.ensures in
     let within : c.find-found.result.place ≤ length b.slc.now =
     rw (found.place _ refl) (place_to k s) in
-    let carries = carried b c.arrive.ensures (state_moved s _ b.holds within) in (
-      carries.0,
-      (
-        b.flags,
-        (
-          carries.1.1.0,
-          ((λ run e. rw (separator_of k b.format, e) at found.finds.is_run), tt),
-        ),
-      ),
-    )
+    remembered b c.arrive.new.self c.find-found.result.run
+    (carried b c.arrive.ensures (state_moved s _ b.holds within))
+    (λ run e. rw (separator_of k b.format, e) at found.finds.is_run)
 
 pub returns : goal.returns
 unfolding place_of

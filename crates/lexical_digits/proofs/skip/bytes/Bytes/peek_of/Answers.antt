@@ -17,10 +17,10 @@ invariant_of-self-inside c = carried c.self.inside c.look.ensures c.self.inside.
 
 pub returns-then-is_direct : goal.returns-then-is_direct
 returns-then-is_direct c =
-    let at = c.in_ok-byte.ensures in
     let direct = direct_by c.self.inside _ (c.is_reader.ensures c.if-not-is_reader.false) _ _
     c.is_direct.ensures.fits (sym c.is_direct.ensures.value ∙ c.if-is_direct.true) in
-    rw (sym c.self.view_is) (peeks_at c.args.component _ _ _ (here_direct _ _ _ at direct) at
+    rw (sym c.self.view_is) (peeks_at c.args.component _ _ _
+    (here_direct _ _ _ c.in_ok-byte.ensures direct) c.in_ok-byte.ensures
     (c.look.ensures.state c.self.inside.slc.now c.self.inside.format) refl c.look.ensures.looks)
 
 -- ---- a lone separator, and the digit after it
@@ -50,10 +50,10 @@ invariant_of-self-inside-then-not-is_separator c =
 pub returns-then-not-is_separator : goal.returns-then-not-is_separator
 returns-then-not-is_separator c =
     let b = c.self.inside in
-    let at = c.in_ok-byte.ensures in
     let other = other_by b _ (c.is_reader.ensures c.if-not-is_reader.false) _
     (sym c.is_separator.ensures ∙ c.if-not-is_separator.true) in
-    rw (sym c.self.view_is) (peeks_at c.args.component _ _ _ (here_byte _ _ _ at other) at
+    rw (sym c.self.view_is) (peeks_at c.args.component _ _ _
+    (here_byte _ _ _ c.in_ok-byte.ensures other) c.in_ok-byte.ensures
     (c.look-then-not-is_separator.ensures.state b.slc.now b.format) refl
     c.look-then-not-is_separator.ensures.looks)
 
