@@ -1,7 +1,10 @@
--- Which byte stands at a position.
-use Rattle.std.specs.Prelude.{ℕ, Bool, ◌==◌, List, [], ◌∷◌, slice_get}
+-- Which byte stands at a position, and what passing it leaves.
+use Rattle.std.specs.Prelude.{ℕ, Bool, ◌+◌, ◌==◌, if◌then◌else◌, List, [], ◌∷◌, slice_get}
 use Rattle.std.specs.List.{list_any}
+use Rattle.lexical_digits.specs.declared.skip.component.Component.{Component}
+use Rattle.lexical_digits.specs.State.{State, with_cursor}
 use Rattle.lexical_digits.specs.Cursor.{holds_of}
+use Rattle.lexical_digits.specs.Stop.{past_digits_of}
 
 -- a byte is one of these
 abbrev pub one_of : List ℕ → ℕ → Bool
@@ -26,3 +29,9 @@ is_sign = one_of (43 ∷ 45 ∷ [])
 -- `-`
 abbrev pub is_minus : ℕ → Bool
 is_minus byte = byte == 45
+
+-- past the digits of a component that lead, and then past the byte at the cursor if it is `mark`
+abbrev pub past_component : Component → ℕ → State → State
+past_component k mark s =
+    let t = past_digits_of k s in
+    if stands (λ byte. byte == mark) t.buffer t.cursor then with_cursor t (t.cursor + 1) else t

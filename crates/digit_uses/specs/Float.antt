@@ -111,6 +111,10 @@ module _ (word : ℕ) (text : List ℕ) where
     pub fraction : places_of m.fraction ≡ 0
     pub stands : at ≡ mantissa_end m.integer m.fraction
 
+  -- the mantissa has a digit
+  abbrev pub HasDigit : Mantissa → Type 0
+  HasDigit m = 0 < m.integer.digits + places_of m.fraction
+
   -- the exponent is out of range
   pub record IsOutOfRange (m : Mantissa) : Type 0 where
     pub scale : Option Scale
@@ -119,14 +123,16 @@ module _ (word : ℕ) (text : List ℕ) where
         (IsScale (mantissa_end m.integer m.fraction))
     pub far : IsFar scale (places_of m.fraction)
 
-  -- the faults after a mantissa
+  -- the faults after a mantissa: of one without a digit no other is told
   abbrev pub IsFaultAfter : Mantissa → FloatError → Type 0
   IsFaultAfter m (NoDigit at) = HasNoDigit m at
-  IsFaultAfter m (NoExponent at) = HasNoScale (mantissa_end m.integer m.fraction) at
-  IsFaultAfter m (ExponentTooLarge at) = PassesInScale (mantissa_end m.integer m.fraction) at
+  IsFaultAfter m (NoExponent at) =
+      HasDigit m × HasNoScale (mantissa_end m.integer m.fraction) at
+  IsFaultAfter m (ExponentTooLarge at) =
+      HasDigit m × PassesInScale (mantissa_end m.integer m.fraction) at
   IsFaultAfter m (IntegerTooLarge at) = ⊥
   IsFaultAfter m (FractionTooLarge at) = ⊥
-  IsFaultAfter m OutOfRange = IsOutOfRange m
+  IsFaultAfter m OutOfRange = HasDigit m × IsOutOfRange m
 
   -- the faults in a mantissa
   abbrev pub IsFaultWithin : ℕ → FloatError → Type 0

@@ -22,10 +22,16 @@ module _ (line : List ℕ) where
     pub within : to ≤ length line
     pub gaps : (q : ℕ) → from ≤ q → q < to → is_gap (slice_index line q) ≡ true
 
+  -- after the gaps from one position on, the next byte is at `start`
+  pub record Starts (from start : ℕ) : Type 0 where
+    pub gaps : AreGaps from start
+    pub within : start < length line
+    pub stops : is_gap (slice_index line start) ≡ false
+
   module _ (rule : Rule) where
     -- the next number from a position on
     pub record IsToken (from : ℕ) (token : Token) : Type 0 where
-      pub gaps : AreGaps from token.from
+      pub starts : Starts from token.from
       pub onward : token.from < token.to
       pub to : token.to ≡ stop rule line token.from 0
       pub some : 0 < length (leading_digits rule line token.from 0)
@@ -35,12 +41,13 @@ module _ (line : List ℕ) where
     -- why there is no number after the gaps, which end at `start`
     abbrev pub IsFault : ℕ → Fault → Type 0
     IsFault from (NoNumber start at) =
-        AreGaps from start × (start < length line) × (at ≡ stop rule line start 0)
+        Starts from start × (at ≡ stop rule line start 0)
         × (length (leading_digits rule line start 0) ≡ 0)
     IsFault from (CutOff start at) =
-        AreGaps from start × (at ≡ stop rule line start 0) × (ends_at at ≡ false)
+        Starts from start × (at ≡ stop rule line start 0)
+        × (0 < length (leading_digits rule line start 0)) × (ends_at at ≡ false)
     IsFault from (TooLarge start at) =
-        AreGaps from start × PassesAt rule line start 0 0 at
+        Starts from start × PassesAt rule line start 0 0 at
 
     -- from a position up to another there are these tokens, with gaps between them
     abbrev pub Covers : ℕ → List Token → ℕ → Type 0

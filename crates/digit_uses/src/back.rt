@@ -30,6 +30,8 @@ pub fn try_exponent(bytes: &mut Bytes) -> Result<Option<u64>, TooLarge>
     ensures back { IfOk result (λ read. IfNone read (bytes.new.state ≡ bytes.old.state)) }
     ensures too_large { let s = bytes.old.state in IfErr result (λ error.
         PassesAt (rule Exponent s) s.buffer (s.cursor + 1) (own Exponent s) 0 error.at) }
+    ensures marked { let s = bytes.old.state in
+        IfErr result (λ _. stands is_mark s.buffer s.cursor ≡ true) }
     ensures stays { IfErr result (λ _. bytes.new.state ≡ bytes.old.state) }
 {
     let mut ahead = bytes.clone().unwrap();

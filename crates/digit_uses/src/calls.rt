@@ -3,10 +3,12 @@
 //!
 //! Proof by hand: 36 lines, three answers, of which two add up what is owed, and a lemma.
 
-ghost use Rattle.std.specs.Prelude.{◌≡◌, ◌+◌, ◌*◌, ◌≤◌, pos, ◌≤ℤ◌, ◌+ℤ◌, length, map, IfOk};
+ghost use Rattle.std.specs.Prelude.{◌≡◌, ◌+◌, ◌*◌, ◌≤◌, pos, ◌≤ℤ◌, ◌+ℤ◌, length, map, IfOk, OnOk, OnErr};
 ghost use Rattle.lexical_digits.specs.CallTable.{run_of};
 ghost use Rattle.lexical_digits.specs.Looks.{owed};
 ghost use Rattle.digit_script.specs.Script.{script_of, answer_of, reads_of, set_backs_of};
+ghost use Rattle.lexical_digits.specs.declared.skip.component.Component.TheVariants.{Integer, Fraction, Exponent};
+ghost use Rattle.digit_uses.specs.Bytes.{past_component};
 
 use digit_literals::pass_digits;
 use digit_script::{Answer, Call, run};
@@ -24,6 +26,9 @@ pub fn make_calls(
 ) -> Result<Vec<Answer>, AllocError>
     ensures answers { let script = script_of calls.now in IfOk result (λ answers.
         answers.items ≡ map answer_of (run_of bytes.old.state script).answers) }
+    ensures state { let script = script_of calls.now in
+        OnOk result (bytes.new.state ≡ (run_of bytes.old.state script).state) }
+    ensures memory { OnErr result (bytes.new ≡ bytes.old) }
     ensures looks { let s = bytes.old.state in let script = script_of calls.now in
         bytes.new.looks ≤ bytes.old.looks
         + 4 * reads_of s script + 3 * (length s.buffer * (set_backs_of s script + 1)) }
@@ -35,6 +40,7 @@ pub fn make_calls(
 /// digits there are.
 #[tactic(auto, using(crate::proofs::FewDigits::passed_within))]
 fn pass_component(bytes: &mut Bytes, component: Component, mark: u8) -> usize
+    ensures state { bytes.new.state ≡ past_component component mark bytes.old.state }
     ensures within { result + bytes.old.state.cursor ≤ bytes.new.state.cursor }
     ensures buffer { bytes.new.state.buffer ≡ bytes.old.state.buffer }
     ensures owes { owed bytes.new ≤ℤ (owed bytes.old +ℤ pos (8 * result + 4)) }
@@ -50,7 +56,10 @@ fn pass_component(bytes: &mut Bytes, component: Component, mark: u8) -> usize
 /// Passes a number such as `123_456.789e10` from the cursor on. Each call says what it owes: 8 for
 /// a digit and 4 for a component. With 3 for each byte of the text, that bounds the looks.
 pub fn pass_number(bytes: &mut Bytes)
-    ensures { bytes.new.looks ≤ bytes.old.looks + 11 * length bytes.old.state.buffer + 12 }
+    ensures state { bytes.new.state ≡ past_component Exponent 32
+        (past_component Fraction 101 (past_component Integer 46 bytes.old.state)) }
+    ensures looks { let n = length bytes.old.state.buffer in
+        bytes.new.looks ≤ bytes.old.looks + 11 * n + 12 }
 {
     looks_are_bounded();
     pass_component(bytes, Component::Integer, b'.');

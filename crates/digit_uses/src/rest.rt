@@ -2,12 +2,13 @@
 //!
 //! Proof by hand: 6 lines, two answers by lemmas for callers.
 
-ghost use Rattle.std.specs.Prelude.{◌≡◌, ◌+◌, ◌<◌, ◌≤◌, length, drop, slice_index, true, IsTrue};
+ghost use Rattle.std.specs.Prelude.{◌≡◌, ◌+◌, ◌<◌, ◌≤◌, length, drop, slice_index, true, IfOk, IsTrue};
 ghost use Rattle.lexical_format.specs.Word.{is_supported};
 ghost use Rattle.lexical_digits.specs.declared.skip.component.Component.TheVariants.{Integer};
 ghost use Rattle.lexical_digits.specs.Separators.{is_digit};
 ghost use Rattle.lexical_digits.specs.State.{rule_of};
 ghost use Rattle.lexical_digits.specs.Stop.{stop};
+ghost use Rattle.digit_literals.specs.Integers.{IsInteger};
 ghost use Rattle.digit_literals.specs.Outcomes.{IfEmpty, IfOverflow};
 
 use digit_literals::{LiteralError, pass_digits, read_integer};
@@ -32,6 +33,7 @@ pub fn number_end(text: &[u8], word: u128, from: usize) -> usize
 /// The integer at the start of a text. Of a fault it says only where it is.
 pub fn read_or_where(text: &[u8], word: u128) -> Result<(u64, usize), LiteralError>
     requires { IsTrue (is_supported word) }
+    ensures ok { IfOk result (λ read. IsInteger (rule_of word Integer) text.now read.0 read.1) }
     ensures empty { IfEmpty result (λ at. at ≤ length text.now) }
     ensures overflow { IfOverflow result (λ at. at < length text.now) }
 {

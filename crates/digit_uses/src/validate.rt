@@ -37,6 +37,8 @@ pub fn validate(text: &[u8], word: u128) -> Result<(), usize>
         IsInternalAlone r → IfOk result (λ _. AllDigitsOrBetween r text.now) }
     ensures fault { let r = rule_of word Integer in IsInternalAlone r →
         IfErr result (IsFirstFault (is_digit_or_between r text.now) (length text.now)) }
+    ensures whole { IfOk result (λ _. stop (rule_of word Integer) text.now 0 0 ≡ length text.now) }
+    ensures stops { IfErr result (λ at. at ≡ stop (rule_of word Integer) text.now 0 0) }
     ensures within { IfErr result (λ at. at < length text.now) }
 {
     internal_reads_between(text, word, Component::Integer);
@@ -49,6 +51,8 @@ pub fn validate(text: &[u8], word: u128) -> Result<(), usize>
 /// consecutive flag too `1__0` is one; with all flags `_1` and `1_` are too. The empty text is one.
 pub fn is_integer(text: &[u8], word: u128) -> bool
     requires { IsTrue (is_supported word) }
+    ensures is_whole { result ≡ true → stop (rule_of word Integer) text.now 0 0 ≡ length text.now }
+    ensures whole { stop (rule_of word Integer) text.now 0 0 ≡ length text.now → result ≡ true }
     ensures is_grouped { let r = rule_of word Integer in IsInternalAlone r →
         result ≡ true → AllDigitsOrBetween r text.now }
     ensures grouped { let r = rule_of word Integer in IsInternalAlone r →

@@ -3,8 +3,8 @@ use Rattle.std.proofs.lemmas.Int.{ints}
 use Rattle.digit_uses.proofs.calls.pass_number.Goals as goal
 
 -- the digits of the three components are bytes of the text, one after another
-pub returns : goal.returns
-returns c =
+pub returns-clause-looks : goal.returns-clause-looks
+returns-clause-looks c =
     let one = c.pass_component.ensures in
     let two = c.pass_component-2.ensures in
     let three = c.pass_component-3.ensures in

@@ -1,7 +1,8 @@
 use Rattle.std.proofs.Common.{◌≡◌, length}
 use Rattle.std.specs.Prelude.{◌==◌}
 use Rattle.std.specs.List.{list_any}
-use Rattle.lexical_digits.specs.CallTable.{drain_of}
+use Rattle.std.specs.Io.BufRead.{drop_through}
+use Rattle.lexical_digits.specs.CallTable.{drain_of, after_drain}
 use Rattle.lexical_digits.specs.declared.skip.component.Component.TheVariants.{Integer}
 use Rattle.digit_uses.proofs.loops.take_through.Given as goal
 
@@ -11,6 +12,10 @@ invariant-loop-byte l = record {
   keeps_loan : l.iter.byte.ghost_name ≡ l.initial.iter.byte.ghost_name;
   answer : list_any (λ byte. byte == l.wanted) (drain_of Integer l.iter.byte.now.state)
       ≡ list_any (λ byte. byte == l.wanted) (drain_of Integer l.initial.iter.byte.now.state);
+  rest : drop_through l.wanted (drain_of Integer l.iter.byte.now.state)
+      ≡ drop_through l.wanted (drain_of Integer l.initial.iter.byte.now.state);
+  leaves : after_drain Integer l.iter.byte.now.state
+      ≡ after_drain Integer l.initial.iter.byte.now.state;
 }
 
 -- each turn yields one of them
