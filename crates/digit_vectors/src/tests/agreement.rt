@@ -3,11 +3,11 @@
 
 ghost use Rattle.std.specs.Prelude.{◌<◌, length};
 
-use super::{CONSECUTIVE, INTERNAL, LEADING, TRAILING, UNFLAGGED, bytes_of, move_to};
+use super::{CONSECUTIVE, INTERNAL, LEADING, TRAILING, UNFLAGGED};
 use crate::slow::{is_kept, place, seen};
-use lexical_digits::iterator::{DigitsIter, Iter};
+use lexical_digits::iterator::{DigitsIter, Iter, IterBodies};
 use lexical_digits::skip::{Bytes, Component, Rule};
-use lexical_format::SPECIAL_DIGIT_SEPARATOR;
+use lexical_format::{SPECIAL_DIGIT_SEPARATOR, is_supported};
 use std::process::Abort;
 
 /// A component, with what its reads are compared with: its rule, and whether `next` counts digits.
@@ -63,12 +63,16 @@ fn raise(bytes: &mut Bytes, component: Component) {
     }
 }
 
-/// Raises the count of a component this many times, and sets the cursor.
-fn put(rt: &impl Abort, bytes: &mut Bytes, component: Component, cursor: usize, count: usize) {
+/// Raises the count of a component this many times, and sets the cursor: whether it can.
+fn is_put(bytes: &mut Bytes, component: Component, cursor: usize, count: usize) -> bool {
     for _ in 0..count {
         raise(bytes, component);
     }
-    move_to(rt, bytes, cursor);
+    let has = cursor <= bytes.buffer_length();
+    if has {
+        bytes.set_cursor(cursor);
+    }
+    has
 }
 
 /// `next` yields this byte, and leaves this cursor and this count.
@@ -96,20 +100,13 @@ fn drain_agrees(bytes: &mut Bytes, text: &[u8], slow: Slow, start: usize, count:
 }
 
 /// The drain of a component from this cursor and count.
-fn assert_drain_agrees(
-    rt: &impl Abort,
-    text: &[u8],
-    word: u128,
-    slow: Slow,
-    start: usize,
-    count: usize,
-) {
-    let mut bytes = bytes_of(rt, text, word);
-    put(rt, &mut bytes, slow.component, start, count);
-    assert!(rt;
-        drain_agrees(&mut bytes, text, slow, start, count),
-        "{text:?} from {start}, {count}"
-    );
+fn drain_agrees_from(text: &[u8], word: u128, slow: Slow, start: usize, count: usize) -> bool {
+    if !is_supported(word) {
+        return false;
+    }
+    let mut bytes = Bytes::new(text, word);
+    is_put(&mut bytes, slow.component, start, count)
+        && drain_agrees(&mut bytes, text, slow, start, count)
 }
 
 /// A peek and then a `next` find this byte, and the peek leaves the cursor here.
@@ -120,98 +117,106 @@ fn is_found(bytes: &mut Bytes, component: Component, byte: Option<u8>, at: usize
 }
 
 /// A peek and then a `next` find what is at the place of the slow program. Answers the count after
-/// that.
-fn assert_step_agrees(
-    rt: &impl Abort,
-    bytes: &mut Bytes,
-    text: &[u8],
-    slow: Slow,
-    count: usize,
-) -> usize {
+/// that, or `None` if they don't.
+fn step_agrees(bytes: &mut Bytes, text: &[u8], slow: Slow, count: usize) -> Option<usize> {
     let start = bytes.cursor();
-    assert!(rt; start <= text.len());
+    if start > text.len() {
+        return None;
+    }
     let at = place(slow.rule, text, start, count);
     let byte = text.get(at).copied();
-    assert!(rt;
-        is_found(bytes, slow.component, byte, at),
-        "{text:?} from {start}, {count}"
-    );
-    let count = match byte {
+    if !is_found(bytes, slow.component, byte, at) {
+        return None;
+    }
+    let counted = match byte {
         Some(byte) if slow.is_counting && slow.rule.is_digit(byte) => count.saturating_add(1),
         _ => count,
     };
-    assert!(rt; bytes.current_count_of(slow.component) == count);
-    count
+    (bytes.current_count_of(slow.component) == counted).then_some(counted)
+}
+
+/// Steps from this count to the end of a text.
+fn rest_agrees(bytes: &mut Bytes, text: &[u8], slow: Slow, from: usize, count: usize) -> bool {
+    let mut count = count;
+    for _ in from..=text.len() {
+        match step_agrees(bytes, text, slow, count) {
+            Some(counted) => count = counted,
+            None => return false,
+        }
+    }
+    true
 }
 
 /// A step there, a step at another cursor, and then from that cursor, with the count raised by one,
 /// all steps to the end.
-fn assert_steps_agree(
-    rt: &impl Abort,
-    text: &[u8],
-    word: u128,
-    slow: Slow,
-    from: usize,
-    to: usize,
-) {
-    let mut bytes = bytes_of(rt, text, word);
-    put(rt, &mut bytes, slow.component, from, 0);
-    let mut count = assert_step_agrees(rt, &mut bytes, text, slow, 0);
-    put(rt, &mut bytes, slow.component, to, 0);
-    count = assert_step_agrees(rt, &mut bytes, text, slow, count);
-    put(rt, &mut bytes, slow.component, to, 1);
-    count = count.saturating_add(1);
-    for _ in to..=text.len() {
-        count = assert_step_agrees(rt, &mut bytes, text, slow, count);
+fn steps_agree(text: &[u8], word: u128, slow: Slow, from: usize, to: usize) -> bool {
+    if !is_supported(word) {
+        return false;
     }
+    let mut bytes = Bytes::new(text, word);
+    if !is_put(&mut bytes, slow.component, from, 0) {
+        return false;
+    }
+    let Some(count) = step_agrees(&mut bytes, text, slow, 0) else {
+        return false;
+    };
+    if !is_put(&mut bytes, slow.component, to, 0) {
+        return false;
+    }
+    let Some(count) = step_agrees(&mut bytes, text, slow, count) else {
+        return false;
+    };
+    is_put(&mut bytes, slow.component, to, 1)
+        && rest_agrees(&mut bytes, text, slow, to, count.saturating_add(1))
 }
 
 /// The drains of a component from each cursor with each small count.
-fn assert_drains_agree(rt: &impl Abort, text: &[u8], word: u128, component: Component) {
+fn drains_agree(text: &[u8], word: u128, component: Component) -> bool {
     let slow = slow_of(word, component);
     for from in 0..=text.len() {
         for count in 0..2 {
-            assert_drain_agrees(rt, text, word, slow, from, count);
+            if !drain_agrees_from(text, word, slow, from, count) {
+                return false;
+            }
         }
     }
+    true
 }
 
-/// The integer. From each cursor with each small count: the whole drain. And steps there, and from
-/// each other cursor.
-fn assert_integer_agrees(rt: &impl Abort, text: &[u8], state: u32) {
-    let word = UNFLAGGED | flags_of(state);
-    assert_drains_agree(rt, text, word, Component::Integer);
+/// The steps of the integer from each cursor, and from each other cursor.
+fn all_steps_agree(text: &[u8], word: u128) -> bool {
     let slow = slow_of(word, Component::Integer);
     for from in 0..=text.len() {
         for to in 0..=text.len() {
-            assert_steps_agree(rt, text, word, slow, from, to);
+            if !steps_agree(text, word, slow, from, to) {
+                return false;
+            }
         }
     }
+    true
 }
 
 /// Integer, fraction and exponent, by the same flags. The bits of the fraction are one above the
 /// integer's, and those of the exponent two.
-fn assert_components_agree(rt: &impl Abort, text: &[u8], state: u32) {
-    assert_integer_agrees(rt, text, state);
-    let fraction = UNFLAGGED | (flags_of(state) << 1);
-    assert_drains_agree(rt, text, fraction, Component::Fraction);
-    let exponent = UNFLAGGED | (flags_of(state) << 2);
-    assert_drains_agree(rt, text, exponent, Component::Exponent);
+fn components_agree(text: &[u8], state: u32) -> bool {
+    let flags = flags_of(state);
+    drains_agree(text, UNFLAGGED | flags, Component::Integer)
+        && all_steps_agree(text, UNFLAGGED | flags)
+        && drains_agree(text, UNFLAGGED | (flags << 1), Component::Fraction)
+        && drains_agree(text, UNFLAGGED | (flags << 2), Component::Exponent)
 }
 
-/// The drains of a special value, with its flag and without.
-fn assert_special_agrees(rt: &impl Abort, text: &[u8]) {
-    for word in [UNFLAGGED, UNFLAGGED | SPECIAL_DIGIT_SEPARATOR] {
-        assert_drains_agree(rt, text, word, Component::Special);
-    }
-}
-
-/// The reads of one text, in every state of the flags.
-fn assert_text_agrees(rt: &impl Abort, text: &[u8]) {
+/// The reads of one text in every state of the flags, and the drains of a special value with its
+/// flag and without.
+fn text_agrees(text: &[u8]) -> bool {
     for state in 0..16 {
-        assert_components_agree(rt, text, state);
+        if !components_agree(text, state) {
+            return false;
+        }
     }
-    assert_special_agrees(rt, text);
+    let special = Component::Special;
+    drains_agree(text, UNFLAGGED, special)
+        && drains_agree(text, UNFLAGGED | SPECIAL_DIGIT_SEPARATOR, special)
 }
 
 /// Every text of this length over an alphabet.
@@ -221,7 +226,7 @@ fn assert_texts_agree(rt: &impl Abort, alphabet: &[u8], letters: u32) {
     let text = &mut text[..letters as usize];
     for number in 0..alphabet.len().saturating_pow(letters) {
         spell(text, alphabet, number);
-        assert_text_agrees(rt, text);
+        assert!(rt; text_agrees(text), "{text:?}");
     }
 }
 

@@ -12,8 +12,8 @@ use std::test::Fail;
 /// The integer of a text keeps this number of bytes, and this one last.
 fn assert_integer(rt: &impl Abort, word: u128, text: &[u8], count: usize, last: Option<u8>) {
     assert!(rt; is_supported(word));
-    assert_eq!(rt; kept_count(text, word), count);
-    assert_eq!(rt; last_kept(text, word), last);
+    assert!(rt; kept_count(text, word) == count);
+    assert!(rt; last_kept(text, word) == last);
 }
 
 #[test]
@@ -27,7 +27,7 @@ fn a_chain_over_the_integer_gives_what_is_kept(rt: HostRuntime) {
         assert_integer(&rt, word, text, count, last);
     }
     assert!(rt; is_supported(word));
-    assert_eq!(rt; checksum(b"4_5", word), 52 + 53);
+    assert!(rt; checksum(b"4_5", word) == 52 + 53);
 }
 
 #[test]
@@ -48,6 +48,6 @@ fn a_kept_byte_is_found_by_its_index(rt: HostRuntime) {
     let word = UNFLAGGED | SPECIAL_DIGIT_SEPARATOR;
     assert!(rt; is_supported(word));
     for (index, byte) in [(1, Some(b'a')), (2, Some(b'n')), (3, None)] {
-        assert_eq!(rt; kept_at(b"n_a__n", word, index), byte);
+        assert!(rt; kept_at(b"n_a__n", word, index) == byte);
     }
 }

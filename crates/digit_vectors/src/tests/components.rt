@@ -156,7 +156,7 @@ fn a_component_has_the_rule_of_its_flags_and_radix(rt: HostRuntime) {
 }
 
 /// Flags, a text, and where reading stops.
-const STOPS: [(u128, &str, usize); 11] = [
+static STOPS: [(u128, &str, usize); 11] = [
     (INTERNAL, "1_2", 3),
     (INTERNAL, "1__2", 1),
     (INTERNAL, "_1", 0),
@@ -185,8 +185,8 @@ fn stop_of(text: &[u8], word: u128) -> Option<usize> {
 
 /// The first text of which reading stops elsewhere.
 fn wrong_stop() -> Option<&'static str> {
-    for (flags, text, stop) in STOPS {
-        if stop_of(text.as_bytes(), UNFLAGGED | flags) != Some(stop) {
+    for (flags, text, stop) in &STOPS {
+        if stop_of(text.as_bytes(), UNFLAGGED | *flags) != Some(*stop) {
             return Some(text);
         }
     }

@@ -1,7 +1,7 @@
 //! Which calls raise which count.
 
-use super::steps::Part::{Exponent, Fraction, Integer, Special, Whole};
-use super::steps::Step::{Count, Cursor, Increment, MoveTo, Next, Peek, SkipZeros, StepBy};
+use super::steps::Part::{self, Exponent, Fraction, Integer, Special, Whole};
+use super::steps::Step::{self, Count, Cursor, Increment, MoveTo, Next, Peek, SkipZeros, StepBy};
 use super::steps::{assert_goes, assert_part, assert_steps, assert_turns};
 use super::{CONSECUTIVE, INTERNAL, LEADING, TRAILING, UNFLAGGED, bytes_of};
 use lexical_digits::iterator::{DigitsIter, Iter, IterBodies};
@@ -106,38 +106,47 @@ fn zeros_count_where_next_does_not(rt: HostRuntime) {
     assert_goes(&rt, word, b"005", Integer, &steps);
 }
 
+/// Each component counts, and then each count is asked for.
+static INCREMENTS: [(Part, Step); 11] = [
+    (Integer, Increment),
+    (Fraction, Increment),
+    (Fraction, Increment),
+    (Exponent, Increment),
+    (Special, Increment),
+    (Integer, Count(1)),
+    (Fraction, Count(2)),
+    (Exponent, Count(1)),
+    (Special, Count(1)),
+    (Whole, Count(4)),
+    (Whole, Cursor(0)),
+];
+
 #[test]
 fn a_bytes_with_a_separator_sums_the_counts(rt: HostRuntime) {
     let flags = FRACTION_INTERNAL_DIGIT_SEPARATOR
         | EXPONENT_INTERNAL_DIGIT_SEPARATOR
         | SPECIAL_DIGIT_SEPARATOR;
-    let turns = [
-        (Integer, Increment),
-        (Fraction, Increment),
-        (Fraction, Increment),
-        (Exponent, Increment),
-        (Special, Increment),
-        (Integer, Count(1)),
-        (Fraction, Count(2)),
-        (Exponent, Count(1)),
-        (Special, Count(1)),
-        (Whole, Count(4)),
-        (Whole, Cursor(0)),
-    ];
-    assert_turns(&rt, UNFLAGGED | INTERNAL | flags, b"12", &turns);
+    assert_turns(&rt, UNFLAGGED | INTERNAL | flags, b"12", &INCREMENTS);
 }
 
 #[test]
 fn a_clone_goes_on_from_the_same_state(rt: HostRuntime) -> Result<(), Fail> {
     let mut bytes = bytes_of(&rt, b"1__2", UNFLAGGED | INTERNAL | CONSECUTIVE);
-    assert_part(&rt, &mut bytes, Integer, &[Next(Some(b'1'))]);
-    assert_part(&rt, &mut bytes, Integer, &[Peek(Some(b'2'))]);
+    assert_part(
+        &rt,
+        &mut bytes,
+        Integer,
+        &[Next(Some(b'1')), Peek(Some(b'2'))],
+    );
     let mut copy: Bytes = bytes.clone()?;
-    assert_eq!(rt; copy.looks(), bytes.looks());
+    assert!(rt; copy.looks() == bytes.looks());
     assert_part(&rt, &mut bytes, Whole, &[MoveTo(0)]);
-    assert_part(&rt, &mut copy, Whole, &[Cursor(3)]);
-    assert_part(&rt, &mut copy, Integer, &[Count(1)]);
-    assert_part(&rt, &mut copy, Integer, &[Next(Some(b'2'))]);
+    assert_part(
+        &rt,
+        &mut copy,
+        Integer,
+        &[Cursor(3), Count(1), Next(Some(b'2'))],
+    );
     Ok(())
 }
 

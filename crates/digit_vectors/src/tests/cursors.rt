@@ -83,15 +83,15 @@ fn a_separator_may_be_a_sign(rt: HostRuntime) {
     let mut bytes = bytes_of(&rt, b"+12", (10 << 104) | (0x2b << 64) | LEADING);
     let iter = bytes.integer_iter();
     for (byte, is_sign) in [(b'+', true), (b'-', true), (b'1', false)] {
-        assert_eq!(rt; iter.is_sign(byte), is_sign);
+        assert!(rt; iter.is_sign(byte) == is_sign);
     }
     for (byte, is_separator) in [(b'+', true), (b'-', false)] {
-        assert_eq!(rt; iter.is_digit_separator(byte), is_separator);
+        assert!(rt; iter.is_digit_separator(byte) == is_separator);
     }
 }
 
 /// Each call that every part has, once, over `12aB` from the cursor 0.
-const CURSOR_CALLS: [Step; 14] = [
+static CURSOR_CALLS: [Step; 14] = [
     Buffer(b"12aB"),
     Rest(b"12aB"),
     Length(4),
@@ -110,8 +110,8 @@ const CURSOR_CALLS: [Step; 14] = [
 
 #[test]
 fn every_part_has_the_calls_of_a_cursor(rt: HostRuntime) {
-    for part in PARTS {
-        assert_goes(&rt, UNFLAGGED | INTERNAL, b"12aB", part, &CURSOR_CALLS);
+    for part in &PARTS {
+        assert_goes(&rt, UNFLAGGED | INTERNAL, b"12aB", *part, &CURSOR_CALLS);
     }
 }
 
@@ -127,13 +127,13 @@ fn every_contiguous_part_steps_over_any_bytes(rt: HostRuntime) {
         First(Some(b'5')),
         Count(4),
     ];
-    for part in PARTS {
-        assert_goes(&rt, STANDARD, b"12345", part, &steps);
+    for part in &PARTS {
+        assert_goes(&rt, STANDARD, b"12345", *part, &steps);
     }
 }
 
 /// Whether a `Bytes` and its integer iterator are contiguous, by the word of the table in RULES.md.
-const CONTIGUOUS: [(u128, bool, bool); 5] = [
+static CONTIGUOUS: [(u128, bool, bool); 5] = [
     (STANDARD, true, true),
     (UNFLAGGED | INTERNAL, false, false),
     (UNFLAGGED | FRACTION_INTERNAL_DIGIT_SEPARATOR, false, true),
@@ -147,13 +147,13 @@ const CONTIGUOUS: [(u128, bool, bool); 5] = [
 
 /// The first word of which a `Bytes` or its integer iterator answers otherwise.
 fn wrong_contiguity() -> Option<u128> {
-    for (word, whole, integer) in CONTIGUOUS {
-        if !is_supported(word) {
-            return Some(word);
+    for (word, whole, integer) in &CONTIGUOUS {
+        if !is_supported(*word) {
+            return Some(*word);
         }
-        let mut bytes = Bytes::new(b"1_2", word);
-        if bytes.is_contiguous() != whole || bytes.integer_iter().is_contiguous() != integer {
-            return Some(word);
+        let mut bytes = Bytes::new(b"1_2", *word);
+        if bytes.is_contiguous() != *whole || bytes.integer_iter().is_contiguous() != *integer {
+            return Some(*word);
         }
     }
     None
@@ -166,8 +166,8 @@ fn a_bytes_and_its_iterator_can_differ_in_being_contiguous(rt: HostRuntime) {
 
 #[test]
 fn a_size_hint_foretells_nothing(rt: HostRuntime) {
-    for part in ITERATORS {
+    for part in &ITERATORS {
         let steps = [SizeHint((0, None))];
-        assert_goes(&rt, UNFLAGGED | INTERNAL, b"1_2", part, &steps);
+        assert_goes(&rt, UNFLAGGED | INTERNAL, b"1_2", *part, &steps);
     }
 }

@@ -28,21 +28,21 @@ const RUN: Run = Run { from: 1, to: 3 };
 #[test]
 fn a_source_counts_each_look(rt: HostRuntime) {
     let mut src = SliceSource::new(b"1__2");
-    assert_eq!(rt; src.length(), 4);
-    assert_eq!(rt; src.at(3), b'2');
-    assert_eq!(rt; src.looks(), 1);
+    assert!(rt; src.length() == 4);
+    assert!(rt; src.at(3) == b'2');
+    assert!(rt; src.looks() == 1);
 }
 
 #[test]
 fn a_scan_finds_the_run_and_what_is_behind_it(rt: HostRuntime) {
     let mut src = SliceSource::new(b"1__2");
     let sight = decide(&mut src, internal_rule(true), 1, true, None);
-    assert_eq!(rt;
-        sight,
-        Sight {
-            place: 3,
-            run: Some(RUN)
-        }
+    assert!(rt;
+        sight
+            == Sight {
+                place: 3,
+                run: Some(RUN)
+            }
     );
     let looks = src.looks();
     assert!(rt; 2 <= looks && looks <= 9, "{looks}");
@@ -52,14 +52,14 @@ fn a_scan_finds_the_run_and_what_is_behind_it(rt: HostRuntime) {
 fn a_run_at_hand_is_not_scanned(rt: HostRuntime) {
     let mut src = SliceSource::new(b"1__2");
     let run = decide(&mut src, internal_rule(true), 1, true, None).run;
-    assert_eq!(rt; run, Some(RUN));
+    assert!(rt; run == Some(RUN));
     let before = src.looks();
     let sight = decide(&mut src, internal_rule(true), 2, false, run);
-    assert_eq!(rt; sight, Sight { place: 3, run });
+    assert!(rt; sight == Sight { place: 3, run });
     assert!(rt; src.looks().saturating_sub(before) <= 3, "within the run");
     let before = src.looks();
     let sight = decide(&mut src, internal_rule(true), 4, false, run);
-    assert_eq!(rt; sight, Sight { place: 4, run });
+    assert!(rt; sight == Sight { place: 4, run });
     assert!(rt; src.looks().saturating_sub(before) <= 3, "at the end");
 }
 
@@ -67,12 +67,12 @@ fn a_run_at_hand_is_not_scanned(rt: HostRuntime) {
 fn without_consecutive_nothing_is_scanned(rt: HostRuntime) {
     let mut src = SliceSource::new(b"1__2");
     let sight = decide(&mut src, internal_rule(false), 1, true, None);
-    assert_eq!(rt;
-        sight,
-        Sight {
-            place: 1,
-            run: None
-        }
+    assert!(rt;
+        sight
+            == Sight {
+                place: 1,
+                run: None
+            }
     );
     let looks = src.looks();
     assert!(rt; looks <= 3, "{looks}");
@@ -82,9 +82,9 @@ fn without_consecutive_nothing_is_scanned(rt: HostRuntime) {
 fn without_consecutive_a_run_stays_as_it_is(rt: HostRuntime) {
     let mut src = SliceSource::new(b"1__2");
     let run = decide(&mut src, internal_rule(true), 1, true, None).run;
-    assert_eq!(rt; run, Some(RUN));
+    assert!(rt; run == Some(RUN));
     let before = src.looks();
     let sight = decide(&mut src, internal_rule(false), 1, true, run);
-    assert_eq!(rt; sight, Sight { place: 1, run });
+    assert!(rt; sight == Sight { place: 1, run });
     assert!(rt; src.looks().saturating_sub(before) <= 3);
 }

@@ -11,13 +11,19 @@ use std::process::Abort;
 /// The whole text has this value, or this first fault; `_` may stand between two digits.
 fn assert_whole(rt: &impl Abort, text: &[u8], read: Result<u64, ParseError>) {
     assert!(rt; is_supported(UNFLAGGED | INTERNAL));
-    assert_eq!(rt; parse_integer(text, UNFLAGGED | INTERNAL), read, "{text:?}");
+    assert!(rt;
+        parse_integer(text, UNFLAGGED | INTERNAL) == read,
+        "{text:?}"
+    );
 }
 
 /// The same with a sign.
 fn assert_signed(rt: &impl Abort, text: &[u8], read: Result<i64, ParseError>) {
     assert!(rt; is_supported(UNFLAGGED | INTERNAL));
-    assert_eq!(rt; parse_signed(text, UNFLAGGED | INTERNAL), read, "{text:?}");
+    assert!(rt;
+        parse_signed(text, UNFLAGGED | INTERNAL) == read,
+        "{text:?}"
+    );
 }
 
 #[test]
@@ -49,26 +55,24 @@ fn positions_count_the_sign(rt: HostRuntime) {
 fn a_greatest_value_is_not_passed(rt: HostRuntime) {
     let mut bytes = bytes_of(&rt, b"2_55", UNFLAGGED | INTERNAL);
     let read = read_digits_after(&mut bytes.integer_iter(), 10, 0, 255);
-    assert_eq!(rt;
-        read,
-        Ok(Digits {
+    assert!(rt;
+        read == Ok(Digits {
             value: 255,
             count: 3
         })
     );
     let mut bytes = bytes_of(&rt, b"2_56", UNFLAGGED | INTERNAL);
     let read = read_digits_after(&mut bytes.integer_iter(), 10, 0, 255);
-    assert_eq!(rt; read, Err(TooLarge { at: 3 }));
-    assert_eq!(rt; bytes.cursor(), 3);
+    assert!(rt; read == Err(TooLarge { at: 3 }));
+    assert!(rt; bytes.cursor() == 3);
 }
 
 /// The whole text has that number of digits, or stops at that position; `_` may be between two
 /// digits.
 fn assert_digits(rt: &impl Abort, text: &[u8], digits: Result<usize, usize>) {
     assert!(rt; is_supported(UNFLAGGED | INTERNAL));
-    assert_eq!(rt;
-        count_digits(text, UNFLAGGED | INTERNAL),
-        digits,
+    assert!(rt;
+        count_digits(text, UNFLAGGED | INTERNAL) == digits,
         "{text:?}"
     );
 }

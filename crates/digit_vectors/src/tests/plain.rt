@@ -33,9 +33,9 @@ pub fn plain_bytes<'a>(rt: &impl Abort, text: &'a [u8]) -> Bytes<'a> {
 fn the_bytes_left_are_known_exactly(rt: HostRuntime) {
     let mut bytes = plain_bytes(&rt, b"12345");
     let mut iter = bytes.integer_iter();
-    assert_eq!(rt; iter.len(), 5);
+    assert!(rt; iter.len() == 5);
     assert_steps(&rt, &mut iter, &[Next(Some(b'1'))]);
-    assert_eq!(rt; iter.len(), 4);
+    assert!(rt; iter.len() == 4);
     assert_steps(&rt, &mut iter, &[SizeHint((4, Some(4)))]);
 }
 
@@ -56,7 +56,7 @@ fn the_count_is_the_cursor(rt: HostRuntime) {
     let mut bytes = plain_bytes(&rt, b"005");
     let steps = [SkipZeros(2), Count(2), Increment, Count(2), Cursor(2)];
     assert_steps(&rt, &mut bytes.fraction_iter(), &steps);
-    assert_eq!(rt; bytes.current_count(), 2);
+    assert!(rt; bytes.current_count() == 2);
 }
 
 #[test]
@@ -65,13 +65,13 @@ fn a_view_ends_with_the_buffer(rt: HostRuntime) {
     let mut iter = DigitsIterator::new(&mut bytes);
     assert_steps(&rt, &mut iter, &[Next(Some(b'1'))]);
     let view = iter.take_n(usize::MAX).expect(&rt, "a view");
-    assert_eq!(rt; view.buffer_length(), 5);
-    assert_eq!(rt; view.cursor(), 1);
+    assert!(rt; view.buffer_length() == 5);
+    assert!(rt; view.cursor() == 1);
     assert_steps(&rt, &mut iter, &[Cursor(5)]);
 }
 
 /// A step by four over `12345`.
-const STEP_BY_FOUR: [Step; 6] = [
+static STEP_BY_FOUR: [Step; 6] = [
     StepBy(4),
     Cursor(4),
     Count(4),
@@ -89,8 +89,8 @@ fn a_step_by_four_leaves_the_last_byte_in_both_modules(rt: HostRuntime) {
 
 /// There are no eight bytes, and the fifth is `5`.
 fn assert_fifth<'a, D: DigitsIter<'a>>(rt: &impl Abort, iter: &mut D) {
-    assert_eq!(rt; iter.peek_u64(), None);
-    assert_eq!(rt; iter.nth(4).copied(), Some(b'5'));
+    assert!(rt; iter.peek_u64() == None);
+    assert!(rt; iter.nth(4).copied() == Some(b'5'));
 }
 
 #[test]
@@ -107,8 +107,8 @@ fn a_clone_keeps_the_cursor_and_its_own(rt: HostRuntime) {
     let mut copy = bytes.clone().expect(&rt, "a clone takes no memory");
     let steps = [IsDigit(b'9', true), IsDigit(b'a', false), Next(Some(b'7'))];
     assert_steps(&rt, &mut DigitsIterator { byte: &mut copy }, &steps);
-    assert_eq!(rt; copy.cursor(), 2);
-    assert_eq!(rt; bytes.cursor(), 1);
+    assert!(rt; copy.cursor() == 2);
+    assert!(rt; bytes.cursor() == 1);
 }
 
 /// The length of any iterator that knows it.
@@ -120,10 +120,10 @@ fn length_of<I: ExactSizeIterator>(iter: &I) -> usize {
 fn generic_code_takes_the_plain_iterator(rt: HostRuntime) {
     let mut bytes = plain_bytes(&rt, b"_7");
     let mut iter = DigitsIterator { byte: &mut bytes };
-    assert_eq!(rt; length_of(&iter), 2);
+    assert!(rt; length_of(&iter) == 2);
     assert!(rt; is_settled(&mut iter, b'_'));
     assert!(rt; is_next_as_peeked(&mut iter, b'_'));
     let steps = [ReadIfUncased(b'7', Some(b'7')), IsConsumed(true)];
     assert_steps(&rt, &mut iter, &steps);
-    assert_eq!(rt; bytes.cursor(), 2);
+    assert!(rt; bytes.cursor() == 2);
 }

@@ -64,7 +64,7 @@ fn each_iterator_tells_its_own_digits(rt: HostRuntime) {
         ];
         assert_turns(&rt, word, b"", &turns);
         let is_sixteen = Rule::of(word, Component::Exponent).radix == 16;
-        assert_eq!(rt; is_sixteen, in_exponent);
+        assert!(rt; is_sixteen == in_exponent);
     }
 }
 
@@ -108,8 +108,7 @@ fn with_equal_radixes_nothing_changed(rt: HostRuntime) {
     let word = (10 << 104) | (0x5f << 64) | EXPONENT_INTERNAL;
     equal_radixes(b"1_2", word);
     equal_radixes(b"1_2", word | (10 << 120));
-    assert_eq!(rt;
-        Rule::of(word, Component::Exponent),
-        Rule::of(word | (10 << 120), Component::Exponent)
+    assert!(rt;
+        Rule::of(word, Component::Exponent) == Rule::of(word | (10 << 120), Component::Exponent)
     );
 }

@@ -66,7 +66,7 @@ fn zeros_are_read_past_dropped_separators(rt: HostRuntime) {
 }
 
 /// Each call that an iterator has beside `next`, over `aB0_07.`, whose separator is dropped.
-const READS: [Step; 16] = [
+static READS: [Step; 16] = [
     Peek(Some(b'a')),
     PeekIsCased(b'a', true),
     PeekIsUncased(b'A', true),
@@ -92,7 +92,7 @@ fn every_iterator_has_the_calls_of_a_reader(rt: HostRuntime) {
         | FRACTION_INTERNAL_DIGIT_SEPARATOR
         | EXPONENT_INTERNAL_DIGIT_SEPARATOR
         | SPECIAL_DIGIT_SEPARATOR;
-    for part in ITERATORS {
-        assert_goes(&rt, word, b"aB0_07.", part, &READS);
+    for part in &ITERATORS {
+        assert_goes(&rt, word, b"aB0_07.", *part, &READS);
     }
 }

@@ -15,7 +15,7 @@ pub enum Part {
     Special,
 }
 
-pub const PARTS: [Part; 5] = [
+pub static PARTS: [Part; 5] = [
     Part::Whole,
     Part::Integer,
     Part::Fraction,
@@ -24,7 +24,7 @@ pub const PARTS: [Part; 5] = [
 ];
 
 /// The parts that are iterators.
-pub const ITERATORS: [Part; 4] = [Part::Integer, Part::Fraction, Part::Exponent, Part::Special];
+pub static ITERATORS: [Part; 4] = [Part::Integer, Part::Fraction, Part::Exponent, Part::Special];
 
 /// A call: its arguments, then its answer. `Cursor` and `Count` ask for the cursor and the count.
 /// The calls up to `PeekU64` are those that every part has; the others are those of the iterators.
@@ -183,29 +183,45 @@ fn is_step<'a, D: DigitsIter<'a>>(iter: &mut D, step: Step) -> bool {
     }
 }
 
-/// Makes these calls on an iterator.
-pub fn assert_steps<'a, D: DigitsIter<'a>>(rt: &impl Abort, iter: &mut D, steps: &[Step]) {
+/// Makes these calls on an iterator, up to the first that answers otherwise: its index.
+fn wrong_step<'a, D: DigitsIter<'a>>(iter: &mut D, steps: &[Step]) -> Option<usize> {
     for (at, step) in steps.iter().enumerate() {
-        assert!(rt; is_step(iter, *step), "step {at}");
+        if !is_step(iter, *step) {
+            return Some(at);
+        }
+    }
+    None
+}
+
+/// The same on a part that is no iterator.
+fn wrong_cursor_step<'a, D: Iter<'a>>(iter: &mut D, steps: &[Step]) -> Option<usize> {
+    for (at, step) in steps.iter().enumerate() {
+        if !is_cursor_step(iter, *step) {
+            return Some(at);
+        }
+    }
+    None
+}
+
+/// The same on one part of a `Bytes`.
+fn wrong_step_of(bytes: &mut Bytes, part: Part, steps: &[Step]) -> Option<usize> {
+    match part {
+        Part::Whole => wrong_cursor_step(bytes, steps),
+        Part::Integer => wrong_step(&mut bytes.integer_iter(), steps),
+        Part::Fraction => wrong_step(&mut bytes.fraction_iter(), steps),
+        Part::Exponent => wrong_step(&mut bytes.exponent_iter(), steps),
+        Part::Special => wrong_step(&mut bytes.special_iter(), steps),
     }
 }
 
-/// Makes these calls on a part that is no iterator.
-fn assert_cursor_steps<'a, D: Iter<'a>>(rt: &impl Abort, iter: &mut D, steps: &[Step]) {
-    for (at, step) in steps.iter().enumerate() {
-        assert!(rt; is_cursor_step(iter, *step), "step {at}");
-    }
+/// Makes these calls on an iterator.
+pub fn assert_steps<'a, D: DigitsIter<'a>>(rt: &impl Abort, iter: &mut D, steps: &[Step]) {
+    assert_eq!(rt; wrong_step(iter, steps), None);
 }
 
 /// Makes these calls on one part of a `Bytes`.
 pub fn assert_part(rt: &impl Abort, bytes: &mut Bytes, part: Part, steps: &[Step]) {
-    match part {
-        Part::Whole => assert_cursor_steps(rt, bytes, steps),
-        Part::Integer => assert_steps(rt, &mut bytes.integer_iter(), steps),
-        Part::Fraction => assert_steps(rt, &mut bytes.fraction_iter(), steps),
-        Part::Exponent => assert_steps(rt, &mut bytes.exponent_iter(), steps),
-        Part::Special => assert_steps(rt, &mut bytes.special_iter(), steps),
-    }
+    assert_eq!(rt; wrong_step_of(bytes, part, steps), None);
 }
 
 /// Makes these calls on one part of a text.
