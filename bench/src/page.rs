@@ -86,9 +86,9 @@ pub fn print_summary(medians: &Medians) {
         both("f: I, short grouped numbers"),
     );
     println!(
-        "The worst rows are {} by `pass_zeros`, {} by `read_digits_of`, {} on letters that are \
-         peeked and {} on runs of 16 dropped separators.",
-        both("o: I, grouped, pass_zeros"),
+        "The worst rows are {} by `pass_digits` without separators, {} by `read_digits_of`, {} on \
+         letters that are peeked and {} on runs of 16 dropped separators.",
+        both("o: no flags, pass_digits"),
         both("l: I, grouped, by read_digits_of"),
         both("k: I, other bytes, peeked"),
         both("e: ILTC, runs of 16, number"),
