@@ -12,6 +12,4 @@ pub mod lexer;
 pub mod literal;
 pub mod loops;
 pub mod rest;
-#[cfg(test)]
-mod tests;
 pub mod validate;

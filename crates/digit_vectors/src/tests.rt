@@ -23,6 +23,7 @@ mod reads;
 mod rules;
 mod spaced;
 mod steps;
+mod uses;
 mod views;
 mod words;
 

@@ -1,19 +1,19 @@
 //! Each use once. The expected values are worked out by hand.
 
-use crate::back::try_exponent;
-use crate::calls::{make_calls, pass_number};
-use crate::drained::{length_without_separators, without_separators};
-use crate::figures::{Figures, read_figures};
-use crate::first::digits_end;
-use crate::float::{FloatError, Span, read_float};
-use crate::groups::{GroupsError, read_groups};
-use crate::lexer::{Fault, Token, numbers};
-use crate::literal::{Literal, read_literal};
-use crate::loops::{Parser, component_end, count_yielded, take_through, yields};
-use crate::rest::read_or_where;
-use crate::validate::{is_integer, validate};
 use digit_literals::LiteralError;
 use digit_script::{Answer, Call, Op, Part};
+use digit_uses::back::try_exponent;
+use digit_uses::calls::{make_calls, pass_number};
+use digit_uses::drained::{length_without_separators, without_separators};
+use digit_uses::figures::{Figures, read_figures};
+use digit_uses::first::digits_end;
+use digit_uses::float::{FloatError, Span, read_float};
+use digit_uses::groups::{GroupsError, read_groups};
+use digit_uses::lexer::{Fault, Token, numbers};
+use digit_uses::literal::{Literal, read_literal};
+use digit_uses::loops::{Parser, component_end, count_yielded, take_through, yields};
+use digit_uses::rest::read_or_where;
+use digit_uses::validate::{is_integer, validate};
 use lexical_digits::iterator::Iter;
 use lexical_digits::skip::{Bytes, Component};
 use lexical_format::words::{CXX14_HEX_LITERAL, JSON, RUST_LITERAL};
