@@ -2,7 +2,7 @@
 
 use crate::library::Outcome;
 use crate::texts::Text;
-use crate::work::{each, float_of, with_digit, Way, Work};
+use crate::work::{each, float_of, with_digit, with_eight, Way, Work};
 
 /// An iterator over the digits of a component of a number.
 pub trait Digits<'a>: Iterator<Item = &'a u8> {
@@ -16,6 +16,9 @@ pub trait Digits<'a>: Iterator<Item = &'a u8> {
     fn is_digit(&self, byte: u8) -> bool;
     /// Passes the zeros that come next, and counts each. Answers how many they are.
     fn skip_zeros(&mut self) -> usize;
+    /// Passes the next eight bytes, and answers them as a number. `None` if fewer are left or the
+    /// component has a flag.
+    fn pass_eight(&mut self) -> Option<u64>;
 }
 
 /// A text with a cursor, which its iterators share.
@@ -44,6 +47,7 @@ pub fn drained<B: Buffers>(work: Work, word: u128) -> Way {
         Work::Number => Box::new(move |text| number::<B>(&text.bytes, word)),
         Work::Peeked => Box::new(move |text| peeked::<B>(&text.bytes, word)),
         Work::Handed => Box::new(move |text| handed::<B>(&text.bytes, word)),
+        Work::Eights => Box::new(move |text| eights::<B>(&text.bytes, word)),
         Work::Numbers => on_each(move |text| number::<B>(text, word)),
         Work::Stopped => on_each(move |text| stopped::<B>(text, word)),
         Work::Literals => on_each(move |text| literal::<B>(text, word)),
@@ -118,6 +122,19 @@ fn integer_number<'a>(bytes: &mut impl Buffer<'a>) -> u64 {
         number = with_digit(number, byte);
     }
     number
+}
+
+/// The number that eight bytes at a time make.
+#[inline(always)]
+fn eights<B: Buffers>(text: &[u8], word: u128) -> Outcome {
+    let mut bytes = B::Bytes::over(text, word);
+    let mut number = 0u64;
+    let mut iter = bytes.integer();
+    while let Some(eight) = iter.pass_eight() {
+        number = with_eight(number, eight);
+    }
+    drop(iter);
+    outcome(number, &mut bytes)
 }
 
 /// The number that the digits make which come first.

@@ -8,8 +8,8 @@ use crate::texts::{
 use crate::word::{I, IC, ILTC, I_16, I_IN_ALL, NONE};
 use crate::work::Sides;
 use crate::work::Work::{
-    Cleared, Counted, Digits, Floats, FloatsOf, Handed, Literals, Mantissas, Number, Numbers,
-    Parsed, Peeked, Signed, Stopped, Sum, Zeros,
+    Cleared, Counted, Digits, Eights, Floats, FloatsOf, Handed, Literals, Mantissas, Number,
+    Numbers, Parsed, Peeked, Signed, Stopped, Sum, Zeros,
 };
 
 /// The greatest wanted ratio of the library, with its word at run time, to the floor.
@@ -96,7 +96,7 @@ fn short_texts() -> Vec<Case> {
     ]
 }
 
-/// Long texts, by `peek` and `next`, and where the `Bytes` is handed in.
+/// Long texts, by `peek` and `next`, where the `Bytes` is handed in, and eight bytes at a time.
 fn other_calls() -> Vec<Case> {
     vec![
         Case::new("h: no flags, digits, peeked", digits, Sides::skip::<NONE>(Peeked)),
@@ -106,6 +106,7 @@ fn other_calls() -> Vec<Case> {
         Case::new("i: no flags, digits, handed in", digits, Sides::skip::<NONE>(Handed)),
         Case::new("i: I, digits, handed in", digits, Sides::skip::<I>(Handed)),
         Case::new("i: I, each third, handed in", each_third, Sides::skip::<I>(Handed)),
+        Case::new("r: no flags, digits, eight at a time", digits, Sides::skip::<NONE>(Eights)),
     ]
 }
 

@@ -4,7 +4,7 @@
 use crate::library::Outcome;
 use crate::texts::Text;
 use crate::word::{Class, Rule};
-use crate::work::{each, float_of, with_digit, Way, Work};
+use crate::work::{each, float_of, with_digit, with_eight, Way, Work};
 
 /// The work by a filter, where there is one.
 pub fn filtered<const WORD: u128>(work: Work) -> Option<Way> {
@@ -17,6 +17,7 @@ pub fn filtered<const WORD: u128>(work: Work) -> Option<Way> {
         Work::Number | Work::Peeked | Work::Handed => {
             Some(Box::new(|text| of_value(number::<WORD>(&text.bytes))))
         }
+        Work::Eights => Some(Box::new(|text| of_value(number_of_eights(&text.bytes)))),
         Work::Numbers => Some(Box::new(|text| each(text, |text| of_value(number::<WORD>(text))))),
         Work::Literals => Some(Box::new(|text| each_parsed(text, Rule::<WORD>::RADIX))),
         Work::Floats | Work::FloatsOf => Some(Box::new(|text| each(text, float::<WORD>))),
@@ -72,6 +73,16 @@ fn sum_of_numbers<const WORD: u128>(text: &[u8]) -> u64 {
 fn number<const WORD: u128>(text: &[u8]) -> u64 {
     let mut number = 0;
     filter::<WORD>(text, |byte| number = with_digit(number, byte));
+    number
+}
+
+#[inline(always)]
+fn number_of_eights(text: &[u8]) -> u64 {
+    let (mut number, mut rest) = (0, text);
+    while let Some((eight, others)) = rest.split_first_chunk() {
+        number = with_eight(number, u64::from_le_bytes(*eight));
+        rest = others;
+    }
     number
 }
 

@@ -146,6 +146,16 @@ impl<'a, const WORD: u128, const COMPONENT: u32> Digits<'a>
         }
         zeros
     }
+
+    #[inline(always)]
+    fn pass_eight(&mut self) -> Option<u64> {
+        if !Rule::<WORD, COMPONENT>::CONTIGUOUS {
+            return None;
+        }
+        let eight = self.bytes.text[self.bytes.index..].first_chunk()?;
+        self.bytes.index += 8;
+        Some(u64::from_le_bytes(*eight))
+    }
 }
 
 impl<'a, const WORD: u128, const COMPONENT: u32> Iterator

@@ -206,6 +206,16 @@ impl<'a, const COMPONENT: u32> Digits<'a> for ComponentDigits<'a, '_, COMPONENT>
         }
         zeros
     }
+
+    #[inline(always)]
+    fn pass_eight(&mut self) -> Option<u64> {
+        if !self.rule.is_contiguous() {
+            return None;
+        }
+        let eight = self.bytes.text[self.bytes.index..].first_chunk()?;
+        self.bytes.index += 8;
+        Some(u64::from_le_bytes(*eight))
+    }
 }
 
 impl<'a, const COMPONENT: u32> Iterator for ComponentDigits<'a, '_, COMPONENT> {

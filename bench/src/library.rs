@@ -46,6 +46,7 @@ exports! {
         digit_bench_number
         digit_bench_peeked
         digit_bench_handed
+        digit_bench_eights
         digit_bench_cleared
         digit_bench_plain_sum
         digit_bench_plain_number

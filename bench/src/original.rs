@@ -67,4 +67,12 @@ impl<'a, I: DigitsIter<'a>> Digits<'a> for I {
     fn skip_zeros(&mut self) -> usize {
         DigitsIter::skip_zeros(self)
     }
+
+    #[inline(always)]
+    fn pass_eight(&mut self) -> Option<u64> {
+        let eight = self.peek_u64()?;
+        // SAFETY: eight bytes are left, since `peek_u64` answered them.
+        unsafe { self.step_by_unchecked(8) };
+        Some(u64::from_le(eight))
+    }
 }

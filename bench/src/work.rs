@@ -22,6 +22,8 @@ pub enum Work {
     Peeked,
     /// Makes the number in a function that isn't inlined and is handed the `Bytes`.
     Handed,
+    /// Makes a number of eight bytes at a time: the library counts them by `increment_count_of`.
+    Eights,
     /// Makes a number of each of many short texts, and adds these up.
     Numbers,
     /// Makes a number of the digits that begin each of many texts, by `peek`, `is_digit` and
@@ -143,6 +145,7 @@ fn skipping(work: Work, format: Format) -> Way {
         Work::Number => exported(library::digit_bench_number, format),
         Work::Peeked => exported(library::digit_bench_peeked, format),
         Work::Handed => exported(library::digit_bench_handed, format),
+        Work::Eights => exported(library::digit_bench_eights, format),
         Work::Numbers => exported_many(library::digit_bench_numbers, format),
         Work::Stopped => exported_many(library::digit_bench_stopped, format),
         Work::Literals => exported_many(library::digit_bench_literals, format),
@@ -180,6 +183,12 @@ fn original<const WORD: u128>(_work: Work) -> Option<Way> {
 #[inline(always)]
 pub fn with_digit(number: u64, byte: u8) -> u64 {
     number.wrapping_mul(10).wrapping_add(u64::from(byte))
+}
+
+/// The number that has eight bytes more.
+#[inline(always)]
+pub fn with_eight(number: u64, eight: u64) -> u64 {
+    number.wrapping_mul(31).wrapping_add(eight)
 }
 
 /// The three components of a number as one value.

@@ -95,6 +95,27 @@ impl Work for Stopped {
     }
 }
 
+/// Makes a number of eight bytes at a time, by `peek_u64`. The digits are counted by
+/// `increment_count_of`.
+struct Eights;
+
+impl Work for Eights {
+    #[inline(always)]
+    fn on<F: Format>(text: &[u8], format: F) -> Outcome {
+        let mut bytes = Bytes::new(text, format.word());
+        let mut number: u64 = 0;
+        for _ in 0..text.len() {
+            let Some(eight) = bytes.peek_u64() else {
+                break;
+            };
+            number = number.wrapping_mul(31).wrapping_add(eight);
+            bytes.step_by_unchecked(8);
+            bytes.increment_count_of(Component::Integer, 8);
+        }
+        drained(number, &bytes)
+    }
+}
+
 /// Reads the numbers of a text by one `Bytes`, and clears its counts after each. The byte that ends
 /// a number is taken too. The count is where the last one ends.
 struct Cleared;
@@ -162,6 +183,17 @@ pub extern "C" fn digit_bench_handed(
     outcome: &mut Outcome,
 ) {
     *outcome = run::<Handed>(text, low, high, is_constant);
+}
+
+#[unsafe(no_mangle)]
+pub extern "C" fn digit_bench_eights(
+    text: &[u8],
+    low: u64,
+    high: u64,
+    is_constant: u32,
+    outcome: &mut Outcome,
+) {
+    *outcome = run::<Eights>(text, low, high, is_constant);
 }
 
 #[unsafe(no_mangle)]
