@@ -1,19 +1,18 @@
 -- It refuses, or answers what the inner allocator answers. Assumes `Logic`.
-use Rattle.std.proofs.Common.{◌≡◌, ℕ, List, [], ◌∷◌, refl, ap, Bool, ◌+◌, ◌^◌, ◌<◌, true, false, Ok, Err, w64, Bor}
+use Rattle.std.proofs.Common.{◌≡◌, ℕ, List, [], ◌∷◌, refl, Bool, ◌+◌, ◌^◌, ◌<◌, true, false, Ok, Err, w64, Bor}
 use seplogic.Ra.Ura.{Ura}
 use mir.Val.{Val, vbool, vptr, vint}
-use base.Logic.{SProp, ent, ex, sep, guard, id⊢}
-use base.Fml.{Lft, Share, ftrue, fsep, flft}
+use base.Logic.{SProp, ent, id⊢}
+use base.Fml.{Lft, Share, ftrue, flft}
 use prog.Memory.{Memory, size, align, capped, up}
 use prog.Routine.{Routine}
-use types.Logic.{Logic, sem}
+use types.Logic.{Logic}
 use contract.Monad.{Fun, fact}
-use types.Kit.{‵, ◌⊛◌, some, later, ◌$◌, ◌∵◌, !, qed, move, keep, use1, split, join, pick, fjoin, feq_i, feq_l, show, check, await, updating, now as at_once, done, raw, at_ret, given, learn, drop, use0, use2, split3, fsplit, suffices}
-use denote.RattleType.{RattleType, owns}
-use denote.Memory.{hidden_shr}
-use denote.Builtin.{u64, bool, usize, RefOf}
-use denote.Steps.{nothing, only, heard}
-use denote.Triple.Statement.{Contract, Triple}
+use types.Kit.{‵, ◌⊛◌, some, later, ◌$◌, ◌∵◌, !, qed, move, keep, use1, split, join, pick, fjoin, await, done, raw, at_ret, given, learn, use0, use2, fsplit, suffices}
+use denote.RattleType.{owns}
+use denote.Builtin.{usize, RefOf}
+use denote.Steps.{nothing, heard}
+use denote.Triple.Statement.{Triple}
 use denote.Triple.Spec.{triple_of}
 use mir.Syntax.{Ty, Args, Fn, a_type, dnil, dcons}
 use mir.MapTy.{inst_fn}
@@ -37,8 +36,6 @@ use Rattle.std.proofs.alloc.Shapes.{after}
 use denote.RawPtr.{block_ptr}
 use denote.Triple.Call.{calls_at}
 use Rattle.std.proofs.alloc.Calls.{Al, α, seen, Answer, answer_val, Answer-typed, Answer-Ok, Answer-err, takes_key, Takes, at_takes, Answered, Takes-goes, Takes-gives, answers}
-use Rattle.std.specs.contracts.cell.Cell as CE
-use Rattle.digit_drain.specs.contracts.tests.limited.refuses as TK
 use Rattle.digit_drain.proofs.tests.limited.refuses.Symbol as c_sym
 use Rattle.digit_drain.proofs.tests.limited.refuses.Met as c_met
 use Rattle.digit_drain.specs.contracts.tests.limited.Limited as wrapper
@@ -46,51 +43,7 @@ use Rattle.digit_drain.specs.contracts.tests.limited.LimitedAllocator.allocate a
 use Rattle.digit_drain.specs.contracts.tests.limited.LimitedAllocator.allocate.Key as key
 use Rattle.digit_drain.proofs.tests.limited.LimitedAllocator.allocate.Statement as stated
 use Rattle.digit_drain.proofs.tests.limited.LimitedAllocator.allocate.Code as code
-
-abbrev Left : RattleType
-Left = CE.the_row u64
-
-module _ {M : Type 1} {𝓤 : Ura M} (𝓛 : Logic 𝓤) (at_mem : Memory → SProp 𝓤)
-    (run : Routine → Fun 𝓤) where
-  abbrev Refuses : Contract 𝓤
-  Refuses = triple_of 𝓛 TK.signature (TK.spec 𝓛 at_mem run)
-
-  abbrev at_refuses : Lft → Share → ℕ × ℕ → Refuses.Ghost
-  at_refuses κ q c = (
-    (
-      (κ, tt),
-      (q, tt),
-      tt,
-      (record { ref_ptr = c; now = record { value = tt } }, tt),
-      (vptr c.0 c.1 ∷ [], tt),
-    ),
-    tt,
-  )
-
-module _ {M : Type 1} {𝓤 : Ura M} (𝓛 : Logic 𝓤) (at_mem : Memory → SProp 𝓤) (run : Routine → Fun 𝓤)
-    (κ : Lft) (q : Share) (c : ℕ × ℕ) where
-  open 𝓛 use {H, A}
-
-  Refuses-goes : ent 𝓤 (sep 𝓤 (sem 𝓛 (hidden_shr Left κ (record { value = tt }) c.0 c.1))
-      (A.lft κ q)) ((Refuses 𝓛 at_mem run).pre (at_refuses 𝓛 at_mem run κ q c))
-  Refuses-goes =
-      qed 𝓛 (‵ (hidden_shr Left κ (record { value = tt }) c.0 c.1) ∷ ‵ (flft κ q) ∷ []) ∵ feq_i !
-      (List Val) (vptr c.0 c.1 ∷ []) (vptr c.0 c.1 ∷ []) refl $ fjoin ! $
-      nothing ! $ move ! (1 ∷ []) $ fjoin ! $ nothing ! $ move ! (2 ∷ []) $ join ! $ join ! $
-      nothing ! $ move ! (1 ∷ []) $ done !
-
-  Refuses-gives : (v : Val)
-      → ent 𝓤 ((Refuses 𝓛 at_mem run).post (at_refuses 𝓛 at_mem run κ q c) v)
-      (H.⇛ (ex 𝓤 (λ (r : Bool). guard 𝓤 (v ≡ vbool r) (A.lft κ q))))
-  Refuses-gives v =
-      qed 𝓛 (types.Kit.raw ((Refuses 𝓛 at_mem run).post (at_refuses 𝓛 at_mem run κ q c) v) ∷ []) ∵
-      updating ! $
-      use1 𝓛 (later (some (λ (r : Bool). ((‵ (flft κ q) ⊛ ‵ ftrue) ⊛ ‵ (bool.own_val r (v ∷ []))) ⊛
-      some (λ (ws : Unit {0} × Unit {0}). ‵ (fsep ftrue ftrue) ⊛ ‵ ftrue)))) (id⊢ 𝓤 _) $ await !
-      tt $ pick ! (λ r.
-      split ! $ split ! $ move ! (1 ∷ []) $ feq_l !
-      (λ e. split ! $ at_once ! $ show ! (λ (r : Bool). guard 𝓤 (v ≡ vbool r) (A.lft κ q)) r $
-      check ! (ap only e) $ keep ! (0 ∷ []) $ done !))
+use Rattle.digit_drain.proofs.tests.limited.Refusing.{Refuses, at_refuses, Refuses-goes, Refuses-gives}
 
 module _ (Z : Al) where
   abbrev args : Args
