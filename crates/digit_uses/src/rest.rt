@@ -8,7 +8,7 @@ ghost use Rattle.lexical_digits.specs.declared.skip.component.Component.TheVaria
 ghost use Rattle.lexical_digits.specs.Separators.{is_digit};
 ghost use Rattle.lexical_digits.specs.State.{rule_of};
 ghost use Rattle.lexical_digits.specs.Stop.{stop};
-ghost use Rattle.digit_literals.specs.Integers.{IsInteger};
+ghost use Rattle.digit_literals.specs.Integers.{IsInteger, HasNoDigit, IsTooLarge};
 ghost use Rattle.digit_literals.specs.Outcomes.{IfEmpty, IfOverflow};
 
 use digit_literals::{LiteralError, pass_digits, read_integer};
@@ -30,12 +30,15 @@ pub fn number_end(text: &[u8], word: u128, from: usize) -> usize
     from + bytes.cursor()
 }
 
-/// The integer at the start of a text. Of a fault it says only where it is.
+/// The integer at the start of a text. Of a fault it also says that its position is in the text, or
+/// at most at its end where there is no digit.
 pub fn read_or_where(text: &[u8], word: u128) -> Result<(u64, usize), LiteralError>
     requires { IsTrue (is_supported word) }
     ensures ok { IfOk result (λ read. IsInteger (rule_of word Integer) text.now read.0 read.1) }
-    ensures empty { IfEmpty result (λ at. at ≤ length text.now) }
-    ensures overflow { IfOverflow result (λ at. at < length text.now) }
+    ensures empty { IfEmpty result (λ at. HasNoDigit (rule_of word Integer) text.now at) }
+    ensures overflow { IfOverflow result (λ at. IsTooLarge (rule_of word Integer) text.now at) }
+    ensures empty_within { IfEmpty result (λ at. at ≤ length text.now) }
+    ensures overflow_within { IfOverflow result (λ at. at < length text.now) }
 {
     read_integer(text, word)
 }
