@@ -1,15 +1,14 @@
 -- Rows of the call table, as the script makes them.
-use Rattle.std.proofs.Common.{Bool, false, cond, subst, [], ◌++◌, ◌≤◌, append_assoc, ◌≡◌, ℕ, ◌+◌, ◌*◌, true, refl, arith, ap, sym, ℤ, pos, ◌≤ℤ◌, ◌+ℤ◌, length, ◌∙◌, ◌<◌, List, ◌∷◌, map, drop, get_or, add-one, drop-cons, Option}
+use Rattle.std.proofs.Common.{Bool, false, cond, subst, [], ◌++◌, ◌≤◌, append_assoc, ◌≡◌, ℕ, ◌+◌, ◌*◌, true, refl, arith, ap, sym, ℤ, pos, ◌≤ℤ◌, ◌+ℤ◌, length, ◌∙◌, ◌<◌, List, ◌∷◌, map, drop, get_or, add-one, drop-cons}
 use Rattle.std.proofs.Math.Nat.{mul-add}
 use Rattle.std.proofs.lemmas.Int.{ints}
 use Rattle.lexical_digits.specs.declared.skip.component.Component.{Component}
-use Rattle.lexical_digits.specs.declared.skip.component.Component.TheVariants.{Special}
 use Rattle.lexical_format.specs.Word.{separator}
 use Rattle.lexical_digits.specs.Separators.{is_digit, is_separator}
 use Rattle.lexical_digits.specs.Cursor.{zeros, after_zeros}
-use Rattle.lexical_digits.specs.State.{State, IsState, with_cursor, is_special, is_contiguous, current_count, rule, cut_end}
+use Rattle.lexical_digits.specs.State.{State, IsState, with_cursor, is_contiguous, current_count, rule, cut_end}
 use Rattle.lexical_digits.specs.Laws.Table.{taken_buffer, with_own_buffer}
-use Rattle.lexical_digits.specs.CallTable.{Part, Call, OnBytes, On, SkipZeros, TakeN, Refused, view, after_view, view_answer, row, row_of, run_of, shared_row, contiguous_on, count_on, place_of, settled, counted, taken, zeros_of, past_zeros_of}
+use Rattle.lexical_digits.specs.CallTable.{Part, Call, OnBytes, Refused, after_view, row, row_of, run_of, shared_row, contiguous_on, count_on, place_of, settled, counted, taken, zeros_of, past_zeros_of}
 use Rattle.lexical_digits.specs.Looks.{Held, owed}
 use Rattle.lexical_digits.proofs.Looks.Owing.{looks_within}
 use Rattle.lexical_digits.proofs.Calls.ItemsOfComponents.{zeros_are, after_zeros_are}

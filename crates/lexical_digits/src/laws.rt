@@ -20,11 +20,8 @@ pub mod equality;
 
 use crate::iterator::{DigitsBodies, DigitsIter};
 use crate::on_iterator;
+use crate::skip::Bytes;
 pub use crate::skip::Component;
-use crate::skip::{
-    Bytes, ExponentDigitsIterator, FractionDigitsIterator, IntegerDigitsIterator,
-    SpecialDigitsIterator,
-};
 
 /// Peeks twice, and answers both bytes: they are the same, and the second `peek` leaves what the
 /// first left. `again` and `same_byte` say it of the states: a `peek` after a `peek` changes

@@ -1,7 +1,6 @@
 -- Flags by name, and what the words with names are made of.
-use Rattle.std.specs.Prelude.{◌≡◌, ℕ, true, false, IsTrue}
+use Rattle.std.specs.Prelude.{ℕ, true, false, IsTrue}
 use Rattle.lexical_format.specs.declared.builder.DigitSeparatorFlags.{DigitSeparatorFlags}
-use Rattle.lexical_format.specs.declared.builder.NumberFormatBuilder.{NumberFormatBuilder}
 use Rattle.lexical_format.specs.Word.{is_supported}
 use Rattle.lexical_format.specs.Builder.{Says}
 

@@ -1,29 +1,21 @@
 -- `skip` and the plain cursor answer alike where a word has no separator, no flag and one radix:
 -- call by call, and so for every list.
-use Rattle.std.proofs.Common.{◌≡◌, ℕ, suc, ◌+◌, ◌-◌, ◌<◌, ◌≤◌, Bool, true, false, cond, nat_le, Option, None, List, [], ◌∷◌, length, take, refl, sym, ap, subst, nat_eq, length-drop, ◌∙◌, arith, ◌⊎◌, inl, inr}
-use Rattle.std.specs.Prelude.{is_none, is_some}
-use Rattle.std.specs.Int.{w32, w64}
+use Rattle.std.proofs.Common.{◌≡◌, ℕ, suc, ◌+◌, ◌-◌, ◌≤◌, Bool, true, List, [], ◌∷◌, length, refl, sym, ap, subst, nat_eq, length-drop, ◌∙◌, arith}
 use Rattle.std.specs.List.{AllPass}
 use Rattle.std.proofs.Math.Bool.{and-true}
-use Rattle.std.proofs.lemmas.Bool.{cases_lt, leb-true}
-use Rattle.std.proofs.lemmas.Option.{slice_get_past, gets}
+use Rattle.std.proofs.lemmas.Option.{gets}
 use Rattle.std.proofs.lemmas.Bool.Decides.{nat_tests}
 use Rattle.std.proofs.lemmas.List.Sums.{prefix_len-le-length}
-use Rattle.lexical_format.specs.Digits.{is_digit_of_radix}
 use Rattle.lexical_digits.specs.declared.skip.component.Component.{Component}
 use Rattle.lexical_digits.specs.declared.skip.component.Component.TheVariants.{Integer, Fraction, Exponent, Special}
-use Rattle.lexical_digits.specs.declared.skip.rule.Rule.{Rule}
 use Rattle.lexical_digits.specs.Separators.{GrantsNone}
 use Rattle.lexical_digits.specs.Separators as separators
 use Rattle.lexical_digits.specs.State.{State, own, with_own, rule, rule_of, is_contiguous, has_no_separator, count_of_all, current_count}
 use Rattle.lexical_digits.specs.State as state
-use Rattle.lexical_digits.specs.Cursor.{holds_of, byte_if, is_value, next_number}
 use Rattle.lexical_digits.specs.CallTable.{place_of, byte_at_place, settled, past_place, counted, Part, OnBytes, On, Call, Answer, Span, Count, Flag, Done, Byte, Four, Eight, View, Refused, AsSlice, GetBuffer, BufferLength, IsBufferEmpty, Cursor, SetCursor, CurrentCount, IsContiguous, First, FirstIsCased, FirstIsUncased, FirstIs, StepBy, Step, PeekU32, PeekU64, IsConsumed, IncrementCount, Peek, TryRead, Next, PeekIsCased, PeekIsUncased, PeekIs, ReadIfEqual, ReadIfNever, ReadIfValueCased, ReadIfValueUncased, ReadIfValue, SkipZeros, IsDigit, IsSign, IsDigitSeparator, TakeN, contiguous_on, count_on}
 use Rattle.lexical_digits.specs.CallTable as skip
-use Rattle.lexical_digits.specs.Laws.Table.{place_contiguous, contiguous_grants, next_count}
-use Rattle.lexical_digits.specs.Laws.Table as table
-use Rattle.lexical_plain.specs.Plain.{Plain, with_cursor, first, rest, is_digit, taken, zeros, cut_end, Row, row, within, read_where, shared_row, row_of, Ran, run_of, start, is_on_both, both_have, without_counts, IsPlainWord}
-use Rattle.lexical_plain.specs.Laws.{taken_some, taken_none}
+use Rattle.lexical_digits.specs.Laws.Table.{place_contiguous, contiguous_grants}
+use Rattle.lexical_plain.specs.Plain.{Plain, with_cursor, rest, is_digit, taken, zeros, Row, within, row_of, Ran, run_of, start, is_on_both, both_have, without_counts, IsPlainWord}
 use Rattle.lexical_plain.proofs.NoFlags.{contiguous, no_separator, zeros_all, past_zeros_all}
 
 -- the word is plain, and the cursor is within the buffer

@@ -1,4 +1,4 @@
-use Rattle.std.proofs.Common.{sym, ◌∙◌, ◌≡◌, true}
+use Rattle.std.proofs.Common.{sym, ◌∙◌}
 use Rattle.digit_script.proofs.CallEquality.{equal_calls}
 use Rattle.digit_script.proofs.same_call.Goals as goal
 

@@ -1,5 +1,5 @@
 -- Draining any component by `next` gives what the filter over the whole buffer keeps.
-use Rattle.std.proofs.Common.{◌≡◌, ℕ, ◌+◌, ◌<◌, ◌≤◌, ◌^◌, not, ◌&&◌, cond, Option, Some, None, List, [], ◌∷◌, length, get_or, drop, refl, sym, ◌∙◌, arith, inl, inr, slice_get, option_copied, Bor}
+use Rattle.std.proofs.Common.{◌≡◌, ℕ, ◌+◌, ◌<◌, ◌≤◌, ◌^◌, not, ◌&&◌, cond, Option, Some, None, List, [], ◌∷◌, length, get_or, drop, refl, sym, ◌∙◌, arith, inl, inr, option_copied, Bor}
 use Rattle.lexical_digits.specs.Laws.Terms.{gets, slice_get_within, cases_Bool, bit, Rule, Component, Special, kept_positions, drain, has_flags, State, IsState, with_cursor, rule, own, with_own, counts, count_after, is_special, place_of, settled, taken, drain_of, own_after, after_drain, byte_at_place, Takes}
 use Rattle.lexical_digits.specs.Laws.Kept.{CountsOrIgnores}
 use Rattle.lexical_digits.proofs.Rule.Drain.{counted, counted_at_place, counted_at_end, digits_from_place, positions_at_place, positions_at_end}

@@ -1,9 +1,8 @@
 -- What a read owes: a run that it scans lies behind what was scanned before.
 use Rattle.std.proofs.Common.{◌&&◌, ap, ◌≡◌, ℕ, ◌+◌, ◌-◌, ◌^◌, ◌≤◌, min, Bool, true, false, not, ltb, Option, Some, None, List, length, refl, sym, ◌∙◌, arith, pos, ◌≤ℤ◌, ◌+ℤ◌, ◌*◌, is_some, slice_get}
 use Rattle.std.proofs.Math.Bool.{and-not_self}
-use Rattle.lexical_digits.specs.Laws.Terms.{Rule, Component, Integer, Fraction, Exponent, Special, separator, State, rule, rule_of, own, saturating, place, place_of, byte_at_place, settled, separator_at, IsRunOrNone, run_holds, run_length, scans, Finds, one_if, far, owed_by, Held, owed, Costs, Unread, Remembers, has_scanned, needs_run, FollowsDigit, not-true, false≢true, and_left, and_parts, lt-ltb, nat_tests, ints, slice_get_cases}
+use Rattle.lexical_digits.specs.Laws.Terms.{Component, separator, State, rule, rule_of, own, saturating, place_of, byte_at_place, settled, separator_at, IsRunOrNone, run_holds, run_length, scans, Finds, one_if, far, owed_by, Held, owed, Costs, Unread, Remembers, has_scanned, needs_run, FollowsDigit, not-true, false≢true, and_left, and_parts, lt-ltb, nat_tests, ints, slice_get_cases}
 use Rattle.lexical_digits.specs.declared.skip.decision.Run.{Run}
-use Rattle.lexical_digits.specs.Laws.Place.{place_high}
 use Rattle.lexical_digits.specs.Laws.Table.{place_from}
 
 -- all components have the separator of the word
