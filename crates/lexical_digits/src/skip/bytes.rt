@@ -188,7 +188,7 @@ impl<'a> Bytes<'a> {
         ensures unread { Unread self.old self.new }
         ensures owes { owed self.new ≤ℤ owed self.old }
     {
-        self.tally.raise(component, digits);
+        self.tally.add_digits(component, digits);
     }
 
     /// Sets the three counts to 0, for a number that begins at the cursor. Its separators are then

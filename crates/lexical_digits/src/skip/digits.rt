@@ -27,7 +27,7 @@ impl<'a> Bytes<'a> {
     pub fn integer_iter<'b>(&'b mut self) -> IntegerDigitsIterator<'a, 'b>
         ensures { Makes self.entry result.byte }
     {
-        self.hand_to(Component::Integer);
+        self.read_as(Component::Integer);
         IntegerDigitsIterator { byte: self }
     }
 
@@ -41,7 +41,7 @@ impl<'a> Bytes<'a> {
     pub fn fraction_iter<'b>(&'b mut self) -> FractionDigitsIterator<'a, 'b>
         ensures { Makes self.entry result.byte }
     {
-        self.hand_to(Component::Fraction);
+        self.read_as(Component::Fraction);
         FractionDigitsIterator { byte: self }
     }
 
@@ -55,7 +55,7 @@ impl<'a> Bytes<'a> {
     pub fn exponent_iter<'b>(&'b mut self) -> ExponentDigitsIterator<'a, 'b>
         ensures { Makes self.entry result.byte }
     {
-        self.hand_to(Component::Exponent);
+        self.read_as(Component::Exponent);
         ExponentDigitsIterator { byte: self }
     }
 
@@ -69,7 +69,7 @@ impl<'a> Bytes<'a> {
     pub fn special_iter<'b>(&'b mut self) -> SpecialDigitsIterator<'a, 'b>
         ensures { Makes self.entry result.byte }
     {
-        self.hand_to(Component::Special);
+        self.read_as(Component::Special);
         SpecialDigitsIterator { byte: self }
     }
 }

@@ -100,7 +100,7 @@ impl<'a> Bytes<'a> {
             return self.peek_unflagged(component);
         }
         if !self.tally.is_reader(component) {
-            let rule = self.take_over(component);
+            let rule = self.switch_reader(component);
             return self.peek_decided(component, rule, false);
         }
         let byte = byte_at(self.slc, self.tally.index)?;
@@ -132,7 +132,7 @@ impl<'a> Bytes<'a> {
             return self.next_unflagged(component);
         }
         if !self.tally.is_reader(component) {
-            let rule = self.take_over(component);
+            let rule = self.switch_reader(component);
             return self.next_decided(component, rule, false);
         }
         let byte = byte_at(self.slc, self.tally.index)?;
@@ -178,26 +178,26 @@ impl<'a> Bytes<'a> {
 
     /// Lets a component read from the cursor on, if another one read before.
     #[inline(always)]
-    pub(crate) fn hand_to(&mut self, component: Component)
+    pub(crate) fn read_as(&mut self, component: Component)
         ensures state { self.new.state ≡ self.old.state }
         ensures unread { Unread self.old self.new }
     {
         if !self.tally.is_reader(component) {
-            self.take_over(component);
+            self.switch_reader(component);
         }
     }
 
     /// Lets a component read from the cursor on: stores the count of the one that read before, and
     /// answers the rule of this one. Counts no digit and no look.
     #[inline(always)]
-    fn take_over(&mut self, component: Component) -> Rule
+    fn switch_reader(&mut self, component: Component) -> Rule
         ensures rule { result ≡ rule_of self.old.state.word component }
         ensures state { self.new.state ≡ self.old.state }
         ensures unread { Unread self.old self.new }
     {
         let rule = Rule::of(self.format, component);
         let is_counting = rule.counts(component);
-        self.tally.hand_over(component, is_counting);
+        self.tally.set_reader(component, is_counting);
         self.shortcuts = Shortcuts::of(rule, is_counting);
         self.rule = rule;
         rule

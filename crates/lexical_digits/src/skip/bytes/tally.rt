@@ -103,7 +103,7 @@ impl Tally {
     /// Makes a component the reader, from the cursor on, and stores the counts. Counts no digit and
     /// no look.
     #[inline(always)]
-    pub(super) fn hand_over(&mut self, reader: Component, is_counting: bool)
+    pub(super) fn set_reader(&mut self, reader: Component, is_counting: bool)
         ensures state { (buffer : List ℕ) → (word : ℕ) →
             state_of buffer word self.new ≡ state_of buffer word self.old }
         ensures index { self.new.index ≡ self.old.index }
@@ -164,7 +164,7 @@ impl Tally {
 
     /// Counts that many digits for a component.
     #[inline(always)]
-    pub(super) fn raise(&mut self, component: Component, digits: usize)
+    pub(super) fn add_digits(&mut self, component: Component, digits: usize)
         ensures { let raised = counted_by digits component in
             Leaves self.old self.new raised self.old.index (looks_of self.old) }
     {
@@ -232,7 +232,7 @@ impl Tally {
         self.counted_from += 1;
         self.looked_from += 1;
         if is_counted {
-            self.raise(component, 1);
+            self.add_digits(component, 1);
         }
     }
 }

@@ -8,9 +8,9 @@ unfolding integer_of fraction_of exponent_of looks_of
 returns-then-is_counted c = record {
   state = λ (buffer : List ℕ) (word : ℕ). rw c.if-is_counted.true
       (counted_after c.args.component (state_of buffer word c.args.self.now) _ _ _
-      (search rules) (c.raise.ensures.state buffer word));
-  index = c.raise.ensures.index;
+      (search rules) (c.add_digits.ensures.state buffer word));
+  index = c.add_digits.ensures.index;
   looks = search rules;
-  reader = c.raise.ensures.reader;
-  is_counting = c.raise.ensures.is_counting;
+  reader = c.add_digits.ensures.reader;
+  is_counting = c.add_digits.ensures.is_counting;
 }

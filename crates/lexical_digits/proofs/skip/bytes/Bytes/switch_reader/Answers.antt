@@ -1,7 +1,7 @@
 use Rattle.std.proofs.Common.{sym}
 use Rattle.lexical_digits.proofs.Rule.Supported.{supported_by}
 use Rattle.lexical_digits.proofs.Fields.CarriedByCursor.{reading_of}
-use Rattle.lexical_digits.proofs.skip.bytes.Bytes.take_over.Goals as goal
+use Rattle.lexical_digits.proofs.skip.bytes.Bytes.switch_reader.Goals as goal
 
 pub of-self-inside-requires : goal.of-self-inside-requires
 of-self-inside-requires c =
@@ -10,7 +10,7 @@ of-self-inside-requires c =
 pub invariant_of-self-inside : goal.invariant_of-self-inside
 invariant_of-self-inside c =
     let b = c.self.inside in
-    let hands = c.hand_over.ensures in
+    let hands = c.set_reader.ensures in
     let cuts = c.of-self-inside.ensures in
     let counting = rw c.of-rule.ensures at c.counts-is_counting.ensures in
     let reading = reading_of c.args.component _ b.format _ _ _ _ c.of-rule.ensures counting
@@ -19,4 +19,4 @@ invariant_of-self-inside c =
 
 pub returns-clause-state : goal.returns-clause-state
 returns-clause-state c =
-    rw (sym c.self.view_is) (c.hand_over.ensures.state c.self.inside.slc.now c.self.inside.format)
+    rw (sym c.self.view_is) (c.set_reader.ensures.state c.self.inside.slc.now c.self.inside.format)
