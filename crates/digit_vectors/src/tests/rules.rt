@@ -113,23 +113,23 @@ static STATES: [(u128, [&str; 8]); 16] = [
     (ALL, ["45", "45", "45", "45", "45", "45", "", ""]),
 ];
 
-/// Whether a state of the flags yields these bytes of the eight texts.
-fn state_holds(flags: u128, kept: &[&str; 8]) -> bool {
+/// The first of the eight texts that yields other bytes in a state of the flags.
+fn wrong_text(flags: u128, kept: &[&str; 8]) -> Option<&'static str> {
     for ((text, digits), kept) in TEXTS.iter().zip(kept) {
         let count = if flags == 0 { 0 } else { *digits };
         let word = UNFLAGGED | flags;
         if !is_drained(word, text.as_bytes(), (0, 0), kept.as_bytes(), count) {
-            return false;
+            return Some(text);
         }
     }
-    true
+    None
 }
 
-/// The first state that doesn't.
-fn wrong_state() -> Option<u128> {
-    for (flags, kept) in &STATES {
-        if !state_holds(*flags, kept) {
-            return Some(*flags);
+/// The first row of [`STATES`], from 0, with such a text, and that text.
+fn wrong_state() -> Option<(usize, &'static str)> {
+    for (row, (flags, kept)) in STATES.iter().enumerate() {
+        if let Some(text) = wrong_text(*flags, kept) {
+            return Some((row, text));
         }
     }
     None
@@ -170,12 +170,12 @@ static EXAMPLES: [(u128, &str, &str, usize); 26] = [
     (ALL, "__4__5__", "45", 2),
 ];
 
-/// The first example whose drain is another.
-fn wrong_example() -> Option<&'static str> {
-    for (flags, text, kept, count) in &EXAMPLES {
+/// The first row of [`EXAMPLES`], from 0, whose drain is another, and its text.
+fn wrong_example() -> Option<(usize, &'static str)> {
+    for (row, (flags, text, kept, count)) in EXAMPLES.iter().enumerate() {
         let word = UNFLAGGED | *flags;
         if !is_drained(word, text.as_bytes(), (0, 0), kept.as_bytes(), *count) {
-            return Some(text);
+            return Some((row, text));
         }
     }
     None
@@ -202,13 +202,13 @@ static FROM_WITHIN: [(u128, &str, usize, usize, &str, usize); 11] = [
     (TRAILING, "1__", 1, 0, "__", 0),
 ];
 
-/// The first of them whose drain is another.
-fn wrong_from_within() -> Option<&'static str> {
-    for (flags, text, cursor, count, kept, count_after) in &FROM_WITHIN {
+/// The first row of them, from 0, whose drain is another, and its text.
+fn wrong_from_within() -> Option<(usize, &'static str)> {
+    for (row, (flags, text, cursor, count, kept, count_after)) in FROM_WITHIN.iter().enumerate() {
         let start = (*cursor, *count);
         let word = UNFLAGGED | *flags;
         if !is_drained(word, text.as_bytes(), start, kept.as_bytes(), *count_after) {
-            return Some(text);
+            return Some((row, text));
         }
     }
     None
@@ -244,11 +244,11 @@ static OTHER_WORDS: [(u128, &[u8], &[u8], usize); 20] = [
     (JAVA_LITERAL, b"1_", b"1_", 1),
 ];
 
-/// The first of them whose drain is another.
-fn wrong_word() -> Option<&'static [u8]> {
-    for (word, text, kept, count) in &OTHER_WORDS {
+/// The first row of them, from 0, whose drain is another, and its text.
+fn wrong_word() -> Option<(usize, &'static [u8])> {
+    for (row, (word, text, kept, count)) in OTHER_WORDS.iter().enumerate() {
         if !is_drained(*word, text, (0, 0), kept, *count) {
-            return Some(text);
+            return Some((row, text));
         }
     }
     None

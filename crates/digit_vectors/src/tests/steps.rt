@@ -226,13 +226,16 @@ pub fn assert_part(rt: &impl Abort, bytes: &mut Bytes, part: Part, steps: &[Step
 
 /// Makes these calls on one part of a text.
 pub fn assert_goes(rt: &impl Abort, word: u128, text: &[u8], part: Part, steps: &[Step]) {
-    assert_part(rt, &mut bytes_of(rt, text, word), part, steps);
+    if let Some(at) = wrong_step_of(&mut bytes_of(rt, text, word), part, steps) {
+        assert!(rt; false, "step {at} on {text:?}");
+    }
 }
 
 /// Makes these calls in turn on the parts of a text, each on an iterator of its own.
 pub fn assert_turns(rt: &impl Abort, word: u128, text: &[u8], turns: &[(Part, Step)]) {
     let mut bytes = bytes_of(rt, text, word);
-    for (part, step) in turns {
-        assert_part(rt, &mut bytes, *part, &[*step]);
+    for (at, (part, step)) in turns.iter().enumerate() {
+        let wrong = wrong_step_of(&mut bytes, *part, &[*step]);
+        assert!(rt; wrong.is_none(), "turn {at} of {text:?}");
     }
 }
