@@ -1,5 +1,6 @@
 -- Digits that lead from a start on, read off the slice, with separators at most between two of
 -- them, one at a time.
+use Rattle.std.specs.Prelude.{Ok, Err}
 use Rattle.std.proofs.Common.{◌≡◌, ℕ, zero, ◌+◌, ◌-◌, ◌*◌, ◌<◌, ◌≤◌, true, false, List, [], ◌∷◌, ◌++◌, length, take, drop, refl, ap, sym, subst, ◌∙◌, arith, length-append, append-nil}
 use Rattle.std.specs.Prelude.{slice_index, Some, None, is_some}
 use Rattle.std.specs.List.{filter}
@@ -16,7 +17,8 @@ use Rattle.lexical_digits.specs.Stop.{stop}
 use Rattle.lexical_digits.specs.Laws.Kept.{count_after_positive}
 use Rattle.lexical_digits.proofs.Calls.FirstOther.{stop_is_first}
 use Rattle.digit_literals.specs.After.{digits_between}
-use Rattle.digit_literals.specs.Integers.{IsIntegerFrom, IsTooLargeFrom}
+use Rattle.digit_literals.specs.declared.LiteralError.TheVariants.{Overflow}
+use Rattle.digit_literals.specs.Integers.{IsIntegerFrom, IsTooLargeFrom, ReadsFrom}
 use Rattle.digit_literals.proofs.Values.{value_is}
 use Rattle.digit_literals.proofs.StopSteps.{stop_digit, stop_other, stop_dropped, stop_end, no_digit, dropped}
 
@@ -140,6 +142,16 @@ module _ (rule : Rule) (text : List ℕ) (start : ℕ) where
       is = so.worth;
       fits = fits;
     }
+
+  -- ---- what is answered
+
+  pub is_read : (most value at : ℕ) → IsIntegerFrom rule text start most value at
+      → ReadsFrom rule text start most (Ok (value, at))
+  is_read most value at h = record { ok = h; empty = tt; overflow = tt }
+
+  pub is_too_large : (most at : ℕ) → IsTooLargeFrom rule text start most at
+      → ReadsFrom rule text start most (Err (Overflow at))
+  is_too_large most at h = record { ok = tt; empty = tt; overflow = h }
 
   -- the end
   pub ends_with_text : (at value most : ℕ) → HasLed at value → at ≡ length text → value ≤ most

@@ -1,9 +1,11 @@
 -- What the integer is that stands in a text from a start on. No two of the three can hold of one
 -- text.
-use Rattle.std.specs.Prelude.{◌≡◌, ℕ, ◌-◌, ◌^◌, ◌<◌, ◌≤◌, List, [], length}
+use Rattle.std.specs.Prelude.{◌≡◌, ℕ, ◌-◌, ◌^◌, ◌<◌, ◌≤◌, List, [], length, Result, IfOk}
 use Rattle.std.specs.Str.Parse.{digits_value}
 use Rattle.lexical_digits.specs.declared.skip.rule.Rule.{Rule}
 use Rattle.lexical_digits.specs.Stop.{stop}
+use Rattle.digit_literals.specs.declared.LiteralError.{LiteralError}
+use Rattle.digit_literals.specs.Outcomes.{IfEmpty, IfOverflow}
 use Rattle.digit_literals.specs.After.{digits_between, ExceedsAt}
 
 module _ (rule : Rule) (text : List ℕ) (start : ℕ) where
@@ -22,6 +24,12 @@ module _ (rule : Rule) (text : List ℕ) (start : ℕ) where
   -- the one at this position is the first with which the value is above `most`
   abbrev pub IsTooLargeFrom : ℕ → ℕ → Type 0
   IsTooLargeFrom most at = ExceedsAt rule text start 0 0 most at
+
+  -- an answer says which of the three it is
+  pub record ReadsFrom (most : ℕ) (result : Result (ℕ × ℕ) LiteralError) : Type 0 where
+    pub ok : IfOk result (λ read. IsIntegerFrom most read.0 read.1)
+    pub empty : IfEmpty result HasNoDigitFrom
+    pub overflow : IfOverflow result (IsTooLargeFrom most)
 
 -- ---- what a text begins with, up to `u64::MAX`
 

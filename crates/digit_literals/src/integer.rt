@@ -7,7 +7,7 @@ ghost use Rattle.lexical_digits.specs.declared.skip.component.Component.TheVaria
 ghost use Rattle.lexical_digits.specs.Separators.{is_digit, IsSupported};
 ghost use Rattle.lexical_digits.specs.State.{rule_of};
 ghost use Rattle.digit_literals.specs.Outcomes.{IfEmpty, IfOverflow};
-ghost use Rattle.digit_literals.specs.Integers.{IsInteger, HasNoDigit, IsTooLarge, IsIntegerFrom, HasNoDigitFrom, IsTooLargeFrom};
+ghost use Rattle.digit_literals.specs.Integers.{IsInteger, HasNoDigit, IsTooLarge, ReadsFrom};
 
 use super::LiteralError;
 use super::component::read_up_to;
@@ -49,12 +49,7 @@ pub(super) fn read_from(
 ) -> Result<(u64, usize), LiteralError>
     requires supported { IsTrue (is_supported word) }
     requires within { start ≤ length text.now }
-    ensures ok { let r = rule_of word Integer in
-        IfOk result (λ read. IsIntegerFrom r text.now start most read.0 read.1) }
-    ensures empty { let r = rule_of word Integer in
-        IfEmpty result (λ at. HasNoDigitFrom r text.now start at) }
-    ensures overflow { let r = rule_of word Integer in
-        IfOverflow result (λ at. IsTooLargeFrom r text.now start most at) }
+    ensures { ReadsFrom (rule_of word Integer) text.now start most result }
 {
     // a text with another separator is read again from the start
     match read_slice(text, Rule::of(word, Component::Integer), start, most) {
@@ -73,12 +68,7 @@ fn read_bytes(
 ) -> Result<(u64, usize), LiteralError>
     requires supported { IsTrue (is_supported word) }
     requires within { start ≤ length text.now }
-    ensures ok { let r = rule_of word Integer in
-        IfOk result (λ read. IsIntegerFrom r text.now start most read.0 read.1) }
-    ensures empty { let r = rule_of word Integer in
-        IfEmpty result (λ at. HasNoDigitFrom r text.now start at) }
-    ensures overflow { let r = rule_of word Integer in
-        IfOverflow result (λ at. IsTooLargeFrom r text.now start most at) }
+    ensures { ReadsFrom (rule_of word Integer) text.now start most result }
 {
     let mut bytes = Bytes::new(text, word);
     bytes.set_cursor(start);
@@ -114,11 +104,7 @@ fn read_slice(
 ) -> Option<Result<(u64, usize), LiteralError>>
     requires supported { IsSupported rule }
     requires within { start ≤ length text.now }
-    ensures ok { IfSome result (λ r.
-        IfOk r (λ read. IsIntegerFrom rule text.now start most read.0 read.1)) }
-    ensures empty { IfSome result (λ r. IfEmpty r (λ at. HasNoDigitFrom rule text.now start at)) }
-    ensures overflow { IfSome result (λ r.
-        IfOverflow r (λ at. IsTooLargeFrom rule text.now start most at)) }
+    ensures { IfSome result (ReadsFrom rule text.now start most) }
 {
     // A compiler makes code of its own for a radix that is written out.
     if rule.radix == 10 {
@@ -141,11 +127,7 @@ fn read_radix(
     requires supported { IsSupported rule }
     requires radix { radix ≡ rule.radix }
     requires within { start ≤ length text.now }
-    ensures ok { IfSome result (λ r.
-        IfOk r (λ read. IsIntegerFrom rule text.now start most read.0 read.1)) }
-    ensures empty { IfSome result (λ r. IfEmpty r (λ at. HasNoDigitFrom rule text.now start at)) }
-    ensures overflow { IfSome result (λ r.
-        IfOverflow r (λ at. IsTooLargeFrom rule text.now start most at)) }
+    ensures { IfSome result (ReadsFrom rule text.now start most) }
 {
     let mut value = 0;
     for at in start..text.len() {
