@@ -1,8 +1,10 @@
--- The positions that `read_integer` answers are within the text. For callers.
+-- The positions that `read_integer` answers are within the text. `positions_within` is for callers.
 use Rattle.std.proofs.Common.{ℕ, ◌<◌, ◌≤◌, List, length, arith}
 use Rattle.lexical_digits.specs.declared.skip.rule.Rule.{Rule}
 use Rattle.lexical_digits.proofs.Calls.FirstOther.{stop_is_first}
+use Rattle.lexical_digits.proofs.Rule.Supported.{supported_rule}
 use Rattle.digit_literals.specs.Integers.{IsInteger, HasNoDigit, IsTooLarge}
+use Rattle.digit_literals.proofs.Calling.{stop_from, stop_within}
 
 pub integer_within : (rule : Rule) (text : List ℕ) (value end : ℕ) →
     IsInteger rule text value end → end ≤ length text
@@ -21,3 +23,6 @@ too_large_within rule text at h =
 
 -- the three, to be named in an attribute
 pub ruleset positions_within = (integer_within, no_digit_within, too_large_within)
+
+-- the same of `read_integer_from`, by its own clauses
+pub ruleset from_start = (supported_rule, stop_from, stop_within)

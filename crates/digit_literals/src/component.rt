@@ -65,13 +65,15 @@ pub fn read_digits_of(
     ensures owes { let digits = length (leading_digits_of component bytes.old.state) in
         owed bytes.new ≤ℤ (owed bytes.old +ℤ pos (8 * digits + 4)) }
 {
-    read_up_to(bytes, component, before, u64::MAX)
+    read_digits_up_to(bytes, component, before, u64::MAX)
 }
 
-/// The same up to a greatest value.
+/// [`read_digits_of`] up to a greatest value: [`TooLarge`] holds the position of the first digit
+/// with which the value is above `most`. Requires that `before` is at most `most`. Not in
+/// lexical-util.
 #[inline(always)]
 #[tactic(auto, using(crate::proofs::States::by_state))]
-pub(super) fn read_up_to(
+pub fn read_digits_up_to(
     bytes: &mut Bytes,
     component: Component,
     before: u64,

@@ -10,7 +10,7 @@ ghost use Rattle.digit_literals.specs.Outcomes.{IfEmpty, IfOverflow};
 ghost use Rattle.digit_literals.specs.Integers.{IsInteger, HasNoDigit, IsTooLarge, ReadsFrom};
 
 use super::LiteralError;
-use super::component::read_up_to;
+use super::component::read_digits_up_to;
 use super::reading::add_digit;
 use lexical_digits::iterator::Iter;
 use lexical_digits::skip::{Bytes, Component, Rule};
@@ -35,13 +35,23 @@ pub fn read_integer(text: &[u8], word: u128) -> Result<(u64, usize), LiteralErro
     ensures empty { IfEmpty result (λ at. HasNoDigit (rule_of word Integer) text.now at) }
     ensures overflow { IfOverflow result (λ at. IsTooLarge (rule_of word Integer) text.now at) }
 {
-    read_from(text, word, 0, u64::MAX)
+    read_integer_from(text, word, 0, u64::MAX)
 }
 
-/// The same of the integer from a start on, up to a greatest value.
+/// The value of the integer that begins at `start`, if it is at most `most`, and where the integer
+/// ends. It is read as by [`read_integer`], and positions count from the start of the text: the
+/// byte before `start` is the left side of a separator there. Requires that `start` is within the
+/// text and the word is supported.
+///
+/// [`Overflow`](LiteralError::Overflow) holds the first digit with which the value is above `most`.
+/// Not in lexical-util.
+///
+/// ```text
+/// `0x1_f` with internal `_` and radix 16, from 2: Ok((31, 5)); up to 9: Err(Overflow(4))
+/// ```
 #[inline(always)]
-#[tactic(auto, using(lexical_digits::proofs::Rule::Supported::supported_rule))]
-pub(super) fn read_from(
+#[tactic(auto, using(crate::proofs::Within::from_start))]
+pub fn read_integer_from(
     text: &[u8],
     word: u128,
     start: usize,
@@ -49,7 +59,13 @@ pub(super) fn read_from(
 ) -> Result<(u64, usize), LiteralError>
     requires supported { IsTrue (is_supported word) }
     requires within { start ≤ length text.now }
-    ensures { ReadsFrom (rule_of word Integer) text.now start most result }
+    ensures reads { ReadsFrom (rule_of word Integer) text.now start most result }
+    ensures end { let n = length text.now in
+        IfOk result (λ read. (start ≤ read.1) × (read.1 ≤ n)) }
+    ensures empty_at { let n = length text.now in
+        IfEmpty result (λ at. (start ≤ at) × (at ≤ n)) }
+    ensures overflow_at { let n = length text.now in
+        IfOverflow result (λ at. (start ≤ at) × (at < n)) }
 {
     // a text with another separator is read again from the start
     match read_slice(text, Rule::of(word, Component::Integer), start, most) {
@@ -72,7 +88,7 @@ fn read_bytes(
 {
     let mut bytes = Bytes::new(text, word);
     bytes.set_cursor(start);
-    let read = read_up_to(&mut bytes, Component::Integer, 0, most)?;
+    let read = read_digits_up_to(&mut bytes, Component::Integer, 0, most)?;
     let end = bytes.cursor();
     if read.count == 0 {
         return Err(LiteralError::Empty(end));
@@ -93,8 +109,8 @@ fn is_inner(text: &[u8], rule: Rule, radix: u32, at: usize) -> bool
     rule.internal && at + 1 < text.len() && char_is_digit_const(text[at + 1], radix)
 }
 
-/// The same as [`read_from`], if the integer has no separators other than lone ones between two
-/// digits, and ends at no other separator. Else `None`, as where no digit comes first.
+/// The same as [`read_integer_from`], if the integer has no separators other than lone ones between
+/// two digits, and ends at no other separator. Else `None`, as where no digit comes first.
 #[inline(always)]
 fn read_slice(
     text: &[u8],

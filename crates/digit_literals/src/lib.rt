@@ -18,8 +18,10 @@ mod integer;
 mod parse;
 mod reading;
 
-pub use self::component::{count_digits, pass_digits, pass_zeros, read_digits_of};
-pub use self::integer::read_integer;
+pub use self::component::{
+    count_digits, pass_digits, pass_zeros, read_digits_of, read_digits_up_to,
+};
+pub use self::integer::{read_integer, read_integer_from};
 pub use self::parse::{ParseError, parse_integer, parse_signed};
 pub use self::reading::{Digits, TooLarge, read_digits, read_digits_after, take_digits};
 use lexical_digits::iterator::DigitsIter;
@@ -31,7 +33,8 @@ pub enum LiteralError {
     /// The first kept byte, which is at this position, is no digit; or there is none, and this
     /// is the end.
     Empty(usize),
-    /// With the digit at this position the value is above `u64::MAX`.
+    /// With the digit at this position the value is above `u64::MAX`, or the `most` of
+    /// [`read_integer_from`].
     Overflow(usize),
 }
 

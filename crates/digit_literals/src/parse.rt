@@ -8,7 +8,7 @@ ghost use Rattle.digit_literals.specs.Integers.{IsInteger, IsIntegerFrom};
 ghost use Rattle.digit_literals.specs.Whole.{IsFault, IsFaultFrom, IsSigned, IsSignedFault, message, begins_with, sign_length, most_magnitude, signed};
 
 use super::LiteralError;
-use super::integer::read_from;
+use super::integer::read_integer_from;
 use std::error::Error;
 use std::fmt;
 
@@ -131,7 +131,7 @@ fn parse_from(text: &[u8], word: u128, start: usize, most: u64) -> Result<u64, P
     ensures fault { let r = rule_of word Integer in
         IfErr result (IsFaultFrom r text.now start most) }
 {
-    match read_from(text, word, start, most) {
+    match read_integer_from(text, word, start, most) {
         Ok((value, end)) => {
             if end == text.len() {
                 Ok(value)

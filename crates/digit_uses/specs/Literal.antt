@@ -1,10 +1,7 @@
 -- Rust's integer literals.
-use Rattle.std.specs.Prelude.{◌≡◌, ℕ, ◌<◌, Bool, true, ◌&&◌, ◌==◌, if◌then◌else◌, nat_le, List, length, slice_index}
+use Rattle.std.specs.Prelude.{ℕ, Bool, true, ◌&&◌, ◌==◌, if◌then◌else◌, nat_le, List, length, slice_index}
 use Rattle.lexical_digits.specs.declared.skip.rule.Rule.{Rule}
-use Rattle.std.specs.Str.Parse.{digits_value}
-use Rattle.lexical_digits.specs.Stop.{stop, leading_digits}
 use Rattle.digit_uses.specs.declared.literal.Base.{Base}
-use Rattle.digit_uses.specs.declared.literal.Literal.{Literal}
 use Rattle.digit_uses.specs.declared.literal.Base.TheVariants.{Binary, Octal, Decimal, Hexadecimal}
 
 abbrev pub radix_of : Base → ℕ
@@ -41,15 +38,3 @@ base_of text =
     if begins text 98 then Binary else
     if begins text 111 then Octal else
     if begins text 120 then Hexadecimal else Decimal
-
-module _ (rule : Rule) (text : List ℕ) (start : ℕ) where
-  -- the digits from a position on, of which there are some, and where they end
-  pub record IsLiteral (literal : Literal) : Type 0 where
-    pub some : 0 < length (leading_digits rule text start 0)
-    pub value : literal.value ≡ digits_value rule.radix (leading_digits rule text start 0)
-    pub end : literal.end ≡ stop rule text start 0
-
-  -- there is none before the stop, which is here
-  pub record HasNoDigit (at : ℕ) : Type 0 where
-    pub stops : at ≡ stop rule text start 0
-    pub none : length (leading_digits rule text start 0) ≡ 0

@@ -3,17 +3,15 @@
 //!
 //! Proof by hand: none.
 
-ghost use Rattle.std.specs.Prelude.{◌≡◌, ◌≤◌, length, IfOk, IsTrue};
+ghost use Rattle.std.specs.Prelude.{◌≡◌, ◌-◌, ◌^◌, ◌≤◌, length, IfOk, IsTrue};
 ghost use Rattle.lexical_format.specs.Word.{is_supported};
 ghost use Rattle.lexical_digits.specs.State.{rule_of};
 ghost use Rattle.lexical_digits.specs.declared.skip.component.Component.TheVariants.{Integer};
 ghost use Rattle.digit_literals.specs.Outcomes.{IfEmpty, IfOverflow};
-ghost use Rattle.digit_literals.specs.After.{PassesAt};
-ghost use Rattle.digit_uses.specs.Literal.{base_of, prefix_of, rule_for, IsLiteral, HasNoDigit};
+ghost use Rattle.digit_literals.specs.Integers.{IsIntegerFrom, HasNoDigitFrom, IsTooLargeFrom};
+ghost use Rattle.digit_uses.specs.Literal.{base_of, prefix_of, rule_for};
 
-use digit_literals::{LiteralError, read_digits_of};
-use lexical_digits::iterator::Iter;
-use lexical_digits::skip::{Bytes, Component};
+use digit_literals::{LiteralError, read_integer_from};
 use lexical_format::words::{
     RUST_BINARY_LITERAL, RUST_HEX_LITERAL, RUST_LITERAL, RUST_OCTAL_LITERAL,
 };
@@ -66,37 +64,18 @@ fn base_of(text: &[u8]) -> (Base, usize)
     }
 }
 
-/// The integer from a position on.
-fn read_from(text: &[u8], start: usize, word: u128) -> Result<Literal, LiteralError>
-    requires supported { IsTrue (is_supported word) }
-    requires within { start ≤ length text.now }
-    ensures ok { IfOk result (IsLiteral (rule_of word Integer) text.now start) }
-    ensures empty { IfEmpty result (HasNoDigit (rule_of word Integer) text.now start) }
-    ensures overflow { IfOverflow result (PassesAt (rule_of word Integer) text.now start 0 0) }
-{
-    let mut bytes = Bytes::new(text, word);
-    bytes.set_cursor(start);
-    let digits = read_digits_of(&mut bytes, Component::Integer, 0)?;
-    let end = bytes.cursor();
-    if digits.count == 0 {
-        return Err(LiteralError::Empty(end));
-    }
-    Ok(Literal {
-        value: digits.value,
-        end,
-    })
-}
-
 /// The integer literal at the start of a text: its base by `0b`, `0o` or `0x`, and then the digits,
 /// with `_` among them. A suffix is not read. Positions count from the start of the text.
 pub fn read_literal(text: &[u8]) -> Result<Literal, LiteralError>
     ensures ok { let b = base_of text.now in
-        IfOk result (IsLiteral (rule_for b) text.now (prefix_of b)) }
+        IfOk result (λ read. IsIntegerFrom (rule_for b) text.now (prefix_of b) (2 ^ 64 - 1)
+        read.value read.end) }
     ensures empty { let b = base_of text.now in
-        IfEmpty result (HasNoDigit (rule_for b) text.now (prefix_of b)) }
+        IfEmpty result (HasNoDigitFrom (rule_for b) text.now (prefix_of b)) }
     ensures overflow { let b = base_of text.now in
-        IfOverflow result (PassesAt (rule_for b) text.now (prefix_of b) 0 0) }
+        IfOverflow result (IsTooLargeFrom (rule_for b) text.now (prefix_of b) (2 ^ 64 - 1)) }
 {
     let (base, prefix) = base_of(text);
-    read_from(text, prefix, word_of(base))
+    let (value, end) = read_integer_from(text, word_of(base), prefix, u64::MAX)?;
+    Ok(Literal { value, end })
 }

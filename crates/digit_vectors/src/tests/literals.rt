@@ -8,7 +8,7 @@ use crate::spaced::Spaced;
 use digit_literals::equality::{same_digits, same_literal_error, same_parse_error, same_too_large};
 use digit_literals::{
     Digits, LiteralError, ParseError, TooLarge, pass_digits, read_digits, read_digits_of,
-    read_integer, take_digits,
+    read_digits_up_to, read_integer, read_integer_from, take_digits,
 };
 use lexical_digits::iterator::{DigitsIter, Iter};
 use lexical_digits::skip::Bytes;
@@ -29,6 +29,23 @@ fn assert_integer(
 ) {
     assert!(rt; is_supported(word));
     assert!(rt; read_integer(text, word) == read, "{text:?}");
+}
+
+/// The hexadecimal integer that begins at a position has this value and ends here, or there is none
+/// up to `most` for this cause.
+fn assert_integer_from(
+    rt: &impl Abort,
+    text: &[u8],
+    start: usize,
+    most: u64,
+    read: Result<(u64, usize), LiteralError>,
+) {
+    let word = (16 << 104) | (0x5f << 64) | INTERNAL;
+    assert!(rt; is_supported(word) && start <= text.len());
+    assert!(rt;
+        read_integer_from(text, word, start, most) == read,
+        "{start} {most}"
+    );
 }
 
 /// A call over the decimal digits of an iterator, with what it answers.
@@ -120,6 +137,19 @@ fn the_greatest_value_is_read_and_one_more_is_not(rt: HostRuntime) {
         parted,
         Err(LiteralError::Overflow(20)),
     );
+}
+
+#[test]
+fn an_integer_is_read_from_a_position_on_up_to_a_value(rt: HostRuntime) {
+    for (start, most, read) in [
+        (2, u64::MAX, Ok((31, 5))),
+        (2, 31, Ok((31, 5))),
+        (2, 9, Err(LiteralError::Overflow(4))),
+        (1, 9, Err(LiteralError::Empty(1))),
+        (5, 9, Err(LiteralError::Empty(5))),
+    ] {
+        assert_integer_from(&rt, b"0x1_f", start, most, read);
+    }
 }
 
 #[test]
@@ -220,6 +250,20 @@ fn digits_are_read_after_a_value(rt: HostRuntime) {
     assert!(rt; is_read_of(&mut bytes, 7, Ok(Digits { value: 7, count: 0 })));
     let mut bytes = bytes_of(&rt, b"0", word);
     assert!(rt; is_read_of(&mut bytes, u64::MAX, Err(TooLarge { at: 0 })));
+}
+
+#[test]
+fn digits_are_read_up_to_a_value(rt: HostRuntime) {
+    let mut bytes = bytes_of(&rt, b"12_5.", UNFLAGGED | INTERNAL);
+    assert!(rt; read_digits_up_to(&mut bytes, Integer, 0, 99) == Err(TooLarge { at: 3 }));
+    assert_part(&rt, &mut bytes, Part::Whole, &[Cursor(3)]);
+    assert!(rt;
+        read_digits_up_to(&mut bytes, Integer, 12, 125)
+            == Ok(Digits {
+                value: 125,
+                count: 1
+            })
+    );
 }
 
 #[test]

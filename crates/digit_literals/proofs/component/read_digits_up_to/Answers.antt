@@ -1,7 +1,7 @@
 use Rattle.std.proofs.Common.{rules}
 use Rattle.std.proofs.lemmas.Result.{IfOk-weaker, IfErr-weaker}
 use Rattle.digit_literals.proofs.States.{digits_are, fits_most, passed_are, exceeds_at, stays_at}
-use Rattle.digit_literals.proofs.component.read_up_to.Goals as goal
+use Rattle.digit_literals.proofs.component.read_digits_up_to.Goals as goal
 
 pub returns-clause-ok : goal.returns-clause-ok
 returns-clause-ok c = IfOk-weaker _ _ _

@@ -1,6 +1,6 @@
 use Rattle.lexical_digits.specs.declared.skip.component.Component.TheVariants.{Integer}
 use Rattle.lexical_digits.proofs.Rule.Supported.{supported_by}
-use Rattle.digit_literals.proofs.integer.read_from.Goals as goal
+use Rattle.digit_literals.proofs.integer.read_integer_from.Goals as goal
 
 pub read_slice-requires-clause-supported : goal.read_slice-requires-clause-supported
 read_slice-requires-clause-supported c =
