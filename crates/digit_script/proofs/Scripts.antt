@@ -156,6 +156,12 @@ looks_at_most first now all left made so_far =
       both,
     )
 
+pub owes_at_most : (first now : Held) (all : List (Part × Call)) (made : List Answer)
+    → Continues first all now [] made
+    → owed now ≤ℤ (owed first +ℤ pos (4 * reads_of first.state all + 3 *
+    (length first.state.buffer * set_backs_of first.state all)))
+owes_at_most first now all made so_far = omega (arith, ints, so_far.owes)
+
 -- a part shows itself
 pub shows_itself : (part : Part) (s : State) →
     Shows part s s.buffer s.cursor (count_on part s) (contiguous_on part s)

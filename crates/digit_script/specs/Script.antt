@@ -195,11 +195,14 @@ Makes part call a b result = Obeys part call a.state b.state (owed a) (owed b) r
 
 -- What a list of calls does to a `Bytes`, from a to b: the answers and the state that is left are
 -- those of the call table. k reads and m moves back of the cursor over n bytes add at most
--- 4k + 3n(m + 1) looks. Without memory nothing changes.
+-- 4k + 3n(m + 1) looks, and 4k + 3nm to what is owed, so that several lists add up. Without memory
+-- nothing changes.
 pub record RunsCalls {Z : Type 0} (a b : Held) (calls : List (table.Part × table.Call))
     (result : Result (Vec Answer Z) AllocError) : Type 0 where
   pub answers : IfOk result (λ made. made.items ≡ map answer_of (run_of a.state calls).answers)
   pub state : OnOk result (b.state ≡ (run_of a.state calls).state)
   pub looks : b.looks ≤ a.looks + 4 * reads_of a.state calls
       + 3 * (length a.state.buffer * (set_backs_of a.state calls + 1))
+  pub owes : owed b ≤ℤ (owed a +ℤ pos (4 * reads_of a.state calls
+      + 3 * (length a.state.buffer * set_backs_of a.state calls)))
   pub memory : OnErr result (b ≡ a)

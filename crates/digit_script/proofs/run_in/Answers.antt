@@ -1,6 +1,6 @@
 use Rattle.std.proofs.Common.{arith, sym, ◌∙◌, append-nil, ◌≡◌, [], ◌∷◌, ◌++◌, vec_len, ◌+◌}
 use Rattle.std.proofs.lemmas.List.{drop_all}
-use Rattle.digit_script.proofs.Scripts.{continues, looks_at_most}
+use Rattle.digit_script.proofs.Scripts.{continues, looks_at_most, owes_at_most}
 use Rattle.digit_script.proofs.run_in.Goals as goal
 
 pub loop-call-preserved : goal.loop-call-preserved
@@ -26,5 +26,6 @@ returns g c =
       answers = sym (append-nil _) ∙ done.answers;
       state = done.state;
       looks = looks_at_most _ _ _ _ _ so_far;
+      owes = owes_at_most _ _ _ _ done;
       memory = tt;
     }
