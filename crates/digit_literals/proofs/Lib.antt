@@ -5,5 +5,6 @@ pub mod States
 pub mod StopSteps
 pub mod Leads
 pub mod Whole
+pub mod Texts
 pub mod Within
 pub mod Calling

@@ -9,8 +9,14 @@
 //! are and where they end.
 #![tactic(auto)]
 
-ghost use Rattle.std.specs.Prelude.{ℕ, ◌≤◌};
+ghost use Rattle.std.specs.Prelude.{ℕ, ◌≤◌, length, IsTrue};
+ghost use Rattle.lexical_format.specs.Word.{is_supported};
+ghost use Rattle.lexical_digits.specs.declared.skip.component.Component.TheVariants.{Integer};
+ghost use Rattle.lexical_digits.specs.State.{rule_of};
+ghost use Rattle.digit_literals.specs.Integers.{IsInteger, IsTooLarge};
+ghost use Rattle.digit_literals.specs.Whole.{IsFault};
 ghost use Rattle.digit_literals.specs.Outcomes.{ReadsAll, FindsNone, PassesMost};
+ghost use Rattle.digit_literals.specs.declared.parse.ParseError.{ParseError};
 
 mod component;
 pub mod equality;
@@ -52,4 +58,14 @@ pub fn outcomes_differ<'a, I: DigitsIter<'a>>(iter: &I, radix: u32)
     ensures none_or_most { (at over : ℕ) (left other : I.Meaning) → let m = I.meaning iter.now in
         FindsNone I.buffer I.cursor I.place I.taken I.settled radix m at left →
         PassesMost I.buffer I.cursor I.place I.taken I.settled radix m over other → ⊥ }
+{}
+
+/// A text that is one integer has no fault: so [`parse_integer`] answers its value. Requires that
+/// the word is supported. Not in lexical-util.
+pub fn integers_have_no_fault(text: &[u8], word: u128)
+    requires { IsTrue (is_supported word) }
+    ensures large { (value end at : ℕ) → let r = rule_of word Integer in
+        IsInteger r text.now value end → IsTooLarge r text.now at → ⊥ }
+    ensures fault { (value : ℕ) (error : ParseError) → let r = rule_of word Integer in
+        IsInteger r text.now value (length text.now) → IsFault r text.now error → ⊥ }
 {}
