@@ -11,3 +11,4 @@ pub mod FirstOther
 pub mod Texts
 pub mod Calling
 pub mod Loops
+pub mod Rest

@@ -8,6 +8,7 @@ ghost use Rattle.lexical_digits.specs.Separators.{is_digit, is_separator, drain,
 ghost use Rattle.lexical_digits.specs.State.{State, IsState, rule, radix_of, rule_of, own, counts, saturating};
 ghost use Rattle.lexical_digits.specs.CallTable.{settled, counted, taken, drain_of, after_drain, zeros_of, past_zeros_of, ChangesOwn, run_of, On, Peek, Next, IncrementCount, TryRead, SkipZeros};
 ghost use Rattle.lexical_digits.specs.Looks.{Held, owed};
+ghost use Rattle.lexical_digits.specs.Stop.{leading_digits_of, past_digits_of, stop_of};
 ghost use Rattle.lexical_digits.specs.Iterators.{items_in, after_items_in, zeros_in, after_zeros_in};
 ghost use Rattle.lexical_digits.specs.Cursor.{ReadsIf, items, after_items, at_zero, past_zero, zeros, after_zeros};
 ghost use Rattle.lexical_digits.specs.CallTable.{Part, Call, row_of};
@@ -141,6 +142,32 @@ pub fn items_are_drain()
         zeros_in k s ≡ zeros_of k s }
     ensures past_zeros { (k : Component) (s : State) → IsState s →
         after_zeros_in k s ≡ past_zeros_of k s }
+{}
+
+/// What is left after a read. After a `peek`: the same drain, digits and stop. After `skip_zeros`:
+/// the drain without those zeros, and the digits that lead without them. After the digits that
+/// lead: the drain without them. The last two leave the cursor at the place, so that a `peek`
+/// changes nothing.
+#[tactic(auto, using(crate::proofs::Calls::Rest::rests))]
+pub fn rest_is_left()
+    ensures peek { (k : Component) (s : State) → IsState s →
+        drain_of k (settled k s) ≡ drain_of k s }
+    ensures digits_after_peek { (k : Component) (s : State) → IsState s →
+        leading_digits_of k (settled k s) ≡ leading_digits_of k s }
+    ensures stop_after_peek { (k : Component) (s : State) → IsState s →
+        stop_of k (settled k s) ≡ stop_of k s }
+    ensures zeros { (k : Component) (s : State) → IsState s →
+        drain_of k (past_zeros_of k s) ≡ drop (zeros_of k s) (drain_of k s) }
+    ensures digits_after_zeros { (k : Component) (s : State) → IsState s →
+        leading_digits_of k (past_zeros_of k s) ≡ drop (zeros_of k s) (leading_digits_of k s) }
+    ensures zeros_lead { (k : Component) (s : State) → IsState s →
+        zeros_of k s ≤ length (leading_digits_of k s) }
+    ensures zeros_stay { (k : Component) (s : State) → IsState s →
+        settled k (past_zeros_of k s) ≡ past_zeros_of k s }
+    ensures digits { (k : Component) (s : State) → IsState s →
+        drain_of k (past_digits_of k s) ≡ drop (length (leading_digits_of k s)) (drain_of k s) }
+    ensures digits_stay { (k : Component) (s : State) → IsState s →
+        settled k (past_digits_of k s) ≡ past_digits_of k s }
 {}
 
 /// What a `Bytes` owes bounds its looks: if it owes at most `more` more than before, over the same

@@ -31,20 +31,20 @@ after_items_are k =
 
 -- ---- the zeros
 
-abbrev at_zero_in : Component → State → Bool
+abbrev pub at_zero_in : Component → State → Bool
 at_zero_in k = at_zero (λ (m : State). m.buffer) (λ m. m.cursor) (place_of k) with_cursor
     (settled k) (counted k)
 
-abbrev past_zero_in : Component → State → State
+abbrev pub past_zero_in : Component → State → State
 past_zero_in k = past_zero (λ (m : State). m.buffer) (λ m. m.cursor) (place_of k) with_cursor
     (settled k) (counted k)
 
 -- the own count past a zero: special counts none
-abbrev count_past : Component → State → ℕ
+abbrev pub count_past : Component → State → ℕ
 count_past k s = cond (not (is_special k)) (one_more (own k s)) (own k s)
 
 -- zeros count as digits do, and special ignores what was seen
-counts_zeros : (k : Component) (s : State)
+pub counts_zeros : (k : Component) (s : State)
     → CountsOrIgnores (rule k s) s.buffer (not (is_special k))
 counts_zeros Special s = each_counts Special s
 counts_zeros k s = inl refl
@@ -56,11 +56,11 @@ counted_first : (k : Component) (s : State) (z i : ℕ)
 counted_first k s z i = grind arith
 
 -- what the zeros are, and what they leave, where one stands at the place
-record Zero (k : Component) (s : State) : Type 0 where
+pub record Zero (k : Component) (s : State) : Type 0 where
   pub zeros : zeros_of k s ≡ 1 + zeros_of k (past_zero_in k s)
   pub past : past_zeros_of k (past_zero_in k s) ≡ past_zeros_of k s
 
-zero_there : (k : Component) (s : State) → IsState s → at_zero_in k s ≡ true → Zero k s
+pub zero_there : (k : Component) (s : State) → IsState s → at_zero_in k s ≡ true → Zero k s
 unfolding place_of
 zero_there k s v e =
     let within : place_of k s < length s.buffer = grind (arith, gets) in
@@ -73,11 +73,11 @@ zero_there k s v e =
     s.cursor (own k s) within zero in
     grind (arith, counted_first k s)
 
-zeros_none : (k : Component) (s : State) → at_zero_in k s ≡ false → zeros_of k s ≡ 0
+pub zeros_none : (k : Component) (s : State) → at_zero_in k s ≡ false → zeros_of k s ≡ 0
 unfolding place_of
 zeros_none k s e = places.zeros_none (rule k s) s.buffer s.cursor (own k s) e
 
-past_none : (k : Component) (s : State) → IsState s → at_zero_in k s ≡ false
+pub past_none : (k : Component) (s : State) → IsState s → at_zero_in k s ≡ false
     → settled k s ≡ past_zeros_of k s
 unfolding place_of
 past_none k s v e =

@@ -16,7 +16,7 @@ pub leading_are : (k : Component) (s : State) → IsState s
 unfolding leading leading_digits
 leading_are k s v = rw (items_are_drain k s v)
 
-past_more : (k : Component) (s : State) → Digit k s
+pub past_more : (k : Component) (s : State) → Digit k s
     → past_digits_of k (taken k s) ≡ past_digits_of k s
 past_more k s d =
     let own_taken = of_taken (λ r b i c. c) k s d.within in
