@@ -5,7 +5,7 @@ ghost use Rattle.lexical_digits.specs.CallTable.{Span, Count, Flag, Done, Byte, 
 ghost use Rattle.lexical_digits.specs.CallTable as call;
 ghost use Rattle.lexical_plain.specs.Plain.{rest, MakesOnDigits, AnswersOnDigits};
 
-use crate::noskip::DigitsIterator;
+use crate::noskip::{Bytes, DigitsIterator};
 use lexical_digits::iterator::{DigitsBodies, DigitsIter, Iter, IterBodies};
 
 // ---- the calls that a `Bytes` has too
@@ -261,4 +261,14 @@ pub fn take_n(iter: &mut DigitsIterator, n: usize) -> Option<(usize, usize)>
 {
     let view = iter.take_n(n)?;
     Some((view.buffer_length(), view.cursor()))
+}
+
+// ---- what an iterator leaves in its `Bytes`
+
+/// The row of `next`, on an iterator that then ends: the `Bytes` holds the cursor that the iterator
+/// reached.
+pub fn next_and_end(bytes: &mut Bytes) -> Option<u8>
+    ensures { MakesOnDigits call.Next bytes.old.state bytes.new.state (Byte result) }
+{
+    DigitsIterator { byte: bytes }.next().copied()
 }
