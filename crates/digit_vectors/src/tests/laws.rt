@@ -3,16 +3,24 @@
 use super::steps::{Part, Step, assert_part};
 use super::{CONSECUTIVE, INTERNAL, LEADING, TRAILING, UNFLAGGED, bytes_of};
 use crate::slow::is_kept;
+use digit_literals::{integers_have_no_fault, outcomes_differ};
+use digit_script::{Answer, Call, Op, same_answer, same_call, same_op, same_part};
 use lexical_digits::iterator::DigitsIter;
-use lexical_digits::laws::equality::{same_class, same_component, same_rule, same_run, same_sight};
+use lexical_digits::laws::equality::{
+    clone_class, clone_component, clone_rule, clone_run, clone_sight, same_class, same_component,
+    same_rule, same_run, same_sight,
+};
 use lexical_digits::laws::{
     Component, digits_agree, drain_counts, grants_monotone, items_are_drain, items_unroll,
-    next_after_peek, own_count_only, peek_settles, read_if_none, special_drops_all,
+    next_after_peek, own_count_only, peek_settles, read_if_none, rest_is_left, special_drops_all,
     ungranted_keeps_all, zeros_unroll,
 };
 use lexical_digits::skip::{Bytes, Class, Rule, Run, Sight};
+use lexical_digits::stop::digits_end;
+use lexical_format::laws::{constants_are, flags_are_bits, masks_are_flags, words_say};
 use lexical_format::{
     EXPONENT_INTERNAL_DIGIT_SEPARATOR, FRACTION_INTERNAL_DIGIT_SEPARATOR, SPECIAL_DIGIT_SEPARATOR,
+    STANDARD, is_supported,
 };
 use std::process::Abort;
 
@@ -226,4 +234,46 @@ fn equal_values_have_equal_parts(rt: HostRuntime) {
         run: Some(run),
     };
     assert!(rt; small_values_are_told_apart(run, sight));
+}
+
+#[test]
+fn laws_over_definitions_may_be_called(rt: HostRuntime) {
+    let mut bytes = bytes_of(&rt, b"12", UNFLAGGED | INTERNAL);
+    outcomes_differ(&bytes.integer_iter(), 10);
+    digits_end();
+    rest_is_left();
+    assert!(rt; is_supported(STANDARD));
+    integers_have_no_fault(b"12", STANDARD);
+    flags_are_bits();
+    masks_are_flags();
+    constants_are();
+    words_say();
+}
+
+#[test]
+fn clones_are_the_same(rt: HostRuntime) {
+    let rule = Rule::of(UNFLAGGED | INTERNAL, Component::Integer);
+    assert!(rt; clone_rule(rule) == rule);
+    assert!(rt; clone_class(Class::Digit) == Class::Digit);
+    assert!(rt; clone_component(Component::Special) == Component::Special);
+    let run = Run { from: 1, to: 3 };
+    assert!(rt; clone_run(run) == run);
+    let sight = Sight {
+        place: 3,
+        run: Some(run),
+    };
+    assert!(rt; clone_sight(sight) == sight);
+}
+
+#[test]
+fn calls_and_answers_are_told_apart(rt: HostRuntime) {
+    let call = Call {
+        part: digit_script::Part::Bytes,
+        op: Op::StepBy(1),
+    };
+    assert!(rt; same_part(digit_script::Part::Bytes, call.part));
+    assert!(rt; !same_part(digit_script::Part::Integer, call.part));
+    assert!(rt; same_op(Op::StepBy(1), call.op) && !same_op(Op::StepBy(2), call.op));
+    assert!(rt; same_call(call, call));
+    assert!(rt; !same_answer(Answer::Done, Answer::Refused));
 }
