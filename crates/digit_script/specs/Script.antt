@@ -106,7 +106,7 @@ asks table.PeekU32 = true
 asks table.PeekU64 = true
 asks call = false
 
--- the calls that move the cursor to where they are answer_of
+-- the calls that move the cursor without reading
 abbrev pub moves : table.Call → Bool
 moves (table.SetCursor i) = true
 moves (table.StepBy n) = true

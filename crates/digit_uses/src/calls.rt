@@ -1,7 +1,7 @@
 //! What calls answer, and how many looks they take: of a list of calls, and of one number in three
 //! components.
 //!
-//! Proof by hand: 36 lines, three answers, of which two add up what is owed, and a lemma.
+//! Proof by hand: 26 lines, two answers, which add up what is owed, and a lemma.
 
 ghost use Rattle.std.specs.Prelude.{◌≡◌, ◌+◌, ◌*◌, ◌≤◌, pos, ◌≤ℤ◌, ◌+ℤ◌, length, map, IfOk, OnOk, OnErr};
 ghost use Rattle.lexical_digits.specs.CallTable.{run_of};
