@@ -2,6 +2,7 @@
 #![tactic(auto)]
 
 pub mod back;
+pub mod calling;
 pub mod calls;
 pub mod drained;
 pub mod figures;
