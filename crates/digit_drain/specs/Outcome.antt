@@ -1,6 +1,6 @@
 -- What a run leaves in its reader and its writer, by what it answers. Nothing is said of a reader
 -- or a writer whose contract does not describe its bytes.
-use Rattle.std.specs.Prelude.{◌≡◌, ℕ, ◌<◌, ◌≤◌, List, ◌++◌, length, Option, None, Some, Result, Ok, Err, IfSome, codes, decimal}
+use Rattle.std.specs.Prelude.{◌≡◌, ℕ, ◌+◌, ◌<◌, ◌≤◌, List, ◌++◌, length, Option, None, Some, Result, Ok, Err, IfSome, codes, decimal}
 use Rattle.std.specs.Io.KnownBytes.{Appends, Consumes, Keeps, IsAtEnd}
 use Rattle.digit_drain.specs.declared.fault.Fault.{Fault}
 use Rattle.digit_drain.specs.declared.fault.Fault.TheVariants.{Line, Word, TooLong, Read, Write, Memory}
@@ -40,10 +40,16 @@ pub record WritesPart (s : Streams) : Type 0 where
   pub ended : IsAtEnd s.rest
   pub written : IfSome s.input (λ input. AppendsPart s.had s.has (report_of input).output)
 
--- more bytes than an input has were read, and are gone from what the reader has left
+-- the most bytes that one call of `read` is asked for
+abbrev pub most_at_once : ℕ
+most_at_once = 4096
+
+-- more bytes than an input has were read, and are gone from what the reader has left; those before
+-- the last call of `read` were not too many
 pub record ReadsPast (old new : Option (List ℕ)) : Type 0 where
   pub read : List ℕ
   pub long : most_bytes < length read
+  pub no_further : length read ≤ most_bytes + most_at_once
   pub consumed : Consumes old new read
 
 -- More bytes than an input has were read, and nothing was written.

@@ -13,3 +13,4 @@ returns-then-n-len-clause-too_long g c = λ e.
     let now = c.in-Ok.ensures in
     reads_past _ _ _ _ _ c.in-Ok.n c.loop.invariant.1 now.bytes.0 now.bound.0
     (omega (arith, c.loop.input.ok.0))
+    (omega (arith, c.loop.input.ok.0, c.loop.invariant, now.bound.0, now.bound.1))
