@@ -49,6 +49,7 @@ pub fn constants_are()
 #[tactic(auto, unfolding(crate::proofs::OnLiterals::lexical_on_literals))]
 pub fn words_say()
     ensures json { IsWord JSON 10 10 0 nowhere nowhere nowhere }
+    ensures json_is { JSON ≡ STANDARD }
     ensures hexadecimal { IsWord HEXADECIMAL 16 16 0 nowhere nowhere nowhere }
     ensures rust { IsWord RUST_LITERAL 10 10 95 after_digits after_digits everywhere }
     ensures rust_hex { IsWord RUST_HEX_LITERAL 16 16 95 everywhere nowhere nowhere }
@@ -59,6 +60,7 @@ pub fn words_say()
         between_digits between_digits between_digits }
     ensures python { IsWord PYTHON_LITERAL 10 10 95 between_digits between_digits between_digits }
     ensures toml { IsWord TOML 10 10 95 between_digits between_digits between_digits }
+    ensures toml_is { TOML ≡ PYTHON_LITERAL }
     ensures java { IsWord JAVA_LITERAL 10 10 95
         in_runs_between_digits in_runs_between_digits in_runs_between_digits }
 {}
