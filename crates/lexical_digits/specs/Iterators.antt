@@ -20,7 +20,7 @@ abbrev pub CanStepOn : Component → State → ℕ → Type 0
 CanStepOn k s count =
     CanStep s.buffer s.cursor (is_contiguous k s.word) (is_separator (separator s.word)) count
 
--- `next` yields as many bytes as the drain has
+-- `next` yields no more bytes than the drain has
 abbrev pub bytes_left : Component → State → Count
 bytes_left k s = at_most (length (drain_of k s))
 

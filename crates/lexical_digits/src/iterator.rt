@@ -13,8 +13,8 @@ pub use crate::skip::{AsBytes, Bytes};
 
 /// A cursor over a buffer of bytes: lexical-util's `Iter`. Positions count bytes from 0, and the
 /// cursor is at most the length of the buffer. The laws say nothing of stored counts; in the types
-/// of [`skip`](crate::skip) only `next`, `increment_count` and `skip_zeros` change them. More
-/// calls: [`IterBodies`].
+/// of [`skip`](crate::skip) only `next`, `increment_count` and `skip_zeros` change them, and the
+/// calls of a `Bytes` by component. More calls: [`IterBodies`].
 pub trait Iter<'a> {
     /// The type of a value's meaning: what the value stands for in the logic. Every contract speaks
     /// of meanings. Not in lexical-util.
