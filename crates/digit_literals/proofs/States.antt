@@ -15,7 +15,7 @@ use Rattle.lexical_digits.proofs.Calls.Stops.{leading_are, after_leading_are, le
 use Rattle.lexical_digits.proofs.Calls.ItemsOfComponents.{zeros_are, after_zeros_are}
 use Rattle.digit_literals.specs.declared.reading.Digits.{Digits}
 use Rattle.digit_literals.specs.declared.reading.TooLarge.{TooLarge}
-use Rattle.digit_literals.specs.After.{digits_to, past_digits_to, IsDigits, ExceedsAt, ReadsOf, ExceedsOf}
+use Rattle.digit_literals.specs.After.{digits_to, past_digits_to, IsDigits, IsReadTo, ExceedsAt, ReadsOf, ExceedsOf}
 
 -- ---- digits and zeros that are passed
 
@@ -56,13 +56,13 @@ module _ (k : Component) (s : State) (radix before most : ℕ) (v : IsState s)
       → after ≡ past_digits_of k s
   passed_are read h = h.leaves ∙ after_leading_by_radix k s radix v e
 
-  nth : (at : ℕ) (h : ExceedsOf k s radix before most at after)
-      → IsNthDigit k s h.read (place_of k (iterate (taken k) h.read s))
-  nth at h = nth_digit h.read k s v (omega (arith, h.within, ap length led))
+  nth : (error : TooLarge) (h : ExceedsOf k s radix before most error after)
+      → IsNthDigit k s h.exceeds.read (place_of k (iterate (taken k) h.exceeds.read s))
+  nth error h = nth_digit h.exceeds.read k s v (omega (arith, h.exceeds.within, ap length led))
 
-  digits_before : (at : ℕ) (h : ExceedsOf k s radix before most at after)
-      → digits_to k s at ≡ take h.read (leading_digits_of k s)
-  digits_before at h = ap (digits_to k s) h.stands ∙ (nth at h).before
+  digits_before : (error : TooLarge) (h : ExceedsOf k s radix before most error after)
+      → digits_to k s error.at ≡ take h.exceeds.read (leading_digits_of k s)
+  digits_before error h = ap (digits_to k s) h.exceeds.stands ∙ (nth error h).before
 
   worth : (i n : ℕ) → digits_to k s i ≡ take n (leading_digits_of k s)
       → digits_value_after (rule k s).radix before (digits_to k s i)
@@ -72,36 +72,47 @@ module _ (k : Component) (s : State) (radix before most : ℕ) (v : IsState s)
   worth i n h = ap (λ (r : ℕ). digits_value_after r before (digits_to k s i)) (sym e)
       ∙ ap (digits_value_after radix before) (h ∙ sym (ap (take n) led))
 
-  pub exceeds_at : (at : ℕ) → ExceedsOf k s radix before most at after
-      → ExceedsAt (rule k s) s.buffer s.cursor (own k s) before most at
-  exceeds_at at h =
-      let there = nth at h in
-      let upto : digits_to k s (at + 1) ≡ take (h.read + 1) (leading_digits_of k s) =
-      ap (λ (i : ℕ). digits_to k s (i + 1)) h.stands ∙ there.upto in
+  pub exceeds_at : (error : TooLarge) → ExceedsOf k s radix before most error after
+      → ExceedsAt (rule k s) s.buffer s.cursor (own k s) before most error.at
+  exceeds_at error h =
+      let there = nth error h in
+      let upto : digits_to k s (error.at + 1) ≡ take (h.exceeds.read + 1) (leading_digits_of k s) =
+      ap (λ (i : ℕ). digits_to k s (i + 1)) h.exceeds.stands ∙ there.upto in
       record {
-        onward = omega (arith, h.stands, there.onward);
-        before_stop = omega (arith, h.stands, there.before_stop);
-        fits = omega (arith, worth at h.read (digits_before at h), h.fits);
-        passes = omega (arith, worth (at + 1) (h.read + 1) upto, h.passes);
+        onward = omega (arith, h.exceeds.stands, there.onward);
+        before_stop = omega (arith, h.exceeds.stands, there.before_stop);
+        fits = omega (arith, worth error.at h.exceeds.read (digits_before error h), h.exceeds.fits);
+        passes = omega (arith, worth (error.at + 1) (h.exceeds.read + 1) upto, h.exceeds.passes);
       }
 
-  pub stays_at : (at : ℕ) → ExceedsOf k s radix before most at after → after ≡ past_digits_to k s at
-  stays_at at h =
-      let l : h.read < length (leading_digits_of k s) =
-      omega (arith, h.within, ap length led) in
-      let count : length (digits_to k s at) ≡ h.read = ap length (digits_before at h)
-      ∙ length-take-le h.read (leading_digits_of k s) (omega arith) in
+  pub stays_at : (error : TooLarge) → ExceedsOf k s radix before most error after
+      → after ≡ past_digits_to k s error.at
+  stays_at error h =
+      let l : h.exceeds.read < length (leading_digits_of k s) =
+      omega (arith, h.exceeds.within, ap length led) in
+      let count : length (digits_to k s error.at) ≡ h.exceeds.read =
+      ap length (digits_before error h)
+      ∙ length-take-le h.exceeds.read (leading_digits_of k s) (omega arith) in
       let at_count = λ (c i : ℕ). with_cursor (with_own k s
       (if counts k s.word then saturating (own k s) c else own k s)) i in
-      h.leaves ∙ nth_leaves h.read k s v l
-      ∙ ap (λ (c : ℕ). at_count c (place_of k (iterate (taken k) h.read s))) (sym count)
-      ∙ ap (at_count (length (digits_to k s at))) (sym h.stands)
+      h.exceeds.leaves ∙ nth_leaves h.exceeds.read k s v l
+      ∙ ap (λ (c : ℕ). at_count c (place_of k (iterate (taken k) h.exceeds.read s))) (sym count)
+      ∙ ap (at_count (length (digits_to k s error.at))) (sym h.exceeds.stands)
+
+  pub so_far : (error : TooLarge) → ExceedsOf k s radix before most error after
+      → IsReadTo k s before error
+  so_far error h = record {
+    is = h.value ∙ sym (worth error.at h.exceeds.read (digits_before error h));
+    digits = h.count ∙ sym (ap length (digits_before error h)
+        ∙ length-take-le h.exceeds.read (leading_digits_of k s)
+        (omega (arith, h.exceeds.within, ap length led)));
+  }
 
 -- the same of a component that is another, and of the state that is left
 pub exceeds_in : (k j : Component) → k ≡ j → (s : State) (radix before most : ℕ) (now left : State)
     → now ≡ left → (r : Result Digits TooLarge)
-    → IfErr r (λ error. ExceedsOf j s radix before most error.at left)
-    → IfErr r (λ error. ExceedsOf k s radix before most error.at now)
+    → IfErr r (λ error. ExceedsOf j s radix before most error left)
+    → IfErr r (λ error. ExceedsOf k s radix before most error now)
 exceeds_in k j is s radix before most now left same r h = rw (is, same) h
 
 pub ruleset by_state = (leading_by_radix, leading_between)

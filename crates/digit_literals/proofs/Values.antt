@@ -11,7 +11,7 @@ use Rattle.lexical_format.specs.Digits as words
 use Rattle.lexical_digits.specs.Cursor.{holds_of, DigitLaws}
 use Rattle.lexical_digits.specs.Stop.{after_leading}
 use Rattle.digit_literals.specs.declared.reading.Digits.{Digits}
-use Rattle.digit_literals.specs.Outcomes.{digits, value_with, ReadsAfter, ExceedsMost, ReadsAll, FindsNone}
+use Rattle.digit_literals.specs.Outcomes.{digits, value_with, ReadsAfter, StopsAt, ReadsAll, FindsNone}
 use Rattle.digit_literals.proofs.Taking.{HasTaken, none_taken, has_next, one_taken, moves_on, counts_bytes, all_taken, leaves_all}
 
 -- ---- a byte
@@ -108,19 +108,24 @@ module _ {M : Type 0} {valid : M → Type 0} {buffer : M → List ℕ} {cursor c
       → count ≤ cursor s
   counts_read m s value count so = counts_bytes laws n v (is_digit_of_radix radix) m s count so.led
 
-  pub exceeds : (m t : M) (d value count at : ℕ) → Read m n value count → peeked ≡ Some d
+  pub stops_at : (m t : M) (d value count at : ℕ) → Read m n value count → peeked ≡ Some d
       → most < value * radix + d → t ≡ settled n → at ≡ cursor t
-      → ExceedsMost buffer cursor place taken settled radix before most m at t
-  exceeds m t d value count at so e over settles stands =
+      → StopsAt buffer cursor place taken settled radix before most m
+      (record { at = at; value = value; count = count }) t
+  stops_at m t d value count at so e over settles stands =
       let found = digit_at radix (buffer n) (place n) d e in
       let next = has_next laws n v (is_digit_of_radix radix) m count so.led found.is in
       record {
-        read = count;
-        within = next.within;
-        fits = rw (← so.worth) so.fits;
-        passes = rw (value_next m d value count so e) over;
-        stands = stands ∙ ap cursor settles ∙ laws.settled_cursor n v ∙ ap place so.led.stands;
-        leaves = settles ∙ ap settled so.led.stands;
+        exceeds = record {
+          read = count;
+          within = next.within;
+          fits = rw (← so.worth) so.fits;
+          passes = rw (value_next m d value count so e) over;
+          stands = stands ∙ ap cursor settles ∙ laws.settled_cursor n v ∙ ap place so.led.stands;
+          leaves = settles ∙ ap settled so.led.stands;
+        };
+        value = so.worth;
+        count = refl;
       }
 
   pub reads_after : (m t : M) (read : Digits) → Read m n read.value read.count → peeked ≡ None
@@ -147,7 +152,7 @@ none_read radix before most m fits = record {
   fits = fits;
 }
 
-pub ruleset reading = (none_read, one_read, reads_on, counts_read, exceeds, reads_after)
+pub ruleset reading = (none_read, one_read, reads_on, counts_read, stops_at, reads_after)
 
 -- ---- a literal
 

@@ -7,8 +7,9 @@ use Rattle.lexical_digits.specs.Separators.{is_digit}
 use Rattle.lexical_digits.specs.State.{State, with_cursor, rule, own, with_own, counts, saturating}
 use Rattle.lexical_digits.specs.CallTable.{place_of, settled, taken}
 use Rattle.lexical_digits.specs.Stop.{stop, leading_digits_of}
-use Rattle.digit_literals.specs.Outcomes.{ReadsAfter, ExceedsMost}
+use Rattle.digit_literals.specs.Outcomes.{ReadsAfter, StopsAt}
 use Rattle.digit_literals.specs.declared.reading.Digits.{Digits}
+use Rattle.digit_literals.specs.declared.reading.TooLarge.{TooLarge}
 
 -- ---- by a rule, from a start on
 
@@ -49,11 +50,16 @@ module _ (k : Component) (s : State) where
     pub is : read.value ≡ digits_value_after (rule k s).radix before (leading_digits_of k s)
     pub digits : read.count ≡ length (leading_digits_of k s)
 
+  -- an error has the value and the number of the digits before its position
+  pub record IsReadTo (before : ℕ) (error : TooLarge) : Type 0 where
+    pub is : error.value ≡ digits_value_after (rule k s).radix before (digits_to error.at)
+    pub digits : error.count ≡ length (digits_to error.at)
+
   -- the same in words of a meaning, by a radix and up to a greatest value
   abbrev pub ReadsOf : ℕ → ℕ → ℕ → Digits → State → Type 0
   ReadsOf radix before most read after = ReadsAfter (λ (m : State). m.buffer) (λ m. m.cursor)
       (place_of k) (taken k) (settled k) radix before most s read after
 
-  abbrev pub ExceedsOf : ℕ → ℕ → ℕ → ℕ → State → Type 0
-  ExceedsOf radix before most at after = ExceedsMost (λ (m : State). m.buffer) (λ m. m.cursor)
-      (place_of k) (taken k) (settled k) radix before most s at after
+  abbrev pub ExceedsOf : ℕ → ℕ → ℕ → TooLarge → State → Type 0
+  ExceedsOf radix before most error after = StopsAt (λ (m : State). m.buffer) (λ m. m.cursor)
+      (place_of k) (taken k) (settled k) radix before most s error after

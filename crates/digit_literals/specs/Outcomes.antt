@@ -7,6 +7,7 @@ use Rattle.lexical_digits.specs.Stop.{leading, after_leading}
 use Rattle.digit_literals.specs.declared.LiteralError.{LiteralError}
 use Rattle.digit_literals.specs.declared.LiteralError.TheVariants.{Empty, Overflow}
 use Rattle.digit_literals.specs.declared.reading.Digits.{Digits}
+use Rattle.digit_literals.specs.declared.reading.TooLarge.{TooLarge}
 
 -- a fact for one error, with its position
 abbrev pub IfEmpty : {T : Type 0} → Result T LiteralError → (ℕ → Type 0) → Type 0
@@ -48,6 +49,12 @@ module _ {M : Type 0} (buffer : M → List ℕ) (cursor place : M → ℕ) (take
       pub passes : most < value_with (read + 1)
       pub stands : at ≡ place (iterate taken read m)
       pub leaves : after ≡ settled (iterate taken read m)
+
+    -- the same of an error, with the value and the number of the digits before it
+    pub record StopsAt (error : TooLarge) (after : M) : Type 0 where
+      pub exceeds : ExceedsMost error.at after
+      pub value : error.value ≡ value_with exceeds.read
+      pub count : error.count ≡ exceeds.read
 
   -- ---- a literal: no two of the three can hold of one meaning
 

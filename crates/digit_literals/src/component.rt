@@ -9,7 +9,7 @@ ghost use Rattle.lexical_digits.specs.State.{rule, rule_of, own};
 ghost use Rattle.lexical_digits.specs.CallTable.{zeros_of, past_zeros_of};
 ghost use Rattle.lexical_digits.specs.Looks.{owed};
 ghost use Rattle.lexical_digits.specs.Stop.{stop, stop_of, leading_digits_of, past_digits_of};
-ghost use Rattle.digit_literals.specs.After.{digits_to, past_digits_to, IsDigits, ExceedsAt, PassesAt, ReadsOf, ExceedsOf};
+ghost use Rattle.digit_literals.specs.After.{digits_to, past_digits_to, IsDigits, IsReadTo, ExceedsAt, PassesAt, ReadsOf, ExceedsOf};
 
 use super::reading::{Digits, TooLarge, read_digits_after, take_digits};
 use lexical_digits::iterator::{DigitsBodies, Iter, IterBodies};
@@ -42,7 +42,8 @@ pub fn pass_digits(bytes: &mut Bytes, component: Component) -> usize
 ///
 /// No digit is no error, since many formats allow `1.` and `.5`: the value is then `before`, and
 /// the count is 0. [`TooLarge`] holds the position of the first digit with which the value is above
-/// `u64::MAX`: the digits before it were passed, and the cursor is on it. Not in lexical-util.
+/// `u64::MAX`: the digits before it were passed, and the cursor is on it. Their value and number
+/// are in the error too. Not in lexical-util.
 ///
 /// ```text
 /// `12_5` with internal `_`, after 4: Ok(Digits { value: 4125, count: 3 })
@@ -60,6 +61,7 @@ pub fn read_digits_of(
     ensures too_large { let s = bytes.old.state in
         IfErr result (λ error.
         PassesAt (rule component s) s.buffer s.cursor (own component s) before error.at) }
+    ensures so_far { IfErr result (IsReadTo component bytes.old.state before) }
     ensures stays { let s = bytes.old.state in
         IfErr result (λ error. bytes.new.state ≡ past_digits_to component s error.at) }
     ensures owes { let digits = length (leading_digits_of component bytes.old.state) in
@@ -88,6 +90,7 @@ pub fn read_digits_up_to(
     ensures too_large { let s = bytes.old.state in
         IfErr result (λ error.
         ExceedsAt (rule component s) s.buffer s.cursor (own component s) before most error.at) }
+    ensures so_far { IfErr result (IsReadTo component bytes.old.state before) }
     ensures stays { let s = bytes.old.state in
         IfErr result (λ error. bytes.new.state ≡ past_digits_to component s error.at) }
     ensures owes { let digits = length (leading_digits_of component bytes.old.state) in
@@ -112,7 +115,7 @@ fn read_on(
     ensures ok { IfOk result (λ read.
         ReadsOf component bytes.old.state radix before most read bytes.new.state) }
     ensures too_large { IfErr result (λ error.
-        ExceedsOf component bytes.old.state radix before most error.at bytes.new.state) }
+        ExceedsOf component bytes.old.state radix before most error bytes.new.state) }
     ensures owes { let digits = length (leading_digits_of component bytes.old.state) in
         owed bytes.new ≤ℤ (owed bytes.old +ℤ pos (8 * digits + 4)) }
 {

@@ -29,7 +29,7 @@ pub fn same_digits(a: Digits, b: Digits) -> bool
     a == b
 }
 
-/// Two positions of a digit too many are equal exactly if they are the same. Not in lexical-util.
+/// Two errors of a value too large are equal exactly if they are the same. Not in lexical-util.
 pub fn same_too_large(a: TooLarge, b: TooLarge) -> bool
     ensures same { result ≡ true → a ≡ b }
     ensures equal { a ≡ b → result ≡ true }

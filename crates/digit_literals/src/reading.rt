@@ -4,7 +4,7 @@ ghost use Rattle.std.specs.Prelude.{◌≡◌, ◌+◌, ◌*◌, ◌-◌, ◌<�
 ghost use Rattle.lexical_format.specs.Digits.{digit_of_radix};
 ghost use Rattle.lexical_digits.specs.Cursor.{holds_of, DigitLaws};
 ghost use Rattle.lexical_digits.specs.Stop.{leading, after_leading};
-ghost use Rattle.digit_literals.specs.Outcomes.{digits, ReadsAfter, ExceedsMost, ReadsAll, FindsNone, PassesMost, IfEmpty, IfOverflow};
+ghost use Rattle.digit_literals.specs.Outcomes.{digits, ReadsAfter, StopsAt, ReadsAll, FindsNone, PassesMost, IfEmpty, IfOverflow};
 ghost use Rattle.digit_literals.specs.declared.LiteralError.TheVariants.{Overflow};
 
 use super::LiteralError;
@@ -27,6 +27,10 @@ pub struct Digits {
 pub struct TooLarge {
     /// The position of the first digit with which it is, in bytes from 0.
     pub at: usize,
+    /// The value of the digits before, with those that were read before that position.
+    pub value: u64,
+    /// How many digits were read before that position.
+    pub count: usize,
 }
 
 impl fmt::Display for TooLarge {
@@ -96,7 +100,7 @@ fn take_byte<'a, I: DigitsIter<'a>>(iter: &mut I)
 /// any separators before that item, or at the end. No digit is no error: the value is `before`.
 ///
 /// [`TooLarge`] holds the position of the first digit with which the value is above `most`. The
-/// digits before it were taken, and the cursor is on it.
+/// digits before it were taken, and the cursor is on it: their value and count are in the error.
 ///
 /// Requires that `before` is at most `most`. Radix and digits are as in [`read_digits`]. Takes no
 /// memory. Not in lexical-util.
@@ -111,8 +115,8 @@ pub fn read_digits_after<'a, I: DigitsIter<'a>>(
     requires { before ≤ most }
     ensures ok { IfOk result (λ read. ReadsAfter I.buffer I.cursor I.place I.taken I.settled radix
         before most (I.meaning iter.old) read (I.meaning iter.new)) }
-    ensures too_large { IfErr result (λ error. ExceedsMost I.buffer I.cursor I.place I.taken
-        I.settled radix before most (I.meaning iter.old) error.at (I.meaning iter.new)) }
+    ensures too_large { IfErr result (λ error. StopsAt I.buffer I.cursor I.place I.taken
+        I.settled radix before most (I.meaning iter.old) error (I.meaning iter.new)) }
     ensures owes { let m = I.meaning iter.old in
         let read = length (digits I.buffer I.cursor I.place I.taken I.settled radix m) in
         I.owed iter.new ≤ℤ (I.owed iter.old +ℤ pos (8 * read + 4)) }
@@ -122,7 +126,11 @@ pub fn read_digits_after<'a, I: DigitsIter<'a>>(
     let mut count = 0;
     while let Some(digit) = peek_digit(iter, radix) {
         let Some(more) = add_digit(value, radix, digit, most) else {
-            return Err(TooLarge { at: iter.cursor() });
+            return Err(TooLarge {
+                at: iter.cursor(),
+                value,
+                count,
+            });
         };
         value = more;
         // at least `count` bytes are before this one

@@ -249,13 +249,24 @@ fn digits_are_read_after_a_value(rt: HostRuntime) {
     );
     assert!(rt; is_read_of(&mut bytes, 7, Ok(Digits { value: 7, count: 0 })));
     let mut bytes = bytes_of(&rt, b"0", word);
-    assert!(rt; is_read_of(&mut bytes, u64::MAX, Err(TooLarge { at: 0 })));
+    let most = u64::MAX;
+    let too_large = TooLarge {
+        at: 0,
+        value: most,
+        count: 0,
+    };
+    assert!(rt; is_read_of(&mut bytes, most, Err(too_large)));
 }
 
 #[test]
 fn digits_are_read_up_to_a_value(rt: HostRuntime) {
     let mut bytes = bytes_of(&rt, b"12_5.", UNFLAGGED | INTERNAL);
-    assert!(rt; read_digits_up_to(&mut bytes, Integer, 0, 99) == Err(TooLarge { at: 3 }));
+    let too_large = TooLarge {
+        at: 3,
+        value: 12,
+        count: 2,
+    };
+    assert!(rt; read_digits_up_to(&mut bytes, Integer, 0, 99) == Err(too_large));
     assert_part(&rt, &mut bytes, Part::Whole, &[Cursor(3)]);
     assert!(rt;
         read_digits_up_to(&mut bytes, Integer, 12, 125)
@@ -275,5 +286,10 @@ fn causes_are_told_apart(rt: HostRuntime) {
     assert!(rt; !same_parse_error(ParseError::Empty(3), ParseError::Invalid(3)));
     let digits = Digits { value: 1, count: 1 };
     assert!(rt; same_digits(digits, digits) && !same_digits(digits, Digits { count: 2, ..digits }));
-    assert!(rt; !same_too_large(TooLarge { at: 1 }, TooLarge { at: 2 }));
+    let too_large = TooLarge {
+        at: 1,
+        value: 1,
+        count: 1,
+    };
+    assert!(rt; !same_too_large(too_large, TooLarge { at: 2, ..too_large }));
 }

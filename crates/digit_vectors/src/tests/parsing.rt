@@ -63,7 +63,12 @@ fn a_greatest_value_is_not_passed(rt: HostRuntime) {
     );
     let mut bytes = bytes_of(&rt, b"2_56", UNFLAGGED | INTERNAL);
     let read = read_digits_after(&mut bytes.integer_iter(), 10, 0, 255);
-    assert!(rt; read == Err(TooLarge { at: 3 }));
+    let too_large = TooLarge {
+        at: 3,
+        value: 25,
+        count: 2,
+    };
+    assert!(rt; read == Err(too_large));
     assert!(rt; bytes.cursor() == 3);
 }
 

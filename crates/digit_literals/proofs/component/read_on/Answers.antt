@@ -1,5 +1,5 @@
 use Rattle.std.proofs.Common.{rules}
-use Rattle.lexical_digits.specs.declared.skip.component.Component.TheVariants.{Integer, Fraction, Exponent}
+use Rattle.lexical_digits.specs.declared.skip.component.Component.TheVariants.{Integer, Fraction, Exponent, Special}
 use Rattle.digit_literals.proofs.States.{exceeds_in}
 use Rattle.digit_literals.proofs.component.read_on.Goals as goal
 
@@ -17,3 +17,8 @@ pub returns-in-Exponent-clause-too_large : goal.returns-in-Exponent-clause-too_l
 returns-in-Exponent-clause-too_large c = exceeds_in c.args.component Exponent c.in-Exponent.is
     c.args.bytes.now.state c.args.radix c.args.before c.args.most _ _ (search rules)
     c.read_digits_after-in-Exponent.result c.read_digits_after-in-Exponent.ensures.too_large
+
+pub returns-in-Special-clause-too_large : goal.returns-in-Special-clause-too_large
+returns-in-Special-clause-too_large c = exceeds_in c.args.component Special c.in-Special.is
+    c.args.bytes.now.state c.args.radix c.args.before c.args.most _ _ (search rules)
+    c.read_digits_after-in-Special.result c.read_digits_after-in-Special.ensures.too_large

@@ -1,6 +1,6 @@
 use Rattle.std.proofs.Common.{rules, arith}
 use Rattle.std.proofs.lemmas.Int.{ints}
-use Rattle.digit_literals.proofs.Values.{one_read, reads_after}
+use Rattle.digit_literals.proofs.Values.{one_read, stops_at, reads_on, reads_after}
 use Rattle.digit_literals.proofs.reading.read_digits_after.Goals as goal
 
 pub loop-digit-preserved : goal.loop-digit-preserved
@@ -26,3 +26,17 @@ returns-clause-ok g c =
     let peeked = c.peek_digit.ensures in
     reads_after peeked.laws _ peeked.valid c.args.radix c.args.before c.args.most _ _ _
     c.loop-digit.invariant.read (search rules) peeked.settles
+
+pub returns-in_default-add_digit-clause-too_large :
+    goal.returns-in_default-add_digit-clause-too_large
+returns-in_default-add_digit-clause-too_large g c =
+    let peeked = c.peek_digit.ensures in
+    stops_at peeked.laws _ peeked.valid c.args.radix c.args.before c.args.most _ _
+    c.in-Some.digit c.loop-digit.value c.loop-digit.count _ c.loop-digit.invariant.read
+    (search rules) (search rules) peeked.settles c.cursor.ensures.value
+
+pub loop-digit-smaller : goal.loop-digit-smaller
+loop-digit-smaller g c =
+    let peeked = c.peek_digit.ensures in
+    reads_on peeked.laws _ peeked.valid c.args.radix c.args.before c.args.most _ _
+    c.in-Some.digit (search rules) peeked.settles c.take_byte.ensures.takes
