@@ -31,6 +31,8 @@ pub use self::integer::{read_integer, read_integer_from};
 pub use self::parse::{ParseError, parse_integer, parse_signed};
 pub use self::reading::{Digits, TooLarge, read_digits, read_digits_after, take_digits};
 use lexical_digits::iterator::DigitsIter;
+use std::error::Error;
+use std::fmt;
 
 /// Why there is no value. A position counts bytes from the start of the buffer, from 0. Not in
 /// lexical-util.
@@ -43,6 +45,24 @@ pub enum LiteralError {
     /// [`read_integer_from`].
     Overflow(usize),
 }
+
+impl fmt::Display for LiteralError {
+    ghost use Rattle.std.specs.Prelude.{Some};
+    ghost use Rattle.digit_literals.specs.Outcomes.{literal_message};
+
+    ghost output = { λ e. Some (literal_message e) };
+
+    fn fmt<W: fmt::Write>(&self, f: &mut fmt::Formatter<W>) -> fmt::Result {
+        match *self {
+            LiteralError::Empty(at) => write!(f, "there is no digit at {at}"),
+            LiteralError::Overflow(at) => {
+                write!(f, "the number is too large with the digit at {at}")
+            }
+        }
+    }
+}
+
+impl Error for LiteralError {}
 
 /// No two of the three outcomes of [`read_digits`] can be had from one iterator, whatever they
 /// answer and leave: so none may stand for another. Requires that the radix is at least 1. Not in
