@@ -8,6 +8,12 @@ use Rattle.digit_uses.specs.declared.lexer.Token.{Token}
 use Rattle.digit_uses.specs.declared.lexer.Fault.{Fault}
 use Rattle.digit_uses.specs.declared.lexer.Fault.TheVariants.{NoNumber, CutOff, TooLarge}
 
+-- the byte at fault
+abbrev pub position_of : Fault → ℕ
+position_of (NoNumber start at) = at
+position_of (CutOff start at) = at
+position_of (TooLarge start at) = at
+
 abbrev pub is_gap : ℕ → Bool
 is_gap byte = (byte == 32) || (byte == 44)
 

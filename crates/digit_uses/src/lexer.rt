@@ -2,12 +2,12 @@
 //!
 //! Proof by hand: 17 lines, two invariants and a lemma.
 
-ghost use Rattle.std.specs.Prelude.{◌≡◌, ◌<◌, ◌≤◌, length, IfOk, IfErr, IfSome, MatchOption, IsTrue, slice_index, false};
+ghost use Rattle.std.specs.Prelude.{◌≡◌, ◌<◌, ◌≤◌, length, IfOk, IfErr, IfSome, IfNone, MatchOption, IsTrue, slice_index, false};
 ghost use Rattle.lexical_format.specs.Word.{is_supported};
 ghost use Rattle.lexical_digits.specs.State.{rule, rule_of};
 ghost use Rattle.lexical_digits.specs.declared.skip.component.Component.{Component};
 ghost use Rattle.lexical_digits.specs.declared.skip.component.Component.TheVariants.{Integer};
-ghost use Rattle.digit_uses.specs.Lexer.{is_gap, ends_at, AreGaps, IsToken, IsFault, Covers};
+ghost use Rattle.digit_uses.specs.Lexer.{is_gap, ends_at, AreGaps, IsToken, IsFault, Covers, position_of};
 
 use digit_literals::read_digits_of;
 use lexical_digits::iterator::Iter;
@@ -73,6 +73,8 @@ pub fn next_number(bytes: &mut Bytes, component: Component) -> Result<Option<Tok
         IfSome token (λ t. bytes.new.state.cursor ≡ t.to)) }
     ensures fault { let s = bytes.old.state in
         IfErr result (IsFault s.buffer (rule component s) s.cursor) }
+    ensures none { IfOk result (λ token. IfNone token (bytes.new.state ≡ bytes.old.state)) }
+    ensures stands { IfErr result (λ fault. bytes.new.state.cursor ≡ position_of fault) }
     ensures buffer { bytes.new.state.buffer ≡ bytes.old.state.buffer }
     ensures word { bytes.new.state.word ≡ bytes.old.state.word }
 {
