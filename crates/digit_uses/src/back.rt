@@ -1,10 +1,11 @@
 //! Going back: clone, try, assign the clone. A clone takes no memory.
 //!
-//! Proof by hand: none.
+//! Proof by hand: 8 lines, four answers on what is owed.
 
-ghost use Rattle.std.specs.Prelude.{◌≡◌, ◌+◌, ◌<◌, true, length, IfOk, IfErr, IfSome, IfNone};
+ghost use Rattle.std.specs.Prelude.{◌≡◌, ◌+◌, ◌*◌, ◌<◌, pos, ◌≤ℤ◌, ◌+ℤ◌, true, length, IfOk, IfErr, IfSome, IfNone};
 ghost use Rattle.std.specs.Str.Parse.{digits_value};
 ghost use Rattle.lexical_digits.specs.State.{rule, own, with_cursor};
+ghost use Rattle.lexical_digits.specs.Looks.{owed};
 ghost use Rattle.lexical_digits.specs.Stop.{leading_digits_of, past_digits_of};
 ghost use Rattle.lexical_digits.specs.declared.skip.component.Component.TheVariants.{Exponent};
 ghost use Rattle.digit_literals.specs.After.{PassesAt};
@@ -32,6 +33,8 @@ pub fn try_exponent(bytes: &mut Bytes) -> Result<Option<u64>, TooLarge>
         PassesAt (rule Exponent s) s.buffer (s.cursor + 1) (own Exponent s) 0 error.at) }
     ensures marked { let s = bytes.old.state in
         IfErr result (λ _. stands is_mark s.buffer s.cursor ≡ true) }
+    ensures owes { let s = bytes.old.state in let at = with_cursor s (s.cursor + 1) in
+        owed bytes.new ≤ℤ (owed bytes.old +ℤ pos (8 * length (leading_digits_of Exponent at) + 4)) }
     ensures stays { IfErr result (λ _. bytes.new.state ≡ bytes.old.state) }
 {
     let mut ahead = bytes.clone().unwrap();

@@ -4,11 +4,12 @@
 //!
 //! Proof by hand: 20 lines, two lemmas in `proofs/FloatFaults.antt` on the order of the faults.
 
-ghost use Rattle.std.specs.Prelude.{◌≡◌, ◌+◌, ◌<◌, IsTrue, false, if◌then◌else◌, IfOk, IfErr, OnOk, IfSome, IfNone, MatchOption, pos, ◌-ℤ◌};
+ghost use Rattle.std.specs.Prelude.{◌≡◌, ◌+◌, ◌<◌, IsTrue, false, if◌then◌else◌, IfOk, IfErr, OnOk, IfSome, IfNone, MatchOption, pos, ◌-ℤ◌, ◌≤ℤ◌};
 ghost use Rattle.std.specs.Str.Parse.{digits_value_after};
 ghost use Rattle.lexical_format.specs.Word.{is_supported};
 ghost use Rattle.lexical_digits.specs.State.{rule, own, with_cursor};
 ghost use Rattle.lexical_digits.specs.Stop.{past_digits_of};
+ghost use Rattle.lexical_digits.specs.Looks.{owed};
 ghost use Rattle.digit_literals.specs.After.{PassesAt};
 ghost use Rattle.digit_uses.specs.Bytes.{one_of, is_minus, is_mark, stands};
 ghost use Rattle.digit_uses.specs.Float.{IsSpan, mantissa_end, past_sign, digits_in, places_of, written, IsAt, IsMantissa, IsScale, IsFar, IsFaultWithin, IsFaultOfScale, IsFault};
@@ -39,6 +40,7 @@ pub(crate) fn pass_one_of(bytes: &mut Bytes, wanted: &[u8]) -> bool
         result ≡ stands (one_of wanted.now) s.buffer s.cursor }
     ensures state { let s = bytes.old.state in
         bytes.new.state ≡ if result then with_cursor s (s.cursor + 1) else s }
+    ensures owes { owed bytes.new ≤ℤ owed bytes.old }
 {
     let found = match bytes.first() {
         Some(byte) => wanted.contains(byte),
