@@ -1,9 +1,9 @@
 //! The digits that count in an integer: the zeros in front, and the digits from the first that is
 //! none, as a reader of floats asks for them.
 //!
-//! Proof by hand: none.
+//! Proof by hand: 20 lines, an answer by the law of what is left.
 
-ghost use Rattle.std.specs.Prelude.{◌≡◌, length, IsTrue};
+ghost use Rattle.std.specs.Prelude.{◌≡◌, ◌+◌, length, IsTrue};
 ghost use Rattle.lexical_format.specs.Word.{is_supported};
 ghost use Rattle.lexical_digits.specs.State.{start};
 ghost use Rattle.lexical_digits.specs.CallTable.{zeros_of, past_zeros_of};
@@ -12,6 +12,7 @@ ghost use Rattle.lexical_digits.specs.declared.skip.component.Component.TheVaria
 
 use digit_literals::{pass_digits, pass_zeros};
 use lexical_digits::iterator::Iter;
+use lexical_digits::laws::rest_is_left;
 use lexical_digits::skip::{Bytes, Component};
 
 /// The digits of an integer.
@@ -31,8 +32,11 @@ pub fn read_figures(text: &[u8], word: u128) -> Figures
     ensures zeros { result.zeros ≡ zeros_of Integer (start text.now word) }
     ensures significant { let s = past_zeros_of Integer (start text.now word) in
         result.significant ≡ length (leading_digits_of Integer s) }
+    ensures all { result.zeros + result.significant
+        ≡ length (leading_digits_of Integer (start text.now word)) }
     ensures end { result.end ≡ stop_of Integer (past_zeros_of Integer (start text.now word)) }
 {
+    rest_is_left();
     let mut bytes = Bytes::new(text, word);
     let zeros = pass_zeros(&mut bytes, Component::Integer);
     let significant = pass_digits(&mut bytes, Component::Integer);
