@@ -11,7 +11,7 @@ use std::alloc::{AllocError, Allocator, Global};
 use std::io::{Read, Write};
 
 /// Answers each line of an input: reads the input to its end, makes the whole output, and then
-/// writes it. Not in lexical-util.
+/// writes it.
 ///
 /// The first bad line ends the run: the answers to the lines before it are written, and the line's
 /// fault is the answer. Reading can end with [`Fault::Read`], [`Fault::TooLong`] or
@@ -66,7 +66,7 @@ fn line_for<A: Allocator>(alloc: A, fault: &Fault) -> Result<String<A>, AllocErr
     }
 }
 
-/// Writes the error line of a fault, with its line feed. Not in lexical-util.
+/// Writes the error line of a fault, with its line feed.
 ///
 /// It can answer only two faults: on [`Fault::Write`] a prefix of the line was written, never the
 /// whole, and on [`Fault::Memory`] nothing was written.
@@ -86,7 +86,7 @@ pub fn tell_in<A: Allocator, W: Write>(alloc: A, fault: &Fault, writer: &mut W) 
 
 /// Runs the whole program: answers each line of an input by [`run`], and writes the error line of a
 /// fault to the same writer by [`tell`]. The answer is the exit status: 0, or the status of the
-/// fault, even if its error line could not be written. Not in lexical-util.
+/// fault, even if its error line could not be written.
 pub fn serve<R: Read, W: Write>(alloc: Global, reader: &mut R, writer: &mut W) -> u8
     ensures { Serves (R.remaining reader.old) (R.remaining reader.new)
         (W.contents writer.old) (W.contents writer.new) result }

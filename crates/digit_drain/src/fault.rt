@@ -57,7 +57,6 @@ impl<T: Drop> From<AllocFailed<T>> for Fault {
 }
 
 /// Whether two faults are equal: exactly if they are the same variant with the same line number.
-/// Not in lexical-util.
 pub fn same_fault(a: Fault, b: Fault) -> bool
     ensures same { result ≡ true → a ≡ b }
     ensures equal { a ≡ b → result ≡ true }

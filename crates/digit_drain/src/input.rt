@@ -17,7 +17,7 @@ pub const READS: u32 = 131072;
 
 /// Reads all the bytes that a reader has left. It answers [`Fault::TooLong`] at the first byte
 /// after [`LIMIT`] bytes, and [`Fault::Read`] if a read failed or was interrupted, or if [`READS`]
-/// reads did not reach the end. Not in lexical-util.
+/// reads did not reach the end.
 pub fn read_input<A: Allocator, R: Read>(alloc: A, reader: &mut R) -> Result<Vec<u8, A>, Fault>
     ensures short { IfOk result (λ input. length input.items ≤ most_bytes) }
     ensures all { IfOk result (λ input.

@@ -50,8 +50,7 @@ fn find(bytes: &[u8], mark: u8) -> Option<usize>
     bytes.iter().position(|byte| *byte == mark)
 }
 
-/// The bytes before the first `mark`, and the bytes after it. `None` if there is no `mark`. Not in
-/// lexical-util.
+/// The bytes before the first `mark`, and the bytes after it. `None` if there is no `mark`.
 pub fn cut(bytes: &[u8], mark: u8) -> Option<(&[u8], &[u8])>
     ensures { Line.cut mark bytes.now ≡ option_map (λ parts. (parts.0.now, parts.1.now)) result }
 {
@@ -187,7 +186,7 @@ fn read_flags(component: Component, field: &[u8]) -> Option<Flags>
     }
 }
 
-/// Reads a line, without its line feed, as a request. `None` if it is not one. Not in lexical-util.
+/// Reads a line, without its line feed, as a request. `None` if it is not one.
 #[tactic(auto, unfolding(crate::specs::Line::request_of))]
 pub fn read_request(line: &[u8]) -> Option<Request<'_>>
     ensures { Line.request_of line.now ≡ option_map Line.asked_by result }
@@ -209,7 +208,7 @@ pub fn read_request(line: &[u8]) -> Option<Request<'_>>
     })
 }
 
-/// The format word of a request. Not in lexical-util.
+/// The format word of a request.
 #[tactic(auto, unfolding(crate::specs::Line::word_of), using(crate::proofs::WordSays::word_says))]
 pub fn word(request: &Request<'_>) -> u128
     ensures value { result ≡ Line.word_of (Line.asked_by request.now) }

@@ -8,8 +8,7 @@ use super::fault::Fault;
 use std::io::Write;
 
 /// Writes all the bytes. It answers [`Fault::Write`] if a write failed, was interrupted, or wrote
-/// nothing although bytes were left; then a prefix of the bytes was written, never the whole. Not
-/// in lexical-util.
+/// nothing although bytes were left; then a prefix of the bytes was written, never the whole.
 pub fn write_output<W: Write>(writer: &mut W, bytes: &[u8]) -> Result<(), Fault>
     ensures ok { OnOk result (Appends (W.contents writer.old) (W.contents writer.new) bytes.now) }
     ensures part { OnErr result

@@ -122,7 +122,7 @@ fn push_answer<A: Allocator>(
 }
 
 /// Makes the answers to the lines before the first bad line, and names that line. It fails only if
-/// memory is refused. Not in lexical-util.
+/// memory is refused.
 pub fn make_report<'a, A: Allocator>(
     alloc: &'a A,
     input: &[u8],

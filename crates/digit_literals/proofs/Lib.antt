@@ -7,4 +7,4 @@ pub mod Leads
 pub mod Whole
 pub mod Texts
 pub mod Within
-pub mod Calling
+pub mod ForCallers

@@ -4,7 +4,7 @@ use Rattle.lexical_digits.specs.declared.skip.rule.Rule.{Rule}
 use Rattle.lexical_digits.proofs.Calls.FirstOther.{stop_is_first}
 use Rattle.lexical_digits.proofs.Rule.Supported.{supported_rule}
 use Rattle.digit_literals.specs.Integers.{IsInteger, HasNoDigit, IsTooLarge}
-use Rattle.digit_literals.proofs.Calling.{stop_from, stop_within}
+use Rattle.digit_literals.proofs.ForCallers.{stop_from, stop_within}
 
 pub integer_within : (rule : Rule) (text : List ℕ) (value end : ℕ) →
     IsInteger rule text value end → end ≤ length text

@@ -21,7 +21,7 @@ use lexical_digits::skip::{
 
 /// Passes the digits of a component that lead from the cursor on, and answers how many there are.
 /// The cursor is then at the stop: the first byte that the component keeps and that is no digit, or
-/// else the end. Not in lexical-util.
+/// else the end.
 #[inline(always)]
 #[tactic(auto, using(crate::proofs::States::leading_digits))]
 pub fn pass_digits(bytes: &mut Bytes, component: Component) -> usize
@@ -43,7 +43,7 @@ pub fn pass_digits(bytes: &mut Bytes, component: Component) -> usize
 /// No digit is no error, since many formats allow `1.` and `.5`: the value is then `before`, and
 /// the count is 0. [`TooLarge`] holds the position of the first digit with which the value is above
 /// `u64::MAX`: the digits before it were passed, and the cursor is on it. Their value and number
-/// are in the error too. Not in lexical-util.
+/// are in the error too.
 ///
 /// ```text
 /// `12_5` with internal `_`, after 4: Ok(Digits { value: 4125, count: 3 })
@@ -71,8 +71,7 @@ pub fn read_digits_of(
 }
 
 /// [`read_digits_of`] up to a greatest value: [`TooLarge`] holds the position of the first digit
-/// with which the value is above `most`. Requires that `before` is at most `most`. Not in
-/// lexical-util.
+/// with which the value is above `most`. Requires that `before` is at most `most`.
 #[inline(always)]
 #[tactic(auto, using(crate::proofs::States::by_state))]
 pub fn read_digits_up_to(
@@ -157,7 +156,7 @@ fn read_on(
 
 /// Passes the bytes `0` of a component that lead from the cursor on, and answers how many there
 /// are. Each is counted if the component counts. The cursor is then at the next byte that the
-/// component keeps, or else at the end. Not in lexical-util.
+/// component keeps, or else at the end.
 #[inline(always)]
 #[tactic(auto, using(crate::proofs::States::leading_zeros))]
 pub fn pass_zeros(bytes: &mut Bytes, component: Component) -> usize
@@ -171,12 +170,11 @@ pub fn pass_zeros(bytes: &mut Bytes, component: Component) -> usize
 /// How many digits a text has, if its integer goes on to its end: every byte is a digit of the
 /// mantissa radix, or a separator that the word's integer drops. Otherwise the position of the
 /// first byte that is neither. The empty text has 0 digits. Requires that the word is supported.
-/// Not in lexical-util.
 ///
 /// ```text
 /// with internal `_`: `1_000` is Ok(4), `1_` and `1x` are Err(1)
 /// ```
-#[tactic(auto, using(crate::proofs::Calling::all_is))]
+#[tactic(auto, using(crate::proofs::ForCallers::all_is))]
 pub fn count_digits(text: &[u8], word: u128) -> Result<usize, usize>
     requires { IsTrue (is_supported word) }
     ensures digits { let r = rule_of word Integer in

@@ -5,7 +5,7 @@ ghost use Rattle.std.specs.Prelude.{◌≡◌, true};
 
 use super::{Digits, LiteralError, ParseError, TooLarge};
 
-/// Two errors of a literal are equal exactly if they are the same. Not in lexical-util.
+/// Two errors of a literal are equal exactly if they are the same.
 pub fn same_literal_error(a: LiteralError, b: LiteralError) -> bool
     ensures same { result ≡ true → a ≡ b }
     ensures equal { a ≡ b → result ≡ true }
@@ -13,7 +13,7 @@ pub fn same_literal_error(a: LiteralError, b: LiteralError) -> bool
     a == b
 }
 
-/// Two errors of a whole text are equal exactly if they are the same. Not in lexical-util.
+/// Two errors of a whole text are equal exactly if they are the same.
 pub fn same_parse_error(a: ParseError, b: ParseError) -> bool
     ensures same { result ≡ true → a ≡ b }
     ensures equal { a ≡ b → result ≡ true }
@@ -21,7 +21,7 @@ pub fn same_parse_error(a: ParseError, b: ParseError) -> bool
     a == b
 }
 
-/// Two answers of digits are equal exactly if they are the same. Not in lexical-util.
+/// Two answers of digits are equal exactly if they are the same.
 pub fn same_digits(a: Digits, b: Digits) -> bool
     ensures same { result ≡ true → a ≡ b }
     ensures equal { a ≡ b → result ≡ true }
@@ -29,7 +29,7 @@ pub fn same_digits(a: Digits, b: Digits) -> bool
     a == b
 }
 
-/// Two errors of a value too large are equal exactly if they are the same. Not in lexical-util.
+/// Two errors of a value too large are equal exactly if they are the same.
 pub fn same_too_large(a: TooLarge, b: TooLarge) -> bool
     ensures same { result ≡ true → a ≡ b }
     ensures equal { a ≡ b → result ≡ true }

@@ -23,7 +23,7 @@ use lexical_format::{char_is_digit_const, char_to_digit_const};
 /// The answer is that of [`read_digits`](super::read_digits) on the integer iterator of a fresh
 /// `Bytes`, and on `Ok` the cursor. [`Empty`](LiteralError::Empty) holds the stop if no digit is
 /// before it; [`Overflow`](LiteralError::Overflow) the first digit with which the value is above
-/// `u64::MAX`. The call counts no looks on a `Bytes` of its caller. Not in lexical-util.
+/// `u64::MAX`. The call counts no looks on a `Bytes` of its caller.
 ///
 /// ```text
 /// `1_000` with internal separators: Ok((1000, 5))      `_1`: Err(Empty(0))
@@ -44,7 +44,6 @@ pub fn read_integer(text: &[u8], word: u128) -> Result<(u64, usize), LiteralErro
 /// text and the word is supported.
 ///
 /// [`Overflow`](LiteralError::Overflow) holds the first digit with which the value is above `most`.
-/// Not in lexical-util.
 ///
 /// ```text
 /// `0x1_f` with internal `_` and radix 16, from 2: Ok((31, 5)); up to 9: Err(Overflow(4))

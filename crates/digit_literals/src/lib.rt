@@ -34,8 +34,7 @@ use lexical_digits::iterator::DigitsIter;
 use std::error::Error;
 use std::fmt;
 
-/// Why there is no value. A position counts bytes from the start of the buffer, from 0. Not in
-/// lexical-util.
+/// Why there is no value. A position counts bytes from the start of the buffer, from 0.
 #[derive(Clone, Copy, Debug, PartialEq, Eq)]
 pub enum LiteralError {
     /// The first kept byte, which is at this position, is no digit; or there is none, and this
@@ -65,8 +64,7 @@ impl fmt::Display for LiteralError {
 impl Error for LiteralError {}
 
 /// No two of the three outcomes of [`read_digits`] can be had from one iterator, whatever they
-/// answer and leave: so none may stand for another. Requires that the radix is at least 1. Not in
-/// lexical-util.
+/// answer and leave: so none may stand for another. Requires that the radix is at least 1.
 pub fn outcomes_differ<'a, I: DigitsIter<'a>>(iter: &I, radix: u32)
     requires { 1 ≤ radix }
     ensures read_or_none { (value at : ℕ) (left other : I.Meaning) → let m = I.meaning iter.now in
@@ -81,7 +79,7 @@ pub fn outcomes_differ<'a, I: DigitsIter<'a>>(iter: &I, radix: u32)
 {}
 
 /// A text that is one integer has no fault: so [`parse_integer`] answers its value. Requires that
-/// the word is supported. Not in lexical-util.
+/// the word is supported.
 pub fn integers_have_no_fault(text: &[u8], word: u128)
     requires { IsTrue (is_supported word) }
     ensures large { (value end at : ℕ) → let r = rule_of word Integer in

@@ -12,8 +12,7 @@ use super::integer::read_integer_from;
 use std::error::Error;
 use std::fmt;
 
-/// The first fault of a text that is no integer. A position counts bytes from 0. Not in
-/// lexical-util.
+/// The first fault of a text that is no integer. A position counts bytes from 0.
 #[derive(Clone, Copy, Debug, PartialEq, Eq)]
 pub enum ParseError {
     /// The text has no digit, and no other byte that is kept. The position is its end.
@@ -42,7 +41,7 @@ impl Error for ParseError {}
 
 /// The value of a text that is one integer throughout: digits of the mantissa radix, and separators
 /// that the word's integer drops. Otherwise the first fault. Requires that the word is supported.
-/// The call counts no looks on a `Bytes` of its caller. Not in lexical-util.
+/// The call counts no looks on a `Bytes` of its caller.
 ///
 /// ```text
 /// with internal `_`: `1_000` is Ok(1000), `1_` and `1x` are Err(Invalid(1)), the empty text is
@@ -61,7 +60,7 @@ pub fn parse_integer(text: &[u8], word: u128) -> Result<u64, ParseError>
 /// The value of a text that is an optional `+` or `-` and then one integer throughout, as for
 /// [`parse_integer`]: `i64::MIN` too. Otherwise the first fault; its position is that in the text,
 /// with the sign. Requires that the word is supported. The call counts no looks on a `Bytes` of its
-/// caller. Not in lexical-util.
+/// caller.
 ///
 /// ```text
 /// with internal `_`: `-1_000` is Ok(-1000), `-` is Err(Empty(1)), `--1` is Err(Invalid(1))

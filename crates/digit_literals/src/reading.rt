@@ -13,7 +13,7 @@ use lexical_format::char_to_digit_const;
 use std::error::Error;
 use std::fmt;
 
-/// Digits that were read after a value. Not in lexical-util.
+/// Digits that were read after a value.
 #[derive(Clone, Copy, Debug, PartialEq, Eq)]
 pub struct Digits {
     /// The value of the digits before them and of these, as one number.
@@ -22,7 +22,7 @@ pub struct Digits {
     pub count: usize,
 }
 
-/// A value is above the greatest one that was asked for. Not in lexical-util.
+/// A value is above the greatest one that was asked for.
 #[derive(Clone, Copy, Debug, PartialEq, Eq)]
 pub struct TooLarge {
     /// The position of the first digit with which it is, in bytes from 0.
@@ -103,7 +103,7 @@ fn take_byte<'a, I: DigitsIter<'a>>(iter: &mut I)
 /// digits before it were taken, and the cursor is on it: their value and count are in the error.
 ///
 /// Requires that `before` is at most `most`. Radix and digits are as in [`read_digits`]. Takes no
-/// memory. Not in lexical-util.
+/// memory.
 #[inline]
 #[tactic(auto, using(crate::proofs::Values::reading))]
 pub fn read_digits_after<'a, I: DigitsIter<'a>>(
@@ -150,7 +150,7 @@ pub fn read_digits_after<'a, I: DigitsIter<'a>>(
 /// which the value is above `u64::MAX`: the digits before it were taken, and the cursor is on it.
 ///
 /// Digits are those of [`char_to_digit_const`], letters in either case, in any radix. Usually the
-/// radix is that of the iterator's own `is_digit`. Takes no memory. Not in lexical-util.
+/// radix is that of the iterator's own `is_digit`. Takes no memory.
 #[inline]
 pub fn read_digits<'a, I: DigitsIter<'a>>(iter: &mut I, radix: u32) -> Result<u64, LiteralError>
     ensures ok { IfOk result (λ value.
@@ -197,7 +197,7 @@ fn peek_is_digit<'a, I: DigitsIter<'a>>(iter: &mut I) -> bool
 /// Takes the digits that lead what an iterator yields, and answers how many: a digit is a byte for
 /// which the iterator's `is_digit` answers `true`. `next` takes each of them, and so an iterator
 /// that counts has counted them. The cursor ends at the first item after them, past any separators
-/// before that item, or at the end. Takes no memory. Not in lexical-util.
+/// before that item, or at the end. Takes no memory.
 #[inline]
 #[tactic(auto, using(crate::proofs::Taking::taking))]
 pub fn take_digits<'a, I: DigitsIter<'a>>(iter: &mut I) -> usize

@@ -10,7 +10,7 @@ use Rattle.lexical_digits.specs.State.{State, IsState, with_cursor, is_contiguou
 use Rattle.lexical_digits.specs.Laws.Table.{taken_buffer, with_own_buffer}
 use Rattle.lexical_digits.specs.CallTable.{Part, Call, OnBytes, Refused, after_view, row, row_of, run_of, shared_row, contiguous_on, count_on, place_of, settled, counted, taken, zeros_of, past_zeros_of}
 use Rattle.lexical_digits.specs.Looks.{Held, owed}
-use Rattle.lexical_digits.proofs.Looks.Owing.{looks_within}
+use Rattle.lexical_digits.proofs.Looks.Owed.{looks_within}
 use Rattle.lexical_digits.proofs.Calls.ItemsOfComponents.{zeros_are, after_zeros_are}
 use Rattle.digit_script.specs.declared.Call as script
 use Rattle.digit_script.specs.declared.Answer.{Answer}

@@ -16,7 +16,7 @@ use dispatch::make;
 use lexical_digits::skip::Bytes;
 use std::alloc::{AllocError, Allocator, Global};
 
-/// The part that a call is made on. Not in lexical-util.
+/// The part that a call is made on.
 #[derive(Clone, Copy, Debug, PartialEq, Eq)]
 pub enum Part {
     /// The `Bytes` itself.
@@ -108,7 +108,7 @@ pub enum Op {
     TakeN(usize),
 }
 
-/// A call on a part. Not in lexical-util.
+/// A call on a part.
 #[derive(Clone, Copy, Debug, PartialEq, Eq)]
 pub struct Call {
     /// The part that the call is made on.
@@ -117,8 +117,7 @@ pub struct Call {
     pub op: Op,
 }
 
-/// What a call answered. Positions count bytes from 0, the start of the buffer. Not in
-/// lexical-util.
+/// What a call answered. Positions count bytes from 0, the start of the buffer.
 #[derive(Clone, Copy, Debug, PartialEq, Eq)]
 pub enum Answer {
     /// Bytes of the buffer, by the position of the first and the position after the last.
@@ -149,14 +148,14 @@ pub enum Answer {
 /// have it.
 ///
 /// Room for all answers is reserved first. If that is refused, the answer is `AllocError` and
-/// `bytes` is unchanged. Nothing else can fail. Not in lexical-util.
+/// `bytes` is unchanged. Nothing else can fail.
 pub fn run(alloc: Global, bytes: &mut Bytes, calls: &[Call]) -> Result<Vec<Answer>, AllocError>
     ensures { RunsCalls bytes.old bytes.new (script_of calls.now) result }
 {
     run_in(alloc, bytes, calls)
 }
 
-/// As [`run`], with any allocator. Not in lexical-util.
+/// As [`run`], with any allocator.
 pub fn run_in<A: Allocator>(
     alloc: A,
     bytes: &mut Bytes,
@@ -172,7 +171,7 @@ pub fn run_in<A: Allocator>(
     Ok(answers)
 }
 
-/// Whether two parts are equal: exactly if they are the same variant. Not in lexical-util.
+/// Whether two parts are equal: exactly if they are the same variant.
 pub fn same_part(a: Part, b: Part) -> bool
     ensures same { result ≡ true → a ≡ b }
     ensures equal { a ≡ b → result ≡ true }
@@ -181,7 +180,6 @@ pub fn same_part(a: Part, b: Part) -> bool
 }
 
 /// Whether two ops are equal: exactly if they are the same variant with the same arguments.
-/// Not in lexical-util.
 pub fn same_op(a: Op, b: Op) -> bool
     ensures same { result ≡ true → a ≡ b }
     ensures equal { a ≡ b → result ≡ true }
@@ -189,7 +187,7 @@ pub fn same_op(a: Op, b: Op) -> bool
     a == b
 }
 
-/// Whether two calls are equal: exactly if their parts and their ops are. Not in lexical-util.
+/// Whether two calls are equal: exactly if their parts and their ops are.
 pub fn same_call(a: Call, b: Call) -> bool
     ensures same { result ≡ true → a ≡ b }
     ensures equal { a ≡ b → result ≡ true }
@@ -198,7 +196,6 @@ pub fn same_call(a: Call, b: Call) -> bool
 }
 
 /// Whether two answers are equal: exactly if they are the same variant with the same content.
-/// Not in lexical-util.
 pub fn same_answer(a: Answer, b: Answer) -> bool
     ensures same { result ≡ true → a ≡ b }
     ensures equal { a ≡ b → result ≡ true }

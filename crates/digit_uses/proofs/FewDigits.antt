@@ -4,7 +4,7 @@ use Rattle.std.specs.List.{filter, slice_range}
 use Rattle.std.proofs.lemmas.List.Sums.{length-filter, count_by-le-length}
 use Rattle.std.proofs.lemmas.List.{length-take}
 use Rattle.lexical_digits.specs.Laws.Table.{with_own_buffer}
-use Rattle.digit_literals.proofs.Calling.{stop_from}
+use Rattle.digit_literals.proofs.ForCallers.{stop_from}
 
 pub few_in_range : (p : ℕ → Bool) (xs : List ℕ) (from to : ℕ)
     → length (filter p (slice_range xs from to)) ≤ to - from

@@ -135,7 +135,7 @@ pub enum FloatError {
 }
 
 /// Reads integer and fraction from the cursor on. Requires that no digit was counted.
-#[tactic(auto, using(digit_literals::proofs::Calling::value_of_both))]
+#[tactic(auto, using(digit_literals::proofs::ForCallers::value_of_both))]
 fn read_mantissa(bytes: &mut Bytes) -> Result<Mantissa, FloatError>
     requires integer { bytes.old.state.integer ≡ 0 }
     requires fraction { bytes.old.state.fraction ≡ 0 }

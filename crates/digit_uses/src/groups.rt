@@ -36,7 +36,7 @@ fn word() -> u128
 }
 
 /// How many digits a text begins with, and where they end.
-#[tactic(auto, using(digit_literals::proofs::Calling::stop_within))]
+#[tactic(auto, using(digit_literals::proofs::ForCallers::stop_within))]
 fn lead(text: &[u8], word: u128) -> (usize, usize)
     requires { IsTrue (is_supported word) }
     ensures count { let r = rule_of word Integer in
@@ -50,7 +50,7 @@ fn lead(text: &[u8], word: u128) -> (usize, usize)
 }
 
 /// The value of a text of hexadecimal digits that reach its end: 1 to 16 digits always fit.
-#[tactic(auto, using(digit_literals::proofs::Calling::all_is))]
+#[tactic(auto, using(digit_literals::proofs::ForCallers::all_is))]
 fn value_of(text: &[u8], word: u128) -> u64
     requires supported { IsTrue (is_supported word) }
     requires rule { rule_of word Integer ≡ colons }
@@ -67,7 +67,7 @@ fn value_of(text: &[u8], word: u128) -> u64
 }
 
 /// The value of a text of `count` hexadecimal digits, 1 to 16, with single `:` between them.
-#[tactic(auto, using(digit_literals::proofs::Calling::all_is))]
+#[tactic(auto, using(digit_literals::proofs::ForCallers::all_is))]
 pub fn read_groups(text: &[u8], count: usize) -> Result<u64, GroupsError>
     requires some { 1 ≤ count }
     requires few { count ≤ 16 }

@@ -16,7 +16,7 @@ use lexical_digits::iterator::Iter;
 use lexical_digits::skip::{Bytes, Component};
 
 /// Where the number ends that begins with the digit at a position.
-#[tactic(auto, using(digit_literals::proofs::Calling::rests))]
+#[tactic(auto, using(digit_literals::proofs::ForCallers::rests))]
 pub fn number_end(text: &[u8], word: u128, from: usize) -> usize
     requires supported { IsTrue (is_supported word) }
     requires within { from < length text.now }

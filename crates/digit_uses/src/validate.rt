@@ -17,7 +17,7 @@ use lexical_digits::skip::{Bytes, Component};
 use lexical_digits::texts::{all_flags_read_every, internal_reads_between, runs_read_between};
 
 /// Where the digits at the start of a text end.
-#[tactic(auto, using(digit_literals::proofs::Calling::stop_within))]
+#[tactic(auto, using(digit_literals::proofs::ForCallers::stop_within))]
 fn digits_end(text: &[u8], word: u128, component: Component) -> usize
     requires { IsTrue (is_supported word) }
     ensures end { result ≡ stop (rule_of word component) text.now 0 0 }

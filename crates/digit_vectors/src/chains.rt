@@ -1,6 +1,5 @@
 //! Chains of std's iterators over the bytes that a component keeps. Each contract names the drain,
-//! which is a filter over the whole buffer. Every call asks that the word is supported. Not in
-//! lexical-util.
+//! which is a filter over the whole buffer. Every call asks that the word is supported.
 
 ghost use Rattle.std.specs.Prelude.{◌≡◌, length, IsTrue, IfOk, None, slice_get, fold, ◌+◌, ◌%◌};
 ghost use Rattle.std.specs.List.{last_or};

@@ -1,13 +1,13 @@
 //! Callers of the iterators. A call such as `integer_iter` makes an iterator whose answers a proof
 //! knows. A literal makes the same iterator, and after it a proof also knows what the `Bytes`
-//! holds. Not in lexical-util.
+//! holds.
 
 ghost use Rattle.std.specs.Prelude.{◌≡◌, ◌+◌, IsTrue, if◌then◌else◌, is_some, option_copied, slice_get, pos, ◌≤ℤ◌, ◌+ℤ◌};
 ghost use Rattle.lexical_format.specs.Word.{is_supported};
 ghost use Rattle.lexical_digits.specs.Separators.{is_digit, place};
 ghost use Rattle.lexical_digits.specs.State.{rule_of, rule, with_cursor};
 ghost use Rattle.lexical_digits.specs.CallTable.{byte_at_place, settled, taken};
-ghost use Rattle.lexical_digits.specs.Looks.{owed, Unread};
+ghost use Rattle.lexical_digits.specs.Looks.{owed, NoLooks};
 ghost use Rattle.lexical_digits.specs.Cursor.{byte_if, holds_of};
 ghost use Rattle.digit_vectors.specs.Sign.{is_sign};
 ghost use Rattle.lexical_digits.specs.declared.skip.component.Component.TheVariants.{Integer};
@@ -22,7 +22,7 @@ pub fn pass_sign(bytes: &mut Bytes) -> bool
         result ≡ holds_of (is_sign s) (slice_get s.buffer s.cursor) }
     ensures state { let s = bytes.old.state in
         bytes.new.state ≡ if result then with_cursor s (s.cursor + 1) else s }
-    ensures unread { Unread bytes.old bytes.new }
+    ensures no_looks { NoLooks bytes.old bytes.new }
 {
     let mut digits = IntegerDigitsIterator { byte: bytes };
     let Some(byte) = digits.first() else {

@@ -1,6 +1,5 @@
 //! The role rule as a slow program, which the tests compare the iterators with. For each position
-//! it looks at the whole buffer. It has no cursor and no state. Positions count bytes from 0. Not
-//! in lexical-util.
+//! it looks at the whole buffer. It has no cursor and no state. Positions count bytes from 0.
 
 ghost use Rattle.std.specs.Prelude.{◌≡◌, ◌+◌, ◌<◌, ◌≤◌, not, length, reverse, Option};
 ghost use Rattle.std.specs.List.{list_any, find};

@@ -1,5 +1,5 @@
 //! An iterator of one's own. It isn't one of `lexical_digits`, and the traits give it all their
-//! calls. The page `IMPLEMENTING.md` explains it. Not in lexical-util.
+//! calls. The page `IMPLEMENTING.md` explains it.
 
 ghost use Rattle.std.specs.Prelude.{◌≡◌, ◌≤◌, length};
 ghost use Rattle.std.specs.List.{prefix_len};

@@ -9,6 +9,6 @@ pub mod DigitAtPlace
 pub mod Stops
 pub mod FirstOther
 pub mod Texts
-pub mod Calling
+pub mod ForCallers
 pub mod Loops
 pub mod Rest

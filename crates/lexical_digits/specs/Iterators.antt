@@ -11,7 +11,7 @@ use Rattle.lexical_digits.specs.Separators.{is_separator}
 use Rattle.lexical_digits.specs.State.{State, with_cursor, is_contiguous}
 use Rattle.lexical_digits.specs.CallTable.{place_of, byte_at_place, settled, counted, taken, view, after_view, drain_of, Takes}
 use Rattle.lexical_digits.specs.Cursor.{CanStep, items, after_items, zeros, after_zeros}
-use Rattle.lexical_digits.specs.Looks.{Held, owed, Costs, Unread}
+use Rattle.lexical_digits.specs.Looks.{Held, owed, Costs, NoLooks}
 
 -- ---- before a call
 
@@ -47,12 +47,12 @@ after_zeros_in k =
 pub record Makes (a b : MutBor Held) : Type 0 where
   pub same_loan : b.ghost_name ≡ a.ghost_name
   pub state : b.now.state ≡ a.now.state
-  pub unread : Unread a.now b.now
+  pub no_looks : NoLooks a.now b.now
 
 -- `set_cursor`: a move back owes at most three for each byte of the buffer more
 pub record Moves (a b : MutBor Held) (index : ℕ) : Type 0 where
   pub moves : b.now.state ≡ with_cursor a.now.state index
-  pub unread : Unread a.now b.now
+  pub no_looks : NoLooks a.now b.now
   pub owes : a.now.state.cursor ≤ index → owed b.now ≤ℤ owed a.now
   pub owes_back : owed b.now ≤ℤ (owed a.now +ℤ pos (3 * length a.now.state.buffer))
   pub keeps_loan : b.ghost_name ≡ a.ghost_name
@@ -60,23 +60,23 @@ pub record Moves (a b : MutBor Held) (index : ℕ) : Type 0 where
 -- `step_by_unchecked`
 pub record Steps (a b : MutBor Held) (count : ℕ) : Type 0 where
   pub moves : b.now.state ≡ with_cursor a.now.state (a.now.state.cursor + count)
-  pub unread : Unread a.now b.now
+  pub no_looks : NoLooks a.now b.now
   pub owes : owed b.now ≤ℤ owed a.now
   pub keeps_loan : b.ghost_name ≡ a.ghost_name
 
 -- `increment_count`
 pub record Counts (k : Component) (a b : MutBor Held) : Type 0 where
   pub counts : b.now.state ≡ counted k a.now.state
-  pub unread : Unread a.now b.now
+  pub no_looks : NoLooks a.now b.now
   pub owes : owed b.now ≤ℤ owed a.now
   pub keeps_loan : b.ghost_name ≡ a.ghost_name
 
 -- `take_n`: the view that it answers has looked at nothing yet
 pub record Cuts (k : Component) (a b : MutBor Held) (n : ℕ) (result : Option Held) : Type 0 where
   pub view : option_map (λ v. v.state) result ≡ view k a.now.state n
-  pub view_unread : IfSome result (λ v. (v.run ≡ None) × (v.looks ≡ 0))
+  pub view_no_looks : IfSome result (λ v. (v.run ≡ None) × (v.looks ≡ 0))
   pub state : b.now.state ≡ after_view k a.now.state n
-  pub unread : Unread a.now b.now
+  pub no_looks : NoLooks a.now b.now
   pub owes : owed b.now ≤ℤ owed a.now
   pub keeps_loan : b.ghost_name ≡ a.ghost_name
 

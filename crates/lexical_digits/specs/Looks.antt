@@ -156,18 +156,18 @@ pub record Costs (k : Component) (a b : Held) : Type 0 where
 
 -- A read from a to b that leaves the byte where it is: it answers the byte at the place, where the
 -- cursor then stands.
-pub record Settles (k : Component) (a b : Held) (answer : Option ℕ) : Type 0 where
+pub record PeeksOf (k : Component) (a b : Held) (answer : Option ℕ) : Type 0 where
   pub byte : answer ≡ byte_at_place k a.state
   pub settles : b.state ≡ settled k a.state
   pub costs : Costs k a b
 
 -- A read from a to b that takes the byte, and counts it if it is a digit that counts.
-pub record Yields (k : Component) (a b : Held) (result : Option (Bor ℕ)) : Type 0 where
+pub record NextsOf (k : Component) (a b : Held) (result : Option (Bor ℕ)) : Type 0 where
   pub takes : Takes k a.state b.state result
   pub costs : Costs k a b
 
 -- nothing was looked at, and the run stays
-pub record Unread (a b : Held) : Type 0 where
+pub record NoLooks (a b : Held) : Type 0 where
   pub run : b.run ≡ a.run
   pub looks : b.looks ≡ a.looks
 

@@ -17,7 +17,7 @@ pub use crate::skip::{AsBytes, Bytes};
 /// calls of a `Bytes` by component. More calls: [`IterBodies`].
 pub trait Iter<'a> {
     /// The type of a value's meaning: what the value stands for in the logic. Every contract speaks
-    /// of meanings. Not in lexical-util.
+    /// of meanings.
     type Meaning;
 
     // The meaning of a value.
@@ -36,7 +36,7 @@ pub trait Iter<'a> {
     ghost owed: { Self → ℤ } = { λ _. pos 0 };
 
     // What a call that looks at no byte preserves, besides the meaning.
-    ghost Unread: { Self → Self → Type 0 } = { λ _ _. ⊤ };
+    ghost NoLooks: { Self → Self → Type 0 } = { λ _ _. ⊤ };
 
     // The whole buffer.
     ghost buffer: { Self.Meaning → List ℕ };
@@ -56,11 +56,11 @@ pub trait Iter<'a> {
     // The meaning that `set_cursor` leaves, for each position.
     ghost moved: { Self.Meaning → ℕ → Self.Meaning };
 
-    /// The whole buffer, from its start: lexical-util's `get_buffer`.
+    /// The whole buffer, from its start.
     fn get_buffer(&self) -> &'a [u8]
         ensures { result.now ≡ buffer (meaning self.now) };
 
-    /// The position of the cursor, at most the length of the buffer: lexical-util's `cursor`.
+    /// The position of the cursor, at most the length of the buffer.
     fn cursor(&self) -> usize
         ensures value { result ≡ cursor (meaning self.now) }
         ensures below_max { result < usize.MAX };
@@ -70,12 +70,12 @@ pub trait Iter<'a> {
     fn set_cursor(&mut self, index: usize)
         requires { index ≤ length (buffer (meaning self.old)) }
         ensures moves { meaning self.new ≡ moved (meaning self.old) index }
-        ensures unread { Unread self.old self.new }
+        ensures no_looks { NoLooks self.old self.new }
         ensures owes { cursor (meaning self.old) ≤ index → owed self.new ≤ℤ owed self.old }
         ensures keeps_loan { loan self.new ≡ loan self.old };
 
-    /// The count of this value: lexical-util's `current_count`. Each type says what it counts:
-    /// usually the digits that `next` has taken, or the cursor where no byte is dropped.
+    /// The count of this value. Each type says what it counts: usually the digits that `next` has
+    /// taken, or the cursor where no byte is dropped.
     fn current_count(&self) -> usize
         ensures { result ≡ current_count (meaning self.now) };
 
@@ -91,7 +91,7 @@ pub trait Iter<'a> {
         requires { let m = meaning self.old in
             CanStep (buffer m) (cursor m) (contiguous m) (separates m) count }
         ensures moves { let m = meaning self.old in meaning self.new ≡ moved m (cursor m + count) }
-        ensures unread { Unread self.old self.new }
+        ensures no_looks { NoLooks self.old self.new }
         ensures owes { owed self.new ≤ℤ owed self.old }
         ensures keeps_loan { loan self.new ≡ loan self.old };
 
@@ -119,16 +119,14 @@ pub trait DigitsIter<'a>: Iterator<Item = &'a u8> + Iter<'a> {
     // The meaning that `next` leaves.
     ghost taken: { Self.Meaning → Self.Meaning };
 
-    /// Adds 1 to the stored count of this value, if it has one: lexical-util's `increment_count`.
-    /// The cursor does not move.
+    /// Adds 1 to the stored count of this value, if it has one. The cursor does not move.
     fn increment_count(&mut self)
         ensures counts { Self.meaning self.new ≡ counted (Self.meaning self.old) }
-        ensures unread { Self.Unread self.old self.new }
+        ensures no_looks { Self.NoLooks self.old self.new }
         ensures owes { Self.owed self.new ≤ℤ Self.owed self.old }
         ensures keeps_loan { Self.loan self.new ≡ Self.loan self.old };
 
-    /// The byte at the place, or `None` at the end: lexical-util's `peek`. The cursor moves to the
-    /// place.
+    /// The byte at the place, or `None` at the end. The cursor moves to the place.
     fn peek(&mut self) -> Option<&'a u8>
         ensures byte { let m = Self.meaning self.old in
             option_copied result ≡ slice_get (Self.buffer m) (place m) }
@@ -136,7 +134,7 @@ pub trait DigitsIter<'a>: Iterator<Item = &'a u8> + Iter<'a> {
         ensures owes { Self.owed self.new ≤ℤ (Self.owed self.old +ℤ pos 4) }
         ensures keeps_loan { Self.loan self.new ≡ Self.loan self.old };
 
-    /// Whether `value` is a digit of this value's radix: lexical-util's `is_digit`.
+    /// Whether `value` is a digit of this value's radix.
     fn is_digit(&self, value: u8) -> bool
         ensures { result ≡ digit (Self.meaning self.now) value };
 

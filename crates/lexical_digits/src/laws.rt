@@ -1,5 +1,5 @@
 //! Laws of the iterators, the definitions and the call table. Each law is the contract of a
-//! function; [`equality`] has those of `==`. Not in lexical-util.
+//! function; [`equality`] has those of `==`.
 
 ghost use Rattle.std.specs.Prelude.{◌≡◌, ℕ, ◌+◌, ◌*◌, ◌<◌, ◌≤◌, length, drop, filter, count_by, map, pos, ◌≤ℤ◌, ◌+ℤ◌, slice_get, option_copied, IfSome, IfNone, Some, None, [], ◌∷◌, if◌then◌else◌, true, false, not, IsTrue, is_some};
 ghost use Rattle.std.specs.Option.{option_map_or};
@@ -173,7 +173,7 @@ pub fn rest_is_left()
 /// What a `Bytes` owes bounds its looks: if it owes at most `more` more than before, over the same
 /// buffer, then its looks rose by at most `more` and three for each byte of the buffer. So a caller
 /// that adds up what its calls owe, 4 for a read, has a bound on the looks of all of them.
-#[tactic(auto, using(crate::proofs::Looks::Owing::looks_within))]
+#[tactic(auto, using(crate::proofs::Looks::Owed::looks_within))]
 pub fn looks_are_bounded()
     ensures { (a b : Held) (more : ℕ) → length b.state.buffer ≡ length a.state.buffer →
         owed b ≤ℤ (owed a +ℤ pos more) →

@@ -17,7 +17,7 @@ pub use rule::{Class, Rule};
 
 /// Makes one call on the iterator of a component over a `Bytes`, for any of the four components:
 /// `on_iterator!(bytes, component, iter => iter.skip_zeros())`. The macro makes the iterator in
-/// place, as a `&mut`, so that a proof knows what the call leaves. Not in lexical-util.
+/// place, as a `&mut`, so that a proof knows what the call leaves.
 #[macro_export]
 macro_rules! on_iterator {
     ($bytes:expr, $component:expr, $iter:ident => $call:expr) => {

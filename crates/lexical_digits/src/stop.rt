@@ -1,5 +1,5 @@
 //! Where the digits of a component end: laws of its iterator. Each law is the contract of a
-//! function. Not in lexical-util.
+//! function.
 
 ghost use Rattle.std.specs.Prelude.{◌≡◌, ℕ, ◌<◌, [], length, filter, slice_range};
 ghost use Rattle.std.specs.Fn.{iterate};

@@ -1,6 +1,5 @@
 //! The texts that are read to their end, in words of their bytes: laws for the most common states
-//! of the flags, of a text that is read from its start. Each law is the contract of a function. Not
-//! in lexical-util.
+//! of the flags, of a text that is read from its start. Each law is the contract of a function.
 
 ghost use Rattle.std.specs.Prelude.{◌≡◌, length, IsTrue};
 ghost use Rattle.lexical_format.specs.Word.{is_supported};

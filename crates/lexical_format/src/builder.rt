@@ -21,7 +21,7 @@ pub struct DigitSeparatorFlags {
     pub consecutive: bool,
 }
 
-/// No flag: every separator is kept. Not in lexical-util.
+/// No flag: every separator is kept.
 pub const NO_FLAGS: DigitSeparatorFlags = DigitSeparatorFlags {
     internal: false,
     leading: false,
@@ -29,7 +29,7 @@ pub const NO_FLAGS: DigitSeparatorFlags = DigitSeparatorFlags {
     consecutive: false,
 };
 
-/// All four flags: every separator is dropped. Not in lexical-util.
+/// All four flags: every separator is dropped.
 pub const ALL_FLAGS: DigitSeparatorFlags = DigitSeparatorFlags {
     internal: true,
     leading: true,
@@ -59,8 +59,7 @@ pub struct NumberFormatBuilder {
     pub special: bool,
 }
 
-/// Radix 10, no separator, no flags: the builder of [`STANDARD`](crate::STANDARD). Not in
-/// lexical-util.
+/// Radix 10, no separator, no flags: the builder of [`STANDARD`](crate::STANDARD).
 pub const DECIMAL: NumberFormatBuilder = NumberFormatBuilder {
     mantissa_radix: 10,
     exponent_radix: 0,
@@ -71,11 +70,11 @@ pub const DECIMAL: NumberFormatBuilder = NumberFormatBuilder {
     special: false,
 };
 
-fn bit_if(is_set: bool, place: u32) -> u128
-    requires { place ≤ 127 }
-    ensures { result ≡ bit_if is_set place }
+fn bit_if(is_set: bool, bit_index: u32) -> u128
+    requires { bit_index ≤ 127 }
+    ensures { result ≡ bit_if is_set bit_index }
 {
-    if is_set { 1 << place } else { 0 }
+    if is_set { 1 << bit_index } else { 0 }
 }
 
 /// Four flags three places apart, the internal one lowest.

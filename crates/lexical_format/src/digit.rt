@@ -7,7 +7,7 @@ ghost use Rattle.lexical_format.specs.Digits.{digit_of_radix, is_digit_of_radix}
 ///
 /// `0` to `9` have the values 0 to 9, letters of either case 10 to 35. The answer is `None` for
 /// every other byte, and for a value that isn't below the radix. Every radix is allowed: 0 has no
-/// digits, and one above 36 has the digits of 36. lexical-util's `char_to_digit_const`.
+/// digits, and one above 36 has the digits of 36.
 #[inline(always)]
 #[tactic(auto, unfolding(crate::specs::Digits::digit_value))]
 pub fn char_to_digit_const(value: u8, radix: u32) -> Option<u32>
@@ -23,7 +23,7 @@ pub fn char_to_digit_const(value: u8, radix: u32) -> Option<u32>
     if digit < radix { Some(digit) } else { None }
 }
 
-/// Whether [`char_to_digit_const`] answers a value. lexical-util's `char_is_digit_const`.
+/// Whether [`char_to_digit_const`] answers a value.
 #[inline(always)]
 pub fn char_is_digit_const(value: u8, radix: u32) -> bool
     ensures { result ≡ is_digit_of_radix radix value }

@@ -1,5 +1,4 @@
 //! The values of the constants, and the equality of values. Each law is the contract of a function.
-//! Not in lexical-util.
 
 ghost use Rattle.std.specs.Prelude.{◌≡◌, ◌+◌, ◌*◌, ◌^◌, true};
 ghost use Rattle.lexical_format.specs.Builder.{word_of};

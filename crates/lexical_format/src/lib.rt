@@ -105,7 +105,7 @@ pub struct NumberFormat {
 }
 
 impl NumberFormat {
-    /// The format of a word. Not in lexical-util.
+    /// The format of a word.
     #[inline(always)]
     pub fn new(word: u128) -> NumberFormat
         ensures { result.word ≡ word }
@@ -113,8 +113,7 @@ impl NumberFormat {
         NumberFormat { word }
     }
 
-    /// The byte that separates digits: bits 64 to 71. Zero means that no byte does. lexical-util's
-    /// `digit_separator`.
+    /// The byte that separates digits: bits 64 to 71. Zero means that no byte does.
     #[inline(always)]
     pub fn digit_separator(&self) -> u8
         ensures { result ≡ separator self.now.word }
@@ -122,7 +121,7 @@ impl NumberFormat {
         ((self.word >> 64) & 0xFF) as u8
     }
 
-    /// The mantissa radix: bits 104 to 111. lexical-util's `mantissa_radix`.
+    /// The mantissa radix: bits 104 to 111.
     #[inline(always)]
     pub fn mantissa_radix(&self) -> u32
         ensures { result ≡ mantissa_radix self.now.word }
@@ -130,8 +129,7 @@ impl NumberFormat {
         ((self.word >> 104) & 0xFF) as u32
     }
 
-    /// The exponent radix: bits 120 to 127; if they are zero, the mantissa radix. lexical-util's
-    /// `exponent_radix`.
+    /// The exponent radix: bits 120 to 127; if they are zero, the mantissa radix.
     #[inline(always)]
     pub fn exponent_radix(&self) -> u32
         ensures { result ≡ exponent_radix self.now.word }
@@ -145,7 +143,7 @@ impl NumberFormat {
     }
 
     /// The thirteen flags, each in its place: bits 32 to 44 of the word. Every other bit of the
-    /// answer is zero. lexical-util's `digit_separator_flags`.
+    /// answer is zero.
     #[inline(always)]
     #[tactic(auto, using(crate::proofs::Flags::and_flags))]
     pub fn digit_separator_flags(&self) -> u128
@@ -154,8 +152,7 @@ impl NumberFormat {
         self.word & DIGIT_SEPARATOR_FLAG_MASK
     }
 
-    /// Whether separators of special values are dropped: bit 44. lexical-util's
-    /// `special_digit_separator`.
+    /// Whether separators of special values are dropped: bit 44.
     #[inline(always)]
     #[tactic(auto, using(crate::proofs::Flags::special_test))]
     pub fn special_digit_separator(&self) -> bool

@@ -13,9 +13,8 @@ use lexical_digits::iterator::DigitsBodies;
 
 /// [`noskip`](crate::noskip) can replace `skip` for a word with no separator, no flag and an
 /// exponent radix that equals the mantissa radix. Take a new `Bytes` of each module over the same
-/// buffer and word, and a list of calls that both modules have, on the `Bytes` and on its
-/// iterators in any order: both give the same answers, and their cursors end at the same position.
-/// Not in lexical-util.
+/// buffer and word, and a list of calls that both modules have, on the `Bytes` and on its iterators
+/// in any order: both give the same answers, and their cursors end at the same position.
 #[tactic(auto, using(crate::proofs::AgreesWithSkip::fresh_agree))]
 pub fn plain_agrees(buffer: &[u8], word: u128)
     ensures answers { IsPlainWord word → (calls : List (Part × Call)) → AllPass both_have calls →
@@ -27,7 +26,7 @@ pub fn plain_agrees(buffer: &[u8], word: u128)
 {}
 
 /// Calls `skip_zeros`, and answers how many zeros it read: the bytes `0` that come first from the
-/// cursor on. The cursor ends after them. Not in lexical-util.
+/// cursor on. The cursor ends after them.
 #[tactic(auto, using(crate::proofs::ItemsAndZeros::first))]
 pub fn zeros_come_first<'a, 'b>(iter: &mut DigitsIterator<'a, 'b>) -> usize
     ensures answers { result ≡ zeros iter.old.byte.now.state }
@@ -39,7 +38,7 @@ pub fn zeros_come_first<'a, 'b>(iter: &mut DigitsIterator<'a, 'b>) -> usize
 }
 
 /// The items of an iterator, the bytes that `next` answers before `None`, are all the bytes from
-/// the cursor on. Not in lexical-util.
+/// the cursor on.
 #[tactic(auto, using(crate::proofs::ItemsAndZeros::items_rest))]
 pub fn items_are_rest<'a, 'b>(iter: &DigitsIterator<'a, 'b>)
     ensures { let s = iter.now.byte.now.state in

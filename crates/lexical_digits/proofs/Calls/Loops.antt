@@ -1,8 +1,8 @@
 -- For a caller's own loops by `next_of` and `peek_of`: what one more call does to drain and stop.
 use Rattle.std.proofs.Common.{◌≡◌, ℕ, ◌+◌, ◌*◌, true, false, cond, Bool, ◌∷◌, refl, sym, ap, ◌∙◌, arith, Option, Some, None, Bor, option_copied, sum_by, count_by, ℤ, pos, ◌≤ℤ◌, ◌+ℤ◌}
-use Rattle.lexical_digits.specs.Laws.Terms.{list_any, ints, sum_by-cons, gets, Component, is_digit, State, rule, byte_at_place, taken, drain_of, Takes, Held, Settles, Yields, stop_of}
+use Rattle.lexical_digits.specs.Laws.Terms.{list_any, ints, sum_by-cons, gets, Component, is_digit, State, rule, byte_at_place, taken, drain_of, Takes, Held, PeeksOf, NextsOf, stop_of}
 use Rattle.lexical_digits.specs.Laws.Table.{digit_laws, taken_buffer, taken_word}
-use Rattle.lexical_digits.proofs.Calls.Calling.{drain_fits}
+use Rattle.lexical_digits.proofs.Calls.ForCallers.{drain_fits}
 use Rattle.lexical_digits.proofs.Calls.NextTakesFirst.{drain_some}
 use Rattle.lexical_digits.proofs.Calls.DigitAtPlace.{digit_there, none_there}
 
@@ -46,10 +46,10 @@ pub record Passed (k : Component) (s t : State) (byte : ℕ) : Type 0 where
   pub word : t.word ≡ s.word
   pub buffer : t.buffer ≡ s.buffer
 
-module _ (k : Component) {a b : Held} {r : Option (Bor ℕ)} (peeks : Settles k a b (option_copied r))
+module _ (k : Component) {a b : Held} {r : Option (Bor ℕ)} (peeks : PeeksOf k a b (option_copied r))
   where
     pub passed : {c : Held} {q : Option (Bor ℕ)} {item : Bor ℕ} → r ≡ Some item
-        → is_digit (rule k b.state) item.now ≡ true → Yields k b c q
+        → is_digit (rule k b.state) item.now ≡ true → NextsOf k b c q
         → Passed k a.state c.state item.now
     passed {c} {q} {item} e is takes =
         let there : Some item.now ≡ byte_at_place k a.state = rw e at peeks.byte in

@@ -1,11 +1,11 @@
 -- Reading where the cursor stands: nothing is passed over there, and nothing scanned.
 use Rattle.std.proofs.Common.{◌≡◌, ℕ, ◌+◌, ◌<◌, ◌≤◌, ◌≤ℤ◌, ◌&&◌, Bool, true, false, cond, Option, Some, None, [], refl, sym, ap, ◌∙◌, arith, slice_get, Bor, length}
-use Rattle.lexical_digits.specs.Laws.Terms.{Component, Integer, Fraction, Exponent, Special, Rule, separator, is_digit, is_separator, IsSupported, State, with_cursor, rule, is_contiguous, own, with_own, counts, count_after, saturating, is_direct, has_no_flags, place_of, counted, separator_at, scans, Held, Costs, Settles, Yields, Unread, owed, not-true, or_parts, and_parts, and_left, and_right, nat_tests, slice_get_within}
+use Rattle.lexical_digits.specs.Laws.Terms.{Component, Integer, Fraction, Exponent, Special, Rule, separator, is_digit, is_separator, IsSupported, State, with_cursor, rule, is_contiguous, own, with_own, counts, count_after, saturating, is_direct, has_no_flags, place_of, counted, separator_at, scans, Held, Costs, PeeksOf, NextsOf, NoLooks, owed, not-true, or_parts, and_parts, and_left, and_right, nat_tests, slice_get_within}
 use Rattle.lexical_digits.specs.Laws.Table.{place_contiguous}
 use Rattle.lexical_digits.proofs.Rule.Supported.{supported_rule}
 use Rattle.lexical_digits.proofs.Rule.Runs.{separator_no_digit}
 use Rattle.lexical_digits.proofs.Looks.WhereSeparatorsStand.{place_at_other}
-use Rattle.lexical_digits.proofs.Looks.Owing.{costs_unscanned, separator_of, costs_then}
+use Rattle.lexical_digits.proofs.Looks.Owed.{costs_unscanned, separator_of, costs_then}
 use Rattle.lexical_digits.proofs.Calls.NextTakesFirst.{takes_none, takes_some, with_own_same}
 
 -- the place of a component is at the cursor, and no run is looked for there
@@ -104,13 +104,13 @@ stepped k s byte i false e = rw (sym e) (sym (with_own_same k s i))
 -- ---- a read that stays
 
 pub peeks_end : (k : Component) (a : Held) (answer : Option ℕ)
-    → slice_get a.state.buffer a.state.cursor ≡ None → answer ≡ None → Settles k a a answer
+    → slice_get a.state.buffer a.state.cursor ≡ None → answer ≡ None → PeeksOf k a a answer
 peeks_end k a answer none e = let here = (here_end k a none).place in
     record { byte = rw (here, none) e; settles = rw here refl; costs = costs_end k a none }
 
 pub peeks_at : (k : Component) (a b : Held) (byte : ℕ) → IsHere k a
     → Some byte ≡ slice_get a.state.buffer a.state.cursor
-    → b.state ≡ a.state → b.run ≡ a.run → b.looks ≡ saturating a.looks 1 → Settles k a b (Some byte)
+    → b.state ≡ a.state → b.run ≡ a.run → b.looks ≡ saturating a.looks 1 → PeeksOf k a b (Some byte)
 peeks_at k a b byte here at state run looks = record {
   byte = rw here.place at;
   settles = rw here.place state;
@@ -121,7 +121,7 @@ peeks_at k a b byte here at state run looks = record {
 -- ---- a read that takes the byte
 
 pub yields_end : (k : Component) (a : Held) (result : Option (Bor ℕ))
-    → slice_get a.state.buffer a.state.cursor ≡ None → result ≡ None → Yields k a a result
+    → slice_get a.state.buffer a.state.cursor ≡ None → result ≡ None → NextsOf k a a result
 yields_end k a result none e = let here = (here_end k a none).place in record {
   takes = rw e (takes_none k a.state a.state a.holds (rw here (sym none)) (rw here refl));
   costs = costs_end k a none;
@@ -134,7 +134,7 @@ module _ (k : Component) (a b : Held) (item : Bor ℕ) (here : IsHere k a)
   -- counted or not
   pub yields_by : (t : Bool) → t ≡ (counts k a.state.word && is_digit (rule k a.state) item.now)
       → b.state ≡ with_cursor (cond t (counted k a.state) a.state) (a.state.cursor + 1)
-      → Yields k a b (Some item)
+      → NextsOf k a b (Some item)
   yields_by t e left = let moved = ap (λ (s : State). s.cursor) left in record {
     takes = takes_some k a.state a.state b.state item a.holds (rw here.place at)
         (rw here.place refl) (left ∙ stepped k a.state item.now (a.state.cursor + 1) t e);
@@ -144,7 +144,7 @@ module _ (k : Component) (a b : Held) (item : Bor ℕ) (here : IsHere k a)
 -- ---- a read that arrived at its place
 
 -- and found a byte
-module _ (k : Component) (a m : Held) (item : Bor ℕ) (peeks : Settles k a m (Some item.now)) where
+module _ (k : Component) (a m : Held) (item : Bor ℕ) (peeks : PeeksOf k a m (Some item.now)) where
   pub arrived : m.state.cursor < length m.state.buffer
   arrived = rw peeks.settles
       (slice_get_within a.state.buffer (place_of k a.state) item.now (sym peeks.byte))
@@ -153,11 +153,11 @@ module _ (k : Component) (a m : Held) (item : Bor ℕ) (peeks : Settles k a m (S
   pub steps_past : (b : Held) (t : Bool)
       → t ≡ (counts k a.state.word && is_digit (rule k a.state) item.now)
       → b.state ≡ with_cursor (cond t (counted k m.state) m.state) (m.state.cursor + 1)
-      → Unread m b → owed b ≤ℤ owed m → Yields k a b (Some item)
-  steps_past b t e left unread owes = record {
+      → NoLooks m b → owed b ≤ℤ owed m → NextsOf k a b (Some item)
+  steps_past b t e left no_looks owes = record {
     takes = takes_some k a.state m.state b.state item a.holds peeks.byte peeks.settles
         (left ∙ stepped k m.state item.now (m.state.cursor + 1) t (rw peeks.settles e));
-    costs = costs_then k a m b peeks.costs unread owes;
+    costs = costs_then k a m b peeks.costs no_looks owes;
   }
 
 -- and found none

@@ -3,7 +3,7 @@ use Rattle.std.proofs.Common.{rules, ◌≡◌, ℕ, ◌+◌, ◌<◌, ◌≤◌
 use Rattle.lexical_digits.specs.Laws.Terms.{Component, Integer, Fraction, Exponent, Special, Rule, Tally, Shortcuts, Inside, separator, State, IsState, with_cursor, with_no_counts, rule_of, counts, own, one_more, counted, counted_by, saturating, Remembers, owed_by, count_of, integer_of, fraction_of, exponent_of, state_of, looks_of, Leaves, AreShortcuts, IsInner, has_no_flags, IsReading, false≢true}
 use Rattle.lexical_digits.specs.declared.skip.decision.Run.{Run}
 use Rattle.lexical_digits.specs.Laws.Table.{with_own_buffer, with_own_is}
-use Rattle.lexical_digits.proofs.Looks.Owing.{owed_onward}
+use Rattle.lexical_digits.proofs.Looks.Owed.{owed_onward}
 
 pub state_moved : (s : State) (i : ℕ) → IsState s → i ≤ length s.buffer → IsState (with_cursor s i)
 state_moved s i v l = search rules

@@ -3,7 +3,7 @@ use Rattle.std.proofs.Common.{◌≡◌, ℕ, ◌+◌, ◌-◌, ◌<◌, ◌≤�
 use Rattle.lexical_digits.specs.Laws.Terms.{digit_value, Rule, Shortcuts, separator, is_digit, is_separator, has_flags, IsSupported, Component, Inside, rule_of, counts, lower, is_direct, is_direct_by, AreShortcuts, le-leb, nat_tests, and_pow}
 use Rattle.std.specs.Int.Bits.{bit_or, or_add_and}
 use Rattle.lexical_digits.proofs.Rule.Supported.{supported_rule}
-use Rattle.lexical_digits.proofs.Looks.Owing.{separator_of}
+use Rattle.lexical_digits.proofs.Looks.Owed.{separator_of}
 
 pub lower_by_or : (byte : ℕ) → bit_or byte 32 ≡ lower byte
 lower_by_or byte = omega (arith, or_add_and byte 32, and_pow byte 5)

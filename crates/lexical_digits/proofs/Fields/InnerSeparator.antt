@@ -1,10 +1,10 @@
 -- A lone separator between a counted digit and a digit, which is passed over in place.
 use Rattle.std.proofs.Common.{◌||◌, not, ltb, ◌≡◌, ℕ, ◌+◌, ◌<◌, ◌≤◌, Bool, true, false, Some, List, length, refl, sym, ap, ◌∙◌, arith, slice_get, Bor}
-use Rattle.lexical_digits.specs.Laws.Terms.{separator, Component, Rule, Inside, Tally, class, is_digit, is_separator, right_side, place, is_kept, holds_separator, IsSupported, State, with_cursor, rule, rule_of, own, counts, saturating, place_of, separator_at, Held, Settles, Yields, passed_by, state_of, is_direct, IsInner, IsInnerAt, IsInnerDigit, FollowsDigit, false≢true, and_right, or_from, not_from_true, lt-ltb, nat_tests, slice_get_within}
+use Rattle.lexical_digits.specs.Laws.Terms.{separator, Component, Rule, Inside, Tally, class, is_digit, is_separator, right_side, place, is_kept, holds_separator, IsSupported, State, with_cursor, rule, rule_of, own, counts, saturating, place_of, separator_at, Held, PeeksOf, NextsOf, passed_by, state_of, is_direct, IsInner, IsInnerAt, IsInnerDigit, FollowsDigit, false≢true, and_right, or_from, not_from_true, lt-ltb, nat_tests, slice_get_within}
 use Rattle.lexical_digits.proofs.Rule.Supported.{supported_rule}
 use Rattle.lexical_digits.proofs.Fields.DirectBytes.{rule_by, counts_by, direct_by}
 use Rattle.lexical_digits.proofs.Fields.CarriedByCursor.{counted_since}
-use Rattle.lexical_digits.proofs.Looks.Owing.{separator_of, costs_unscanned}
+use Rattle.lexical_digits.proofs.Looks.Owed.{separator_of, costs_unscanned}
 use Rattle.lexical_digits.proofs.Looks.WhereSeparatorsStand.{holds_separator_at}
 use Rattle.lexical_digits.proofs.Rule.Sides.{right_one, right_many, kept_by_sides}
 use Rattle.lexical_digits.proofs.Rule.Runs.{place_next, place_run}
@@ -102,7 +102,7 @@ module _ (b : Inside) (k : Component) (reader : b.tally.reader ≡ k) (byte : �
 
 pub peeks_over : (k : Component) (a b : Held) (digit : ℕ) → PassesOver k a.state digit
     → b.state ≡ with_cursor a.state (a.state.cursor + 1) → b.run ≡ a.run
-    → b.looks ≡ saturating a.looks 2 → Settles k a b (Some digit)
+    → b.looks ≡ saturating a.looks 2 → PeeksOf k a b (Some digit)
 peeks_over k a b digit over state run looks = record {
   byte = rw over.place (sym over.next);
   settles = rw over.place state;
@@ -118,7 +118,7 @@ pub yields_over : (k : Component) (a b : Held) (m : State) (r : Tally) (item : B
     → m ≡ with_cursor a.state (a.state.cursor + 1) → r.index ≡ a.state.cursor + 1
     → r.reader ≡ k → r.is_counting ≡ counts k a.state.word
     → b.state ≡ with_cursor (passed_by r m) (r.index + 1) → b.run ≡ a.run
-    → b.looks ≡ saturating (saturating a.looks 2) 2 → Yields k a b (Some item)
+    → b.looks ≡ saturating (saturating a.looks 2) 2 → NextsOf k a b (Some item)
 yields_over k a b m r item over moved index reader counting left run looks = record {
   takes = takes_some k a.state n b.state item a.holds (rw over.place (sym over.next))
       (rw over.place refl)

@@ -28,7 +28,7 @@ pub use Rattle.lexical_digits.specs.Cursor.{holds_of, DigitLaws, at_zero, past_z
 unfoldable pub use Rattle.lexical_digits.specs.Stop.{stop, leading_digits, leading, after_leading}
 pub use Rattle.lexical_digits.specs.Stop.{stop_of, leading_digits_of, past_digits_of, IsNthDigit}
 pub use Rattle.lexical_digits.specs.Texts.{IsInternalAlone, IsInternalInRuns, is_digit_or_between, is_digit_or_separator, IsFirstFault, holds_digit, digit_before, AllDigitsOrSeparators, AllDigitsOrBetween, IsFromDigitToDigit}
-pub use Rattle.lexical_digits.specs.Looks.{Held, Settles, Yields, slice_before, Costs, Finds, IsRun, IsRunOrNone, IsSpan, LooksBetween, Remembers, Unread, far, has_scanned, needs_run, one_if, owed, owed_by, run_holds, run_length, scans}
+pub use Rattle.lexical_digits.specs.Looks.{Held, PeeksOf, NextsOf, slice_before, Costs, Finds, IsRun, IsRunOrNone, IsSpan, LooksBetween, Remembers, NoLooks, far, has_scanned, needs_run, one_if, owed, owed_by, run_holds, run_length, scans}
 pub use Rattle.lexical_digits.specs.Iterators.{Nexts, items_in, after_items_in, zeros_in, after_zeros_in}
 pub use Rattle.lexical_digits.specs.Bytes.{FollowsDigit, IsInnerAt, IsInnerDigit, IsReading, has_no_flags, held_of}
 unfoldable pub use Rattle.lexical_digits.specs.Looks.{separator_at}

@@ -70,7 +70,7 @@ pub trait IterBodies<'a>: Iter<'a> {
             CanStep (Self.buffer m) (Self.cursor m) (Self.contiguous m) (Self.separates m) 1 }
         ensures moves { let m = Self.meaning self.old in
             Self.meaning self.new ≡ Self.moved m (Self.cursor m + 1) }
-        ensures unread { Self.Unread self.old self.new }
+        ensures no_looks { Self.NoLooks self.old self.new }
         ensures owes { Self.owed self.new ≤ℤ Self.owed self.old }
         ensures keeps_loan { Self.loan self.new ≡ Self.loan self.old };
 }

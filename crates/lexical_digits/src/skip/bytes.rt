@@ -6,7 +6,7 @@ ghost use Rattle.lexical_digits.specs.Separators.{is_digit, is_separator, IsSupp
 ghost use Rattle.lexical_digits.specs.State.{IsState, with_cursor, with_no_counts, start, rule, is_contiguous, has_no_separator, count_of_all, current_count, cut, cut_end};
 ghost use Rattle.lexical_digits.specs.CallTable.{counted_by};
 ghost use Rattle.lexical_digits.specs.Cursor.{CanStep};
-ghost use Rattle.lexical_digits.specs.Looks.{owed, Unread, Remembers};
+ghost use Rattle.lexical_digits.specs.Looks.{owed, NoLooks, Remembers};
 ghost use Rattle.lexical_digits.specs.Tally.{state_of};
 ghost use Rattle.lexical_digits.specs.Bytes.{IsReading, has_no_flags as has_no_flags_of};
 
@@ -60,7 +60,7 @@ impl<'a> Model for Bytes<'a> {
     ghost view = { λ b. held_of b.slc.now b.format b.tally b.run b.holds b.remembers };
 }
 
-/// The type whose model is the state of a `Bytes`. It has no value. Not in lexical-util.
+/// The type whose model is the state of a `Bytes`. It has no value.
 pub struct Meaning {
     _none: Infallible,
 }
@@ -87,7 +87,7 @@ fn has_no_flags(word: u128) -> bool
 
 impl<'a> Bytes<'a> {
     /// A `Bytes` with the cursor and all counts at 0, no remembered run, and no look counted.
-    /// Requires that the word is supported. lexical-util's `Bytes::new`.
+    /// Requires that the word is supported.
     pub fn new(slc: &'a [u8], format: u128) -> Self
         requires { IsTrue (is_supported format) }
         ensures state { result.state ≡ start slc.now format }
@@ -108,7 +108,6 @@ impl<'a> Bytes<'a> {
     }
 
     /// How many looks at a byte the reads on this `Bytes` counted. The counter stops at `u64::MAX`.
-    /// Not in lexical-util.
     pub fn looks(&self) -> u64
         ensures { result ≡ self.now.looks }
     {
@@ -123,7 +122,7 @@ impl<'a> Bytes<'a> {
         self.rule.is_separator(value)
     }
 
-    /// The rule of a component by the word. Not in lexical-util.
+    /// The rule of a component by the word.
     #[inline(always)]
     pub fn rule(&self, component: Component) -> Rule
         ensures value { result ≡ rule component self.now.state }
@@ -133,7 +132,7 @@ impl<'a> Bytes<'a> {
     }
 
     /// Whether a byte is a digit of a component's radix. This is `is_digit` of the component's
-    /// iterator. Not in lexical-util.
+    /// iterator.
     #[inline(always)]
     pub fn is_digit_of(&self, component: Component, value: u8) -> bool
         ensures { result ≡ is_digit (rule component self.now.state) value }
@@ -150,7 +149,7 @@ impl<'a> Bytes<'a> {
     }
 
     /// The count of a component; where the component has no flags, the sum of the counts. This is
-    /// `current_count` of the component's iterator. Not in lexical-util.
+    /// `current_count` of the component's iterator.
     #[inline(always)]
     pub fn current_count_of(&self, component: Component) -> usize
         ensures { result ≡ current_count component self.now.state }
@@ -179,13 +178,12 @@ impl<'a> Bytes<'a> {
 
     /// Adds that many digits to the count of a component: as many calls of `increment_count` of the
     /// component's iterator. The count stops at `usize::MAX`, and special has none. It is for
-    /// digits that a caller reads in another way, such as eight at once by `peek_u64`. Not in
-    /// lexical-util.
-    #[tactic(auto, using(crate::proofs::Looks::Owing::owed_onward))]
+    /// digits that a caller reads in another way, such as eight at once by `peek_u64`.
+    #[tactic(auto, using(crate::proofs::Looks::Owed::owed_onward))]
     #[inline(always)]
     pub fn increment_count_of(&mut self, component: Component, digits: usize)
         ensures state { self.new.state ≡ counted_by digits component self.old.state }
-        ensures unread { Unread self.old self.new }
+        ensures no_looks { NoLooks self.old self.new }
         ensures owes { owed self.new ≤ℤ owed self.old }
     {
         self.tally.add_digits(component, digits);
@@ -193,24 +191,24 @@ impl<'a> Bytes<'a> {
 
     /// Sets the three counts to 0, for a number that begins at the cursor. Its separators are then
     /// judged as in a fresh `Bytes` at this cursor. The cursor, the looks and the remembered run
-    /// stay. Not in lexical-util.
-    #[tactic(auto, using(crate::proofs::Looks::Owing::owed_onward))]
+    /// stay.
+    #[tactic(auto, using(crate::proofs::Looks::Owed::owed_onward))]
     #[inline]
     pub fn clear_counts(&mut self)
         ensures state { self.new.state ≡ with_no_counts self.old.state }
-        ensures unread { Unread self.old self.new }
+        ensures no_looks { NoLooks self.old self.new }
         ensures owes { owed self.new ≤ℤ owed self.old }
     {
         self.tally.clear();
     }
 
     /// Moves the cursor to any position of the buffer. Counts no look.
-    #[tactic(auto, using(crate::proofs::Looks::Owing::owed_by_moves))]
+    #[tactic(auto, using(crate::proofs::Looks::Owed::owed_by_moves))]
     #[inline(always)]
     pub(crate) fn move_to(&mut self, index: usize)
         requires { index ≤ length self.old.state.buffer }
         ensures state { self.new.state ≡ with_cursor self.old.state index }
-        ensures unread { Unread self.old self.new }
+        ensures no_looks { NoLooks self.old self.new }
         ensures owes { self.old.state.cursor ≤ index → owed self.new ≤ℤ owed self.old }
         ensures owes_back { let n = length self.old.state.buffer in
             owed self.new ≤ℤ (owed self.old +ℤ pos (3 * n)) }
@@ -224,7 +222,7 @@ impl<'a> Bytes<'a> {
         requires { self.old.state.cursor + count ≤ length self.old.state.buffer }
         ensures state { let index = self.old.state.cursor + count in
             self.new.state ≡ with_cursor self.old.state index }
-        ensures unread { Unread self.old self.new }
+        ensures no_looks { NoLooks self.old self.new }
         ensures owes { owed self.new ≤ℤ owed self.old }
     {
         prove!(self.tally.index <= self.slc.len());
@@ -233,13 +231,13 @@ impl<'a> Bytes<'a> {
 
     /// A view: the buffer up to `n` bytes after the cursor, with this cursor and no counts. The
     /// cursor of this `Bytes` moves to the end of the view.
-    #[tactic(auto, using(crate::proofs::Looks::Owing::owed_onward))]
+    #[tactic(auto, using(crate::proofs::Looks::Owed::owed_onward))]
     pub(crate) fn cut(&mut self, n: usize) -> Bytes<'a>
         ensures view { result.state ≡ cut self.old.state (cut_end self.old.state n) }
         ensures view_run { result.run ≡ None }
         ensures view_looks { result.looks ≡ 0 }
         ensures state { self.new.state ≡ with_cursor self.old.state (cut_end self.old.state n) }
-        ensures unread { Unread self.old self.new }
+        ensures no_looks { NoLooks self.old self.new }
         ensures owes { owed self.new ≤ℤ owed self.old }
     {
         let end = self.tally.index.saturating_add(n).min(self.slc.len());
@@ -281,7 +279,7 @@ impl<'a> Iter<'a> for Bytes<'a> {
     ghost use Rattle.lexical_format.specs.Word.{separator};
     ghost use Rattle.lexical_digits.specs.Separators.{is_separator};
     ghost use Rattle.lexical_digits.specs.State.{IsState, with_cursor, count_of_all, has_no_separator};
-    ghost use Rattle.lexical_digits.specs.Looks.{owed, Unread};
+    ghost use Rattle.lexical_digits.specs.Looks.{owed, NoLooks};
     ghost use Rattle.lexical_digits.specs.Laws.Table.{bytes_laws};
 
     type Meaning = Meaning;
@@ -296,7 +294,7 @@ impl<'a> Iter<'a> for Bytes<'a> {
 
     ghost owed = { owed };
 
-    ghost Unread = { Unread };
+    ghost NoLooks = { NoLooks };
 
     ghost buffer = { λ m. m.buffer };
 
@@ -325,7 +323,7 @@ impl<'a> Iter<'a> for Bytes<'a> {
     fn set_cursor(&mut self, index: usize)
         requires { index ≤ length self.old.state.buffer }
         ensures moves { self.new.state ≡ with_cursor self.old.state index }
-        ensures unread { Unread self.old self.new }
+        ensures no_looks { NoLooks self.old self.new }
         ensures owes { self.old.state.cursor ≤ index → owed self.new ≤ℤ owed self.old }
         ensures owes_back { let n = length self.old.state.buffer in
             owed self.new ≤ℤ (owed self.old +ℤ pos (3 * n)) }
@@ -350,7 +348,7 @@ impl<'a> Iter<'a> for Bytes<'a> {
             CanStep s.buffer s.cursor (has_no_separator s.word) separates count }
         ensures moves { let index = self.old.state.cursor + count in
             self.new.state ≡ with_cursor self.old.state index }
-        ensures unread { Unread self.old self.new }
+        ensures no_looks { NoLooks self.old self.new }
         ensures owes { owed self.new ≤ℤ owed self.old }
     {
         self.advance(count);

@@ -1,7 +1,7 @@
 //! The components of a number.
 
 /// A component of a number. Its flags in the format word say which separators are dropped; its
-/// count says how many digits were read. Not in lexical-util.
+/// count says how many digits were read.
 #[derive(Clone, Copy, Debug, PartialEq, Eq)]
 pub enum Component {
     /// The digits before the point.

@@ -14,7 +14,7 @@ use std::marker::Model;
 /// A maximal run of separators, at the positions `from..to`. Positions count bytes from 0.
 ///
 /// It says where separators are, and not which of them are dropped. So one run serves every rule
-/// with the same separator. Not in lexical-util.
+/// with the same separator.
 #[derive(Clone, Copy, Debug, PartialEq, Eq)]
 pub struct Run {
     /// The position of the first separator.
@@ -23,7 +23,7 @@ pub struct Run {
     pub to: usize,
 }
 
-/// The answer of [`decide`]. Not in lexical-util.
+/// The answer of [`decide`].
 #[derive(Clone, Copy, Debug, PartialEq, Eq)]
 pub struct Sight {
     /// The position of the next kept byte, or the length where no byte is kept.
@@ -45,7 +45,7 @@ pub struct Sight {
 /// less.
 ///
 /// Requires that `at` is at most the length, that the rule's radix is 2 to 36 and its separator no
-/// digit of it, and that `run` is `None` or a maximal run of this source. Not in lexical-util.
+/// digit of it, and that `run` is `None` or a maximal run of this source.
 #[tactic(auto, using(crate::proofs::Looks::Spans::judged))]
 pub fn decide<S: ByteSource>(
     src: &mut S,
@@ -211,7 +211,7 @@ fn run_end<S: ByteSource>(src: &mut S, rule: Rule, from: usize) -> usize
 }
 
 /// Bytes that are read one by one. Each look is counted. The bytes never change. Positions count
-/// bytes from 0. Not in lexical-util.
+/// bytes from 0.
 pub trait ByteSource {
     // The bytes.
     ghost content: { Self → List ℕ };
@@ -235,7 +235,7 @@ pub trait ByteSource {
         ensures { result ≡ looks self.now };
 }
 
-/// A source over a slice. Not in lexical-util.
+/// A source over a slice.
 #[derive(Drop)]
 pub struct SliceSource<'a> {
     pub(super) slc: &'a [u8],

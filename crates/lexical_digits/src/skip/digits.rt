@@ -18,8 +18,7 @@ use super::component::Component;
 
 impl<'a> Bytes<'a> {
     /// The iterator of the integer over this `Bytes`. It reads from the cursor on and goes on with
-    /// the counts. The `Bytes` keeps the cursor and the counts that it reaches. lexical-util's
-    /// `integer_iter`.
+    /// the counts. The `Bytes` keeps the cursor and the counts that it reaches.
     ///
     /// A proof that goes on with the `Bytes` after the iterator makes the iterator by the literal
     /// `IntegerDigitsIterator { byte: &mut bytes }`.
@@ -32,8 +31,7 @@ impl<'a> Bytes<'a> {
     }
 
     /// The iterator of the fraction over this `Bytes`. It reads from the cursor on and goes on with
-    /// the counts. The `Bytes` keeps the cursor and the counts that it reaches. lexical-util's
-    /// `fraction_iter`.
+    /// the counts. The `Bytes` keeps the cursor and the counts that it reaches.
     ///
     /// A proof that goes on with the `Bytes` after the iterator makes the iterator by the literal
     /// `FractionDigitsIterator { byte: &mut bytes }`.
@@ -46,8 +44,7 @@ impl<'a> Bytes<'a> {
     }
 
     /// The iterator of the exponent over this `Bytes`. It reads from the cursor on and goes on with
-    /// the counts. The `Bytes` keeps the cursor and the counts that it reaches. lexical-util's
-    /// `exponent_iter`.
+    /// the counts. The `Bytes` keeps the cursor and the counts that it reaches.
     ///
     /// A proof that goes on with the `Bytes` after the iterator makes the iterator by the literal
     /// `ExponentDigitsIterator { byte: &mut bytes }`.
@@ -60,8 +57,7 @@ impl<'a> Bytes<'a> {
     }
 
     /// The iterator of a special value over this `Bytes`. It reads from the cursor on and goes on
-    /// with the counts. The `Bytes` keeps the cursor and the counts that it reaches. lexical-util's
-    /// `special_iter`.
+    /// with the counts. The `Bytes` keeps the cursor and the counts that it reaches.
     ///
     /// A proof that goes on with the `Bytes` after the iterator makes the iterator by the literal
     /// `SpecialDigitsIterator { byte: &mut bytes }`.

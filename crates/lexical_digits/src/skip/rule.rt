@@ -14,7 +14,7 @@ use lexical_format::{NumberFormat, char_is_digit_const};
 /// The bytes that are a component's digits and separators, and the separators that it drops.
 ///
 /// A separator that has another one as its left or right side is kept. Where neither side is a
-/// digit, it is both a leading and a trailing separator. Not in lexical-util.
+/// digit, it is both a leading and a trailing separator.
 #[derive(Clone, Copy, Debug, PartialEq, Eq)]
 pub struct Rule {
     /// The byte that separates digits; zero means that none does.
@@ -31,7 +31,7 @@ pub struct Rule {
     pub consecutive: bool,
 }
 
-/// The class of a position under a rule. Not in lexical-util.
+/// The class of a position under a rule.
 #[derive(Clone, Copy, Debug, PartialEq, Eq)]
 pub enum Class {
     /// A digit of the rule's radix.
@@ -43,11 +43,11 @@ pub enum Class {
 }
 
 /// Whether a bit of the word is set.
-fn is_set(word: u128, place: u32) -> bool
-    requires { place < 128 }
-    ensures { result ≡ bit word place }
+fn is_set(word: u128, bit_index: u32) -> bool
+    requires { bit_index < 128 }
+    ensures { result ≡ bit word bit_index }
 {
-    (word >> place) & 1 == 1
+    (word >> bit_index) & 1 == 1
 }
 
 /// The radix of a component's digits: the exponent radix for the exponent, and for the other three
@@ -65,17 +65,17 @@ fn radix_of(word: u128, component: Component) -> u32
 
 /// The rule of four flags: the internal flag is that bit of the word, and the others follow at
 /// distances of three bits.
-fn rule_at(word: u128, radix: u32, place: u32) -> Rule
-    requires { place < 100 }
-    ensures { result ≡ rule_at word radix place }
+fn rule_at(word: u128, radix: u32, bit_index: u32) -> Rule
+    requires { bit_index < 100 }
+    ensures { result ≡ rule_at word radix bit_index }
 {
     Rule {
         separator: NumberFormat::new(word).digit_separator(),
         radix,
-        internal: is_set(word, place),
-        leading: is_set(word, place + 3),
-        trailing: is_set(word, place + 6),
-        consecutive: is_set(word, place + 9),
+        internal: is_set(word, bit_index),
+        leading: is_set(word, bit_index + 3),
+        trailing: is_set(word, bit_index + 6),
+        consecutive: is_set(word, bit_index + 9),
     }
 }
 
@@ -98,7 +98,7 @@ fn special_rule(word: u128, radix: u32) -> Rule
 impl Rule {
     /// The rule of a component by a format word. The exponent uses the exponent radix, the others
     /// use the mantissa radix. Integer, fraction and exponent have four flags each; special has one
-    /// flag, which means all four. Not in lexical-util.
+    /// flag, which means all four.
     #[inline(always)]
     pub fn of(word: u128, component: Component) -> Rule
         ensures { result ≡ rule_of word component }
@@ -112,7 +112,7 @@ impl Rule {
         }
     }
 
-    /// Whether a byte is a digit of the radix. Not in lexical-util.
+    /// Whether a byte is a digit of the radix.
     #[tactic(auto, unfolding(crate::specs::Separators::is_digit))]
     #[inline(always)]
     pub fn is_digit(self, byte: u8) -> bool
@@ -121,8 +121,7 @@ impl Rule {
         char_is_digit_const(byte, self.radix)
     }
 
-    /// Whether a byte is the separator. A separator of zero means that no byte is one. Not in
-    /// lexical-util.
+    /// Whether a byte is the separator. A separator of zero means that no byte is one.
     #[tactic(auto, unfolding(crate::specs::Separators::is_separator))]
     #[inline(always)]
     pub fn is_separator(self, byte: u8) -> bool

@@ -10,7 +10,7 @@ use std::alloc::AllocError;
 use std::convert::Infallible;
 use std::marker::Model;
 
-/// The type of a `Bytes`' state in the logic. It has no value. Not in lexical-util.
+/// The type of a `Bytes`' state in the logic. It has no value.
 pub struct Meaning {
     _none: Infallible,
 }

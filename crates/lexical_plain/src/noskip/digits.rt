@@ -17,7 +17,7 @@ pub struct DigitsIterator<'a: 'b, 'b> {
 }
 
 impl<'a> Bytes<'a> {
-    /// The iterator of the integer over this `Bytes`: lexical-util's `integer_iter`.
+    /// The iterator of the integer over this `Bytes`.
     pub fn integer_iter<'b>(&'b mut self) -> DigitsIterator<'a, 'b>
         ensures same_loan { result.byte.ghost_name ≡ self.entry.ghost_name }
         ensures state { result.byte.now.state ≡ self.old.state }
@@ -25,7 +25,7 @@ impl<'a> Bytes<'a> {
         DigitsIterator { byte: self }
     }
 
-    /// The iterator of the fraction over this `Bytes`: lexical-util's `fraction_iter`.
+    /// The iterator of the fraction over this `Bytes`.
     pub fn fraction_iter<'b>(&'b mut self) -> DigitsIterator<'a, 'b>
         ensures same_loan { result.byte.ghost_name ≡ self.entry.ghost_name }
         ensures state { result.byte.now.state ≡ self.old.state }
@@ -33,7 +33,7 @@ impl<'a> Bytes<'a> {
         DigitsIterator { byte: self }
     }
 
-    /// The iterator of the exponent over this `Bytes`: lexical-util's `exponent_iter`.
+    /// The iterator of the exponent over this `Bytes`.
     pub fn exponent_iter<'b>(&'b mut self) -> DigitsIterator<'a, 'b>
         ensures same_loan { result.byte.ghost_name ≡ self.entry.ghost_name }
         ensures state { result.byte.now.state ≡ self.old.state }
@@ -41,7 +41,7 @@ impl<'a> Bytes<'a> {
         DigitsIterator { byte: self }
     }
 
-    /// The special iterator over this `Bytes`: lexical-util's `special_iter`.
+    /// The special iterator over this `Bytes`.
     pub fn special_iter<'b>(&'b mut self) -> DigitsIterator<'a, 'b>
         ensures same_loan { result.byte.ghost_name ≡ self.entry.ghost_name }
         ensures state { result.byte.now.state ≡ self.old.state }
@@ -51,7 +51,7 @@ impl<'a> Bytes<'a> {
 }
 
 impl<'a: 'b, 'b> DigitsIterator<'a, 'b> {
-    /// The iterator over this `Bytes`: lexical-util's `DigitsIterator::new`.
+    /// The iterator over this `Bytes`.
     pub fn new(byte: &'b mut Bytes<'a>) -> Self
         ensures same_loan { result.byte.ghost_name ≡ byte.entry.ghost_name }
         ensures state { result.byte.now.state ≡ byte.old.state }

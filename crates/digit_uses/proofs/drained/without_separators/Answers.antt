@@ -4,7 +4,7 @@ use Rattle.std.proofs.lemmas.Iterator.Consumers.{YieldsList-from_copied, YieldsL
 use Rattle.std.specs.Result.{IfOk}
 use Rattle.lexical_digits.specs.declared.skip.component.Component.TheVariants.{Integer}
 use Rattle.lexical_digits.specs.CallTable.{drain_of}
-use Rattle.lexical_digits.proofs.Calls.Calling.{YieldsList-from_digits}
+use Rattle.lexical_digits.proofs.Calls.ForCallers.{YieldsList-from_digits}
 use Rattle.digit_uses.proofs.drained.without_separators.Goals as goal
 
 pub returns : goal.returns

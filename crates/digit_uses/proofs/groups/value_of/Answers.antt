@@ -1,5 +1,5 @@
 use Rattle.std.proofs.Common.{arith}
-use Rattle.digit_literals.proofs.Calling.{few_digits_fit}
+use Rattle.digit_literals.proofs.ForCallers.{few_digits_fit}
 use Rattle.digit_uses.specs.Groups.{colons}
 use Rattle.digit_uses.proofs.groups.value_of.Goals as goal
 

@@ -1,4 +1,4 @@
-use Rattle.digit_literals.proofs.Calling.{IfEmpty-weaker, IfOverflow-weaker}
+use Rattle.digit_literals.proofs.ForCallers.{IfEmpty-weaker, IfOverflow-weaker}
 use Rattle.digit_literals.proofs.Within.{no_digit_within, too_large_within}
 use Rattle.digit_uses.proofs.rest.read_or_where.Goals as goal
 

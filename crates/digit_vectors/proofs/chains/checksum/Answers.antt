@@ -1,7 +1,7 @@
 use Rattle.std.proofs.Common.{rules, ℕ, ◌+◌, ◌%◌, fold, ap, ◌∙◌}
 use Rattle.lexical_digits.specs.declared.skip.component.Component.TheVariants.{Integer}
 use Rattle.lexical_digits.specs.CallTable.{drain_of}
-use Rattle.lexical_digits.proofs.Calls.Calling.{YieldsList-from_digits, fold_from_yields_List}
+use Rattle.lexical_digits.proofs.Calls.ForCallers.{YieldsList-from_digits, fold_from_yields_List}
 use Rattle.digit_vectors.proofs.chains.checksum.Goals as goal
 
 abbrev add : ℕ → ℕ → ℕ

@@ -2,7 +2,7 @@ use Rattle.std.proofs.Common.{ap, ◌∙◌, slice_get}
 use Rattle.std.proofs.lemmas.Iterator.Consumers.{nth_from_yields_List}
 use Rattle.lexical_digits.specs.declared.skip.component.Component.TheVariants.{Special}
 use Rattle.lexical_digits.specs.CallTable.{drain_of}
-use Rattle.lexical_digits.proofs.Calls.Calling.{YieldsList-from_digits}
+use Rattle.lexical_digits.proofs.Calls.ForCallers.{YieldsList-from_digits}
 use Rattle.digit_vectors.proofs.chains.kept_at.Goals as goal
 
 pub returns : goal.returns

@@ -2,7 +2,7 @@ use Rattle.std.proofs.Common.{ap, ◌∙◌, length, inl, arith}
 use Rattle.std.proofs.lemmas.Iterator.Consumers.{count_from_yields_List}
 use Rattle.lexical_digits.specs.declared.skip.component.Component.TheVariants.{Integer}
 use Rattle.lexical_digits.specs.CallTable.{drain_of}
-use Rattle.lexical_digits.proofs.Calls.Calling.{YieldsList-from_digits, drain_fits}
+use Rattle.lexical_digits.proofs.Calls.ForCallers.{YieldsList-from_digits, drain_fits}
 use Rattle.digit_vectors.proofs.chains.kept_count.Goals as goal
 
 pub count-requires-clause-fits : goal.count-requires-clause-fits

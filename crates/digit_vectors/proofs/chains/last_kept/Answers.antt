@@ -2,7 +2,7 @@ use Rattle.std.proofs.Common.{None, ap, ◌∙◌}
 use Rattle.std.specs.List.{last_or}
 use Rattle.lexical_digits.specs.declared.skip.component.Component.TheVariants.{Integer}
 use Rattle.lexical_digits.specs.CallTable.{drain_of}
-use Rattle.lexical_digits.proofs.Calls.Calling.{YieldsList-from_digits, last_from_yields_List}
+use Rattle.lexical_digits.proofs.Calls.ForCallers.{YieldsList-from_digits, last_from_yields_List}
 use Rattle.digit_vectors.proofs.chains.last_kept.Goals as goal
 
 pub returns : goal.returns

@@ -17,7 +17,7 @@
 ghost use Rattle.std.specs.Prelude.{◌≡◌, ℕ, ◌+◌, ◌<◌, ◌≤◌, length, Some, option_copied, nat_lt, not, true, IfSome, slice_get};
 ghost use Rattle.lexical_digits.specs.Separators.{place, IsSupported};
 ghost use Rattle.lexical_digits.specs.State.{rule_of};
-ghost use Rattle.lexical_digits.specs.Looks.{IsRunOrNone, Finds, Settles, Yields, Unread, one_if};
+ghost use Rattle.lexical_digits.specs.Looks.{IsRunOrNone, Finds, PeeksOf, NextsOf, NoLooks, one_if};
 ghost use Rattle.lexical_digits.specs.Bytes.{IsInnerAt, IsInnerDigit, FollowsDigit, has_no_flags};
 
 use super::Bytes;
@@ -91,10 +91,10 @@ fn inner_digit<'a>(
 
 impl<'a> Bytes<'a> {
     /// The next byte that a component keeps. The cursor moves to that byte. This is `peek` of the
-    /// component's iterator. Not in lexical-util.
+    /// component's iterator.
     #[inline(always)]
     pub fn peek_of(&mut self, component: Component) -> Option<&'a u8>
-        ensures { Settles component self.old self.new (option_copied result) }
+        ensures { PeeksOf component self.old self.new (option_copied result) }
     {
         if self.has_no_flags {
             return self.peek_unflagged(component);
@@ -123,10 +123,10 @@ impl<'a> Bytes<'a> {
 
     /// The next byte that a component keeps. The cursor moves past that byte, and the component
     /// counts it if it is a digit. This is `next` of the component's iterator. A loop over
-    /// `next_of` works on a `Bytes` that is a local variable or a field. Not in lexical-util.
+    /// `next_of` works on a `Bytes` that is a local variable or a field.
     #[inline(always)]
     pub fn next_of(&mut self, component: Component) -> Option<&'a u8>
-        ensures { Yields component self.old self.new result }
+        ensures { NextsOf component self.old self.new result }
     {
         if self.has_no_flags {
             return self.next_unflagged(component);
@@ -158,7 +158,7 @@ impl<'a> Bytes<'a> {
     #[inline(always)]
     fn peek_unflagged(&mut self, component: Component) -> Option<&'a u8>
         requires { has_no_flags self.old.state.word ≡ true }
-        ensures { Settles component self.old self.new (option_copied result) }
+        ensures { PeeksOf component self.old self.new (option_copied result) }
     {
         let byte = byte_at(self.slc, self.tally.index)?;
         self.tally.look();
@@ -169,7 +169,7 @@ impl<'a> Bytes<'a> {
     #[inline(always)]
     fn next_unflagged(&mut self, component: Component) -> Option<&'a u8>
         requires { has_no_flags self.old.state.word ≡ true }
-        ensures { Yields component self.old self.new result }
+        ensures { NextsOf component self.old self.new result }
     {
         let byte = byte_at(self.slc, self.tally.index)?;
         self.tally.pass_digit();
@@ -180,7 +180,7 @@ impl<'a> Bytes<'a> {
     #[inline(always)]
     pub(crate) fn read_as(&mut self, component: Component)
         ensures state { self.new.state ≡ self.old.state }
-        ensures unread { Unread self.old self.new }
+        ensures no_looks { NoLooks self.old self.new }
     {
         if !self.tally.is_reader(component) {
             self.switch_reader(component);
@@ -193,7 +193,7 @@ impl<'a> Bytes<'a> {
     fn switch_reader(&mut self, component: Component) -> Rule
         ensures rule { result ≡ rule_of self.old.state.word component }
         ensures state { self.new.state ≡ self.old.state }
-        ensures unread { Unread self.old self.new }
+        ensures no_looks { NoLooks self.old self.new }
     {
         let rule = Rule::of(self.format, component);
         let is_counting = rule.counts(component);
@@ -209,7 +209,7 @@ impl<'a> Bytes<'a> {
     fn peek_decided(&mut self, component: Component, rule: Rule, saw_next: bool) -> Option<&'a u8>
         requires rule { rule ≡ rule_of self.old.state.word component }
         requires saw_next { saw_next ≡ true → FollowsDigit component self.old.state }
-        ensures { Settles component self.old self.new (option_copied result) }
+        ensures { PeeksOf component self.old self.new (option_copied result) }
     {
         let looks = self.tally.looks().saturating_add(saw_next as u64);
         let counted = 0 < self.tally.count(component);
@@ -218,7 +218,7 @@ impl<'a> Bytes<'a> {
             looks,
         };
         let found = find(src, rule, self.tally.index, counted, self.run);
-        self.tally.arrive(found.place, found.looks);
+        self.tally.move_found(found.place, found.looks);
         self.run = found.run;
         byte_at(self.slc, found.place)
     }
@@ -231,7 +231,7 @@ impl<'a> Bytes<'a> {
     fn next_decided(&mut self, component: Component, rule: Rule, saw_next: bool) -> Option<&'a u8>
         requires rule { rule ≡ rule_of self.old.state.word component }
         requires saw_next { saw_next ≡ true → FollowsDigit component self.old.state }
-        ensures { Yields component self.old self.new result }
+        ensures { NextsOf component self.old self.new result }
     {
         let byte = self.peek_decided(component, rule, saw_next)?;
         let is_counted = rule.counts_byte(component, *byte);

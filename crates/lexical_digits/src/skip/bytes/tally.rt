@@ -125,7 +125,7 @@ impl Tally {
         ensures { Leaves self.old self.new (λ s. with_cursor s index) index (looks_of self.old) }
     {
         if index < self.index {
-            self.arrive(index, self.looks());
+            self.move_found(index, self.looks());
         } else {
             self.move_onward(index);
         }
@@ -146,7 +146,7 @@ impl Tally {
     /// Moves the cursor to a place that was found, where `looks` are all looks so far. Counts no
     /// digit.
     #[inline(always)]
-    pub(super) fn arrive(&mut self, place: usize, looks: u64)
+    pub(super) fn move_found(&mut self, place: usize, looks: u64)
         ensures { Leaves self.old self.new (λ s. with_cursor s place) place looks }
     {
         *self = Tally {

@@ -18,7 +18,7 @@ pub struct ExponentDigitsIterator<'a: 'b, 'b> {
 }
 
 impl<'a: 'b, 'b> ExponentDigitsIterator<'a, 'b> {
-    /// The same as [`Bytes::exponent_iter`]. lexical-util's `new`.
+    /// The same as [`Bytes::exponent_iter`].
     pub fn new(byte: &'b mut Bytes<'a>) -> Self
         ensures { Makes byte.entry result.byte }
     {
@@ -28,7 +28,7 @@ impl<'a: 'b, 'b> ExponentDigitsIterator<'a, 'b> {
     /// A view of the next `n` bytes, if the iterator is contiguous. Otherwise the answer is `None`
     /// and the cursor stays. The view is a `Bytes` over the buffer up to the end of those bytes,
     /// with this cursor, the same word, and no counts. The iterator's cursor moves to that end,
-    /// which is at most the length. lexical-util's `take_n`.
+    /// which is at most the length.
     #[tactic(auto, unfolding(crate::specs::CallTable::view, crate::specs::CallTable::after_view))]
     pub fn take_n(&mut self, n: usize) -> Option<Bytes<'a>>
         ensures { Cuts Exponent self.old.byte self.new.byte n result }
@@ -40,7 +40,7 @@ impl<'a: 'b, 'b> ExponentDigitsIterator<'a, 'b> {
         }
     }
 
-    /// Whether a byte is a sign, `+` or `-`. lexical-util's `is_sign`.
+    /// Whether a byte is a sign, `+` or `-`.
     pub fn is_sign(&self, value: u8) -> bool
         ensures { result ≡ ((value == 43) || (value == 45)) }
     {
@@ -48,7 +48,6 @@ impl<'a: 'b, 'b> ExponentDigitsIterator<'a, 'b> {
     }
 
     /// Whether a byte is the separator. A separator of zero means that no byte is one.
-    /// lexical-util's `is_digit_separator`.
     pub fn is_digit_separator(&self, value: u8) -> bool
         ensures { result ≡ is_separator (separator self.now.byte.now.state.word) value }
     {
@@ -61,7 +60,7 @@ impl<'a: 'b, 'b> Iter<'a> for ExponentDigitsIterator<'a, 'b> {
     ghost use Rattle.lexical_format.specs.Word.{separator};
     ghost use Rattle.lexical_digits.specs.Separators.{is_separator};
     ghost use Rattle.lexical_digits.specs.State.{IsState, with_cursor, is_contiguous, current_count};
-    ghost use Rattle.lexical_digits.specs.Looks.{owed, Unread};
+    ghost use Rattle.lexical_digits.specs.Looks.{owed, NoLooks};
     ghost use Rattle.lexical_digits.specs.Laws.Table.{iter_laws};
     ghost use Rattle.lexical_digits.specs.declared.skip.component.Component.TheVariants.{Exponent};
 
@@ -77,7 +76,7 @@ impl<'a: 'b, 'b> Iter<'a> for ExponentDigitsIterator<'a, 'b> {
 
     ghost owed = { λ it. owed it.byte.now };
 
-    ghost Unread = { λ s t. Unread s.byte.now t.byte.now };
+    ghost NoLooks = { λ s t. NoLooks s.byte.now t.byte.now };
 
     ghost buffer = { λ m. m.buffer };
 

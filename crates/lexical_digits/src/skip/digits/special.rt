@@ -19,7 +19,7 @@ pub struct SpecialDigitsIterator<'a: 'b, 'b> {
 }
 
 impl<'a: 'b, 'b> SpecialDigitsIterator<'a, 'b> {
-    /// Whether a byte is a sign, `+` or `-`. lexical-util's `is_sign`.
+    /// Whether a byte is a sign, `+` or `-`.
     pub fn is_sign(&self, value: u8) -> bool
         ensures { result ≡ ((value == 43) || (value == 45)) }
     {
@@ -27,7 +27,6 @@ impl<'a: 'b, 'b> SpecialDigitsIterator<'a, 'b> {
     }
 
     /// Whether a byte is the separator. A separator of zero means that no byte is one.
-    /// lexical-util's `is_digit_separator`.
     pub fn is_digit_separator(&self, value: u8) -> bool
         ensures { result ≡ is_separator (separator self.now.byte.now.state.word) value }
     {
@@ -40,7 +39,7 @@ impl<'a: 'b, 'b> Iter<'a> for SpecialDigitsIterator<'a, 'b> {
     ghost use Rattle.lexical_format.specs.Word.{separator};
     ghost use Rattle.lexical_digits.specs.Separators.{is_separator};
     ghost use Rattle.lexical_digits.specs.State.{IsState, with_cursor, is_contiguous, current_count};
-    ghost use Rattle.lexical_digits.specs.Looks.{owed, Unread};
+    ghost use Rattle.lexical_digits.specs.Looks.{owed, NoLooks};
     ghost use Rattle.lexical_digits.specs.Laws.Table.{iter_laws};
     ghost use Rattle.lexical_digits.specs.declared.skip.component.Component.TheVariants.{Special};
 
@@ -56,7 +55,7 @@ impl<'a: 'b, 'b> Iter<'a> for SpecialDigitsIterator<'a, 'b> {
 
     ghost owed = { λ it. owed it.byte.now };
 
-    ghost Unread = { λ s t. Unread s.byte.now t.byte.now };
+    ghost NoLooks = { λ s t. NoLooks s.byte.now t.byte.now };
 
     ghost buffer = { λ m. m.buffer };
 

@@ -1,6 +1,6 @@
 use Rattle.std.proofs.Common.{sym}
 use Rattle.lexical_digits.specs.Laws.Terms.{separator, looks_of}
-use Rattle.lexical_digits.proofs.Looks.Owing.{owed_back}
+use Rattle.lexical_digits.proofs.Looks.Owed.{owed_back}
 use Rattle.lexical_digits.proofs.Fields.CarriedByCursor.{state_moved, carried}
 use Rattle.lexical_digits.proofs.skip.bytes.Bytes.move_to.Goals as goal
 

@@ -2,7 +2,7 @@ use Rattle.std.proofs.Common.{◌≡◌, sym, refl, ◌∙◌, ap, rules, min, �
 use Rattle.lexical_digits.specs.Laws.Terms.{with_cursor, one_if, place_of, state_of, held_of}
 use Rattle.lexical_digits.specs.Laws.Table.{place_to}
 use Rattle.lexical_digits.proofs.Rule.Supported.{supported_by}
-use Rattle.lexical_digits.proofs.Looks.Owing.{arrives, separator_of}
+use Rattle.lexical_digits.proofs.Looks.Owed.{arrives, separator_of}
 use Rattle.lexical_digits.proofs.Fields.CarriedByCursor.{own_counted, state_moved, carried, remembered}
 use Rattle.lexical_digits.proofs.skip.bytes.Bytes.peek_decided.Goals as goal
 
@@ -23,8 +23,8 @@ invariant_of-self-inside c =
     let found = rw (rule_is, own_is) at c.find-found.ensures in
     let within : c.find-found.result.place ≤ length b.slc.now =
     rw (found.place _ refl) (place_to k s) in
-    remembered b c.arrive.new.self c.find-found.result.run
-    (carried b c.arrive.ensures (state_moved s _ b.holds within))
+    remembered b c.move_found.new.self c.find-found.result.run
+    (carried b c.move_found.ensures (state_moved s _ b.holds within))
     (λ run e. rw (separator_of k b.format, e) at found.finds.is_run)
 
 pub returns : goal.returns
@@ -40,10 +40,10 @@ returns c =
     ≡ min (a.looks + one_if c.args.saw_next) (2 ^ 64 - 1) = search rules in
     let found = rw (rule_is, own_is, looks) at c.find-found.ensures in
     let place_is = found.place _ refl in
-    let left = c.arrive.ensures.state b.slc.now b.format ∙ ap (with_cursor a.state) place_is in
+    let left = c.move_found.ensures.state b.slc.now b.format ∙ ap (with_cursor a.state) place_is in
     rw (sym c.self.view_is) (record {
       byte = c.byte_at.ensures ∙ ap (slice_get b.slc.now) place_is;
       settles = left;
       costs = arrives k a _ c.args.saw_next follows left
-          (rw c.arrive.ensures.looks (rw place_is at found.finds));
+          (rw c.move_found.ensures.looks (rw place_is at found.finds));
     })

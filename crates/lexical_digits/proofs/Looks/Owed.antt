@@ -1,7 +1,7 @@
 -- What a read owes: a run that it scans lies behind what was scanned before.
 use Rattle.std.proofs.Common.{◌&&◌, ap, ◌≡◌, ℕ, ◌+◌, ◌-◌, ◌^◌, ◌≤◌, min, Bool, true, false, not, ltb, Option, Some, None, List, length, refl, sym, ◌∙◌, arith, pos, ◌≤ℤ◌, ◌+ℤ◌, ◌*◌, is_some, slice_get}
 use Rattle.std.proofs.Math.Bool.{and-not_self}
-use Rattle.lexical_digits.specs.Laws.Terms.{Component, separator, State, rule, rule_of, own, saturating, place_of, byte_at_place, settled, separator_at, IsRunOrNone, run_holds, run_length, scans, Finds, one_if, far, owed_by, Held, owed, Costs, Unread, Remembers, has_scanned, needs_run, FollowsDigit, not-true, false≢true, and_left, and_parts, lt-ltb, nat_tests, ints, slice_get_cases}
+use Rattle.lexical_digits.specs.Laws.Terms.{Component, separator, State, rule, rule_of, own, saturating, place_of, byte_at_place, settled, separator_at, IsRunOrNone, run_holds, run_length, scans, Finds, one_if, far, owed_by, Held, owed, Costs, NoLooks, Remembers, has_scanned, needs_run, FollowsDigit, not-true, false≢true, and_left, and_parts, lt-ltb, nat_tests, ints, slice_get_cases}
 use Rattle.lexical_digits.specs.declared.skip.decision.Run.{Run}
 use Rattle.lexical_digits.specs.Laws.Table.{place_from}
 
@@ -128,17 +128,17 @@ arrives k a b saw_next follows e saw =
         }
 
 -- a step after a read costs nothing
-pub costs_then : (k : Component) (a m b : Held) → Costs k a m → Unread m b → owed b ≤ℤ owed m
+pub costs_then : (k : Component) (a m b : Held) → Costs k a m → NoLooks m b → owed b ≤ℤ owed m
     → Costs k a b
-costs_then k a m b costs unread owes = record {
+costs_then k a m b costs no_looks owes = record {
   owes = omega (arith, ints, costs.owes, owes);
-  at_least = rw (unread.run, unread.looks) costs.at_least;
-  at_most = rw (unread.run, unread.looks) costs.at_most;
-  unscanned = rw unread.run costs.unscanned;
-  scanned = rw unread.run costs.scanned;
-  needed = rw unread.run costs.needed;
-  allowed = rw unread.run costs.allowed;
-  without_separator = rw unread.looks costs.without_separator;
+  at_least = rw (no_looks.run, no_looks.looks) costs.at_least;
+  at_most = rw (no_looks.run, no_looks.looks) costs.at_most;
+  unscanned = rw no_looks.run costs.unscanned;
+  scanned = rw no_looks.run costs.scanned;
+  needed = rw no_looks.run costs.needed;
+  allowed = rw no_looks.run costs.allowed;
+  without_separator = rw no_looks.looks costs.without_separator;
 }
 
 pub ruleset owed_by_moves = (owed_onward, owed_back)
