@@ -5,9 +5,7 @@ pub mod State
 pub mod Cursor
 pub mod CallTable
 pub mod Looks
-pub mod Tally
-pub mod Shortcuts
-pub mod Bytes
+pub mod Fields
 pub mod Iterators
 pub mod Laws
 pub mod MantissaRadix

@@ -30,12 +30,12 @@ pub use Rattle.lexical_digits.specs.Stop.{stop_of, leading_digits_of, past_digit
 pub use Rattle.lexical_digits.specs.Texts.{IsInternalAlone, IsInternalInRuns, is_digit_or_between, is_digit_or_separator, IsFirstFault, holds_digit, digit_before, AllDigitsOrSeparators, AllDigitsOrBetween, IsFromDigitToDigit}
 pub use Rattle.lexical_digits.specs.Looks.{Held, PeeksOf, NextsOf, slice_before, Costs, Finds, IsRun, IsRunOrNone, IsSpan, LooksBetween, Remembers, NoLooks, far, has_scanned, needs_run, one_if, owed, owed_by, run_holds, run_length, scans}
 pub use Rattle.lexical_digits.specs.Iterators.{Nexts, items_in, after_items_in, zeros_in, after_zeros_in}
-pub use Rattle.lexical_digits.specs.Bytes.{FollowsDigit, IsInnerAt, IsInnerDigit, IsReading, has_no_flags, held_of}
+pub use Rattle.lexical_digits.specs.Fields.Bytes.{FollowsDigit, IsInnerAt, IsInnerDigit, IsReading, has_no_flags, held_of}
 unfoldable pub use Rattle.lexical_digits.specs.Looks.{separator_at}
-pub use Rattle.lexical_digits.specs.Shortcuts.{AreShortcuts, IsInner, is_direct, is_direct_by, lower}
-unfoldable pub use Rattle.lexical_digits.specs.Tally.{exponent_of, fraction_of, integer_of}
-unfoldable pub use Rattle.lexical_digits.specs.Tally.{looks_of}
-pub use Rattle.lexical_digits.specs.Tally.{Leaves, count_of, passed_by, state_of}
+pub use Rattle.lexical_digits.specs.Fields.Shortcuts.{AreShortcuts, IsInner, is_direct, is_direct_by, lower}
+unfoldable pub use Rattle.lexical_digits.specs.Fields.Tally.{exponent_of, fraction_of, integer_of}
+unfoldable pub use Rattle.lexical_digits.specs.Fields.Tally.{looks_of}
+pub use Rattle.lexical_digits.specs.Fields.Tally.{Leaves, count_of, passed_by, state_of}
 pub use Rattle.lexical_digits.specs.declared.skip.bytes.Bytes.TheInside.{Inside}
 pub use Rattle.lexical_digits.specs.declared.skip.rule.Shortcuts.{Shortcuts}
 pub use Rattle.lexical_digits.specs.declared.skip.bytes.tally.Tally.{Tally}

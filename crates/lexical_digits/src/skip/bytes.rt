@@ -7,8 +7,8 @@ ghost use Rattle.lexical_digits.specs.State.{IsState, with_cursor, with_no_count
 ghost use Rattle.lexical_digits.specs.CallTable.{counted_by};
 ghost use Rattle.lexical_digits.specs.Cursor.{CanStep};
 ghost use Rattle.lexical_digits.specs.Looks.{owed, NoLooks, Remembers};
-ghost use Rattle.lexical_digits.specs.Tally.{state_of};
-ghost use Rattle.lexical_digits.specs.Bytes.{IsReading, has_no_flags as has_no_flags_of};
+ghost use Rattle.lexical_digits.specs.Fields.Tally.{state_of};
+ghost use Rattle.lexical_digits.specs.Fields.Bytes.{IsReading, has_no_flags as has_no_flags_of};
 
 mod reading;
 mod tally;
@@ -53,7 +53,7 @@ pub struct Bytes<'a> {
 
 impl<'a> Model for Bytes<'a> {
     ghost use Rattle.lexical_digits.specs.Looks.{Held};
-    ghost use Rattle.lexical_digits.specs.Bytes.{held_of};
+    ghost use Rattle.lexical_digits.specs.Fields.Bytes.{held_of};
 
     ghost Value = { Held };
 

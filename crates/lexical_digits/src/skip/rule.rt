@@ -196,7 +196,7 @@ pub(super) struct Shortcuts {
 }
 
 impl Shortcuts {
-    ghost use Rattle.lexical_digits.specs.Shortcuts.{is_direct_by, AreShortcuts, IsInner};
+    ghost use Rattle.lexical_digits.specs.Fields.Shortcuts.{is_direct_by, AreShortcuts, IsInner};
 
     /// The shortcuts of a rule, by a reader that counts its digits or doesn't.
     #[tactic(auto, unfolding(crate::specs::Separators::is_separator))]

@@ -18,7 +18,7 @@ ghost use Rattle.std.specs.Prelude.{◌≡◌, ℕ, ◌+◌, ◌<◌, ◌≤◌,
 ghost use Rattle.lexical_digits.specs.Separators.{place, IsSupported};
 ghost use Rattle.lexical_digits.specs.State.{rule_of};
 ghost use Rattle.lexical_digits.specs.Looks.{IsRunOrNone, Finds, PeeksOf, NextsOf, NoLooks, one_if};
-ghost use Rattle.lexical_digits.specs.Bytes.{IsInnerAt, IsInnerDigit, FollowsDigit, has_no_flags};
+ghost use Rattle.lexical_digits.specs.Fields.Bytes.{IsInnerAt, IsInnerDigit, FollowsDigit, has_no_flags};
 
 use super::Bytes;
 use super::tally::Tally;

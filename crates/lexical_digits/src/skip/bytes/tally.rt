@@ -34,10 +34,10 @@ pub(super) struct Tally {
     ghost looked_before: { looked_from ≤ index },
 }
 
-#[tactic(auto, unfolding(crate::specs::Tally::all_of))]
+#[tactic(auto, unfolding(crate::specs::Fields::Tally::all_of))]
 impl Tally {
     ghost use Rattle.lexical_digits.specs.State.{saturating};
-    ghost use Rattle.lexical_digits.specs.Tally.{count_of, state_of, looks_of, passed_by, Leaves};
+    ghost use Rattle.lexical_digits.specs.Fields.Tally.{count_of, state_of, looks_of, passed_by, Leaves};
 
     /// A cursor before anything was counted.
     #[inline(always)]

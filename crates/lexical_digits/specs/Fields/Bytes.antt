@@ -9,8 +9,8 @@ use Rattle.lexical_digits.specs.declared.skip.bytes.tally.Tally.{Tally}
 use Rattle.lexical_digits.specs.declared.skip.rule.Shortcuts.{Shortcuts}
 use Rattle.lexical_digits.specs.State.{State, IsState, rule_of, own, is_contiguous, counts}
 use Rattle.lexical_digits.specs.Looks.{Held, Remembers, separator_at}
-use Rattle.lexical_digits.specs.Tally.{state_of, looks_of}
-use Rattle.lexical_digits.specs.Shortcuts.{is_direct_by, AreShortcuts, IsInner}
+use Rattle.lexical_digits.specs.Fields.Tally.{state_of, looks_of}
+use Rattle.lexical_digits.specs.Fields.Shortcuts.{is_direct_by, AreShortcuts, IsInner}
 
 -- what is decoded of the word for the component that reads
 pub record IsReading (word : ℕ) (reader : Component) (is_counting : Bool) (r : Rule)
