@@ -1,4 +1,4 @@
-//! The blocks of the page CALLING.md, in its order. `.ci/blocks` compares the two.
+//! The blocks of the page CALLING.md, in its order. `.ci/pages` compares the two.
 
 ghost use Rattle.std.specs.Prelude.{◌≡◌, ◌==◌, IfOk, IfSome, IsTrue, count_by};
 ghost use Rattle.std.specs.List.{list_any};

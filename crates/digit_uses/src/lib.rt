@@ -12,5 +12,6 @@ pub mod groups;
 pub mod lexer;
 pub mod literal;
 pub mod loops;
+pub mod readme;
 pub mod rest;
 pub mod validate;
