@@ -113,9 +113,9 @@ class Source:
             if self.text.startswith("//", i):
                 line = self.text[i:stop]
                 if line.startswith("//!"):
-                    self.docs.append(line[3:].removeprefix(" "))
+                    self.docs.append(re.sub("^ ", "", line[3:]))
                 elif line.startswith("///"):
-                    docs.append(line[3:].removeprefix(" "))
+                    docs.append(re.sub("^ ", "", line[3:]))
                 else:
                     comments.append(line[2:].strip())
                 i = stop
@@ -331,7 +331,7 @@ def definitions_of(crate):
                 while not text.endswith(" where") and i + 1 < len(lines):
                     i += 1
                     text += " " + lines[i].strip()
-                scopes.append((indent, text.removeprefix("module _ ").removesuffix(" where")))
+                scopes.append((indent, re.sub(r"^module _ | where$", "", text)))
                 comment = []
             elif m and not bare.startswith("pub use") and not bare.startswith("pub mod"):
                 end = i + 1

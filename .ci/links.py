@@ -1,0 +1,98 @@
+"""The links of the pages: each link and its anchor, each heading that is cited after a link, and
+each backquoted path or proof module has to exist."""
+import os
+import re
+
+from sources import TOP, read
+
+
+def slugs_of(text):
+    """The anchors that a page has: of its headings, and those that it writes."""
+    found, counts = set(re.findall(r'<a id="([^"]+)">', text)), {}
+    for heading in re.findall(r"^#+ (.*)$", text, re.M):
+        slug = re.sub(r"[^\w\- ]", "", heading.lower()).replace(" ", "-")
+        count = counts[slug] = counts.get(slug, -1) + 1
+        found.add(f"{slug}-{count}" if count else slug)
+    return found
+
+
+class Tree:
+    """The files and folders of the repository, without what a build makes."""
+
+    def __init__(self):
+        self.files, self.folders, self.texts, self.slugs = set(), set(), {}, {}
+        for folder, inner, names in os.walk(TOP):
+            inner[:] = [name for name in inner if name not in (".git", "out", "target")]
+            folder = os.path.normpath(os.path.relpath(folder, TOP))
+            self.folders.add(folder)
+            self.files.update(os.path.normpath(os.path.join(folder, name)) for name in names)
+        self.pages = sorted(path for path in self.files if path.endswith(".md"))
+        self.endings = {os.path.splitext(path)[1] for path in self.files} - {""}
+        self.bases = ["."] + [path for path in self.folders
+                              if re.fullmatch(r"crates/\w+(/src)?", path)]
+
+    def text(self, path):
+        if path not in self.texts:
+            self.texts[path] = read(path)
+        return self.texts[path]
+
+    def anchors(self, path):
+        if path not in self.slugs:
+            self.slugs[path] = slugs_of(self.text(path))
+        return self.slugs[path]
+
+    def has(self, path, bases):
+        found = (os.path.normpath(os.path.join(base, path)) for base in bases)
+        return any(path in self.files or path in self.folders for path in found)
+
+    def is_path(self, text):
+        """A `/`, and an ending that files here have or the name of a folder at the top. No pattern,
+        no placeholder such as NAME or my_parser, and nothing that a build makes."""
+        if not re.fullmatch(r"[\w./-]+", text) or "/" not in text.strip("/"):
+            return False
+        parts = text.strip("/").split("/")
+        if any(re.fullmatch(r"[A-Z]+|my_\w+|\.\.|out|target", part) for part in parts):
+            return False
+        is_known = os.path.splitext(text)[1] in self.endings or parts[0] in self.folders
+        return is_known or text.endswith("/")
+
+    def link_fault(self, page, target, heading):
+        path, _, anchor = target.partition("#")
+        here = os.path.dirname(page)
+        path = os.path.normpath(os.path.join(here, path)) if path else page
+        if not self.has(path, ["."]):
+            return f"no file {target}"
+        if anchor and path.endswith(".md") and anchor not in self.anchors(path):
+            return f"no anchor #{anchor} in {path}"
+        line = re.fullmatch(r"L(\d+)", anchor)
+        if line and int(line[1]) > self.text(path).count("\n"):
+            return f"no line {line[1]} in {path}"
+        headings = re.findall(r"^#+ (.*)$", self.text(path), re.M) if heading else []
+        if heading and heading not in headings:
+            return f'no heading "{heading}" in {path}'
+        return None
+
+
+def check():
+    tree, faults, links = Tree(), [], 0
+    for page in tree.pages:
+        text = re.sub(r"```.*?```", lambda m: "\n" * m[0].count("\n"), tree.text(page), flags=re.S)
+        is_reference = page.startswith("docs/reference/")
+        for number, line in enumerate(text.split("\n"), 1):
+            for target, heading in re.findall(r'\]\(([^)\s]+)\)(?:, "([^"]+)")?', line):
+                if "://" in target:
+                    continue
+                links += 1
+                fault = tree.link_fault(page, target, heading)
+                if fault:
+                    faults.append(f"{page}:{number}: {fault}")
+            for quoted in re.findall(r"`([^`]+)`", line):
+                module = re.fullmatch(r"Rattle\.(\w+)\.((?:specs|proofs)\.[\w.]+)", quoted)
+                if module and not is_reference:
+                    path = "crates/" + module[1] + "/" + module[2].replace(".", "/") + ".antt"
+                    if f"crates/{module[1]}" in tree.folders and path not in tree.files:
+                        faults.append(f"{page}:{number}: no module {quoted}")
+                elif tree.is_path(quoted) and not tree.has(
+                        quoted, tree.bases + [os.path.dirname(page) or "."]):
+                    faults.append(f"{page}:{number}: no path {quoted}")
+    return f"{links} links of {len(tree.pages)} pages, and their paths", faults

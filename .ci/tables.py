@@ -1,0 +1,237 @@
+"""The tables of docs/RULES.md: each row is a row of a test, and the other way round."""
+import ast
+import re
+
+from sources import read
+
+PAGE = "docs/RULES.md"
+TESTS = "crates/digit_vectors/src/tests/rules.rt"
+RADIXES = "crates/digit_vectors/src/tests/radixes.rt"
+LETTERS = {"I": 1 << 32, "L": 1 << 35, "T": 1 << 38, "C": 1 << 41}
+
+
+def constants():
+    """The values of the constants of the format word, by their names."""
+    text = "".join(read(path) for path in (
+        "crates/lexical_format/src/lib.rt", "crates/lexical_format/src/words.rt",
+        "crates/digit_vectors/src/tests.rt", TESTS, RADIXES))
+    known, waiting = {}, dict(re.findall(r"const (\w+): u128 =\s*([^;]+);", text))
+    while waiting:
+        found = {}
+        for name, value in waiting.items():
+            try:
+                found[name] = eval(" ".join(value.split()), {"__builtins__": {}}, known)
+            except (NameError, SyntaxError, TypeError):
+                pass
+        if not found:
+            break
+        known.update(found)
+        waiting = {name: value for name, value in waiting.items() if name not in found}
+    return known
+
+
+class Value(ast.NodeVisitor):
+    """A row of a static as a value: numbers, texts as bytes, tuples and lists."""
+
+    def __init__(self, known):
+        self.known = known
+
+    def of(self, node):
+        if isinstance(node, ast.Constant):
+            value = node.value
+            return value.encode() if isinstance(value, str) else value
+        if isinstance(node, (ast.Tuple, ast.List)):
+            return tuple(self.of(part) for part in node.elts)
+        if isinstance(node, ast.Name) and node.id in self.known:
+            return self.known[node.id]
+        if isinstance(node, ast.BinOp):
+            left, right = self.of(node.left), self.of(node.right)
+            if isinstance(node.op, ast.BitOr):
+                return left | right
+            if isinstance(node.op, ast.LShift):
+                return left << right
+        raise ValueError(ast.dump(node)[:60])
+
+
+def statics(path, known):
+    """{name: [(row, line)]} of each static array of a file."""
+    text, found = read(path), {}
+    for m in re.finditer(r"static (\w+): \[[^=]*= \[\n?(.*?)\];\n", text, re.S):
+        body = re.sub(r"//[^\n]*", "", m[2])
+        first = text.count("\n", 0, m.start(2)) + 1
+        rows = []
+        try:
+            tree = ast.parse(f"[\n{body}\n]", mode="eval").body
+            for node in tree.elts:
+                rows.append((Value(known).of(node), first + node.lineno - 2))
+        except (SyntaxError, ValueError) as error:
+            found[m[1]] = str(error)
+            continue
+        found[m[1]] = rows
+    return found
+
+
+def tables():
+    """Each table of the page: its columns, and its rows as (line, cells)."""
+    found, rows = [], []
+    for number, line in enumerate(read(PAGE).split("\n"), 1):
+        if line.startswith("|"):
+            rows.append((number, [cell.strip().replace("`", "") for cell in line.split("|")[1:-1]]))
+        elif rows:
+            found.append((rows[0][1], rows[2:]))
+            rows = []
+    return found
+
+
+def flags_of(cell):
+    if cell in ("none", "-"):
+        return 0
+    if not re.fullmatch("[ILTC]+", cell):
+        return None
+    return sum(LETTERS[letter] for letter in cell)
+
+
+class Check:
+    def __init__(self):
+        self.known, self.faults, self.count = constants(), [], 0
+        self.statics = statics(TESTS, self.known)
+        for name, rows in self.statics.items():
+            if isinstance(rows, str):
+                self.faults.append(f"{TESTS}:1: can't read {name}: {rows}")
+
+    def rows(self, name):
+        rows = self.statics.get(name, [])
+        if name not in self.statics:
+            self.faults.append(f"{TESTS}:1: no static {name}")
+        return [] if isinstance(rows, str) else rows
+
+    def same(self, what, page_rows, name):
+        """The rows of a table are those of a static, in any order."""
+        test_rows = self.rows(name)
+        tested = {row for row, _ in test_rows}
+        shown = {row for row, _ in page_rows}
+        self.count += len(page_rows)
+        for row, line in page_rows:
+            if row not in tested:
+                self.faults.append(f"{PAGE}:{line}: {what}: no row of {name} is {said(row)}")
+        for row, line in test_rows:
+            if row not in shown:
+                self.faults.append(f"{TESTS}:{line}: {name}: no row of {PAGE} is {said(row)}")
+
+    def states(self):
+        lines = read(PAGE).split("\n")
+        head = next((n for n, line in enumerate(lines) if re.match(r"\s+flags  ", line)), None)
+        if head is None:
+            self.faults.append(f"{PAGE}:1: no table of the sixteen states")
+            return
+        texts = lines[head].split()[1:]
+        tested = [row[0].decode() for row, _ in self.rows("TEXTS")]
+        if texts != tested:
+            self.faults.append(f"{PAGE}:{head + 1}: {texts}, and {tested} in {TESTS}")
+        rows, at = [], head + 1
+        while lines[at].strip() and not lines[at].startswith("```"):
+            flags, *kept = lines[at].split()
+            kept = tuple(b"" if text == "nothing" else text.encode() for text in kept)
+            rows.append(((flags_of(flags), kept), at + 1))
+            at += 1
+        self.same("a state", rows, "STATES")
+
+    def examples(self, rows):
+        found = []
+        for line, (flags, text, drained, count, _) in rows:
+            if flags_of(flags) is None:
+                self.in_test(line, TESTS, [text, drained, count])
+                continue
+            found.append(((flags_of(flags), text.encode(), drained.encode(), int(count)), line))
+        self.same("an example", found, "EXAMPLES")
+
+    def within(self, rows):
+        tested = self.rows("FROM_WITHIN")
+        counts = {row[:5]: row[5] for row, _ in tested}
+        found = []
+        for line, (flags, text, start, drained, _) in rows:
+            cursor, count = (int(part) for part in start.split(","))
+            row = (flags_of(flags), text.encode(), cursor, count, drained.encode())
+            found.append((row + (counts.get(row),), line))
+        self.same("a drain from within", found, "FROM_WITHIN")
+
+    def others(self, rows):
+        tested = {row for row, _ in self.rows("OTHER_WORDS")}
+        for line, (flags, word, text, drained, count, _) in rows:
+            separator, radix = (part.strip() for part in word.split(","))
+            separator = 0 if separator == "none" else ord(separator)
+            bits = (int(radix) << 104) | (separator << 64) | flags_of(flags)
+            row = (bits, text.encode(), drained.encode(), int(count))
+            self.count += 1
+            if row not in tested:
+                self.faults.append(f"{PAGE}:{line}: no row of OTHER_WORDS is {said(row)}")
+
+    def radixes(self, rows):
+        for line, (_, _, text, drained, count, _) in rows:
+            self.in_test(line, RADIXES, [text, drained, count])
+
+    def in_test(self, line, path, cells):
+        """A test has the text, and beside it what is drained and the count."""
+        text, drained, count = cells
+        self.count += 1
+        tests = read(path).split("#[test]")
+        drains = re.compile(rf'b"{re.escape(drained)}",\s*{count}\b')
+        if not any(f'b"{text}"' in test and drains.search(test) for test in tests):
+            self.faults.append(f"{PAGE}:{line}: no test of {path} drains `{text}` to `{drained}` "
+                               f"with the count {count}")
+
+    def words(self):
+        """Each word with a name is on the page, and each name on the page is a word."""
+        text = read(PAGE)
+        m = re.search(r"## Words with names\n(.*?)\n## ", text, re.S)
+        names = set(re.findall(r"pub const (\w+):", read("crates/lexical_format/src/words.rt")))
+        shown = set(re.findall(r"`([A-Z][A-Z0-9_]+)`", m[1])) if m else set()
+        line = text.count("\n", 0, m.start(1)) if m else 1
+        for name in sorted(names - shown):
+            self.faults.append(f"{PAGE}:{line}: no `{name}`, which `words.rt` has")
+        for name in sorted(shown - names - {"STANDARD"}):
+            self.faults.append(f"{PAGE}:{line}: `{name}`, which `words.rt` hasn't")
+        self.count += len(names)
+
+
+def flags_said(value):
+    """The letters of a number that is only flags; None for another number."""
+    letters = "".join(letter for letter, bit in LETTERS.items() if value & bit)
+    return letters or "none" if value == sum(LETTERS[it] for it in letters) else None
+
+
+def said(row):
+    """A row as the page has it; its first number is flags or a word."""
+    parts = []
+    for n, part in enumerate(row):
+        if isinstance(part, tuple):
+            parts.append(" ".join(text.decode() or "nothing" for text in part))
+        elif isinstance(part, bytes):
+            parts.append(part.decode(errors="replace"))
+        elif n == 0 and isinstance(part, int):
+            parts.append(flags_said(part) or hex(part))
+        elif part is not None:
+            parts.append(str(part))
+    return ", ".join(parts)
+
+
+def check():
+    it = Check()
+    it.states()
+    it.words()
+    by_columns = {
+        ("Flags", "Bytes", "Drained", "Count", "Why"): it.examples,
+        ("Flags", "Bytes", "Cursor, count", "Drained", "Why"): it.within,
+        ("Flags", "Separator, radix", "Bytes", "Drained", "Count", "Why"): it.others,
+        ("Component", "Mantissa, exponent radix", "Bytes", "Drained", "Count", "Why"): it.radixes,
+    }
+    for columns, rows in tables():
+        compare = by_columns.pop(tuple(columns), None)
+        if compare:
+            try:
+                compare(rows)
+            except (ValueError, TypeError) as error:
+                it.faults.append(f"{PAGE}:{rows[0][0]}: can't read this table: {error}")
+    for columns in by_columns:
+        it.faults.append(f"{PAGE}:1: no table with the columns {', '.join(columns)}")
+    return f"{it.count} rows and words of {PAGE} are those of the tests", it.faults
