@@ -305,7 +305,8 @@ DEFINES = re.compile(r"(?:(?:abbrev|unfoldable|rec|opaque)\s+)*pub\s+(?:(?:recor
 
 
 class Definition:
-    """module, name, file, line, comment, text, scope (the parameters of the modules around it)."""
+    """module, name, file, line, comment, text, scope (the parameters of the modules around it),
+    section (the title of the part of the file)."""
 
     def __init__(self, **fields):
         self.__dict__.update(fields)
@@ -317,7 +318,7 @@ def definitions_of(crate):
     for path in files_below(f"crates/{crate}/specs", ".antt"):
         module = f"Rattle.{crate}." + path[len(f"crates/{crate}/"):-len(".antt")].replace("/", ".")
         lines = read(path).split("\n")
-        comment, scopes, i = [], [], 0
+        comment, scopes, section, i = [], [], "", 0
         while i < len(lines):
             line = lines[i]
             bare, indent = line.strip(), len(line) - len(line.lstrip())
@@ -325,7 +326,9 @@ def definitions_of(crate):
                 scopes = [scope for scope in scopes if scope[0] < indent]
             m = DEFINES.match(bare)
             if bare.startswith("--"):
-                comment = [] if bare.startswith("-- ----") else comment + [bare[2:].strip()]
+                is_title = bare.startswith("-- ----")
+                section = bare[len("-- ----"):].strip() if is_title else section
+                comment = [] if is_title else comment + [bare[2:].strip()]
             elif bare.startswith("module _"):
                 text = bare
                 while not text.endswith(" where") and i + 1 < len(lines):
@@ -342,7 +345,8 @@ def definitions_of(crate):
                 text = "\n".join(part[indent:] for part in lines[i:end])
                 definition = Definition(
                     module=module, name=m[1], file=path, line=i + 1, comment=" ".join(comment),
-                    text=text, scope=" ".join(scope[1] for scope in scopes), crate=crate)
+                    text=text, scope=" ".join(scope[1] for scope in scopes), crate=crate,
+                    section=section)
                 found[module, m[1]] = definition
                 if re.match(r"pub data", bare):
                     for part in lines[i + 1:end]:
