@@ -128,8 +128,8 @@ class Source:
             item, after = self.item(i, end)
             if item is None:
                 problems.append(f"{self.path}:{self.line(i)}: {self.text[i:stop].strip()}")
-                after = self.ahead(i, end, ";{")
-                after = self.closing(after) if after < end and self.bare[after] == "{" else after + 1
+                brace = self.bare.find("{", i, stop)
+                after = stop if brace < 0 else self.closing(brace)
             else:
                 item.docs, item.comments, item.attrs = docs, comments, attrs
                 found.append(item)

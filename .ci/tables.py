@@ -95,15 +95,13 @@ class Check:
     def __init__(self):
         self.known, self.faults, self.count = constants(), [], 0
         self.statics = statics(TESTS, self.known)
-        for name, rows in self.statics.items():
-            if isinstance(rows, str):
-                self.faults.append(f"{TESTS}:1: can't read {name}: {rows}")
 
     def rows(self, name):
-        rows = self.statics.get(name, [])
-        if name not in self.statics:
-            self.faults.append(f"{TESTS}:1: no static {name}")
-        return [] if isinstance(rows, str) else rows
+        rows = self.statics.get(name, "no such static")
+        if isinstance(rows, str):
+            self.faults.append(f"{TESTS}:1: can't read {name}: {rows}")
+            return []
+        return rows
 
     def same(self, what, page_rows, name):
         """The rows of a table are those of a static, in any order."""
@@ -156,7 +154,8 @@ class Check:
         self.same("a drain from within", found, "FROM_WITHIN")
 
     def others(self, rows):
-        tested = {row for row, _ in self.rows("OTHER_WORDS")}
+        tested = {row for rows in self.statics.values() if not isinstance(rows, str)
+                  for row, _ in rows}
         for line, (flags, word, text, drained, count, _) in rows:
             separator, radix = (part.strip() for part in word.split(","))
             separator = 0 if separator == "none" else ord(separator)
@@ -164,7 +163,7 @@ class Check:
             row = (bits, text.encode(), drained.encode(), int(count))
             self.count += 1
             if row not in tested:
-                self.faults.append(f"{PAGE}:{line}: no row of OTHER_WORDS is {said(row)}")
+                self.faults.append(f"{PAGE}:{line}: no row of {TESTS} is {said(row)}")
 
     def radixes(self, rows):
         for line, (_, _, text, drained, count, _) in rows:
@@ -181,15 +180,18 @@ class Check:
                                f"with the count {count}")
 
     def words(self):
-        """Each word with a name is on the page, and each name on the page is a word."""
+        """Each word with a name is on the page, by itself or by the first word of its language; and
+        each name there is a word."""
         text = read(PAGE)
         m = re.search(r"## Words with names\n(.*?)\n## ", text, re.S)
         names = set(re.findall(r"pub const (\w+):", read("crates/lexical_format/src/words.rt")))
         shown = set(re.findall(r"`([A-Z][A-Z0-9_]+)`", m[1])) if m else set()
         line = text.count("\n", 0, m.start(1)) if m else 1
         for name in sorted(names - shown):
-            self.faults.append(f"{PAGE}:{line}: no `{name}`, which `words.rt` has")
-        for name in sorted(shown - names - {"STANDARD"}):
+            language = name.split("_")[0]
+            if not {language, f"{language}_LITERAL"} & shown - {name}:
+                self.faults.append(f"{PAGE}:{line}: no `{name}`, which `words.rt` has")
+        for name in sorted(shown - names - set(self.known)):
             self.faults.append(f"{PAGE}:{line}: `{name}`, which `words.rt` hasn't")
         self.count += len(names)
 
