@@ -1,9 +1,11 @@
 """The links of the pages: each link and its anchor, each heading that is cited after a link, and
-each backquoted path or proof module has to exist."""
+each backquoted path or proof module has to exist. No page names a host of a package registry."""
 import os
 import re
 
 from sources import TOP, read
+
+HOSTS = r"\b(crates\.io|docs\.rs|lib\.rs/crates|pypi\.org|npmjs\.com|proxy\.golang\.org)\b"
 
 
 def slugs_of(text):
@@ -78,6 +80,9 @@ def check():
     for page in tree.pages:
         text = re.sub(r"```.*?```", lambda m: "\n" * m[0].count("\n"), tree.text(page), flags=re.S)
         is_reference = page.startswith("docs/reference/")
+        for number, line in enumerate(tree.text(page).split("\n"), 1):
+            if re.search(HOSTS, line):
+                faults.append(f"{page}:{number}: names a host of a package registry")
         for number, line in enumerate(text.split("\n"), 1):
             for target, heading in re.findall(r'\]\(([^)\s]+)\)(?:, "([^"]+)")?', line):
                 if "://" in target:

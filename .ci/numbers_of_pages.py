@@ -116,7 +116,8 @@ def measured(it):
         it.compare("README.md", line, f"the case \"{case}\"", m[0],
                    m[0] if is_near else f"{ratios}")
     for page in ("README.md", "docs/SPEED.md"):
-        for line, m in it.find(page, r"([\d.]+) ns a byte at 100 separators and ([\d.]+) at 100,000"):
+        form = r"([\d.]+) ns a byte at 100 separators and ([\d.]+) at 100,000"
+        for line, m in it.find(page, form):
             there = [runs.get(("g: IC, a kept run", length), [""] * 11)[3]
                      for length in ("100", "100000")]
             it.compare(page, line, "the time of a kept run", [m[1], m[2]], there)
@@ -147,7 +148,7 @@ def words(it):
     for what, count in total.items():
         if count > MOST_WORDS[what]:
             page = what if what.endswith(".md") else "README.md"
-            it.faults.append(f"{page}:1: {what} have {count} words, and may have {MOST_WORDS[what]}")
+            it.faults.append(f"{page}:1: {what}: {count} words, of at most {MOST_WORDS[what]}")
     return total["the pages without the reference"]
 
 
