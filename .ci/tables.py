@@ -187,12 +187,15 @@ class Check:
         names = set(re.findall(r"pub const (\w+):", read("crates/lexical_format/src/words.rt")))
         shown = set(re.findall(r"`([A-Z][A-Z0-9_]+)`", m[1])) if m else set()
         line = text.count("\n", 0, m.start(1)) if m else 1
+        languages = {}
         for name in sorted(names - shown):
             language = name.split("_")[0]
             if not {language, f"{language}_LITERAL"} & shown - {name}:
-                self.faults.append(f"{PAGE}:{line}: no `{name}`, which `words.rt` has")
+                languages.setdefault(language, []).append(f"`{name}`")
+        for missing in languages.values():
+            self.faults.append(f"{PAGE}:{line}: no {', '.join(missing)} of words.rt")
         for name in sorted(shown - names - set(self.known)):
-            self.faults.append(f"{PAGE}:{line}: `{name}`, which `words.rt` hasn't")
+            self.faults.append(f"{PAGE}:{line}: `{name}`, which words.rt hasn't")
         self.count += len(names)
 
 
