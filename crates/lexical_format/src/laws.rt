@@ -2,7 +2,7 @@
 
 ghost use Rattle.std.specs.Prelude.{◌≡◌, ◌+◌, ◌*◌, ◌^◌, true};
 ghost use Rattle.lexical_format.specs.Builder.{word_of};
-ghost use Rattle.lexical_format.specs.Words.{nowhere, between_digits, in_runs_between_digits, after_digits, everywhere, IsWord};
+ghost use Rattle.lexical_format.specs.Words.{nowhere, between_digits, in_runs_between_digits, before_digits, in_runs_before_digits, after_digits, everywhere, IsWord, IsDecimal, IsInteger, AreIntegers};
 
 use crate::words::*;
 use crate::*;
@@ -62,6 +62,74 @@ pub fn words_say()
     ensures toml_is { TOML ≡ PYTHON_LITERAL }
     ensures java { IsWord JAVA_LITERAL 10 10 95
         in_runs_between_digits in_runs_between_digits in_runs_between_digits }
+    ensures cxx14_octal { IsWord CXX14_OCTAL_LITERAL 8 8 39 between_digits nowhere nowhere }
+    ensures cxx14_binary { IsWord CXX14_BINARY_LITERAL 2 2 39 between_digits nowhere nowhere }
+    ensures python_integers { AreIntegers
+        PYTHON_HEX_LITERAL PYTHON_OCTAL_LITERAL PYTHON_BINARY_LITERAL before_digits }
+    ensures toml_integers { AreIntegers TOML_HEX TOML_OCTAL TOML_BINARY between_digits }
+    ensures java_hex { IsWord JAVA_HEX_LITERAL 16 10 95
+        in_runs_between_digits in_runs_between_digits in_runs_between_digits }
+    ensures java_octal { IsInteger JAVA_OCTAL_LITERAL 8 in_runs_between_digits }
+    ensures java_binary { IsInteger JAVA_BINARY_LITERAL 2 in_runs_between_digits }
+    ensures csharp { IsDecimal CSHARP_LITERAL in_runs_between_digits }
+    ensures csharp_hex { IsInteger CSHARP_HEX_LITERAL 16 in_runs_before_digits }
+    ensures csharp_binary { IsInteger CSHARP_BINARY_LITERAL 2 in_runs_before_digits }
+    ensures go { IsDecimal GO_LITERAL between_digits }
+    ensures go_hex { IsWord GO_HEX_LITERAL 16 10 95 before_digits between_digits between_digits }
+    ensures go_octal { IsInteger GO_OCTAL_LITERAL 8 before_digits }
+    ensures go_binary { IsInteger GO_BINARY_LITERAL 2 before_digits }
+    ensures javascript { IsDecimal JAVASCRIPT_LITERAL between_digits }
+    ensures javascript_integers { AreIntegers
+        JAVASCRIPT_HEX_LITERAL JAVASCRIPT_OCTAL_LITERAL JAVASCRIPT_BINARY_LITERAL between_digits }
+    ensures kotlin { IsDecimal KOTLIN_LITERAL in_runs_between_digits }
+    ensures kotlin_hex { IsInteger KOTLIN_HEX_LITERAL 16 in_runs_between_digits }
+    ensures kotlin_binary { IsInteger KOTLIN_BINARY_LITERAL 2 in_runs_between_digits }
+    ensures swift { IsDecimal SWIFT_LITERAL after_digits }
+    ensures swift_hex { IsWord SWIFT_HEX_LITERAL 16 10 95 after_digits after_digits after_digits }
+    ensures swift_octal { IsInteger SWIFT_OCTAL_LITERAL 8 after_digits }
+    ensures swift_binary { IsInteger SWIFT_BINARY_LITERAL 2 after_digits }
+    ensures ruby { IsDecimal RUBY_LITERAL between_digits }
+    ensures ruby_integers { AreIntegers
+        RUBY_HEX_LITERAL RUBY_OCTAL_LITERAL RUBY_BINARY_LITERAL between_digits }
+    ensures perl { IsWord PERL_LITERAL 10 10 95 after_digits everywhere everywhere }
+    ensures perl_integers { AreIntegers
+        PERL_HEX_LITERAL PERL_OCTAL_LITERAL PERL_BINARY_LITERAL everywhere }
+    ensures php { IsDecimal PHP_LITERAL between_digits }
+    ensures php_integers { AreIntegers
+        PHP_HEX_LITERAL PHP_OCTAL_LITERAL PHP_BINARY_LITERAL between_digits }
+    ensures julia { IsWord JULIA_LITERAL 10 10 95 between_digits between_digits nowhere }
+    ensures julia_integers { AreIntegers
+        JULIA_HEX_LITERAL JULIA_OCTAL_LITERAL JULIA_BINARY_LITERAL between_digits }
+    ensures d { IsWord D_LITERAL 10 10 95 after_digits after_digits everywhere }
+    ensures d_hex { IsWord D_HEX_LITERAL 16 10 95 everywhere after_digits everywhere }
+    ensures d_binary { IsInteger D_BINARY_LITERAL 2 everywhere }
+    ensures ocaml { IsWord OCAML_LITERAL 10 10 95 after_digits everywhere after_digits }
+    ensures ocaml_hex { IsWord OCAML_HEX_LITERAL 16 10 95 after_digits everywhere after_digits }
+    ensures ocaml_octal { IsInteger OCAML_OCTAL_LITERAL 8 after_digits }
+    ensures ocaml_binary { IsInteger OCAML_BINARY_LITERAL 2 after_digits }
+    ensures fsharp { IsDecimal FSHARP_LITERAL in_runs_between_digits }
+    ensures fsharp_integers { AreIntegers
+        FSHARP_HEX_LITERAL FSHARP_OCTAL_LITERAL FSHARP_BINARY_LITERAL in_runs_between_digits }
+    ensures haskell { IsDecimal HASKELL_LITERAL in_runs_between_digits }
+    ensures haskell_hex { IsWord HASKELL_HEX_LITERAL 16 10 95
+        in_runs_before_digits in_runs_between_digits in_runs_between_digits }
+    ensures haskell_octal { IsInteger HASKELL_OCTAL_LITERAL 8 in_runs_before_digits }
+    ensures haskell_binary { IsInteger HASKELL_BINARY_LITERAL 2 in_runs_before_digits }
+    ensures scala { IsDecimal SCALA_LITERAL in_runs_between_digits }
+    ensures zig { IsDecimal ZIG_LITERAL between_digits }
+    ensures zig_hex { IsWord ZIG_HEX_LITERAL 16 10 95 between_digits between_digits between_digits }
+    ensures zig_octal { IsInteger ZIG_OCTAL_LITERAL 8 between_digits }
+    ensures zig_binary { IsInteger ZIG_BINARY_LITERAL 2 between_digits }
+    ensures ada { IsDecimal ADA_LITERAL between_digits }
+    ensures ada_hex { IsWord ADA_HEX_LITERAL 16 10 95 between_digits between_digits between_digits }
+    ensures ada_octal { IsInteger ADA_OCTAL_LITERAL 8 between_digits }
+    ensures ada_binary { IsInteger ADA_BINARY_LITERAL 2 between_digits }
+    ensures elixir { IsDecimal ELIXIR_LITERAL between_digits }
+    ensures elixir_integers { AreIntegers
+        ELIXIR_HEX_LITERAL ELIXIR_OCTAL_LITERAL ELIXIR_BINARY_LITERAL between_digits }
+    ensures erlang { IsDecimal ERLANG_LITERAL between_digits }
+    ensures erlang_integers { AreIntegers
+        ERLANG_HEX_LITERAL ERLANG_OCTAL_LITERAL ERLANG_BINARY_LITERAL between_digits }
 {}
 
 /// Two formats are equal exactly if their words are.
