@@ -11,6 +11,7 @@ mod counts;
 mod cursors;
 mod decision;
 mod format;
+mod languages;
 mod laws;
 mod literals;
 mod loans;
