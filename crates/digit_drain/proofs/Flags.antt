@@ -1,5 +1,5 @@
 -- A field is read as a component, or as the flags of one, exactly if it is spelled so.
-use Rattle.std.proofs.Common.{◌≡◌, ◌≢◌, ℕ, ◌<◌, ◌==◌, ◌&&◌, Bool, true, false, not, cond, List, [], ◌∷◌, length, get_or, All, Some, None, refl, sym, ◌∙◌, ap, subst, arith, lt-ltb}
+use Rattle.std.proofs.Common.{◌≡◌, ◌≢◌, ℕ, ◌==◌, ◌&&◌, Bool, true, false, not, cond, List, [], ◌∷◌, length, get_or, All, Some, None, refl, sym, ◌∙◌, ap, subst, arith, lt-ltb}
 use mathlib.Core.Logic.{inl, inr}
 use Rattle.std.specs.Prelude.{nat_eq, nat_lt, codes, bytes_eq, ◌||◌}
 use Rattle.std.specs.List.{IsDistinct, AllByRecursion}

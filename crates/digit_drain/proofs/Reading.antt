@@ -1,8 +1,8 @@
 -- What was read, at the end and past the limit.
-use Rattle.std.proofs.Common.{◌≡◌, ℕ, ◌+◌, ◌<◌, ◌≤◌, List, ◌++◌, length, take, [], Option, None, Some, IfSome, sym, ◌∙◌, ap, append-nil, arith, length-append, length-take}
+use Rattle.std.proofs.Common.{◌≡◌, ℕ, ◌+◌, ◌≤◌, List, ◌++◌, length, take, [], Option, None, Some, IfSome, sym, ◌∙◌, ap, append-nil, arith, length-append, length-take}
 use Rattle.std.specs.Io.KnownBytes.{Consumes, IsAtEnd}
 use Rattle.std.proofs.KnownBytes.{Consumes-trans}
-use Rattle.digit_drain.specs.Outcome.{ReadsPast, most_bytes, most_at_once}
+use Rattle.digit_drain.specs.Outcome.{ReadsPast, most_bytes}
 
 pub read_all : (a b c : Option (List ℕ)) (xs : List ℕ) →
     Consumes a b xs → Consumes b c [] → IsAtEnd c → IfSome a (λ bytes. xs ≡ bytes)
@@ -14,10 +14,9 @@ read_all (Some x) (Some y) (Some z) xs p q e =
 
 pub reads_past : (a b c : Option (List ℕ)) (xs buf : List ℕ) (n : ℕ) →
     Consumes a b xs → Consumes b c (take n buf) → n ≤ length buf →
-    most_bytes < length xs + n → length xs + n ≤ most_bytes + most_at_once → ReadsPast a c
-reads_past a b c xs buf n p q inside past near = record {
+    length xs + n ≡ most_bytes + 1 → ReadsPast a c
+reads_past a b c xs buf n p q inside past = record {
   read = xs ++ take n buf;
   long = simp (length-append, length-take) (omega arith);
-  no_further = simp (length-append, length-take) (omega arith);
   consumed = Consumes-trans a b c xs (take n buf) p q;
 }

@@ -40,19 +40,14 @@ pub record WritesPart (s : Streams) : Type 0 where
   pub ended : IsAtEnd s.rest
   pub written : IfSome s.input (λ input. AppendsPart s.had s.has (report_of input).output)
 
--- the most bytes that one call of `read` is asked for
-abbrev pub most_at_once : ℕ
-most_at_once = 4096
-
--- more bytes than an input has were read, and are gone from what the reader has left; those before
--- the last call of `read` were not too many
+-- one byte more than an input has was read, no further one, and these are gone from what the
+-- reader has left
 pub record ReadsPast (old new : Option (List ℕ)) : Type 0 where
   pub read : List ℕ
-  pub long : most_bytes < length read
-  pub no_further : length read ≤ most_bytes + most_at_once
+  pub long : length read ≡ most_bytes + 1
   pub consumed : Consumes old new read
 
--- More bytes than an input has were read, and nothing was written.
+-- One byte more than an input has was read, and nothing was written.
 pub record IsTooLong (s : Streams) : Type 0 where
   pub past : ReadsPast s.input s.rest
   pub kept : Keeps s.had s.has

@@ -16,8 +16,8 @@ pub const LIMIT: usize = 65536;
 pub const READS: u32 = 131072;
 
 /// Reads all the bytes that a reader has left. It answers [`Fault::TooLong`] at the first byte
-/// after [`LIMIT`] bytes, and [`Fault::Read`] if a read failed or was interrupted, or if [`READS`]
-/// reads did not reach the end.
+/// after [`LIMIT`] bytes, and reads none after that one. It answers [`Fault::Read`] if a read
+/// failed or was interrupted, or if [`READS`] reads did not reach the end.
 pub fn read_input<A: Allocator, R: Read>(alloc: A, reader: &mut R) -> Result<Vec<u8, A>, Fault>
     ensures short { IfOk result (λ input. length input.items ≤ most_bytes) }
     ensures all { IfOk result (λ input.
@@ -31,7 +31,9 @@ pub fn read_input<A: Allocator, R: Read>(alloc: A, reader: &mut R) -> Result<Vec
     let mut input = Vec::new(alloc);
     let mut piece = [0; 4096];
     for _ in 0..READS {
-        match reader.read(&mut piece) {
+        // room for one byte more than may come: the first one too many, and none after it
+        let room = piece.len().min(LIMIT - input.len() + 1);
+        match reader.read(&mut piece[..room]) {
             Ok(0) => return Ok(input),
             Ok(n) => {
                 if n > LIMIT - input.len() {

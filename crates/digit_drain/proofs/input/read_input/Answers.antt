@@ -1,4 +1,4 @@
-use Rattle.std.proofs.Common.{arith, rules}
+use Rattle.std.proofs.Common.{arith, rules, length-take}
 use Rattle.digit_drain.proofs.Reading.{read_all, reads_past}
 use Rattle.digit_drain.proofs.input.read_input.Goals as goal
 
@@ -12,5 +12,4 @@ pub returns-then-n-len-clause-too_long : goal.returns-then-n-len-clause-too_long
 returns-then-n-len-clause-too_long g c = λ e.
     let now = c.in-Ok.ensures in
     reads_past _ _ _ _ _ c.in-Ok.n c.loop.invariant.1 now.bytes.0 now.bound.0
-    (omega (arith, c.loop.input.ok.0))
-    (omega (arith, c.loop.input.ok.0, c.loop.invariant, now.bound.0, now.bound.1))
+    (grind (arith, length-take, c.loop.invariant, now.bound.0, now.bound.1))
