@@ -12,3 +12,4 @@ pub mod Texts
 pub mod ForCallers
 pub mod Loops
 pub mod Rest
+pub mod Rows

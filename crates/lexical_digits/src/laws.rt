@@ -18,6 +18,7 @@ ghost use Rattle.lexical_digits.specs.declared.skip.component.Component.{Compone
 ghost use Rattle.lexical_digits.specs.declared.skip.component.Component.TheVariants as components;
 
 pub mod equality;
+pub mod rows;
 
 use crate::iterator::{DigitsBodies, DigitsIter};
 use crate::on_iterator;
