@@ -63,3 +63,10 @@ pub fn same_fault(a: Fault, b: Fault) -> bool
 {
     a == b
 }
+
+/// A clone of a fault is the same.
+pub fn clone_of_fault(fault: Fault) -> Fault
+    ensures { result ≡ fault }
+{
+    fault.clone().unwrap()
+}

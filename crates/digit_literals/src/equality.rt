@@ -1,5 +1,5 @@
-//! `==` on the public plain values of this crate: it answers `true` exactly if the two values are
-//! the same, part by part.
+//! `==` and `clone` on the plain values of this crate: `==` answers `true` exactly if the two values
+//! are the same, part by part, and a clone is the same value.
 
 ghost use Rattle.std.specs.Prelude.{◌≡◌, true};
 
@@ -35,4 +35,23 @@ pub fn same_too_large(a: TooLarge, b: TooLarge) -> bool
     ensures equal { a ≡ b → result ≡ true }
 {
     a == b
+}
+
+/// A clone is the same value.
+pub fn clones_are_same(
+    literal_error: LiteralError,
+    parse_error: ParseError,
+    digits: Digits,
+    too_large: TooLarge,
+) -> (LiteralError, ParseError, Digits, TooLarge)
+    ensures { result ≡ (literal_error, parse_error, digits, too_large) }
+{
+    let literal_error = literal_error.clone().unwrap();
+    let parse_error = parse_error.clone().unwrap();
+    (
+        literal_error,
+        parse_error,
+        digits.clone().unwrap(),
+        too_large.clone().unwrap(),
+    )
 }

@@ -202,3 +202,12 @@ pub fn same_answer(a: Answer, b: Answer) -> bool
 {
     a == b
 }
+
+/// A clone is the same value.
+pub fn clones_are_same(part: Part, op: Op, call: Call, answer: Answer) -> (Part, Op, Call, Answer)
+    ensures { result ≡ (part, op, call, answer) }
+{
+    let part = part.clone().unwrap();
+    let op = op.clone().unwrap();
+    (part, op, call.clone().unwrap(), answer.clone().unwrap())
+}

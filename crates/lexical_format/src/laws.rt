@@ -1,4 +1,5 @@
-//! The values of the constants, and the equality of values. Each law is the contract of a function.
+//! The values of the constants, and `==` and clones of values. Each law is the contract of a
+//! function.
 
 ghost use Rattle.std.specs.Prelude.{◌≡◌, ◌+◌, ◌*◌, ◌^◌, true};
 ghost use Rattle.lexical_format.specs.Builder.{word_of};
@@ -140,18 +141,14 @@ pub fn same_format(a: NumberFormat, b: NumberFormat) -> bool
     a == b
 }
 
-/// Two sets of flags are equal exactly if each flag is.
-pub fn same_flags(a: DigitSeparatorFlags, b: DigitSeparatorFlags) -> bool
-    ensures same { result ≡ true → a ≡ b }
-    ensures equal { a ≡ b → result ≡ true }
+/// A clone is the same value.
+pub fn clones_are_same(
+    format: NumberFormat,
+    flags: DigitSeparatorFlags,
+    builder: NumberFormatBuilder,
+) -> (NumberFormat, DigitSeparatorFlags, NumberFormatBuilder)
+    ensures { result ≡ (format, flags, builder) }
 {
-    a == b
-}
-
-/// Two builders are equal exactly if each part is.
-pub fn same_builder(a: NumberFormatBuilder, b: NumberFormatBuilder) -> bool
-    ensures same { result ≡ true → a ≡ b }
-    ensures equal { a ≡ b → result ≡ true }
-{
-    a == b
+    let format = format.clone().unwrap();
+    (format, flags.clone().unwrap(), builder.clone().unwrap())
 }

@@ -4,6 +4,7 @@ use super::limited::Limited;
 use super::streams::{ScriptedReader, ScriptedWriter, Turn, Turns};
 use super::{FIVE_ANSWERS, FIVE_LINES, UNSUPPORTED};
 use crate::engine::{Fault, run, run_in, serve, tell, tell_in};
+use crate::fault::{clone_of_fault, same_fault};
 use std::alloc::Global;
 
 static FAULTS: [(Fault, u8, &str); 6] = [
@@ -301,6 +302,13 @@ fn wrongly_told(alloc: Global) -> Option<Fault> {
 #[test]
 fn each_fault_has_its_line_and_status(rt: HostRuntime) {
     assert_eq!(rt; wrongly_told(rt.alloc()), None);
+}
+
+#[test]
+fn faults_are_told_apart(rt: HostRuntime) {
+    let fault = clone_of_fault(Fault::Line(7));
+    assert!(rt; same_fault(fault, Fault::Line(7)) && !same_fault(fault, Fault::Line(8)));
+    assert!(rt; !same_fault(fault, Fault::Word(7)));
 }
 
 /// Whether `tell` with a writer of these turns answers this and writes this.

@@ -1,6 +1,7 @@
 //! What is written for each line.
 
 use super::{FIVE_ANSWERS, FIVE_LINES, answer};
+use crate::line::read_is_spelled;
 use std::alloc::Global;
 use std::process::Abort;
 use std::test::Fail;
@@ -43,6 +44,7 @@ static REQUESTS: [(&str, &str); 17] = [
 
 #[test]
 fn requests_are_answered(rt: HostRuntime) {
+    read_is_spelled();
     for (line, text) in &REQUESTS {
         assert_answer(&rt, rt.alloc(), line.as_bytes(), text.as_bytes(), 0);
     }

@@ -275,14 +275,8 @@ fn equal_values_have_equal_parts(rt: HostRuntime) {
     let (standard, json) = (NumberFormat::new(STANDARD), NumberFormat::new(words::JSON));
     assert!(rt; laws::same_format(standard, json));
     assert!(rt; !laws::same_format(standard, NumberFormat::new(words::HEXADECIMAL)));
-    assert!(rt; laws::same_flags(NO_FLAGS, DECIMAL.integer));
-    assert!(rt; !laws::same_flags(NO_FLAGS, ALL_FLAGS));
-    assert!(rt; laws::same_builder(DECIMAL, DECIMAL));
-    let special = NumberFormatBuilder {
-        special: true,
-        ..DECIMAL
-    };
-    assert!(rt; !laws::same_builder(DECIMAL, special));
+    let (standard, flags, decimal) = laws::clones_are_same(standard, ALL_FLAGS, DECIMAL);
+    assert!(rt; standard == json && flags == ALL_FLAGS && decimal == DECIMAL);
 }
 
 #[test]

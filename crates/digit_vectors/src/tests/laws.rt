@@ -6,14 +6,15 @@ use crate::slow::is_kept;
 use digit_literals::{integers_have_no_fault, outcomes_differ};
 use digit_script::{Answer, Call, Op, same_answer, same_call, same_op, same_part};
 use lexical_digits::iterator::DigitsIter;
-use lexical_digits::laws::equality::{
-    clone_class, clone_component, clone_rule, clone_run, clone_sight, same_class, same_component,
-    same_rule, same_run, same_sight,
+use lexical_digits::laws::equality::{same_component, same_rule, same_run, same_sight};
+use lexical_digits::laws::rows::{
+    clear_counts_starts_again, digits_are_rows, increment_count_of_is_rows, next_of_is_row,
+    peek_of_is_row,
 };
 use lexical_digits::laws::{
-    Component, digits_agree, drain_counts, grants_monotone, items_are_drain, items_unroll,
-    next_after_peek, own_count_only, peek_settles, read_if_none, rest_is_left, special_drops_all,
-    ungranted_keeps_all, zeros_unroll,
+    Component, digits_agree, drain_counts, equality, grants_monotone, items_are_drain,
+    items_unroll, next_after_peek, own_count_only, peek_settles, read_if_none, rest_is_left,
+    special_drops_all, ungranted_keeps_all, zeros_unroll,
 };
 use lexical_digits::skip::{Bytes, Class, Rule, Run, Sight};
 use lexical_digits::stop::digits_end;
@@ -211,7 +212,7 @@ fn rules_are_told_apart(rule: Rule) -> bool {
         )
 }
 
-/// The same of runs, sights, components and classes.
+/// The same of runs, sights and components.
 fn small_values_are_told_apart(run: Run, sight: Sight) -> bool {
     same_run(run, run)
         && !same_run(run, Run { from: 0, ..run })
@@ -221,8 +222,6 @@ fn small_values_are_told_apart(run: Run, sight: Sight) -> bool {
         && !same_sight(sight, Sight { run: None, ..sight })
         && same_component(Component::Integer, Component::Integer)
         && !same_component(Component::Integer, Component::Special)
-        && same_class(Class::Other, Class::Other)
-        && !same_class(Class::Other, Class::Digit)
 }
 
 #[test]
@@ -242,6 +241,7 @@ fn laws_over_definitions_may_be_called(rt: HostRuntime) {
     outcomes_differ(&bytes.integer_iter(), 10);
     digits_end();
     rest_is_left();
+    digits_are_rows();
     assert!(rt; is_supported(STANDARD));
     integers_have_no_fault(b"12", STANDARD);
     flags_are_bits();
@@ -250,19 +250,41 @@ fn laws_over_definitions_may_be_called(rt: HostRuntime) {
     words_say();
 }
 
+/// Whether the clones of these values are the same.
+fn clones_of_values_are_the_same(rule: Rule, run: Run, sight: Sight) -> bool {
+    let component = Component::Special;
+    let class = Class::Digit;
+    equality::clones_are_same(rule, class, component, run, sight)
+        == (rule, class, component, run, sight)
+}
+
 #[test]
 fn clones_are_the_same(rt: HostRuntime) {
     let rule = Rule::of(UNFLAGGED | INTERNAL, Component::Integer);
-    assert!(rt; clone_rule(rule) == rule);
-    assert!(rt; clone_class(Class::Digit) == Class::Digit);
-    assert!(rt; clone_component(Component::Special) == Component::Special);
     let run = Run { from: 1, to: 3 };
-    assert!(rt; clone_run(run) == run);
     let sight = Sight {
         place: 3,
         run: Some(run),
     };
-    assert!(rt; clone_sight(sight) == sight);
+    assert!(rt; clones_of_values_are_the_same(rule, run, sight));
+    let call = Call {
+        part: digit_script::Part::Fraction,
+        op: Op::FirstIs(1, true),
+    };
+    let answer = Answer::View(Some((2, 1)));
+    let calls = digit_script::clones_are_same(call.part, call.op, call, answer);
+    assert!(rt; calls == (call.part, call.op, call, answer));
+}
+
+#[test]
+fn calls_by_component_are_rows(rt: HostRuntime) {
+    let mut bytes = bytes_of(&rt, b"4_5", EACH);
+    assert!(rt; next_of_is_row(&mut bytes, Component::Integer) == Some(b'4'));
+    assert!(rt; peek_of_is_row(&mut bytes, Component::Integer) == Some(b'5'));
+    increment_count_of_is_rows(&mut bytes, Component::Fraction, 3);
+    assert_left(&rt, &mut bytes, 2, [1, 3, 0]);
+    clear_counts_starts_again(&mut bytes);
+    assert_left(&rt, &mut bytes, 2, [0, 0, 0]);
 }
 
 #[test]

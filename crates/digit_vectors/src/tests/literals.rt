@@ -5,7 +5,9 @@ use super::steps::Step::{Count, Cursor, MoveTo};
 use super::steps::{Part, assert_part, assert_steps};
 use super::{INTERNAL, LEADING, TRAILING, UNFLAGGED, bytes_of, move_to};
 use crate::spaced::Spaced;
-use digit_literals::equality::{same_digits, same_literal_error, same_parse_error, same_too_large};
+use digit_literals::equality::{
+    clones_are_same, same_digits, same_literal_error, same_parse_error, same_too_large,
+};
 use digit_literals::{
     Digits, LiteralError, ParseError, TooLarge, pass_digits, read_digits, read_digits_of,
     read_digits_up_to, read_integer, read_integer_from, take_digits,
@@ -292,4 +294,6 @@ fn causes_are_told_apart(rt: HostRuntime) {
         count: 1,
     };
     assert!(rt; !same_too_large(too_large, TooLarge { at: 2, ..too_large }));
+    let values = (empty, ParseError::Empty(3), digits, too_large);
+    assert!(rt; clones_are_same(empty, ParseError::Empty(3), digits, too_large) == values);
 }
