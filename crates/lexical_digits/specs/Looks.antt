@@ -146,7 +146,6 @@ pub record Costs (k : Component) (a b : Held) : Type 0 where
       (2 ^ 64 - 1) ≤ b.looks
   pub at_most : b.looks ≤ a.looks + 4 + 3 * scanned_length a b
   pub unscanned : has_scanned a b ≡ false → b.run ≡ a.run
-  pub scanned : has_scanned a b ≡ true → IsRunOrNone (separator a.state.word) a.state.buffer b.run
   pub needed : needs_run k a ≡ true → has_scanned a b ≡ true
   pub allowed : has_scanned a b ≡ true
       → scans (rule k a.state) a.state.buffer a.state.cursor a.run ≡ true
