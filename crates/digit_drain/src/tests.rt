@@ -1,12 +1,12 @@
-//! The program's lines, its runs under failure, and lists of calls.
+//! The program's lines, and its runs under failure.
 //!
 //! What is tried, and where:
 //!
 //! - the five lines; each further line; bad lines through `run`, `tell` and `status`; each prefix
 //!   of a line; a carriage return; 65,536 bytes and 65,537: `lines`
 //! - memory refused at each request in turn, to a run: `refused_memory_leaves_nothing_written`; to
-//!   `tell`: `a_fault_is_not_told_without_memory`; to a script:
-//!   `a_refused_reservation_changes_nothing`
+//!   `tell`: `a_fault_is_not_told_without_memory`; to a list of calls:
+//!   `a_list_of_calls_takes_one_reservation`
 //! - a reader that fails or is interrupted at the start, in the middle or at the end:
 //!   `a_failing_reader_leaves_nothing_written`; one byte at a turn, with an end and without:
 //!   `a_slow_reader_gives_the_whole_input`, `a_reader_without_end_gives_too_much`; one that fails
@@ -17,17 +17,11 @@
 //!   line: `a_failing_writer_gets_a_prefix`
 //! - each fault's line and status: `each_fault_has_its_line_and_status`; told to such writers:
 //!   `a_fault_is_told_to_a_slow_writer`, `a_fault_is_not_told_to_a_failing_writer`
-//! - calls whose answers are known, on all five parts: `scripts`
-//! - lists of 1,000 random calls over all five parts, also under hostile words, each answer and
-//!   state compared with the call table in slow code: `lists`
 
 mod failures;
 mod limited;
 mod lines;
-mod lists;
-mod scripts;
 mod streams;
-mod table;
 
 use crate::engine::serve;
 use std::alloc::Global;

@@ -5,7 +5,12 @@ use super::streams::{ScriptedReader, ScriptedWriter, Turn, Turns};
 use super::{FIVE_ANSWERS, FIVE_LINES, UNSUPPORTED};
 use crate::engine::{Fault, run, run_in, serve, tell, tell_in};
 use crate::fault::{clone_of_fault, same_fault};
+use crate::script::{self, Call, Op, Part};
+use lexical_digits::iterator::Iter;
+use lexical_digits::skip::Bytes;
+use lexical_format::{STANDARD, is_supported};
 use std::alloc::Global;
+use std::process::Abort;
 
 static FAULTS: [(Fault, u8, &str); 6] = [
     (Fault::Line(7), 2, "error: line 7: not a request\n"),
@@ -100,6 +105,34 @@ fn wrongly_told_within(alloc: Global) -> Option<Fault> {
 #[test]
 fn a_fault_is_not_told_without_memory(rt: HostRuntime) {
     assert_eq!(rt; wrongly_told_within(rt.alloc()), None);
+}
+
+/// Two reads of digits.
+static TWO_READS: [Call; 2] = [
+    Call {
+        part: Part::Integer,
+        op: Op::Next,
+    },
+    Call {
+        part: Part::Integer,
+        op: Op::Next,
+    },
+];
+
+/// Makes those calls on `12` with at most `requests` requests for memory: whether they are made,
+/// and the cursor after them.
+fn calls_within(rt: &impl Abort, alloc: Global, requests: u64) -> (bool, usize) {
+    assert!(rt; is_supported(STANDARD));
+    let mut bytes = Bytes::new(b"12", STANDARD);
+    let limited = Limited::new(alloc, requests);
+    let is_made = script::run_in(&limited, &mut bytes, &TWO_READS).is_ok();
+    (is_made, bytes.cursor())
+}
+
+#[test]
+fn a_list_of_calls_takes_one_reservation(rt: HostRuntime) {
+    assert_eq!(rt; calls_within(&rt, rt.alloc(), 0), (false, 0));
+    assert_eq!(rt; calls_within(&rt, rt.alloc(), 1), (true, 2));
 }
 
 // ---- the reader

@@ -1,25 +1,15 @@
 //! Lists of calls whose answers are known.
 
-ghost use Rattle.std.specs.Prelude.{◌≡◌};
-ghost use Rattle.lexical_digits.specs.State.{start};
-
-use super::limited::Limited;
-use crate::script::{Answer, Call, Op, Part, run, run_in};
+use super::{INTERNAL, UNFLAGGED, bytes_of};
+use digit_script::{Answer, Call, Op, Part, run};
 use lexical_digits::iterator::Iter;
 use lexical_digits::skip::Bytes;
 use lexical_format::{
-    EXPONENT_LEADING_DIGIT_SEPARATOR, FRACTION_TRAILING_DIGIT_SEPARATOR,
-    INTEGER_INTERNAL_DIGIT_SEPARATOR, SPECIAL_DIGIT_SEPARATOR, STANDARD, is_supported,
+    EXPONENT_LEADING_DIGIT_SEPARATOR, FRACTION_TRAILING_DIGIT_SEPARATOR, SPECIAL_DIGIT_SEPARATOR,
 };
 use std::alloc::{AllocError, Global};
 use std::process::Abort;
 use std::test::Fail;
-
-/// Radix 10 and the separator `_`.
-const NO_FLAGS: u128 = STANDARD | (0x5f << 64);
-
-/// Radix 10, the separator `_`, and the integer's internal flag.
-const INTERNAL: u128 = NO_FLAGS | INTEGER_INTERNAL_DIGIT_SEPARATOR;
 
 pub static PARTS: [Part; 5] = [
     Part::Bytes,
@@ -28,14 +18,6 @@ pub static PARTS: [Part; 5] = [
     Part::Exponent,
     Part::Special,
 ];
-
-/// A fresh `Bytes` over a text, with a supported word.
-pub fn bytes_of<'a>(rt: &impl Abort, text: &'a [u8], word: u128) -> Bytes<'a>
-    ensures { result.state ≡ start text.entry.now word }
-{
-    assert!(rt; is_supported(word));
-    Bytes::new(text, word)
-}
 
 /// A text that begins with a refused separator, and calls of which all but the third are refused.
 static REFUSALS: [Call; 4] = [
@@ -73,38 +55,16 @@ pub fn answers(alloc: Global, bytes: &mut Bytes, calls: &[Call], expected: &[Ans
     }
 }
 
-/// Whether those calls are answered where at most `requests` requests for memory succeed.
-fn is_run_within(alloc: Global, bytes: &mut Bytes, requests: u64) -> bool {
-    let limited = Limited::new(alloc, requests);
-    run_in(&limited, bytes, &REFUSALS).is_ok()
-}
-
 #[test]
-fn script_runs_with_ample_memory(rt: HostRuntime) {
-    let mut bytes = bytes_of(&rt, b"_5", INTERNAL);
+fn a_list_is_answered_call_by_call(rt: HostRuntime) {
+    let mut bytes = bytes_of(&rt, b"_5", UNFLAGGED | INTERNAL);
     assert!(rt; answers(rt.alloc(), &mut bytes, &REFUSALS, &REFUSED));
     assert_eq!(rt; bytes.cursor(), 1);
 }
 
 #[test]
-fn a_refused_reservation_changes_nothing(rt: HostRuntime) {
-    let mut bytes = bytes_of(&rt, b"_5", INTERNAL);
-    assert!(rt; !is_run_within(rt.alloc(), &mut bytes, 0));
-    assert_eq!(rt; bytes.cursor(), 0);
-    assert_eq!(rt; bytes.current_count(), 0);
-    assert_eq!(rt; bytes.looks(), 0);
-}
-
-#[test]
-fn one_reservation_is_all_that_a_script_takes(rt: HostRuntime) {
-    let mut bytes = bytes_of(&rt, b"_5", INTERNAL);
-    assert!(rt; is_run_within(rt.alloc(), &mut bytes, 1));
-    assert_eq!(rt; bytes.cursor(), 1);
-}
-
-#[test]
-fn an_empty_script_has_an_empty_answer(rt: HostRuntime) {
-    let mut bytes = bytes_of(&rt, b"_5", INTERNAL);
+fn an_empty_list_has_an_empty_answer(rt: HostRuntime) {
+    let mut bytes = bytes_of(&rt, b"_5", UNFLAGGED | INTERNAL);
     assert!(rt; answers(rt.alloc(), &mut bytes, &[], &[]));
     assert_eq!(rt; bytes.cursor(), 0);
 }
@@ -154,11 +114,9 @@ const CURSOR: Call = Call {
 
 #[test]
 fn all_parts_share_one_cursor(rt: HostRuntime) -> Result<(), Fail> {
-    let flags = INTEGER_INTERNAL_DIGIT_SEPARATOR
-        | FRACTION_TRAILING_DIGIT_SEPARATOR
-        | SPECIAL_DIGIT_SEPARATOR;
+    let flags = INTERNAL | FRACTION_TRAILING_DIGIT_SEPARATOR | SPECIAL_DIGIT_SEPARATOR;
     let (calls, expected) = script_of_steps(rt.alloc())?;
-    let mut bytes = bytes_of(&rt, b"1_2._3", NO_FLAGS | flags);
+    let mut bytes = bytes_of(&rt, b"1_2._3", UNFLAGGED | flags);
     assert!(rt; answers(rt.alloc(), &mut bytes, &calls, &expected));
     Ok(())
 }
@@ -168,7 +126,10 @@ fn all_parts_share_one_cursor(rt: HostRuntime) -> Result<(), Fail> {
 /// flag, and special its own.
 const TEXT: &[u8] = b"_00_5aB1";
 
-const GRANTS: u128 = INTERNAL | EXPONENT_LEADING_DIGIT_SEPARATOR | SPECIAL_DIGIT_SEPARATOR;
+const GRANTS: u128 = UNFLAGGED
+    | INTERNAL
+    | EXPONENT_LEADING_DIGIT_SEPARATOR
+    | SPECIAL_DIGIT_SEPARATOR;
 
 const YES: Answer = Answer::Flag(true);
 
@@ -347,7 +308,7 @@ static CASES: [(Op, Answer); 9] = [
 
 #[test]
 fn case_counts_where_it_is_asked(rt: HostRuntime) {
-    let mut bytes = bytes_of(&rt, b"aB", INTERNAL);
+    let mut bytes = bytes_of(&rt, b"aB", UNFLAGGED | INTERNAL);
     for (op, answer) in &CASES {
         let call = Call {
             part: Part::Integer,

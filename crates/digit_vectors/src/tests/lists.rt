@@ -1,10 +1,12 @@
-//! Random lists of calls over all five parts. Each answer and each state is compared with the call
-//! table written as slow code in `table`.
+//! Random lists of calls over all five parts. A list is answered as its calls are one by one, and
+//! each peek finds the byte that the slow program keeps first.
 
-use super::scripts::{PARTS, answers, bytes_of};
-use super::table::{Format, Table};
-use crate::script::{Answer, Call, Op, Part};
-use lexical_digits::skip::Bytes;
+use super::bytes_of;
+use super::scripts::PARTS;
+use crate::slow::place;
+use digit_script::{Answer, Call, Op, Part, run};
+use lexical_digits::iterator::{Iter, IterBodies};
+use lexical_digits::skip::{Bytes, Component, Rule};
 use lexical_format::{
     EXPONENT_INTERNAL_DIGIT_SEPARATOR, EXPONENT_LEADING_DIGIT_SEPARATOR,
     FRACTION_CONSECUTIVE_DIGIT_SEPARATOR, FRACTION_LEADING_DIGIT_SEPARATOR,
@@ -118,46 +120,15 @@ impl Numbers {
     }
 }
 
-/// A list of calls, and what the table answers to them.
-fn random_calls(
-    alloc: Global,
-    seed: u64,
-    table: &mut Table<'_>,
-) -> Result<(Vec<Call>, Vec<Answer>), AllocError> {
+/// A list of calls.
+fn random_calls(alloc: Global, seed: u64) -> Result<Vec<Call>, AllocError> {
     let mut numbers = Numbers { last: seed };
     let mut calls = Vec::new(alloc);
-    let mut answers = Vec::new(alloc);
     for _ in 0..CALLS {
-        let call = numbers.call();
-        calls.push(call)?;
-        answers.push(table.answer(call))?;
+        calls.push(numbers.call())?;
     }
-    Ok((calls, answers))
+    Ok(calls)
 }
-
-/// Calls that answer the cursor and the counts.
-static STATE: [Call; 5] = [
-    Call {
-        part: Part::Bytes,
-        op: Op::Cursor,
-    },
-    Call {
-        part: Part::Bytes,
-        op: Op::CurrentCount,
-    },
-    Call {
-        part: Part::Integer,
-        op: Op::CurrentCount,
-    },
-    Call {
-        part: Part::Fraction,
-        op: Op::CurrentCount,
-    },
-    Call {
-        part: Part::Exponent,
-        op: Op::CurrentCount,
-    },
-];
 
 /// The pattern with this separator in place of its own.
 fn text_of(alloc: Global, separator: u8) -> Result<Vec<u8>, AllocError> {
@@ -168,77 +139,89 @@ fn text_of(alloc: Global, separator: u8) -> Result<Vec<u8>, AllocError> {
     Ok(text)
 }
 
-/// Runs a script of one call: whether the table answers so too.
-fn is_call(alloc: Global, bytes: &mut Bytes, table: &mut Table, call: Call) -> bool {
-    answers(alloc, bytes, &[call], &[table.answer(call)])
+/// The answer to a call by itself.
+fn answer(alloc: Global, bytes: &mut Bytes, part: Part, op: Op) -> Option<Answer> {
+    let answers = run(alloc, bytes, &[Call { part, op }]).ok()?;
+    answers.first().copied()
 }
 
-/// Asks for the state: whether it is the table's.
-fn is_state(alloc: Global, bytes: &mut Bytes, table: &mut Table) -> bool {
-    let [cursor, all, integer, fraction, exponent] = STATE;
-    let expected = [
-        table.answer(cursor),
-        table.answer(all),
-        table.answer(integer),
-        table.answer(fraction),
-        table.answer(exponent),
-    ];
-    answers(alloc, bytes, &STATE, &expected)
+/// The iterators, each with its component.
+static ITERATORS: [(Part, Component); 4] = [
+    (Part::Integer, Component::Integer),
+    (Part::Fraction, Component::Fraction),
+    (Part::Exponent, Component::Exponent),
+    (Part::Special, Component::Special),
+];
+
+/// Peeks on an iterator over a copy: whether that finds what the slow program keeps first.
+fn is_peek(alloc: Global, bytes: &Bytes, word: u128, (part, component): (Part, Component)) -> bool {
+    let (text, start) = (bytes.get_buffer(), bytes.cursor());
+    let Ok(mut copy) = bytes.clone() else {
+        return false;
+    };
+    if start > text.len() {
+        return false;
+    }
+    let count = bytes.current_count_of(component);
+    let at = place(Rule::of(word, component), text, start, count);
+    let byte = Answer::Byte(text.get(at).copied());
+    answer(alloc, &mut copy, part, Op::Peek) == Some(byte) && copy.cursor() == at
 }
 
-/// A list as one script.
-fn assert_script(
-    rt: &impl Abort,
+/// Whether that is so on each iterator.
+fn are_peeks(alloc: Global, bytes: &Bytes, word: u128) -> bool {
+    for iterator in &ITERATORS {
+        if !is_peek(alloc, bytes, word, *iterator) {
+            return false;
+        }
+    }
+    true
+}
+
+/// The first call that is answered otherwise by itself than in its list, or after which a peek
+/// finds another byte than the slow program; its number, from 0, and its answer in the list.
+fn wrong_call(
     alloc: Global,
-    text: &[u8],
-    format: Format,
+    bytes: &mut Bytes,
+    word: u128,
     calls: &[Call],
-    expected: &[Answer],
-) {
-    let mut bytes = bytes_of(rt, text, format.word());
-    assert!(rt;
-        answers(alloc, &mut bytes, calls, expected),
-        "by {format:?}"
-    );
-}
-
-/// The first call of a list that is not answered as by the table, or leaves another state.
-fn wrong_call(alloc: Global, bytes: &mut Bytes, table: &mut Table, calls: &[Call]) -> Option<Call> {
-    for call in calls {
-        if !is_call(alloc, bytes, table, *call) || !is_state(alloc, bytes, table) {
-            return Some(*call);
+    answers: &[Answer],
+) -> Option<(usize, Call, Answer)> {
+    for (at, (call, answered)) in calls.iter().zip(answers).enumerate() {
+        let is_same = answer(alloc, bytes, call.part, call.op) == Some(*answered);
+        if !is_same || !are_peeks(alloc, bytes, word) {
+            return Some((at, *call, *answered));
         }
     }
     None
 }
 
-/// A list call by call, with the state after each.
-fn assert_calls(rt: &impl Abort, alloc: Global, text: &[u8], format: Format, calls: &[Call]) {
-    let mut bytes = bytes_of(rt, text, format.word());
-    let mut table = Table::new(text, format);
-    let wrong = wrong_call(alloc, &mut bytes, &mut table, calls);
-    assert!(rt; wrong.is_none(), "{wrong:?}, which leaves {table:?}");
-}
-
-/// A list as one script, and then call by call with the state after each.
-fn assert_list(rt: &impl Abort, alloc: Global, format: Format, seed: u64) -> Result<(), Fail> {
-    let text = text_of(alloc, format.separator)?;
-    let (calls, expected) = random_calls(alloc, seed, &mut Table::new(&text, format))?;
-    assert_script(rt, alloc, &text, format, &calls, &expected);
-    assert_calls(rt, alloc, &text, format, &calls);
+/// Runs a list over the pattern, and then its calls one by one.
+fn assert_list(
+    rt: &impl Abort,
+    alloc: Global,
+    (radix, exponent_radix, separator): (u8, u8, u8),
+    flags: u128,
+    seed: u64,
+) -> Result<(), Fail> {
+    let radixes = (u128::from(exponent_radix) << 120) | (u128::from(radix) << 104);
+    let word = radixes | (u128::from(separator) << 64) | flags;
+    let text = text_of(alloc, separator)?;
+    let calls = random_calls(alloc, seed)?;
+    let answers = run(alloc, &mut bytes_of(rt, &text, word), &calls)?;
+    let mut bytes = bytes_of(rt, &text, word);
+    let wrong = wrong_call(alloc, &mut bytes, word, &calls, &answers);
+    assert!(rt;
+        answers.len() == CALLS && wrong.is_none(),
+        "{wrong:?}, by {word}"
+    );
     Ok(())
 }
 
 #[test]
-fn a_thousand_calls_are_answered_by_the_table(rt: HostRuntime) -> Result<(), Fail> {
-    let format = Format {
-        radix: 10,
-        exponent_radix: 0,
-        separator: b'_',
-        flags: MIXED,
-    };
-    assert_list(&rt, rt.alloc(), format, 1)?;
-    assert_list(&rt, rt.alloc(), format, 2)
+fn each_peek_of_a_thousand_calls_is_the_slow_programs(rt: HostRuntime) -> Result<(), Fail> {
+    assert_list(&rt, rt.alloc(), (10, 0, b'_'), MIXED, 1)?;
+    assert_list(&rt, rt.alloc(), (10, 0, b'_'), MIXED, 2)
 }
 
 /// The radixes of integer and exponent and the separator of hostile words: a byte that is no text,
@@ -257,17 +240,10 @@ static HOSTILE: [(u8, u8, u8); 9] = [
 ];
 
 #[test]
-fn hostile_words_are_answered_by_the_table(rt: HostRuntime) -> Result<(), Fail> {
-    for (radix, exponent_radix, separator) in &HOSTILE {
-        for flags in [MIXED, OTHERS] {
-            let format = Format {
-                radix: *radix,
-                exponent_radix: *exponent_radix,
-                separator: *separator,
-                flags,
-            };
-            assert_list(&rt, rt.alloc(), format, 3)?;
-        }
+fn each_peek_by_a_hostile_word_is_the_slow_programs(rt: HostRuntime) -> Result<(), Fail> {
+    for word in &HOSTILE {
+        assert_list(&rt, rt.alloc(), *word, MIXED, 3)?;
+        assert_list(&rt, rt.alloc(), *word, OTHERS, 3)?;
     }
     Ok(())
 }
