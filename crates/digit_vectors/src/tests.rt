@@ -22,6 +22,7 @@ mod plain;
 mod plain_rows;
 mod radixes;
 mod reads;
+mod rows;
 mod rules;
 mod scripts;
 mod spaced;

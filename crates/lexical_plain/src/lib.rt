@@ -5,4 +5,3 @@
 
 pub mod laws;
 pub mod noskip;
-pub mod rows;

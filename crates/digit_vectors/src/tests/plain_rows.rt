@@ -1,13 +1,13 @@
 //! Rows of the plain call table, one call at a time, and the laws of the plain module.
 
 use super::plain::plain_bytes;
+use super::rows;
 use super::steps::Step::Next;
 use super::steps::assert_steps;
 use lexical_digits::iterator::{Iter, IterBodies};
 use lexical_format::STANDARD;
 use lexical_plain::laws::{items_are_rest, plain_agrees, zeros_come_first};
 use lexical_plain::noskip::{Bytes, DigitsIterator};
-use lexical_plain::rows;
 use std::process::Abort;
 
 /// The rows of a `Bytes` over `a2345678`: whether each answers so.

@@ -5,8 +5,8 @@ ghost use Rattle.lexical_digits.specs.CallTable.{Span, Count, Flag, Done, Byte, 
 ghost use Rattle.lexical_digits.specs.CallTable as call;
 ghost use Rattle.lexical_plain.specs.Plain.{rest, MakesOnDigits, AnswersOnDigits};
 
-use crate::noskip::{Bytes, DigitsIterator};
 use lexical_digits::iterator::{DigitsBodies, DigitsIter, Iter, IterBodies};
+use lexical_plain::noskip::{Bytes, DigitsIterator};
 
 // ---- the calls that a `Bytes` has too
 
@@ -239,7 +239,7 @@ pub fn read_if_value(iter: &mut DigitsIterator, value: u8, is_cased: bool) -> Op
 }
 
 /// The row of `skip_zeros`.
-#[tactic(auto, using(crate::proofs::ItemsAndZeros::first))]
+#[tactic(auto, using(lexical_plain::proofs::ItemsAndZeros::first))]
 pub fn skip_zeros(iter: &mut DigitsIterator) -> usize
     ensures { let s = iter.old.byte.now.state in let t = iter.new.byte.now.state in
         MakesOnDigits call.SkipZeros s t (Count result) }

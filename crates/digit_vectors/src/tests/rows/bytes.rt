@@ -5,8 +5,8 @@ ghost use Rattle.lexical_digits.specs.CallTable.{OnBytes, Span, Count, Flag, Don
 ghost use Rattle.lexical_digits.specs.CallTable as call;
 ghost use Rattle.lexical_plain.specs.Plain.{rest, Makes, Answers};
 
-use crate::noskip::Bytes;
 use lexical_digits::iterator::{Iter, IterBodies};
+use lexical_plain::noskip::Bytes;
 
 /// The row of `as_slice`.
 pub fn as_slice<'a>(bytes: &Bytes<'a>) -> &'a [u8]
