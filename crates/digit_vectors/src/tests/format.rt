@@ -8,6 +8,7 @@ use lexical_format::{
     SPECIAL_DIGIT_SEPARATOR, STANDARD, char_is_digit_const, char_to_digit_const, is_supported,
     laws, words,
 };
+use std::process::Abort;
 
 fn word_of(mantissa_radix: u8, separator: u8) -> u128 {
     (u128::from(mantissa_radix) << 104) | (u128::from(separator) << 64)
@@ -128,68 +129,63 @@ fn a_separator_may_be_no_digit(rt: HostRuntime) {
     }
 }
 
-#[test]
-fn digits_end_at_their_borders(rt: HostRuntime) {
-    for (byte, expected) in [
-        (b'/', None),
-        (b'0', Some(0)),
-        (b'9', Some(9)),
-        (b':', None),
-        (b'@', None),
-        (b'A', Some(10)),
-        (b'Z', Some(35)),
-        (b'[', None),
-        (b'`', None),
-        (b'a', Some(10)),
-        (b'z', Some(35)),
-        (b'{', None),
-        (0x80, None),
-        (0xFF, None),
-    ] {
-        for radix in [36, 37, u32::MAX] {
-            assert_eq!(rt;
-                char_to_digit_const(byte, radix),
-                expected,
-                "{byte} in {radix}"
-            );
-            assert_eq!(rt;
-                char_is_digit_const(byte, radix),
-                expected.is_some(),
-                "{byte} in {radix}"
-            );
-        }
-        assert_eq!(rt; char_to_digit_const(byte, 0), None, "{byte} in radix 0");
-        assert!(rt; !char_is_digit_const(byte, 0), "{byte} in radix 0");
-    }
+/// Bytes at the borders of digits and letters, and the value of each from radix 36 on.
+static BORDERS: [(u8, Option<u32>); 14] = [
+    (b'/', None),
+    (b'0', Some(0)),
+    (b'9', Some(9)),
+    (b':', None),
+    (b'@', None),
+    (b'A', Some(10)),
+    (b'Z', Some(35)),
+    (b'[', None),
+    (b'`', None),
+    (b'a', Some(10)),
+    (b'z', Some(35)),
+    (b'{', None),
+    (0x80, None),
+    (0xFF, None),
+];
+
+/// A byte has this value in a radix, and is a digit exactly if it has one.
+fn assert_value(rt: &impl Abort, byte: u8, radix: u32, expected: Option<u32>) {
+    let value = char_to_digit_const(byte, radix);
+    let is_digit = char_is_digit_const(byte, radix);
+    let is = value == expected && is_digit == expected.is_some();
+    assert!(rt; is, "{byte} in {radix}: {value:?}, {is_digit}");
 }
 
 #[test]
+fn digits_end_at_their_borders(rt: HostRuntime) {
+    for (byte, expected) in &BORDERS {
+        for radix in [36, 37, u32::MAX] {
+            assert_value(&rt, *byte, radix, *expected);
+        }
+        assert_value(&rt, *byte, 0, None);
+    }
+}
+
+/// A radix, a byte, and its value.
+static BELOW_RADIX: [(u32, u8, Option<u32>); 13] = [
+    (1, b'0', Some(0)),
+    (1, b'1', None),
+    (2, b'1', Some(1)),
+    (2, b'2', None),
+    (10, b'9', Some(9)),
+    (10, b'A', None),
+    (10, b'a', None),
+    (16, b'F', Some(15)),
+    (16, b'G', None),
+    (16, b'f', Some(15)),
+    (16, b'g', None),
+    (35, b'Z', None),
+    (35, b'z', None),
+];
+
+#[test]
 fn a_digit_is_below_its_radix(rt: HostRuntime) {
-    for (radix, byte, expected) in [
-        (1, b'0', Some(0)),
-        (1, b'1', None),
-        (2, b'1', Some(1)),
-        (2, b'2', None),
-        (10, b'9', Some(9)),
-        (10, b'A', None),
-        (10, b'a', None),
-        (16, b'F', Some(15)),
-        (16, b'G', None),
-        (16, b'f', Some(15)),
-        (16, b'g', None),
-        (35, b'Z', None),
-        (35, b'z', None),
-    ] {
-        assert_eq!(rt;
-            char_to_digit_const(byte, radix),
-            expected,
-            "{byte} in {radix}"
-        );
-        assert_eq!(rt;
-            char_is_digit_const(byte, radix),
-            expected.is_some(),
-            "{byte} in {radix}"
-        );
+    for (radix, byte, expected) in &BELOW_RADIX {
+        assert_value(&rt, *byte, *radix, *expected);
     }
 }
 
@@ -216,54 +212,54 @@ fn a_builder_makes_the_word_of_its_parts(rt: HostRuntime) {
     assert_eq!(rt; word, (10 << 120) | (16 << 104));
 }
 
+/// Which of integer, fraction and exponent have all flags, the special flag, and the bits.
+static FLAG_BITS: [([bool; 3], bool, u128); 5] = [
+    (
+        [true, false, false],
+        false,
+        INTEGER_DIGIT_SEPARATOR_FLAG_MASK,
+    ),
+    (
+        [false, true, false],
+        false,
+        FRACTION_DIGIT_SEPARATOR_FLAG_MASK,
+    ),
+    (
+        [false, false, true],
+        false,
+        EXPONENT_DIGIT_SEPARATOR_FLAG_MASK,
+    ),
+    ([false, false, false], true, SPECIAL_DIGIT_SEPARATOR),
+    ([true, true, true], true, DIGIT_SEPARATOR_FLAG_MASK),
+];
+
+fn all_if(has_flags: bool) -> DigitSeparatorFlags {
+    if has_flags { ALL_FLAGS } else { NO_FLAGS }
+}
+
 #[test]
-fn a_builder_puts_each_flag_in_its_place(rt: HostRuntime) {
-    for (integer, fraction, exponent, special, flags) in [
-        (
-            ALL_FLAGS,
-            NO_FLAGS,
-            NO_FLAGS,
-            false,
-            INTEGER_DIGIT_SEPARATOR_FLAG_MASK,
-        ),
-        (
-            NO_FLAGS,
-            ALL_FLAGS,
-            NO_FLAGS,
-            false,
-            FRACTION_DIGIT_SEPARATOR_FLAG_MASK,
-        ),
-        (
-            NO_FLAGS,
-            NO_FLAGS,
-            ALL_FLAGS,
-            false,
-            EXPONENT_DIGIT_SEPARATOR_FLAG_MASK,
-        ),
-        (NO_FLAGS, NO_FLAGS, NO_FLAGS, true, SPECIAL_DIGIT_SEPARATOR),
-        (
-            ALL_FLAGS,
-            ALL_FLAGS,
-            ALL_FLAGS,
-            true,
-            DIGIT_SEPARATOR_FLAG_MASK,
-        ),
-    ] {
+fn a_builder_puts_the_flags_of_a_component_in_their_places(rt: HostRuntime) {
+    for ([integer, fraction, exponent], special, bits) in &FLAG_BITS {
         let builder = NumberFormatBuilder {
-            integer,
-            fraction,
-            exponent,
-            special,
+            integer: all_if(*integer),
+            fraction: all_if(*fraction),
+            exponent: all_if(*exponent),
+            special: *special,
             ..DECIMAL
         };
-        assert_eq!(rt; builder.build(), STANDARD | flags, "for {builder:?}");
+        let word = builder.build();
+        assert!(rt; word == STANDARD | *bits, "{builder:?} makes {word}");
     }
-    let flags = DigitSeparatorFlags {
+}
+
+#[test]
+fn a_builder_puts_a_flag_in_its_place(rt: HostRuntime) {
+    let fraction = DigitSeparatorFlags {
         trailing: true,
         ..NO_FLAGS
     };
     let word = NumberFormatBuilder {
-        fraction: flags,
+        fraction,
         ..DECIMAL
     }
     .build();

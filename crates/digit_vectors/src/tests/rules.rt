@@ -2,41 +2,55 @@
 
 use super::steps::Part::{Fraction, Integer, Special, Whole};
 use super::steps::Step::{Count, Cursor, Drains};
-use super::steps::{assert_goes, assert_turns, is_drain};
-use super::{CONSECUTIVE, INTERNAL, LEADING, TRAILING, UNFLAGGED};
-use lexical_digits::iterator::{DigitsIter, Iter};
-use lexical_digits::skip::Bytes;
+use super::steps::{assert_goes, assert_turns};
+use super::{CONSECUTIVE, INTERNAL, LEADING, TRAILING, UNFLAGGED, bytes_of, move_to};
+use lexical_digits::iterator::{DigitsIter, IterBodies};
+use lexical_digits::skip::{Bytes, Component, Rule};
 use lexical_format::words::{
     CXX14_LITERAL, HEXADECIMAL, JAVA_LITERAL, JSON, PYTHON_LITERAL, RUST_BINARY_LITERAL,
     RUST_HEX_LITERAL, RUST_LITERAL, RUST_OCTAL_LITERAL, TOML,
 };
 use lexical_format::{
     FRACTION_INTERNAL_DIGIT_SEPARATOR, FRACTION_LEADING_DIGIT_SEPARATOR, SPECIAL_DIGIT_SEPARATOR,
-    is_supported,
 };
+use std::alloc::Global;
+use std::process::Abort;
 
 /// All four flags of the integer.
 const ALL: u128 = INTERNAL | LEADING | TRAILING | CONSECUTIVE;
 
-/// Whether the drain of the integer of a text, from a cursor and with a count of 0 or 1, yields
-/// these bytes, and the count is this after it.
-fn is_drained(
+/// What a drain of the integer yields: it has one byte for each turn but the last.
+fn drain_of(rt: &impl Abort, alloc: Global, bytes: &mut Bytes) -> Vec<u8> {
+    let mut drained = Vec::new(alloc);
+    for _ in 0..=bytes.buffer_length() {
+        if let Some(byte) = bytes.integer_iter().next() {
+            drained.push(*byte).expect(rt, "memory");
+        }
+    }
+    drained
+}
+
+/// The drain of the integer of a text, from a cursor and with a count of 0 or 1, yields these
+/// bytes, and the count is this after it.
+fn assert_drained(
+    rt: &impl Abort,
+    alloc: Global,
     word: u128,
     text: &[u8],
     (cursor, count): (usize, usize),
-    kept: &[u8],
-    count_after: usize,
-) -> bool {
-    if !is_supported(word) || cursor > text.len() {
-        return false;
-    }
-    let mut bytes = Bytes::new(text, word);
-    bytes.set_cursor(cursor);
-    let mut iter = bytes.integer_iter();
-    if count > 0 {
-        iter.increment_count();
-    }
-    is_drain(&mut iter, kept, count_after)
+    (kept, count_after): (&[u8], usize),
+) {
+    let mut bytes = bytes_of(rt, text, word);
+    move_to(rt, &mut bytes, cursor);
+    bytes.increment_count_of(Component::Integer, count);
+    let drained = drain_of(rt, alloc, &mut bytes);
+    let counted = bytes.current_count_of(Component::Integer);
+    let is = drained.as_slice() == kept && counted == count_after;
+    let rule = Rule::of(word, Component::Integer);
+    assert!(rt;
+        is,
+        "{text:?} from {cursor} by {rule:?}: {drained:?} and count {counted}"
+    );
 }
 
 /// Eight texts, and the number of digits in each.
@@ -113,31 +127,22 @@ static STATES: [(u128, [&str; 8]); 16] = [
     (ALL, ["45", "45", "45", "45", "45", "45", "", ""]),
 ];
 
-/// The first of the eight texts that yields other bytes in a state of the flags.
-fn wrong_text(flags: u128, kept: &[&str; 8]) -> Option<&'static str> {
-    for ((text, digits), kept) in TEXTS.iter().zip(kept) {
-        let count = if flags == 0 { 0 } else { *digits };
-        let word = UNFLAGGED | flags;
-        if !is_drained(word, text.as_bytes(), (0, 0), kept.as_bytes(), count) {
-            return Some(text);
-        }
-    }
-    None
-}
-
-/// The first row of [`STATES`], from 0, with such a text, and that text.
-fn wrong_state() -> Option<(usize, &'static str)> {
-    for (row, (flags, kept)) in STATES.iter().enumerate() {
-        if let Some(text) = wrong_text(*flags, kept) {
-            return Some((row, text));
-        }
-    }
-    None
-}
-
 #[test]
 fn each_state_of_the_flags_drops_its_separators(rt: HostRuntime) {
-    assert_eq!(rt; wrong_state(), None);
+    for (flags, kept) in &STATES {
+        for ((text, digits), kept) in TEXTS.iter().zip(kept) {
+            let count = if *flags == 0 { 0 } else { *digits };
+            let (word, kept) = (UNFLAGGED | *flags, kept.as_bytes());
+            assert_drained(
+                &rt,
+                rt.alloc(),
+                word,
+                text.as_bytes(),
+                (0, 0),
+                (kept, count),
+            );
+        }
+    }
 }
 
 /// Flags, a text, the bytes that its drain yields, and the count after it.
@@ -170,20 +175,19 @@ static EXAMPLES: [(u128, &str, &str, usize); 26] = [
     (ALL, "__4__5__", "45", 2),
 ];
 
-/// The first row of [`EXAMPLES`], from 0, whose drain is another, and its text.
-fn wrong_example() -> Option<(usize, &'static str)> {
-    for (row, (flags, text, kept, count)) in EXAMPLES.iter().enumerate() {
-        let word = UNFLAGGED | *flags;
-        if !is_drained(word, text.as_bytes(), (0, 0), kept.as_bytes(), *count) {
-            return Some((row, text));
-        }
-    }
-    None
-}
-
 #[test]
 fn a_separator_is_dropped_by_its_sides_and_flags(rt: HostRuntime) {
-    assert_eq!(rt; wrong_example(), None);
+    for (flags, text, kept, count) in &EXAMPLES {
+        let (word, kept) = (UNFLAGGED | *flags, kept.as_bytes());
+        assert_drained(
+            &rt,
+            rt.alloc(),
+            word,
+            text.as_bytes(),
+            (0, 0),
+            (kept, *count),
+        );
+    }
 }
 
 /// Flags, a text, the cursor and the count at the start, the bytes that the drain yields from
@@ -202,21 +206,13 @@ static FROM_WITHIN: [(u128, &str, usize, usize, &str, usize); 11] = [
     (TRAILING, "1__", 1, 0, "__", 0),
 ];
 
-/// The first row of them, from 0, whose drain is another, and its text.
-fn wrong_from_within() -> Option<(usize, &'static str)> {
-    for (row, (flags, text, cursor, count, kept, count_after)) in FROM_WITHIN.iter().enumerate() {
-        let start = (*cursor, *count);
-        let word = UNFLAGGED | *flags;
-        if !is_drained(word, text.as_bytes(), start, kept.as_bytes(), *count_after) {
-            return Some((row, text));
-        }
-    }
-    None
-}
-
 #[test]
 fn a_drain_from_within_a_text_sees_what_is_left_of_it(rt: HostRuntime) {
-    assert_eq!(rt; wrong_from_within(), None);
+    for (flags, text, cursor, count, kept, count_after) in &FROM_WITHIN {
+        let (word, text) = (UNFLAGGED | *flags, text.as_bytes());
+        let (start, end) = ((*cursor, *count), (kept.as_bytes(), *count_after));
+        assert_drained(&rt, rt.alloc(), word, text, start, end);
+    }
 }
 
 /// Words of other separators and radixes: a text, the bytes that its drain yields, and the count.
@@ -244,19 +240,11 @@ static OTHER_WORDS: [(u128, &[u8], &[u8], usize); 20] = [
     (JAVA_LITERAL, b"1_", b"1_", 1),
 ];
 
-/// The first row of them, from 0, whose drain is another, and its text.
-fn wrong_word() -> Option<(usize, &'static [u8])> {
-    for (row, (word, text, kept, count)) in OTHER_WORDS.iter().enumerate() {
-        if !is_drained(*word, text, (0, 0), kept, *count) {
-            return Some((row, text));
-        }
-    }
-    None
-}
-
 #[test]
 fn a_word_has_its_own_separator_and_radix(rt: HostRuntime) {
-    assert_eq!(rt; wrong_word(), None);
+    for (word, text, kept, count) in &OTHER_WORDS {
+        assert_drained(&rt, rt.alloc(), *word, text, (0, 0), (*kept, *count));
+    }
 }
 
 #[test]

@@ -150,7 +150,7 @@ fn is_next<'a, D: DigitsIter<'a>>(iter: &mut D, byte: Option<u8>) -> bool {
 }
 
 /// Calls `next` until there is no byte: whether it yields these bytes, and then has this count.
-pub fn is_drain<'a, D: DigitsIter<'a>>(iter: &mut D, bytes: &[u8], count: usize) -> bool {
+fn is_drain<'a, D: DigitsIter<'a>>(iter: &mut D, bytes: &[u8], count: usize) -> bool {
     for byte in bytes {
         if !is_next(iter, Some(*byte)) {
             return false;
@@ -214,20 +214,33 @@ fn wrong_step_of(bytes: &mut Bytes, part: Part, steps: &[Step]) -> Option<usize>
     }
 }
 
+/// Fails with the index of a wrong step, and with what it left.
+fn assert_none<'a, I: Iter<'a>>(rt: &impl Abort, iter: &I, wrong: Option<usize>) {
+    let (text, cursor, count) = (iter.get_buffer(), iter.cursor(), iter.current_count());
+    assert!(rt;
+        wrong.is_none(),
+        "step {wrong:?} on {text:?} leaves {cursor}, count {count}"
+    );
+}
+
 /// Makes these calls on an iterator.
 pub fn assert_steps<'a, D: DigitsIter<'a>>(rt: &impl Abort, iter: &mut D, steps: &[Step]) {
-    assert_eq!(rt; wrong_step(iter, steps), None);
+    let wrong = wrong_step(iter, steps);
+    assert_none(rt, iter, wrong);
 }
 
 /// Makes these calls on one part of a `Bytes`.
 pub fn assert_part(rt: &impl Abort, bytes: &mut Bytes, part: Part, steps: &[Step]) {
-    assert_eq!(rt; wrong_step_of(bytes, part, steps), None);
+    let wrong = wrong_step_of(bytes, part, steps);
+    assert_none(rt, bytes, wrong);
 }
 
 /// Makes these calls on one part of a text.
 pub fn assert_goes(rt: &impl Abort, word: u128, text: &[u8], part: Part, steps: &[Step]) {
-    if let Some(at) = wrong_step_of(&mut bytes_of(rt, text, word), part, steps) {
-        assert!(rt; false, "step {at} on {text:?}");
+    let mut bytes = bytes_of(rt, text, word);
+    if let Some(at) = wrong_step_of(&mut bytes, part, steps) {
+        let cursor = bytes.cursor();
+        assert!(rt; false, "step {at} on {text:?} by {word} leaves {cursor}");
     }
 }
 
@@ -236,6 +249,10 @@ pub fn assert_turns(rt: &impl Abort, word: u128, text: &[u8], turns: &[(Part, St
     let mut bytes = bytes_of(rt, text, word);
     for (at, (part, step)) in turns.iter().enumerate() {
         let wrong = wrong_step_of(&mut bytes, *part, &[*step]);
-        assert!(rt; wrong.is_none(), "turn {at} of {text:?}");
+        let cursor = bytes.cursor();
+        assert!(rt;
+            wrong.is_none(),
+            "turn {at} of {text:?} by {word} leaves {cursor}"
+        );
     }
 }

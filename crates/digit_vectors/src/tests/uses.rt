@@ -146,6 +146,12 @@ fn a_line_of_numbers(rt: HostRuntime) -> Result<(), Fail> {
     assert_eq!(rt; read.tokens.as_slice(), tokens.as_slice());
     assert_eq!(rt; read.end, 8);
     assert_eq!(rt; read.fault, None);
+    Ok(())
+}
+
+#[test]
+fn a_line_of_numbers_ends_at_a_fault(rt: HostRuntime) -> Result<(), Fail> {
+    assert!(rt; is_supported(WORD));
     // the second number has no digit before its `_`
     let read = numbers(rt.alloc(), b"1,_5", WORD).map_err(|_| "no memory")?;
     assert_eq!(rt; read.end, 1);
@@ -205,12 +211,22 @@ fn loops_of_a_callers_own(rt: HostRuntime) {
         (5, true)
     );
     assert_eq!(rt; component_end(b"12_", WORD, Component::Integer), (2, false));
+}
+
+#[test]
+fn a_parser_of_a_callers_own(rt: HostRuntime) {
+    assert!(rt; is_supported(WORD));
     let mut parser = Parser {
         bytes: Bytes::new(b"12x3_", WORD),
         radix: 10,
     };
     assert_eq!(rt; parser.sum_digits(), 6);
     assert_eq!(rt; parser.bytes.cursor(), 5);
+}
+
+#[test]
+fn a_wanted_byte_is_read_too(rt: HostRuntime) {
+    assert!(rt; is_supported(WORD));
     let mut bytes = Bytes::new(b"12.5", WORD);
     assert!(rt; take_through(&mut bytes, b'.'));
     assert_eq!(rt; bytes.cursor(), 3);
