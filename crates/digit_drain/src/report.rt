@@ -60,14 +60,15 @@ pub struct Report<A: Allocator> {
     pub fault: Option<BadLine>,
 }
 
-/// The count and the cursor of a drained iterator.
+/// The count and the cursor after a drain.
 #[derive(Clone, Copy)]
 struct Drained {
     count: usize,
     cursor: usize,
 }
 
-/// Drains a component, and adds the bytes that it yields to the output.
+/// Drains a component by `next_of`, which its iterator's `next` calls, and adds the bytes that it
+/// yields to the output.
 fn push_component<A: Allocator>(
     output: &mut Vec<u8, A>,
     bytes: &mut Bytes<'_>,
