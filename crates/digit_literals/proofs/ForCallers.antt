@@ -64,10 +64,10 @@ pub ruleset rests = (stops, rest_is, length_rest, first_of_rest)
 
 -- ---- so few digits always fit
 
-digit_fits : (radix byte : ℕ) → is_digit_of_radix radix byte ≡ true → digit_value byte < radix
+pub digit_fits : (radix byte : ℕ) → is_digit_of_radix radix byte ≡ true → digit_value byte < radix
 digit_fits radix byte h = grind (arith, nat_tests, value_is radix byte)
 
-all_digits : (rule : Rule) (xs : List ℕ) → AllDigits rule.radix (filter (is_digit rule) xs)
+pub all_digits : (rule : Rule) (xs : List ℕ) → AllDigits rule.radix (filter (is_digit rule) xs)
 unfolding is_digit
 all_digits rule [] = tt
 all_digits rule (x ∷ xs) = grind (arith, digit_fits, all_digits rule xs)

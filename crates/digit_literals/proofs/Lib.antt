@@ -8,3 +8,6 @@ pub mod Whole
 pub mod Texts
 pub mod Within
 pub mod ForCallers
+pub mod Rest
+pub mod Significant
+pub mod FirstDigits

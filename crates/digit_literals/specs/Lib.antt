@@ -1,4 +1,6 @@
 pub mod Outcomes
 pub mod After
 pub mod Integers
+pub mod Rest
+pub mod Significant
 pub mod Whole

@@ -21,6 +21,7 @@ ghost use Rattle.digit_literals.specs.declared.parse.ParseError.{ParseError};
 mod component;
 pub mod equality;
 mod integer;
+pub mod laws;
 mod parse;
 mod reading;
 
