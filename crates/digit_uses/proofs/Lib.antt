@@ -1,3 +1,3 @@
 mod FewDigits
-mod FloatFaults
+mod Floats
 mod Tokens

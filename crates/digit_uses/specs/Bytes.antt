@@ -16,7 +16,7 @@ stands p text at = holds_of p (slice_get text at)
 
 -- `.`
 abbrev pub is_point : ℕ → Bool
-is_point byte = byte == 46
+is_point = one_of (46 ∷ [])
 
 -- `e` and `E`
 abbrev pub is_mark : ℕ → Bool

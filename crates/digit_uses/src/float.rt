@@ -1,40 +1,57 @@
-//! The front half of a reader of floats: takes `-1_234.5_6e+1_0` apart into sign, mantissa and
-//! exponent, by three components of one `Bytes`. The digits of integer and fraction are one value,
-//! and the exponent has its own radix.
+//! The front half of a reader of decimal floats: takes `-1_234.5_6e+1_0` apart into sign, mantissa
+//! and exponent, by three components of one `Bytes`. The mantissa is the first 19 significant
+//! digits of integer and fraction, which a `u64` always holds. The exponent counts those that are
+//! dropped, so that a reader goes on as for a short number.
 //!
-//! Proof by hand: 20 lines, two lemmas in `proofs/FloatFaults.antt` on the order of the faults.
+//! Proof by hand: 159 lines in the answers of five functions, 29 in `proofs/Floats.antt`: what is read
+//! and what is passed are put together, and carried from one state to the next.
 
-ghost use Rattle.std.specs.Prelude.{◌≡◌, ◌+◌, ◌<◌, IsTrue, false, if◌then◌else◌, IfOk, IfErr, OnOk, IfSome, IfNone, MatchOption, pos, ◌-ℤ◌, ◌≤ℤ◌};
-ghost use Rattle.std.specs.Str.Parse.{digits_value_after};
-ghost use Rattle.lexical_format.specs.Word.{is_supported};
+ghost use Rattle.std.specs.Prelude.{◌≡◌, ◌+◌, ◌-◌, ◌^◌, ◌<◌, ◌≤◌, min, length, take, IsTrue, if◌then◌else◌, IfOk, IfErr, OnOk, IfSome, IfNone, MatchOption, pos, ◌+ℤ◌, ◌-ℤ◌, ◌≤ℤ◌};
+ghost use Rattle.std.specs.Int.{saturate_signed, w64};
+ghost use Rattle.std.specs.Str.Parse.{digits_value};
+ghost use Rattle.lexical_format.specs.Word.{is_supported, mantissa_radix, exponent_radix};
 ghost use Rattle.lexical_digits.specs.State.{rule, own, with_cursor};
-ghost use Rattle.lexical_digits.specs.Stop.{past_digits_of};
+ghost use Rattle.lexical_digits.specs.Stop.{stop_of, leading_digits_of, past_digits_of};
 ghost use Rattle.lexical_digits.specs.Looks.{owed};
-ghost use Rattle.digit_literals.specs.After.{PassesAt};
-ghost use Rattle.digit_uses.specs.Bytes.{one_of, is_minus, is_mark, stands};
-ghost use Rattle.digit_uses.specs.Float.{IsSpan, mantissa_end, past_sign, digits_in, places_of, written, IsAt, IsMantissa, IsScale, IsFar, IsFaultWithin, IsFaultOfScale, IsFault};
+ghost use Rattle.lexical_digits.specs.declared.skip.component.Component.TheVariants.{Exponent};
+ghost use Rattle.digit_literals.specs.After.{digits_to};
+ghost use Rattle.digit_literals.specs.Significant.{significant, IsOfFirstDigits};
+ghost use Rattle.digit_uses.specs.Bytes.{one_of, is_minus, stands};
+ghost use Rattle.digit_uses.specs.Float.{IsPart, past_sign, digits_from, digits_end, exponent_end, signed_at, written, HasExponent, fraction_digits, fraction_end, mantissa_digits, places, mantissa_end, IsAt, float_digits, exponent_at, scaled, LacksExponent, IsFault};
 
-use digit_literals::{TooLarge, read_digits_of};
+use digit_literals::laws::{first_digits_are_read, too_large_leaves_the_rest};
+use digit_literals::{pass_digits, read_digits_up_to};
 use lexical_digits::iterator::{Iter, IterBodies};
 use lexical_digits::skip::{Bytes, Component};
 
-/// The digits of one component, and the separators among them.
+/// A float: about the mantissa times ten to the power `exponent`, and exactly that if no digit was
+/// dropped.
 #[derive(Clone, Copy, Debug, PartialEq, Eq)]
-pub struct Span {
-    pub from: usize,
-    pub to: usize,
-    /// How many digits there are.
-    pub digits: usize,
+pub struct Float {
+    pub is_negative: bool,
+    /// The first 19 significant digits as a number. The first digit that is no zero is the first
+    /// significant one.
+    pub mantissa: u64,
+    /// How many digits follow those of the mantissa.
+    pub dropped: usize,
+    /// The exponent that is written, more by each digit that was dropped and less by each that
+    /// follows the point; or the end of `i64` nearest to it.
+    pub exponent: i64,
+    /// The position after the number.
+    pub end: usize,
 }
 
-/// The digits of one component, and the value that they have after a value before them.
+/// Why there is no float, with the position at fault, in bytes from 0.
 #[derive(Clone, Copy, Debug, PartialEq, Eq)]
-pub struct Read {
-    pub span: Span,
-    pub value: u64,
+pub enum FloatError {
+    /// Neither integer nor fraction has a digit; they end here.
+    NoDigit(usize),
+    /// No digit follows the mark of an exponent; one would be here.
+    NoExponent(usize),
 }
 
 /// Moves past the byte at the cursor if it is one of these, and answers whether it is.
+#[inline(always)]
 pub(crate) fn pass_one_of(bytes: &mut Bytes, wanted: &[u8]) -> bool
     ensures answer { let s = bytes.old.state in
         result ≡ stands (one_of wanted.now) s.buffer s.cursor }
@@ -53,32 +70,8 @@ pub(crate) fn pass_one_of(bytes: &mut Bytes, wanted: &[u8]) -> bool
     found
 }
 
-/// Reads the digits of a component from the cursor on, after the value `before`. Requires that no
-/// digit of the component was counted.
-fn read_after(bytes: &mut Bytes, component: Component, before: u64) -> Result<Read, TooLarge>
-    requires { own component bytes.old.state ≡ 0 }
-    ensures span { let s = bytes.old.state in
-        IfOk result (λ read. IsSpan (rule component s) s.buffer s.cursor read.span) }
-    ensures value { let s = bytes.old.state in IfOk result (λ read. read.value ≡
-        digits_value_after (rule component s).radix before
-        (digits_in (rule component s) s.buffer read.span)) }
-    ensures state { OnOk result (bytes.new.state ≡ past_digits_of component bytes.old.state) }
-    ensures too_large { let s = bytes.old.state in
-        IfErr result (λ error. PassesAt (rule component s) s.buffer s.cursor 0 before error.at) }
-{
-    let from = bytes.cursor();
-    let read = read_digits_of(bytes, component, before)?;
-    Ok(Read {
-        span: Span {
-            from,
-            to: bytes.cursor(),
-            digits: read.count,
-        },
-        value: read.value,
-    })
-}
-
 /// Moves past a sign at the cursor, if there is one, and answers whether it is a minus.
+#[inline(always)]
 fn pass_sign(bytes: &mut Bytes) -> bool
     ensures answer { let s = bytes.old.state in result ≡ stands is_minus s.buffer s.cursor }
     ensures state { let s = bytes.old.state in
@@ -89,173 +82,253 @@ fn pass_sign(bytes: &mut Bytes) -> bool
     is_negative
 }
 
+/// The greatest value of 19 digits.
+const MOST: u64 = 9_999_999_999_999_999_999;
+
+/// The digits of one component.
+#[derive(Clone, Copy)]
+struct Part {
+    /// The value of the digits before and of these, as far as these were read.
+    value: u64,
+    /// How many digits there are.
+    count: usize,
+    /// How many of them were only passed.
+    dropped: usize,
+}
+
+/// Reads the digits of a component that lead, after the value of others, as long as the value is at
+/// most `most`, and passes the rest of them.
+#[inline(always)]
+fn read_leading(bytes: &mut Bytes, component: Component, before: u64, most: u64) -> Part
+    requires { before ≤ most }
+    ensures part { let s = bytes.old.state in
+        IsPart (rule component s).radix most before (leading_digits_of component s) result }
+    ensures between { let s = bytes.old.state in
+        leading_digits_of component s ≡ digits_to component s (stop_of component s) }
+    ensures state { bytes.new.state ≡ past_digits_of component bytes.old.state }
+{
+    first_digits_are_read();
+    too_large_leaves_the_rest();
+    match read_digits_up_to(bytes, component, before, most) {
+        Ok(read) => Part {
+            value: read.value,
+            count: read.count,
+            dropped: 0,
+        },
+        Err(error) => {
+            let dropped = pass_digits(bytes, component);
+            Part {
+                value: error.value,
+                count: error.count + dropped,
+                dropped,
+            }
+        }
+    }
+}
+
+/// The same from the cursor on, in words of the text. Requires that no digit of the component was
+/// counted.
+#[inline(always)]
+#[tactic(auto, using(crate::proofs::FewDigits::passed_within))]
+fn read_part(bytes: &mut Bytes, component: Component, before: u64, most: u64) -> Part
+    requires uncounted { own component bytes.old.state ≡ 0 }
+    requires before { before ≤ most }
+    ensures part { let s = bytes.old.state in IsPart (rule component s).radix most before
+        (digits_from s.word s.buffer component s.cursor) result }
+    ensures end { let s = bytes.old.state in
+        bytes.new.state.cursor ≡ digits_end s.word s.buffer component s.cursor }
+    ensures within { bytes.old.state.cursor + result.count ≤ bytes.new.state.cursor }
+    ensures state { bytes.new.state ≡ past_digits_of component bytes.old.state }
+{
+    read_leading(bytes, component, before, most)
+}
+
 /// The digits of integer and fraction.
-#[derive(Clone, Copy, Debug, PartialEq, Eq)]
-pub struct Mantissa {
-    pub integer: Span,
-    /// After a point.
-    pub fraction: Option<Span>,
-    /// All these digits as one number.
-    pub value: u64,
+#[derive(Clone, Copy)]
+struct Mantissa {
+    /// The first 19 significant ones as a number.
+    value: u64,
+    /// How many there are.
+    digits: usize,
+    /// How many of them follow the point.
+    places: usize,
+    /// How many follow the first 19 significant ones.
+    dropped: usize,
 }
 
-/// An exponent that is written.
-#[derive(Clone, Copy, Debug, PartialEq, Eq)]
-pub struct Scale {
-    pub is_negative: bool,
-    pub span: Span,
-    pub value: u64,
-}
-
-/// A float: the mantissa times the base to the power `exponent`.
-#[derive(Clone, Copy, Debug, PartialEq, Eq)]
-pub struct Float {
-    pub is_negative: bool,
-    pub mantissa: Mantissa,
-    pub written: Option<Scale>,
-    /// The exponent that is written, less the digits of the fraction.
-    pub exponent: i64,
-}
-
-/// Why there is no float, with the position at fault, in bytes from 0.
-#[derive(Clone, Copy, Debug, PartialEq, Eq)]
-pub enum FloatError {
-    /// Neither integer nor fraction has a digit; they end here.
-    NoDigit(usize),
-    /// No digit follows the mark of an exponent; one would be here.
-    NoExponent(usize),
-    /// With this digit of the integer the mantissa is above `u64::MAX`.
-    IntegerTooLarge(usize),
-    /// With this digit of the fraction the mantissa is above `u64::MAX`.
-    FractionTooLarge(usize),
-    /// With this digit the exponent is above `u64::MAX`.
-    ExponentTooLarge(usize),
-    /// The exponent, or the number of the fraction's digits, is above 2 to the power 62.
-    OutOfRange,
+/// Reads a fraction after the digits of an integer, if a point is at the cursor.
+#[inline(always)]
+fn read_fraction(bytes: &mut Bytes, before: u64) -> Part
+    requires fraction { bytes.old.state.fraction ≡ 0 }
+    requires exponent { bytes.old.state.exponent ≡ 0 }
+    requires before { before < 10 ^ 19 }
+    ensures part { let s = bytes.old.state in IsPart (mantissa_radix s.word) (10 ^ 19 - 1) before
+        (fraction_digits s.word s.buffer s.cursor) result }
+    ensures within { bytes.old.state.cursor + result.count ≤ bytes.new.state.cursor }
+    ensures left { let s = bytes.old.state in
+        IsAt s bytes.new.state (fraction_end s.word s.buffer s.cursor) }
+{
+    if pass_one_of(bytes, b".") {
+        return read_part(bytes, Component::Fraction, before, MOST);
+    }
+    Part {
+        value: before,
+        count: 0,
+        dropped: 0,
+    }
 }
 
 /// Reads integer and fraction from the cursor on. Requires that no digit was counted.
-#[tactic(auto, using(digit_literals::proofs::ForCallers::value_of_both))]
-fn read_mantissa(bytes: &mut Bytes) -> Result<Mantissa, FloatError>
+#[inline(always)]
+fn read_mantissa(bytes: &mut Bytes) -> Mantissa
     requires integer { bytes.old.state.integer ≡ 0 }
     requires fraction { bytes.old.state.fraction ≡ 0 }
     requires exponent { bytes.old.state.exponent ≡ 0 }
-    ensures mantissa { let s = bytes.old.state in
-        IfOk result (IsMantissa s.word s.buffer s.cursor) }
-    ensures left { let s = bytes.old.state in IfOk result (λ m.
-        IsAt s bytes.new.state (mantissa_end m.integer m.fraction)) }
-    ensures fault { let s = bytes.old.state in
-        IfErr result (IsFaultWithin s.word s.buffer s.cursor) }
+    requires decimal { mantissa_radix bytes.old.state.word ≡ 10 }
+    ensures first { let s = bytes.old.state in
+        IsOfFirstDigits 10 19 (mantissa_digits s.word s.buffer s.cursor)
+        result.value result.dropped }
+    ensures count { let s = bytes.old.state in
+        result.digits ≡ length (mantissa_digits s.word s.buffer s.cursor) }
+    ensures places { let s = bytes.old.state in
+        result.places ≡ length (places s.word s.buffer s.cursor) }
+    ensures within { bytes.old.state.cursor + result.digits ≤ bytes.new.state.cursor }
+    ensures left { let s = bytes.old.state in
+        IsAt s bytes.new.state (mantissa_end s.word s.buffer s.cursor) }
+    ensures few_places { result.places ≤ result.digits }
+    ensures few_dropped { result.dropped ≤ result.digits }
 {
-    let integer = match read_after(bytes, Component::Integer, 0) {
-        Ok(read) => read,
-        Err(error) => return Err(FloatError::IntegerTooLarge(error.at)),
-    };
-    if !pass_one_of(bytes, b".") {
-        return Ok(Mantissa {
-            integer: integer.span,
-            fraction: None,
-            value: integer.value,
-        });
-    }
-    match read_after(bytes, Component::Fraction, integer.value) {
-        Ok(fraction) => Ok(Mantissa {
-            integer: integer.span,
-            fraction: Some(fraction.span),
-            value: fraction.value,
-        }),
-        Err(error) => Err(FloatError::FractionTooLarge(error.at)),
+    first_digits_are_read();
+    let integer = read_part(bytes, Component::Integer, 0, MOST);
+    let fraction = read_fraction(bytes, integer.value);
+    Mantissa {
+        value: fraction.value,
+        digits: integer.count + fraction.count,
+        places: fraction.count,
+        dropped: integer.dropped + fraction.dropped,
     }
 }
 
-/// Reads an exponent, if its mark is at the cursor. Requires that no digit of it was counted.
-fn read_scale(bytes: &mut Bytes) -> Result<Option<Scale>, FloatError>
+/// Reads the digits of an exponent: their value, or `u64::MAX` if it is above that. `None` if there
+/// is no digit.
+#[inline(always)]
+fn read_magnitude(bytes: &mut Bytes) -> Option<u64>
     requires { bytes.old.state.exponent ≡ 0 }
-    ensures scale { let s = bytes.old.state in IfOk result (λ scale.
-        MatchOption scale (stands is_mark s.buffer s.cursor ≡ false)
-        (IsScale s.word s.buffer s.cursor)) }
-    ensures some { IfOk result (λ scale. IfSome scale (λ e. 0 < e.span.digits)) }
-    ensures fault { let s = bytes.old.state in
-        IfErr result (IsFaultOfScale s.word s.buffer s.cursor) }
+    ensures value { let s = bytes.old.state in
+        let ds = digits_from s.word s.buffer Exponent s.cursor in
+        IfSome result (λ v. v ≡ min (digits_value (exponent_radix s.word) ds) (2 ^ 64 - 1)) }
+    ensures digits { let s = bytes.old.state in
+        let ds = digits_from s.word s.buffer Exponent s.cursor in
+        MatchOption result (length ds ≡ 0) (λ _. 0 < length ds) }
+    ensures end { let s = bytes.old.state in
+        bytes.new.state.cursor ≡ digits_end s.word s.buffer Exponent s.cursor }
 {
-    if !pass_one_of(bytes, b"eE") {
-        return Ok(None);
-    }
-    let is_negative = pass_sign(bytes);
-    let read = match read_after(bytes, Component::Exponent, 0) {
-        Ok(read) => read,
-        Err(error) => return Err(FloatError::ExponentTooLarge(error.at)),
-    };
-    if read.span.digits == 0 {
-        return Err(FloatError::NoExponent(read.span.to));
-    }
-    Ok(Some(Scale {
-        is_negative,
-        span: read.span,
-        value: read.value,
-    }))
-}
-
-/// How many digits a fraction has.
-fn places_of(fraction: Option<Span>) -> usize
-    ensures { result ≡ places_of fraction }
-{
-    match fraction {
-        Some(span) => span.digits,
-        None => 0,
-    }
-}
-
-/// The greatest exponent and number of places.
-const MOST: u64 = 1 << 62;
-
-/// The exponent that is written, less the places; `None` if one of them is above [`MOST`].
-fn exponent_of(scale: Option<Scale>, places: usize) -> Option<i64>
-    ensures exponent { IfSome result (λ e. e ≡ written scale -ℤ pos places) }
-    ensures far { IfNone result (IsFar scale places) }
-{
-    let (is_negative, value) = match scale {
-        Some(e) => (e.is_negative, e.value),
-        None => (false, 0),
-    };
-    if value > MOST || places as u64 > MOST {
+    let part = read_part(bytes, Component::Exponent, 0, u64::MAX);
+    if part.count == 0 {
         return None;
     }
-    let written = value as i64;
-    Some(if is_negative { -written } else { written } - places as i64)
+    Some(if part.dropped == 0 {
+        part.value
+    } else {
+        u64::MAX
+    })
 }
 
-/// The float that a text begins with.
-#[tactic(auto, using(crate::proofs::FloatFaults::faults))]
+/// Reads a sign and the digits of an exponent: answers their value with `more` added, or the end of
+/// `i64` nearest to that. `None` if there is no digit.
+#[inline(always)]
+#[tactic(auto, using(crate::proofs::Floats::capped))]
+fn read_signed(bytes: &mut Bytes, more: i64) -> Option<i64>
+    requires { bytes.old.state.exponent ≡ 0 }
+    ensures sum { let s = bytes.old.state in IfSome result (λ e.
+        e ≡ saturate_signed w64 (signed_at s.word s.buffer s.cursor +ℤ more)) }
+    ensures digits { let s = bytes.old.state in
+        let ds = digits_from s.word s.buffer Exponent (past_sign s.buffer s.cursor) in
+        MatchOption result (length ds ≡ 0) (λ _. 0 < length ds) }
+    ensures end { let s = bytes.old.state in bytes.new.state.cursor
+        ≡ digits_end s.word s.buffer Exponent (past_sign s.buffer s.cursor) }
+{
+    let is_negative = pass_sign(bytes);
+    let value = read_magnitude(bytes)?;
+    Some(if is_negative {
+        more.saturating_sub_unsigned(value)
+    } else {
+        more.saturating_add_unsigned(value)
+    })
+}
+
+/// Reads an exponent, if its mark is at the cursor: answers it with `more` added, or the end of
+/// `i64` nearest to that. `None` if no digit follows the mark. Requires that no digit of it was
+/// counted.
+#[inline(always)]
+#[tactic(auto, using(crate::proofs::Floats::unchanged))]
+fn read_exponent(bytes: &mut Bytes, more: i64) -> Option<i64>
+    requires { bytes.old.state.exponent ≡ 0 }
+    ensures exponent { let s = bytes.old.state in IfSome result (λ e.
+        e ≡ saturate_signed w64 (written s.word s.buffer s.cursor +ℤ more)) }
+    ensures some { let s = bytes.old.state in
+        IfSome result (λ _. HasExponent s.word s.buffer s.cursor) }
+    ensures none { let s = bytes.old.state in
+        IfNone result (LacksExponent s.word s.buffer s.cursor) }
+    ensures end { let s = bytes.old.state in
+        bytes.new.state.cursor ≡ exponent_end s.word s.buffer s.cursor }
+{
+    if pass_one_of(bytes, b"eE") {
+        read_signed(bytes, more)
+    } else {
+        Some(more)
+    }
+}
+
+/// What the digits that are dropped, and those that follow the point, add to the exponent.
+#[inline(always)]
+fn shift_of(dropped: usize, places: usize) -> i64
+    requires dropped { dropped < 2 ^ 63 }
+    requires places { places < 2 ^ 63 }
+    ensures { result ≡ pos dropped -ℤ pos places }
+{
+    dropped as i64 - places as i64
+}
+
+/// The float that a text begins with: a sign, digits with a point before, among or after them, and
+/// an exponent after `e` or `E`. Requires that the word is supported and its mantissa decimal.
+///
+/// ```text
+/// `-0.1000000000000000055511151231257827e+7x`:
+///     mantissa 1000000000000000055, dropped 15, exponent 7 + 15 - 34 = -12, end 40
+/// ```
+#[inline]
 pub fn read_float(text: &[u8], word: u128) -> Result<Float, FloatError>
-    requires { IsTrue (is_supported word) }
+    requires supported { IsTrue (is_supported word) }
+    requires decimal { mantissa_radix word ≡ 10 }
     ensures sign { IfOk result (λ f. f.is_negative ≡ stands is_minus text.now 0) }
+    ensures digits { OnOk result (0 < length (float_digits word text.now)) }
     ensures mantissa { IfOk result (λ f.
-        IsMantissa word text.now (past_sign text.now 0) f.mantissa) }
-    ensures digits { IfOk result (λ f.
-        0 < f.mantissa.integer.digits + places_of f.mantissa.fraction) }
-    ensures scale { IfOk result (λ f.
-        let at = mantissa_end f.mantissa.integer f.mantissa.fraction in
-        MatchOption f.written (stands is_mark text.now at ≡ false) (IsScale word text.now at)) }
+        f.mantissa ≡ digits_value 10 (take 19 (significant (float_digits word text.now)))) }
+    ensures dropped { IfOk result (λ f.
+        f.dropped ≡ length (significant (float_digits word text.now)) - 19) }
     ensures exponent { IfOk result (λ f.
-        f.exponent ≡ written f.written -ℤ pos (places_of f.mantissa.fraction)) }
-    ensures fault { IfErr result (IsFault word text.now (past_sign text.now 0)) }
+        f.exponent ≡ saturate_signed w64 (scaled word text.now f.dropped)) }
+    ensures has_exponent { OnOk result (HasExponent word text.now (exponent_at word text.now)) }
+    ensures end { IfOk result (λ f.
+        f.end ≡ exponent_end word text.now (exponent_at word text.now)) }
+    ensures fault { IfErr result (IsFault word text.now) }
 {
     let mut bytes = Bytes::new(text, word);
     let is_negative = pass_sign(&mut bytes);
-    let mantissa = read_mantissa(&mut bytes)?;
-    let places = places_of(mantissa.fraction);
-    if mantissa.integer.digits == 0 && places == 0 {
+    let mantissa = read_mantissa(&mut bytes);
+    if mantissa.digits == 0 {
         return Err(FloatError::NoDigit(bytes.cursor()));
     }
-    let written = read_scale(&mut bytes)?;
-    match exponent_of(written, places) {
-        Some(exponent) => Ok(Float {
-            is_negative,
-            mantissa,
-            written,
-            exponent,
-        }),
-        None => Err(FloatError::OutOfRange),
-    }
+    let shift = shift_of(mantissa.dropped, mantissa.places);
+    let Some(exponent) = read_exponent(&mut bytes, shift) else {
+        return Err(FloatError::NoExponent(bytes.cursor()));
+    };
+    Ok(Float {
+        is_negative,
+        mantissa: mantissa.value,
+        dropped: mantissa.dropped,
+        exponent,
+        end: bytes.cursor(),
+    })
 }
