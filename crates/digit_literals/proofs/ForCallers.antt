@@ -72,7 +72,7 @@ unfolding is_digit
 all_digits rule [] = tt
 all_digits rule (x ∷ xs) = grind (arith, digit_fits, all_digits rule xs)
 
-fewer : (p : ℕ → Bool) (n : ℕ) (xs : List ℕ)
+pub fewer : (p : ℕ → Bool) (n : ℕ) (xs : List ℕ)
     → length (filter p (take n xs)) ≤ length (filter p xs)
 fewer p zero xs = omega arith
 fewer p (suc n) [] = omega arith

@@ -1,46 +1,40 @@
 -- Digits that lead from a start on, read off the slice, with separators at most between two of
 -- them, one at a time.
-use Rattle.std.specs.Prelude.{Ok, Err}
 use Rattle.std.proofs.Common.{◌≡◌, ℕ, zero, ◌+◌, ◌-◌, ◌*◌, ◌<◌, ◌≤◌, true, false, List, [], ◌∷◌, ◌++◌, length, take, drop, refl, ap, sym, subst, ◌∙◌, arith, length-append, append-nil}
-use Rattle.std.specs.Prelude.{slice_index, Some, None, is_some}
+use Rattle.std.specs.Prelude.{slice_index, Option, Some, None, is_some, IfSome, MatchOption}
 use Rattle.std.specs.List.{filter}
-use Rattle.std.specs.Str.Parse.{digits_value}
-use Rattle.std.proofs.lemmas.Bool.{lt-ltb, ltb-true}
 use Rattle.std.proofs.lemmas.List.{take_more, length-drop, get_or-drop}
 use Rattle.std.proofs.lemmas.List.Elements.{filter-append}
-use Rattle.std.proofs.lemmas.Int.Digits.{digits_value_push}
 use Rattle.lexical_format.specs.Digits.{digit_of_radix}
 use Rattle.lexical_digits.specs.declared.skip.rule.Rule.{Rule}
 use Rattle.lexical_digits.specs.Separators.{is_digit, is_separator, IsSupported}
-use Rattle.lexical_digits.specs.State.{count_after}
 use Rattle.lexical_digits.specs.Stop.{stop}
-use Rattle.lexical_digits.specs.Laws.Kept.{count_after_positive}
 use Rattle.lexical_digits.proofs.Calls.FirstOther.{stop_is_first}
-use Rattle.digit_literals.specs.After.{digits_between}
-use Rattle.digit_literals.specs.declared.LiteralError.TheVariants.{Overflow}
-use Rattle.digit_literals.specs.Integers.{IsIntegerFrom, IsTooLargeFrom, ReadsFrom}
-use Rattle.digit_literals.proofs.Values.{value_is}
+use Rattle.digit_literals.specs.After.{digits_between, ExceedsAt}
+use Rattle.digit_literals.specs.Reads.{IsWorth, IsMore, IsOffSlice}
+use Rattle.digit_literals.proofs.Values.{value_next, worth_next}
 use Rattle.digit_literals.proofs.StopSteps.{stop_digit, stop_other, stop_dropped, stop_end, no_digit, dropped}
 
 module _ (rule : Rule) (text : List ℕ) (start : ℕ) where
-  -- The bytes from the start up to a position are digits and separators that are dropped. This is
-  -- the value, and what stops from here on stops from the start on.
-  pub record HasLed (at value : ℕ) : Type 0 where
-    pub onward : start ≤ at
-    pub count : ℕ
-    pub counted : start < at → 0 < count
-    pub some : start < at → 0 < length (digits_between rule text start at)
-    pub goes_on : stop rule text start 0 ≡ stop rule text at count
-    pub worth : value ≡ digits_value rule.radix (digits_between rule text start at)
+  -- The bytes from the start up to a position are digits and so many separators that are dropped.
+  -- What stops from here on stops from the start on.
+  pub record HasLed (at separators : ℕ) : Type 0 where
+    pub all : at ≡ start + length (digits_between rule text start at) + separators
+    pub few : separators ≤ length (digits_between rule text start at)
+    pub fewer : start < at → is_digit rule (slice_index text at) ≡ false
+        → separators < length (digits_between rule text start at)
+    pub goes_on : (own : ℕ) → stop rule text start own
+        ≡ stop rule text at (own + length (digits_between rule text start at))
+
+  none_between : digits_between rule text start start ≡ []
+  none_between = let none : start - start ≡ zero = omega arith in rw none refl
 
   pub none_led : HasLed start 0
-  none_led = record {
-    onward = omega arith;
-    count = 0;
-    counted = λ l. absurd (omega (arith, l));
-    some = λ l. absurd (omega (arith, l));
-    goes_on = refl;
-    worth = let none : start - start ≡ zero = omega arith in rw none refl;
+  none_led = let none = ap length none_between in record {
+    all = omega (arith, none);
+    few = omega arith;
+    fewer = λ l. absurd (omega (arith, l));
+    goes_on = λ own. ap (stop rule text start) (omega (arith, none));
   }
 
   more_between : (at : ℕ) → start ≤ at → at < length text
@@ -58,7 +52,7 @@ module _ (rule : Rule) (text : List ℕ) (start : ℕ) where
       ∙ filter-append (is_digit rule) (take (at - start) rest) (slice_index rest (at - start) ∷ [])
       ∙ ap (λ (b : ℕ). digits_between rule text start at ++ filter (is_digit rule) (b ∷ [])) there
 
-  module _ (at value : ℕ) (so : HasLed at value) (l : at < length text) where
+  module _ (at separators : ℕ) (so : HasLed at separators) (l : at < length text) where
     -- ---- a digit
 
     module _ (d : ℕ) (e : digit_of_radix rule.radix (slice_index text at) ≡ Some d) where
@@ -68,102 +62,149 @@ module _ (rule : Rule) (text : List ℕ) (start : ℕ) where
 
       longer : digits_between rule text start (at + 1)
           ≡ digits_between rule text start at ++ slice_index text at ∷ []
-      longer = more_between at so.onward l ∙ rw is refl
+      longer = more_between at (omega (arith, so.all)) l ∙ rw is refl
 
-      worth_with : digits_value rule.radix (digits_between rule text start (at + 1))
-          ≡ value * rule.radix + d
-      worth_with =
-          ap (digits_value rule.radix) longer
-          ∙ digits_value_push rule.radix (digits_between rule text start at) (slice_index text at)
-          ∙ rw (← so.worth, value_is rule.radix (slice_index text at) d e) refl
+      one_more : length (digits_between rule text start (at + 1))
+          ≡ length (digits_between rule text start at) + 1
+      one_more = ap length longer
+          ∙ length-append (digits_between rule text start at) (slice_index text at ∷ [])
 
-      pub digit_led : (more : ℕ) → more ≡ value * rule.radix + d → HasLed (at + 1) more
-      digit_led more is_more = record {
-        onward = omega (arith, so.onward);
-        count = count_after rule true (slice_index text at) so.count;
-        counted = λ _. ltb-true 0 (count_after rule true (slice_index text at) so.count)
-            (sym (count_after_positive rule text so.count (slice_index text at))
-            ∙ rw is (lt-ltb 0 (so.count + 1) (omega arith)));
-        some = λ _. omega (
-          arith,
-          ap length longer,
-          length-append (digits_between rule text start at) (slice_index text at ∷ []),
-        );
-        goes_on = so.goes_on ∙ stop_digit rule text at so.count l is;
-        worth = is_more ∙ sym worth_with;
+      over_digit : (own : ℕ) → stop rule text start own
+          ≡ stop rule text (at + 1) (own + length (digits_between rule text start at) + 1)
+      over_digit own = so.goes_on own
+          ∙ stop_digit rule text at (own + length (digits_between rule text start at)) l is
+
+      pub digit_led : HasLed (at + 1) separators
+      digit_led = record {
+        all = omega (arith, so.all, one_more);
+        few = omega (arith, so.few, one_more);
+        fewer = λ _ _. omega (arith, so.few, one_more);
+        goes_on = λ own. over_digit own
+            ∙ ap (stop rule text (at + 1)) (omega (arith, one_more));
       }
 
-      pub too_large_led : (most : ℕ) → value ≤ most → most < value * rule.radix + d
-          → IsTooLargeFrom rule text start most at
-      too_large_led most fits over =
-          let on : stop rule text start 0
-          ≡ stop rule text (at + 1) (count_after rule true (slice_index text at) so.count) =
-          so.goes_on ∙ stop_digit rule text at so.count l is in
-          let first = stop_is_first rule text (at + 1)
-          (count_after rule true (slice_index text at) so.count) (omega (arith, l)) in
-          record {
-            onward = so.onward;
-            before_stop = omega (arith, on, first.onward);
-            fits = rw (← so.worth) fits;
-            passes = rw worth_with over;
-          }
+      pub digit_worth : (before : ℕ) (most : Option ℕ) (value more : ℕ)
+          → IfSome most (IsWorth rule.radix before (digits_between rule text start at) value)
+          → IfSome most (IsMore rule.radix value d more)
+          → IfSome most (IsWorth rule.radix before (digits_between rule text start (at + 1)) more)
+      digit_worth before most value more worth is_more = rw longer
+          (worth_next rule.radix before most value d more (digits_between rule text start at)
+          (slice_index text at) e worth is_more)
 
     -- ---- a separator
 
-    pub separator_led : IsSupported rule
-        → is_separator rule.separator (slice_index text at) ≡ true → rule.internal ≡ true
-        → at + 1 < length text → is_digit rule (slice_index text (at + 1)) ≡ true → start < at
-        → HasLed (at + 1) value
-    separator_led supported separates internal within digit some =
-        let none = no_digit rule text supported at l separates internal within digit in
-        let gone = dropped rule text supported at l separates internal within digit so.count
-        (so.counted some) in
-        let same : digits_between rule text start (at + 1) ≡ digits_between rule text start at =
-        more_between at so.onward l ∙ rw none (append-nil (digits_between rule text start at)) in
-        record {
-          onward = omega (arith, so.onward);
-          count = so.count;
-          counted = λ _. so.counted some;
-          some = λ _. rw same (so.some some);
-          goes_on = so.goes_on ∙ stop_dropped rule text at so.count l gone;
-          worth = rw same so.worth;
+    module _ (supported : IsSupported rule)
+        (separates : is_separator rule.separator (slice_index text at) ≡ true)
+        (internal : rule.internal ≡ true) (within : at + 1 < length text)
+        (digit : is_digit rule (slice_index text (at + 1)) ≡ true) where
+      pub same : digits_between rule text start (at + 1) ≡ digits_between rule text start at
+      same = more_between at (omega (arith, so.all)) l
+          ∙ rw (no_digit rule text supported at l separates internal within digit)
+          (append-nil (digits_between rule text start at))
+
+      none : is_digit rule (slice_index text at) ≡ false
+      none = no_digit rule text supported at l separates internal within digit
+
+      pub separator_led : start < at → HasLed (at + 1) (separators + 1)
+      separator_led some =
+          let n : ℕ = length (digits_between rule text start at) in
+          let more : separators < n = so.fewer some none in
+          let as_many = ap length same in
+          record {
+            all = omega (arith, so.all, as_many);
+            few = omega (arith, more, as_many);
+            fewer = λ _ e. cc;
+            goes_on = λ own. so.goes_on own
+                ∙ stop_dropped rule text at (own + n) l
+                (dropped rule text supported at l separates internal within digit (own + n)
+                (omega (arith, more)))
+                ∙ ap (stop rule text (at + 1)) (omega (arith, as_many));
+          }
+
+      pub separator_worth : (before : ℕ) (most : Option ℕ) (value : ℕ)
+          → IfSome most (IsWorth rule.radix before (digits_between rule text start at) value)
+          → IfSome most (IsWorth rule.radix before (digits_between rule text start (at + 1)) value)
+      separator_worth before most value worth = rw same worth
+
+  -- ---- where they end
+
+  module _ (before : ℕ) (most : Option ℕ) (at separators value count : ℕ)
+      (so : HasLed at separators) (is_count : count ≡ at - start - separators)
+      (worth : IfSome most (IsWorth rule.radix before (digits_between rule text start at) value))
+    where
+      counted : count ≡ length (digits_between rule text start at)
+      counted = omega (arith, is_count, so.all)
+
+      -- at a position where reading stops
+      pub ends_there : at ≤ length text → ((own : ℕ) → stop rule text at own ≡ at)
+          → IsOffSlice rule text start before most
+          (record { value = value; count = count; end = at; is_too_large = false })
+      ends_there within stops = record {
+        reads = λ own. record {
+          onward = omega (arith, so.all);
+          within = within;
+          digits = counted;
+          worth = worth;
+          stops = λ _. sym (so.goes_on own
+              ∙ stops (own + length (digits_between rule text start at)));
+          exceeds = λ e. cc;
+        };
+        below = omega (arith, counted, so.all);
+        few = omega (arith, counted, so.all, so.few);
+      }
+
+      pub ends_with_text : at ≡ length text → IsOffSlice rule text start before most
+          (record { value = value; count = count; end = length text; is_too_large = false })
+      ends_with_text e = subst (λ (end : ℕ). IsOffSlice rule text start before most
+          (record { value = value; count = count; end = end; is_too_large = false })) e
+          (ends_there (omega (arith, e))
+          (λ own. ap (λ (i : ℕ). stop rule text i own) e ∙ stop_end rule text own ∙ sym e))
+
+      module _ (l : at < length text) where
+        pub ends_at_byte : digit_of_radix rule.radix (slice_index text at) ≡ None
+            → is_separator rule.separator (slice_index text at) ≡ false
+            → IsOffSlice rule text start before most
+            (record { value = value; count = count; end = at; is_too_large = false })
+        unfolding is_digit
+        ends_at_byte e alone = ends_there (omega (arith, l))
+            (λ own. stop_other rule text at own l (ap is_some e) alone)
+
+        -- at a digit with which the value is too large
+        pub ends_before : (d : ℕ) → digit_of_radix rule.radix (slice_index text at) ≡ Some d
+            → MatchOption most ⊥ (λ m. m < value * rule.radix + d)
+            → IsOffSlice rule text start before most
+            (record { value = value; count = count; end = at; is_too_large = true })
+        ends_before d e over = record {
+          reads = λ own. record {
+            onward = omega (arith, so.all);
+            within = omega (arith, l);
+            digits = counted;
+            worth = worth;
+            stops = λ f. cc;
+            exceeds = λ _. exceeds own most worth over;
+          };
+          below = omega (arith, counted, so.all);
+          few = omega (arith, counted, so.all, so.few);
         }
+          where
+            exceeds : (own : ℕ) (m : Option ℕ)
+                → IfSome m (IsWorth rule.radix before (digits_between rule text start at) value)
+                → MatchOption m ⊥ (λ m. m < value * rule.radix + d)
+                → MatchOption m ⊥ (λ m. ExceedsAt rule text start own before m at)
+            exceeds own None w o = o
+            exceeds own (Some m) w o =
+                let on = over_digit at separators so l d e own in
+                let first = stop_is_first rule text (at + 1)
+                (own + length (digits_between rule text start at) + 1) (omega (arith, l)) in
+                record {
+                  onward = omega (arith, so.all);
+                  before_stop = omega (arith, on, first.onward);
+                  fits = omega (arith, w.is, w.fits);
+                  passes = rw (
+                    longer at separators so l d e,
+                    value_next rule.radix before value d (digits_between rule text start at)
+                        (slice_index text at) e w.is,
+                  ) o;
+                }
 
-    -- ---- another byte
-
-    pub ends_at_byte : (most : ℕ) → value ≤ most → start < at
-        → digit_of_radix rule.radix (slice_index text at) ≡ None
-        → is_separator rule.separator (slice_index text at) ≡ false
-        → IsIntegerFrom rule text start most value at
-    unfolding is_digit
-    ends_at_byte most fits some e alone = record {
-      ends = sym (so.goes_on ∙ stop_other rule text at so.count l (ap is_some e) alone);
-      some = so.some some;
-      is = so.worth;
-      fits = fits;
-    }
-
-  -- ---- what is answered
-
-  pub is_read : (most value at : ℕ) → IsIntegerFrom rule text start most value at
-      → ReadsFrom rule text start most (Ok (value, at))
-  is_read most value at h = record { ok = h; empty = tt; overflow = tt }
-
-  pub is_too_large : (most at : ℕ) → IsTooLargeFrom rule text start most at
-      → ReadsFrom rule text start most (Err (Overflow at))
-  is_too_large most at h = record { ok = tt; empty = tt; overflow = h }
-
-  -- the end
-  pub ends_with_text : (at value most : ℕ) → HasLed at value → at ≡ length text → value ≤ most
-      → start < at → IsIntegerFrom rule text start most value (length text)
-  ends_with_text at value most so end fits some =
-      subst (IsIntegerFrom rule text start most value) end (record {
-        ends = sym (so.goes_on
-            ∙ ap (λ (i : ℕ). stop rule text i so.count) end ∙ stop_end rule text so.count
-            ∙ sym end);
-        some = so.some some;
-        is = so.worth;
-        fits = fits;
-      })
-
-pub ruleset leads = (none_led, digit_led, separator_led)
+pub ruleset leads = (none_led, digit_led, digit_worth, separator_led, separator_worth)

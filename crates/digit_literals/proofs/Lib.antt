@@ -4,6 +4,7 @@ pub mod Apart
 pub mod States
 pub mod StopSteps
 pub mod Leads
+pub mod Counted
 pub mod Whole
 pub mod Texts
 pub mod Within

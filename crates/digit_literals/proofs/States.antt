@@ -1,25 +1,27 @@
--- What a reader finds on the iterator of a component, in words of the state.
-use Rattle.std.proofs.Common.{◌≡◌, ℕ, ◌+◌, ◌<◌, ◌≤◌, length, take, ap, sym, ◌∙◌, arith}
-use Rattle.std.specs.Prelude.{if◌then◌else◌, IfErr}
-use Rattle.std.specs.declared.result.Result.{Result}
-use Rattle.std.specs.Fn.{iterate}
-use Rattle.std.specs.Str.Parse.{digits_value_after}
-use Rattle.std.proofs.lemmas.List.{length-take-le}
-use Rattle.lexical_format.specs.Digits.{is_digit_of_radix}
+-- What a read of digits leaves of a `Bytes`, in words of the state.
+use Rattle.std.proofs.Common.{◌≡◌, ℕ, ◌-◌, ◌*◌, ◌≤◌, Bool, true, false, not, List, length, take, drop, filter, Option, Some, None, Ok, Err, refl, ap, sym, subst, ◌∙◌, arith, pos, ◌≤ℤ◌, ◌+ℤ◌}
+use Rattle.std.specs.Prelude.{if◌then◌else◌, IfSome, MatchOption}
+use Rattle.std.proofs.lemmas.Int.{ints}
+use Rattle.std.proofs.lemmas.List.{length-drop}
+use Rattle.std.proofs.lemmas.List.Filters.{length-filter_both}
 use Rattle.lexical_digits.specs.declared.skip.component.Component.{Component}
+use Rattle.lexical_digits.specs.declared.skip.rule.Rule.{Rule}
+use Rattle.lexical_digits.specs.Separators.{is_digit}
 use Rattle.lexical_digits.specs.Cursor.{zeros, after_zeros}
 use Rattle.lexical_digits.specs.State.{State, IsState, with_cursor, rule, own, with_own, counts, saturating}
-use Rattle.lexical_digits.specs.CallTable.{place_of, settled, counted, taken, zeros_of, past_zeros_of}
-use Rattle.lexical_digits.specs.Stop.{leading, leading_digits_of, past_digits_of, IsNthDigit}
-use Rattle.lexical_digits.proofs.Calls.Stops.{leading_are, after_leading_are, leading_by_radix, after_leading_by_radix, leading_between, nth_digit, nth_leaves}
+use Rattle.lexical_digits.specs.CallTable.{place_of, settled, counted, zeros_of, past_zeros_of}
+use Rattle.lexical_digits.specs.Looks.{Held, IsCopy, owed}
+use Rattle.lexical_digits.specs.Stop.{stop_of, leading_digits_of}
+use Rattle.lexical_digits.proofs.Calls.Stops.{leading_between}
 use Rattle.lexical_digits.proofs.Calls.ItemsOfComponents.{zeros_are, after_zeros_are}
-use Rattle.digit_literals.specs.declared.reading.Digits.{Digits}
+use Rattle.digit_literals.specs.After.{digits_between, digits_to, past_digits_to, IsDigits, IsReadTo, ExceedsAt}
+use Rattle.digit_literals.specs.Reads.{IsWorth, ReadsTo, IsOffSlice, Passes, ReadsOn, outcome}
 use Rattle.digit_literals.specs.declared.reading.TooLarge.{TooLarge}
-use Rattle.digit_literals.specs.After.{digits_to, past_digits_to, IsDigits, IsReadTo, ExceedsAt, ReadsOf, ExceedsOf}
+use Rattle.digit_literals.specs.declared.slice.ReadTo.{ReadTo}
+use Rattle.digit_literals.proofs.ForCallers.{fewer}
+use Rattle.digit_literals.proofs.Texts.{take_twice}
 
--- ---- digits and zeros that are passed
-
-pub ruleset leading_digits = (leading_are, after_leading_are, leading_between)
+-- ---- zeros that are passed
 
 pub zeros_lead : (k : Component) (s : State) → IsState s
     → zeros (λ (m : State). m.buffer) (λ m. m.cursor) (place_of k) with_cursor (settled k)
@@ -33,86 +35,181 @@ after_zeros_lead = after_zeros_are
 
 pub ruleset leading_zeros = (zeros_lead, after_zeros_lead)
 
--- ---- digits that are read
+-- ---- digits between two positions
 
-module _ (k : Component) (s : State) (radix before most : ℕ) (v : IsState s)
-    (e : radix ≡ (rule k s).radix) (after : State) where
-  led : leading (λ (m : State). m.buffer) (λ m. m.cursor) (place_of k) (taken k)
-      (is_digit_of_radix radix) s ≡ leading_digits_of k s
-  led = leading_by_radix k s radix v e
+fewer_between : (rule : Rule) (text : List ℕ) (start at end : ℕ) → at ≤ end
+    → length (digits_between rule text start at) ≤ length (digits_between rule text start end)
+fewer_between rule text start at end l =
+    let same = take_twice (at - start) (end - start) (drop start text) (omega (arith, l)) in
+    subst (λ xs. length (filter (is_digit rule) xs) ≤ length (digits_between rule text start end))
+    same (fewer (is_digit rule) (at - start) (take (end - start) (drop start text)))
 
-  pub digits_are : (read : Digits) → ReadsOf k s radix before most read after
-      → IsDigits k s before read
-  digits_are read h = record {
-    is = h.is ∙ ap (digits_value_after radix before) led
-        ∙ ap (λ (r : ℕ). digits_value_after r before (leading_digits_of k s)) e;
-    digits = h.counts ∙ ap length led;
-  }
+pub digits_fit : (k : Component) (s : State) → IsState s
+    → length (leading_digits_of k s) ≤ length s.buffer
+digits_fit k s v =
+    let p : ℕ → Bool = is_digit (rule k s) in
+    let n : ℕ = stop_of k s - s.cursor in
+    omega (
+      arith,
+      ap length (leading_between k s v),
+      fewer p n (drop s.cursor s.buffer),
+      length-filter_both p (λ byte. not (p byte)) (λ byte. refl) (drop s.cursor s.buffer),
+      length-drop s.cursor s.buffer,
+    )
 
-  pub fits_most : (read : Digits) → ReadsOf k s radix before most read after → read.value ≤ most
-  fits_most read h = h.fits
+-- ---- off the slice
 
-  pub passed_are : (read : Digits) → ReadsOf k s radix before most read after
-      → after ≡ past_digits_of k s
-  passed_are read h = h.leaves ∙ after_leading_by_radix k s radix v e
+pub passes_slice : (k : Component) (before : ℕ) (most : Option ℕ) (a b : Held) (read : ReadTo)
+    → IsOffSlice (rule k a.state) a.state.buffer a.state.cursor before most read
+    → b.state ≡ with_cursor (with_own k a.state
+    (if counts k a.state.word then saturating (own k a.state) read.count else own k a.state))
+    read.end
+    → b.looks ≡ saturating a.looks (2 * (read.end - a.state.cursor))
+    → owed b ≤ℤ (owed a +ℤ pos (2 * (read.end - a.state.cursor)))
+    → Passes k before most a b read
+passes_slice k before most a b read off state looks owes =
+    let reads = off.reads (own k a.state) in
+    record {
+      reads = reads;
+      state = state ∙ ap (λ (c : ℕ). with_cursor (with_own k a.state
+          (if counts k a.state.word then saturating (own k a.state) c else own k a.state))
+          read.end) reads.digits;
+      owes = omega (arith, ints, owes, off.few);
+      at_least = omega (arith, looks, off.below);
+    }
 
-  nth : (error : TooLarge) (h : ExceedsOf k s radix before most error after)
-      → IsNthDigit k s h.exceeds.read (place_of k (iterate (taken k) h.exceeds.read s))
-  nth error h = nth_digit h.exceeds.read k s v (omega (arith, h.exceeds.within, ap length led))
+-- ---- on a copy
 
-  digits_before : (error : TooLarge) (h : ExceedsOf k s radix before most error after)
-      → digits_to k s error.at ≡ take h.exceeds.read (leading_digits_of k s)
-  digits_before error h = ap (digits_to k s) h.exceeds.stands ∙ (nth error h).before
+owed_same : (a b : Held) → IsCopy a b → owed b ≡ owed a
+owed_same a b is = rw (is.run, is.state, is.looks) refl
 
-  worth : (i n : ℕ) → digits_to k s i ≡ take n (leading_digits_of k s)
-      → digits_value_after (rule k s).radix before (digits_to k s i)
-      ≡ digits_value_after radix before (take n
-      (leading (λ (m : State). m.buffer) (λ m. m.cursor) (place_of k) (taken k)
-      (is_digit_of_radix radix) s))
-  worth i n h = ap (λ (r : ℕ). digits_value_after r before (digits_to k s i)) (sym e)
-      ∙ ap (digits_value_after radix before) (h ∙ sym (ap (take n) led))
+pub passes_copy : (k : Component) (before : ℕ) (most : Option ℕ) (a copy left b : Held)
+    (read : ReadTo) → IsCopy a copy → Passes k before most copy left read → IsCopy left b
+    → Passes k before most a b read
+passes_copy k before most a copy left b read is p back = record {
+  reads = subst (λ (s : State).
+      ReadsTo (rule k s) s.buffer s.cursor before most read (own k s)) is.state p.reads;
+  state = back.state ∙ p.state ∙ ap (λ (s : State). past_digits_to k s read.end) is.state;
+  owes = omega (arith, ints, p.owes, owed_same a copy is, owed_same left b back);
+  at_least = omega (arith, p.at_least, is.looks, back.looks);
+}
 
-  pub exceeds_at : (error : TooLarge) → ExceedsOf k s radix before most error after
-      → ExceedsAt (rule k s) s.buffer s.cursor (own k s) before most error.at
-  exceeds_at error h =
-      let there = nth error h in
-      let upto : digits_to k s (error.at + 1) ≡ take (h.exceeds.read + 1) (leading_digits_of k s) =
-      ap (λ (i : ℕ). digits_to k s (i + 1)) h.exceeds.stands ∙ there.upto in
-      record {
-        onward = omega (arith, h.exceeds.stands, there.onward);
-        before_stop = omega (arith, h.exceeds.stands, there.before_stop);
-        fits = omega (arith, worth error.at h.exceeds.read (digits_before error h), h.exceeds.fits);
-        passes = omega (arith, worth (error.at + 1) (h.exceeds.read + 1) upto, h.exceeds.passes);
-      }
+pub same_buffer : (k : Component) (s t : State) (i : ℕ) → t ≡ past_digits_to k s i
+    → t.buffer ≡ s.buffer
+same_buffer k s t i e = rw e (grind arith)
 
-  pub stays_at : (error : TooLarge) → ExceedsOf k s radix before most error after
-      → after ≡ past_digits_to k s error.at
-  stays_at error h =
-      let l : h.exceeds.read < length (leading_digits_of k s) =
-      omega (arith, h.exceeds.within, ap length led) in
-      let count : length (digits_to k s error.at) ≡ h.exceeds.read =
-      ap length (digits_before error h)
-      ∙ length-take-le h.exceeds.read (leading_digits_of k s) (omega arith) in
-      let at_count = λ (c i : ℕ). with_cursor (with_own k s
-      (if counts k s.word then saturating (own k s) c else own k s)) i in
-      h.exceeds.leaves ∙ nth_leaves h.exceeds.read k s v l
-      ∙ ap (λ (c : ℕ). at_count c (place_of k (iterate (taken k) h.exceeds.read s))) (sym count)
-      ∙ ap (at_count (length (digits_to k s error.at))) (sym h.exceeds.stands)
+pub same_word : (k : Component) (s t : State) (i : ℕ) → t ≡ past_digits_to k s i
+    → t.word ≡ s.word
+same_word k s t i e = rw e (grind arith)
 
-  pub so_far : (error : TooLarge) → ExceedsOf k s radix before most error after
-      → IsReadTo k s before error
-  so_far error h = record {
-    is = h.value ∙ sym (worth error.at h.exceeds.read (digits_before error h));
-    digits = h.count ∙ sym (ap length (digits_before error h)
-        ∙ length-take-le h.exceeds.read (leading_digits_of k s)
-        (omega (arith, h.exceeds.within, ap length led)));
-  }
+-- ---- the outcome
 
--- the same of a component that is another, and of the state that is left
-pub exceeds_in : (k j : Component) → k ≡ j → (s : State) (radix before most : ℕ) (now left : State)
-    → now ≡ left → (r : Result Digits TooLarge)
-    → IfErr r (λ error. ExceedsOf j s radix before most error left)
-    → IfErr r (λ error. ExceedsOf k s radix before most error now)
-exceeds_in k j is s radix before most now left same r h = rw (is, same) h
+module _ (k : Component) (before : ℕ) (a b : Held) where
+  abbrev worth_of : List ℕ → ℕ → ℕ → Type 0
+  worth_of = IsWorth (rule k a.state).radix before
 
-pub ruleset by_state = (leading_by_radix, leading_between)
+  digits_of : (o : Option ℕ) (value count : ℕ) → count ≡ length (leading_digits_of k a.state)
+      → IfSome o (worth_of (leading_digits_of k a.state) value)
+      → IfSome o (λ _. IsDigits k a.state before (record { value = value; count = count }))
+  digits_of None value count many w = tt
+  digits_of (Some m) value count many w = record { is = w.is; digits = many }
+
+  fits_of : (o : Option ℕ) (ds : List ℕ) (value : ℕ) → IfSome o (worth_of ds value)
+      → IfSome o (λ greatest. value ≤ greatest)
+  fits_of None ds value w = tt
+  fits_of (Some m) ds value w = w.fits
+
+  so_far_of : (o : Option ℕ) (value count end : ℕ) → count ≡ length (digits_to k a.state end)
+      → IfSome o (worth_of (digits_to k a.state end) value)
+      → IfSome o (λ _. IsReadTo k a.state before
+      (record { at = end; value = value; count = count }))
+  so_far_of None value count end many w = tt
+  so_far_of (Some m) value count end many w = record { is = w.is; digits = many }
+
+  stops_before : (o : Option ℕ) (at : ℕ) → MatchOption o ⊥ (λ greatest.
+      ExceedsAt (rule k a.state) a.state.buffer a.state.cursor (own k a.state) before greatest at)
+      → at ≤ stop_of k a.state
+  stops_before None at h = absurd h
+  stops_before (Some m) at h = omega (arith, h.before_stop)
+
+  module _ (most : Option ℕ) (value count end : ℕ) where
+    -- at the stop
+    ok : Passes k before most a b
+        (record { value = value; count = count; end = end; is_too_large = false })
+        → ReadsOn k before most a b (Ok (record { value = value; count = count }))
+    ok p =
+        let s : State = a.state in
+        let stop : end ≡ stop_of k s = p.reads.stops refl in
+        let are : digits_to k s end ≡ leading_digits_of k s =
+        ap (digits_to k s) stop ∙ sym (leading_between k s a.holds) in
+        let many : count ≡ length (leading_digits_of k s) = p.reads.digits ∙ ap length are in
+        let at_count = λ (c i : ℕ). with_cursor (with_own k s
+        (if counts k s.word then saturating (own k s) c else own k s)) i in
+        record {
+          count = many;
+          ok = digits_of most value count many
+              (subst (λ ds. IfSome most (worth_of ds value)) are p.reads.worth);
+          fits = fits_of most (digits_to k s end) value p.reads.worth;
+          passed = p.state ∙ ap (λ (ds : List ℕ). at_count (length ds) end) are
+              ∙ ap (at_count (length (leading_digits_of k s))) stop;
+          too_large = tt;
+          so_far = tt;
+          stays = tt;
+          few = omega (arith, many);
+          owes = p.owes;
+          at_least = p.at_least;
+        }
+
+    -- at a digit with which the value is too large
+    too_large : Passes k before most a b
+        (record { value = value; count = count; end = end; is_too_large = true })
+        → ReadsOn k before most a b (Err (record { at = end; value = value; count = count }))
+    too_large p =
+        let s : State = a.state in
+        let over = p.reads.exceeds refl in
+        record {
+          count = tt;
+          ok = tt;
+          fits = tt;
+          passed = tt;
+          too_large = over;
+          so_far = so_far_of most value count end p.reads.digits p.reads.worth;
+          stays = p.state;
+          few = omega (
+            arith,
+            p.reads.digits,
+            fewer_between (rule k s) s.buffer s.cursor end (stop_of k s)
+                (stops_before most end over),
+            ap length (leading_between k s a.holds),
+          );
+          owes = p.owes;
+          at_least = p.at_least;
+        }
+
+  pub reads_on : (most : Option ℕ) (read : ReadTo) → Passes k before most a b read
+      → ReadsOn k before most a b (outcome read)
+  reads_on most read p = by_flag read.is_too_large refl
+    where
+      by_flag : (large : Bool) → read.is_too_large ≡ large
+          → ReadsOn k before most a b (outcome read)
+      by_flag true e = rw e (too_large most read.value read.count read.end
+          (subst (λ flag. Passes k before most a b (record {
+            value = read.value;
+            count = read.count;
+            end = read.end;
+            is_too_large = flag;
+          })) e p))
+      by_flag false e = rw e (ok most read.value read.count read.end
+          (subst (λ flag. Passes k before most a b (record {
+            value = read.value;
+            count = read.count;
+            end = read.end;
+            is_too_large = flag;
+          })) e p))
+
+-- the outcome where no value is asked for
+pub never_large : (k : Component) (before : ℕ) (a b : Held) (error : TooLarge)
+    → ReadsOn k before None a b (Err error) → ⊥
+never_large k before a b error h = h.too_large
+
+pub ruleset by_state = (leading_between, digits_fit, never_large)

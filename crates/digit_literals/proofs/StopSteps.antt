@@ -1,12 +1,14 @@
 -- The stop, over one byte.
-use Rattle.std.proofs.Common.{◌≡◌, ℕ, ◌+◌, ◌<◌, ◌≤◌, Bool, true, false, List, length, refl, sym, ◌∙◌, arith, inl}
+use Rattle.std.proofs.Common.{◌≡◌, ℕ, ◌+◌, ◌-◌, ◌<◌, ◌≤◌, Bool, true, false, List, length, refl, sym, ◌∙◌, arith, inl}
 use Rattle.std.specs.Prelude.{slice_get, slice_index, Some}
 use Rattle.std.proofs.lemmas.Bool.{lt-ltb}
+use Rattle.std.proofs.lemmas.Bool.Decides.{nat_tests}
 use Rattle.std.proofs.lemmas.Option.{slice_get-get_or}
 use Rattle.lexical_digits.specs.declared.skip.rule.Rule.{Rule}
-use Rattle.lexical_digits.specs.Separators.{is_digit, is_separator, class, right_side, is_kept, is_dropped, holds_separator, IsSupported}
-use Rattle.lexical_digits.specs.State.{count_after}
+use Rattle.lexical_digits.specs.Separators.{is_digit, is_separator, class, right_side, is_kept, is_dropped, holds_separator, digits_seen, kept_positions, IsSupported}
+use Rattle.lexical_digits.specs.State.{one_more}
 use Rattle.lexical_digits.specs.Stop.{stop}
+use Rattle.lexical_digits.specs.Laws.Ranges.{filter_same_from}
 use Rattle.lexical_digits.specs.Laws.Kept.{positions_kept, positions_dropped, positions_end}
 use Rattle.lexical_digits.proofs.Rule.Runs.{separator_no_digit}
 use Rattle.lexical_digits.proofs.Rule.Sides.{right_one, right_many, kept_by_sides}
@@ -25,12 +27,28 @@ module _ (rule : Rule) (text : List ℕ) where
   unfolding is_kept is_dropped holds_separator
   other_kept at count l e alone = rw (slice_get-get_or text at 0 l, e, alone) refl
 
+  -- counts above zero are alike
+  kept_alike : (at count other q : ℕ) → 0 < count → 0 < other
+      → is_kept rule text at count q ≡ is_kept rule text at other q
+  unfolding is_kept digits_seen
+  kept_alike at count other q some more = grind (arith, nat_tests)
+
+  positions_alike : (at count other : ℕ) → 0 < count → 0 < other
+      → kept_positions rule text at count ≡ kept_positions rule text at other
+  unfolding kept_positions
+  positions_alike at count other some more = filter_same_from (is_kept rule text at count)
+      (is_kept rule text at other) at (length text - at)
+      (λ q _. kept_alike at count other q some more)
+
   pub stop_digit : (at count : ℕ) → at < length text → is_digit rule (slice_index text at) ≡ true
-      → stop rule text at count
-      ≡ stop rule text (at + 1) (count_after rule true (slice_index text at) count)
+      → stop rule text at count ≡ stop rule text (at + 1) (count + 1)
   unfolding stop
   stop_digit at count l e =
-      rw (positions_kept rule text true (inl refl) at count l (digit_kept at count l e), e) refl
+      rw (
+        positions_kept rule text true (inl refl) at count l (digit_kept at count l e),
+        e,
+        positions_alike (at + 1) (one_more count) (count + 1) (omega arith) (omega arith),
+      ) refl
 
   pub stop_other : (at count : ℕ) → at < length text → is_digit rule (slice_index text at) ≡ false
       → is_separator rule.separator (slice_index text at) ≡ false → stop rule text at count ≡ at

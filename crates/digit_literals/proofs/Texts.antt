@@ -17,7 +17,7 @@ use Rattle.digit_literals.specs.Whole.{IsFaultFrom}
 use Rattle.digit_literals.specs.declared.parse.ParseError.{ParseError}
 use Rattle.digit_literals.specs.declared.parse.ParseError.TheVariants.{Empty, Invalid, Overflow}
 
-take_twice : (n m : ℕ) (xs : List ℕ) → n ≤ m → take n (take m xs) ≡ take n xs
+pub take_twice : (n m : ℕ) (xs : List ℕ) → n ≤ m → take n (take m xs) ≡ take n xs
 take_twice zero m xs l = refl
 take_twice (suc n) zero xs l = absurd (omega (arith, l))
 take_twice (suc n) (suc m) [] l = refl

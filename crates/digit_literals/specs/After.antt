@@ -1,13 +1,11 @@
 -- What reading the digits that lead comes to, in words of a text and of a state.
-use Rattle.std.specs.Prelude.{◌≡◌, ℕ, ◌+◌, ◌-◌, ◌^◌, ◌<◌, ◌≤◌, if◌then◌else◌, List, length, filter, slice_range}
+use Rattle.std.specs.Prelude.{◌≡◌, ℕ, ◌+◌, ◌-◌, ◌^◌, ◌<◌, ◌≤◌, if◌then◌else◌, List, length, filter, slice_range, Result, Ok, Err}
 use Rattle.std.specs.Str.Parse.{digits_value_after}
 use Rattle.lexical_digits.specs.declared.skip.rule.Rule.{Rule}
 use Rattle.lexical_digits.specs.declared.skip.component.Component.{Component}
 use Rattle.lexical_digits.specs.Separators.{is_digit}
 use Rattle.lexical_digits.specs.State.{State, with_cursor, rule, own, with_own, counts, saturating}
-use Rattle.lexical_digits.specs.CallTable.{place_of, settled, taken}
 use Rattle.lexical_digits.specs.Stop.{stop, leading_digits_of}
-use Rattle.digit_literals.specs.Outcomes.{ReadsAfter, StopsAt}
 use Rattle.digit_literals.specs.declared.reading.Digits.{Digits}
 use Rattle.digit_literals.specs.declared.reading.TooLarge.{TooLarge}
 
@@ -55,11 +53,9 @@ module _ (k : Component) (s : State) where
     pub is : error.value ≡ digits_value_after (rule k s).radix before (digits_to error.at)
     pub digits : error.count ≡ length (digits_to error.at)
 
-  -- the same in words of a meaning, by a radix and up to a greatest value
-  abbrev pub ReadsOf : ℕ → ℕ → ℕ → Digits → State → Type 0
-  ReadsOf radix before most read after = ReadsAfter (λ (m : State). m.buffer) (λ m. m.cursor)
-      (place_of k) (taken k) (settled k) radix before most s read after
+-- ---- of an answer
 
-  abbrev pub ExceedsOf : ℕ → ℕ → ℕ → TooLarge → State → Type 0
-  ExceedsOf radix before most error after = StopsAt (λ (m : State). m.buffer) (λ m. m.cursor)
-      (place_of k) (taken k) (settled k) radix before most s error after
+-- how many digits were read
+abbrev pub digits_read : Result Digits TooLarge → ℕ
+digits_read (Ok read) = read.count
+digits_read (Err error) = error.count

@@ -1,5 +1,6 @@
 pub mod Outcomes
 pub mod After
+pub mod Reads
 pub mod Integers
 pub mod Rest
 pub mod Significant

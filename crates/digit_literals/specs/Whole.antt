@@ -34,6 +34,12 @@ message (Invalid at) = codes "the byte at " ++ decimal at ++ codes " is no part 
 message (Overflow at) =
     codes "the number is too large with the digit at " ++ decimal at
 
+-- where it is
+abbrev pub position : ParseError → ℕ
+position (Empty at) = at
+position (Invalid at) = at
+position (Overflow at) = at
+
 -- ---- with a sign
 
 -- whether a text begins with a byte

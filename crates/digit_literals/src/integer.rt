@@ -1,20 +1,20 @@
-//! The integer that a text begins with. A loop over the slice reads the digits, and any separator
-//! between two digits; a text with other separators is read by a `Bytes`.
+//! The integer that a text begins with, and how many digits it has. No `Bytes` is made where the
+//! slice is enough.
 
-ghost use Rattle.std.specs.Prelude.{◌≡◌, ◌-◌, ◌+◌, ◌<◌, ◌≤◌, length, slice_index, true, IfSome, IfOk, IsTrue};
+ghost use Rattle.std.specs.Prelude.{◌≡◌, ◌-◌, ◌<◌, ◌≤◌, length, filter, IfOk, IfErr, IsTrue};
 ghost use Rattle.lexical_format.specs.Word.{is_supported};
 ghost use Rattle.lexical_digits.specs.declared.skip.component.Component.TheVariants.{Integer};
-ghost use Rattle.lexical_digits.specs.Separators.{is_digit, IsSupported};
+ghost use Rattle.lexical_digits.specs.Separators.{is_digit};
 ghost use Rattle.lexical_digits.specs.State.{rule_of};
+ghost use Rattle.lexical_digits.specs.Stop.{stop};
 ghost use Rattle.digit_literals.specs.Outcomes.{IfEmpty, IfOverflow};
 ghost use Rattle.digit_literals.specs.Integers.{IsInteger, HasNoDigit, IsTooLarge, ReadsFrom};
+ghost use Rattle.digit_literals.specs.Reads.{ReadsTo};
 
 use super::LiteralError;
-use super::component::read_digits_up_to;
-use super::reading::add_digit;
+use super::slice::{ReadTo, read_counted, read_slice};
 use lexical_digits::iterator::Iter;
 use lexical_digits::skip::{Bytes, Component, Rule};
-use lexical_format::{char_is_digit_const, char_to_digit_const};
 
 /// The value of the integer that a text begins with, and where the integer ends. It ends at the
 /// stop, the first kept byte that is no digit, or at the end of the text. Digits are those of the
@@ -34,6 +34,9 @@ pub fn read_integer(text: &[u8], word: u128) -> Result<(u64, usize), LiteralErro
     ensures ok { IfOk result (λ read. IsInteger (rule_of word Integer) text.now read.0 read.1) }
     ensures empty { IfEmpty result (λ at. HasNoDigit (rule_of word Integer) text.now at) }
     ensures overflow { IfOverflow result (λ at. IsTooLarge (rule_of word Integer) text.now at) }
+    ensures end { IfOk result (λ read. read.1 ≤ length text.now) }
+    ensures empty_at { IfEmpty result (λ at. at ≤ length text.now) }
+    ensures overflow_at { IfOverflow result (λ at. at < length text.now) }
 {
     read_integer_from(text, word, 0, u64::MAX)
 }
@@ -49,7 +52,6 @@ pub fn read_integer(text: &[u8], word: u128) -> Result<(u64, usize), LiteralErro
 /// `0x1_f` with internal `_` and radix 16, from 2: Ok((31, 5)); up to 9: Err(Overflow(4))
 /// ```
 #[inline(always)]
-#[tactic(auto, using(crate::proofs::Within::from_start))]
 pub fn read_integer_from(
     text: &[u8],
     word: u128,
@@ -66,106 +68,66 @@ pub fn read_integer_from(
     ensures overflow_at { let n = length text.now in
         IfOverflow result (λ at. (start ≤ at) × (at < n)) }
 {
-    // a text with another separator is read again from the start
-    match read_slice(text, Rule::of(word, Component::Integer), start, most) {
-        Some(read) => read,
-        None => read_bytes(text, word, start, most),
+    let read = read_text(text, word, start, Some(most));
+    if read.is_too_large {
+        return Err(LiteralError::Overflow(read.end));
+    }
+    if read.count == 0 {
+        return Err(LiteralError::Empty(read.end));
+    }
+    Ok((read.value, read.end))
+}
+
+/// How many digits a text has, if its integer goes on to its end: every byte is a digit of the
+/// mantissa radix, or a separator that the word's integer drops. Otherwise the position of the
+/// first byte that is neither. The empty text has 0 digits. Requires that the word is supported.
+///
+/// ```text
+/// with internal `_`: `1_000` is Ok(4), `1_` and `1x` are Err(1)
+/// ```
+#[inline(always)]
+#[tactic(auto, using(crate::proofs::ForCallers::all_is))]
+pub fn count_digits(text: &[u8], word: u128) -> Result<usize, usize>
+    requires { IsTrue (is_supported word) }
+    ensures digits { let r = rule_of word Integer in
+        IfOk result (λ n. n ≡ length (filter (is_digit r) text.now)) }
+    ensures whole { IfOk result (λ _. stop (rule_of word Integer) text.now 0 0 ≡ length text.now) }
+    ensures stops { IfErr result (λ at. at ≡ stop (rule_of word Integer) text.now 0 0) }
+    ensures within { IfErr result (λ at. at < length text.now) }
+{
+    let read = read_text(text, word, 0, None);
+    if read.end == text.len() {
+        Ok(read.count)
+    } else {
+        Err(read.end)
     }
 }
 
-/// The same by a `Bytes`.
-#[inline(never)]
-fn read_bytes(
-    text: &[u8],
-    word: u128,
-    start: usize,
-    most: u64,
-) -> Result<(u64, usize), LiteralError>
+/// Reads the digits of the integer from `start` on, up to a greatest value if one is asked for. A
+/// text with another separator than lone ones between two digits is read again from the start.
+#[inline(always)]
+#[tactic(auto, using(crate::proofs::Within::any_fits))]
+fn read_text(text: &[u8], word: u128, start: usize, most: Option<u64>) -> ReadTo
     requires supported { IsTrue (is_supported word) }
     requires within { start ≤ length text.now }
-    ensures { ReadsFrom (rule_of word Integer) text.now start most result }
+    ensures { ReadsTo (rule_of word Integer) text.now start 0 most result 0 }
+{
+    match read_slice(text, Rule::of(word, Component::Integer), start, 0, most) {
+        Some(read) => read,
+        None => read_fresh(text, word, start, most),
+    }
+}
+
+/// [`read_text`] by a fresh `Bytes`.
+#[cold]
+#[inline(never)]
+#[tactic(auto, using(crate::proofs::Within::any_fits))]
+fn read_fresh(text: &[u8], word: u128, start: usize, most: Option<u64>) -> ReadTo
+    requires supported { IsTrue (is_supported word) }
+    requires within { start ≤ length text.now }
+    ensures { ReadsTo (rule_of word Integer) text.now start 0 most result 0 }
 {
     let mut bytes = Bytes::new(text, word);
     bytes.set_cursor(start);
-    let read = read_digits_up_to(&mut bytes, Component::Integer, 0, most)?;
-    let end = bytes.cursor();
-    if read.count == 0 {
-        return Err(LiteralError::Empty(end));
-    }
-    Ok((read.value, end))
-}
-
-/// Whether a digit is after a position, and separators between digits are dropped.
-#[inline(always)]
-#[tactic(auto, unfolding(lexical_digits::specs::Separators::is_digit))]
-fn is_inner(text: &[u8], rule: Rule, radix: u32, at: usize) -> bool
-    requires within { at < length text.now }
-    requires radix { radix ≡ rule.radix }
-    ensures internal { result ≡ true → rule.internal ≡ true }
-    ensures within { result ≡ true → at + 1 < length text.now }
-    ensures digit { result ≡ true → is_digit rule (slice_index text.now (at + 1)) ≡ true }
-{
-    rule.internal && at + 1 < text.len() && char_is_digit_const(text[at + 1], radix)
-}
-
-/// The same as [`read_integer_from`], if the integer has no separators other than lone ones between
-/// two digits, and ends at no other separator. Else `None`, as where no digit comes first.
-#[inline(always)]
-fn read_slice(
-    text: &[u8],
-    rule: Rule,
-    start: usize,
-    most: u64,
-) -> Option<Result<(u64, usize), LiteralError>>
-    requires supported { IsSupported rule }
-    requires within { start ≤ length text.now }
-    ensures { IfSome result (ReadsFrom rule text.now start most) }
-{
-    // A compiler makes code of its own for a radix that is written out.
-    if rule.radix == 10 {
-        read_radix(text, rule, 10, start, most)
-    } else {
-        read_radix(text, rule, rule.radix, start, most)
-    }
-}
-
-/// The same, where `radix` is the rule's.
-#[inline(always)]
-#[tactic(auto, using(crate::proofs::Leads::leads))]
-fn read_radix(
-    text: &[u8],
-    rule: Rule,
-    radix: u32,
-    start: usize,
-    most: u64,
-) -> Option<Result<(u64, usize), LiteralError>>
-    requires supported { IsSupported rule }
-    requires radix { radix ≡ rule.radix }
-    requires within { start ≤ length text.now }
-    ensures { IfSome result (ReadsFrom rule text.now start most) }
-{
-    let mut value = 0;
-    for at in start..text.len() {
-        let byte = text[at];
-        if let Some(digit) = char_to_digit_const(byte, radix) {
-            let Some(more) = add_digit(value, radix, digit, most) else {
-                return Some(Err(LiteralError::Overflow(at)));
-            };
-            value = more;
-            continue;
-        }
-        if at == start {
-            return None;
-        }
-        if !rule.is_separator(byte) {
-            return Some(Ok((value, at)));
-        }
-        if !is_inner(text, rule, radix, at) {
-            return None;
-        }
-    }
-    if start == text.len() {
-        return None;
-    }
-    Some(Ok((value, text.len())))
+    read_counted(&mut bytes, Component::Integer, 0, most)
 }

@@ -24,11 +24,10 @@ mod integer;
 pub mod laws;
 mod parse;
 mod reading;
+mod slice;
 
-pub use self::component::{
-    count_digits, pass_digits, pass_zeros, read_digits_of, read_digits_up_to,
-};
-pub use self::integer::{read_integer, read_integer_from};
+pub use self::component::{pass_digits, pass_zeros, read_digits_of, read_digits_up_to};
+pub use self::integer::{count_digits, read_integer, read_integer_from};
 pub use self::parse::{ParseError, parse_integer, parse_signed};
 pub use self::reading::{Digits, TooLarge, read_digits, read_digits_after, take_digits};
 use lexical_digits::iterator::DigitsIter;

@@ -5,7 +5,7 @@ ghost use Rattle.lexical_format.specs.Word.{is_supported};
 ghost use Rattle.lexical_digits.specs.declared.skip.component.Component.TheVariants.{Integer};
 ghost use Rattle.lexical_digits.specs.State.{rule_of};
 ghost use Rattle.digit_literals.specs.Integers.{IsInteger, IsIntegerFrom};
-ghost use Rattle.digit_literals.specs.Whole.{IsFault, IsFaultFrom, IsSigned, IsSignedFault, message, begins_with, sign_length, most_magnitude, signed};
+ghost use Rattle.digit_literals.specs.Whole.{IsFault, IsFaultFrom, IsSigned, IsSignedFault, message, position, begins_with, sign_length, most_magnitude, signed};
 
 use super::LiteralError;
 use super::integer::read_integer_from;
@@ -53,6 +53,7 @@ pub fn parse_integer(text: &[u8], word: u128) -> Result<u64, ParseError>
     ensures ok { IfOk result (λ value.
         IsInteger (rule_of word Integer) text.now value (length text.now)) }
     ensures fault { IfErr result (IsFault (rule_of word Integer) text.now) }
+    ensures fault_at { IfErr result (λ error. position error ≤ length text.now) }
 {
     parse_from(text, word, 0, u64::MAX)
 }
@@ -70,6 +71,8 @@ pub fn parse_signed(text: &[u8], word: u128) -> Result<i64, ParseError>
     requires { IsTrue (is_supported word) }
     ensures ok { IfOk result (IsSigned (rule_of word Integer) text.now) }
     ensures fault { IfErr result (IsSignedFault (rule_of word Integer) text.now) }
+    ensures fault_at { let n = length text.now in
+        IfErr result (λ error. (sign_length text.now ≤ position error) × (position error ≤ n)) }
 {
     let is_negative = begins_with(text, b'-');
     let most = most_magnitude(is_negative);
@@ -129,6 +132,8 @@ fn parse_from(text: &[u8], word: u128, start: usize, most: u64) -> Result<u64, P
         IfOk result (λ value. IsIntegerFrom r text.now start most value (length text.now)) }
     ensures fault { let r = rule_of word Integer in
         IfErr result (IsFaultFrom r text.now start most) }
+    ensures fault_at { let n = length text.now in
+        IfErr result (λ error. (start ≤ position error) × (position error ≤ n)) }
 {
     match read_integer_from(text, word, start, most) {
         Ok((value, end)) => {

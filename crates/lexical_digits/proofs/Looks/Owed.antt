@@ -19,6 +19,12 @@ pub owed_onward : (run : Option Run) (looks c d : ℕ) → c ≤ d
 owed_onward None looks c d l = omega (arith, ints)
 owed_onward (Some run) looks c d l = grind (arith, ints, nat_tests)
 
+-- nor more than the looks that were counted on the way
+pub owed_read : (run : Option Run) (looks more c d : ℕ) → c ≤ d
+    → owed_by run d (saturating looks more) ≤ℤ (owed_by run c looks +ℤ pos more)
+owed_read run looks more c d l =
+    omega (arith, ints, owed_onward run (saturating looks more) c d l)
+
 module _ (separator : ℕ) (buffer : List ℕ) where
   far_within : (run : Option Run) (c : ℕ) → Remembers separator buffer run
       → far run c ≤ length buffer

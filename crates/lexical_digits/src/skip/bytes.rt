@@ -1,12 +1,12 @@
 //! A `Bytes`: its fields, its word, its counts and its cursor. The module `reading` has the reads.
 
-ghost use Rattle.std.specs.Prelude.{◌≡◌, ℕ, ◌+◌, ◌*◌, ◌<◌, ◌≤◌, length, List, None, IsTrue, pos, ◌≤ℤ◌, ◌+ℤ◌};
+ghost use Rattle.std.specs.Prelude.{◌≡◌, ℕ, ◌+◌, ◌-◌, ◌*◌, ◌<◌, ◌≤◌, if◌then◌else◌, length, List, None, IsTrue, pos, ◌≤ℤ◌, ◌+ℤ◌};
 ghost use Rattle.lexical_format.specs.Word.{separator, is_supported};
 ghost use Rattle.lexical_digits.specs.Separators.{is_digit, is_separator, IsSupported};
-ghost use Rattle.lexical_digits.specs.State.{IsState, with_cursor, with_no_counts, start, rule, is_contiguous, has_no_separator, count_of_all, current_count, cut, cut_end};
+ghost use Rattle.lexical_digits.specs.State.{IsState, with_cursor, with_no_counts, start, rule, own, with_own, counts, saturating, is_contiguous, has_no_separator, count_of_all, current_count, cut, cut_end};
 ghost use Rattle.lexical_digits.specs.CallTable.{counted_by};
 ghost use Rattle.lexical_digits.specs.Cursor.{CanStep};
-ghost use Rattle.lexical_digits.specs.Looks.{owed, NoLooks, Remembers};
+ghost use Rattle.lexical_digits.specs.Looks.{owed, NoLooks, IsCopy, Remembers};
 ghost use Rattle.lexical_digits.specs.Fields.Tally.{state_of};
 ghost use Rattle.lexical_digits.specs.Fields.Bytes.{IsReading, has_no_flags as has_no_flags_of};
 
@@ -189,6 +189,44 @@ impl<'a> Bytes<'a> {
         ensures owes { owed self.new ≤ℤ owed self.old }
     {
         self.tally.add_digits(component, digits);
+    }
+
+    /// Passes the bytes up to `end`, which a caller read by itself: moves the cursor there, and
+    /// counts two looks for each of these bytes, as `next` does, and that many digits if `next` of
+    /// the component counts digits. The remembered run stays. Requires that `end` is from the
+    /// cursor on and within the buffer.
+    #[inline(always)]
+    pub fn pass_read(&mut self, component: Component, end: usize, digits: usize)
+        requires onward { self.old.state.cursor ≤ end }
+        requires within { end ≤ length self.old.state.buffer }
+        ensures state { let s = self.old.state in
+            let count =
+            if counts component s.word
+            then saturating (own component s) digits
+            else own component s in
+            self.new.state ≡ with_cursor (with_own component s count) end }
+        ensures run { self.new.run ≡ self.old.run }
+        ensures looks { let passed = end - self.old.state.cursor in
+            self.new.looks ≡ saturating self.old.looks (2 * passed) }
+        ensures owes { let passed = end - self.old.state.cursor in
+            owed self.new ≤ℤ (owed self.old +ℤ pos (2 * passed)) }
+    {
+        let counted = self.rule(component).counted(component, digits);
+        self.tally.pass_to(component, end, counted);
+    }
+
+    /// Goes on from where a copy of this `Bytes` is: takes its cursor, counts, looks and remembered
+    /// run. Requires that the copy has the same buffer and word.
+    #[inline(always)]
+    pub fn go_on_from(&mut self, copy: Bytes<'a>)
+        requires buffer { copy.state.buffer ≡ self.old.state.buffer }
+        requires word { copy.state.word ≡ self.old.state.word }
+        ensures { IsCopy copy.entry self.new }
+    {
+        self.rule = copy.rule;
+        self.shortcuts = copy.shortcuts;
+        self.tally = copy.tally;
+        self.run = copy.run;
     }
 
     /// Sets the three counts to 0, for a number that begins at the cursor. Its separators are then

@@ -2,7 +2,7 @@
 //! two sides, how a format word gives it, and the bytes that it keeps whatever is around them. It
 //! knows no buffer and no cursor.
 
-ghost use Rattle.std.specs.Prelude.{◌≡◌, ◌+◌, ◌<◌, ◌&&◌, not, Some};
+ghost use Rattle.std.specs.Prelude.{◌≡◌, ◌+◌, ◌<◌, ◌&&◌, if◌then◌else◌, not, Some};
 ghost use Rattle.std.specs.List.{list_any};
 ghost use Rattle.lexical_format.specs.Word.{bit};
 ghost use Rattle.lexical_digits.specs.Separators.{class, is_digit, is_separator, roles, grants, has_flags, IsSupported};
@@ -144,6 +144,15 @@ impl Rule {
         ensures { result ≡ (not (is_special component) && has_flags self) }
     {
         !matches!(component, Component::Special) && self.has_flags()
+    }
+
+    /// How many of that many digits `next` of a component with this rule counts: all or none.
+    #[inline(always)]
+    pub(crate) fn counted(self, component: Component, digits: usize) -> usize
+        ensures { result ≡
+            if not (is_special component) && has_flags self then digits else 0 }
+    {
+        if self.counts(component) { digits } else { 0 }
     }
 
     /// Whether `next` of a component with this rule counts that byte.

@@ -1,24 +1,41 @@
-use Rattle.std.proofs.Common.{rules}
-use Rattle.lexical_digits.specs.declared.skip.component.Component.TheVariants.{Integer, Fraction, Exponent, Special}
-use Rattle.digit_literals.proofs.States.{exceeds_in}
+use Rattle.std.proofs.Common.{rules, arith, ◌∙◌, ap}
+use Rattle.lexical_digits.specs.State.{State}
+use Rattle.lexical_digits.specs.Looks.{IsCopy}
+use Rattle.digit_literals.proofs.States.{passes_slice, passes_copy, same_buffer, same_word, reads_on}
 use Rattle.digit_literals.proofs.component.read_on.Goals as goal
 
-pub returns-in-Integer-clause-too_large : goal.returns-in-Integer-clause-too_large
-returns-in-Integer-clause-too_large c = exceeds_in c.args.component Integer c.in-Integer.is
-    c.args.bytes.now.state c.args.radix c.args.before c.args.most _ _ (search rules)
-    c.read_digits_after.result c.read_digits_after.ensures.too_large
+pub pass_read-requires-clause-within : goal.pass_read-requires-clause-within
+pass_read-requires-clause-within c =
+    let off = rw (c.get_buffer-text.ensures) at c.in-Some.ensures in
+    omega (arith, (off.reads 0).within)
 
-pub returns-in-Fraction-clause-too_large : goal.returns-in-Fraction-clause-too_large
-returns-in-Fraction-clause-too_large c = exceeds_in c.args.component Fraction c.in-Fraction.is
-    c.args.bytes.now.state c.args.radix c.args.before c.args.most _ _ (search rules)
-    c.read_digits_after-in-Fraction.result c.read_digits_after-in-Fraction.ensures.too_large
+pub returns-in-Some : goal.returns-in-Some
+returns-in-Some c =
+    let off = rw (c.rule-rule.ensures.value, c.get_buffer-text.ensures, c.cursor.ensures.value)
+    at c.in-Some.ensures in
+    rw c.outcome.ensures (reads_on c.args.component c.args.before c.args.bytes.now
+    c.pass_read.new.self c.args.most c.in-Some.read
+    (passes_slice c.args.component c.args.before c.args.most c.args.bytes.now c.pass_read.new.self
+    c.in-Some.read off c.pass_read.ensures.state c.pass_read.ensures.looks
+    c.pass_read.ensures.owes))
 
-pub returns-in-Exponent-clause-too_large : goal.returns-in-Exponent-clause-too_large
-returns-in-Exponent-clause-too_large c = exceeds_in c.args.component Exponent c.in-Exponent.is
-    c.args.bytes.now.state c.args.radix c.args.before c.args.most _ _ (search rules)
-    c.read_digits_after-in-Exponent.result c.read_digits_after-in-Exponent.ensures.too_large
+pub go_on_from-requires-clause-buffer : goal.go_on_from-requires-clause-buffer
+go_on_from-requires-clause-buffer c =
+    let copy : IsCopy c.args.bytes.now c.unwrap-copy.result = search rules in
+    same_buffer c.args.component _ _ _ c.read_counted-read.ensures.state
+    ∙ ap (λ (s : State). s.buffer) copy.state
 
-pub returns-in-Special-clause-too_large : goal.returns-in-Special-clause-too_large
-returns-in-Special-clause-too_large c = exceeds_in c.args.component Special c.in-Special.is
-    c.args.bytes.now.state c.args.radix c.args.before c.args.most _ _ (search rules)
-    c.read_digits_after-in-Special.result c.read_digits_after-in-Special.ensures.too_large
+pub go_on_from-requires-clause-word : goal.go_on_from-requires-clause-word
+go_on_from-requires-clause-word c =
+    let copy : IsCopy c.args.bytes.now c.unwrap-copy.result = search rules in
+    same_word c.args.component _ _ _ c.read_counted-read.ensures.state
+    ∙ ap (λ (s : State). s.word) copy.state
+
+pub returns : goal.returns
+returns c =
+    let copy : IsCopy c.args.bytes.now c.unwrap-copy.result = search rules in
+    rw c.outcome-2.ensures (reads_on c.args.component c.args.before c.args.bytes.now
+    c.go_on_from.new.self c.args.most c.read_counted-read.result
+    (passes_copy c.args.component c.args.before c.args.most c.args.bytes.now c.unwrap-copy.result
+    c.read_counted-read.new.bytes c.go_on_from.new.self c.read_counted-read.result copy
+    c.read_counted-read.ensures c.go_on_from.ensures))

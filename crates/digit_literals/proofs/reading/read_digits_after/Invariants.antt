@@ -1,4 +1,4 @@
-use Rattle.std.proofs.Common.{◌≡◌, ◌-◌, ◌*◌, length, pos, ◌≤ℤ◌, ◌+ℤ◌}
+use Rattle.std.proofs.Common.{◌≡◌, ◌-◌, ◌*◌, Some, length, pos, ◌≤ℤ◌, ◌+ℤ◌}
 use Rattle.digit_literals.proofs.Values.{HasRead}
 use Rattle.digit_literals.proofs.reading.read_digits_after.Given as goal
 
@@ -7,7 +7,7 @@ invariant-loop-digit g l =
     let i = g.I.Iter in
     let d = g.I.DigitsIter in
     record {
-      read : HasRead i.buffer i.cursor d.place d.taken d.settled l.radix l.before l.most
+      read : HasRead i.buffer i.cursor d.place d.taken d.settled l.radix l.before (Some l.most)
           (i.meaning l.initial.iter) (i.meaning l.iter) l.value l.count;
       owes : i.owed l.iter ≤ℤ (i.owed l.initial.iter +ℤ pos (8 * l.count));
       keeps_loan : i.loan l.iter ≡ i.loan l.initial.iter;

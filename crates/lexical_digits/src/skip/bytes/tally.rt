@@ -1,6 +1,6 @@
 //! The cursor, and the counts and looks that it carries. No buffer and no word.
 
-ghost use Rattle.std.specs.Prelude.{◌≡◌, ℕ, ◌+◌, ◌-◌, ◌<◌, ◌≤◌, true, List, if◌then◌else◌};
+ghost use Rattle.std.specs.Prelude.{◌≡◌, ℕ, ◌+◌, ◌*◌, ◌-◌, ◌<◌, ◌≤◌, true, List, if◌then◌else◌};
 ghost use Rattle.lexical_digits.specs.State.{State, start, with_cursor, with_no_counts};
 ghost use Rattle.lexical_digits.specs.CallTable.{counted, counted_by};
 
@@ -217,6 +217,20 @@ impl Tally {
     {
         self.index += 1;
         self.counted_from += 1; // so the byte isn't counted
+    }
+
+    /// Passes the bytes up to `end`: counts two looks for each of them, and that many digits for a
+    /// component.
+    #[inline(always)]
+    pub(super) fn pass_to(&mut self, component: Component, end: usize, digits: usize)
+        requires { self.old.index ≤ end }
+        ensures { let more = counted_by digits component in
+            let looks = saturating (looks_of self.old) (2 * (end - self.old.index)) in
+            Leaves self.old self.new (λ s. with_cursor (more s) end) end looks }
+    {
+        self.counted_from += end - self.index; // so only `digits` are counted
+        self.index = end;
+        self.add_digits(component, digits);
     }
 
     /// Passes one byte whose looks were counted before, and counts a digit for a component if

@@ -1,0 +1,75 @@
+-- Digits that were read from a start on, up to where they end, or up to the first with which their
+-- value is too large.
+use Rattle.std.specs.Prelude.{◌≡◌, ℕ, ◌+◌, ◌-◌, ◌*◌, ◌^◌, ◌≤◌, min, true, false, if◌then◌else◌, List, length, Option, IfSome, MatchOption, Result, Ok, Err, IfOk, IfErr, OnOk, pos, ◌≤ℤ◌, ◌+ℤ◌}
+use Rattle.std.specs.Str.Parse.{digits_value_after}
+use Rattle.lexical_digits.specs.declared.skip.rule.Rule.{Rule}
+use Rattle.lexical_digits.specs.declared.skip.component.Component.{Component}
+use Rattle.lexical_digits.specs.State.{rule, own}
+use Rattle.lexical_digits.specs.Looks.{Held, owed}
+use Rattle.lexical_digits.specs.Stop.{stop, leading_digits_of, past_digits_of}
+use Rattle.digit_literals.specs.After.{digits_between, past_digits_to, digits_read, IsDigits, IsReadTo, ExceedsAt}
+use Rattle.digit_literals.specs.declared.reading.Digits.{Digits}
+use Rattle.digit_literals.specs.declared.reading.TooLarge.{TooLarge}
+use Rattle.digit_literals.specs.declared.slice.ReadTo.{ReadTo}
+
+-- a value is that of digits after another one, and at most the greatest
+pub record IsWorth (radix before : ℕ) (digits : List ℕ) (value most : ℕ) : Type 0 where
+  pub is : value ≡ digits_value_after radix before digits
+  pub fits : value ≤ most
+
+-- one with one more digit, which is at most the greatest
+pub record IsMore (radix value digit more most : ℕ) : Type 0 where
+  pub is : more ≡ value * radix + digit
+  pub fits : more ≤ most
+
+module _ (rule : Rule) (text : List ℕ) (start before : ℕ) (most : Option ℕ) (read : ReadTo) where
+  -- The digits from the start up to an end were read, where so many were counted before. The end is
+  -- the stop, or the first digit with which the value is above the greatest, if one is asked for.
+  pub record ReadsTo (own : ℕ) : Type 0 where
+    pub onward : start ≤ read.end
+    pub within : read.end ≤ length text
+    pub digits : read.count ≡ length (digits_between rule text start read.end)
+    pub worth : IfSome most
+        (IsWorth rule.radix before (digits_between rule text start read.end) read.value)
+    pub stops : read.is_too_large ≡ false → read.end ≡ stop rule text start own
+    pub exceeds : read.is_too_large ≡ true → MatchOption most ⊥
+        (λ m. ExceedsAt rule text start own before m read.end)
+
+  -- the same whatever was counted before, with at most one separator for each digit
+  pub record IsOffSlice : Type 0 where
+    pub reads : (own : ℕ) → ReadsTo own
+    pub below : start + read.count ≤ read.end
+    pub few : read.end ≤ start + 2 * read.count
+
+-- What a read of a component leaves of a `Bytes`, which was a before: the digits that were read are
+-- passed, and counted as by `next`.
+pub record Passes (k : Component) (before : ℕ) (most : Option ℕ) (a b : Held) (read : ReadTo)
+    : Type 0 where
+  pub reads : ReadsTo (rule k a.state) a.state.buffer a.state.cursor before most read (own k a.state)
+  pub state : b.state ≡ past_digits_to k a.state read.end
+  pub owes : owed b ≤ℤ (owed a +ℤ pos (8 * read.count + 4))
+  pub at_least : min (a.looks + 2 * read.count) (2 ^ 64 - 1) ≤ b.looks
+
+-- what a reader of digits answers
+abbrev pub outcome : ReadTo → Result Digits TooLarge
+outcome read =
+    if read.is_too_large
+    then Err (record { at = read.end; value = read.value; count = read.count })
+    else Ok (record { value = read.value; count = read.count })
+
+-- The outcome of a read of a component, where a `Bytes` was a before and is b after. The value is
+-- said, and may be too large, only if a greatest one is asked for.
+pub record ReadsOn (k : Component) (before : ℕ) (most : Option ℕ) (a b : Held)
+    (result : Result Digits TooLarge) : Type 0 where
+  pub count : IfOk result (λ read. read.count ≡ length (leading_digits_of k a.state))
+  pub ok : IfOk result (λ read. IfSome most (λ _. IsDigits k a.state before read))
+  pub fits : IfOk result (λ read. IfSome most (λ greatest. read.value ≤ greatest))
+  pub passed : OnOk result (b.state ≡ past_digits_of k a.state)
+  pub too_large : IfErr result (λ error. MatchOption most ⊥ (λ greatest.
+      ExceedsAt (rule k a.state) a.state.buffer a.state.cursor (own k a.state) before greatest
+      error.at))
+  pub so_far : IfErr result (λ error. IfSome most (λ _. IsReadTo k a.state before error))
+  pub stays : IfErr result (λ error. b.state ≡ past_digits_to k a.state error.at)
+  pub few : digits_read result ≤ length (leading_digits_of k a.state)
+  pub owes : owed b ≤ℤ (owed a +ℤ pos (8 * digits_read result + 4))
+  pub at_least : min (a.looks + 2 * digits_read result) (2 ^ 64 - 1) ≤ b.looks

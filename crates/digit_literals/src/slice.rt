@@ -1,0 +1,204 @@
+//! Digits that are read off a slice. Where another separator than a lone one between two digits is
+//! met, a `Bytes` reads them.
+
+ghost use Rattle.std.specs.Prelude.{◌≡◌, ℕ, ◌*◌, ◌+◌, ◌<◌, ◌≤◌, length, slice_index, true, option_and_then, IfSome, MatchOption};
+ghost use Rattle.lexical_format.specs.Digits.{digit_of_radix};
+ghost use Rattle.lexical_digits.specs.Separators.{is_digit, IsSupported};
+ghost use Rattle.lexical_digits.specs.CallTable.{byte_at_place, settled};
+ghost use Rattle.lexical_digits.specs.Looks.{Costs};
+ghost use Rattle.digit_literals.specs.Reads.{IsMore, IsOffSlice, Passes, outcome};
+
+use super::reading::{Digits, TooLarge, add_digit};
+use lexical_digits::iterator::Iter;
+use lexical_digits::skip::{Bytes, Component, Rule};
+use lexical_format::{char_is_digit_const, char_to_digit_const};
+
+/// Digits that were read from a start on.
+#[derive(Clone, Copy)]
+pub(super) struct ReadTo {
+    /// The value of the digits before them and of these, as one number, if a greatest value was
+    /// asked for.
+    pub(super) value: u64,
+    /// How many digits were read.
+    pub(super) count: usize,
+    /// The position of the first byte after them that is kept, or the end.
+    pub(super) end: usize,
+    /// Whether that byte is a digit with which the value is above the greatest.
+    pub(super) is_too_large: bool,
+}
+
+impl ReadTo {
+    /// What a reader of digits answers.
+    #[inline(always)]
+    pub(super) fn outcome(self) -> Result<Digits, TooLarge>
+        ensures { result ≡ outcome self }
+    {
+        if self.is_too_large {
+            Err(TooLarge {
+                at: self.end,
+                value: self.value,
+                count: self.count,
+            })
+        } else {
+            Ok(Digits {
+                value: self.value,
+                count: self.count,
+            })
+        }
+    }
+}
+
+/// The value with one more digit, if that is at most `most`. Without `most` no value is asked for.
+#[inline(always)]
+fn add_if(value: u64, radix: u32, digit: u32, most: Option<u64>) -> Option<u64>
+    ensures { MatchOption result (MatchOption most ⊥ (λ m. m < value * radix + digit))
+        (λ more. IfSome most (IsMore radix value digit more)) }
+{
+    match most {
+        Some(most) => add_digit(value, radix, digit, most),
+        None => Some(value),
+    }
+}
+
+/// Whether a digit is after a position, and separators between digits are dropped.
+#[inline(always)]
+#[tactic(auto, unfolding(lexical_digits::specs::Separators::is_digit))]
+fn is_inner(text: &[u8], rule: Rule, radix: u32, at: usize) -> bool
+    requires within { at < length text.now }
+    requires radix { radix ≡ rule.radix }
+    ensures internal { result ≡ true → rule.internal ≡ true }
+    ensures within { result ≡ true → at + 1 < length text.now }
+    ensures digit { result ≡ true → is_digit rule (slice_index text.now (at + 1)) ≡ true }
+{
+    rule.internal && at + 1 < text.len() && char_is_digit_const(text[at + 1], radix)
+}
+
+/// Reads the digits of a rule from `start` on, after the value `before`, up to where they end, or
+/// up to the first with which the value is above `most`. `None` where a separator is met that isn't
+/// a lone one between two digits. Without `most` no value is asked for.
+#[inline(always)]
+pub(super) fn read_slice(
+    text: &[u8],
+    rule: Rule,
+    start: usize,
+    before: u64,
+    most: Option<u64>,
+) -> Option<ReadTo>
+    requires supported { IsSupported rule }
+    requires within { start ≤ length text.now }
+    requires fits { IfSome most (λ m. before ≤ m) }
+    ensures { IfSome result (IsOffSlice rule text.now start before most) }
+{
+    // A compiler makes code of its own for a radix that is written out.
+    if rule.radix == 10 {
+        read_radix(text, rule, 10, start, before, most)
+    } else {
+        read_radix(text, rule, rule.radix, start, before, most)
+    }
+}
+
+/// [`read_slice`], where `radix` is the rule's.
+#[inline(always)]
+#[tactic(auto, using(crate::proofs::Leads::leads))]
+fn read_radix(
+    text: &[u8],
+    rule: Rule,
+    radix: u32,
+    start: usize,
+    before: u64,
+    most: Option<u64>,
+) -> Option<ReadTo>
+    requires supported { IsSupported rule }
+    requires radix { radix ≡ rule.radix }
+    requires within { start ≤ length text.now }
+    requires fits { IfSome most (λ m. before ≤ m) }
+    ensures { IfSome result (IsOffSlice rule text.now start before most) }
+{
+    let mut value = before;
+    let mut separators = 0;
+    for at in start..text.len() {
+        let byte = text[at];
+        if let Some(digit) = char_to_digit_const(byte, radix) {
+            let Some(more) = add_if(value, radix, digit, most) else {
+                return Some(ReadTo {
+                    value,
+                    count: at - start - separators,
+                    end: at,
+                    is_too_large: true,
+                });
+            };
+            value = more;
+            continue;
+        }
+        if !rule.is_separator(byte) {
+            return Some(ReadTo {
+                value,
+                count: at - start - separators,
+                end: at,
+                is_too_large: false,
+            });
+        }
+        if at == start || !is_inner(text, rule, radix, at) {
+            return None;
+        }
+        separators += 1;
+    }
+    Some(ReadTo {
+        value,
+        count: text.len() - start - separators,
+        end: text.len(),
+        is_too_large: false,
+    })
+}
+
+/// The digit at the place of a component, if one is there.
+#[inline(always)]
+fn peek_digit_of(bytes: &mut Bytes, component: Component, radix: u32) -> Option<u32>
+    ensures digit { result
+        ≡ option_and_then (digit_of_radix radix) (byte_at_place component bytes.old.state) }
+    ensures settles { bytes.new.state ≡ settled component bytes.old.state }
+    ensures costs { Costs component bytes.old bytes.new }
+{
+    char_to_digit_const(*bytes.peek_of(component)?, radix)
+}
+
+/// Reads the digits of a component from the cursor on as [`read_slice`] does, whatever separators
+/// are met. `next_of` takes each of them.
+#[cold]
+#[inline(never)]
+#[tactic(auto, using(crate::proofs::Values::reading))]
+pub(super) fn read_counted(
+    bytes: &mut Bytes,
+    component: Component,
+    before: u64,
+    most: Option<u64>,
+) -> ReadTo
+    requires { IfSome most (λ m. before ≤ m) }
+    ensures { Passes component before most bytes.old bytes.new result }
+{
+    let radix = bytes.rule(component).radix;
+    let mut value = before;
+    let mut count = 0;
+    while let Some(digit) = peek_digit_of(bytes, component, radix) {
+        let end = bytes.cursor();
+        let Some(more) = add_if(value, radix, digit, most) else {
+            return ReadTo {
+                value,
+                count,
+                end,
+                is_too_large: true,
+            };
+        };
+        value = more;
+        // at least `count` bytes are before this one
+        prove!(count <= end);
+        bytes.next_of(component);
+        count += 1;
+    }
+    ReadTo {
+        value,
+        count,
+        end: bytes.cursor(),
+        is_too_large: false,
+    }
+}
