@@ -4,6 +4,7 @@ use Rattle.std.specs.Prelude.{if◌then◌else◌, IfSome, MatchOption}
 use Rattle.std.proofs.lemmas.Int.{ints}
 use Rattle.std.proofs.lemmas.List.{length-drop}
 use Rattle.std.proofs.lemmas.List.Filters.{length-filter_both}
+use Rattle.std.proofs.lemmas.Option.{IfSome_then}
 use Rattle.lexical_digits.specs.declared.skip.component.Component.{Component}
 use Rattle.lexical_digits.specs.declared.skip.rule.Rule.{Rule}
 use Rattle.lexical_digits.specs.Separators.{is_digit}
@@ -104,108 +105,62 @@ same_word k s t i e = rw e (grind arith)
 
 -- ---- the outcome
 
-module _ (k : Component) (before : ℕ) (a b : Held) where
-  abbrev worth_of : List ℕ → ℕ → ℕ → Type 0
-  worth_of = IsWorth (rule k a.state).radix before
-
-  digits_of : (o : Option ℕ) (value count : ℕ) → count ≡ length (leading_digits_of k a.state)
-      → IfSome o (worth_of (leading_digits_of k a.state) value)
-      → IfSome o (λ _. IsDigits k a.state before (record { value = value; count = count }))
-  digits_of None value count many w = tt
-  digits_of (Some m) value count many w = record { is = w.is; digits = many }
-
-  fits_of : (o : Option ℕ) (ds : List ℕ) (value : ℕ) → IfSome o (worth_of ds value)
-      → IfSome o (λ greatest. value ≤ greatest)
-  fits_of None ds value w = tt
-  fits_of (Some m) ds value w = w.fits
-
-  so_far_of : (o : Option ℕ) (value count end : ℕ) → count ≡ length (digits_to k a.state end)
-      → IfSome o (worth_of (digits_to k a.state end) value)
-      → IfSome o (λ _. IsReadTo k a.state before
-      (record { at = end; value = value; count = count }))
-  so_far_of None value count end many w = tt
-  so_far_of (Some m) value count end many w = record { is = w.is; digits = many }
-
-  stops_before : (o : Option ℕ) (at : ℕ) → MatchOption o ⊥ (λ greatest.
-      ExceedsAt (rule k a.state) a.state.buffer a.state.cursor (own k a.state) before greatest at)
-      → at ≤ stop_of k a.state
-  stops_before None at h = absurd h
-  stops_before (Some m) at h = omega (arith, h.before_stop)
-
-  module _ (most : Option ℕ) (value count end : ℕ) where
-    -- at the stop
-    ok : Passes k before most a b
-        (record { value = value; count = count; end = end; is_too_large = false })
-        → ReadsOn k before most a b (Ok (record { value = value; count = count }))
-    ok p =
-        let s : State = a.state in
-        let stop : end ≡ stop_of k s = p.reads.stops refl in
-        let are : digits_to k s end ≡ leading_digits_of k s =
-        ap (digits_to k s) stop ∙ sym (leading_between k s a.holds) in
-        let many : count ≡ length (leading_digits_of k s) = p.reads.digits ∙ ap length are in
-        let at_count = λ (c i : ℕ). with_cursor (with_own k s
-        (if counts k s.word then saturating (own k s) c else own k s)) i in
-        record {
-          count = many;
-          ok = digits_of most value count many
-              (subst (λ ds. IfSome most (worth_of ds value)) are p.reads.worth);
-          fits = fits_of most (digits_to k s end) value p.reads.worth;
-          passed = p.state ∙ ap (λ (ds : List ℕ). at_count (length ds) end) are
-              ∙ ap (at_count (length (leading_digits_of k s))) stop;
-          too_large = tt;
-          so_far = tt;
-          stays = tt;
-          few = omega (arith, many);
-          owes = p.owes;
-          at_least = p.at_least;
-        }
-
-    -- at a digit with which the value is too large
-    too_large : Passes k before most a b
-        (record { value = value; count = count; end = end; is_too_large = true })
-        → ReadsOn k before most a b (Err (record { at = end; value = value; count = count }))
-    too_large p =
-        let s : State = a.state in
-        let over = p.reads.exceeds refl in
-        record {
-          count = tt;
-          ok = tt;
-          fits = tt;
-          passed = tt;
-          too_large = over;
-          so_far = so_far_of most value count end p.reads.digits p.reads.worth;
-          stays = p.state;
-          few = omega (
-            arith,
-            p.reads.digits,
-            fewer_between (rule k s) s.buffer s.cursor end (stop_of k s)
-                (stops_before most end over),
-            ap length (leading_between k s a.holds),
-          );
-          owes = p.owes;
-          at_least = p.at_least;
-        }
-
-  pub reads_on : (most : Option ℕ) (read : ReadTo) → Passes k before most a b read
-      → ReadsOn k before most a b (outcome read)
-  reads_on most read p = by_flag read.is_too_large refl
+module _ (k : Component) (before : ℕ) (most : Option ℕ) (a b : Held) (value count end : ℕ) where
+  -- at the stop, or at a digit with which the value is too large
+  pub reads_on : (large : Bool) → Passes k before most a b
+      (record { value = value; count = count; end = end; is_too_large = large })
+      → ReadsOn k before most a b
+      (outcome (record { value = value; count = count; end = end; is_too_large = large }))
+  reads_on false p =
+      let s : State = a.state in
+      let stop : end ≡ stop_of k s = p.reads.stops refl in
+      let are : digits_to k s end ≡ leading_digits_of k s =
+      ap (digits_to k s) stop ∙ sym (leading_between k s a.holds) in
+      let many : count ≡ length (leading_digits_of k s) = p.reads.digits ∙ ap length are in
+      let at_count = λ (c i : ℕ). with_cursor (with_own k s
+      (if counts k s.word then saturating (own k s) c else own k s)) i in
+      let worth = subst (λ ds. IfSome most (IsWorth (rule k s).radix before ds value)) are
+      p.reads.worth in
+      record {
+        count = many;
+        ok = IfSome_then most worth (λ _ w. record { is = w.is; digits = many });
+        fits = IfSome_then most worth (λ _ w. w.fits);
+        passed = p.state ∙ ap (λ (ds : List ℕ). at_count (length ds) end) are
+            ∙ ap (at_count (length (leading_digits_of k s))) stop;
+        too_large = tt;
+        so_far = tt;
+        stays = tt;
+        few = omega (arith, many);
+        owes = p.owes;
+        at_least = p.at_least;
+      }
+  reads_on true p =
+      let s : State = a.state in
+      let over = p.reads.exceeds refl in
+      record {
+        count = tt;
+        ok = tt;
+        fits = tt;
+        passed = tt;
+        too_large = over;
+        so_far = IfSome_then most p.reads.worth
+            (λ _ w. record { is = w.is; digits = p.reads.digits });
+        stays = p.state;
+        few = omega (
+          arith,
+          p.reads.digits,
+          fewer_between (rule k s) s.buffer s.cursor end (stop_of k s) (before_stop most over),
+          ap length (leading_between k s a.holds),
+        );
+        owes = p.owes;
+        at_least = p.at_least;
+      }
     where
-      by_flag : (large : Bool) → read.is_too_large ≡ large
-          → ReadsOn k before most a b (outcome read)
-      by_flag true e = rw e (too_large most read.value read.count read.end
-          (subst (λ flag. Passes k before most a b (record {
-            value = read.value;
-            count = read.count;
-            end = read.end;
-            is_too_large = flag;
-          })) e p))
-      by_flag false e = rw e (ok most read.value read.count read.end
-          (subst (λ flag. Passes k before most a b (record {
-            value = read.value;
-            count = read.count;
-            end = read.end;
-            is_too_large = flag;
-          })) e p))
+      before_stop : (o : Option ℕ) → MatchOption o ⊥ (λ greatest. ExceedsAt (rule k a.state)
+          a.state.buffer a.state.cursor (own k a.state) before greatest end)
+          → end ≤ stop_of k a.state
+      before_stop None h = absurd h
+      before_stop (Some greatest) h = omega (arith, h.before_stop)
 
 -- the outcome where no value is asked for
 pub never_large : (k : Component) (before : ℕ) (a b : Held) (error : TooLarge)

@@ -1,11 +1,16 @@
 -- The positions that `read_integer` answers are within the text. `positions_within` is for callers.
-use Rattle.std.proofs.Common.{◌≡◌, ◌≢◌, ℕ, ◌<◌, ◌≤◌, true, false, List, [], ◌∷◌, length, Option, Some, None, refl, sym, ◌∙◌, arith}
-use Rattle.std.specs.Prelude.{IfSome}
+use Rattle.std.proofs.Common.{◌≡◌, ℕ, ◌<◌, ◌≤◌, Bool, true, false, List, [], ◌∷◌, length, Option, Some, None, Ok, Err, refl, sym, ◌∙◌, arith, inl, inr}
+use Rattle.std.specs.Prelude.{◌==◌, IfSome, IfOk}
+use Rattle.std.proofs.lemmas.Bool.{cases_Bool}
+use Rattle.std.proofs.lemmas.Bool.Decides.{nat_tests}
+use Rattle.std.specs.declared.result.Result.{Result}
 use Rattle.lexical_digits.specs.declared.skip.rule.Rule.{Rule}
 use Rattle.lexical_digits.proofs.Calls.FirstOther.{stop_is_first}
-use Rattle.digit_literals.specs.After.{digits_between}
 use Rattle.digit_literals.specs.Reads.{ReadsTo}
-use Rattle.digit_literals.specs.Integers.{IsInteger, HasNoDigit, IsTooLarge, IsIntegerFrom, HasNoDigitFrom, IsTooLargeFrom}
+use Rattle.digit_literals.specs.Integers.{IsInteger, HasNoDigit, IsTooLarge, ReadsFrom, integer_of}
+use Rattle.digit_literals.specs.Outcomes.{IfEmpty, IfOverflow}
+use Rattle.digit_literals.specs.declared.LiteralError.{LiteralError}
+use Rattle.digit_literals.specs.declared.LiteralError.TheVariants.{Empty}
 use Rattle.digit_literals.specs.declared.slice.ReadTo.{ReadTo}
 
 pub integer_within : (rule : Rule) (text : List ℕ) (value end : ℕ) →
@@ -32,35 +37,71 @@ pub any_fits : (most : Option ℕ) → IfSome most (λ greatest. 0 ≤ greatest)
 any_fits None = tt
 any_fits (Some greatest) = omega arith
 
-module _ (rule : Rule) (text : List ℕ) (start most : ℕ) (read : ReadTo)
-    (h : ReadsTo rule text start 0 (Some most) read 0) where
-  pub is_integer : read.is_too_large ≡ false → read.count ≢ 0
-      → IsIntegerFrom rule text start most read.value read.end
-  is_integer e some = record {
-    ends = h.stops e;
-    some = omega (arith, some, h.digits);
-    is = h.worth.is;
-    fits = h.worth.fits;
+module _ (rule : Rule) (text : List ℕ) (start most : ℕ) (l : start ≤ length text) where
+  -- what `read_integer_from` promises
+  abbrev pub Answers : Result (ℕ × ℕ) LiteralError → Type 0
+  Answers result = record {
+    reads : ReadsFrom rule text start most result;
+    end : IfOk result (λ read. (start ≤ read.1) × (read.1 ≤ length text));
+    empty_at : IfEmpty result (λ at. (start ≤ at) × (at ≤ length text));
+    overflow_at : IfOverflow result (λ at. (start ≤ at) × (at < length text));
   }
 
-  pub has_no_digit : read.is_too_large ≡ false → read.count ≡ 0
-      → HasNoDigitFrom rule text start read.end
-  has_no_digit e none = record {
-    stops = h.stops e;
-    none = empty (digits_between rule text start read.end) (sym h.digits ∙ none);
-  }
-    where
-      empty : (xs : List ℕ) → length xs ≡ 0 → xs ≡ []
-      empty [] e = refl
-      empty (x ∷ xs) e = cc
+  module _ (value count end : ℕ) where
+    abbrev read_to : Bool → ReadTo
+    read_to large = record { value = value; count = count; end = end; is_too_large = large }
 
-  pub is_too_large : read.is_too_large ≡ true → IsTooLargeFrom rule text start most read.end
-  is_too_large e = h.exceeds e
+    too_large : ReadsTo rule text start 0 (Some most) (read_to true) 0
+        → Answers (integer_of (read_to true))
+    too_large h =
+        let over = h.exceeds refl in
+        let first = stop_is_first rule text start 0 l in
+        record {
+          reads = record { ok = tt; empty = tt; overflow = over };
+          end = tt;
+          empty_at = tt;
+          overflow_at = (h.onward, omega (arith, over.before_stop, first.within));
+        }
 
-  pub stops_before_end : read.is_too_large ≡ true → start ≤ length text
-      → read.end < length text
-  stops_before_end e l = omega (
-    arith,
-    (h.exceeds e).before_stop,
-    (stop_is_first rule text start 0 l).within,
-  )
+    none : count ≡ 0 → ReadsTo rule text start 0 (Some most) (read_to false) 0
+        → Answers (Err (Empty end))
+    none e h = record {
+      reads = record {
+        ok = tt;
+        empty = record { stops = h.stops refl; none = empty _ (sym h.digits ∙ e) };
+        overflow = tt;
+      };
+      end = tt;
+      empty_at = (h.onward, h.within);
+      overflow_at = tt;
+    }
+      where
+        empty : (xs : List ℕ) → length xs ≡ 0 → xs ≡ []
+        empty [] e = refl
+        empty (x ∷ xs) e = cc
+
+    some : 0 < count → ReadsTo rule text start 0 (Some most) (read_to false) 0
+        → Answers (Ok (value, end))
+    some e h = record {
+      reads = record {
+        ok = record {
+          ends = h.stops refl;
+          some = omega (arith, e, h.digits);
+          is = h.worth.is;
+          fits = h.worth.fits;
+        };
+        empty = tt;
+        overflow = tt;
+      };
+      end = (h.onward, h.within);
+      empty_at = tt;
+      overflow_at = tt;
+    }
+
+    pub answers : (large : Bool) → ReadsTo rule text start 0 (Some most) (read_to large) 0
+        → Answers (integer_of (read_to large))
+    answers true h = too_large h
+    answers false h = elim (cases_Bool (count == 0)) [
+      | inl e ↦ rw e (none (grind (arith, nat_tests)) h)
+      | inr e ↦ rw e (some (grind (arith, nat_tests)) h)
+    ]

@@ -1,14 +1,14 @@
 //! The integer that a text begins with, and how many digits it has. No `Bytes` is made where the
 //! slice is enough.
 
-ghost use Rattle.std.specs.Prelude.{◌≡◌, ◌-◌, ◌<◌, ◌≤◌, length, filter, IfOk, IfErr, IsTrue};
+ghost use Rattle.std.specs.Prelude.{◌≡◌, ◌-◌, ◌<◌, ◌≤◌, None, length, filter, IfOk, IfErr, IsTrue};
 ghost use Rattle.lexical_format.specs.Word.{is_supported};
 ghost use Rattle.lexical_digits.specs.declared.skip.component.Component.TheVariants.{Integer};
 ghost use Rattle.lexical_digits.specs.Separators.{is_digit};
 ghost use Rattle.lexical_digits.specs.State.{rule_of};
 ghost use Rattle.lexical_digits.specs.Stop.{stop};
 ghost use Rattle.digit_literals.specs.Outcomes.{IfEmpty, IfOverflow};
-ghost use Rattle.digit_literals.specs.Integers.{IsInteger, HasNoDigit, IsTooLarge, ReadsFrom};
+ghost use Rattle.digit_literals.specs.Integers.{IsInteger, HasNoDigit, IsTooLarge, ReadsFrom, integer_of};
 ghost use Rattle.digit_literals.specs.Reads.{ReadsTo};
 
 use super::LiteralError;
@@ -68,14 +68,25 @@ pub fn read_integer_from(
     ensures overflow_at { let n = length text.now in
         IfOverflow result (λ at. (start ≤ at) × (at < n)) }
 {
-    let read = read_text(text, word, start, Some(most));
+    let rule = Rule::of(word, Component::Integer);
+    match read_slice(text, rule, start, 0, Some(most)) {
+        Some(read) => integer_of(read),
+        None => integer_of(read_fresh(text, word, start, Some(most))),
+    }
+}
+
+/// The value of the digits that were read and where they end, or why there is none.
+#[inline(always)]
+fn integer_of(read: ReadTo) -> Result<(u64, usize), LiteralError>
+    ensures { result ≡ integer_of read }
+{
     if read.is_too_large {
-        return Err(LiteralError::Overflow(read.end));
+        Err(LiteralError::Overflow(read.end))
+    } else if read.count == 0 {
+        Err(LiteralError::Empty(read.end))
+    } else {
+        Ok((read.value, read.end))
     }
-    if read.count == 0 {
-        return Err(LiteralError::Empty(read.end));
-    }
-    Ok((read.value, read.end))
 }
 
 /// How many digits a text has, if its integer goes on to its end: every byte is a digit of the
@@ -95,7 +106,7 @@ pub fn count_digits(text: &[u8], word: u128) -> Result<usize, usize>
     ensures stops { IfErr result (λ at. at ≡ stop (rule_of word Integer) text.now 0 0) }
     ensures within { IfErr result (λ at. at < length text.now) }
 {
-    let read = read_text(text, word, 0, None);
+    let read = count_text(text, word);
     if read.end == text.len() {
         Ok(read.count)
     } else {
@@ -103,22 +114,21 @@ pub fn count_digits(text: &[u8], word: u128) -> Result<usize, usize>
     }
 }
 
-/// Reads the digits of the integer from `start` on, up to a greatest value if one is asked for. A
-/// text with another separator than lone ones between two digits is read again from the start.
+/// The digits of the integer that a text begins with, off the slice or else by a `Bytes`. No value
+/// is asked for.
 #[inline(always)]
-#[tactic(auto, using(crate::proofs::Within::any_fits))]
-fn read_text(text: &[u8], word: u128, start: usize, most: Option<u64>) -> ReadTo
-    requires supported { IsTrue (is_supported word) }
-    requires within { start ≤ length text.now }
-    ensures { ReadsTo (rule_of word Integer) text.now start 0 most result 0 }
+fn count_text(text: &[u8], word: u128) -> ReadTo
+    requires { IsTrue (is_supported word) }
+    ensures { ReadsTo (rule_of word Integer) text.now 0 0 None result 0 }
 {
-    match read_slice(text, Rule::of(word, Component::Integer), start, 0, most) {
+    match read_slice(text, Rule::of(word, Component::Integer), 0, 0, None) {
         Some(read) => read,
-        None => read_fresh(text, word, start, most),
+        None => read_fresh(text, word, 0, None),
     }
 }
 
-/// [`read_text`] by a fresh `Bytes`.
+/// Reads the digits of the integer from `start` on by a `Bytes`, whatever separators are met: up to
+/// a greatest value if one is asked for.
 #[cold]
 #[inline(never)]
 #[tactic(auto, using(crate::proofs::Within::any_fits))]

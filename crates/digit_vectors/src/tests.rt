@@ -18,6 +18,7 @@ mod literals;
 mod loans;
 mod looks;
 mod parsing;
+mod passing;
 mod plain;
 mod plain_rows;
 mod radixes;

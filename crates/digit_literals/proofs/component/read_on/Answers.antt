@@ -13,8 +13,8 @@ pub returns-in-Some : goal.returns-in-Some
 returns-in-Some c =
     let off = rw (c.rule-rule.ensures.value, c.get_buffer-text.ensures, c.cursor.ensures.value)
     at c.in-Some.ensures in
-    rw c.outcome.ensures (reads_on c.args.component c.args.before c.args.bytes.now
-    c.pass_read.new.self c.args.most c.in-Some.read
+    rw c.outcome.ensures (reads_on c.args.component c.args.before c.args.most c.args.bytes.now
+    c.pass_read.new.self _ _ _ c.in-Some.read.is_too_large
     (passes_slice c.args.component c.args.before c.args.most c.args.bytes.now c.pass_read.new.self
     c.in-Some.read off c.pass_read.ensures.state c.pass_read.ensures.looks
     c.pass_read.ensures.owes))
@@ -34,8 +34,8 @@ go_on_from-requires-clause-word c =
 pub returns : goal.returns
 returns c =
     let copy : IsCopy c.args.bytes.now c.unwrap-copy.result = search rules in
-    rw c.outcome-2.ensures (reads_on c.args.component c.args.before c.args.bytes.now
-    c.go_on_from.new.self c.args.most c.read_counted-read.result
+    rw c.outcome-2.ensures (reads_on c.args.component c.args.before c.args.most c.args.bytes.now
+    c.go_on_from.new.self _ _ _ c.read_counted-read.result.is_too_large
     (passes_copy c.args.component c.args.before c.args.most c.args.bytes.now c.unwrap-copy.result
     c.read_counted-read.new.bytes c.go_on_from.new.self c.read_counted-read.result copy
     c.read_counted-read.ensures c.go_on_from.ensures))

@@ -1,48 +1,23 @@
-use Rattle.digit_literals.proofs.Within.{is_integer, has_no_digit, is_too_large, stops_before_end}
+use Rattle.lexical_digits.specs.declared.skip.component.Component.TheVariants.{Integer}
+use Rattle.lexical_digits.specs.State.{rule_of}
+use Rattle.lexical_digits.proofs.Rule.Supported.{supported_by}
+use Rattle.digit_literals.proofs.Within.{answers}
 use Rattle.digit_literals.proofs.integer.read_integer_from.Goals as goal
 
-pub returns-then-read : goal.returns-then-read
-returns-then-read c =
-    let read = c.read_text-read.ensures in
-    record {
-      reads = record {
-        ok = tt;
-        empty = tt;
-        overflow = is_too_large _ _ _ _ _ read c.if-read.true;
-      };
-      end = tt;
-      empty_at = tt;
-      overflow_at = (
-        read.onward,
-        stops_before_end _ _ _ _ _ read c.if-read.true
-            c.requires.within,
-      );
-    }
+pub read_slice-requires-clause-supported : goal.read_slice-requires-clause-supported
+read_slice-requires-clause-supported c =
+    supported_by _ c.args.word Integer c.of-rule.ensures c.requires.supported
 
-pub returns-then-read-eq0 : goal.returns-then-read-eq0
-returns-then-read-eq0 c =
-    let read = c.read_text-read.ensures in
-    record {
-      reads = record {
-        ok = tt;
-        empty = has_no_digit _ _ _ _ _ read c.if-read.false c.if-read-eq0.true;
-        overflow = tt;
-      };
-      end = tt;
-      empty_at = (read.onward, read.within);
-      overflow_at = tt;
-    }
+pub returns-in-Some : goal.returns-in-Some
+returns-in-Some c =
+    let read = c.in-Some.read in
+    rw c.integer_of.ensures (answers (rule_of c.args.word Integer) c.args.text.now c.args.start
+    c.args.most c.requires.within read.value read.count read.end read.is_too_large
+    ((rw c.of-rule.ensures at c.in-Some.ensures).reads 0))
 
-pub returns : goal.returns
-returns c =
-    let read = c.read_text-read.ensures in
-    record {
-      reads = record {
-        ok = is_integer _ _ _ _ _ read c.if-read.false c.if-read-eq0.false;
-        empty = tt;
-        overflow = tt;
-      };
-      end = (read.onward, read.within);
-      empty_at = tt;
-      overflow_at = tt;
-    }
+pub returns-in-None : goal.returns-in-None
+returns-in-None c =
+    let read = c.read_fresh.result in
+    rw c.integer_of-in-None.ensures (answers (rule_of c.args.word Integer) c.args.text.now
+    c.args.start c.args.most c.requires.within read.value read.count read.end read.is_too_large
+    c.read_fresh.ensures)

@@ -1,0 +1,156 @@
+//! Digits of a component that are read or passed, and what the calls leave of the `Bytes`.
+
+use super::{CONSECUTIVE, INTERNAL, LEADING, TRAILING, UNFLAGGED, bytes_of};
+use digit_literals::{
+    Digits, LiteralError, TooLarge, count_digits, pass_digits, read_digits_up_to, read_integer_from,
+};
+use lexical_digits::iterator::Iter;
+use lexical_digits::skip::Bytes;
+use lexical_digits::skip::Component::{Integer, Special};
+use lexical_format::{SPECIAL_DIGIT_SEPARATOR, is_supported};
+use std::process::Abort;
+
+/// Flags and a text, how many digits of the integer are passed, and then the cursor, the integer's
+/// own count, and the looks.
+type Passed = (u128, &'static [u8], usize, usize, usize, u64);
+
+/// Two looks for each byte that is passed off the slice. Where a separator isn't a lone one between
+/// two digits, each digit takes a `peek` and a `next`, and a separator asks the decision.
+static PASSED: [Passed; 9] = [
+    (INTERNAL, b"", 0, 0, 0, 0),
+    (INTERNAL, b"x", 0, 0, 0, 0),
+    (INTERNAL, b"1_2.5", 2, 3, 2, 6),
+    (0, b"123", 3, 3, 0, 6),
+    (INTERNAL, b"___", 0, 0, 0, 3),
+    (LEADING, b"_1", 1, 2, 1, 5),
+    (TRAILING, b"1_", 1, 2, 1, 4),
+    (INTERNAL, b"1_", 1, 1, 1, 5),
+    (INTERNAL, b"1__2", 1, 1, 1, 7),
+];
+
+/// The three of them after a call.
+fn is_left(bytes: &Bytes, cursor: usize, count: usize, looks: u64) -> bool {
+    bytes.cursor() == cursor && bytes.current_count_of(Integer) == count && bytes.looks() == looks
+}
+
+#[test]
+fn digits_that_are_passed_are_counted_and_looked_at(rt: HostRuntime) {
+    for &(flags, text, digits, cursor, count, looks) in &PASSED {
+        let mut bytes = bytes_of(&rt, text, UNFLAGGED | flags);
+        assert!(rt; pass_digits(&mut bytes, Integer) == digits, "{text:?}");
+        assert!(rt; is_left(&bytes, cursor, count, looks), "{text:?}");
+    }
+}
+
+/// The greatest `u64` in radix 2, and with one digit more.
+const ONES: &[u8] = b"1111111111111111111111111111111111111111111111111111111111111111";
+
+const ONES_AND_ZERO: &[u8] = b"11111111111111111111111111111111111111111111111111111111111111110";
+
+/// Rows that read all digits: radix, text, greatest value, value and count.
+static READ: [(u128, &[u8], u64, u64, usize); 6] = [
+    (10, b"", 0, 0, 0),
+    (10, b"0_0", 0, 0, 2),
+    (10, b"1_2", 12, 12, 2),
+    (10, b"18446744073709551615", u64::MAX, u64::MAX, 20),
+    (2, ONES, u64::MAX, u64::MAX, 64),
+    (36, b"3w5e11264sgsf", u64::MAX, u64::MAX, 13),
+];
+
+/// Rows with a digit that is too large: radix, text, greatest value, position, value and count.
+static TOO_LARGE: [(u128, &[u8], u64, usize, u64, usize); 8] = [
+    (10, b"12", 0, 0, 0, 0),
+    (10, b"12", 1, 1, 1, 1),
+    (10, b"1_2", 11, 2, 1, 1),
+    (10, b"18446744073709551616", u64::MAX, 19, 1844674407370955161, 19),
+    (10, b"1844674407370955161_6", u64::MAX, 20, 1844674407370955161, 19),
+    (2, ONES_AND_ZERO, u64::MAX, 64, u64::MAX, 64),
+    (36, b"3W5E11264SGSG", u64::MAX, 12, 512409557603043100, 12),
+    (36, b"zz", 1294, 1, 35, 1),
+];
+
+/// Reads the integer's digits after 0 up to a greatest value, where `_` may be between digits. The
+/// cursor is then here, after two looks at each byte.
+fn assert_read(
+    rt: &impl Abort,
+    radix: u128,
+    text: &[u8],
+    most: u64,
+    read: Result<Digits, TooLarge>,
+    cursor: usize,
+) {
+    let mut bytes = bytes_of(rt, text, (radix << 104) | (0x5f << 64) | INTERNAL);
+    assert!(rt; read_digits_up_to(&mut bytes, Integer, 0, most) == read, "{text:?}");
+    assert!(rt; bytes.cursor() == cursor && bytes.looks() == 2 * cursor as u64, "{text:?}");
+}
+
+#[test]
+fn digits_are_read_up_to_the_greatest_value_and_no_further(rt: HostRuntime) {
+    for &(radix, text, most, value, count) in &READ {
+        assert_read(&rt, radix, text, most, Ok(Digits { value, count }), text.len());
+    }
+    for &(radix, text, most, at, value, count) in &TOO_LARGE {
+        assert_read(&rt, radix, text, most, Err(TooLarge { at, value, count }), at);
+    }
+}
+
+#[test]
+fn special_counts_no_digit(rt: HostRuntime) {
+    let word = UNFLAGGED | INTERNAL | SPECIAL_DIGIT_SEPARATOR;
+    for text in [b"1_2".as_slice(), b"_1__2_".as_slice()] {
+        let mut bytes = bytes_of(&rt, text, word);
+        assert!(rt; pass_digits(&mut bytes, Special) == 2, "{text:?}");
+        assert!(rt; bytes.cursor() == text.len() && bytes.current_count_of(Integer) == 0);
+    }
+}
+
+#[test]
+fn a_count_stops_at_the_greatest_number(rt: HostRuntime) {
+    for (flags, text) in [(INTERNAL, b"12".as_slice()), (INTERNAL, b"_12".as_slice())] {
+        let mut bytes = bytes_of(&rt, text, UNFLAGGED | flags);
+        bytes.increment_count_of(Integer, usize::MAX);
+        assert!(rt; pass_digits(&mut bytes, Integer) == 2, "{text:?}");
+        assert!(rt; bytes.cursor() == text.len());
+        assert!(rt; bytes.current_count_of(Integer) == usize::MAX);
+    }
+}
+
+/// A run of separators.
+static RUN: [u8; 100_000] = [b'_'; 100_000];
+
+#[test]
+fn a_long_run_is_passed_at_once_or_ends_the_digits(rt: HostRuntime) {
+    let all = INTERNAL | LEADING | TRAILING | CONSECUTIVE;
+    for (flags, cursor, looks) in [(INTERNAL, 0, 3), (all, 100_000, 100_002)] {
+        let mut bytes = bytes_of(&rt, &RUN, UNFLAGGED | flags);
+        assert!(rt; pass_digits(&mut bytes, Integer) == 0);
+        assert!(rt; bytes.cursor() == cursor && bytes.looks() <= looks, "{}", bytes.looks());
+    }
+    assert!(rt; is_supported(UNFLAGGED | all));
+    assert!(rt; count_digits(&RUN, UNFLAGGED | all) == Ok(0));
+    let read = read_integer_from(&RUN, UNFLAGGED | all, 50_000, 0);
+    assert!(rt; read == Err(LiteralError::Empty(100_000)));
+}
+
+/// Reads the integer that begins at a position, up to a greatest value, under `_` between digits.
+fn assert_from(
+    rt: &impl Abort,
+    text: &[u8],
+    start: usize,
+    most: u64,
+    read: Result<(u64, usize), LiteralError>,
+) {
+    assert!(rt; is_supported(UNFLAGGED | INTERNAL) && start <= text.len());
+    assert!(rt; read_integer_from(text, UNFLAGGED | INTERNAL, start, most) == read, "{text:?}");
+}
+
+#[test]
+fn an_integer_from_a_position_has_an_answer_at_each_edge(rt: HostRuntime) {
+    assert_from(&rt, b"", 0, 0, Err(LiteralError::Empty(0)));
+    assert_from(&rt, b"12", 2, 0, Err(LiteralError::Empty(2)));
+    assert_from(&rt, b"___", 1, 9, Err(LiteralError::Empty(1)));
+    assert_from(&rt, b"x0_0_", 1, 0, Ok((0, 4)));
+    assert_from(&rt, b"x1_2", 1, 0, Err(LiteralError::Overflow(1)));
+    assert_from(&rt, b"x1_2", 1, 11, Err(LiteralError::Overflow(3)));
+    assert_from(&rt, b"1__2", 0, 12, Ok((1, 1)));
+}
