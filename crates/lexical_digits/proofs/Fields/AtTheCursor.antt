@@ -162,3 +162,33 @@ module _ (k : Component) (a m : Held) (item : Bor ℕ) (peeks : PeeksOf k a m (S
 
 -- and found none
 pub ruleset finds_none = (takes_none, costs_then)
+
+-- ---- a read from m, before which only the reader changed
+
+module _ (k : Component) (a m b : Held) (same : m.state ≡ a.state) (no_looks : NoLooks a m) where
+  costs_switched : Costs k m b → Costs k a b
+  costs_switched costs = record {
+    owes = rw (← same, ← no_looks.run, ← no_looks.looks) costs.owes;
+    at_least = rw (← same, ← no_looks.run, ← no_looks.looks) costs.at_least;
+    at_most = rw (← same, ← no_looks.run, ← no_looks.looks) costs.at_most;
+    unscanned = rw (← same, ← no_looks.run) costs.unscanned;
+    scanned = rw (← same, ← no_looks.run) costs.scanned;
+    needed = rw (← same, ← no_looks.run) costs.needed;
+    allowed = rw (← same, ← no_looks.run) costs.allowed;
+    without_separator = rw (← same, ← no_looks.looks) costs.without_separator;
+  }
+
+  pub peeks_switched : (answer : Option ℕ) → PeeksOf k m b answer → PeeksOf k a b answer
+  peeks_switched answer peeks = record {
+    byte = rw (← same) peeks.byte;
+    settles = rw (← same) peeks.settles;
+    costs = costs_switched peeks.costs;
+  }
+
+  pub nexts_switched : (result : Option (Bor ℕ)) → NextsOf k m b result → NextsOf k a b result
+  nexts_switched result nexts = record {
+    takes = rw (← same) nexts.takes;
+    costs = costs_switched nexts.costs;
+  }
+
+pub ruleset after_switch = (peeks_switched, nexts_switched)

@@ -1,17 +1,19 @@
 //! How a `Bytes` reads: the one place where word, cursor, shortcuts, run and decision meet.
 //!
-//! `peek_of` and `next_of` try the same cases in the same order. Each case ends the read.
+//! A peek and a next try the same cases in the same order. Each case ends the read.
 //!
-//! | Case | `peek_of` | `next_of` |
+//! | Case | a peek | a next |
 //! |---|---|---|
 //! | no component has a flag | one look | passes the byte: two looks |
-//! | another component read before | asks the decision | the same |
+//! | another component reads | starts to read, and asks the decision | the same |
 //! | a direct byte: a digit, or any byte without flags | one look | passes a digit: two looks |
 //! | a lone separator between a counted digit and a digit | two looks | passes both: four looks |
 //! | neither digit nor separator | one look | passes it uncounted: two looks |
 //! | any other separator | asks the decision | the same |
 //!
-//! The decision counts the looks that it takes, by its source. It has the only loop over bytes.
+//! `peek_of` and `next_of` let their component read first, so the second case is left to the
+//! iterators, which call `peek_by` and `next_by`. The decision counts the looks that it takes, by
+//! its source. It has the only loop over bytes.
 //! At the end of the buffer a read answers `None` and counts nothing.
 
 ghost use Rattle.std.specs.Prelude.{◌≡◌, ℕ, ◌+◌, ◌<◌, ◌≤◌, length, Some, option_copied, nat_lt, not, true, IfSome, slice_get};
@@ -93,12 +95,35 @@ impl<'a> Bytes<'a> {
     /// The next byte that a component keeps. The cursor moves to that byte. This is `peek` of the
     /// component's iterator.
     #[inline(always)]
+    #[tactic(auto, using(crate::proofs::Fields::AtTheCursor::after_switch))]
     pub fn peek_of(&mut self, component: Component) -> Option<&'a u8>
         ensures { PeeksOf component self.old self.new (option_copied result) }
     {
         if self.has_no_flags {
             return self.peek_unflagged(component);
         }
+        self.read_as(component);
+        self.peek_flagged(component)
+    }
+
+    /// What `peek_of` answers. It is for the iterators, whose component reads from where they are
+    /// made: one that doesn't read yet asks the decision, even at a digit.
+    #[inline(always)]
+    pub(crate) fn peek_by(&mut self, component: Component) -> Option<&'a u8>
+        ensures { PeeksOf component self.old self.new (option_copied result) }
+    {
+        if self.has_no_flags {
+            return self.peek_unflagged(component);
+        }
+        self.peek_flagged(component)
+    }
+
+    /// The next byte that a component keeps, where any component may have a flag. The cursor moves to
+    /// that byte.
+    #[inline(always)]
+    fn peek_flagged(&mut self, component: Component) -> Option<&'a u8>
+        ensures { PeeksOf component self.old self.new (option_copied result) }
+    {
         if !self.tally.is_reader(component) {
             let rule = self.switch_reader(component);
             return self.peek_decided(component, rule, false);
@@ -125,12 +150,35 @@ impl<'a> Bytes<'a> {
     /// counts it if it is a digit. This is `next` of the component's iterator. A loop over
     /// `next_of` works on a `Bytes` that is a local variable or a field.
     #[inline(always)]
+    #[tactic(auto, using(crate::proofs::Fields::AtTheCursor::after_switch))]
     pub fn next_of(&mut self, component: Component) -> Option<&'a u8>
         ensures { NextsOf component self.old self.new result }
     {
         if self.has_no_flags {
             return self.next_unflagged(component);
         }
+        self.read_as(component);
+        self.next_flagged(component)
+    }
+
+    /// What `next_of` answers. It is for the iterators, whose component reads from where they are
+    /// made: one that doesn't read yet asks the decision, even at a digit.
+    #[inline(always)]
+    pub(crate) fn next_by(&mut self, component: Component) -> Option<&'a u8>
+        ensures { NextsOf component self.old self.new result }
+    {
+        if self.has_no_flags {
+            return self.next_unflagged(component);
+        }
+        self.next_flagged(component)
+    }
+
+    /// The next byte that a component keeps, where any component may have a flag. The cursor moves
+    /// past that byte, and the component counts it if it is a digit.
+    #[inline(always)]
+    fn next_flagged(&mut self, component: Component) -> Option<&'a u8>
+        ensures { NextsOf component self.old self.new result }
+    {
         if !self.tally.is_reader(component) {
             let rule = self.switch_reader(component);
             return self.next_decided(component, rule, false);

@@ -4,7 +4,7 @@ use Rattle.lexical_digits.proofs.Fields.CarriedByCursor.{state_passed, state_mov
 use Rattle.lexical_digits.proofs.Fields.DirectBytes.{rule_by, direct_by, counts_by, other_by}
 use Rattle.lexical_digits.proofs.Fields.AtTheCursor.{here_byte, here_direct, direct_counts, yields_by, yields_end}
 use Rattle.lexical_digits.proofs.Fields.InnerSeparator.{over_by, yields_over, follows_by}
-use Rattle.lexical_digits.proofs.skip.bytes.Bytes.next_of.Goals as goal
+use Rattle.lexical_digits.proofs.skip.bytes.Bytes.next_flagged.Goals as goal
 
 pub returns-in_err-byte : goal.returns-in_err-byte
 returns-in_err-byte c = rw (sym c.self.view_is)

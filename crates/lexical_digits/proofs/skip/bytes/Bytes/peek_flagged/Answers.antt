@@ -4,7 +4,7 @@ use Rattle.lexical_digits.proofs.Fields.CarriedByCursor.{state_moved, carried}
 use Rattle.lexical_digits.proofs.Fields.DirectBytes.{rule_by, direct_by, other_by}
 use Rattle.lexical_digits.proofs.Fields.AtTheCursor.{here_byte, here_direct, peeks_at, peeks_end}
 use Rattle.lexical_digits.proofs.Fields.InnerSeparator.{over_by, peeks_over, follows_by}
-use Rattle.lexical_digits.proofs.skip.bytes.Bytes.peek_of.Goals as goal
+use Rattle.lexical_digits.proofs.skip.bytes.Bytes.peek_flagged.Goals as goal
 
 pub returns-in_err-byte : goal.returns-in_err-byte
 returns-in_err-byte c = rw (sym c.self.view_is, c.from_residual.ensures)
