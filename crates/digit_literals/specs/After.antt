@@ -31,6 +31,7 @@ module _ (rule : Rule) (text : List ℕ) (start : ℕ) where
 -- ---- of a component, from the cursor of a state on
 
 module _ (k : Component) (s : State) where
+  -- the digits of a component from the cursor up to a position
   abbrev pub digits_to : ℕ → List ℕ
   digits_to end = digits_between (rule k s) s.buffer s.cursor end
 

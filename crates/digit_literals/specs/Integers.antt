@@ -49,11 +49,14 @@ module _ (rule : Rule) (text : List ℕ) where
   abbrev pub digits_before : ℕ → List ℕ
   digits_before at = digits_between rule text 0 at
 
+  -- there are digits before `end`, which is the stop, and their value is at most `u64::MAX`
   abbrev pub IsInteger : ℕ → ℕ → Type 0
   IsInteger value end = IsIntegerFrom rule text 0 (2 ^ 64 - 1) value end
 
+  -- no digit is before the stop, which is at this position
   abbrev pub HasNoDigit : ℕ → Type 0
   HasNoDigit at = HasNoDigitFrom rule text 0 at
 
+  -- the digit at this position is the first with which the value is above `u64::MAX`
   abbrev pub IsTooLarge : ℕ → Type 0
   IsTooLarge at = IsTooLargeFrom rule text 0 (2 ^ 64 - 1) at

@@ -18,6 +18,7 @@ module _ (rule : Rule) (text : List ℕ) (start most : ℕ) where
     pub stops : at ≡ stop rule text start 0
     pub fits : digits_value rule.radix (digits_between rule text start at) ≤ most
 
+  -- the first fault of a text that is no integer from a start on up to its end
   abbrev pub IsFaultFrom : ParseError → Type 0
   IsFaultFrom (Empty at) = (at ≡ length text) × HasNoDigitFrom rule text start at
   IsFaultFrom (Invalid at) = IsStray at
@@ -46,6 +47,7 @@ position (Overflow at) = at
 abbrev pub begins_with : List ℕ → ℕ → Bool
 begins_with text byte = holds_of (λ first. first == byte) (slice_get text 0)
 
+-- whether a text begins with a `-`
 abbrev pub is_negative : List ℕ → Bool
 is_negative text = begins_with text 45
 
@@ -57,6 +59,7 @@ sign_length text = if is_negative text || begins_with text 43 then 1 else 0
 abbrev pub most_magnitude : Bool → ℕ
 most_magnitude negative = if negative then 2 ^ 63 else 2 ^ 63 - 1
 
+-- a magnitude with its sign
 abbrev pub signed : Bool → ℕ → ℤ
 signed negative magnitude = if negative then neg_ℤ (pos magnitude) else pos magnitude
 
@@ -67,6 +70,7 @@ pub record IsSigned (rule : Rule) (text : List ℕ) (value : ℤ) : Type 0 where
       magnitude (length text)
   pub is : value ≡ signed (is_negative text) magnitude
 
+-- the first fault of a text that is no integer after an optional sign
 abbrev pub IsSignedFault : Rule → List ℕ → ParseError → Type 0
 IsSignedFault rule text error =
     IsFaultFrom rule text (sign_length text) (most_magnitude (is_negative text)) error

@@ -21,6 +21,7 @@ use Rattle.digit_script.specs.declared.Answer.TheVariants.{Span, Count, Flag, Do
 
 -- ---- calls and answers
 
+-- a part, a call and an answer of a list in the form of the call table
 abbrev pub part_of : Part → table.Part
 part_of Bytes = OnBytes
 part_of Integer = On component.Integer
@@ -169,6 +170,7 @@ abbrev pub reads_of : State → List (table.Part × table.Call) → ℕ
 reads_of s [] = 0
 reads_of s (call ∷ calls) = reads call.0 call.1 s + reads_of (row_of call.0 call.1 s).state calls
 
+-- how many calls of a list set the cursor to a lesser position
 abbrev pub set_backs_of : State → List (table.Part × table.Call) → ℕ
 set_backs_of s [] = 0
 set_backs_of s (call ∷ calls) =

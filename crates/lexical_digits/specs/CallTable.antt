@@ -12,10 +12,11 @@ use Rattle.lexical_digits.specs.Cursor.{can_step, holds_of, byte_if, is_value, n
 
 -- ---- what the iterator of a component finds and leaves
 
--- the place, and the byte there
+-- the place: the next kept position from the cursor on, or the length
 unfoldable pub place_of : Component → State → ℕ
 place_of k s = place (rule k s) s.buffer s.cursor (own k s)
 
+-- the byte at the place, if the place is not the length
 abbrev pub byte_at_place : Component → State → Option ℕ
 byte_at_place k s = slice_get s.buffer (place_of k s)
 
@@ -44,31 +45,35 @@ taken k s =
     (count_after (rule k s) (counts k s.word) (slice_index s.buffer p) (own k s))) (p + 1)
     else settled k s
 
--- the bytes that `next` answers before None, and the state that it leaves at the end
+-- the bytes that `next` answers before `None`
 abbrev pub drain_of : Component → State → List ℕ
 drain_of k s = drain (rule k s) s.buffer s.cursor (own k s)
 
+-- the own count that the drain leaves
 abbrev pub own_after : Component → State → ℕ
 own_after k s =
     if counts k s.word
     then saturating (own k s) (count_by (is_digit (rule k s)) (drop s.cursor s.buffer))
     else own k s
 
+-- the state that the drain leaves: the cursor at the length, the digits counted
 unfoldable pub after_drain : Component → State → State
 after_drain k s = with_cursor (with_own k s (own_after k s)) (length s.buffer)
 
--- the zeros that `skip_zeros` reads and counts, and the state after them
+-- how many zeros `skip_zeros` reads and counts
 abbrev pub zeros_of : Component → State → ℕ
 zeros_of k s = zeros (rule k s) s.buffer s.cursor (own k s)
 
+-- the state that `skip_zeros` leaves: the cursor at the next kept byte after the zeros
 abbrev pub past_zeros_of : Component → State → State
 past_zeros_of k s = with_cursor (with_own k s (saturating (own k s) (zeros_of k s)))
     (past_zeros (rule k s) s.buffer s.cursor (own k s))
 
--- `take_n`: the view, and the state that it leaves
+-- `take_n`: the view
 unfoldable pub view : Component → State → ℕ → Option State
 view k s n = if is_contiguous k s.word then Some (cut s (cut_end s n)) else None
 
+-- the state that `take_n` leaves: the cursor at the end of the view
 unfoldable pub after_view : Component → State → ℕ → State
 after_view k s n = if is_contiguous k s.word then with_cursor s (cut_end s n) else s
 
@@ -153,10 +158,12 @@ row a s = record { answer = a; state = s }
 
 -- ---- the rows that every part has
 
+-- whether a part drops no byte
 abbrev pub contiguous_on : Part → State → Bool
 contiguous_on OnBytes s = has_no_separator s.word
 contiguous_on (On k) s = is_contiguous k s.word
 
+-- what `current_count` of a part answers
 abbrev pub count_on : Part → State → ℕ
 count_on OnBytes s = count_of_all s
 count_on (On k) s = current_count k s
@@ -165,6 +172,7 @@ count_on (On k) s = current_count k s
 abbrev pub first : State → Option ℕ
 first s = slice_get s.buffer s.cursor
 
+-- whether a part may step by n bytes
 abbrev pub may_step : Part → ℕ → State → Bool
 may_step part n s =
     can_step s.buffer s.cursor (contiguous_on part s) (is_separator (separator s.word)) n
@@ -248,6 +256,7 @@ pub record Ran : Type 0 where
   pub answers : List Answer
   pub state : State
 
+-- the answers and the state of a list of calls, in their order
 abbrev pub run_of : State → List (Part × Call) → Ran
 run_of s [] = record { answers = []; state = s }
 run_of s (call ∷ calls) =

@@ -37,6 +37,7 @@ abbrev pub run_holds : Option Run → ℕ → Bool
 run_holds None at = false
 run_holds (Some run) at = nat_le run.from at && nat_lt at run.to
 
+-- how many separators a run has
 abbrev pub run_length : Option Run → ℕ
 run_length None = 0
 run_length (Some run) = run.to - run.from
@@ -75,6 +76,7 @@ pub record LooksBetween (old low high new : ℕ) : Type 0 where
   pub at_least : min (old + low) (2 ^ 64 - 1) ≤ new
   pub at_most : new ≤ old + high
 
+-- one look if a byte is answered
 abbrev pub one_if : Bool → ℕ
 one_if answered = if answered then 1 else 0
 
@@ -115,6 +117,7 @@ pub record Held : Type 0 where
   pub holds : IsState state
   pub remembers : Remembers (separator state.word) state.buffer run
 
+-- what a `Bytes` owes: its looks, less three for each byte that was scanned
 abbrev pub owed : Held → ℤ
 owed h = owed_by h.run h.state.cursor h.looks
 

@@ -10,6 +10,7 @@ use Rattle.lexical_digits.specs.declared.skip.rule.Class.TheVariants.{Digit, Sep
 
 -- ---- classes
 
+-- whether a byte is a digit of the radix
 unfoldable pub is_digit : Rule → ℕ → Bool
 is_digit rule byte = is_digit_of_radix rule.radix byte
 
@@ -46,6 +47,7 @@ neighbour rule bytes =
     then find (λ byte. not (is_separator rule.separator byte)) bytes
     else slice_get bytes 0
 
+-- the class on the right of a separator
 abbrev pub right_side : Rule → List ℕ → ℕ → Class
 right_side rule buffer q = class rule (neighbour rule (drop (q + 1) buffer))
 
@@ -73,6 +75,7 @@ roles Separator right = []
 roles Digit Separator = []
 roles Other Separator = []
 
+-- whether a role is granted
 abbrev pub grants : Rule → Role → Bool
 grants rule Internal = rule.internal
 grants rule Leading = rule.leading
@@ -92,6 +95,7 @@ unfoldable pub digits_seen : Rule → List ℕ → ℕ → ℕ → ℕ → ℕ
 digits_seen rule buffer start count q =
     count + count_by (is_digit rule) (slice_range buffer start q)
 
+-- whether a byte is kept: it is no separator, or none of its roles is granted
 unfoldable pub is_kept : Rule → List ℕ → ℕ → ℕ → ℕ → Bool
 is_kept rule buffer start count q =
     not (is_dropped rule buffer (nat_lt 0 (digits_seen rule buffer start count q)) q)
@@ -122,12 +126,15 @@ past_zeros rule buffer start count =
 
 -- ---- what a rule grants
 
+-- whether a rule has a flag
 abbrev pub has_flags : Rule → Bool
 has_flags rule = rule.internal || rule.leading || rule.trailing || rule.consecutive
 
+-- no role is granted
 abbrev pub GrantsNone : Rule → Type 0
 GrantsNone rule = (rule.internal ≡ false) × (rule.leading ≡ false) × (rule.trailing ≡ false)
 
+-- every separator is dropped
 abbrev pub GrantsAll : Rule → Type 0
 GrantsAll rule = (rule.internal ≡ true) × (rule.leading ≡ true) × (rule.trailing ≡ true)
     × (rule.consecutive ≡ true)

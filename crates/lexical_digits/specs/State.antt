@@ -23,6 +23,7 @@ pub record IsState (s : State) : Type 0 where
   pub fraction : s.fraction < 2 ^ 64
   pub exponent : s.exponent < 2 ^ 64
 
+-- the state of a new `Bytes`
 abbrev pub start : List ℕ → ℕ → State
 start buffer word = record {
   buffer = buffer;
@@ -33,6 +34,7 @@ start buffer word = record {
   exponent = 0;
 }
 
+-- the same state with another cursor
 abbrev pub with_cursor : State → ℕ → State
 with_cursor s i = record s { cursor = i }
 
@@ -71,12 +73,14 @@ special_rule word radix = record {
   consecutive = bit word 44;
 }
 
+-- the rule of a component by a word
 abbrev pub rule_of : ℕ → Component → Rule
 rule_of word Integer = rule_at word (radix_of word Integer) 32
 rule_of word Fraction = rule_at word (radix_of word Fraction) 33
 rule_of word Exponent = rule_at word (radix_of word Exponent) 34
 rule_of word Special = special_rule word (radix_of word Special)
 
+-- the rule of a component in a state
 abbrev pub rule : Component → State → Rule
 rule k s = rule_of s.word k
 
@@ -96,6 +100,7 @@ with_own Fraction s n = record s { fraction = n }
 with_own Exponent s n = record s { exponent = n }
 with_own Special s n = s
 
+-- whether a component is special
 abbrev pub is_special : Component → Bool
 is_special Integer = false
 is_special Fraction = false
@@ -118,6 +123,7 @@ counts k word = not (is_special k) && has_flags (rule_of word k)
 abbrev pub saturating : ℕ → ℕ → ℕ
 saturating m n = min (m + n) (2 ^ 64 - 1)
 
+-- a count with one digit more, stopping at its greatest number
 abbrev pub one_more : ℕ → ℕ
 one_more count = saturating count 1
 
@@ -135,6 +141,7 @@ count_of_all s =
     then s.cursor
     else saturating (saturating s.integer s.fraction) s.exponent
 
+-- what `current_count` of a component answers
 abbrev pub current_count : Component → State → ℕ
 current_count k s = if is_contiguous k s.word then count_of_all s else own k s
 

@@ -32,9 +32,11 @@ leading_digits rule buffer start count = take_while (is_digit rule) (drain rule 
 
 -- ---- of the iterator of a component
 
+-- where the digits of a component end, from the cursor on
 abbrev pub stop_of : Component → State → ℕ
 stop_of k s = stop (rule k s) s.buffer s.cursor (own k s)
 
+-- the digits of a component from the cursor up to the stop
 abbrev pub leading_digits_of : Component → State → List ℕ
 leading_digits_of k s = leading_digits (rule k s) s.buffer s.cursor (own k s)
 

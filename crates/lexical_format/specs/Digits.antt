@@ -17,5 +17,6 @@ value_below radix (Some value) = if nat_lt value radix then Some value else None
 abbrev pub digit_of_radix : ℕ → ℕ → Option ℕ
 digit_of_radix radix byte = value_below radix (digit_value byte)
 
+-- whether a byte is a digit of a radix
 abbrev pub is_digit_of_radix : ℕ → ℕ → Bool
 is_digit_of_radix radix byte = is_some (digit_of_radix radix byte)

@@ -6,12 +6,15 @@ use Rattle.lexical_format.specs.Digits.{is_digit_of_radix}
 abbrev pub bits : ℕ → ℕ → ℕ → ℕ
 bits word from count = (word / 2 ^ from) % 2 ^ count
 
+-- whether a bit of a word is set
 abbrev pub bit : ℕ → ℕ → Bool
 bit word place = bits word place 1 == 1
 
+-- the separator byte of a word; zero means that there is none
 abbrev pub separator : ℕ → ℕ
 separator word = bits word 64 8
 
+-- the radix of the digits of all components but the exponent
 abbrev pub mantissa_radix : ℕ → ℕ
 mantissa_radix word = bits word 104 8
 

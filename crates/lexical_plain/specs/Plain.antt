@@ -25,9 +25,11 @@ pub record IsPlain (s : Plain) : Type 0 where
   pub within : s.cursor ≤ length s.buffer
   pub word : IsTrue (is_supported s.word)
 
+-- the state of a new `Bytes`
 abbrev pub start : List ℕ → ℕ → Plain
 start buffer word = record { buffer = buffer; word = word; cursor = 0 }
 
+-- the same state with another cursor
 abbrev pub with_cursor : Plain → ℕ → Plain
 with_cursor s i = record s { cursor = i }
 
@@ -65,6 +67,7 @@ zeros s = prefix_len (λ byte. byte == 48) (rest s)
 abbrev pub cut_end : Plain → ℕ → ℕ
 cut_end s n = min (length s.buffer) (s.cursor + n)
 
+-- the view that `take_n` answers
 abbrev pub view : Plain → ℕ → Plain
 view s n = record s { buffer = take (cut_end s n) s.buffer }
 
