@@ -10,11 +10,12 @@ RADIXES = "crates/digit_vectors/src/tests/radixes.rt"
 LETTERS = {"I": 1 << 32, "L": 1 << 35, "T": 1 << 38, "C": 1 << 41}
 
 
-def constants():
-    """The values of the constants of the format word, by their names."""
-    text = "".join(read(path) for path in (
-        "crates/lexical_format/src/lib.rt", "crates/lexical_format/src/words.rt",
-        "crates/digit_vectors/src/tests.rt", TESTS, RADIXES))
+WORDS = ("crates/lexical_format/src/lib.rt", "crates/lexical_format/src/words.rt")
+
+
+def constants(*paths):
+    """The values of the constants of these files, by their names."""
+    text = "".join(read(path) for path in paths)
     known, waiting = {}, dict(re.findall(r"const (\w+): u128 =\s*([^;]+);", text))
     while waiting:
         found = {}
@@ -93,7 +94,8 @@ def flags_of(cell):
 
 class Check:
     def __init__(self):
-        self.known, self.faults, self.count = constants(), [], 0
+        self.known = constants(*WORDS, "crates/digit_vectors/src/tests.rt", TESTS, RADIXES)
+        self.named, self.faults, self.count = constants(*WORDS), [], 0
         self.statics = statics(TESTS, self.known)
 
     def rows(self, name):
@@ -179,24 +181,42 @@ class Check:
             self.faults.append(f"{PAGE}:{line}: no test of {path} drains `{text}` to `{drained}` "
                                f"with the count {count}")
 
-    def words(self):
-        """Each word with a name is on the page, by itself or by the first word of its language; and
-        each name there is a word."""
-        text = read(PAGE)
-        m = re.search(r"## Words with names\n(.*?)\n## ", text, re.S)
+    def words(self, rows):
+        """Each cell has the flags of the word that the row and the column name, and each word is in
+        the table."""
         names = set(re.findall(r"pub const (\w+):", read("crates/lexical_format/src/words.rt")))
-        shown = set(re.findall(r"`([A-Z][A-Z0-9_]+)`", m[1])) if m else set()
-        line = text.count("\n", 0, m.start(1)) if m else 1
-        languages = {}
+        shown = {"JSON", "HEXADECIMAL"}
+        for line, (language, *cells) in rows:
+            language = language.split(" ")[0]
+            for cell, (ending, radix) in zip(cells, RADIX_OF.items()):
+                name = language + ("" if language == "TOML" else "_LITERAL")
+                name = name.replace(language, language + ending)
+                shown.add(name)
+                there = word_said(self.named[name], radix) if name in names else "-"
+                self.count += 1
+                if cell != there:
+                    self.faults.append(f"{PAGE}:{line}: {name} is {there}, not {cell}")
         for name in sorted(names - shown):
-            language = name.split("_")[0]
-            if not {language, f"{language}_LITERAL"} & shown - {name}:
-                languages.setdefault(language, []).append(f"`{name}`")
-        for missing in languages.values():
-            self.faults.append(f"{PAGE}:{line}: no {', '.join(missing)} of words.rt")
-        for name in sorted(shown - names - set(self.known)):
-            self.faults.append(f"{PAGE}:{line}: `{name}`, which words.rt hasn't")
-        self.count += len(names)
+            self.faults.append(f"{PAGE}:{rows[0][0]}: no {name} of words.rt")
+
+
+RADIX_OF = {"": 10, "_HEX": 16, "_OCTAL": 8, "_BINARY": 2}
+
+
+def word_said(word, radix):
+    """The flags of a word's components as the table has them, if its parts are as the page says."""
+    parts = []
+    for component in range(3):
+        letters = (letter for letter, bit in LETTERS.items() if word & (bit << component))
+        parts.append("".join(letters) or "none")
+    exponent_radix = word >> 120 or radix
+    separator = chr((word >> 64) & 0xff)
+    is_short = radix != 10 and parts[1:] == ["none", "none"]
+    if (word >> 104) & 0xff != radix or exponent_radix != (radix if is_short else 10):
+        return "of another radix"
+    if separator not in "_'":
+        return f"of the separator {separator}"
+    return parts[0] if is_short else ", ".join(parts)
 
 
 def flags_said(value):
@@ -223,8 +243,8 @@ def said(row):
 def check():
     it = Check()
     it.states()
-    it.words()
     by_columns = {
+        ("X", "Radix 10", "16", "8", "2"): it.words,
         ("Flags", "Bytes", "Drained", "Count", "Why"): it.examples,
         ("Flags", "Bytes", "Cursor, count", "Drained", "Why"): it.within,
         ("Flags", "Separator, radix", "Bytes", "Drained", "Count", "Why"): it.others,
