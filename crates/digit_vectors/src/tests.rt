@@ -10,6 +10,7 @@ mod components;
 mod counts;
 mod cursors;
 mod decision;
+mod floats;
 mod format;
 mod languages;
 mod laws;

@@ -7,7 +7,6 @@ use digit_uses::calls::{make_calls, pass_number};
 use digit_uses::drained::{length_without_separators, without_separators};
 use digit_uses::figures::{Figures, read_figures};
 use digit_uses::first::digits_end;
-use digit_uses::float::{FloatError, Span, read_float};
 use digit_uses::groups::{GroupsError, read_groups};
 use digit_uses::lexer::{Fault, Token, numbers};
 use digit_uses::literal::{Literal, read_literal};
@@ -16,7 +15,7 @@ use digit_uses::rest::read_or_where;
 use digit_uses::validate::{is_integer, validate};
 use lexical_digits::iterator::Iter;
 use lexical_digits::skip::{Bytes, Component};
-use lexical_format::words::{CXX14_HEX_LITERAL, JSON, RUST_LITERAL};
+use lexical_format::words::{JSON, RUST_LITERAL};
 use lexical_format::{
     EXPONENT_INTERNAL_DIGIT_SEPARATOR, FRACTION_TRAILING_DIGIT_SEPARATOR,
     INTEGER_INTERNAL_DIGIT_SEPARATOR, is_supported,
@@ -76,65 +75,6 @@ fn a_text_without_its_separators(rt: HostRuntime) -> Result<(), Fail> {
     assert_eq!(rt; bytes.as_slice(), b"1000_".as_slice());
     assert_eq!(rt; length_without_separators(b"1_000_", WORD), 5);
     Ok(())
-}
-
-/// Whether a text is a float with this mantissa, this many digits in integer and fraction, and this
-/// exponent.
-fn is_float(text: &[u8], value: u64, integer: usize, fraction: usize, exponent: i64) -> bool {
-    if !is_supported(WORD) {
-        return false;
-    }
-    match read_float(text, WORD) {
-        Ok(float) => {
-            float.mantissa.value == value
-                && float.mantissa.integer.digits == integer
-                && float.mantissa.fraction.map_or(0, |span| span.digits) == fraction
-                && float.exponent == exponent
-        }
-        Err(_) => false,
-    }
-}
-
-#[test]
-fn a_float_is_taken_apart(rt: HostRuntime) {
-    assert!(rt; is_float(b"12.5", 125, 2, 1, -1));
-    assert!(rt; is_float(b"-1_234.50_e+1_0x", 123450, 4, 2, 8));
-    assert!(rt; is_float(b"1.", 1, 1, 0, 0));
-    assert!(rt; is_float(b".5", 5, 0, 1, -1));
-    assert!(rt; is_float(b"0.000E-2", 0, 1, 3, -5));
-    assert!(rt; is_float(b"18446744073709551.615", u64::MAX, 17, 3, -3));
-    assert!(rt; is_float(b"1__0", 1, 1, 0, 0));
-}
-
-fn is_no_float(text: &[u8], error: FloatError) -> bool {
-    is_supported(WORD) && read_float(text, WORD) == Err(error)
-}
-
-#[test]
-fn a_float_has_its_faults(rt: HostRuntime) {
-    assert!(rt; is_no_float(b"-.e1", FloatError::NoDigit(2)));
-    assert!(rt; is_no_float(b"1e+", FloatError::NoExponent(3)));
-    let integer = b"1_844_674_407_370_955_161_6.0";
-    assert!(rt; is_no_float(integer, FloatError::IntegerTooLarge(26)));
-    let fraction = b"18446744073709551615.0_";
-    assert!(rt; is_no_float(fraction, FloatError::FractionTooLarge(21)));
-    let exponent = b"1e18446744073709551616";
-    assert!(rt; is_no_float(exponent, FloatError::ExponentTooLarge(21)));
-    assert!(rt; is_no_float(b"1e9000000000000000000", FloatError::OutOfRange));
-}
-
-#[test]
-fn a_mantissa_has_two_spans(rt: HostRuntime) {
-    assert!(rt; is_supported(WORD));
-    let span = |from, to, digits| Span { from, to, digits };
-    let read = read_float(b"123_456.789_e+1_0x", WORD);
-    let spans = read.map(|float| (float.mantissa.integer, float.mantissa.fraction));
-    assert_eq!(rt; spans, Ok((span(0, 7, 6), Some(span(8, 12, 3)))));
-    // In radix 16 an `e` is a digit: F and F, then 8 and e, which are two places.
-    assert!(rt; is_supported(CXX14_HEX_LITERAL));
-    let read = read_float(b"f'F.8e", CXX14_HEX_LITERAL);
-    let value = read.map(|float| (float.mantissa.value, float.exponent));
-    assert_eq!(rt; value, Ok((0xff8e, -2)));
 }
 
 #[test]
