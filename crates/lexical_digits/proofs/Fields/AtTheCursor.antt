@@ -172,7 +172,6 @@ module _ (k : Component) (a m b : Held) (same : m.state ≡ a.state) (no_looks :
     at_least = rw (← same, ← no_looks.run, ← no_looks.looks) costs.at_least;
     at_most = rw (← same, ← no_looks.run, ← no_looks.looks) costs.at_most;
     unscanned = rw (← same, ← no_looks.run) costs.unscanned;
-    scanned = rw (← same, ← no_looks.run) costs.scanned;
     needed = rw (← same, ← no_looks.run) costs.needed;
     allowed = rw (← same, ← no_looks.run) costs.allowed;
     without_separator = rw (← same, ← no_looks.looks) costs.without_separator;
