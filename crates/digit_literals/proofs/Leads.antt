@@ -37,7 +37,7 @@ module _ (rule : Rule) (text : List ℕ) (start : ℕ) where
     goes_on = λ own. ap (stop rule text start) (omega (arith, none));
   }
 
-  more_between : (at : ℕ) → start ≤ at → at < length text
+  pub more_between : (at : ℕ) → start ≤ at → at < length text
       → digits_between rule text start (at + 1) ≡ digits_between rule text start at
       ++ filter (is_digit rule) (slice_index text at ∷ [])
   more_between at low l =

@@ -5,6 +5,7 @@ pub mod States
 pub mod StopSteps
 pub mod Leads
 pub mod Counted
+pub mod Zeros
 pub mod Whole
 pub mod Texts
 pub mod Within

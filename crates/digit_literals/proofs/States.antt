@@ -81,7 +81,7 @@ passes_slice k before most a b read off state looks owes =
 
 -- ---- on a copy
 
-owed_same : (a b : Held) → IsCopy a b → owed b ≡ owed a
+pub owed_same : (a b : Held) → IsCopy a b → owed b ≡ owed a
 owed_same a b is = rw (is.run, is.state, is.looks) refl
 
 pub passes_copy : (k : Component) (before : ℕ) (most : Option ℕ) (a copy left b : Held)

@@ -1,5 +1,5 @@
 -- The stop, over one byte.
-use Rattle.std.proofs.Common.{◌≡◌, ℕ, ◌+◌, ◌-◌, ◌<◌, ◌≤◌, Bool, true, false, List, length, refl, sym, ◌∙◌, arith, inl}
+use Rattle.std.proofs.Common.{◌≡◌, ℕ, ◌+◌, ◌-◌, ◌<◌, ◌≤◌, Bool, true, false, List, ◌∷◌, length, refl, sym, ◌∙◌, arith, inl}
 use Rattle.std.specs.Prelude.{slice_get, slice_index, Some}
 use Rattle.std.proofs.lemmas.Bool.{lt-ltb}
 use Rattle.std.proofs.lemmas.Bool.Decides.{nat_tests}
@@ -16,7 +16,7 @@ use Rattle.lexical_digits.proofs.Rule.Sides.{right_one, right_many, kept_by_side
 module _ (rule : Rule) (text : List ℕ) where
   -- ---- the stop, over one byte
 
-  digit_kept : (at count : ℕ) → at < length text → is_digit rule (slice_index text at) ≡ true
+  pub digit_kept : (at count : ℕ) → at < length text → is_digit rule (slice_index text at) ≡ true
       → is_kept rule text at count at ≡ true
   unfolding is_kept is_dropped holds_separator
   digit_kept at count l e = rw (slice_get-get_or text at 0 l, e) refl
@@ -40,15 +40,17 @@ module _ (rule : Rule) (text : List ℕ) where
       (is_kept rule text at other) at (length text - at)
       (λ q _. kept_alike at count other q some more)
 
+  pub positions_digit : (at count : ℕ) → at < length text
+      → is_digit rule (slice_index text at) ≡ true → kept_positions rule text at count
+      ≡ at ∷ kept_positions rule text (at + 1) (count + 1)
+  positions_digit at count l e =
+      rw (positions_kept rule text true (inl refl) at count l (digit_kept at count l e), e,
+      positions_alike (at + 1) (one_more count) (count + 1) (omega arith) (omega arith)) refl
+
   pub stop_digit : (at count : ℕ) → at < length text → is_digit rule (slice_index text at) ≡ true
       → stop rule text at count ≡ stop rule text (at + 1) (count + 1)
   unfolding stop
-  stop_digit at count l e =
-      rw (
-        positions_kept rule text true (inl refl) at count l (digit_kept at count l e),
-        e,
-        positions_alike (at + 1) (one_more count) (count + 1) (omega arith) (omega arith),
-      ) refl
+  stop_digit at count l e = rw (positions_digit at count l e, e) refl
 
   pub stop_other : (at count : ℕ) → at < length text → is_digit rule (slice_index text at) ≡ false
       → is_separator rule.separator (slice_index text at) ≡ false → stop rule text at count ≡ at

@@ -48,7 +48,7 @@ none_at radix (Some byte) e = ap is_some e
 
 -- ---- a list
 
-value_push : (radix n : ℕ) (ds : List ℕ) (c : ℕ)
+pub value_push : (radix n : ℕ) (ds : List ℕ) (c : ℕ)
     → digits_value_after radix n (ds ++ c ∷ [])
     ≡ digits_value_after radix n ds * radix + digit_value c
 value_push radix n [] c = refl

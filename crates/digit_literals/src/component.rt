@@ -133,8 +133,31 @@ fn read_on(
 /// are. Each is counted if the component counts. The cursor is then at the next byte that the
 /// component keeps, or else at the end.
 #[inline(always)]
-#[tactic(auto, using(crate::proofs::States::leading_zeros))]
 pub fn pass_zeros(bytes: &mut Bytes, component: Component) -> usize
+    ensures zeros { result ≡ zeros_of component bytes.old.state }
+    ensures state { bytes.new.state ≡ past_zeros_of component bytes.old.state }
+    ensures owes { owed bytes.new ≤ℤ (owed bytes.old +ℤ pos (4 * (result + 1))) }
+{
+    let rule = bytes.rule(component);
+    let text = bytes.get_buffer();
+    // the first digit with which a value is above 0 is no zero
+    if let Some(read) = read_slice(text, rule, bytes.cursor(), 0, Some(0)) {
+        bytes.pass_read(component, read.end, 0);
+        bytes.increment_count_of(component, read.count);
+        return read.count;
+    }
+    // on a copy, as in `read_on`
+    let mut copy = bytes.clone().unwrap();
+    let zeros = skip_zeros_of(&mut copy, component);
+    bytes.go_on_from(copy);
+    zeros
+}
+
+/// [`pass_zeros`] by the iterator of the component.
+#[cold]
+#[inline(never)]
+#[tactic(auto, using(crate::proofs::States::leading_zeros))]
+fn skip_zeros_of(bytes: &mut Bytes, component: Component) -> usize
     ensures zeros { result ≡ zeros_of component bytes.old.state }
     ensures state { bytes.new.state ≡ past_zeros_of component bytes.old.state }
     ensures owes { owed bytes.new ≤ℤ (owed bytes.old +ℤ pos (4 * (result + 1))) }
