@@ -3,8 +3,8 @@
 //! digits of integer and fraction, which a `u64` always holds. The exponent counts those that are
 //! dropped, so that a reader goes on as for a short number.
 //!
-//! Proof by hand: 159 lines in the answers of five functions and 29 in `proofs/Floats.antt`: they put
-//! together what is read and what is passed, and carry it from one state to the next.
+//! Proof by hand: 159 lines in the answers of five functions and 29 in `proofs/Floats.antt`: they
+//! put together what is read and what is passed, and carry it from one state to the next.
 
 ghost use Rattle.std.specs.Prelude.{◌≡◌, ◌+◌, ◌-◌, ◌^◌, ◌<◌, ◌≤◌, min, length, take, IsTrue, if◌then◌else◌, IfOk, IfErr, OnOk, IfSome, IfNone, MatchOption, pos, ◌+ℤ◌, ◌-ℤ◌, ◌≤ℤ◌};
 ghost use Rattle.std.specs.Int.{saturate_signed, w64};
