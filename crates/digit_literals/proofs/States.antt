@@ -1,5 +1,5 @@
 -- What a read of digits leaves of a `Bytes`, in words of the state.
-use Rattle.std.proofs.Common.{◌≡◌, ℕ, ◌-◌, ◌*◌, ◌≤◌, Bool, true, false, not, List, length, take, drop, filter, Option, Some, None, Ok, Err, refl, ap, sym, subst, ◌∙◌, arith, pos, ◌≤ℤ◌, ◌+ℤ◌}
+use Rattle.std.proofs.Common.{◌≡◌, ℕ, ◌-◌, ◌*◌, ◌≤◌, Bool, true, false, not, List, length, take, drop, filter, Option, Some, None, Err, refl, ap, sym, subst, ◌∙◌, arith, pos, ◌≤ℤ◌, ◌+ℤ◌}
 use Rattle.std.specs.Prelude.{if◌then◌else◌, IfSome, MatchOption}
 use Rattle.std.proofs.lemmas.Int.{ints}
 use Rattle.std.proofs.lemmas.List.{length-drop}
@@ -15,7 +15,7 @@ use Rattle.lexical_digits.specs.Looks.{Held, IsCopy, owed}
 use Rattle.lexical_digits.specs.Stop.{stop_of, leading_digits_of}
 use Rattle.lexical_digits.proofs.Calls.Stops.{leading_between}
 use Rattle.lexical_digits.proofs.Calls.ItemsOfComponents.{zeros_are, after_zeros_are}
-use Rattle.digit_literals.specs.After.{digits_between, digits_to, past_digits_to, IsDigits, IsReadTo, ExceedsAt}
+use Rattle.digit_literals.specs.After.{digits_between, digits_to, past_digits_to, ExceedsAt}
 use Rattle.digit_literals.specs.Reads.{IsWorth, ReadsTo, IsOffSlice, Passes, ReadsOn, outcome}
 use Rattle.digit_literals.specs.declared.reading.TooLarge.{TooLarge}
 use Rattle.digit_literals.specs.declared.slice.ReadTo.{ReadTo}

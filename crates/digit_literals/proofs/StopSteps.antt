@@ -44,8 +44,11 @@ module _ (rule : Rule) (text : List ℕ) where
       → is_digit rule (slice_index text at) ≡ true → kept_positions rule text at count
       ≡ at ∷ kept_positions rule text (at + 1) (count + 1)
   positions_digit at count l e =
-      rw (positions_kept rule text true (inl refl) at count l (digit_kept at count l e), e,
-      positions_alike (at + 1) (one_more count) (count + 1) (omega arith) (omega arith)) refl
+      rw (
+        positions_kept rule text true (inl refl) at count l (digit_kept at count l e),
+        e,
+        positions_alike (at + 1) (one_more count) (count + 1) (omega arith) (omega arith),
+      ) refl
 
   pub stop_digit : (at count : ℕ) → at < length text → is_digit rule (slice_index text at) ≡ true
       → stop rule text at count ≡ stop rule text (at + 1) (count + 1)

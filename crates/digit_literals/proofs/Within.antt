@@ -1,7 +1,6 @@
 -- The positions that `read_integer` answers are within the text. `positions_within` is for callers.
-use Rattle.std.proofs.Common.{◌≡◌, ℕ, ◌<◌, ◌≤◌, Bool, true, false, List, [], ◌∷◌, length, Option, Some, None, Ok, Err, refl, sym, ◌∙◌, arith, inl, inr}
+use Rattle.std.proofs.Common.{◌≡◌, ℕ, ◌<◌, ◌≤◌, Bool, true, false, List, [], ◌∷◌, length, Option, Some, None, Ok, Err, refl, sym, ◌∙◌, ◌+◌, ◌*◌, arith}
 use Rattle.std.specs.Prelude.{◌==◌, IfSome, IfOk}
-use Rattle.std.proofs.lemmas.Bool.{cases_Bool}
 use Rattle.std.proofs.lemmas.Bool.Decides.{nat_tests}
 use Rattle.std.specs.declared.result.Result.{Result}
 use Rattle.lexical_digits.specs.declared.skip.rule.Rule.{Rule}
@@ -10,7 +9,7 @@ use Rattle.digit_literals.specs.Reads.{ReadsTo}
 use Rattle.digit_literals.specs.Integers.{IsInteger, HasNoDigit, IsTooLarge, ReadsFrom, integer_of}
 use Rattle.digit_literals.specs.Outcomes.{IfEmpty, IfOverflow}
 use Rattle.digit_literals.specs.declared.LiteralError.{LiteralError}
-use Rattle.digit_literals.specs.declared.LiteralError.TheVariants.{Empty}
+use Rattle.digit_literals.specs.declared.LiteralError.TheVariants.{Empty, Overflow}
 use Rattle.digit_literals.specs.declared.slice.ReadTo.{ReadTo}
 
 pub integer_within : (rule : Rule) (text : List ℕ) (value end : ℕ) →
@@ -52,7 +51,7 @@ module _ (rule : Rule) (text : List ℕ) (start most : ℕ) (l : start ≤ lengt
     read_to large = record { value = value; count = count; end = end; is_too_large = large }
 
     too_large : ReadsTo rule text start 0 (Some most) (read_to true) 0
-        → Answers (integer_of (read_to true))
+        → Answers (Err (Overflow end))
     too_large h =
         let over = h.exceeds refl in
         let first = stop_is_first rule text start 0 l in
@@ -98,10 +97,25 @@ module _ (rule : Rule) (text : List ℕ) (start most : ℕ) (l : start ≤ lengt
       overflow_at = tt;
     }
 
-    pub answers : (large : Bool) → ReadsTo rule text start 0 (Some most) (read_to large) 0
-        → Answers (integer_of (read_to large))
-    answers true h = too_large h
-    answers false h = elim (cases_Bool (count == 0)) [
-      | inl e ↦ rw e (none (grind (arith, nat_tests)) h)
-      | inr e ↦ rw e (some (grind (arith, nat_tests)) h)
-    ]
+    pub answers : (large is_empty : Bool) → (is_empty ≡ true → count ≡ 0)
+        → (is_empty ≡ false → 0 < count)
+        → ReadsTo rule text start 0 (Some most) (read_to large) 0
+        → Answers (integer_of (read_to large) is_empty)
+    answers true is_empty e f h = too_large h
+    answers false true e f h = none (e refl) h
+    answers false false e f h = some (f refl) h
+
+-- off the slice there are digits exactly if there are bytes
+pub no_digit : (start count end : ℕ) → end ≤ start + 2 * count → start + count ≤ end
+    → (end == start) ≡ true → count ≡ 0
+no_digit start count end few below e = grind (arith, nat_tests)
+
+pub some_digit : (start count end : ℕ) → end ≤ start + 2 * count → start + count ≤ end
+    → (end == start) ≡ false → 0 < count
+some_digit start count end few below e = grind (arith, nat_tests)
+
+pub no_count : (count : ℕ) → (count == 0) ≡ true → count ≡ 0
+no_count count e = grind (arith, nat_tests)
+
+pub some_count : (count : ℕ) → (count == 0) ≡ false → 0 < count
+some_count count e = grind (arith, nat_tests)

@@ -1,6 +1,6 @@
 -- What the integer is that stands in a text from a start on. No two of the three can hold of one
 -- text.
-use Rattle.std.specs.Prelude.{◌≡◌, ℕ, ◌-◌, ◌^◌, ◌<◌, ◌≤◌, ◌==◌, if◌then◌else◌, List, [], length, Result, Ok, Err, IfOk}
+use Rattle.std.specs.Prelude.{◌≡◌, ℕ, ◌-◌, ◌^◌, ◌<◌, ◌≤◌, Bool, if◌then◌else◌, List, [], length, Result, Ok, Err, IfOk}
 use Rattle.std.specs.Str.Parse.{digits_value}
 use Rattle.lexical_digits.specs.declared.skip.rule.Rule.{Rule}
 use Rattle.lexical_digits.specs.Stop.{stop}
@@ -33,12 +33,12 @@ module _ (rule : Rule) (text : List ℕ) (start : ℕ) where
     pub empty : IfEmpty result HasNoDigitFrom
     pub overflow : IfOverflow result (IsTooLargeFrom most)
 
--- the answer for the digits that were read
-abbrev pub integer_of : ReadTo → Result (ℕ × ℕ) LiteralError
-integer_of read =
+-- the answer for the digits that were read, where it is told whether there are none
+abbrev pub integer_of : ReadTo → Bool → Result (ℕ × ℕ) LiteralError
+integer_of read is_empty =
     if read.is_too_large
     then Err (Overflow read.end)
-    else if read.count == 0
+    else if is_empty
     then Err (Empty read.end)
     else Ok (read.value, read.end)
 

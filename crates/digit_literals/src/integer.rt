@@ -70,19 +70,23 @@ pub fn read_integer_from(
 {
     let rule = Rule::of(word, Component::Integer);
     match read_slice(text, rule, start, 0, Some(most)) {
-        Some(read) => integer_of(read),
-        None => integer_of(read_fresh(text, word, start, Some(most))),
+        Some(read) => integer_of(read, read.end == start),
+        None => {
+            let read = read_fresh(text, word, start, Some(most));
+            integer_of(read, read.count == 0)
+        }
     }
 }
 
-/// The value of the digits that were read and where they end, or why there is none.
+/// The value of the digits that were read and where they end, or why there is none. `is_empty` says
+/// that no digit was read.
 #[inline(always)]
-fn integer_of(read: ReadTo) -> Result<(u64, usize), LiteralError>
-    ensures { result ≡ integer_of read }
+fn integer_of(read: ReadTo, is_empty: bool) -> Result<(u64, usize), LiteralError>
+    ensures { result ≡ integer_of read is_empty }
 {
     if read.is_too_large {
         Err(LiteralError::Overflow(read.end))
-    } else if read.count == 0 {
+    } else if is_empty {
         Err(LiteralError::Empty(read.end))
     } else {
         Ok((read.value, read.end))

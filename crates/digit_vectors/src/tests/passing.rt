@@ -2,7 +2,8 @@
 
 use super::{CONSECUTIVE, INTERNAL, LEADING, TRAILING, UNFLAGGED, bytes_of};
 use digit_literals::{
-    Digits, LiteralError, TooLarge, count_digits, pass_digits, read_digits_up_to, read_integer_from,
+    Digits, LiteralError, TooLarge, count_digits, pass_digits, pass_zeros, read_digits_up_to,
+    read_integer_from,
 };
 use lexical_digits::iterator::Iter;
 use lexical_digits::skip::Bytes;
@@ -47,6 +48,27 @@ const ONES: &[u8] = b"1111111111111111111111111111111111111111111111111111111111
 
 const ONES_AND_ZERO: &[u8] = b"11111111111111111111111111111111111111111111111111111111111111110";
 
+/// The same of zeros. They are counted without flags too. The separator between a zero and another
+/// digit is passed.
+static ZEROS: [Passed; 7] = [
+    (INTERNAL, b"", 0, 0, 0, 0),
+    (INTERNAL, b"1", 0, 0, 0, 0),
+    (INTERNAL, b"0_0x", 2, 3, 2, 6),
+    (INTERNAL, b"0_1", 1, 2, 1, 4),
+    (0, b"00x", 2, 2, 2, 4),
+    (INTERNAL, b"0_", 1, 1, 1, 3),
+    (LEADING, b"_0", 1, 2, 1, 3),
+];
+
+#[test]
+fn zeros_that_are_passed_are_counted_and_looked_at(rt: HostRuntime) {
+    for &(flags, text, zeros, cursor, count, looks) in &ZEROS {
+        let mut bytes = bytes_of(&rt, text, UNFLAGGED | flags);
+        assert!(rt; pass_zeros(&mut bytes, Integer) == zeros, "{text:?}");
+        assert!(rt; is_left(&bytes, cursor, count, looks), "{text:?}");
+    }
+}
+
 /// Rows that read all digits: radix, text, greatest value, value and count.
 static READ: [(u128, &[u8], u64, u64, usize); 6] = [
     (10, b"", 0, 0, 0),
@@ -62,8 +84,22 @@ static TOO_LARGE: [(u128, &[u8], u64, usize, u64, usize); 8] = [
     (10, b"12", 0, 0, 0, 0),
     (10, b"12", 1, 1, 1, 1),
     (10, b"1_2", 11, 2, 1, 1),
-    (10, b"18446744073709551616", u64::MAX, 19, 1844674407370955161, 19),
-    (10, b"1844674407370955161_6", u64::MAX, 20, 1844674407370955161, 19),
+    (
+        10,
+        b"18446744073709551616",
+        u64::MAX,
+        19,
+        1844674407370955161,
+        19,
+    ),
+    (
+        10,
+        b"1844674407370955161_6",
+        u64::MAX,
+        20,
+        1844674407370955161,
+        19,
+    ),
     (2, ONES_AND_ZERO, u64::MAX, 64, u64::MAX, 64),
     (36, b"3W5E11264SGSG", u64::MAX, 12, 512409557603043100, 12),
     (36, b"zz", 1294, 1, 35, 1),
@@ -80,17 +116,37 @@ fn assert_read(
     cursor: usize,
 ) {
     let mut bytes = bytes_of(rt, text, (radix << 104) | (0x5f << 64) | INTERNAL);
-    assert!(rt; read_digits_up_to(&mut bytes, Integer, 0, most) == read, "{text:?}");
-    assert!(rt; bytes.cursor() == cursor && bytes.looks() == 2 * cursor as u64, "{text:?}");
+    assert!(rt;
+        read_digits_up_to(&mut bytes, Integer, 0, most) == read,
+        "{text:?}"
+    );
+    assert!(rt;
+        bytes.cursor() == cursor && bytes.looks() == 2 * cursor as u64,
+        "{text:?}"
+    );
 }
 
 #[test]
 fn digits_are_read_up_to_the_greatest_value_and_no_further(rt: HostRuntime) {
     for &(radix, text, most, value, count) in &READ {
-        assert_read(&rt, radix, text, most, Ok(Digits { value, count }), text.len());
+        assert_read(
+            &rt,
+            radix,
+            text,
+            most,
+            Ok(Digits { value, count }),
+            text.len(),
+        );
     }
     for &(radix, text, most, at, value, count) in &TOO_LARGE {
-        assert_read(&rt, radix, text, most, Err(TooLarge { at, value, count }), at);
+        assert_read(
+            &rt,
+            radix,
+            text,
+            most,
+            Err(TooLarge { at, value, count }),
+            at,
+        );
     }
 }
 
@@ -124,7 +180,11 @@ fn a_long_run_is_passed_at_once_or_ends_the_digits(rt: HostRuntime) {
     for (flags, cursor, looks) in [(INTERNAL, 0, 3), (all, 100_000, 100_002)] {
         let mut bytes = bytes_of(&rt, &RUN, UNFLAGGED | flags);
         assert!(rt; pass_digits(&mut bytes, Integer) == 0);
-        assert!(rt; bytes.cursor() == cursor && bytes.looks() <= looks, "{}", bytes.looks());
+        assert!(rt;
+            bytes.cursor() == cursor && bytes.looks() <= looks,
+            "{}",
+            bytes.looks()
+        );
     }
     assert!(rt; is_supported(UNFLAGGED | all));
     assert!(rt; count_digits(&RUN, UNFLAGGED | all) == Ok(0));
@@ -141,7 +201,10 @@ fn assert_from(
     read: Result<(u64, usize), LiteralError>,
 ) {
     assert!(rt; is_supported(UNFLAGGED | INTERNAL) && start <= text.len());
-    assert!(rt; read_integer_from(text, UNFLAGGED | INTERNAL, start, most) == read, "{text:?}");
+    assert!(rt;
+        read_integer_from(text, UNFLAGGED | INTERNAL, start, most) == read,
+        "{text:?}"
+    );
 }
 
 #[test]
