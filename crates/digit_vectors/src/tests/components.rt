@@ -53,7 +53,12 @@ fn is_turn(bytes: &mut Bytes, component: Component, turn: Turn) -> bool {
 fn assert_calls(rt: &impl Abort, word: u128, text: &[u8], turns: &[(Component, Turn)]) {
     let mut bytes = bytes_of(rt, text, word);
     for (at, (component, turn)) in turns.iter().enumerate() {
-        assert!(rt; is_turn(&mut bytes, *component, *turn), "call {at}");
+        let is = is_turn(&mut bytes, *component, *turn);
+        let (cursor, count) = (bytes.cursor(), bytes.current_count_of(*component));
+        assert!(rt;
+            is,
+            "call {at}, {component:?} of {text:?}, leaves {cursor}, count {count}"
+        );
     }
 }
 
@@ -183,17 +188,13 @@ fn stop_of(text: &[u8], word: u128) -> Option<usize> {
     Some(bytes.cursor())
 }
 
-/// The first text of which reading stops elsewhere.
-fn wrong_stop() -> Option<&'static str> {
-    for (flags, text, stop) in &STOPS {
-        if stop_of(text.as_bytes(), UNFLAGGED | *flags) != Some(*stop) {
-            return Some(text);
-        }
-    }
-    None
-}
-
 #[test]
 fn reading_stops_at_the_first_byte_that_the_flags_do_not_allow(rt: HostRuntime) {
-    assert_eq!(rt; wrong_stop(), None);
+    for (flags, text, expected) in &STOPS {
+        let stop = stop_of(text.as_bytes(), UNFLAGGED | *flags);
+        assert!(rt;
+            stop == Some(*expected),
+            "{text} by the flags {flags}: {stop:?}"
+        );
+    }
 }

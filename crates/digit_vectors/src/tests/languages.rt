@@ -8,6 +8,7 @@ use super::steps::assert_goes;
 use digit_literals::parse_integer;
 use lexical_format::is_supported;
 use lexical_format::words::*;
+use std::process::Abort;
 
 /// A word, a text, and its value if the text is an integer of the language.
 type Row = (u128, &'static [u8], Option<u64>);
@@ -135,22 +136,21 @@ static AFTER_DIGITS: [Row; 21] = [
     (PERL_BINARY_LITERAL, b"1_2", None),
 ];
 
-/// The first row, from 0, that is read otherwise, and its text.
-fn wrong_row(rows: &[Row]) -> Option<(usize, &'static [u8])> {
-    for (row, (word, text, value)) in rows.iter().enumerate() {
-        if !is_supported(*word) || parse_integer(text, *word).ok() != *value {
-            return Some((row, text));
-        }
+/// Each text is read so.
+fn assert_read(rt: &impl Abort, rows: &[Row]) {
+    for (word, text, expected) in rows {
+        assert!(rt; is_supported(*word));
+        let read = parse_integer(text, *word);
+        assert!(rt; read.ok() == *expected, "{text:?} by {word}: {read:?}");
     }
-    None
 }
 
 #[test]
 fn a_language_reads_its_integers_and_no_others(rt: HostRuntime) {
-    assert_eq!(rt; wrong_row(&BETWEEN_DIGITS), None);
-    assert_eq!(rt; wrong_row(&BEFORE_DIGITS), None);
-    assert_eq!(rt; wrong_row(&IN_RUNS_BETWEEN_DIGITS), None);
-    assert_eq!(rt; wrong_row(&AFTER_DIGITS), None);
+    assert_read(&rt, &BETWEEN_DIGITS);
+    assert_read(&rt, &BEFORE_DIGITS);
+    assert_read(&rt, &IN_RUNS_BETWEEN_DIGITS);
+    assert_read(&rt, &AFTER_DIGITS);
 }
 
 /// Fractions and exponents where a language has another rule than for its integers: the bytes

@@ -7,9 +7,8 @@ use lexical_digits::skip::Bytes;
 use lexical_format::{
     EXPONENT_LEADING_DIGIT_SEPARATOR, FRACTION_TRAILING_DIGIT_SEPARATOR, SPECIAL_DIGIT_SEPARATOR,
 };
-use std::alloc::{AllocError, Global};
+use std::alloc::Global;
 use std::process::Abort;
-use std::test::Fail;
 
 pub static PARTS: [Part; 5] = [
     Part::Bytes,
@@ -47,25 +46,32 @@ static REFUSED: [Answer; 4] = [
     Answer::Refused,
 ];
 
-/// Whether a list of calls answers this.
-pub fn answers(alloc: Global, bytes: &mut Bytes, calls: &[Call], expected: &[Answer]) -> bool {
-    match run(alloc, bytes, calls) {
-        Ok(answers) => answers.as_slice() == expected,
-        Err(_) => false,
-    }
+/// A list of calls answers this.
+fn assert_answers(
+    rt: &impl Abort,
+    alloc: Global,
+    bytes: &mut Bytes,
+    calls: &[Call],
+    expected: &[Answer],
+) {
+    let answers = run(alloc, bytes, calls).expect(rt, "memory");
+    assert!(rt;
+        answers.as_slice() == expected,
+        "{calls:?} answer {answers:?}"
+    );
 }
 
 #[test]
 fn a_list_is_answered_call_by_call(rt: HostRuntime) {
     let mut bytes = bytes_of(&rt, b"_5", UNFLAGGED | INTERNAL);
-    assert!(rt; answers(rt.alloc(), &mut bytes, &REFUSALS, &REFUSED));
+    assert_answers(&rt, rt.alloc(), &mut bytes, &REFUSALS, &REFUSED);
     assert_eq!(rt; bytes.cursor(), 1);
 }
 
 #[test]
 fn an_empty_list_has_an_empty_answer(rt: HostRuntime) {
     let mut bytes = bytes_of(&rt, b"_5", UNFLAGGED | INTERNAL);
-    assert!(rt; answers(rt.alloc(), &mut bytes, &[], &[]));
+    assert_answers(&rt, rt.alloc(), &mut bytes, &[], &[]);
     assert_eq!(rt; bytes.cursor(), 0);
 }
 
@@ -91,34 +97,23 @@ static STEPS: [(Part, Op, Answer, usize); 17] = [
     (Part::Exponent, Op::StepBy(2), Answer::Done, 6),
 ];
 
-/// The calls of `STEPS`, each followed by a call of `cursor`, and what they answer.
-fn script_of_steps(alloc: Global) -> Result<(Vec<Call>, Vec<Answer>), AllocError> {
-    let mut calls = Vec::new(alloc);
-    let mut expected = Vec::new(alloc);
-    for (part, op, answer, cursor) in &STEPS {
-        calls.push(Call {
-            part: *part,
-            op: *op,
-        })?;
-        expected.push(*answer)?;
-        calls.push(CURSOR)?;
-        expected.push(Answer::Count(*cursor))?;
-    }
-    Ok((calls, expected))
-}
-
 const CURSOR: Call = Call {
     part: Part::Bytes,
     op: Op::Cursor,
 };
 
 #[test]
-fn all_parts_share_one_cursor(rt: HostRuntime) -> Result<(), Fail> {
+fn all_parts_share_one_cursor(rt: HostRuntime) {
     let flags = INTERNAL | FRACTION_TRAILING_DIGIT_SEPARATOR | SPECIAL_DIGIT_SEPARATOR;
-    let (calls, expected) = script_of_steps(rt.alloc())?;
     let mut bytes = bytes_of(&rt, b"1_2._3", UNFLAGGED | flags);
-    assert!(rt; answers(rt.alloc(), &mut bytes, &calls, &expected));
-    Ok(())
+    for (part, op, answer, cursor) in &STEPS {
+        let call = Call {
+            part: *part,
+            op: *op,
+        };
+        let expected = [*answer, Answer::Count(*cursor)];
+        assert_answers(&rt, rt.alloc(), &mut bytes, &[call, CURSOR], &expected);
+    }
 }
 
 /// A text on which the integer and the fraction keep the first separator, and the exponent and
@@ -314,10 +309,7 @@ fn case_counts_where_it_is_asked(rt: HostRuntime) {
             part: Part::Integer,
             op: *op,
         };
-        assert!(rt;
-            answers(rt.alloc(), &mut bytes, &[call], &[*answer]),
-            "{op:?}"
-        );
+        assert_answers(&rt, rt.alloc(), &mut bytes, &[call], &[*answer]);
     }
     assert_eq!(rt; bytes.cursor(), 2);
 }
