@@ -118,8 +118,8 @@ impl<'a> Bytes<'a> {
         self.peek_flagged(component)
     }
 
-    /// The next byte that a component keeps, where any component may have a flag. The cursor moves to
-    /// that byte.
+    /// The next byte that a component keeps, where any component may have a flag. The cursor moves
+    /// to that byte.
     #[inline(always)]
     fn peek_flagged(&mut self, component: Component) -> Option<&'a u8>
         ensures { PeeksOf component self.old self.new (option_copied result) }
