@@ -16,7 +16,8 @@ use Rattle.lexical_digits.proofs.Calls.FirstOther.{stop_is_first}
 use Rattle.digit_literals.specs.After.{digits_to, past_digits_to, ExceedsAt}
 use Rattle.digit_literals.specs.Reads.{IsWorth, ReadsTo, Passes}
 use Rattle.digit_literals.proofs.Taking.{all_taken, leaves_all}
-use Rattle.digit_literals.proofs.Values.{HasRead, value_next, none_at, there, next, one_longer}
+use Rattle.digit_literals.proofs.Worth.{value_next, none_at}
+use Rattle.digit_literals.proofs.Values.{HasRead, there, next, one_longer}
 
 module _ (k : Component) (s : State) (radix before : ℕ) (most : Option ℕ) (v : IsState s)
     (e : radix ≡ (rule k s).radix) (n : State) (w : IsState n) (value count : ℕ)

@@ -1,7 +1,7 @@
 -- For those who call the readers of this crate: what a proof over their answers needs again and
 -- again. These stay.
 use Rattle.std.proofs.Common.{◌≡◌, ℕ, zero, suc, ◌+◌, ◌-◌, ◌*◌, ◌^◌, ◌<◌, ◌≤◌, Bool, true, List, [], ◌∷◌, ◌++◌, length, take, drop, slice_index, refl, sym, arith}
-use Rattle.std.specs.Prelude.{Ok, Err}
+use Rattle.std.specs.Prelude.{Ok, Err, Some}
 use Rattle.std.specs.declared.result.Result.{Result}
 use Rattle.std.specs.Char.{digit_value}
 use Rattle.std.specs.List.{filter, slice_range}
@@ -10,7 +10,8 @@ use Rattle.std.proofs.Math.Nat.{pow-le-pow_right}
 use Rattle.std.proofs.lemmas.Bool.Decides.{nat_tests}
 use Rattle.std.proofs.lemmas.Int.Digits.{digits_value-lt}
 use Rattle.std.proofs.lemmas.List.{take_rest, length-drop, get_or-drop}
-use Rattle.lexical_format.specs.Digits.{is_digit_of_radix}
+use Rattle.lexical_format.specs.Digits.{digit_of_radix, is_digit_of_radix}
+use Rattle.lexical_format.specs.Digits as words
 use Rattle.lexical_digits.specs.declared.skip.rule.Rule.{Rule}
 use Rattle.lexical_digits.specs.Separators.{is_digit}
 use Rattle.lexical_digits.specs.Stop.{stop}
@@ -19,7 +20,6 @@ use Rattle.digit_literals.specs.declared.LiteralError.{LiteralError}
 use Rattle.digit_literals.specs.declared.LiteralError.TheVariants.{Empty, Overflow}
 use Rattle.digit_literals.specs.Outcomes.{IfEmpty, IfOverflow}
 use Rattle.digit_literals.specs.Integers.{digits_before, IsTooLarge}
-use Rattle.digit_literals.proofs.Values.{value_is}
 
 -- ---- where digits end
 
@@ -61,6 +61,13 @@ all_is text = take_rest text 0
 
 -- to be named in an attribute, for a stop over it
 pub ruleset rests = (stops, rest_is, length_rest, first_of_rest)
+
+-- ---- the value of one digit
+
+-- `char_to_digit_const` answers the value that std gives a digit
+pub value_is : (radix byte d : ℕ) → digit_of_radix radix byte ≡ Some d → digit_value byte ≡ d
+unfolding words.digit_value
+value_is radix byte d e = grind (arith, nat_tests)
 
 -- ---- so few digits always fit
 

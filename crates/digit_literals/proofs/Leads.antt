@@ -1,10 +1,7 @@
 -- Digits that lead from a start on, read off the slice, with separators at most between two of
 -- them, one at a time.
-use Rattle.std.proofs.Common.{◌≡◌, ℕ, zero, ◌+◌, ◌-◌, ◌*◌, ◌<◌, ◌≤◌, true, false, List, [], ◌∷◌, ◌++◌, length, take, drop, refl, ap, sym, subst, ◌∙◌, arith, length-append, append-nil}
+use Rattle.std.proofs.Common.{◌≡◌, ℕ, ◌+◌, ◌-◌, ◌*◌, ◌<◌, ◌≤◌, true, false, List, [], ◌∷◌, ◌++◌, length, refl, ap, sym, subst, ◌∙◌, arith, length-append, append-nil}
 use Rattle.std.specs.Prelude.{slice_index, Option, Some, None, is_some, IfSome, MatchOption}
-use Rattle.std.specs.List.{filter}
-use Rattle.std.proofs.lemmas.List.{take_more, length-drop, get_or-drop}
-use Rattle.std.proofs.lemmas.List.Elements.{filter-append}
 use Rattle.lexical_format.specs.Digits.{digit_of_radix}
 use Rattle.lexical_digits.specs.declared.skip.rule.Rule.{Rule}
 use Rattle.lexical_digits.specs.Separators.{is_digit, is_separator, IsSupported}
@@ -12,7 +9,8 @@ use Rattle.lexical_digits.specs.Stop.{stop}
 use Rattle.lexical_digits.proofs.Calls.FirstOther.{stop_is_first}
 use Rattle.digit_literals.specs.After.{digits_between, ExceedsAt}
 use Rattle.digit_literals.specs.Reads.{IsWorth, IsMore, IsOffSlice}
-use Rattle.digit_literals.proofs.Values.{value_next, worth_next}
+use Rattle.digit_literals.proofs.Worth.{value_next, worth_next}
+use Rattle.digit_literals.proofs.Between.{none_between, more_between}
 use Rattle.digit_literals.proofs.StopSteps.{stop_digit, stop_other, stop_dropped, stop_end, no_digit, dropped}
 
 module _ (rule : Rule) (text : List ℕ) (start : ℕ) where
@@ -26,31 +24,13 @@ module _ (rule : Rule) (text : List ℕ) (start : ℕ) where
     pub goes_on : (own : ℕ) → stop rule text start own
         ≡ stop rule text at (own + length (digits_between rule text start at))
 
-  none_between : digits_between rule text start start ≡ []
-  none_between = let none : start - start ≡ zero = omega arith in rw none refl
-
   pub none_led : HasLed start 0
-  none_led = let none = ap length none_between in record {
+  none_led = let none = ap length (none_between rule text start) in record {
     all = omega (arith, none);
     few = omega arith;
     fewer = λ l. absurd (omega (arith, l));
     goes_on = λ own. ap (stop rule text start) (omega (arith, none));
   }
-
-  pub more_between : (at : ℕ) → start ≤ at → at < length text
-      → digits_between rule text start (at + 1) ≡ digits_between rule text start at
-      ++ filter (is_digit rule) (slice_index text at ∷ [])
-  more_between at low l =
-      let rest : List ℕ = drop start text in
-      let next : at + 1 - start ≡ at - start + 1 = omega (arith, low) in
-      let inside : at - start < length rest = omega (arith, length-drop start text, l, low) in
-      let back : start + (at - start) ≡ at = omega (arith, low) in
-      let there : slice_index rest (at - start) ≡ slice_index text at = rw (get_or-drop, back) refl
-      in
-      ap (λ (n : ℕ). filter (is_digit rule) (take n rest)) next
-      ∙ ap (filter (is_digit rule)) (take_more rest (at - start) 0 inside)
-      ∙ filter-append (is_digit rule) (take (at - start) rest) (slice_index rest (at - start) ∷ [])
-      ∙ ap (λ (b : ℕ). digits_between rule text start at ++ filter (is_digit rule) (b ∷ [])) there
 
   module _ (at separators : ℕ) (so : HasLed at separators) (l : at < length text) where
     -- ---- a digit
@@ -62,7 +42,7 @@ module _ (rule : Rule) (text : List ℕ) (start : ℕ) where
 
       longer : digits_between rule text start (at + 1)
           ≡ digits_between rule text start at ++ slice_index text at ∷ []
-      longer = more_between at (omega (arith, so.all)) l ∙ rw is refl
+      longer = more_between rule text start at (omega (arith, so.all)) l ∙ rw is refl
 
       one_more : length (digits_between rule text start (at + 1))
           ≡ length (digits_between rule text start at) + 1
@@ -98,7 +78,7 @@ module _ (rule : Rule) (text : List ℕ) (start : ℕ) where
         (internal : rule.internal ≡ true) (within : at + 1 < length text)
         (digit : is_digit rule (slice_index text (at + 1)) ≡ true) where
       pub same : digits_between rule text start (at + 1) ≡ digits_between rule text start at
-      same = more_between at (omega (arith, so.all)) l
+      same = more_between rule text start at (omega (arith, so.all)) l
           ∙ rw (no_digit rule text supported at l separates internal within digit)
           (append-nil (digits_between rule text start at))
 

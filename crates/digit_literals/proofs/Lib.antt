@@ -6,6 +6,9 @@ pub mod StopSteps
 pub mod Leads
 pub mod Counted
 pub mod Zeros
+pub mod PassedZeros
+pub mod Between
+pub mod Worth
 pub mod Whole
 pub mod Texts
 pub mod Within

@@ -1,49 +1,22 @@
 -- What a read of digits leaves of a `Bytes`, in words of the state.
-use Rattle.std.proofs.Common.{◌≡◌, ℕ, ◌-◌, ◌*◌, ◌≤◌, Bool, true, false, not, List, length, take, drop, filter, Option, Some, None, Err, refl, ap, sym, subst, ◌∙◌, arith, pos, ◌≤ℤ◌, ◌+ℤ◌}
+use Rattle.std.proofs.Common.{◌≡◌, ℕ, ◌-◌, ◌*◌, ◌≤◌, Bool, true, false, not, List, length, drop, Option, Some, None, Err, refl, ap, sym, subst, ◌∙◌, arith, pos, ◌≤ℤ◌, ◌+ℤ◌}
 use Rattle.std.specs.Prelude.{if◌then◌else◌, IfSome, MatchOption}
 use Rattle.std.proofs.lemmas.Int.{ints}
 use Rattle.std.proofs.lemmas.List.{length-drop}
 use Rattle.std.proofs.lemmas.List.Filters.{length-filter_both}
 use Rattle.std.proofs.lemmas.Option.{IfSome_then}
 use Rattle.lexical_digits.specs.declared.skip.component.Component.{Component}
-use Rattle.lexical_digits.specs.declared.skip.rule.Rule.{Rule}
 use Rattle.lexical_digits.specs.Separators.{is_digit}
-use Rattle.lexical_digits.specs.Cursor.{zeros, after_zeros}
 use Rattle.lexical_digits.specs.State.{State, IsState, with_cursor, rule, own, with_own, counts, saturating}
-use Rattle.lexical_digits.specs.CallTable.{place_of, settled, counted, zeros_of, past_zeros_of}
 use Rattle.lexical_digits.specs.Looks.{Held, IsCopy, owed}
 use Rattle.lexical_digits.specs.Stop.{stop_of, leading_digits_of}
 use Rattle.lexical_digits.proofs.Calls.Stops.{leading_between}
-use Rattle.lexical_digits.proofs.Calls.ItemsOfComponents.{zeros_are, after_zeros_are}
-use Rattle.digit_literals.specs.After.{digits_between, digits_to, past_digits_to, ExceedsAt}
+use Rattle.digit_literals.specs.After.{digits_to, past_digits_to, ExceedsAt}
 use Rattle.digit_literals.specs.Reads.{IsWorth, ReadsTo, IsOffSlice, Passes, ReadsOn, outcome}
 use Rattle.digit_literals.specs.declared.reading.TooLarge.{TooLarge}
 use Rattle.digit_literals.specs.declared.slice.ReadTo.{ReadTo}
 use Rattle.digit_literals.proofs.ForCallers.{fewer}
-use Rattle.digit_literals.proofs.Texts.{take_twice}
-
--- ---- zeros that are passed
-
-pub zeros_lead : (k : Component) (s : State) → IsState s
-    → zeros (λ (m : State). m.buffer) (λ m. m.cursor) (place_of k) with_cursor (settled k)
-    (counted k) s ≡ zeros_of k s
-zeros_lead = zeros_are
-
-pub after_zeros_lead : (k : Component) (s : State) → IsState s
-    → after_zeros (λ (m : State). m.buffer) (λ m. m.cursor) (place_of k) with_cursor (settled k)
-    (counted k) s ≡ past_zeros_of k s
-after_zeros_lead = after_zeros_are
-
-pub ruleset leading_zeros = (zeros_lead, after_zeros_lead)
-
--- ---- digits between two positions
-
-fewer_between : (rule : Rule) (text : List ℕ) (start at end : ℕ) → at ≤ end
-    → length (digits_between rule text start at) ≤ length (digits_between rule text start end)
-fewer_between rule text start at end l =
-    let same = take_twice (at - start) (end - start) (drop start text) (omega (arith, l)) in
-    subst (λ xs. length (filter (is_digit rule) xs) ≤ length (digits_between rule text start end))
-    same (fewer (is_digit rule) (at - start) (take (end - start) (drop start text)))
+use Rattle.digit_literals.proofs.Between.{fewer_between}
 
 pub digits_fit : (k : Component) (s : State) → IsState s
     → length (leading_digits_of k s) ≤ length s.buffer

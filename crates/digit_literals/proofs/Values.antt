@@ -1,76 +1,17 @@
 -- The value of digits that were taken, after that of others.
-use Rattle.std.proofs.Common.{◌≡◌, ◌≢◌, ℕ, ◌+◌, ◌*◌, ◌-◌, ◌^◌, ◌<◌, ◌≤◌, Bool, true, false, List, [], ◌∷◌, ◌++◌, length, take, slice_get, slice_index, Option, Some, None, is_some, option_and_then, refl, ap, sym, ◌∙◌, arith}
-use Rattle.std.specs.Char.{digit_value}
+use Rattle.std.proofs.Common.{◌≡◌, ℕ, ◌+◌, ◌*◌, ◌-◌, ◌^◌, ◌<◌, ◌≤◌, Bool, List, [], ◌∷◌, ◌++◌, length, take, slice_get, slice_index, Option, Some, None, option_and_then, refl, ap, sym, ◌∙◌, arith}
 use Rattle.std.specs.Prelude.{IfSome}
 use Rattle.std.specs.Fn.{iterate}
 use Rattle.std.specs.Str.Parse.{digits_value_after}
-use Rattle.std.proofs.lemmas.Bool.Decides.{nat_tests}
 use Rattle.std.proofs.lemmas.List.{take_more, take_all}
-use Rattle.std.proofs.lemmas.Option.{gets}
 use Rattle.lexical_format.specs.Digits.{digit_of_radix, is_digit_of_radix}
-use Rattle.lexical_format.specs.Digits as words
-use Rattle.lexical_digits.specs.Cursor.{holds_of, DigitLaws}
+use Rattle.lexical_digits.specs.Cursor.{DigitLaws}
 use Rattle.lexical_digits.specs.Stop.{after_leading}
 use Rattle.digit_literals.specs.declared.reading.Digits.{Digits}
 use Rattle.digit_literals.specs.Reads.{IsWorth, IsMore}
-use Rattle.digit_literals.specs.Outcomes.{digits, ReadsAfter, StopsAt, ReadsAll, FindsNone}
+use Rattle.digit_literals.specs.Outcomes.{digits, ReadsAfter, StopsAt, FindsNone}
+use Rattle.digit_literals.proofs.Worth.{digit_at, none_at, value_next, worth_next}
 use Rattle.digit_literals.proofs.Taking.{HasTaken, HasNext, none_taken, has_next, one_taken, moves_on, counts_bytes, all_taken, leaves_all}
-
--- ---- a byte
-
--- the value of a digit is that of std
-pub value_is : (radix byte d : ℕ) → digit_of_radix radix byte ≡ Some d → digit_value byte ≡ d
-unfolding words.digit_value
-value_is radix byte d e = grind (arith, nat_tests)
-
-pub record IsDigitAt (radix : ℕ) (xs : List ℕ) (i d : ℕ) : Type 0 where
-  pub is : holds_of (is_digit_of_radix radix) (slice_get xs i) ≡ true
-  pub value : digit_of_radix radix (slice_index xs i) ≡ Some d
-
-digit_at : (radix : ℕ) (xs : List ℕ) (i d : ℕ)
-    → option_and_then (digit_of_radix radix) (slice_get xs i) ≡ Some d → IsDigitAt radix xs i d
-digit_at radix xs i d e = here (slice_get xs i) refl e
-  where
-    here : (o : Option ℕ) → slice_get xs i ≡ o
-        → option_and_then (digit_of_radix radix) o ≡ Some d → IsDigitAt radix xs i d
-    here None there h = cc
-    here (Some byte) there h =
-        let same : slice_index xs i ≡ byte = grind (arith, gets) in
-        record {
-          is = rw there (ap is_some h);
-          value = rw same h;
-        }
-
-pub none_at : (radix : ℕ) (o : Option ℕ) → option_and_then (digit_of_radix radix) o ≡ None
-    → holds_of (is_digit_of_radix radix) o ≡ false
-none_at radix None e = refl
-none_at radix (Some byte) e = ap is_some e
-
--- ---- a list
-
-pub value_push : (radix n : ℕ) (ds : List ℕ) (c : ℕ)
-    → digits_value_after radix n (ds ++ c ∷ [])
-    ≡ digits_value_after radix n ds * radix + digit_value c
-value_push radix n [] c = refl
-value_push radix n (d ∷ ds) c = value_push radix (n * radix + digit_value d) ds c
-
--- ---- a value, and one more digit
-
-pub value_next : (radix before value d : ℕ) (ds : List ℕ) (byte : ℕ)
-    → digit_of_radix radix byte ≡ Some d → value ≡ digits_value_after radix before ds
-    → digits_value_after radix before (ds ++ byte ∷ []) ≡ value * radix + d
-value_next radix before value d ds byte e is =
-    value_push radix before ds byte ∙ rw (← is, value_is radix byte d e) refl
-
-pub worth_next : (radix before : ℕ) (most : Option ℕ) (value d more : ℕ) (ds : List ℕ) (byte : ℕ)
-    → digit_of_radix radix byte ≡ Some d → IfSome most (IsWorth radix before ds value)
-    → IfSome most (IsMore radix value d more)
-    → IfSome most (IsWorth radix before (ds ++ byte ∷ []) more)
-worth_next radix before None value d more ds byte e worth is_more = tt
-worth_next radix before (Some m) value d more ds byte e worth is_more = record {
-  is = is_more.is ∙ sym (value_next radix before value d ds byte e worth.is);
-  fits = is_more.fits;
-}
 
 -- ---- what was read
 
@@ -184,16 +125,6 @@ pub ruleset reading = (none_read, one_read, reads_on, counts_read, stops_at, rea
 
 module _ {M : Type 0} (buffer : M → List ℕ) (cursor place : M → ℕ) (taken settled : M → M)
     (radix : ℕ) (m : M) where
-  pub reads_all : (read : Digits) (t : M)
-      → ReadsAfter buffer cursor place taken settled radix 0 (2 ^ 64 - 1) m read t
-      → read.count ≢ 0 → ReadsAll buffer cursor place taken settled radix m read.value t
-  reads_all read t h some = record {
-    some = omega (arith, some, h.counts);
-    is = h.is;
-    fits = omega (arith, h.fits);
-    leaves = h.leaves;
-  }
-
   pub finds_none : (read : Digits) (at : ℕ) (t : M)
       → ReadsAfter buffer cursor place taken settled radix 0 (2 ^ 64 - 1) m read t
       → read.count ≡ 0 → at ≡ cursor t → cursor (settled m) ≡ place m

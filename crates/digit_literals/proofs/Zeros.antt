@@ -1,32 +1,24 @@
 -- Zeros that lead are digits that lead, up to the first with which the value is above 0.
-use Rattle.std.proofs.Common.{◌≡◌, ℕ, zero, suc, one-add, ◌+◌, ◌-◌, ◌*◌, ◌<◌, ◌≤◌, Bool, true, false, cond, eqb, List, [], ◌∷◌, ◌++◌, length, append-nil, filter, Some, ◌^◌, refl, ap, sym, ◌∙◌, arith, inl, inr}
+use Rattle.std.proofs.Common.{◌≡◌, ℕ, zero, suc, one-add, ◌+◌, ◌-◌, ◌*◌, ◌<◌, ◌≤◌, true, false, eqb, List, ◌∷◌, length, refl, ap, sym, ◌∙◌, arith, inl, inr}
 use Rattle.std.specs.Prelude.{slice_index, slice_get}
 use Rattle.std.specs.Char.{digit_value}
 use Rattle.std.specs.Str.Parse.{digits_value_after}
 use Rattle.std.proofs.lemmas.Bool.{cases_Bool, cases_lt, not-false, not-true}
 use Rattle.std.proofs.lemmas.Bool.Decides.{nat_tests}
-use Rattle.std.proofs.lemmas.List.{drop_more}
 use Rattle.std.proofs.lemmas.Str.Parse.{digits_value-take-le}
 use Rattle.std.proofs.lemmas.Option.{slice_get-get_or, slice_get_past}
 use Rattle.lexical_format.specs.Digits as words
 use Rattle.lexical_digits.specs.Cursor.{holds_of}
 use Rattle.lexical_digits.specs.declared.skip.rule.Rule.{Rule}
-use Rattle.lexical_digits.specs.declared.skip.component.Component.{Component}
-use Rattle.lexical_digits.specs.declared.skip.component.Component.TheVariants.{Integer, Fraction, Exponent, Special}
-use Rattle.lexical_digits.specs.State.{State, IsState, with_cursor, with_own, rule, own, counts, saturating}
-use Rattle.lexical_digits.specs.CallTable.{counted_by, zeros_of, past_zeros_of}
+use Rattle.lexical_digits.specs.State.{rule}
 use Rattle.lexical_digits.specs.Separators.{is_digit, is_kept, place, zeros, past_zeros, drain, IsSupported}
 use Rattle.lexical_digits.specs.Stop.{stop}
 use Rattle.lexical_digits.specs.Laws.Kept.{positions_dropped, place_kept, place_end, no_digit_at_separator}
 use Rattle.lexical_digits.proofs.Rule.Drain.{zeros_none, past_none}
 use Rattle.lexical_digits.proofs.Rule.Runs.{dropped_is_separator}
-use Rattle.lexical_digits.proofs.Rule.Supported.{supported_rule}
 use Rattle.lexical_digits.proofs.Calls.FirstOther.{stop_is_first}
 use Rattle.digit_literals.specs.After.{digits_between}
-use Rattle.digit_literals.specs.Reads.{ReadsTo, IsOffSlice}
-use Rattle.digit_literals.specs.declared.slice.ReadTo.{ReadTo}
-use Rattle.digit_literals.proofs.Leads.{more_between}
-use Rattle.digit_literals.proofs.Values.{value_push}
+use Rattle.digit_literals.proofs.Between.{first_between}
 use Rattle.digit_literals.proofs.StopSteps.{positions_digit, digit_kept, stop_digit, stop_dropped}
 
 -- the digit without a value is `0`
@@ -39,14 +31,6 @@ nonzero : (byte : ℕ) → 0 < digit_value byte → eqb byte 48 ≡ false
 nonzero byte some = grind (arith, nat_tests)
 
 module _ (rule : Rule) (text : List ℕ) (supported : IsSupported rule) where
-  first_between : (at end : ℕ) → at < end → at < length text
-      → digits_between rule text at end ≡ cond (is_digit rule (slice_index text at))
-      (slice_index text at ∷ digits_between rule text (at + 1) end)
-      (digits_between rule text (at + 1) end)
-  first_between at end l within =
-      let more : end - at ≡ suc (end - (at + 1)) = omega (arith, l) in
-      rw (more, drop_more text at 0 within)
-
   -- ---- one step
 
   zeros_digit : (at count : ℕ) → at < length text → eqb (slice_index text at) 48 ≡ true
@@ -80,7 +64,7 @@ module _ (rule : Rule) (text : List ℕ) (supported : IsSupported rule) where
 
   module _ (stopped end : ℕ) (within : end ≤ length text) (before : end ≤ stopped)
       (last : (count : ℕ) → stop rule text end count ≡ stopped → AreZeros end end count) where
-    walk : (d at count : ℕ) → at + d ≡ end → stop rule text at count ≡ stopped
+    pub walk : (d at count : ℕ) → at + d ≡ end → stop rule text at count ≡ stopped
         → digits_value_after rule.radix 0 (digits_between rule text at end) ≡ 0
         → AreZeros end at count
     walk zero at count e stops none =
@@ -88,7 +72,7 @@ module _ (rule : Rule) (text : List ℕ) (supported : IsSupported rule) where
         rw same (last count (rw same at stops))
     walk (suc d) at count e stops none =
         let l : at < length text = omega (arith, e, within) in
-        let first = first_between at end (omega (arith, e)) l in
+        let first = first_between rule text at end (omega (arith, e)) l in
         elim (cases_Bool (is_kept rule text at count at)) [
           | inl kept ↦
               let is : is_digit rule (slice_index text at) ≡ true =
@@ -156,7 +140,7 @@ module _ (rule : Rule) (text : List ℕ) (supported : IsSupported rule) where
   unfolding is_digit words.digit_value
   not_zero byte e = grind (arith, nat_tests, supported.low)
 
-  at_stop : (end count : ℕ) → end ≤ length text → stop rule text end count ≡ end
+  pub at_stop : (end count : ℕ) → end ≤ length text → stop rule text end count ≡ end
       → AreZeros end end count
   at_stop end count within stops =
       let first = stop_is_first rule text end count within in
@@ -171,101 +155,9 @@ module _ (rule : Rule) (text : List ℕ) (supported : IsSupported rule) where
             (rw (slice_get_past text end l) refl)
       ]
 
-  at_digit : (end count : ℕ) → end < length text → is_digit rule (slice_index text end) ≡ true
+  pub at_digit : (end count : ℕ) → end < length text → is_digit rule (slice_index text end) ≡ true
       → 0 < digit_value (slice_index text end) → AreZeros end end count
   at_digit end count l is some =
       ends end count
       (place_kept rule text end count l (digit_kept rule text end count l is))
       (other_than end l (nonzero (slice_index text end) some))
-
-module _ (rule : Rule) (text : List ℕ) (supported : IsSupported rule) (start own : ℕ)
-    (l : start ≤ length text) where
-  -- the digits that were read up to the value 0 are the zeros
-  pub zeros_read : (large : Bool) (value count end : ℕ)
-      → ReadsTo rule text start 0 (Some 0)
-      (record { value = value; count = count; end = end; is_too_large = large }) own
-      → AreZeros rule text supported end start own
-  zeros_read false value count end h =
-      walk rule text supported end end h.within (omega arith)
-      (λ c stops. at_stop rule text supported end c h.within stops)
-      (end - start) start own (omega (arith, h.onward)) (sym (h.stops refl))
-      (omega (arith, h.worth.is, h.worth.fits))
-  zeros_read true value count end h =
-      let over = h.exceeds refl in
-      let first = stop_is_first rule text start own l in
-      let inside : end < length text = omega (arith, over.before_stop, first.within) in
-      let more = more_between rule text start end over.onward inside in
-      let none : digits_value_after rule.radix 0 (digits_between rule text start end) ≡ 0 =
-      omega (arith, over.fits) in
-      walk rule text supported (stop rule text start own) end h.within
-      (omega (arith, over.before_stop))
-      (λ c _. large_digit more none over.passes inside c)
-      (end - start) start own (omega (arith, h.onward)) refl none
-    where
-      large_digit : digits_between rule text start (end + 1)
-          ≡ digits_between rule text start end ++ filter (is_digit rule) (slice_index text end ∷ [])
-          → digits_value_after rule.radix 0 (digits_between rule text start end) ≡ 0
-          → 0 < digits_value_after rule.radix 0 (digits_between rule text start (end + 1))
-          → end < length text → (c : ℕ) → AreZeros rule text supported end end c
-      large_digit more none passes inside c =
-          elim (cases_Bool (is_digit rule (slice_index text end))) [
-            | inl is ↦
-                let pushed : digits_value_after rule.radix 0 (digits_between rule text start (end + 1))
-                ≡ digits_value_after rule.radix 0 (digits_between rule text start end) * rule.radix
-                + digit_value (slice_index text end) =
-                rw (more, is) (value_push rule.radix 0 (digits_between rule text start end)
-                (slice_index text end)) in
-                at_digit rule text supported end c inside is
-                (omega (arith, passes, rw none at pushed))
-            | inr gone ↦
-                let same : digits_value_after rule.radix 0 (digits_between rule text start (end + 1))
-                ≡ digits_value_after rule.radix 0 (digits_between rule text start end) =
-                rw (more, gone) (ap (digits_value_after rule.radix 0)
-                (append-nil (digits_between rule text start end))) in
-                absurd (omega (arith, passes, same, none))
-          ]
-
--- ---- of a component
-
--- what was read off the slice up to the value 0
-pub record HasZeros (k : Component) (s : State) (count end : ℕ) : Type 0 where
-  pub zeros : count ≡ zeros_of k s
-  pub past : past_zeros (rule k s) s.buffer s.cursor (own k s) ≡ end
-
-pub has_zeros : (k : Component) (s : State) (read : ReadTo) → IsState s
-    → IsOffSlice (rule k s) s.buffer s.cursor 0 (Some 0) read → HasZeros k s read.count read.end
-has_zeros k s read v off =
-    let reads = off.reads (own k s) in
-    let are = zeros_read (rule k s) s.buffer (supported_rule s.word k v.word) s.cursor (own k s)
-    v.within read.is_too_large read.value read.count read.end reads in
-    record {
-      zeros = reads.digits ∙ sym are.zeros;
-      past = are.past;
-    }
-
--- none of them counted by `pass_read`, and then all by `increment_count_of`
-added : (counting : Bool) (own count : ℕ) → own < 2 ^ 64
-    → saturating (cond counting (saturating own 0) own) count ≡ saturating own count
-added true own count l = omega (arith, l)
-added false own count l = refl
-
-pub zeros_counted : (k : Component) (s t : State) (count end : ℕ) → IsState s
-    → HasZeros k s count end
-    → t ≡ counted_by count k (with_cursor (with_own k s
-    (cond (counts k s.word) (saturating (own k s) 0) (own k s))) end)
-    → t ≡ past_zeros_of k s
-zeros_counted k s t count end v h e =
-    e ∙ at_end k
-    ∙ ap (λ (n : ℕ). with_cursor (with_own k s (saturating (own k s) n)) end) h.zeros
-    ∙ ap (with_cursor (with_own k s (saturating (own k s) (zeros_of k s)))) (sym h.past)
-  where
-    at_end : (j : Component) → counted_by count j (with_cursor (with_own j s
-        (cond (counts j s.word) (saturating (own j s) 0) (own j s))) end)
-        ≡ with_cursor (with_own j s (saturating (own j s) count)) end
-    at_end Integer = ap (λ (n : ℕ). with_cursor (with_own Integer s n) end)
-        (added (counts Integer s.word) s.integer count v.integer)
-    at_end Fraction = ap (λ (n : ℕ). with_cursor (with_own Fraction s n) end)
-        (added (counts Fraction s.word) s.fraction count v.fraction)
-    at_end Exponent = ap (λ (n : ℕ). with_cursor (with_own Exponent s n) end)
-        (added (counts Exponent s.word) s.exponent count v.exponent)
-    at_end Special = refl

@@ -156,7 +156,7 @@ pub fn pass_zeros(bytes: &mut Bytes, component: Component) -> usize
 /// [`pass_zeros`] by the iterator of the component.
 #[cold]
 #[inline(never)]
-#[tactic(auto, using(crate::proofs::States::leading_zeros))]
+#[tactic(auto, using(crate::proofs::PassedZeros::leading_zeros))]
 fn skip_zeros_of(bytes: &mut Bytes, component: Component) -> usize
     ensures zeros { result ≡ zeros_of component bytes.old.state }
     ensures state { bytes.new.state ≡ past_zeros_of component bytes.old.state }

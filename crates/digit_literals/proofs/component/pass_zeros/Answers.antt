@@ -4,7 +4,7 @@ use Rattle.lexical_digits.specs.State.{State}
 use Rattle.lexical_digits.specs.Looks.{IsCopy}
 use Rattle.lexical_digits.specs.Laws.Table.{with_own_buffer, with_own_word}
 use Rattle.digit_literals.proofs.States.{owed_same}
-use Rattle.digit_literals.proofs.Zeros.{has_zeros, zeros_counted}
+use Rattle.digit_literals.proofs.PassedZeros.{has_zeros, zeros_counted}
 use Rattle.digit_literals.proofs.component.pass_zeros.Goals as goal
 
 pub pass_read-requires-clause-within : goal.pass_read-requires-clause-within
