@@ -59,6 +59,8 @@ pub fn drained<B: Buffers>(work: Work, word: u128) -> Way {
         Work::Zeros => on_each(move |text| zeros::<B>(text, word)),
         Work::Floats | Work::FloatsOf => on_each(move |text| float::<B>(text, word)),
         Work::Mantissas => on_each(move |text| mantissa::<B>(text, word)),
+        Work::Lines => Box::new(move |text| lines::<B>(&text.bytes, word)),
+        Work::Parts => on_each(move |text| parts::<B>(text, word)),
     }
 }
 
@@ -242,6 +244,23 @@ fn cleared<B: Buffers>(text: &[u8], word: u128) -> Outcome {
     Outcome { value: total, count: text.len() as u64, looks: 0 }
 }
 
+/// The number of each line, added up, and where the last one ends.
+#[inline(always)]
+fn lines<B: Buffers>(text: &[u8], word: u128) -> Outcome {
+    let mut total = 0u64;
+    let mut start = 0;
+    while start < text.len() {
+        let mut bytes = B::Bytes::over(&text[start..], word);
+        let mut iter = bytes.integer();
+        let Some((value, _)) = value_after(&mut iter, B::radix(word), 0) else {
+            break;
+        };
+        total = total.wrapping_add(value);
+        start += iter.cursor() + 1;
+    }
+    Outcome { value: total, count: start as u64, looks: 0 }
+}
+
 /// The value of the digits that lead, after a value, and how many they are, if `u64` holds it.
 #[inline(always)]
 fn value_after<'a>(iter: &mut impl Digits<'a>, radix: u32, before: u64) -> Option<(u64, usize)> {
@@ -297,4 +316,32 @@ fn component_value<'a>(mut iter: impl Digits<'a>, radix: u32, before: u64) -> u6
     let value = value_after(&mut iter, radix, before).map_or(0, |read| read.0);
     iter.next();
     value
+}
+
+/// The mantissa and the decimal exponent, which is that written less the digits of the fraction;
+/// and where the number ends. Nothing where `u64` does not hold one.
+#[inline(always)]
+fn parts<B: Buffers>(text: &[u8], word: u128) -> Outcome {
+    let mut bytes = B::Bytes::over(text, word);
+    match parts_of::<B>(&mut bytes, B::radix(word)) {
+        Some(value) => Outcome { value, count: bytes.integer().cursor() as u64, looks: 0 },
+        None => Outcome::default(),
+    }
+}
+
+#[inline(always)]
+fn parts_of<B: Buffers>(bytes: &mut B::Bytes<'_>, radix: u32) -> Option<u64> {
+    let (integer, _) = part(bytes.integer(), radix, 0)?;
+    let (mantissa, places) = part(bytes.fraction(), radix, integer)?;
+    let (exponent, _) = value_after(&mut bytes.exponent(), radix, 0)?;
+    Some(float_of([0, mantissa, exponent.wrapping_sub(places as u64)]))
+}
+
+/// The value of a component that another one follows, and how many digits it has. The byte that
+/// ends it is passed.
+#[inline(always)]
+fn part<'a>(mut iter: impl Digits<'a>, radix: u32, before: u64) -> Option<(u64, usize)> {
+    let read = value_after(&mut iter, radix, before)?;
+    iter.next();
+    Some(read)
 }

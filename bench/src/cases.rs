@@ -2,14 +2,14 @@
 
 use crate::measure::Job;
 use crate::texts::{
-    digits, each_third, floats, hex_digits, hex_numbers, literals, numbers, others, runs,
+    digits, each_third, floats, hex_digits, hex_numbers, lines, literals, numbers, others, runs,
     signed_literals, stopped_numbers, zeros, Text,
 };
 use crate::word::{I, IC, ILTC, I_16, I_IN_ALL, NONE};
 use crate::work::Sides;
 use crate::work::Work::{
-    Cleared, Counted, Digits, Eights, Floats, FloatsOf, Handed, Literals, Mantissas, Number,
-    Numbers, Parsed, Peeked, Signed, Stopped, Sum, Zeros,
+    Cleared, Counted, Digits, Eights, Floats, FloatsOf, Handed, Lines, Literals, Mantissas, Number,
+    Numbers, Parsed, Parts, Peeked, Signed, Stopped, Sum, Zeros,
 };
 
 /// The greatest wanted ratio of the library, with its word at run time, to the floor.
@@ -118,6 +118,7 @@ fn literal_texts() -> Vec<Case> {
     let [signed, grouped_signed]: [fn() -> Text; 2] =
         [|| signed_literals(false), || signed_literals(true)];
     let grouped_zeros = || zeros(true);
+    let [lines, grouped_lines]: [fn() -> Text; 2] = [|| lines(false), || lines(true)];
     vec![
         Case::new("j: no flags, literals", plain, Sides::skip::<NONE>(Literals)),
         Case::new("j: I, literals", plain, Sides::skip::<I>(Literals)),
@@ -127,6 +128,8 @@ fn literal_texts() -> Vec<Case> {
         Case::new("p: no flags, parse_signed", signed, Sides::skip::<NONE>(Signed)),
         Case::new("p: I, grouped, parse_signed", grouped_signed, Sides::skip::<I>(Signed)),
         Case::new("p: I, grouped, count_digits", grouped, Sides::skip::<I>(Counted)),
+        Case::new("t: no flags, lines", lines, Sides::skip::<NONE>(Lines)),
+        Case::new("t: I, grouped, lines", grouped_lines, Sides::skip::<I>(Lines)),
         Case::new("q: no flags, clear_counts", stopped, Sides::skip::<NONE>(Cleared)),
         Case::new("q: I, grouped, clear_counts", grouped_stopped, Sides::skip::<I>(Cleared)),
         Case::new("o: no flags, pass_digits", stopped, Sides::skip::<NONE>(Digits)),
@@ -149,5 +152,7 @@ fn other_texts() -> Vec<Case> {
         Case::new("l: I, grouped, by next_of", grouped, Sides::skip::<I_IN_ALL>(FloatsOf)),
         Case::new("l: no flags, by read_digits_of", plain, Sides::skip::<NONE>(Mantissas)),
         Case::new("l: I, grouped, by read_digits_of", grouped, Sides::skip::<I_IN_ALL>(Mantissas)),
+        Case::new("s: no flags, mantissa and exponent", plain, Sides::skip::<NONE>(Parts)),
+        Case::new("s: I, grouped, mantissa and exponent", grouped, Sides::skip::<I_IN_ALL>(Parts)),
     ]
 }

@@ -21,10 +21,11 @@ pub fn filtered<const WORD: u128>(work: Work) -> Option<Way> {
         Work::Numbers => Some(Box::new(|text| each(text, |text| of_value(number::<WORD>(text))))),
         Work::Literals => Some(Box::new(|text| each_parsed(text, Rule::<WORD>::RADIX))),
         Work::Floats | Work::FloatsOf => Some(Box::new(|text| each(text, float::<WORD>))),
-        Work::Parsed => Some(Box::new(|text| each_parsed(text, Rule::<WORD>::RADIX))),
+        Work::Parsed | Work::Lines => Some(Box::new(|text| each_parsed(text, Rule::<WORD>::RADIX))),
         Work::Signed => Some(Box::new(each_signed)),
         Work::Counted => Some(Box::new(|text| each(text, counted::<WORD>))),
         Work::Cleared => Some(Box::new(|text| of_value(sum_of_numbers::<WORD>(&text.bytes)))),
+        Work::Parts => Some(Box::new(each_float)),
         Work::Stopped | Work::Digits | Work::Zeros | Work::Mantissas => None,
     }
 }
@@ -55,6 +56,18 @@ fn each_signed(text: &Text) -> Outcome {
         rest = others;
     }
     of_value(total)
+}
+
+/// Each number as an `f64`, added up. The sum is no value that the other sides have.
+fn each_float(text: &Text) -> Outcome {
+    let mut total = 0.0;
+    let mut rest = &text.digits[..];
+    for &length in &text.digit_lengths {
+        let (first, others) = rest.split_at(length.into());
+        total += first.parse::<f64>().unwrap_or(0.0);
+        rest = others;
+    }
+    of_value(total.to_bits())
 }
 
 /// How many digits a text has.

@@ -48,6 +48,7 @@ exports! {
         digit_bench_handed
         digit_bench_eights
         digit_bench_cleared
+        digit_bench_lines
         digit_bench_plain_sum
         digit_bench_plain_number
         digit_bench_plain_peeked;
@@ -63,6 +64,7 @@ exports! {
         digit_bench_floats
         digit_bench_floats_of
         digit_bench_mantissas
+        digit_bench_parts
 }
 
 pub type Export = unsafe extern "C" fn(*const u8, usize, u64, u64, u32, *mut Outcome);

@@ -128,19 +128,30 @@ fn numbers_of(grouped: bool, digit: fn(&mut Random) -> u8, end: Option<u8>) -> T
 /// About a mebibyte of numbers of 8 to 20 digits, some above `u64::MAX`, and the same digits
 /// without separators; grouped by threes where `grouped` says so.
 pub fn literals(grouped: bool) -> Text {
-    literals_of(grouped, |_| None)
+    literals_of(grouped, 20, |_| None, None)
 }
 
 /// The same, with a sign before two of three.
 pub fn signed_literals(grouped: bool) -> Text {
-    literals_of(grouped, |random| [None, Some(b'-'), Some(b'+')][random.below(3) as usize])
+    let sign = |random: &mut Random| [None, Some(b'-'), Some(b'+')][random.below(3) as usize];
+    literals_of(grouped, 20, sign, None)
 }
 
-fn literals_of(grouped: bool, sign: fn(&mut Random) -> Option<u8>) -> Text {
+/// The same without signs, of 8 to 18 digits, each on a line of its own.
+pub fn lines(grouped: bool) -> Text {
+    literals_of(grouped, 18, |_| None, Some(b'\n'))
+}
+
+fn literals_of(
+    grouped: bool,
+    most: u64,
+    sign: fn(&mut Random) -> Option<u8>,
+    end: Option<u8>,
+) -> Text {
     let mut random = Random(SEED);
     let mut text = Text::default();
     while text.bytes.len() < MEBIBYTE {
-        let digits = 8 + random.below(13) as u8;
+        let digits = (8 + random.below(most - 7)) as u8;
         let start = text.bytes.len();
         let sign = sign(&mut random);
         text.bytes.extend(sign);
@@ -153,6 +164,7 @@ fn literals_of(grouped: bool, sign: fn(&mut Random) -> Option<u8>) -> Text {
             text.bytes.push(digit);
             text.digits.push(digit.into());
         }
+        text.bytes.extend(end);
         text.lengths.push((text.bytes.len() - start) as u8);
         text.digit_lengths.push(digits + u8::from(sign.is_some()));
     }
@@ -164,8 +176,9 @@ pub fn others() -> Text {
     mebibyte(|_, random| random.letter())
 }
 
-/// About a mebibyte of numbers of an integer, a fraction and an exponent, as `1234.56789e12`; with
-/// separators, as in `123_456.789_012e1_0`, where `grouped` says so.
+/// About a mebibyte of numbers of an integer, a fraction and an exponent, as `1234.56789e12`, and
+/// the same without separators; with separators, as in `123_456.789_012e1_0`, where `grouped` says
+/// so.
 pub fn floats(grouped: bool) -> Text {
     let mut random = Random(SEED);
     let mut text = Text::default();
@@ -176,7 +189,12 @@ pub fn floats(grouped: bool) -> Text {
         random.push_component(&mut text.bytes, 4..=9, grouped.then_some(3));
         text.bytes.push(b'e');
         random.push_component(&mut text.bytes, 2..=2, grouped.then_some(1));
-        text.lengths.push((text.bytes.len() - start) as u8);
+        let number = &text.bytes[start..];
+        let plain = number.iter().filter(|&&byte| byte != b'_').map(|&byte| char::from(byte));
+        let before = text.digits.len();
+        text.digits.extend(plain);
+        text.lengths.push(number.len() as u8);
+        text.digit_lengths.push((text.digits.len() - before) as u8);
     }
     text
 }

@@ -52,6 +52,12 @@ pub enum Work {
     FloatsOf,
     /// Reads integer and fraction as one value, and the exponent: the library by `read_digits_of`.
     Mantissas,
+    /// Reads the number of each line of a text: the library by `read_integer_from`. In place of the
+    /// filter stands `str::parse`, on each line without separators.
+    Lines,
+    /// Takes each of many numbers apart into mantissa and decimal exponent: the library by
+    /// `digit_uses::float`. In place of the filter stands `str::parse`, which makes an `f64`.
+    Parts,
 }
 
 /// One side's way to do the work.
@@ -71,6 +77,8 @@ pub struct Sides {
     pub original: Option<Way>,
     /// One pass over the slice.
     pub filter: Option<Way>,
+    /// Whether the filter comes to the same value as the others.
+    filter_agrees: bool,
 }
 
 impl Sides {
@@ -100,6 +108,7 @@ impl Sides {
             fixed: drained::<Fixed<WORD>>(work, WORD),
             original: original::<WORD>(work),
             filter: filtered::<WORD>(work),
+            filter_agrees: !matches!(work, Work::Parts),
         }
     }
 
@@ -120,7 +129,7 @@ impl Sides {
     /// Ends the program unless the sides agree on a text. The filter has no count.
     pub fn check(&self, name: &str, text: &Text) {
         let library = self.check_calls(name, text);
-        if let Some(filter) = &self.filter {
+        if let Some(filter) = self.filter.as_ref().filter(|_| self.filter_agrees) {
             assert_eq!(library.value, filter(text).value, "{name}: library and filter");
         }
     }
@@ -158,6 +167,8 @@ fn skipping(work: Work, format: Format) -> Way {
         Work::Floats => exported_many(library::digit_bench_floats, format),
         Work::FloatsOf => exported_many(library::digit_bench_floats_of, format),
         Work::Mantissas => exported_many(library::digit_bench_mantissas, format),
+        Work::Lines => exported(library::digit_bench_lines, format),
+        Work::Parts => exported_many(library::digit_bench_parts, format),
     }
 }
 

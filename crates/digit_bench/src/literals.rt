@@ -3,9 +3,10 @@
 use super::Outcome;
 use super::drains::drained;
 use super::format::Format;
-use super::work::{Work, run_each};
+use super::work::{Work, run, run_each};
 use digit_literals::{
     count_digits, parse_integer, parse_signed, pass_digits, pass_zeros, read_integer,
+    read_integer_from,
 };
 use lexical_digits::skip::{Bytes, Component};
 
@@ -23,6 +24,36 @@ impl Work for Literals {
             },
             Err(_) => Outcome::nothing(),
         }
+    }
+}
+
+/// Reads the number of each line by `read_integer_from`, and adds them up. The count is where the
+/// last line ends.
+struct Lines;
+
+impl Work for Lines {
+    #[inline(always)]
+    fn on<F: Format>(text: &[u8], format: F) -> Outcome {
+        lines_sum(text, format)
+    }
+}
+
+/// The numbers of the lines, up to the first line that begins with none.
+#[inline(always)]
+fn lines_sum<F: Format>(text: &[u8], format: F) -> Outcome {
+    let mut total: u64 = 0;
+    let mut start = 0;
+    while start < text.len() {
+        let Ok((value, end)) = read_integer_from(text, format.word(), start, u64::MAX) else {
+            break;
+        };
+        total = total.wrapping_add(value);
+        start = end + 1;
+    }
+    Outcome {
+        value: total,
+        count: start as u64,
+        looks: 0,
     }
 }
 
@@ -109,6 +140,17 @@ pub extern "C" fn digit_bench_literals(
     outcome: &mut Outcome,
 ) {
     *outcome = run_each::<Literals>(text, lengths, low, high, is_constant);
+}
+
+#[unsafe(no_mangle)]
+pub extern "C" fn digit_bench_lines(
+    text: &[u8],
+    low: u64,
+    high: u64,
+    is_constant: u32,
+    outcome: &mut Outcome,
+) {
+    *outcome = run::<Lines>(text, low, high, is_constant);
 }
 
 #[unsafe(no_mangle)]
