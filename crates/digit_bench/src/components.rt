@@ -5,8 +5,10 @@ use super::format::Format;
 use super::work::{Work, run_each};
 use super::{Outcome, loops};
 use digit_literals::read_digits_of;
+use digit_uses::float::read_float;
 use lexical_digits::iterator::Iter;
 use lexical_digits::skip::{Bytes, Component};
+use lexical_format::NumberFormat;
 
 /// What the components of a number came to.
 #[inline(always)]
@@ -84,6 +86,43 @@ impl Work for Mantissas {
         let exponent = value_of(&mut bytes, Component::Exponent, 0);
         read(0, mantissa, exponent, &bytes)
     }
+}
+
+/// Takes a number apart into mantissa and decimal exponent by `read_float`. The count is where it
+/// ends. Nothing where there is no number, or the radix isn't 10.
+struct Parts;
+
+impl Work for Parts {
+    #[inline(always)]
+    fn on<F: Format>(text: &[u8], format: F) -> Outcome {
+        let word = format.word();
+        if NumberFormat::new(word).mantissa_radix() != 10 {
+            return Outcome::nothing();
+        }
+        match read_float(text, word) {
+            Ok(float) => Outcome {
+                value: float
+                    .mantissa
+                    .wrapping_mul(31)
+                    .wrapping_add(float.exponent.cast_unsigned()),
+                count: float.end as u64,
+                looks: 0,
+            },
+            Err(_) => Outcome::nothing(),
+        }
+    }
+}
+
+#[unsafe(no_mangle)]
+pub extern "C" fn digit_bench_parts(
+    text: &[u8],
+    lengths: &[u8],
+    low: u64,
+    high: u64,
+    is_constant: u32,
+    outcome: &mut Outcome,
+) {
+    *outcome = run_each::<Parts>(text, lengths, low, high, is_constant);
 }
 
 #[unsafe(no_mangle)]
