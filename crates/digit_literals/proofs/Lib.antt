@@ -15,4 +15,4 @@ pub mod Within
 pub mod ForCallers
 pub mod Rest
 pub mod Significant
-pub mod FirstDigits
+pub mod Firsts

@@ -188,10 +188,11 @@ module _ (k : Component) (s : State) (before most at : ℕ) (v : IsState s)
   some_left : 0 < length (leading_digits_of k (past_digits_to k s at))
   some_left = omega (arith, leads, ap length after_is, length-drop n (leading_digits_of k s))
 
+  pub upto : digits_to k s (at + 1) ≡ take (n + 1) (leading_digits_of k s)
+  upto = ap (λ (i : ℕ). digits_to k s (i + 1)) same_place ∙ nth.upto
+
   over_all : most < digits_value_after (rule k s).radix before (leading_digits_of k s)
   over_all =
-      let upto : digits_to k s (at + 1) ≡ take (n + 1) (leading_digits_of k s) =
-      ap (λ (i : ℕ). digits_to k s (i + 1)) same_place ∙ nth.upto in
       omega (
         arith,
         h.passes,

@@ -1,8 +1,9 @@
 -- What a read of digits leaves of a `Bytes`, in words of the state.
-use Rattle.std.proofs.Common.{◌≡◌, ℕ, ◌-◌, ◌*◌, ◌≤◌, Bool, true, false, not, List, length, drop, Option, Some, None, Err, refl, ap, sym, subst, ◌∙◌, arith, pos, ◌≤ℤ◌, ◌+ℤ◌}
+use Rattle.std.proofs.Common.{◌≡◌, ℕ, ◌-◌, ◌*◌, ◌+◌, ◌≤◌, Bool, true, false, not, List, length, take, drop, filter, Option, Some, None, Ok, Err, refl, ap, sym, subst, ◌∙◌, arith, pos, ◌≤ℤ◌, ◌+ℤ◌}
 use Rattle.std.specs.Prelude.{if◌then◌else◌, IfSome, MatchOption}
+use Rattle.std.specs.List.{slice_range}
 use Rattle.std.proofs.lemmas.Int.{ints}
-use Rattle.std.proofs.lemmas.List.{length-drop}
+use Rattle.std.proofs.lemmas.List.{length-drop, length-take}
 use Rattle.std.proofs.lemmas.List.Filters.{length-filter_both}
 use Rattle.std.proofs.lemmas.Option.{IfSome_then}
 use Rattle.lexical_digits.specs.declared.skip.component.Component.{Component}
@@ -15,7 +16,7 @@ use Rattle.digit_literals.specs.After.{digits_to, past_digits_to, ExceedsAt}
 use Rattle.digit_literals.specs.Reads.{IsWorth, ReadsTo, IsOffSlice, Passes, ReadsOn, outcome}
 use Rattle.digit_literals.specs.declared.reading.TooLarge.{TooLarge}
 use Rattle.digit_literals.specs.declared.slice.ReadTo.{ReadTo}
-use Rattle.digit_literals.proofs.ForCallers.{fewer}
+use Rattle.digit_literals.proofs.ForCallers.{fewer, stop_from}
 use Rattle.digit_literals.proofs.Between.{fewer_between}
 
 pub digits_fit : (k : Component) (s : State) → IsState s
@@ -29,6 +30,19 @@ digits_fit k s v =
       fewer p n (drop s.cursor s.buffer),
       length-filter_both p (λ byte. not (p byte)) (λ byte. refl) (drop s.cursor s.buffer),
       length-drop s.cursor s.buffer,
+    )
+
+pub within_stop : (k : Component) (s : State) → IsState s
+    → s.cursor + length (leading_digits_of k s) ≤ stop_of k s
+within_stop k s v =
+    let p : ℕ → Bool = is_digit (rule k s) in
+    let between : List ℕ = slice_range s.buffer s.cursor (stop_of k s) in
+    omega (
+      arith,
+      ap length (leading_between k s v),
+      length-filter_both p (λ byte. not (p byte)) (λ byte. refl) between,
+      length-take (stop_of k s - s.cursor) (drop s.cursor s.buffer),
+      stop_from (rule k s) s.buffer s.cursor (own k s) v.within,
     )
 
 -- ---- off the slice

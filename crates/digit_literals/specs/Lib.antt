@@ -4,4 +4,5 @@ pub mod Reads
 pub mod Integers
 pub mod Rest
 pub mod Significant
+pub mod First
 pub mod Whole

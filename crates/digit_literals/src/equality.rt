@@ -3,7 +3,7 @@
 
 ghost use Rattle.std.specs.Prelude.{◌≡◌, true};
 
-use super::{Digits, LiteralError, ParseError, TooLarge};
+use super::{Digits, FirstDigits, LiteralError, ParseError, TooLarge};
 
 /// Two errors of a literal are equal exactly if they are the same.
 pub fn same_literal_error(a: LiteralError, b: LiteralError) -> bool
@@ -29,6 +29,14 @@ pub fn same_digits(a: Digits, b: Digits) -> bool
     a == b
 }
 
+/// Two answers of first digits are equal exactly if they are the same.
+pub fn same_first_digits(a: FirstDigits, b: FirstDigits) -> bool
+    ensures same { result ≡ true → a ≡ b }
+    ensures equal { a ≡ b → result ≡ true }
+{
+    a == b
+}
+
 /// Two errors of a value too large are equal exactly if they are the same.
 pub fn same_too_large(a: TooLarge, b: TooLarge) -> bool
     ensures same { result ≡ true → a ≡ b }
@@ -43,8 +51,9 @@ pub fn clones_are_same(
     parse_error: ParseError,
     digits: Digits,
     too_large: TooLarge,
-) -> (LiteralError, ParseError, Digits, TooLarge)
-    ensures { result ≡ (literal_error, parse_error, digits, too_large) }
+    first_digits: FirstDigits,
+) -> (LiteralError, ParseError, Digits, TooLarge, FirstDigits)
+    ensures { result ≡ (literal_error, parse_error, digits, too_large, first_digits) }
 {
     let literal_error = literal_error.clone().unwrap();
     let parse_error = parse_error.clone().unwrap();
@@ -53,5 +62,6 @@ pub fn clones_are_same(
         parse_error,
         digits.clone().unwrap(),
         too_large.clone().unwrap(),
+        first_digits.clone().unwrap(),
     )
 }

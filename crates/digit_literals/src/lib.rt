@@ -20,6 +20,7 @@ ghost use Rattle.digit_literals.specs.declared.parse.ParseError.{ParseError};
 
 mod component;
 pub mod equality;
+mod first;
 mod integer;
 pub mod laws;
 mod parse;
@@ -27,6 +28,7 @@ mod reading;
 mod slice;
 
 pub use self::component::{pass_digits, pass_zeros, read_digits_of, read_digits_up_to};
+pub use self::first::{FirstDigits, read_first_digits};
 pub use self::integer::{count_digits, read_integer, read_integer_from};
 pub use self::parse::{ParseError, parse_integer, parse_signed};
 pub use self::reading::{Digits, TooLarge, read_digits, read_digits_after, take_digits};

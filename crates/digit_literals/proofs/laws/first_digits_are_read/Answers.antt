@@ -1,4 +1,4 @@
-use Rattle.digit_literals.proofs.FirstDigits.{none_first, first_read, first_too_large}
+use Rattle.digit_literals.proofs.Firsts.{none_first, first_read, first_too_large}
 use Rattle.digit_literals.proofs.laws.first_digits_are_read.Goals as goal
 
 pub returns-clause-none : goal.returns-clause-none

@@ -197,3 +197,12 @@ none_first radix n =
       is = sym (ap (digits_value radix) none);
       after = omega (arith, ap length none_left);
     }
+
+-- digits after any others, where there are none
+pub alone : (radix n before value dropped : ℕ) (digits : List ℕ)
+    → ((more : ℕ) (others : List ℕ) → IsOfFirstDigits radix n others before more
+    → IsOfFirstDigits radix n (others ++ digits) value (more + dropped))
+    → before ≡ 0 → IsOfFirstDigits radix n digits value dropped
+alone radix n before value dropped digits first none =
+    let all : 0 + dropped ≡ dropped = omega arith in
+    rw all at (first 0 [] (rw none (none_first radix n)))

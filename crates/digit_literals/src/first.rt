@@ -1,0 +1,69 @@
+//! The first digits of a number, where it may have more than a `u64` holds.
+
+ghost use Rattle.std.specs.Prelude.{◌≡◌, ◌+◌, ◌*◌, ◌^◌, ◌-◌, ◌≤◌, min, length, pos, ◌≤ℤ◌, ◌+ℤ◌};
+ghost use Rattle.lexical_digits.specs.State.{rule};
+ghost use Rattle.lexical_digits.specs.Looks.{owed};
+ghost use Rattle.lexical_digits.specs.Stop.{stop_of, leading_digits_of, past_digits_of};
+ghost use Rattle.digit_literals.specs.After.{digits_to};
+ghost use Rattle.digit_literals.specs.First.{ReadsFirst};
+
+use super::component::{pass_digits, read_digits_up_to};
+use lexical_digits::skip::{Bytes, Component};
+
+/// The digits of a component, of which the first were read after a value, and the others passed.
+#[derive(Clone, Copy, Debug, PartialEq, Eq)]
+pub struct FirstDigits {
+    /// The value of the digits before them and of those that were read, as one number.
+    pub value: u64,
+    /// How many digits there are, without those before.
+    pub count: usize,
+    /// How many of them were only passed.
+    pub dropped: usize,
+}
+
+/// Reads the digits of a component that lead from the cursor on, after the digits of a value, as
+/// long as the value is at most `most`, and passes the others. All are counted as by
+/// [`pass_digits`]. The cursor is then at the stop. Requires that `before` is at most `most`.
+///
+/// With a power of the radix less 1 as `most`, the value is that of the first significant digits:
+/// with `10^19 - 1` of the first 19. A mantissa takes two calls, as by
+/// [`read_digits_of`](crate::read_digits_of).
+///
+/// ```text
+/// `98_76` with internal `_`, up to 99: FirstDigits { value: 98, count: 4, dropped: 2 }
+/// ```
+#[inline(always)]
+#[tactic(auto, using(crate::proofs::States::by_state))]
+pub fn read_first_digits(
+    bytes: &mut Bytes,
+    component: Component,
+    before: u64,
+    most: u64,
+) -> FirstDigits
+    requires { before ≤ most }
+    ensures first { let s = bytes.old.state in
+        ReadsFirst (rule component s).radix most before (leading_digits_of component s) result }
+    ensures between { let s = bytes.old.state in
+        leading_digits_of component s ≡ digits_to component s (stop_of component s) }
+    ensures few { result.count ≤ length bytes.old.state.buffer }
+    ensures within { bytes.old.state.cursor + result.count ≤ bytes.new.state.cursor }
+    ensures state { bytes.new.state ≡ past_digits_of component bytes.old.state }
+    ensures owes { owed bytes.new ≤ℤ (owed bytes.old +ℤ pos (8 * result.count + 8)) }
+    ensures at_least { min (bytes.old.looks + 2 * result.count) (2 ^ 64 - 1) ≤ bytes.new.looks }
+{
+    match read_digits_up_to(bytes, component, before, most) {
+        Ok(read) => FirstDigits {
+            value: read.value,
+            count: read.count,
+            dropped: 0,
+        },
+        Err(error) => {
+            let dropped = pass_digits(bytes, component);
+            FirstDigits {
+                value: error.value,
+                count: error.count + dropped,
+                dropped,
+            }
+        }
+    }
+}
