@@ -1,5 +1,5 @@
 -- What a read of digits leaves of a `Bytes`, in words of the state.
-use Rattle.std.proofs.Common.{◌≡◌, ℕ, ◌-◌, ◌*◌, ◌+◌, ◌≤◌, Bool, true, false, not, List, length, take, drop, filter, Option, Some, None, Ok, Err, refl, ap, sym, subst, ◌∙◌, arith, pos, ◌≤ℤ◌, ◌+ℤ◌}
+use Rattle.std.proofs.Common.{◌≡◌, ℕ, ◌-◌, ◌*◌, ◌+◌, ◌≤◌, Bool, true, false, not, List, length, drop, Option, Some, None, Err, refl, ap, sym, subst, ◌∙◌, arith, pos, ◌≤ℤ◌, ◌+ℤ◌}
 use Rattle.std.specs.Prelude.{if◌then◌else◌, IfSome, MatchOption}
 use Rattle.std.specs.List.{slice_range}
 use Rattle.std.proofs.lemmas.Int.{ints}
