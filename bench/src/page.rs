@@ -5,7 +5,7 @@ use crate::medians::{Medians, Side};
 use crate::table::{print_table, ratio, time};
 
 /// The rows, with the cases that they show.
-pub const ROWS: [(&str, &str); 10] = [
+pub const ROWS: [(&str, &str); 14] = [
     ("Digits, no separators allowed", "a: no flags, digits, number"),
     ("Digits, separators allowed", "b: I, digits, number"),
     ("Short numbers, grouped by thousands", "f: I, short grouped numbers"),
@@ -15,8 +15,12 @@ pub const ROWS: [(&str, &str); 10] = [
         "n: I, grouped numbers to a comma",
     ),
     ("Grouped integers, by `read_integer`", "j: I, grouped literals"),
+    ("Lines with one grouped integer each, by `read_integer_from`", "t: I, grouped, lines"),
+    ("Grouped digits up to a comma, by `pass_digits`", "o: I, grouped, pass_digits"),
+    ("Grouped zeros, by `pass_zeros`", "o: I, grouped, pass_zeros"),
     ("Integer, fraction and exponent, grouped", "l: I, three grouped components"),
     ("The same, by `read_digits_of`", "l: I, grouped, by read_digits_of"),
+    ("The same, as mantissa and exponent", "s: I, grouped, mantissa and exponent"),
     ("Runs of 16 separators, all dropped", "e: ILTC, runs of 16, number"),
     ("Letters, by `peek` and `next`", "k: I, other bytes, peeked"),
 ];
@@ -86,12 +90,15 @@ pub fn print_summary(medians: &Medians) {
         both("f: I, short grouped numbers"),
     );
     println!(
-        "The worst rows are {} by `pass_digits` without separators, {} by `read_digits_of`, {} on \
-         letters that are peeked and {} on runs of 16 dropped separators.",
-        both("o: no flags, pass_digits"),
+        "`pass_digits` takes {} on grouped numbers, `read_digits_of` {}, and lines with one integer \
+         each {}. The worst rows are {} on grouped numbers that are peeked, {} on runs of 16 dropped \
+         separators and {} on a float's mantissa and exponent.",
+        both("o: I, grouped, pass_digits"),
         both("l: I, grouped, by read_digits_of"),
-        both("k: I, other bytes, peeked"),
+        both("t: I, grouped, lines"),
+        both("n: I, grouped numbers to a comma"),
         both("e: ILTC, runs of 16, number"),
+        both("s: I, grouped, mantissa and exponent"),
     );
     let [short, long] = RUNS.map(|case| time(case, Side::Library, medians));
     let leading = [Side::Library, Side::Original]
