@@ -54,7 +54,8 @@ module _ (rule : Rule) (text : List ℕ) (supported : IsSupported rule) (start o
       large_digit more none passes inside c =
           elim (cases_Bool (is_digit rule (slice_index text end))) [
             | inl is ↦
-                let pushed : digits_value_after rule.radix 0 (digits_between rule text start (end + 1))
+                let pushed :
+                digits_value_after rule.radix 0 (digits_between rule text start (end + 1))
                 ≡ digits_value_after rule.radix 0 (digits_between rule text start end) * rule.radix
                 + digit_value (slice_index text end) =
                 rw (more, is) (value_push rule.radix 0 (digits_between rule text start end)
@@ -62,7 +63,8 @@ module _ (rule : Rule) (text : List ℕ) (supported : IsSupported rule) (start o
                 at_digit rule text supported end c inside is
                 (omega (arith, passes, rw none at pushed))
             | inr gone ↦
-                let same : digits_value_after rule.radix 0 (digits_between rule text start (end + 1))
+                let same :
+                digits_value_after rule.radix 0 (digits_between rule text start (end + 1))
                 ≡ digits_value_after rule.radix 0 (digits_between rule text start end) =
                 rw (more, gone) (ap (digits_value_after rule.radix 0)
                 (append-nil (digits_between rule text start end))) in

@@ -92,8 +92,8 @@ module _ (rule : Rule) (text : List ℕ) (supported : IsSupported rule) where
               zero_is rule (slice_index text at) is digit in
               let rest = walk d (at + 1) (count + 1) (omega (arith, e))
               (sym (stop_digit rule text at count l is) ∙ stops)
-              (ap (λ (n : ℕ). digits_value_after rule.radix n (digits_between rule text (at + 1) end))
-              (sym worth) ∙ value) in
+              (ap (λ (n : ℕ). digits_value_after rule.radix n
+              (digits_between rule text (at + 1) end)) (sym worth) ∙ value) in
               record {
                 zeros = omega (arith, zeros_digit at count l zero is, rest.zeros, ap length more);
                 past = past_digit at count l zero is ∙ rest.past;

@@ -45,7 +45,8 @@ module _ (rule : Rule) (text : List ℕ) (start before : ℕ) (most : Option ℕ
 -- passed, and counted as by `next`.
 pub record Passes (k : Component) (before : ℕ) (most : Option ℕ) (a b : Held) (read : ReadTo)
     : Type 0 where
-  pub reads : ReadsTo (rule k a.state) a.state.buffer a.state.cursor before most read (own k a.state)
+  pub reads : ReadsTo (rule k a.state) a.state.buffer a.state.cursor before most read
+      (own k a.state)
   pub state : b.state ≡ past_digits_to k a.state read.end
   pub owes : owed b ≤ℤ (owed a +ℤ pos (8 * read.count + 4))
   pub at_least : min (a.looks + 2 * read.count) (2 ^ 64 - 1) ≤ b.looks

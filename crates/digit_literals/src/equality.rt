@@ -1,5 +1,5 @@
-//! `==` and `clone` on the plain values of this crate: `==` answers `true` exactly if the two values
-//! are the same, part by part, and a clone is the same value.
+//! `==` and `clone` on the plain values of this crate: `==` answers `true` exactly if the two
+//! values are the same, part by part, and a clone is the same value.
 
 ghost use Rattle.std.specs.Prelude.{◌≡◌, true};
 

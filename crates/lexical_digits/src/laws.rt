@@ -1,6 +1,6 @@
 //! Laws of the iterators, the definitions and the call table. Each law is the contract of a
-//! function; [`equality`] has those of `==` and of clones, and [`rows`] those of the calls that name
-//! a component.
+//! function; [`equality`] has those of `==` and of clones, and [`rows`] those of the calls that
+//! name a component.
 
 ghost use Rattle.std.specs.Prelude.{◌≡◌, ℕ, ◌+◌, ◌*◌, ◌<◌, ◌≤◌, length, drop, filter, count_by, map, pos, ◌≤ℤ◌, ◌+ℤ◌, slice_get, option_copied, IfSome, IfNone, Some, None, [], ◌∷◌, if◌then◌else◌, true, false, not, IsTrue, is_some};
 ghost use Rattle.std.specs.Option.{option_map_or};

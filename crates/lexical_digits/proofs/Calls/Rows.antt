@@ -27,7 +27,8 @@ nexts_are_rows zero k s = refl
 nexts_are_rows (suc n) k s = nexts_are_rows n k (taken k s)
 
 pub digits_are_rows : (k : Component) (s : State) → IsState s → past_digits_of k s
-    ≡ (run_of s (replicate (length (leading_digits_of k s)) (On k, Next) ++ ((On k, Peek) ∷ []))).state
+    ≡ (run_of s
+    (replicate (length (leading_digits_of k s)) (On k, Next) ++ ((On k, Peek) ∷ []))).state
 unfolding after_leading
 digits_are_rows k s v =
     sym (after_leading_are k s v)

@@ -40,8 +40,8 @@ pub fn increment_count_of_is_rows(bytes: &mut Bytes, component: Component, digit
     bytes.increment_count_of(component, digits);
 }
 
-/// `clear_counts` has no row. It leaves the state of a new `Bytes` of the same buffer and word whose
-/// cursor was set to where it is.
+/// `clear_counts` has no row. It leaves the state of a new `Bytes` of the same buffer and word
+/// whose cursor was set to where it is.
 pub fn clear_counts_starts_again(bytes: &mut Bytes)
     ensures state { let s = bytes.old.state in let calls = (OnBytes, SetCursor s.cursor) ∷ [] in
         bytes.new.state ≡ (run_of (start s.buffer s.word) calls).state }

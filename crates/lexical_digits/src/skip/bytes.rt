@@ -179,8 +179,8 @@ impl<'a> Bytes<'a> {
     /// Adds that many digits to the count of a component: as many calls of `increment_count` of the
     /// component's iterator. The count stops at `usize::MAX`, and special has none. It is for
     /// digits that a caller reads in another way, such as eight at once by `peek_u64`. Where an
-    /// iterator's `peek_u64` answers, its own `next` counts nothing, so count either all digits of a
-    /// component by this call or none.
+    /// iterator's `peek_u64` answers, its own `next` counts nothing, so count either all digits of
+    /// a component by this call or none.
     #[tactic(auto, using(crate::proofs::Looks::Owed::owed_onward))]
     #[inline(always)]
     pub fn increment_count_of(&mut self, component: Component, digits: usize)

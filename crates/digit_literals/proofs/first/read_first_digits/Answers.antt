@@ -24,7 +24,8 @@ returns-in-Ok-clause-first c =
     (more + 0) =
     λ n some most more others so.
     let all : more + 0 ≡ more = omega arith in
-    rw all (first_read k s n c.args.before more others c.in-Ok.read c.args.bytes.now.holds some so ok
+    rw all (first_read k s n c.args.before more others c.in-Ok.read c.args.bytes.now.holds some
+    so ok
     (omega (arith, c.in-Ok.ensures.fits, most))) in
     record {
       count = ok.digits;
@@ -99,12 +100,19 @@ returns-in-Err-clause-state c = c.pass_digits-dropped.ensures.state
     ∙ ap (past_digits_of c.args.component) c.in-Err.ensures.stays ∙ (rest c).passed
 
 pub returns-in-Err-clause-few : goal.returns-in-Err-clause-few
-returns-in-Err-clause-few c = omega (arith, count c,
-    digits_fit c.args.component c.args.bytes.now.state c.args.bytes.now.holds)
+returns-in-Err-clause-few c = omega (
+  arith,
+  count c,
+  digits_fit c.args.component c.args.bytes.now.state c.args.bytes.now.holds,
+)
 
 pub overflow_add-result : goal.overflow_add-result
-overflow_add-result c = omega (arith, count c, c.args.bytes.now.holds.buffer,
-    digits_fit c.args.component c.args.bytes.now.state c.args.bytes.now.holds)
+overflow_add-result c = omega (
+  arith,
+  count c,
+  c.args.bytes.now.holds.buffer,
+  digits_fit c.args.component c.args.bytes.now.state c.args.bytes.now.holds,
+)
 
 pub returns-in-Ok-clause-within : goal.returns-in-Ok-clause-within
 returns-in-Ok-clause-within c = omega (

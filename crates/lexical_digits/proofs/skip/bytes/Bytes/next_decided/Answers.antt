@@ -19,6 +19,7 @@ returns c =
     let b = c.self.inside in
     let peeks = rw (sym c.self.view_is) at c.in_ok-byte.ensures in
     steps_past c.args.component _ _ c.in_ok-byte.byte peeks _ _
-    (rw c.requires.rule at c.counts_byte-is_counted.ensures) (c.pass_seen.ensures.state b.slc.now b.format)
+    (rw c.requires.rule at c.counts_byte-is_counted.ensures)
+    (c.pass_seen.ensures.state b.slc.now b.format)
     (record { run = refl; looks = c.pass_seen.ensures.looks })
     (owes_no_more b c.pass_seen.ensures refl (omega arith))

@@ -57,7 +57,8 @@ returns-in-Some c =
 
 -- ---- neither digit nor separator
 
-pub invariant_of-self-inside-then-not-is_separator : goal.invariant_of-self-inside-then-not-is_separator
+pub invariant_of-self-inside-then-not-is_separator :
+    goal.invariant_of-self-inside-then-not-is_separator
 invariant_of-self-inside-then-not-is_separator c =
     let within = slice_get_within c.self.inside.slc.now _ _ (sym c.in_ok-byte.ensures) in
     carried c.self.inside c.pass_other-then-not-is_separator.ensures

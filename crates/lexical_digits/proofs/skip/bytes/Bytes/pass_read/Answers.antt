@@ -16,7 +16,8 @@ returns-clause-state c =
     let b = c.self.inside in
     rw (sym c.self.view_is)
     (c.pass_to.ensures.state b.slc.now b.format
-    ∙ state_read c.args.component (counts c.args.component b.format) c.args.digits c.counted-counted.result
+    ∙ state_read c.args.component (counts c.args.component b.format) c.args.digits
+    c.counted-counted.result
     c.args.end _ b.holds (search rules))
 
 pub returns-clause-owes : goal.returns-clause-owes

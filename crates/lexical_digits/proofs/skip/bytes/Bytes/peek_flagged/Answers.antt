@@ -43,7 +43,8 @@ returns-in-Some c =
 
 -- ---- neither digit nor separator
 
-pub invariant_of-self-inside-then-not-is_separator : goal.invariant_of-self-inside-then-not-is_separator
+pub invariant_of-self-inside-then-not-is_separator :
+    goal.invariant_of-self-inside-then-not-is_separator
 invariant_of-self-inside-then-not-is_separator c =
     carried c.self.inside c.look-then-not-is_separator.ensures c.self.inside.holds
 
