@@ -1,9 +1,8 @@
 -- An exponent above `u64::MAX` is as good as `u64::MAX`: with an `i64` it is past the same end.
-use Rattle.std.proofs.Common.{◌+◌, [], refl, append-nil, ◌≡◌, ℕ, ◌-◌, ◌^◌, ◌≤◌, min, arith}
+use Rattle.std.proofs.Common.{◌≡◌, ℕ, ◌-◌, ◌^◌, min, arith}
 use Rattle.std.specs.Prelude.{ℤ, pos, neg_ℤ, ◌+ℤ◌, ◌-ℤ◌}
 use Rattle.std.specs.Int.{saturate_signed, w64}
 use Rattle.std.specs.Int.RustNames.{FitsSigned}
-use Rattle.digit_uses.specs.Float.{IsPart}
 use Rattle.std.proofs.lemmas.Int.{ints, clamps}
 
 pub added : (more : ℤ) (v : ℕ) → FitsSigned w64 more
@@ -19,17 +18,3 @@ pub unchanged : (more : ℤ) → FitsSigned w64 more → saturate_signed w64 (po
 unchanged more fits = grind (arith, ints)
 
 pub ruleset capped = (added, taken_off)
-
--- ---- digits after others
-
-pub no_digits : (radix most before : ℕ) → before ≤ most
-    → IsPart radix most before [] (record { value = before; count = 0; dropped = 0 })
-no_digits radix most before fits = record {
-  count = refl;
-  few = omega arith;
-  whole = λ _. refl;
-  over = λ l. absurd (omega (arith, l));
-  fits = fits;
-  first = λ n more others some is so.
-      let all : more + 0 ≡ more = omega arith in rw (append-nil others, all) so;
-}

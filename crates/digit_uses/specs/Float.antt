@@ -1,14 +1,12 @@
 -- A float in words of its text: the digits of integer and fraction, the exponent, and their ends.
 use Rattle.std.specs.Prelude.{◌≡◌, ℕ, ◌+◌, ◌<◌, ◌≤◌, ◌^◌, true, if◌then◌else◌, List, [], ◌++◌, length, ℤ, pos, neg_ℤ, ◌+ℤ◌, ◌-ℤ◌}
-use Rattle.std.specs.Str.Parse.{digits_value, digits_value_after}
+use Rattle.std.specs.Str.Parse.{digits_value}
 use Rattle.lexical_format.specs.Word.{exponent_radix}
 use Rattle.lexical_digits.specs.declared.skip.component.Component.{Component}
 use Rattle.lexical_digits.specs.declared.skip.component.Component.TheVariants.{Integer, Fraction, Exponent}
 use Rattle.lexical_digits.specs.State.{State, rule_of}
 use Rattle.lexical_digits.specs.Stop.{stop}
 use Rattle.digit_literals.specs.After.{digits_between}
-use Rattle.digit_literals.specs.Significant.{IsOfFirstDigits}
-use Rattle.digit_uses.specs.declared.float.Part.{Part}
 use Rattle.digit_uses.specs.declared.float.FloatError.{FloatError}
 use Rattle.digit_uses.specs.declared.float.FloatError.TheVariants.{NoDigit, NoExponent}
 use Rattle.digit_uses.specs.Bytes.{stands, is_sign, is_minus, is_point, is_mark}
@@ -19,39 +17,39 @@ past_sign text at = if stands is_sign text at then at + 1 else at
 
 module _ (word : ℕ) (text : List ℕ) where
   -- the digits of a component from a position on, and where they end
-  abbrev pub digits_end : Component → ℕ → ℕ
+  unfoldable pub digits_end : Component → ℕ → ℕ
   digits_end k at = stop (rule_of word k) text at 0
 
-  abbrev pub digits_from : Component → ℕ → List ℕ
+  unfoldable pub digits_from : Component → ℕ → List ℕ
   digits_from k at = digits_between (rule_of word k) text at (digits_end k at)
 
   -- ---- the fraction at a position: after a point, if one stands there
 
-  abbrev pub fraction_digits : ℕ → List ℕ
+  unfoldable pub fraction_digits : ℕ → List ℕ
   fraction_digits at = if stands is_point text at then digits_from Fraction (at + 1) else []
 
-  abbrev pub fraction_end : ℕ → ℕ
+  unfoldable pub fraction_end : ℕ → ℕ
   fraction_end at = if stands is_point text at then digits_end Fraction (at + 1) else at
 
   -- ---- the exponent at a position: after a mark and a sign, if a mark stands there
 
-  abbrev pub exponent_digits : ℕ → List ℕ
+  unfoldable pub exponent_digits : ℕ → List ℕ
   exponent_digits at =
       if stands is_mark text at then digits_from Exponent (past_sign text (at + 1)) else []
 
-  abbrev pub exponent_end : ℕ → ℕ
+  unfoldable pub exponent_end : ℕ → ℕ
   exponent_end at =
       if stands is_mark text at then digits_end Exponent (past_sign text (at + 1)) else at
 
   -- the integer at a position, with a sign, by the digits of an exponent
-  abbrev pub signed_at : ℕ → ℤ
+  unfoldable pub signed_at : ℕ → ℤ
   signed_at at =
       let value =
       digits_value (exponent_radix word) (digits_from Exponent (past_sign text at)) in
       if stands is_minus text at then neg_ℤ (pos value) else pos value
 
   -- the exponent's value, 0 without a mark
-  abbrev pub written : ℕ → ℤ
+  unfoldable pub written : ℕ → ℤ
   written at = if stands is_mark text at then signed_at (at + 1) else pos 0
 
   -- after a mark there are digits
@@ -65,13 +63,13 @@ module _ (word : ℕ) (text : List ℕ) where
 
   -- ---- the mantissa from a position on: integer and fraction
 
-  abbrev pub places : ℕ → List ℕ
+  unfoldable pub places : ℕ → List ℕ
   places start = fraction_digits (digits_end Integer start)
 
-  abbrev pub mantissa_digits : ℕ → List ℕ
+  unfoldable pub mantissa_digits : ℕ → List ℕ
   mantissa_digits start = digits_from Integer start ++ places start
 
-  abbrev pub mantissa_end : ℕ → ℕ
+  unfoldable pub mantissa_end : ℕ → ℕ
   mantissa_end start = fraction_end (digits_end Integer start)
 
   -- ---- a float
@@ -105,23 +103,3 @@ module _ (word : ℕ) (text : List ℕ) where
   abbrev pub IsFault : FloatError → Type 0
   IsFault (NoDigit at) = HasNoDigit at
   IsFault (NoExponent at) = HasNoExponent at
-
--- The digits of a component after the value of others: all of them, or those before the first with
--- which the value is above `most`. If that is a power of the radix less 1, these are the first
--- significant digits of all.
-pub record IsPart (radix most before : ℕ) (digits : List ℕ) (part : Part) : Type 0 where
-  pub count : part.count ≡ length digits
-  pub few : part.dropped ≤ part.count
-  pub whole : part.dropped ≡ 0 → part.value ≡ digits_value_after radix before digits
-  pub over : 0 < part.dropped → most < digits_value_after radix before digits
-  pub fits : part.value ≤ most
-  pub first : (n more : ℕ) (others : List ℕ) → 0 < n → most + 1 ≡ radix ^ n
-      → IsOfFirstDigits radix n others before more
-      → IsOfFirstDigits radix n (others ++ digits) part.value (more + part.dropped)
-
--- how far a `Bytes` was read, whose exponent was not begun
-pub record IsAt (before after : State) (at : ℕ) : Type 0 where
-  pub buffer : after.buffer ≡ before.buffer
-  pub word : after.word ≡ before.word
-  pub cursor : after.cursor ≡ at
-  pub exponent : after.exponent ≡ 0

@@ -3,24 +3,23 @@
 //! digits of integer and fraction, which a `u64` always holds. The exponent counts those that are
 //! dropped, so that a reader goes on as for a short number.
 //!
-//! Proof by hand: 159 lines in the answers of five functions and 29 in `proofs/Floats.antt`: they
-//! put together what is read and what is passed, and carry it from one state to the next.
+//! Proof by hand: 41 lines in the answers of `read_mantissa` and `read_float`, which carry what a
+//! call ensures from one state to the next, and 16 in `proofs/Floats.antt`.
 
 ghost use Rattle.std.specs.Prelude.{◌≡◌, ◌+◌, ◌-◌, ◌^◌, ◌<◌, ◌≤◌, min, length, take, IsTrue, if◌then◌else◌, IfOk, IfErr, OnOk, IfSome, IfNone, MatchOption, pos, ◌+ℤ◌, ◌-ℤ◌, ◌≤ℤ◌};
 ghost use Rattle.std.specs.Int.{saturate_signed, w64};
 ghost use Rattle.std.specs.Str.Parse.{digits_value};
 ghost use Rattle.lexical_format.specs.Word.{is_supported, mantissa_radix, exponent_radix};
 ghost use Rattle.lexical_digits.specs.State.{rule, own, with_cursor};
-ghost use Rattle.lexical_digits.specs.Stop.{stop_of, leading_digits_of, past_digits_of};
+ghost use Rattle.lexical_digits.specs.Stop.{past_digits_of};
 ghost use Rattle.lexical_digits.specs.Looks.{owed};
 ghost use Rattle.lexical_digits.specs.declared.skip.component.Component.TheVariants.{Exponent};
-ghost use Rattle.digit_literals.specs.After.{digits_to};
+ghost use Rattle.digit_literals.specs.First.{ReadsFirst};
 ghost use Rattle.digit_literals.specs.Significant.{significant, IsOfFirstDigits};
 ghost use Rattle.digit_uses.specs.Bytes.{one_of, is_minus, stands};
-ghost use Rattle.digit_uses.specs.Float.{IsPart, past_sign, digits_from, digits_end, exponent_end, signed_at, written, HasExponent, fraction_digits, fraction_end, mantissa_digits, places, mantissa_end, IsAt, float_digits, exponent_at, scaled, LacksExponent, IsFault};
+ghost use Rattle.digit_uses.specs.Float.{past_sign, digits_from, digits_end, exponent_end, signed_at, written, HasExponent, fraction_digits, fraction_end, mantissa_digits, places, mantissa_end, float_digits, exponent_at, scaled, LacksExponent, IsFault};
 
-use digit_literals::laws::{first_digits_are_read, too_large_leaves_the_rest};
-use digit_literals::{pass_digits, read_digits_up_to};
+use digit_literals::{FirstDigits, read_first_digits};
 use lexical_digits::iterator::{Iter, IterBodies};
 use lexical_digits::skip::{Bytes, Component};
 
@@ -85,62 +84,23 @@ fn pass_sign(bytes: &mut Bytes) -> bool
 /// The greatest value of 19 digits.
 const MOST: u64 = 9_999_999_999_999_999_999;
 
-/// The digits of one component.
-#[derive(Clone, Copy)]
-struct Part {
-    /// The value of the digits before and of these, as far as these were read.
-    value: u64,
-    /// How many digits there are.
-    count: usize,
-    /// How many of them were only passed.
-    dropped: usize,
-}
-
-/// Reads the digits of a component that lead, after the value of others, as long as the value is at
-/// most `most`, and passes the rest of them.
+/// [`read_first_digits`] from the cursor on, in words of the text. Requires that no digit of the
+/// component was counted.
 #[inline(always)]
-fn read_leading(bytes: &mut Bytes, component: Component, before: u64, most: u64) -> Part
-    requires { before ≤ most }
-    ensures part { let s = bytes.old.state in
-        IsPart (rule component s).radix most before (leading_digits_of component s) result }
-    ensures between { let s = bytes.old.state in
-        leading_digits_of component s ≡ digits_to component s (stop_of component s) }
-    ensures state { bytes.new.state ≡ past_digits_of component bytes.old.state }
-{
-    first_digits_are_read();
-    too_large_leaves_the_rest();
-    match read_digits_up_to(bytes, component, before, most) {
-        Ok(read) => Part {
-            value: read.value,
-            count: read.count,
-            dropped: 0,
-        },
-        Err(error) => {
-            let dropped = pass_digits(bytes, component);
-            Part {
-                value: error.value,
-                count: error.count + dropped,
-                dropped,
-            }
-        }
-    }
-}
-
-/// The same from the cursor on, in words of the text. Requires that no digit of the component was
-/// counted.
-#[inline(always)]
-#[tactic(auto, using(crate::proofs::FewDigits::passed_within))]
-fn read_part(bytes: &mut Bytes, component: Component, before: u64, most: u64) -> Part
+#[tactic(auto, unfolding(crate::specs::Float::digits_from, crate::specs::Float::digits_end))]
+fn read_part(bytes: &mut Bytes, component: Component, before: u64, most: u64) -> FirstDigits
     requires uncounted { own component bytes.old.state ≡ 0 }
     requires before { before ≤ most }
-    ensures part { let s = bytes.old.state in IsPart (rule component s).radix most before
+    ensures part { let s = bytes.old.state in ReadsFirst (rule component s).radix most before
         (digits_from s.word s.buffer component s.cursor) result }
     ensures end { let s = bytes.old.state in
         bytes.new.state.cursor ≡ digits_end s.word s.buffer component s.cursor }
     ensures within { bytes.old.state.cursor + result.count ≤ bytes.new.state.cursor }
+    ensures word { bytes.new.state.word ≡ bytes.old.state.word }
+    ensures buffer { bytes.new.state.buffer ≡ bytes.old.state.buffer }
     ensures state { bytes.new.state ≡ past_digits_of component bytes.old.state }
 {
-    read_leading(bytes, component, before, most)
+    read_first_digits(bytes, component, before, most)
 }
 
 /// The digits of integer and fraction.
@@ -156,30 +116,9 @@ struct Mantissa {
     dropped: usize,
 }
 
-/// Reads a fraction after the digits of an integer, if a point is at the cursor.
-#[inline(always)]
-fn read_fraction(bytes: &mut Bytes, before: u64) -> Part
-    requires fraction { bytes.old.state.fraction ≡ 0 }
-    requires exponent { bytes.old.state.exponent ≡ 0 }
-    requires before { before < 10 ^ 19 }
-    ensures part { let s = bytes.old.state in IsPart (mantissa_radix s.word) (10 ^ 19 - 1) before
-        (fraction_digits s.word s.buffer s.cursor) result }
-    ensures within { bytes.old.state.cursor + result.count ≤ bytes.new.state.cursor }
-    ensures left { let s = bytes.old.state in
-        IsAt s bytes.new.state (fraction_end s.word s.buffer s.cursor) }
-{
-    if pass_one_of(bytes, b".") {
-        return read_part(bytes, Component::Fraction, before, MOST);
-    }
-    Part {
-        value: before,
-        count: 0,
-        dropped: 0,
-    }
-}
-
 /// Reads integer and fraction from the cursor on. Requires that no digit was counted.
 #[inline(always)]
+#[tactic(auto, unfolding(crate::specs::Float::mantissa_digits, crate::specs::Float::mantissa_end, crate::specs::Float::places, crate::specs::Float::fraction_digits, crate::specs::Float::fraction_end))]
 fn read_mantissa(bytes: &mut Bytes) -> Mantissa
     requires integer { bytes.old.state.integer ≡ 0 }
     requires fraction { bytes.old.state.fraction ≡ 0 }
@@ -188,19 +127,28 @@ fn read_mantissa(bytes: &mut Bytes) -> Mantissa
     ensures first { let s = bytes.old.state in
         IsOfFirstDigits 10 19 (mantissa_digits s.word s.buffer s.cursor)
         result.value result.dropped }
-    ensures count { let s = bytes.old.state in
+    ensures digits { let s = bytes.old.state in
         result.digits ≡ length (mantissa_digits s.word s.buffer s.cursor) }
     ensures places { let s = bytes.old.state in
         result.places ≡ length (places s.word s.buffer s.cursor) }
-    ensures within { bytes.old.state.cursor + result.digits ≤ bytes.new.state.cursor }
-    ensures left { let s = bytes.old.state in
-        IsAt s bytes.new.state (mantissa_end s.word s.buffer s.cursor) }
-    ensures few_places { result.places ≤ result.digits }
-    ensures few_dropped { result.dropped ≤ result.digits }
+    ensures few_places { result.places < 2 ^ 63 }
+    ensures few_dropped { result.dropped < 2 ^ 63 }
+    ensures word { bytes.new.state.word ≡ bytes.old.state.word }
+    ensures buffer { bytes.new.state.buffer ≡ bytes.old.state.buffer }
+    ensures end { let s = bytes.old.state in
+        bytes.new.state.cursor ≡ mantissa_end s.word s.buffer s.cursor }
+    ensures exponent { bytes.new.state.exponent ≡ 0 }
 {
-    first_digits_are_read();
     let integer = read_part(bytes, Component::Integer, 0, MOST);
-    let fraction = read_fraction(bytes, integer.value);
+    if !pass_one_of(bytes, b".") {
+        return Mantissa {
+            value: integer.value,
+            digits: integer.count,
+            places: 0,
+            dropped: integer.dropped,
+        };
+    }
+    let fraction = read_part(bytes, Component::Fraction, integer.value, MOST);
     Mantissa {
         value: fraction.value,
         digits: integer.count + fraction.count,
@@ -237,7 +185,7 @@ fn read_magnitude(bytes: &mut Bytes) -> Option<u64>
 /// Reads a sign and the digits of an exponent: answers their value with `more` added, or the end of
 /// `i64` nearest to that. `None` if there is no digit.
 #[inline(always)]
-#[tactic(auto, using(crate::proofs::Floats::capped))]
+#[tactic(auto, using(crate::proofs::Floats::capped), unfolding(crate::specs::Float::signed_at))]
 fn read_signed(bytes: &mut Bytes, more: i64) -> Option<i64>
     requires { bytes.old.state.exponent ≡ 0 }
     ensures sum { let s = bytes.old.state in IfSome result (λ e.
@@ -257,29 +205,6 @@ fn read_signed(bytes: &mut Bytes, more: i64) -> Option<i64>
     })
 }
 
-/// Reads an exponent, if its mark is at the cursor: answers it with `more` added, or the end of
-/// `i64` nearest to that. `None` if no digit follows the mark. Requires that no digit of it was
-/// counted.
-#[inline(always)]
-#[tactic(auto, using(crate::proofs::Floats::unchanged))]
-fn read_exponent(bytes: &mut Bytes, more: i64) -> Option<i64>
-    requires { bytes.old.state.exponent ≡ 0 }
-    ensures exponent { let s = bytes.old.state in IfSome result (λ e.
-        e ≡ saturate_signed w64 (written s.word s.buffer s.cursor +ℤ more)) }
-    ensures some { let s = bytes.old.state in
-        IfSome result (λ _. HasExponent s.word s.buffer s.cursor) }
-    ensures none { let s = bytes.old.state in
-        IfNone result (LacksExponent s.word s.buffer s.cursor) }
-    ensures end { let s = bytes.old.state in
-        bytes.new.state.cursor ≡ exponent_end s.word s.buffer s.cursor }
-{
-    if pass_one_of(bytes, b"eE") {
-        read_signed(bytes, more)
-    } else {
-        Some(more)
-    }
-}
-
 /// What the digits that are dropped, and those that follow the point, add to the exponent.
 #[inline(always)]
 fn shift_of(dropped: usize, places: usize) -> i64
@@ -288,6 +213,33 @@ fn shift_of(dropped: usize, places: usize) -> i64
     ensures { result ≡ pos dropped -ℤ pos places }
 {
     dropped as i64 - places as i64
+}
+
+/// Reads an exponent, if its mark is at the cursor: answers it with the shift of the mantissa, or the
+/// end of `i64` nearest to that. `None` if no digit follows the mark. Requires that no digit of it
+/// was counted.
+#[inline(always)]
+#[tactic(auto, using(crate::proofs::Floats::unchanged), unfolding(crate::specs::Float::written, crate::specs::Float::exponent_end, crate::specs::Float::exponent_digits))]
+fn read_exponent(bytes: &mut Bytes, mantissa: Mantissa) -> Option<i64>
+    requires exponent { bytes.old.state.exponent ≡ 0 }
+    requires dropped { mantissa.dropped < 2 ^ 63 }
+    requires places { mantissa.places < 2 ^ 63 }
+    ensures exponent { let s = bytes.old.state in IfSome result (λ e.
+        e ≡ saturate_signed w64 (written s.word s.buffer s.cursor
+        +ℤ (pos mantissa.dropped -ℤ pos mantissa.places))) }
+    ensures some { let s = bytes.old.state in
+        IfSome result (λ _. HasExponent s.word s.buffer s.cursor) }
+    ensures none { let s = bytes.old.state in
+        IfNone result (LacksExponent s.word s.buffer s.cursor) }
+    ensures end { let s = bytes.old.state in
+        bytes.new.state.cursor ≡ exponent_end s.word s.buffer s.cursor }
+{
+    let more = shift_of(mantissa.dropped, mantissa.places);
+    if pass_one_of(bytes, b"eE") {
+        read_signed(bytes, more)
+    } else {
+        Some(more)
+    }
 }
 
 /// The float that a text begins with: a sign, digits with a point before, among or after them, and
@@ -320,8 +272,7 @@ pub fn read_float(text: &[u8], word: u128) -> Result<Float, FloatError>
     if mantissa.digits == 0 {
         return Err(FloatError::NoDigit(bytes.cursor()));
     }
-    let shift = shift_of(mantissa.dropped, mantissa.places);
-    let Some(exponent) = read_exponent(&mut bytes, shift) else {
+    let Some(exponent) = read_exponent(&mut bytes, mantissa) else {
         return Err(FloatError::NoExponent(bytes.cursor()));
     };
     Ok(Float {
