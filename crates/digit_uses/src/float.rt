@@ -249,7 +249,7 @@ fn read_exponent(bytes: &mut Bytes, mantissa: Mantissa) -> Option<i64>
 /// `-0.1000000000000000055511151231257827e+7x`:
 ///     mantissa 1000000000000000055, dropped 15, exponent 7 + 15 - 34 = -12, end 40
 /// ```
-#[inline]
+#[inline(always)]
 pub fn read_float(text: &[u8], word: u128) -> Result<Float, FloatError>
     requires supported { IsTrue (is_supported word) }
     requires decimal { mantissa_radix word ≡ 10 }
