@@ -6,11 +6,12 @@ use super::steps::{Part, assert_part, assert_steps};
 use super::{INTERNAL, LEADING, TRAILING, UNFLAGGED, bytes_of, move_to};
 use crate::spaced::Spaced;
 use digit_literals::equality::{
-    clones_are_same, same_digits, same_literal_error, same_parse_error, same_too_large,
+    clones_are_same, same_digits, same_first_digits, same_literal_error, same_parse_error,
+    same_too_large,
 };
 use digit_literals::{
-    Digits, LiteralError, ParseError, TooLarge, pass_digits, read_digits, read_digits_of,
-    read_digits_up_to, read_integer, read_integer_from, take_digits,
+    Digits, FirstDigits, LiteralError, ParseError, TooLarge, pass_digits, read_digits,
+    read_digits_of, read_digits_up_to, read_integer, read_integer_from, take_digits,
 };
 use lexical_digits::iterator::{DigitsIter, Iter};
 use lexical_digits::skip::Bytes;
@@ -294,6 +295,20 @@ fn causes_are_told_apart(rt: HostRuntime) {
         count: 1,
     };
     assert!(rt; !same_too_large(too_large, TooLarge { at: 2, ..too_large }));
-    let values = (empty, ParseError::Empty(3), digits, too_large);
-    assert!(rt; clones_are_same(empty, ParseError::Empty(3), digits, too_large) == values);
+    let first = FirstDigits {
+        value: 1,
+        count: 1,
+        dropped: 0,
+    };
+    assert!(rt;
+        !same_first_digits(
+            first,
+            FirstDigits {
+                dropped: 1,
+                ..first
+            }
+        )
+    );
+    let values = (empty, ParseError::Empty(3), digits, too_large, first);
+    assert!(rt; clones_are_same(empty, ParseError::Empty(3), digits, too_large, first) == values);
 }

@@ -1,13 +1,13 @@
 //! Digits of a component that are read or passed, and what the calls leave of the `Bytes`.
 
-use super::{CONSECUTIVE, INTERNAL, LEADING, TRAILING, UNFLAGGED, bytes_of};
+use super::{CONSECUTIVE, INTERNAL, LEADING, TRAILING, UNFLAGGED, bytes_of, move_to};
 use digit_literals::{
-    Digits, LiteralError, TooLarge, count_digits, pass_digits, pass_zeros, read_digits_up_to,
-    read_integer_from,
+    Digits, FirstDigits, LiteralError, TooLarge, count_digits, pass_digits, pass_zeros,
+    read_digits_up_to, read_first_digits, read_integer_from,
 };
 use lexical_digits::iterator::Iter;
 use lexical_digits::skip::Bytes;
-use lexical_digits::skip::Component::{Integer, Special};
+use lexical_digits::skip::Component::{Fraction, Integer, Special};
 use lexical_format::{SPECIAL_DIGIT_SEPARATOR, is_supported};
 use std::process::Abort;
 
@@ -148,6 +148,96 @@ fn digits_are_read_up_to_the_greatest_value_and_no_further(rt: HostRuntime) {
             at,
         );
     }
+}
+
+/// The greatest value of 19 digits.
+const NINES: u64 = 9_999_999_999_999_999_999;
+
+/// Radix, text, value before, greatest value; then the value, how many digits there are, and how
+/// many of them were only passed.
+type First = (u128, &'static [u8], u64, u64, u64, usize, usize);
+
+static FIRST: [First; 16] = [
+    (10, b"", 7, 9, 7, 0, 0),
+    (10, b"___", 7, 9, 7, 0, 0),
+    (10, b"00_1", 0, 0, 0, 3, 1),
+    (10, b"12", 0, 0, 0, 2, 2),
+    (10, b"98_76", 0, 99, 98, 4, 2),
+    (10, b"12_3", 0, 123, 123, 3, 0),
+    (10, b"12_3", 0, 122, 12, 3, 1),
+    // after the first digit that is too large every digit is passed, a zero too
+    (10, b"90_0", 0, 89, 9, 3, 2),
+    (
+        10,
+        b"9_01",
+        123456789012345678,
+        NINES,
+        1234567890123456789,
+        3,
+        2,
+    ),
+    (10, b"5", NINES, NINES, NINES, 1, 1),
+    (
+        10,
+        b"12345678901234567890",
+        0,
+        NINES,
+        1234567890123456789,
+        20,
+        1,
+    ),
+    (10, b"18446744073709551615", 0, u64::MAX, u64::MAX, 20, 0),
+    (
+        10,
+        b"18446744073709551616",
+        0,
+        u64::MAX,
+        1844674407370955161,
+        20,
+        1,
+    ),
+    (2, ONES_AND_ZERO, 0, u64::MAX, u64::MAX, 65, 1),
+    (36, b"3w5e11264sgsf", 0, u64::MAX, u64::MAX, 13, 0),
+    (36, b"3W5E11264SGSG", 0, u64::MAX, 512409557603043100, 13, 1),
+];
+
+#[test]
+fn the_first_digits_are_read_and_the_others_passed(rt: HostRuntime) {
+    for &(radix, text, before, most, value, count, dropped) in &FIRST {
+        let mut bytes = bytes_of(&rt, text, (radix << 104) | (0x5f << 64) | INTERNAL);
+        assert!(rt; before <= most);
+        let first = FirstDigits {
+            value,
+            count,
+            dropped,
+        };
+        assert!(rt;
+            read_first_digits(&mut bytes, Integer, before, most) == first,
+            "{text:?}"
+        );
+        let end = if count == 0 { 0 } else { text.len() };
+        assert!(rt; bytes.cursor() == end && bytes.current_count_of(Integer) == count);
+    }
+}
+
+/// The first three significant digits of an integer and a fraction.
+#[test]
+fn first_digits_of_two_components_are_one_number(rt: HostRuntime) {
+    let mut bytes = bytes_of(&rt, b"01_2.3456", UNFLAGGED | INTERNAL);
+    let integer = FirstDigits {
+        value: 12,
+        count: 3,
+        dropped: 0,
+    };
+    assert!(rt; read_first_digits(&mut bytes, Integer, 0, 999) == integer);
+    move_to(&rt, &mut bytes, 5);
+    let fraction = FirstDigits {
+        value: 123,
+        count: 4,
+        dropped: 3,
+    };
+    assert!(rt; read_first_digits(&mut bytes, Fraction, 12, 999) == fraction);
+    assert!(rt; bytes.cursor() == 9);
 }
 
 #[test]
