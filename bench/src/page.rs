@@ -90,15 +90,15 @@ pub fn print_summary(medians: &Medians) {
         both("f: I, short grouped numbers"),
     );
     println!(
-        "`pass_digits` takes {} on grouped numbers, `read_digits_of` {}, and lines with one integer \
-         each {}. The worst rows are {} on grouped numbers that are peeked, {} on runs of 16 dropped \
-         separators and {} on a float's mantissa and exponent.",
+        "`pass_digits` takes {} on grouped numbers, `read_digits_of` {}, and lines with one \
+         integer each {}. The worst rows are {} on grouped numbers that are peeked, {} on runs of \
+         16 dropped separators and {} on a float's mantissa and exponent without separators.",
         both("o: I, grouped, pass_digits"),
         both("l: I, grouped, by read_digits_of"),
         both("t: I, grouped, lines"),
         both("n: I, grouped numbers to a comma"),
         both("e: ILTC, runs of 16, number"),
-        both("s: I, grouped, mantissa and exponent"),
+        both("s: no flags, mantissa and exponent"),
     );
     let [short, long] = RUNS.map(|case| time(case, Side::Library, medians));
     let leading = [Side::Library, Side::Original]

@@ -5,7 +5,7 @@ use digit_literals::{
     Digits, FirstDigits, LiteralError, TooLarge, count_digits, pass_digits, pass_zeros,
     read_digits_up_to, read_first_digits, read_integer_from,
 };
-use lexical_digits::iterator::Iter;
+use lexical_digits::iterator::{Iter, IterBodies};
 use lexical_digits::skip::Bytes;
 use lexical_digits::skip::Component::{Fraction, Integer, Special};
 use lexical_format::{SPECIAL_DIGIT_SEPARATOR, is_supported};
@@ -238,6 +238,20 @@ fn first_digits_of_two_components_are_one_number(rt: HostRuntime) {
     };
     assert!(rt; read_first_digits(&mut bytes, Fraction, 12, 999) == fraction);
     assert!(rt; bytes.cursor() == 9);
+}
+
+/// Three bytes with two digits take six looks. Then a copy reads on, and its state is taken over.
+#[test]
+fn what_was_read_is_passed(rt: HostRuntime) {
+    let mut bytes = bytes_of(&rt, b"1_2_3", UNFLAGGED | INTERNAL);
+    assert!(rt; bytes.cursor() <= 3 && bytes.buffer_length() == 5);
+    bytes.pass_read(Integer, 3, 2);
+    assert!(rt; bytes.cursor() == 3 && bytes.current_count_of(Integer) == 2);
+    assert!(rt; bytes.looks() == 6);
+    let mut copy = bytes.clone().unwrap();
+    assert!(rt; pass_digits(&mut copy, Integer) == 1);
+    bytes.go_on_from(copy);
+    assert!(rt; bytes.cursor() == 5 && bytes.current_count_of(Integer) == 3);
 }
 
 #[test]
