@@ -215,9 +215,9 @@ fn shift_of(dropped: usize, places: usize) -> i64
     dropped as i64 - places as i64
 }
 
-/// Reads an exponent, if its mark is at the cursor: answers it with the shift of the mantissa, or the
-/// end of `i64` nearest to that. `None` if no digit follows the mark. Requires that no digit of it
-/// was counted.
+/// Reads an exponent, if its mark is at the cursor: answers it with the shift of the mantissa, or
+/// the end of `i64` nearest to that. `None` if no digit follows the mark. Requires that no digit of
+/// it was counted.
 #[inline(always)]
 #[tactic(auto, using(crate::proofs::Floats::unchanged), unfolding(crate::specs::Float::written, crate::specs::Float::exponent_end, crate::specs::Float::exponent_digits))]
 fn read_exponent(bytes: &mut Bytes, mantissa: Mantissa) -> Option<i64>
