@@ -1,9 +1,9 @@
 //! The digits that count in an integer: the zeros in front, and the digits from the first that is
 //! none, as a reader of floats asks for them.
 //!
-//! Proof by hand: 20 lines, an answer by the law of what is left.
+//! Proof by hand: 24 lines, two answers by the law of what is left.
 
-ghost use Rattle.std.specs.Prelude.{◌≡◌, ◌+◌, length, IsTrue};
+ghost use Rattle.std.specs.Prelude.{◌≡◌, ◌+◌, ◌-◌, length, IsTrue};
 ghost use Rattle.lexical_format.specs.Word.{is_supported};
 ghost use Rattle.lexical_digits.specs.State.{start};
 ghost use Rattle.lexical_digits.specs.CallTable.{zeros_of, past_zeros_of};
@@ -32,6 +32,8 @@ pub fn read_figures(text: &[u8], word: u128) -> Figures
     ensures zeros { result.zeros ≡ zeros_of Integer (start text.now word) }
     ensures significant { let s = past_zeros_of Integer (start text.now word) in
         result.significant ≡ length (leading_digits_of Integer s) }
+    ensures others { let s = start text.now word in
+        result.significant ≡ length (leading_digits_of Integer s) - zeros_of Integer s }
     ensures all { result.zeros + result.significant
         ≡ length (leading_digits_of Integer (start text.now word)) }
     ensures end { result.end ≡ stop_of Integer (past_zeros_of Integer (start text.now word)) }

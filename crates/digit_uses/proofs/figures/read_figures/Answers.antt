@@ -25,3 +25,8 @@ returns-clause-all c =
       c.pass_zeros-zeros.ensures.zeros,
       law.zeros_lead Integer s holds,
     )
+
+pub returns-clause-others : goal.returns-clause-others
+returns-clause-others c =
+    let zeros = c.pass_zeros-zeros.ensures.zeros ∙ ap (zeros_of Integer) c.new-bytes.ensures.state
+    in omega (arith, returns-clause-all c, zeros)
