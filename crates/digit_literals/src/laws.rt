@@ -1,6 +1,6 @@
 //! Laws for callers who go on after a [`TooLarge`](crate::TooLarge).
 
-ghost use Rattle.std.specs.Prelude.{◌≡◌, ℕ, ◌+◌, ◌-◌, ◌^◌, ◌<◌, List, [], ◌++◌, length};
+ghost use Rattle.std.specs.Prelude.{ℕ, ◌+◌, ◌-◌, ◌^◌, ◌<◌, List, [], ◌++◌, length};
 ghost use Rattle.lexical_digits.specs.declared.skip.component.Component.{Component};
 ghost use Rattle.lexical_digits.specs.State.{State, IsState, rule, own};
 ghost use Rattle.lexical_digits.specs.Stop.{leading_digits_of};

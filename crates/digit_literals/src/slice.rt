@@ -1,7 +1,7 @@
 //! Digits that are read off a slice. Where another separator than a lone one between two digits is
 //! met, a `Bytes` reads them.
 
-ghost use Rattle.std.specs.Prelude.{◌≡◌, ℕ, ◌*◌, ◌+◌, ◌<◌, ◌≤◌, length, slice_index, true, option_and_then, IfSome, MatchOption};
+ghost use Rattle.std.specs.Prelude.{◌≡◌, ◌*◌, ◌+◌, ◌<◌, ◌≤◌, length, slice_index, true, option_and_then, IfSome, MatchOption};
 ghost use Rattle.lexical_format.specs.Digits.{digit_of_radix};
 ghost use Rattle.lexical_digits.specs.Separators.{is_digit, IsSupported};
 ghost use Rattle.lexical_digits.specs.CallTable.{byte_at_place, settled};
