@@ -1,15 +1,17 @@
 -- The value of digits that were taken, after that of others.
-use Rattle.std.proofs.Common.{◌≡◌, ℕ, ◌+◌, ◌*◌, ◌-◌, ◌^◌, ◌<◌, ◌≤◌, Bool, List, [], ◌∷◌, ◌++◌, length, take, slice_get, slice_index, Option, Some, None, option_and_then, refl, ap, sym, ◌∙◌, arith}
+use Rattle.std.proofs.Common.{◌≡◌, ℕ, ℤ, pos, ◌≤ℤ◌, ◌+ℤ◌, ◌+◌, ◌*◌, ◌-◌, ◌^◌, ◌<◌, ◌≤◌, Bool, List, [], ◌∷◌, ◌++◌, length, take, slice_get, slice_index, Option, Some, None, option_and_then, refl, ap, sym, ◌∙◌, arith}
 use Rattle.std.specs.Prelude.{IfSome}
 use Rattle.std.specs.Fn.{iterate}
 use Rattle.std.specs.Str.Parse.{digits_value_after}
+use Rattle.std.proofs.lemmas.Int.{ints}
 use Rattle.std.proofs.lemmas.List.{take_more, take_all}
 use Rattle.lexical_format.specs.Digits.{digit_of_radix, is_digit_of_radix}
 use Rattle.lexical_digits.specs.Cursor.{DigitLaws}
 use Rattle.lexical_digits.specs.Stop.{after_leading}
 use Rattle.digit_literals.specs.declared.reading.Digits.{Digits}
+use Rattle.digit_literals.specs.declared.reading.TooLarge.{TooLarge}
 use Rattle.digit_literals.specs.Reads.{IsWorth, IsMore}
-use Rattle.digit_literals.specs.Outcomes.{digits, ReadsAfter, StopsAt, FindsNone}
+use Rattle.digit_literals.specs.Outcomes.{digits, ReadsAfter, StopsAt, FindsNone, OverflowsAt}
 use Rattle.digit_literals.proofs.Worth.{digit_at, none_at, value_next, worth_next}
 use Rattle.digit_literals.proofs.Taking.{HasTaken, HasNext, none_taken, has_next, one_taken, moves_on, counts_bytes, all_taken, leaves_all}
 
@@ -142,3 +144,12 @@ module _ {M : Type 0} (buffer : M → List ℕ) (cursor place : M → ℕ) (take
       empty : (xs : List ℕ) → length xs ≡ 0 → xs ≡ []
       empty [] e = refl
       empty (x ∷ xs) e = cc
+
+  pub overflows_at : (owed owed_after : ℤ) (error : TooLarge) (t : M)
+      → StopsAt buffer cursor place taken settled radix 0 (2 ^ 64 - 1) m error t
+      → owed_after ≤ℤ (owed +ℤ pos (8 * error.count + 4))
+      → OverflowsAt buffer cursor place taken settled radix m owed error.at t owed_after
+  overflows_at owed owed_after error t h owes = record {
+    passes = h.exceeds;
+    owes = omega (arith, ints, h.count, owes);
+  }

@@ -1,5 +1,5 @@
 -- What reading the digits that lead an iterator answers, and what it leaves.
-use Rattle.std.specs.Prelude.{◌≡◌, ⊤, ℕ, ◌+◌, ◌-◌, ◌^◌, ◌<◌, ◌≤◌, List, [], ◌++◌, length, take, codes, decimal, Result, Ok, Err}
+use Rattle.std.specs.Prelude.{◌≡◌, ⊤, ℕ, ℤ, ◌+◌, ◌-◌, ◌*◌, ◌^◌, ◌<◌, ◌≤◌, pos, ◌≤ℤ◌, ◌+ℤ◌, List, [], ◌++◌, length, take, codes, decimal, Result, Ok, Err}
 use Rattle.std.specs.Fn.{iterate}
 use Rattle.std.specs.Str.Parse.{digits_value, digits_value_after}
 use Rattle.lexical_format.specs.Digits.{is_digit_of_radix}
@@ -82,3 +82,8 @@ module _ {M : Type 0} (buffer : M → List ℕ) (cursor place : M → ℕ) (take
     -- one of them is the first with which the value does not fit: those before it were taken
     abbrev pub PassesMost : ℕ → M → Type 0
     PassesMost at after = ExceedsMost 0 (2 ^ 64 - 1) m at after
+
+    -- the same, and what is owed: for the digits before it only
+    pub record OverflowsAt (owed : ℤ) (at : ℕ) (after : M) (owed_after : ℤ) : Type 0 where
+      pub passes : PassesMost at after
+      pub owes : owed_after ≤ℤ (owed +ℤ pos (8 * passes.read + 4))

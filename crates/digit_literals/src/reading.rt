@@ -4,7 +4,8 @@ ghost use Rattle.std.specs.Prelude.{◌≡◌, ◌+◌, ◌*◌, ◌-◌, ◌<�
 ghost use Rattle.lexical_format.specs.Digits.{digit_of_radix};
 ghost use Rattle.lexical_digits.specs.Cursor.{holds_of, DigitLaws};
 ghost use Rattle.lexical_digits.specs.Stop.{leading, after_leading};
-ghost use Rattle.digit_literals.specs.Outcomes.{digits, ReadsAfter, StopsAt, ReadsAll, FindsNone, PassesMost, IfEmpty, IfOverflow};
+ghost use Rattle.digit_literals.specs.After.{digits_read};
+ghost use Rattle.digit_literals.specs.Outcomes.{digits, ReadsAfter, StopsAt, ReadsAll, FindsNone, OverflowsAt, IfEmpty, IfOverflow};
 ghost use Rattle.digit_literals.specs.declared.LiteralError.TheVariants.{Overflow};
 
 use super::LiteralError;
@@ -117,9 +118,7 @@ pub fn read_digits_after<'a, I: DigitsIter<'a>>(
         before most (I.meaning iter.old) read (I.meaning iter.new)) }
     ensures too_large { IfErr result (λ error. StopsAt I.buffer I.cursor I.place I.taken
         I.settled radix before most (I.meaning iter.old) error (I.meaning iter.new)) }
-    ensures owes { let m = I.meaning iter.old in
-        let read = length (digits I.buffer I.cursor I.place I.taken I.settled radix m) in
-        I.owed iter.new ≤ℤ (I.owed iter.old +ℤ pos (8 * read + 4)) }
+    ensures owes { I.owed iter.new ≤ℤ (I.owed iter.old +ℤ pos (8 * digits_read result + 4)) }
     ensures keeps_loan { I.loan iter.new ≡ I.loan iter.old }
 {
     let mut value = before;
@@ -160,8 +159,8 @@ pub fn read_digits<'a, I: DigitsIter<'a>>(iter: &mut I, radix: u32) -> Result<u6
         FindsNone I.buffer I.cursor I.place I.taken I.settled radix (I.meaning iter.old)
         at (I.meaning iter.new)) }
     ensures overflow { IfOverflow result (λ at.
-        PassesMost I.buffer I.cursor I.place I.taken I.settled radix (I.meaning iter.old)
-        at (I.meaning iter.new)) }
+        OverflowsAt I.buffer I.cursor I.place I.taken I.settled radix (I.meaning iter.old)
+        (I.owed iter.old) at (I.meaning iter.new) (I.owed iter.new)) }
     ensures owes { let m = I.meaning iter.old in
         let read = length (digits I.buffer I.cursor I.place I.taken I.settled radix m) in
         I.owed iter.new ≤ℤ (I.owed iter.old +ℤ pos (8 * read + 4)) }
