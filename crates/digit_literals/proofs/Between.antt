@@ -1,8 +1,8 @@
 -- The digits between two positions.
-use Rattle.std.proofs.Common.{◌≡◌, ℕ, zero, suc, ◌+◌, ◌-◌, ◌<◌, ◌≤◌, cond, List, [], ◌∷◌, ◌++◌, length, take, drop, refl, ap, subst, ◌∙◌, arith}
+use Rattle.std.proofs.Common.{◌≡◌, ℕ, zero, ◌+◌, ◌-◌, ◌<◌, ◌≤◌, List, [], ◌∷◌, ◌++◌, length, take, drop, refl, ap, subst, ◌∙◌, arith}
 use Rattle.std.specs.Prelude.{slice_index}
 use Rattle.std.specs.List.{filter}
-use Rattle.std.proofs.lemmas.List.{take_more, drop_more, length-drop, get_or-drop}
+use Rattle.std.proofs.lemmas.List.{take_more, length-drop, get_or-drop}
 use Rattle.std.proofs.lemmas.List.Elements.{filter-append}
 use Rattle.lexical_digits.specs.declared.skip.rule.Rule.{Rule}
 use Rattle.lexical_digits.specs.Separators.{is_digit}
@@ -15,16 +15,7 @@ module _ (rule : Rule) (text : List ℕ) where
   pub none_between : (start : ℕ) → digits_between rule text start start ≡ []
   none_between start = let none : start - start ≡ zero = omega arith in rw none refl
 
-  -- one byte more at the start
-  pub first_between : (at end : ℕ) → at < end → at < length text
-      → digits_between rule text at end ≡ cond (is_digit rule (slice_index text at))
-      (slice_index text at ∷ digits_between rule text (at + 1) end)
-      (digits_between rule text (at + 1) end)
-  first_between at end l within =
-      let more : end - at ≡ suc (end - (at + 1)) = omega (arith, l) in
-      rw (more, drop_more text at 0 within)
-
-  -- and at the end
+  -- one byte more at the end
   pub more_between : (start at : ℕ) → start ≤ at → at < length text
       → digits_between rule text start (at + 1) ≡ digits_between rule text start at
       ++ filter (is_digit rule) (slice_index text at ∷ [])

@@ -5,7 +5,7 @@ pub mod States
 pub mod StopSteps
 pub mod Leads
 pub mod Counted
-pub mod Zeros
+pub mod LeadingZeros
 pub mod PassedZeros
 pub mod Between
 pub mod Worth

@@ -21,11 +21,11 @@ module _ (rule : Rule) (text : List ℕ) where
   unfolding is_kept is_dropped holds_separator
   digit_kept at count l e = rw (slice_get-get_or text at 0 l, e) refl
 
-  other_kept : (at count : ℕ) → at < length text → is_digit rule (slice_index text at) ≡ false
+  pub other_kept : (at count : ℕ) → at < length text
       → is_separator rule.separator (slice_index text at) ≡ false
       → is_kept rule text at count at ≡ true
   unfolding is_kept is_dropped holds_separator
-  other_kept at count l e alone = rw (slice_get-get_or text at 0 l, e, alone) refl
+  other_kept at count l alone = rw (slice_get-get_or text at 0 l, alone) (grind arith)
 
   -- counts above zero are alike
   kept_alike : (at count other q : ℕ) → 0 < count → 0 < other
@@ -59,8 +59,7 @@ module _ (rule : Rule) (text : List ℕ) where
       → is_separator rule.separator (slice_index text at) ≡ false → stop rule text at count ≡ at
   unfolding stop
   stop_other at count l e alone =
-      rw (positions_kept rule text true (inl refl) at count l (other_kept at count l e alone), e)
-      refl
+      rw (positions_kept rule text true (inl refl) at count l (other_kept at count l alone), e) refl
 
   pub stop_dropped : (at count : ℕ) → at < length text → is_kept rule text at count at ≡ false
       → stop rule text at count ≡ stop rule text (at + 1) count

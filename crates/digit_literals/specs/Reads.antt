@@ -4,6 +4,7 @@ use Rattle.std.specs.Prelude.{◌≡◌, ℕ, ◌+◌, ◌-◌, ◌*◌, ◌^◌
 use Rattle.std.specs.Str.Parse.{digits_value_after}
 use Rattle.lexical_digits.specs.declared.skip.rule.Rule.{Rule}
 use Rattle.lexical_digits.specs.declared.skip.component.Component.{Component}
+use Rattle.lexical_digits.specs.Separators.{zeros, past_zeros}
 use Rattle.lexical_digits.specs.State.{rule, own}
 use Rattle.lexical_digits.specs.Looks.{Held, owed}
 use Rattle.lexical_digits.specs.Stop.{stop, leading_digits_of, past_digits_of}
@@ -11,6 +12,7 @@ use Rattle.digit_literals.specs.After.{digits_between, past_digits_to, digits_re
 use Rattle.digit_literals.specs.declared.reading.Digits.{Digits}
 use Rattle.digit_literals.specs.declared.reading.TooLarge.{TooLarge}
 use Rattle.digit_literals.specs.declared.slice.ReadTo.{ReadTo}
+use Rattle.digit_literals.specs.declared.zeros.ZerosTo.{ZerosTo}
 
 -- a value is that of digits after another one, and at most the greatest
 pub record IsWorth (radix before : ℕ) (digits : List ℕ) (value most : ℕ) : Type 0 where
@@ -40,6 +42,15 @@ module _ (rule : Rule) (text : List ℕ) (start before : ℕ) (most : Option ℕ
     pub reads : (own : ℕ) → ReadsTo own
     pub below : start + read.count ≤ read.end
     pub few : read.end ≤ start + 2 * read.count
+
+-- The bytes `0` from the start on were passed, whatever was counted before, with at most one
+-- separator for each.
+pub record AreZeros (rule : Rule) (text : List ℕ) (start : ℕ) (read : ZerosTo) : Type 0 where
+  pub is : (own : ℕ) → zeros rule text start own ≡ read.count
+  pub past : (own : ℕ) → past_zeros rule text start own ≡ read.end
+  pub onward : start ≤ read.end
+  pub within : read.end ≤ length text
+  pub few : read.end ≤ start + 2 * read.count
 
 -- What a read of a component leaves of a `Bytes`, which was a before: the digits that were read are
 -- passed, and counted as by `next`.

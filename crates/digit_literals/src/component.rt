@@ -12,6 +12,7 @@ ghost use Rattle.digit_literals.specs.Reads.{ReadsOn};
 
 use super::reading::{Digits, TooLarge};
 use super::slice::{read_counted, read_slice};
+use super::zeros::read_zeros;
 use lexical_digits::iterator::{DigitsBodies, Iter};
 use lexical_digits::on_iterator;
 use lexical_digits::skip::{Bytes, Component};
@@ -133,6 +134,7 @@ fn read_on(
 /// are. Each is counted if the component counts. The cursor is then at the next byte that the
 /// component keeps, or else at the end.
 #[inline(always)]
+#[tactic(auto, using(crate::proofs::PassedZeros::passing))]
 pub fn pass_zeros(bytes: &mut Bytes, component: Component) -> usize
     ensures zeros { result ≡ zeros_of component bytes.old.state }
     ensures state { bytes.new.state ≡ past_zeros_of component bytes.old.state }
@@ -140,8 +142,7 @@ pub fn pass_zeros(bytes: &mut Bytes, component: Component) -> usize
 {
     let rule = bytes.rule(component);
     let text = bytes.get_buffer();
-    // the first digit with which a value is above 0 is no zero
-    if let Some(read) = read_slice(text, rule, bytes.cursor(), 0, Some(0)) {
+    if let Some(read) = read_zeros(text, rule, bytes.cursor()) {
         bytes.pass_read(component, read.end, 0);
         bytes.increment_count_of(component, read.count);
         return read.count;

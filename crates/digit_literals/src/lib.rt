@@ -26,6 +26,7 @@ pub mod laws;
 mod parse;
 mod reading;
 mod slice;
+mod zeros;
 
 pub use self::component::{pass_digits, pass_zeros, read_digits_of, read_digits_up_to};
 pub use self::first::{FirstDigits, read_first_digits};

@@ -63,7 +63,7 @@ fn add_if(value: u64, radix: u32, digit: u32, most: Option<u64>) -> Option<u64>
 /// Whether a digit is after a position, and separators between digits are dropped.
 #[inline(always)]
 #[tactic(auto, unfolding(lexical_digits::specs::Separators::is_digit))]
-fn is_inner(text: &[u8], rule: Rule, radix: u32, at: usize) -> bool
+pub(super) fn is_inner(text: &[u8], rule: Rule, radix: u32, at: usize) -> bool
     requires within { at < length text.now }
     requires radix { radix ≡ rule.radix }
     ensures internal { result ≡ true → rule.internal ≡ true }
