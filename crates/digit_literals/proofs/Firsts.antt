@@ -1,208 +1,169 @@
--- The value of the first n significant digits, read in several parts.
-use Rattle.std.proofs.Common.{◌≡◌, ℕ, zero, suc, ◌+◌, ◌-◌, ◌*◌, ◌^◌, ◌<◌, ◌≤◌, true, List, [], ◌∷◌, ◌++◌, length, take, sym, ap, subst, ◌∙◌, arith, inl, inr, append-nil, append_assoc, length-append, slice_index}
-use Rattle.std.specs.List.{slice_range}
+-- What is read of a number of any length: the first of its significant digits.
+use Rattle.std.proofs.Common.{◌≡◌, ℕ, zero, suc, ◌+◌, ◌-◌, ◌*◌, ◌^◌, ◌<◌, ◌≤◌, List, [], ◌∷◌, ◌++◌, length, take, drop, refl, sym, ap, ◌∙◌, arith, inl, inr, add-one, append-nil, append_assoc, length-append}
 use Rattle.std.specs.Char.{digit_value}
 use Rattle.std.specs.Str.Parse.{AllDigits, digits_value, digits_value_after}
-use Rattle.std.proofs.Math.Nat.{one-le-pow}
-use Rattle.std.proofs.lemmas.Int.Digits.{digits_value_push}
-use Rattle.std.proofs.lemmas.List.{length-take-le, take_all, take_at, take-append-le}
-use Rattle.lexical_digits.specs.declared.skip.rule.Rule.{Rule}
+use Rattle.std.proofs.Math.Nat.{pow-suc, pow-le-pow_right, mul-le-mul_right}
+use Rattle.std.proofs.lemmas.Int.Digits.{digits_value-lt}
+use Rattle.std.proofs.lemmas.List.{take_all, take-append-le, take-append-drop, length-drop}
+use Rattle.std.specs.List.{slice_range}
 use Rattle.lexical_digits.specs.declared.skip.component.Component.{Component}
-use Rattle.lexical_digits.specs.Separators.{is_digit}
-use Rattle.lexical_digits.specs.State.{State, IsState, rule, own}
+use Rattle.lexical_digits.specs.State.{State, IsState, rule}
 use Rattle.lexical_digits.specs.Stop.{stop_of, leading_digits_of}
 use Rattle.lexical_digits.specs.Laws.Terms.{cases_lt}
 use Rattle.lexical_digits.proofs.Calls.Stops.{leading_between}
 use Rattle.lexical_digits.proofs.Rule.Supported.{supported_rule}
-use Rattle.digit_literals.specs.declared.reading.Digits.{Digits}
-use Rattle.digit_literals.specs.declared.reading.TooLarge.{TooLarge}
-use Rattle.digit_literals.specs.After.{digits_to, past_digits_to, IsDigits, IsReadTo, ExceedsAt}
+use Rattle.digit_literals.specs.declared.first.FirstDigits.{FirstDigits}
+use Rattle.digit_literals.specs.First.{ReadsFirst}
 use Rattle.digit_literals.specs.Significant.{significant, IsOfFirstDigits}
-use Rattle.digit_literals.proofs.ForCallers.{value_of_both, digit_fits, all_digits}
-use Rattle.digit_literals.proofs.Significant.{none_left, same_value, all_left, then_all, then_more, at_most, at_least}
-use Rattle.digit_literals.proofs.Rest.{digits_left, digit, more as more_to}
-
--- ---- the first n of them
-
--- more digits after the first n
-then_on : (n : ℕ) (ds es : List ℕ) → 0 < n
-    → (take n (significant (ds ++ es)) ≡ take n (significant (take n (significant ds) ++ es)))
-    × (length (significant (ds ++ es)) - n ≡ length (significant ds) - n
-    + (length (significant (take n (significant ds) ++ es)) - n))
-then_on n ds es l = elim (cases_lt n (length (significant ds))) [
-  | inl m ↦
-      let first : List ℕ = take n (significant ds) in
-      let count : length first ≡ n = length-take-le n (significant ds) (omega (arith, m)) in
-      let all : significant (ds ++ es) ≡ significant ds ++ es =
-      then_all ds es ∙ ap (λ xs. significant (xs ++ es)) (sym whole)
-      ∙ then_more (length (significant ds)) ds es (omega (arith, ap length whole, m))
-      ∙ ap (λ xs. xs ++ es) whole in
-      let less = then_more n ds es (omega (arith, count, l)) in (
-        ap (take n) all ∙ take-append-le n (significant ds) es (omega (arith, m))
-            ∙ sym (ap (take n) less ∙ take_at first es n count),
-        omega (
-          arith,
-          ap length all,
-          ap length less,
-          count,
-          length-append (significant ds) es,
-          length-append first es,
-        ),
-      )
-  | inr m ↦
-      let whole_n : take n (significant ds) ≡ significant ds =
-      take_all n (significant ds) (omega (arith, m)) in
-      let all : significant (ds ++ es) ≡ significant (take n (significant ds) ++ es) =
-      then_all ds es ∙ ap (λ xs. significant (xs ++ es)) (sym whole_n) in
-      (ap (take n) all, omega (arith, m, ap length all))
-]
-  where
-    whole : take (length (significant ds)) (significant ds) ≡ significant ds
-    whole = take_all (length (significant ds)) (significant ds) (omega arith)
-
--- digits that are worth less than the power n, and then none, or more with which they are not
-first_of : (radix n : ℕ) (ds es : List ℕ) → 2 ≤ radix → 0 < n → AllDigits radix ds
-    → digits_value radix ds < radix ^ n
-    → (0 < length es → radix ^ n < (digits_value radix ds + 1) * radix)
-    → (digits_value radix ds ≡ digits_value radix (take n (significant (ds ++ es))))
-    × (length es ≡ length (significant (ds ++ es)) - n)
-first_of radix n ds [] two l all fits over =
-    let few = at_most radix n ds two fits in
-    rw (append-nil ds) (
-      sym (ap (digits_value radix) (take_all n (significant ds) few)
-          ∙ same_value radix ds),
-      omega (arith, few),
-    )
-first_of radix n ds (e ∷ es) two l all fits over =
-    let few = at_most radix n ds two fits in
-    let many = at_least radix n ds two all (over (omega arith)) in
-    let whole : take n (significant ds) ≡ significant ds = take_all n (significant ds) few in
-    let on : significant (ds ++ e ∷ es) ≡ significant ds ++ e ∷ es =
-    then_all ds (e ∷ es) ∙ ap (λ xs. significant (xs ++ e ∷ es)) (sym whole)
-    ∙ then_more n ds (e ∷ es) (omega (arith, ap length whole, many))
-    ∙ ap (λ xs. xs ++ e ∷ es) whole in (
-      sym (ap (λ xs. digits_value radix (take n xs)) on
-          ∙ ap (digits_value radix) (take_at (significant ds) (e ∷ es) n (omega (arith, few, many)))
-          ∙ same_value radix ds),
-      omega (arith, few, many, ap length on, length-append (significant ds) (e ∷ es)),
-    )
-
--- ---- digits that are read after others
+use Rattle.digit_literals.proofs.ForCallers.{value_of_both, all_digits}
+use Rattle.digit_literals.proofs.Significant.{significants, at_most, grows}
 
 all_both : (radix : ℕ) (ds es : List ℕ) → AllDigits radix ds → AllDigits radix es
     → AllDigits radix (ds ++ es)
 all_both radix [] es h i = i
 all_both radix (d ∷ ds) es h i = (h.0, all_both radix ds es h.1 i)
 
-all_first : (radix n : ℕ) (ds : List ℕ) → AllDigits radix ds → AllDigits radix (take n ds)
-all_first radix zero ds h = tt
-all_first radix (suc n) [] h = tt
-all_first radix (suc n) (d ∷ ds) h = (h.0, all_first radix n ds h.1)
+all_parts : (radix : ℕ) (ds es : List ℕ) → AllDigits radix (ds ++ es)
+    → AllDigits radix ds × AllDigits radix es
+all_parts radix [] es h = (tt, h)
+all_parts radix (d ∷ ds) es h = let rest = all_parts radix ds es h.1 in ((h.0, rest.0), rest.1)
 
-module _ (radix n : ℕ) (two : 2 ≤ radix) (some : 0 < n) (ds : List ℕ) (before more : ℕ)
-    (so : IsOfFirstDigits radix n ds before more) where
-  abbrev first : List ℕ
-  first = take n (significant ds)
-
-  -- the value of digits after the first of those before
-  worth : (es : List ℕ) → digits_value_after radix before es ≡ digits_value radix (first ++ es)
-  worth es = ap (λ (v : ℕ). digits_value_after radix v es) so.is ∙ value_of_both radix first es
-
-  worth_more : (es : List ℕ) (d : ℕ) → digits_value_after radix before (es ++ d ∷ [])
-      ≡ digits_value_after radix before es * radix + digit_value d
-  worth_more es d =
-      worth (es ++ d ∷ []) ∙ ap (digits_value radix) (sym (append_assoc first es (d ∷ [])))
-      ∙ digits_value_push radix (first ++ es) d
-      ∙ ap (λ (v : ℕ). v * radix + digit_value d) (sym (worth es))
-
-  reads : (es rest : List ℕ) → AllDigits radix es → AllDigits radix (es ++ rest)
-      → digits_value_after radix before es < radix ^ n
-      → (0 < length rest → radix ^ n < (digits_value_after radix before es + 1) * radix)
-      → IsOfFirstDigits radix n (ds ++ (es ++ rest)) (digits_value_after radix before es)
-      (more + length rest)
-  reads es rest all_es all_rest fits over =
-      let w = worth es in
-      let on = then_on n ds (es ++ rest) some in
-      let all = all_both radix first es
-      (all_first radix n (significant ds) (all_left radix ds so.digits_all)) all_es in
-      let here = first_of radix n (first ++ es) rest two some all (omega (arith, w, fits))
-      (λ l. rw (← w) (over l)) in
-      let same = append_assoc first es rest in
-      record {
-        digits_all = all_both radix ds (es ++ rest) so.digits_all all_rest;
-        is = w ∙ here.0 ∙ ap (λ xs. digits_value radix (take n (significant xs))) same
-            ∙ ap (digits_value radix) (sym on.0);
-        after = omega (arith, so.after, on.1, here.1, ap (λ xs. length (significant xs)) same);
-      }
-
--- ---- the same of a component
-
-digit_below : (r : Rule) (byte : ℕ) → is_digit r byte ≡ true → digit_value byte < r.radix
-unfolding is_digit
-digit_below r byte e = digit_fits r.radix byte e
-
-module _ (k : Component) (s : State) (n before more : ℕ) (ds : List ℕ) where
-  all_lead : IsState s → AllDigits (rule k s).radix (leading_digits_of k s)
-  all_lead v = subst (AllDigits (rule k s).radix) (sym (leading_between k s v))
-      (all_digits (rule k s) (slice_range s.buffer s.cursor (stop_of k s)))
-
-  pub first_read : (read : Digits) → IsState s → 0 < n
-      → IsOfFirstDigits (rule k s).radix n ds before more → IsDigits k s before read
-      → read.value < (rule k s).radix ^ n
-      → IsOfFirstDigits (rule k s).radix n (ds ++ leading_digits_of k s) read.value more
-  first_read read v some so is fits =
-      let none : leading_digits_of k s ++ [] ≡ leading_digits_of k s =
-      append-nil (leading_digits_of k s) in
-      let all = all_lead v in
-      let h = reads (rule k s).radix n (supported_rule s.word k v.word).low some ds before more so
-      (leading_digits_of k s) [] all (rw none all) (rw (← is.is) fits)
-      (λ l. absurd (omega (arith, l))) in
-      record {
-        digits_all = rw none at h.digits_all;
-        is = is.is ∙ rw none at h.is;
-        after = omega
-            (arith, h.after, ap (λ xs. length (significant (ds ++ xs))) none);
-      }
-
-  pub first_too_large : (error : TooLarge) → IsState s → 0 < n
-      → IsOfFirstDigits (rule k s).radix n ds before more
-      → ExceedsAt (rule k s) s.buffer s.cursor (own k s) before ((rule k s).radix ^ n - 1) error.at
-      → IsReadTo k s before error
-      → IsOfFirstDigits (rule k s).radix n (ds ++ leading_digits_of k s) error.value
-      (more + length (leading_digits_of k (past_digits_to k s error.at)))
-  first_too_large error v some so h is =
-      let most : ℕ = (rule k s).radix ^ n - 1 in
-      let es : List ℕ = digits_to k s error.at in
-      let rest : List ℕ = leading_digits_of k (past_digits_to k s error.at) in
-      let both : leading_digits_of k s ≡ es ++ rest = digits_left k s before most error.at v h in
-      let low = (supported_rule s.word k v.word).low in
-      let byte : ℕ = slice_index s.buffer error.at in
-      let below : digit_value byte < (rule k s).radix =
-      digit_below (rule k s) byte (digit k s before most error.at v h) in
-      let next = ap (digits_value_after (rule k s).radix before)
-      (more_to k s before most error.at v h)
-      ∙ worth_more (rule k s).radix n low some ds before more so es byte in
-      let r = reads (rule k s).radix n low some ds before more so es rest
-      (all_digits (rule k s) (slice_range s.buffer s.cursor error.at))
-      (rw (← both) (all_lead v))
-      (omega (arith, h.fits, one-le-pow n (rule k s).radix (omega (arith, low))))
-      (λ l. omega (arith, h.passes, next, below)) in
-      rw (both, is.is) r
-
-pub none_first : (radix n : ℕ) → IsOfFirstDigits radix n [] 0 0
-none_first radix n =
-    let none : take n (significant []) ≡ [] = rw none_left (take_all n [] (omega arith)) in
+-- digits whose value is below the power n are at most n
+short : (radix n : ℕ) (ds : List ℕ) → 1 ≤ radix → AllDigits radix ds
+    → digits_value radix ds < radix ^ n → IsOfFirstDigits radix n ds (digits_value radix ds) 0
+short radix n ds one all l =
+    let few = at_most radix n ds one l in
     record {
-      digits_all = tt;
-      is = sym (ap (digits_value radix) none);
-      after = omega (arith, ap length none_left);
+      digits_all = all;
+      is = sym (ap (digits_value radix) (take_all n (significant ds) few)
+          ∙ (significants radix ds).value);
+      after = omega (arith, few);
     }
 
--- digits after any others, where there are none
-pub alone : (radix n before value dropped : ℕ) (digits : List ℕ)
-    → ((more : ℕ) (others : List ℕ) → IsOfFirstDigits radix n others before more
-    → IsOfFirstDigits radix n (others ++ digits) value (more + dropped))
-    → before ≡ 0 → IsOfFirstDigits radix n digits value dropped
-alone radix n before value dropped digits first none =
-    let all : 0 + dropped ≡ dropped = omega arith in
-    rw all at (first 0 [] (rw none (none_first radix n)))
+module _ (radix n v more : ℕ) (one : 1 ≤ radix) (some : 0 < n) (ds : List ℕ)
+    (so : IsOfFirstDigits radix n ds v more) where
+  -- after digits whose value is still below the power n
+  then_read : (es : List ℕ) → AllDigits radix es → digits_value_after radix v es < radix ^ n
+      → IsOfFirstDigits radix n (ds ++ es) (digits_value_after radix v es) more
+  then_read [] all l = rw (append-nil ds) so
+  then_read (e ∷ es) all l = elim (cases_lt n (length (significant ds))) [
+    | inl m ↦
+        let same : suc (n - 1) ≡ n = omega arith in
+        let from = rw same at ((significants radix ds).low (n - 1) (omega arith)) in
+        let up : radix ^ (n - 1) * radix ≤ v * radix =
+        mul-le-mul_right radix (omega (arith, so.is, from)) in
+        let below = grows radix 0 es (v * radix + digit_value e) one in
+        absurd (omega (arith, up, below, rw same at (pow-suc radix (n - 1))))
+    | inr m ↦
+        let before : v ≡ digits_value radix ds =
+        so.is ∙ ap (digits_value radix) (take_all n (significant ds) m)
+        ∙ (significants radix ds).value in
+        let both : digits_value_after radix v (e ∷ es) ≡ digits_value radix (ds ++ e ∷ es) =
+        ap (λ (w : ℕ). digits_value_after radix w (e ∷ es)) before
+        ∙ value_of_both radix ds (e ∷ es) in
+        let none : more ≡ 0 = omega (arith, so.after, m) in
+        rw (both, none) (short radix n (ds ++ e ∷ es) one
+        (all_both radix ds (e ∷ es) so.digits_all all) (rw both at l))
+  ]
+
+  -- where one digit more has a value that is not, there are n
+  full : (d : ℕ) → d < radix → radix ^ n ≤ v * radix + d → n ≤ length (significant ds)
+  full d below over = elim (cases_lt (length (significant ds)) n) [
+    | inl m ↦
+        let count : ℕ = length (significant ds) in
+        let less = digits_value-lt radix (significant ds)
+        ((significants radix ds).all so.digits_all) in
+        let whole = take_all n (significant ds) (omega (arith, m)) in
+        let next : (v + 1) * radix ≤ radix ^ count * radix = mul-le-mul_right radix
+        (omega (arith, less, so.is, ap (digits_value radix) whole)) in
+        let up : radix ^ suc count ≤ radix ^ n = pow-le-pow_right one m in
+        absurd (omega (arith, up, next, pow-suc radix count))
+    | inr m ↦ m
+  ]
+
+  -- after digits that are passed, as the value with the first of them is not
+  then_passed : (es : List ℕ) → AllDigits radix es
+      → (0 < length es → radix ^ n ≤ digits_value_after radix v (take 1 es))
+      → IsOfFirstDigits radix n (ds ++ es) v (more + length es)
+  then_passed [] all over = let same : more + 0 ≡ more = omega arith in rw (append-nil ds, same) so
+  then_passed (e ∷ es) all over =
+      let many = full (digit_value e) all.0 (over (omega arith)) in
+      let on = (significants radix ds).more (e ∷ es) (omega (arith, many)) in
+      record {
+        digits_all = all_both radix ds (e ∷ es) so.digits_all all;
+        is = so.is ∙ ap (digits_value radix)
+            (sym (ap (take n) on ∙ take-append-le n (significant ds) (e ∷ es) many));
+        after = omega
+            (arith, so.after, many, ap length on, length-append (significant ds) (e ∷ es));
+      }
+
+-- ---- what is read of a component
+
+one_more : (radix v k : ℕ) (ds : List ℕ)
+    → digits_value_after radix (digits_value_after radix v (take k ds)) (take 1 (drop k ds))
+    ≡ digits_value_after radix v (take (k + 1) ds)
+one_more radix v zero ds = refl
+one_more radix v (suc k) [] = rw add-one refl
+one_more radix v (suc k) (d ∷ ds) =
+    let next : suc k + 1 ≡ suc (k + 1) = omega arith in
+    rw next (one_more radix (v * radix + digit_value d) k ds)
+
+module _ (k : Component) (s : State) (valid : IsState s) (most before : ℕ) (read : FirstDigits)
+    (count : read.count ≡ length (leading_digits_of k s)) (few : read.dropped ≤ read.count) where
+  abbrev radix : ℕ
+  radix = (rule k s).radix
+
+  abbrev digits : List ℕ
+  digits = leading_digits_of k s
+
+  abbrev n : ℕ
+  n = read.count - read.dropped
+
+  -- the value of the first of its digits, with one more of which it is above the greatest
+  pub reads_first : read.value ≡ digits_value_after radix before (take n digits)
+      → read.value ≤ most
+      → (0 < read.dropped → most < digits_value_after radix before (take (n + 1) digits))
+      → ReadsFirst radix most before digits read
+  reads_first is fits next = record {
+    count = count;
+    few = few;
+    is = is;
+    fits = fits;
+    next = next;
+    whole = λ none. is ∙ ap (digits_value_after radix before)
+        (take_all n digits (omega (arith, none, count)));
+    over = λ some. omega (arith, next some, grows radix (n + 1) digits before one);
+    alone = λ m some power none.
+        let of_none = short radix m [] one tt (omega (arith, power)) in
+        let all : 0 + read.dropped ≡ read.dropped = omega arith in
+        rw all at (first m 0 [] some power (rw none of_none));
+    first = first;
+  }
+    where
+      one : 1 ≤ radix
+      one = omega (arith, (supported_rule s.word k valid.word).low)
+
+      all : AllDigits radix (take n digits ++ drop n digits)
+      all = rw (take-append-drop n digits, leading_between k s valid)
+          (all_digits (rule k s) (slice_range s.buffer s.cursor (stop_of k s)))
+
+      first : (m more : ℕ) (others : List ℕ) → 0 < m → most + 1 ≡ radix ^ m
+          → IsOfFirstDigits radix m others before more
+          → IsOfFirstDigits radix m (others ++ digits) read.value (more + read.dropped)
+      first m more others some power so =
+          let es : List ℕ = take n digits in
+          let rest : List ℕ = drop n digits in
+          let parts = all_parts radix es rest all in
+          let on = rw (← is) at (then_read radix m before more one some others so es parts.0
+          (omega (arith, is, fits, power))) in
+          let dropped : length rest ≡ read.dropped = omega (arith, length-drop n digits, count) in
+          let whole : (others ++ es) ++ rest ≡ others ++ digits =
+          append_assoc others es rest ∙ ap (λ ds. others ++ ds) (take-append-drop n digits) in
+          rw (whole, dropped) at (then_passed radix m read.value more one some (others ++ es) on rest
+          parts.1 (λ l. omega (
+            arith,
+            power,
+            next (omega (arith, l, dropped)),
+            one_more radix before n digits,
+            ap (λ (v : ℕ). digits_value_after radix v (take 1 rest)) is,
+          )))

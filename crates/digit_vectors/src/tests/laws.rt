@@ -3,7 +3,7 @@
 use super::steps::{Part, Step, assert_part};
 use super::{CONSECUTIVE, INTERNAL, LEADING, TRAILING, UNFLAGGED, bytes_of};
 use crate::slow::is_kept;
-use digit_literals::laws::{first_digits_are_read, too_large_leaves_the_rest};
+use digit_literals::laws::too_large_leaves_the_rest;
 use digit_literals::{integers_have_no_fault, outcomes_differ};
 use digit_script::{Answer, Call, Op, same_answer, same_call, same_op, same_part};
 use lexical_digits::iterator::DigitsIter;
@@ -246,7 +246,6 @@ fn laws_over_definitions_may_be_called(rt: HostRuntime) {
     assert!(rt; is_supported(STANDARD));
     integers_have_no_fault(b"12", STANDARD);
     too_large_leaves_the_rest();
-    first_digits_are_read();
     flags_are_bits();
     masks_are_flags();
     constants_are();

@@ -1,4 +1,4 @@
-use Rattle.std.proofs.Common.{◌≡◌, ℕ, ◌+◌, ◌-◌, ◌^◌, ◌∙◌, ◌<◌, List, ◌++◌, ap, sym, length, take, length-append, arith}
+use Rattle.std.proofs.Common.{◌≡◌, ℕ, ◌+◌, ◌-◌, ◌∙◌, ap, sym, length, take, length-append, arith}
 use Rattle.std.specs.Str.Parse.{digits_value_after}
 use Rattle.std.proofs.lemmas.List.{take_all}
 use Rattle.std.proofs.lemmas.Int.{ints}
@@ -7,38 +7,22 @@ use Rattle.lexical_digits.specs.State.{rule}
 use Rattle.lexical_digits.specs.Stop.{leading_digits_of, past_digits_of}
 use Rattle.digit_literals.specs.After.{digits_to, past_digits_to}
 use Rattle.digit_literals.specs.Rest.{LeavesRest}
-use Rattle.digit_literals.specs.Significant.{IsOfFirstDigits}
-use Rattle.digit_literals.proofs.Firsts.{first_read, first_too_large, alone}
+use Rattle.digit_literals.proofs.Firsts.{reads_first}
 use Rattle.digit_literals.proofs.Rest.{leaves_rest, upto}
 use Rattle.digit_literals.proofs.States.{within_stop, digits_fit}
 use Rattle.digit_literals.proofs.first.read_first_digits.Goals as goal
 
 pub returns-in-Ok-clause-first : goal.returns-in-Ok-clause-first
 returns-in-Ok-clause-first c =
-    let k = c.args.component in
     let s = c.args.bytes.now.state in
+    let radix : ℕ = (rule c.args.component s).radix in
     let ok = c.in-Ok.ensures.ok in
-    let first : (n : ℕ) → 0 < n → c.args.most + 1 ≡ (rule k s).radix ^ n → (more : ℕ)
-    → (others : List ℕ) → IsOfFirstDigits (rule k s).radix n others c.args.before more
-    → IsOfFirstDigits (rule k s).radix n (others ++ leading_digits_of k s) c.in-Ok.read.value
-    (more + 0) =
-    λ n some most more others so.
-    let all : more + 0 ≡ more = omega arith in
-    rw all (first_read k s n c.args.before more others c.in-Ok.read c.args.bytes.now.holds some
-    so ok
-    (omega (arith, c.in-Ok.ensures.fits, most))) in
-    record {
-      count = ok.digits;
-      few = omega arith;
-      is = ok.is ∙ sym (ap (digits_value_after (rule k s).radix c.args.before)
-          (take_all (c.in-Ok.read.count - 0) (leading_digits_of k s) (omega (arith, ok.digits))));
-      fits = c.in-Ok.ensures.fits;
-      next = λ l. absurd (omega (arith, l));
-      whole = λ _. ok.is;
-      over = λ l. absurd (omega (arith, l));
-      alone = λ n some most. alone _ n _ _ 0 _ (first n some most);
-      first = λ n more others some most. first n some most more others;
-    }
+    reads_first c.args.component s c.args.bytes.now.holds c.args.most c.args.before _ ok.digits
+    (omega arith)
+    (ok.is ∙ sym (ap (digits_value_after radix c.args.before)
+    (take_all (c.in-Ok.read.count - 0) (leading_digits_of c.args.component s)
+    (omega (arith, ok.digits)))))
+    c.in-Ok.ensures.fits (λ l. absurd (omega (arith, l)))
 
 passed : (c : goal.After-struct_known-1) → c.pass_digits-dropped.result ≡ length (leading_digits_of
     c.args.component (past_digits_to c.args.component c.args.bytes.now.state c.in-Err.error.at))
@@ -68,32 +52,15 @@ returns-in-Err-clause-first c =
     let holds = c.args.bytes.now.holds in
     let large = c.in-Err.ensures.too_large in
     let so_far = c.in-Err.ensures.so_far in
-    let all = leading_digits_of k s in
-    let radix : ℕ = (rule k s).radix in
     let here : error.count + c.pass_digits-dropped.result - c.pass_digits-dropped.result
     ≡ length (digits_to k s error.at) = omega (arith, so_far.digits) in
-    let read : take (error.count + c.pass_digits-dropped.result - c.pass_digits-dropped.result) all
-    ≡ digits_to k s error.at =
+    let read : take (error.count + c.pass_digits-dropped.result - c.pass_digits-dropped.result)
+    (leading_digits_of k s) ≡ digits_to k s error.at =
     rw here (ap (take (length (digits_to k s error.at))) (rest c).digits ∙ take-append_seam _ _) in
-    let first : (n : ℕ) → 0 < n → c.args.most + 1 ≡ radix ^ n → (more : ℕ) → (others : List ℕ)
-    → IsOfFirstDigits radix n others c.args.before more
-    → IsOfFirstDigits radix n (others ++ all) error.value
-    (more + c.pass_digits-dropped.result) =
-    λ n some most more others so.
-    let e : c.args.most ≡ radix ^ n - 1 = omega (arith, most) in
-    rw (passed c) (first_too_large k s n c.args.before more others error holds some so
-    (rw e at large) so_far) in
-    record {
-      count = count c;
-      few = omega arith;
-      is = so_far.is ∙ ap (digits_value_after radix c.args.before) (sym read);
-      fits = omega (arith, so_far.is, large.fits);
-      next = λ _. rw (here, ← upto k s c.args.before c.args.most error.at holds large) large.passes;
-      whole = λ none. absurd (omega (arith, none, passed c, (rest c).some));
-      over = λ _. (rest c).over;
-      alone = λ n some most. alone _ n _ _ _ _ (first n some most);
-      first = λ n more others some most. first n some most more others;
-    }
+    reads_first k s holds c.args.most c.args.before _ (count c) (omega arith)
+    (so_far.is ∙ ap (digits_value_after (rule k s).radix c.args.before) (sym read))
+    (omega (arith, so_far.is, large.fits))
+    (λ _. rw (here, ← upto k s c.args.before c.args.most error.at holds large) large.passes)
 
 pub returns-in-Err-clause-state : goal.returns-in-Err-clause-state
 returns-in-Err-clause-state c = c.pass_digits-dropped.ensures.state
