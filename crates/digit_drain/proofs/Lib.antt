@@ -5,5 +5,4 @@ pub mod Flags
 pub mod Numbers
 pub mod Reading
 pub mod Spelled
-pub mod Steps
 pub mod WordSays

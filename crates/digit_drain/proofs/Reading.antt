@@ -1,16 +1,12 @@
 -- What was read, at the end and past the limit.
-use Rattle.std.proofs.Common.{◌≡◌, ℕ, ◌+◌, ◌≤◌, List, ◌++◌, length, take, [], Option, None, Some, IfSome, sym, ◌∙◌, ap, append-nil, arith, length-append, length-take}
+use Rattle.std.proofs.Common.{◌≡◌, ℕ, ◌+◌, ◌≤◌, List, ◌++◌, length, take, [], Option, IfSome, append-nil, arith, length-append, length-take}
 use Rattle.std.specs.Io.KnownBytes.{Consumes, IsAtEnd}
 use Rattle.std.proofs.KnownBytes.{Consumes-trans}
 use Rattle.digit_drain.specs.Outcome.{ReadsPast, most_bytes}
 
 pub read_all : (a b c : Option (List ℕ)) (xs : List ℕ) →
     Consumes a b xs → Consumes b c [] → IsAtEnd c → IfSome a (λ bytes. xs ≡ bytes)
-read_all None b c xs p q e = tt
-read_all (Some x) None c xs p q e = absurd p
-read_all (Some x) (Some y) None xs p q e = absurd q
-read_all (Some x) (Some y) (Some z) xs p q e =
-    sym (p ∙ ap (λ l. xs ++ l) (q ∙ e) ∙ append-nil xs)
+read_all a b c xs p q e = grind (arith, append-nil)
 
 pub reads_past : (a b c : Option (List ℕ)) (xs buf : List ℕ) (n : ℕ) →
     Consumes a b xs → Consumes b c (take n buf) → n ≤ length buf →

@@ -1,11 +1,16 @@
 -- A line is read as a request exactly if it is spelled as one.
-use Rattle.std.proofs.Common.{◌≡◌, ℕ, List, refl, ap, ◌∙◌, subst, Some}
+use Rattle.std.proofs.Common.{◌≡◌, ℕ, List, refl, subst, Some, None, Option}
 use Rattle.std.proofs.lemmas.Option.{same_Some}
-use Rattle.digit_drain.specs.Line.{cut, component_of, radix_of, hexadecimal_of, flags_of, Asked, Spells, with_space, request_of}
+use Rattle.digit_drain.specs.Line.{◌>>=◌, cut, component_of, radix_of, hexadecimal_of, flags_of, Asked, Spells, request_of}
 use Rattle.digit_drain.proofs.FirstMark.{cut_splits, cut_joined}
 use Rattle.digit_drain.proofs.Flags.{component_from, component_to, flags_from, flags_to}
 use Rattle.digit_drain.proofs.Numbers.{radix_from, radix_to, hexadecimal_from, hexadecimal_to}
-use Rattle.digit_drain.proofs.Steps.{bind_then}
+
+-- what a step that gave something came from
+bind_then : {A B P : Type 0} (o : Option A) (f : A → Option B) (y : B) →
+    (o >>= f) ≡ Some y → ((x : A) → o ≡ Some x → f x ≡ Some y → P) → P
+bind_then None f y e go = absurd cc
+bind_then (Some x) f y e go = go x refl e
 
 pub read_spells : (line : List ℕ) (asked : Asked) → request_of line ≡ Some asked → Spells line asked
 unfolding request_of
@@ -22,14 +27,12 @@ read_spells line asked e =
     let pr = cut_splits 32 c.1 r.0 r.1 er in
     let ps = cut_splits 32 r.1 s.0 s.1 es in
     let pf = cut_splits 32 s.1 f.0 f.1 ef in
-    let after_separator = ps.whole ∙ ap (with_space s.0) pf.whole in
-    let after_radix = pr.whole ∙ ap (with_space r.0) after_separator in
     subst (Spells line) (same_Some _ asked e8) (record {
       component = c.0;
       radix = r.0;
       separator = s.0;
       flags = f.0;
-      line_is = pc.whole ∙ ap (with_space c.0) after_radix;
+      line_is = rw (pc.whole, pr.whole, ps.whole, pf.whole) refl;
       no_spaces = (pc.before, pr.before, ps.before, pf.before);
       component_is = component_from c.0 k ek;
       radix_is = radix_from r.0 m em;
@@ -40,14 +43,14 @@ read_spells line asked e =
 pub spells_read : (line : List ℕ) (asked : Asked) → Spells line asked → request_of line ≡ Some asked
 unfolding request_of
 spells_read line asked s =
-    let text = with_space s.flags asked.text in
-    let c = cut_joined 32 s.component (with_space s.radix (with_space s.separator text))
-    s.no_spaces.0 in
-    let r = cut_joined 32 s.radix (with_space s.separator text) s.no_spaces.1 in
-    let p = cut_joined 32 s.separator text s.no_spaces.2 in
-    let f = cut_joined 32 s.flags asked.text s.no_spaces.3 in
-    let component = component_to s.component asked.component s.component_is in
-    let radix = radix_to s.radix asked.radix s.radix_is in
-    let separator = hexadecimal_to s.separator asked.separator s.separator_is in
-    let flags = flags_to asked.component s.flags asked.flags s.flags_are in
-    rw (s.line_is, c, r, p, f, component, radix, separator, flags) refl
+    rw (
+      s.line_is,
+      cut_joined 32 s.component _ s.no_spaces.0,
+      cut_joined 32 s.radix _ s.no_spaces.1,
+      cut_joined 32 s.separator _ s.no_spaces.2,
+      cut_joined 32 s.flags asked.text s.no_spaces.3,
+      component_to s.component asked.component s.component_is,
+      radix_to s.radix asked.radix s.radix_is,
+      hexadecimal_to s.separator asked.separator s.separator_is,
+      flags_to asked.component s.flags asked.flags s.flags_are,
+    ) refl

@@ -24,6 +24,7 @@ pub enum BadLine {
 }
 
 /// The first line of an input, and the bytes after its line feed.
+#[tactic(auto, using(crate::proofs::FirstLine::lines))]
 fn first_line(input: &[u8]) -> (&[u8], &[u8])
     requires { 0 < length input.now }
     ensures lines { lines_of input.now ≡ result.0.now ∷ lines_of result.1.now }

@@ -1,24 +1,16 @@
-use Rattle.std.proofs.Common.{◌≡◌, ℕ, ◌-◌, List, [], ◌++◌, rules, length, take, drop, sym, ap, ◌∙◌, append_assoc, append-nil, take-append-drop, subst}
+use Rattle.std.proofs.Common.{arith, [], ◌++◌, rules, take, append_assoc, append-nil, take-append-drop, subst}
 use Rattle.std.proofs.lemmas.List.{take_rest}
 use Rattle.std.proofs.KnownBytes.{Appends-trans, Appends-kept}
 use Rattle.std.specs.Io.KnownBytes.{Appends}
 use Rattle.digit_drain.proofs.output.write_output.Goals as goal
-
-moves_front : (all done rest : List ℕ) (n : ℕ) → all ≡ done ++ rest
-    → all ≡ (done ++ take n rest) ++ take (length rest - n) (drop n rest)
-moves_front all done rest n e =
-    e ∙ ap (λ l. done ++ l) (sym (take-append-drop n rest))
-    ∙ sym (append_assoc done (take n rest) (drop n rest))
-    ∙ ap (λ l. (done ++ take n rest) ++ l) (sym (take_rest rest n))
 
 pub loop-rest-preserved : goal.loop-rest-preserved
 loop-rest-preserved g c =
     let (done, split, appended) = c.loop-rest.invariant in
     let rest = c.loop-rest.rest.now in (
       done ++ take c.in-Ok.n rest,
-      moves_front _ done rest c.in-Ok.n split,
-      Appends-trans _ _ _ _ _
-          appended c.in-Ok.ensures.bytes,
+      grind (arith, append_assoc, take-append-drop c.in-Ok.n rest, take_rest rest c.in-Ok.n),
+      Appends-trans _ _ _ _ _ appended c.in-Ok.ensures.bytes,
     )
 
 pub returns-in-Ok-eq0-clause-part : goal.returns-in-Ok-eq0-clause-part
