@@ -5,7 +5,7 @@ ghost use Rattle.lexical_format.specs.Digits.{digit_of_radix};
 ghost use Rattle.lexical_digits.specs.Cursor.{holds_of, DigitLaws};
 ghost use Rattle.lexical_digits.specs.Stop.{leading, after_leading};
 ghost use Rattle.digit_literals.specs.After.{digits_read};
-ghost use Rattle.digit_literals.specs.Outcomes.{digits, ReadsAfter, StopsAt, ReadsAll, FindsNone, OverflowsAt, IfEmpty, IfOverflow};
+ghost use Rattle.digit_literals.specs.Outcomes.{digits, ReadsAfter, StopsAt, ReadsAll, FindsNone, PassesMost, OverflowsAt, IfEmpty, IfOverflow};
 ghost use Rattle.digit_literals.specs.declared.LiteralError.TheVariants.{Overflow};
 
 use super::LiteralError;
@@ -159,11 +159,14 @@ pub fn read_digits<'a, I: DigitsIter<'a>>(iter: &mut I, radix: u32) -> Result<u6
         FindsNone I.buffer I.cursor I.place I.taken I.settled radix (I.meaning iter.old)
         at (I.meaning iter.new)) }
     ensures overflow { IfOverflow result (λ at.
-        OverflowsAt I.buffer I.cursor I.place I.taken I.settled radix (I.meaning iter.old)
-        (I.owed iter.old) at (I.meaning iter.new) (I.owed iter.new)) }
+        PassesMost I.buffer I.cursor I.place I.taken I.settled radix (I.meaning iter.old)
+        at (I.meaning iter.new)) }
     ensures owes { let m = I.meaning iter.old in
         let read = length (digits I.buffer I.cursor I.place I.taken I.settled radix m) in
         I.owed iter.new ≤ℤ (I.owed iter.old +ℤ pos (8 * read + 4)) }
+    ensures overflow_owes { IfOverflow result (λ at.
+        OverflowsAt I.buffer I.cursor I.place I.taken I.settled radix (I.meaning iter.old)
+        (I.owed iter.old) at (I.meaning iter.new) (I.owed iter.new)) }
     ensures keeps_loan { I.loan iter.new ≡ I.loan iter.old }
 {
     let read = read_digits_after(iter, radix, 0, u64::MAX)?;

@@ -11,5 +11,5 @@ returns-then-read-eq0-clause-empty g c =
     g.I.DigitsIter.settled c.args.radix _ c.in_ok-read.read _ _ c.in_ok-read.ensures.ok
     c.if-read-eq0.true c.cursor.ensures.value (laws.settled_cursor _ valid)
 
-pub returns-in_err-read-clause-overflow : goal.returns-in_err-read-clause-overflow
-returns-in_err-read-clause-overflow g c = search (rules, overflows_at)
+pub returns-in_err-read-clause-overflow_owes : goal.returns-in_err-read-clause-overflow_owes
+returns-in_err-read-clause-overflow_owes g c = search (rules, overflows_at)
