@@ -3,6 +3,7 @@ use Rattle.std.proofs.Common.{◌≡◌, ℕ, zero, suc, ◌+◌, ◌-◌, ◌*�
 use Rattle.std.specs.Char.{digit_value}
 use Rattle.std.specs.Str.Parse.{AllDigits, digits_value, digits_value_after}
 use Rattle.std.proofs.Math.Nat.{pow-suc, pow-le-pow_right, mul-le-mul_right}
+use Rattle.std.proofs.lemmas.Int.{ints}
 use Rattle.std.proofs.lemmas.Int.Digits.{digits_value-lt}
 use Rattle.std.proofs.lemmas.List.{take_all, take-append-le, take-append-drop, length-drop}
 use Rattle.std.specs.List.{slice_range}
@@ -16,6 +17,7 @@ use Rattle.digit_literals.specs.declared.first.FirstDigits.{FirstDigits}
 use Rattle.digit_literals.specs.First.{ReadsFirst}
 use Rattle.digit_literals.specs.Significant.{significant, IsOfFirstDigits}
 use Rattle.digit_literals.proofs.ForCallers.{value_of_both, all_digits}
+use Rattle.digit_literals.proofs.States.{by_state, within_stop}
 use Rattle.digit_literals.proofs.Significant.{significants, at_most, grows}
 
 all_both : (radix : ℕ) (ds es : List ℕ) → AllDigits radix ds → AllDigits radix es
@@ -108,62 +110,63 @@ one_more radix v (suc k) (d ∷ ds) =
     let next : suc k + 1 ≡ suc (k + 1) = omega arith in
     rw next (one_more radix (v * radix + digit_value d) k ds)
 
-module _ (k : Component) (s : State) (valid : IsState s) (most before : ℕ) (read : FirstDigits)
-    (count : read.count ≡ length (leading_digits_of k s)) (few : read.dropped ≤ read.count) where
-  abbrev radix : ℕ
-  radix = (rule k s).radix
+module _ (k : Component) (s : State) (valid : IsState s) (most before n : ℕ) (read : FirstDigits)
+    (count : read.count ≡ length (leading_digits_of k s)) (all : read.count ≡ n + read.dropped)
+  where
+    abbrev radix : ℕ
+    radix = (rule k s).radix
 
-  abbrev digits : List ℕ
-  digits = leading_digits_of k s
+    abbrev digits : List ℕ
+    digits = leading_digits_of k s
 
-  abbrev n : ℕ
-  n = read.count - read.dropped
+    -- the value of the first n digits, with one more of which it is above the greatest
+    pub reads_first : read.value ≡ digits_value_after radix before (take n digits)
+        → read.value ≤ most
+        → (0 < read.dropped → most < digits_value_after radix before (take (n + 1) digits))
+        → ReadsFirst radix most before digits read
+    reads_first is fits next = record {
+      count = count;
+      few = omega arith;
+      is = rw here is;
+      fits = fits;
+      next = λ some. rw here (next some);
+      whole = λ none. is
+          ∙ ap (digits_value_after radix before) (take_all n digits (omega (arith, none)));
+      over = λ some. omega (arith, next some, grows radix (n + 1) digits before one);
+      alone = λ m some power none.
+          let of_none = short radix m [] one tt (omega (arith, power)) in
+          rw only at (first m 0 [] some power (rw none of_none));
+      first = first;
+    }
+      where
+        one : 1 ≤ radix
+        one = omega (arith, (supported_rule s.word k valid.word).low)
 
-  -- the value of the first of its digits, with one more of which it is above the greatest
-  pub reads_first : read.value ≡ digits_value_after radix before (take n digits)
-      → read.value ≤ most
-      → (0 < read.dropped → most < digits_value_after radix before (take (n + 1) digits))
-      → ReadsFirst radix most before digits read
-  reads_first is fits next = record {
-    count = count;
-    few = few;
-    is = is;
-    fits = fits;
-    next = next;
-    whole = λ none. is ∙ ap (digits_value_after radix before)
-        (take_all n digits (omega (arith, none, count)));
-    over = λ some. omega (arith, next some, grows radix (n + 1) digits before one);
-    alone = λ m some power none.
-        let of_none = short radix m [] one tt (omega (arith, power)) in
-        let all : 0 + read.dropped ≡ read.dropped = omega arith in
-        rw all at (first m 0 [] some power (rw none of_none));
-    first = first;
-  }
-    where
-      one : 1 ≤ radix
-      one = omega (arith, (supported_rule s.word k valid.word).low)
+        here : read.count - read.dropped ≡ n
+        here = omega arith
 
-      all : AllDigits radix (take n digits ++ drop n digits)
-      all = rw (take-append-drop n digits, leading_between k s valid)
-          (all_digits (rule k s) (slice_range s.buffer s.cursor (stop_of k s)))
+        only : 0 + read.dropped ≡ read.dropped
+        only = omega arith
 
-      first : (m more : ℕ) (others : List ℕ) → 0 < m → most + 1 ≡ radix ^ m
-          → IsOfFirstDigits radix m others before more
-          → IsOfFirstDigits radix m (others ++ digits) read.value (more + read.dropped)
-      first m more others some power so =
-          let es : List ℕ = take n digits in
-          let rest : List ℕ = drop n digits in
-          let parts = all_parts radix es rest all in
-          let on = rw (← is) at (then_read radix m before more one some others so es parts.0
-          (omega (arith, is, fits, power))) in
-          let dropped : length rest ≡ read.dropped = omega (arith, length-drop n digits, count) in
-          let whole : (others ++ es) ++ rest ≡ others ++ digits =
-          append_assoc others es rest ∙ ap (λ ds. others ++ ds) (take-append-drop n digits) in
-          rw (whole, dropped) at (then_passed radix m read.value more one some (others ++ es) on rest
-          parts.1 (λ l. omega (
-            arith,
-            power,
-            next (omega (arith, l, dropped)),
-            one_more radix before n digits,
-            ap (λ (v : ℕ). digits_value_after radix v (take 1 rest)) is,
-          )))
+        parts : AllDigits radix (take n digits) × AllDigits radix (drop n digits)
+        parts = all_parts radix (take n digits) (drop n digits)
+            (rw (take-append-drop n digits, leading_between k s valid)
+            (all_digits (rule k s) (slice_range s.buffer s.cursor (stop_of k s))))
+
+        first : (m more : ℕ) (others : List ℕ) → 0 < m → most + 1 ≡ radix ^ m
+            → IsOfFirstDigits radix m others before more
+            → IsOfFirstDigits radix m (others ++ digits) read.value (more + read.dropped)
+        first m more others some power so =
+            let es : List ℕ = take n digits in
+            let rest : List ℕ = drop n digits in
+            let on = rw (← is) at (then_read radix m before more one some others so es parts.0
+            (omega (arith, is))) in
+            let dropped : length rest ≡ read.dropped = omega (arith, length-drop n digits) in
+            let whole : (others ++ es) ++ rest ≡ others ++ digits =
+            append_assoc others es rest ∙ ap (λ ds. others ++ ds) (take-append-drop n digits) in
+            let next_is = rw (← is) at (one_more radix before n digits) in
+            rw (whole, dropped) at (then_passed radix m read.value more one some (others ++ es) on rest
+            parts.1 (λ l. omega (arith, next (omega arith), next_is)))
+
+-- how many digits there are at most, and where they are
+pub ruleset bounds = (by_state, within_stop, ints)

@@ -86,20 +86,21 @@ module _ (k : Component) (s : State) (before most at : ℕ) (v : IsState s)
       (with_own k s (if counts k s.word then saturating (own k s) n else own k s)) i)
       (sym same_place)) (left_after n k s v (omega (arith, leads)))
 
+  pub before_is : digits_to k s at ≡ take n (leading_digits_of k s)
+  before_is = ap (digits_to k s) same_place ∙ nth.before
+
   pub upto : digits_to k s (at + 1) ≡ take (n + 1) (leading_digits_of k s)
   upto = ap (λ (i : ℕ). digits_to k s (i + 1)) same_place ∙ nth.upto
 
   pub leaves_rest : LeavesRest k s before most at
   leaves_rest =
       let parts = take-append-drop n (leading_digits_of k s) in
-      let first : digits_to k s at ≡ take n (leading_digits_of k s) =
-      ap (digits_to k s) same_place ∙ nth.before in
       let one = (supported_rule s.word k v.word).low in
       let whole = grows (rule k s).radix (n + 1) (leading_digits_of k s) before (omega (arith, one))
       in
       let over = ap (digits_value_after (rule k s).radix before) upto in
       record {
-        digits = cc (left.leading, parts, first);
+        digits = cc (left.leading, parts, before_is);
         some = omega (arith, leads, ap length left.leading, length-drop n (leading_digits_of k s));
         over = omega (arith, h.passes, over, whole);
         stop = left.stop;

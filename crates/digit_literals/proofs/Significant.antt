@@ -61,7 +61,7 @@ significants radix (d ∷ ds) = elim (cases_Bool (eqb d 48)) [
         value = rw e refl;
         all = λ h. rw e h;
         more = λ es l. rw e refl;
-        low = rw e (λ n l. worth_one n (0 * radix + digit_value d) (omega arith) (omega (arith, l)));
+        low = rw e (λ n l. worth_one n (0 * radix + digit_value d) (omega arith) (omega arith));
       }
 ]
   where
