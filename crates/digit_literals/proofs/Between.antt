@@ -2,13 +2,12 @@
 use Rattle.std.proofs.Common.{◌≡◌, ℕ, zero, ◌+◌, ◌-◌, ◌<◌, ◌≤◌, List, [], ◌∷◌, ◌++◌, length, take, drop, refl, ap, subst, ◌∙◌, arith}
 use Rattle.std.specs.Prelude.{slice_index}
 use Rattle.std.specs.List.{filter}
-use Rattle.std.proofs.lemmas.List.{take_more, length-drop, get_or-drop}
+use Rattle.std.proofs.lemmas.List.{take-take, take_more, length-drop, get_or-drop}
 use Rattle.std.proofs.lemmas.List.Elements.{filter-append}
 use Rattle.lexical_digits.specs.declared.skip.rule.Rule.{Rule}
 use Rattle.lexical_digits.specs.Separators.{is_digit}
 use Rattle.digit_literals.specs.After.{digits_between}
 use Rattle.digit_literals.proofs.ForCallers.{fewer}
-use Rattle.digit_literals.proofs.Texts.{take_twice}
 
 module _ (rule : Rule) (text : List ℕ) where
   -- none
@@ -35,6 +34,6 @@ module _ (rule : Rule) (text : List ℕ) where
 pub fewer_between : (rule : Rule) (text : List ℕ) (start at end : ℕ) → at ≤ end
     → length (digits_between rule text start at) ≤ length (digits_between rule text start end)
 fewer_between rule text start at end l =
-    let same = take_twice (at - start) (end - start) (drop start text) (omega (arith, l)) in
+    let same = take-take (at - start) (end - start) (drop start text) (omega (arith, l)) in
     subst (λ xs. length (filter (is_digit rule) xs) ≤ length (digits_between rule text start end))
     same (fewer (is_digit rule) (at - start) (take (end - start) (drop start text)))

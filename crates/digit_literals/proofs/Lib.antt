@@ -1,6 +1,5 @@
 pub mod Taking
 pub mod Values
-pub mod Apart
 pub mod States
 pub mod StopSteps
 pub mod Leads

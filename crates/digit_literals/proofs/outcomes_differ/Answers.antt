@@ -1,14 +1,10 @@
-use Rattle.digit_literals.proofs.Apart.{read_or_none, read_or_most, none_or_most}
+use Rattle.std.proofs.Common.{length, ap, arith}
+use Rattle.std.proofs.lemmas.Str.Parse.{digits_value-take-le}
 use Rattle.digit_literals.proofs.outcomes_differ.Goals as goal
 
-pub returns-clause-read_or_none : goal.returns-clause-read_or_none
-returns-clause-read_or_none g c = read_or_none g.I.Iter.buffer g.I.Iter.cursor g.I.DigitsIter.place
-    g.I.DigitsIter.taken g.I.DigitsIter.settled c.args.radix _
-
-pub returns-clause-read_or_most : goal.returns-clause-read_or_most
-returns-clause-read_or_most g c = read_or_most g.I.Iter.buffer g.I.Iter.cursor g.I.DigitsIter.place
-    g.I.DigitsIter.taken g.I.DigitsIter.settled c.args.radix _ c.requires
-
-pub returns-clause-none_or_most : goal.returns-clause-none_or_most
-returns-clause-none_or_most g c = none_or_most g.I.Iter.buffer g.I.Iter.cursor g.I.DigitsIter.place
-    g.I.DigitsIter.taken g.I.DigitsIter.settled c.args.radix _
+pub returns : goal.returns
+returns g c = record {
+  read_or_none = λ value at left other reads none. omega (arith, reads.some, ap length none.none);
+  read_or_most = λ value at left other reads most. grind (arith, digits_value-take-le);
+  none_or_most = λ at over left other none most. omega (arith, most.within, ap length none.none);
+}
