@@ -216,16 +216,15 @@ impl<'a> Bytes<'a> {
     }
 
     /// Goes on from where a copy of this `Bytes` is: takes its cursor, counts, looks and remembered
-    /// run. Requires that the copy has the same buffer and word.
+    /// run. The component that read still reads. Requires that the copy has the same buffer and
+    /// word.
     #[inline(always)]
     pub fn go_on_from(&mut self, copy: Bytes<'a>)
         requires buffer { copy.state.buffer ≡ self.old.state.buffer }
         requires word { copy.state.word ≡ self.old.state.word }
         ensures { IsCopy copy.entry self.new }
     {
-        self.rule = copy.rule;
-        self.shortcuts = copy.shortcuts;
-        self.tally = copy.tally;
+        self.tally.go_on_from(copy.tally);
         self.run = copy.run;
     }
 

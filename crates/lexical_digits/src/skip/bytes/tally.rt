@@ -119,6 +119,20 @@ impl Tally {
         self.is_counting = is_counting;
     }
 
+    /// Goes on from where another one is: takes its cursor, counts and looks. The reader stays.
+    #[inline(always)]
+    pub(super) fn go_on_from(&mut self, other: Tally)
+        ensures state { (buffer : List ℕ) → (word : ℕ) →
+            state_of buffer word self.new ≡ state_of buffer word other }
+        ensures looks { looks_of self.new ≡ looks_of other }
+        ensures reader { self.new.reader ≡ self.old.reader }
+        ensures is_counting { self.new.is_counting ≡ self.old.is_counting }
+    {
+        let (reader, is_counting) = (self.reader, self.is_counting);
+        *self = other;
+        self.set_reader(reader, is_counting);
+    }
+
     /// Moves the cursor to any position. Counts no digit and no look.
     #[inline(always)]
     pub(super) fn move_to(&mut self, index: usize)
