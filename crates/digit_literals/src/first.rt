@@ -58,7 +58,7 @@ pub fn read_first_digits(
             dropped: 0,
         },
         Err(error) => {
-            let dropped = pass_digits(bytes, component);
+            let dropped = pass_others(bytes, component);
             FirstDigits {
                 value: error.value,
                 count: error.count + dropped,
@@ -66,4 +66,30 @@ pub fn read_first_digits(
             }
         }
     }
+}
+
+/// [`pass_digits`] on a copy, so that `bytes` may stay in registers.
+#[inline(always)]
+fn pass_others(bytes: &mut Bytes, component: Component) -> usize
+    ensures digits { result ≡ length (leading_digits_of component bytes.old.state) }
+    ensures state { bytes.new.state ≡ past_digits_of component bytes.old.state }
+    ensures owes { owed bytes.new ≤ℤ (owed bytes.old +ℤ pos (8 * result + 4)) }
+    ensures at_least { min (bytes.old.looks + 2 * result) (2 ^ 64 - 1) ≤ bytes.new.looks }
+{
+    let mut copy = bytes.clone().unwrap();
+    let digits = pass_apart(&mut copy, component);
+    bytes.go_on_from(copy);
+    digits
+}
+
+/// [`pass_digits`] in code of its own: few numbers have so many digits.
+#[cold]
+#[inline(never)]
+fn pass_apart(bytes: &mut Bytes, component: Component) -> usize
+    ensures digits { result ≡ length (leading_digits_of component bytes.old.state) }
+    ensures state { bytes.new.state ≡ past_digits_of component bytes.old.state }
+    ensures owes { owed bytes.new ≤ℤ (owed bytes.old +ℤ pos (8 * result + 4)) }
+    ensures at_least { min (bytes.old.looks + 2 * result) (2 ^ 64 - 1) ≤ bytes.new.looks }
+{
+    pass_digits(bytes, component)
 }

@@ -26,11 +26,11 @@ rest : (c : goal.After-struct_known-1) → LeavesRest c.args.component c.args.by
 rest c = leaves_rest c.args.component c.args.bytes.now.state c.args.before c.args.most
     c.in-Err.error.at c.args.bytes.now.holds c.in-Err.ensures.too_large
 
-count : (c : goal.After-struct_known-1) → c.in-Err.error.count + c.pass_digits-dropped.result
+count : (c : goal.After-struct_known-1) → c.in-Err.error.count + c.pass_others-dropped.result
     ≡ length (leading_digits_of c.args.component c.args.bytes.now.state)
 count c = omega (
   arith,
-  c.pass_digits-dropped.ensures.digits,
+  c.pass_others-dropped.ensures.digits,
   ap (λ t. length (leading_digits_of c.args.component t)) c.in-Err.ensures.stays,
   c.in-Err.ensures.so_far.digits,
   ap length (rest c).digits,
@@ -53,7 +53,7 @@ returns-in-Err-clause-first c =
     (λ _. rw (upto k s c.args.before c.args.most at holds large) at large.passes)
 
 pub returns-in-Err-clause-state : goal.returns-in-Err-clause-state
-returns-in-Err-clause-state c = c.pass_digits-dropped.ensures.state
+returns-in-Err-clause-state c = c.pass_others-dropped.ensures.state
     ∙ ap (past_digits_of c.args.component) c.in-Err.ensures.stays ∙ (rest c).passed
 
 pub returns-in-Err-clause-few : goal.returns-in-Err-clause-few
