@@ -12,8 +12,8 @@ ghost use Rattle.lexical_digits.specs.Looks.{Held, owed};
 ghost use Rattle.lexical_digits.specs.Stop.{leading_digits_of, past_digits_of, stop_of};
 ghost use Rattle.lexical_digits.specs.Iterators.{items_in, after_items_in, zeros_in, after_zeros_in};
 ghost use Rattle.lexical_digits.specs.Cursor.{ReadsIf, items, after_items, at_zero, past_zero, zeros, after_zeros};
-ghost use Rattle.lexical_digits.specs.CallTable.{Part, Call, row_of};
-ghost use Rattle.lexical_digits.specs.MantissaRadix.{mantissa_is_supported, mantissa_rule_of, row_on, run_on};
+ghost use Rattle.lexical_digits.specs.CallTable.{Part, Call};
+ghost use Rattle.lexical_digits.specs.MantissaRadix.{mantissa_is_supported, mantissa_rule_of, with_one_radix, with_word, ran_with};
 ghost use Rattle.std.specs.Prelude.{List};
 ghost use Rattle.lexical_digits.specs.declared.skip.component.Component.{Component};
 ghost use Rattle.lexical_digits.specs.declared.skip.component.Component.TheVariants as components;
@@ -312,18 +312,20 @@ pub fn own_count_only(bytes: &mut Bytes, component: Component)
 }
 
 /// For a word whose two radixes are equal, it makes no difference that the exponent has a radix of
-/// its own. The comparison is a second call table, in which the exponent has the mantissa radix: it
-/// is this call table with other rules (`table`), and for such a word the two agree on whether the
-/// word is supported, on each rule, and on the answers and the state of every list of calls.
+/// its own. The comparison is the word without an exponent radix: by it each component has the
+/// mantissa radix (`one_radix`). A word whose radixes are equal is supported if its mantissa radix
+/// serves, and has the rules of that radix. For every list of calls the two words give the same
+/// answers, and leave the same state but for the word.
 #[tactic(auto, using(crate::proofs::Rule::Radixes::equal))]
 pub fn equal_radixes(buffer: &[u8], word: u128)
-    ensures table { (part : Part) (call : Call) (s : State) →
-        row_of part call s ≡ row_on rule_of part call s }
+    ensures one_radix { (w : ℕ) (k : Component) →
+        rule_of (with_one_radix w) k ≡ mantissa_rule_of w k }
     ensures supported { exponent_radix word ≡ mantissa_radix word →
         is_supported word ≡ mantissa_is_supported word }
     ensures rules { exponent_radix word ≡ mantissa_radix word → (k : Component) →
         rule_of word k ≡ mantissa_rule_of word k }
     ensures runs { exponent_radix word ≡ mantissa_radix word → (s : State) →
         s.buffer ≡ buffer.now → s.word ≡ word → (calls : List (Part × Call)) →
-        run_of s calls ≡ run_on mantissa_rule_of s calls }
+        run_of (with_word s (with_one_radix word)) calls ≡
+        ran_with (run_of s calls) (with_one_radix word) }
 {}
