@@ -1,5 +1,5 @@
 -- The stop and the leading digits, by whether a digit stands at the place.
-use Rattle.std.proofs.Common.{◌≡◌, ℕ, ◌+◌, ◌<◌, Bool, true, false, [], ◌∷◌, length, get_or, arith, inl, inr, slice_get}
+use Rattle.std.proofs.Common.{◌≡◌, ℕ, ◌+◌, ◌<◌, Bool, true, false, [], ◌∷◌, length, get_or, arith, slice_get}
 use Rattle.lexical_digits.specs.Laws.Terms.{cases_Bool, gets, take_while-cons, Component, is_digit, State, IsState, rule, place_of, taken, holds_of, stop, leading_digits, stop_of, leading_digits_of}
 use Rattle.lexical_digits.specs.Laws.Table.{digit_laws, place_to, taken_buffer, taken_word}
 use Rattle.lexical_digits.proofs.Calls.NextTakesFirst.{of_taken, positions_some, positions_none, drain_some, drain_none}
@@ -22,14 +22,10 @@ pub digit_there : (k : Component) (s : State) → at_digit k s ≡ true → Digi
 unfolding stop leading_digits
 digit_there k s e =
     let l : place_of k s < length s.buffer = grind (arith, gets) in
-    let is : is_digit (rule k s) (get_or s.buffer (place_of k s) 0) ≡ true = grind (arith, gets) in
-    record {
-      within = l;
-      is = is;
-      stop = rw (positions_some k s l, is, taken_word k s, taken_buffer k s);
-      leading = rw (drain_some k s l, take_while-cons (is_digit (rule k s)), is, taken_word k s);
-      on = of_taken (λ r b i c. i) k s l;
-    }
+    let some = positions_some k s l in
+    let first = drain_some k s l in
+    let on = of_taken (λ r b i c. i) k s l in
+    grind (arith, gets, taken_word k s, taken_buffer k s, take_while-cons {X = ℕ})
 
 -- where no digit stands at the place
 pub record NoDigit (k : Component) (s : State) : Type 0 where
@@ -40,9 +36,8 @@ pub none_there : (k : Component) (s : State) → at_digit k s ≡ false → NoDi
 unfolding stop leading_digits
 none_there k s e =
     let some = positions_some k s in
-    let none = positions_none k s in
     let first = drain_some k s in
-    grind (arith, gets, place_to k s, drain_none k s, take_while-cons {X = ℕ})
+    grind (arith, gets, place_to k s, positions_none k s, drain_none k s, take_while-cons {X = ℕ})
 
 -- a claim that holds where no digit is at the place, and before a digit if it holds after `next`
 pub by_digits : (k : Component) (P : State → Type 0)
@@ -51,7 +46,4 @@ pub by_digits : (k : Component) (P : State → Type 0)
     → (s : State) → IsState s → P s
 by_digits k P stops steps = by_items (digit_laws k) P
     (λ s v h. stops s v (grind (arith, gets)))
-    (λ s v h rest. elim (cases_Bool (at_digit k s)) [
-      | inl e ↦ steps s v (digit_there k s e) rest
-      | inr e ↦ stops s v e
-    ])
+    (λ s v h rest. grind (arith, cases_Bool, digit_there k s, stops s v, steps s v))

@@ -1,5 +1,5 @@
 -- For implementers, from the laws that they prove: the items, how many, and std's chains over them.
-use Rattle.std.proofs.Common.{◌≡◌, ℕ, ◌+◌, ◌<◌, ◌≤◌, ◌∷◌, [], Bool, List, length, slice_get, slice_index, Option, Some, None, sym, ap, ◌∙◌, arith, Bor, option_copied}
+use Rattle.std.proofs.Common.{◌≡◌, ℕ, ◌+◌, ◌<◌, ◌≤◌, ◌∷◌, [], Bool, List, length, slice_get, slice_index, Option, Some, None, ap, arith, Bor, option_copied}
 use Rattle.lexical_digits.specs.Laws.Terms.{option_map_or, items, DigitLaws}
 use Rattle.std.proofs.lemmas.Iterator.{YieldsList}
 use Rattle.std.proofs.lemmas.Iterator.Consumers.{YieldsList-from_shown}
@@ -27,8 +27,8 @@ module _ {M : Type 0} {valid : M → Type 0} {buffer : M → List ℕ} {cursor c
     -- is the list of the items
     pub items_are : (m : M) → valid m → items_of m ≡ shown m
     items_are = by_items laws (λ m. items_of m ≡ shown m)
-        (λ m v h. items_end laws m h ∙ sym (at_end m v (omega (arith, laws.place_to m v))))
-        (λ m v h rest. rw (items_step laws m v h, at_byte m v h, rest))
+        (λ m v h. grind (arith, items_end laws m h, at_end m v, laws.place_to m v))
+        (λ m v h rest. grind (arith, items_step laws m v h, at_byte m v h))
 
   -- no more than bytes are left
   pub items_fit : (n : ℕ) (m : M) → valid m → length_of m ≤ cursor m + n →

@@ -1,5 +1,5 @@
 -- For any implementer, what reads come to: the items, the digits that lead, and the zeros.
-use Rattle.std.proofs.Common.{◌≡◌, ℕ, ◌<◌, ◌≤◌, ◌∷◌, [], suc, Bool, List, Some, length, slice_get, slice_index, refl, arith, length-drop, nat_lt, if◌then◌else◌, inl, inr, is_some, zero, true, false, ◌+◌, ltb-true, ltb-false, lt-ltb, le-ltb}
+use Rattle.std.proofs.Common.{◌≡◌, ℕ, ◌<◌, ◌≤◌, ◌∷◌, [], suc, Bool, List, Some, length, slice_get, slice_index, refl, arith, length-drop, nat_lt, if◌then◌else◌, is_some, zero, true, false, ◌+◌, ltb-true, ltb-false, lt-ltb, le-ltb}
 use Rattle.lexical_digits.specs.Laws.Terms.{gets, slice_get-get_or, slice_get_past, cases_lt, option_map_or, iterate, take_while-cons, leading, after_leading, holds_of, at_zero, past_zero, after_zeros, IterLaws, bytes_left, items, after_items, DigitLaws}
 use Rattle.lexical_digits.specs.Cursor.{zeros}
 use Rattle.lexical_digits.proofs.Calls.Walk.{Falls, by_walk, walk_step, walk_end}
@@ -58,12 +58,10 @@ module _ {M : Type 0} {valid : M → Type 0} {buffer : M → List ℕ} {cursor c
   pub after_items_unroll : (m : M) → valid m → after_of m
       ≡ if is_some (slice_get (buffer m) (place m)) then after_of (taken m) else taken m
   unfolding after_items
-  after_items_unroll m v = elim (cases_lt (place m) (length (buffer m))) [
-    | inl h ↦ rw (slice_get-get_or (buffer m) (place m) 0 h)
-        (walk_step falls taken (λ _ after. after) m v (lt-ltb _ _ h))
-    | inr h ↦ rw (slice_get_past (buffer m) (place m) h)
-        (walk_end falls taken (λ _ after. after) m (le-ltb _ _ h))
-  ]
+  after_items_unroll m v =
+      let step = walk_step falls taken (λ _ after. after) m v in
+      let stop = walk_end falls taken (λ _ after. after) m in
+      grind (arith, gets, cases_lt (place m) (length (buffer m)), lt-ltb, le-ltb)
 
   module _ (p : ℕ → Bool) where
     -- a digit at the place, and then those that lead what `next` leaves
@@ -120,12 +118,10 @@ module _ {M : Type 0} {valid : M → Type 0} {buffer : M → List ℕ} {cursor c
     pub zeros_fall : Falls valid (bytes_left buffer cursor) starts past
     zeros_fall = record {
       stays = λ m v e. laws.counted_valid _ (past_valid m v e);
-      falls = λ m v e. rw (
-        laws.counted_buffer _ (past_valid m v e),
-        iter.moved_buffer _ _ (laws.settled_valid m v) (past_fits m v e),
-        laws.settled_buffer m v,
-        past_cursor m v e,
-      )
+      falls = λ m v e.
+          let counted = laws.counted_buffer _ (past_valid m v e) in
+          let set = iter.moved_buffer (settled m) _ (laws.settled_valid m v) (past_fits m v e) in
+          rw (counted, set, laws.settled_buffer m v, past_cursor m v e)
           (simp length-drop (omega (arith, zero_within m e, laws.place_from m v)));
     }
 

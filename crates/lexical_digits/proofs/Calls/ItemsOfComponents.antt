@@ -87,20 +87,19 @@ past_none k s v e =
 
 pub zeros_are : (k : Component) (s : State) → IsState s → zeros_in k s ≡ zeros_of k s
 zeros_are k =
-    let iter = iter_laws k in
-    let digits = digit_laws k in
-    by_walk (zeros_fall digits iter) (λ s. zeros_in k s ≡ zeros_of k s)
-    (λ s v e. zeros_by digits iter false s e v ∙ sym (zeros_none k s e))
-    (λ s v e rest. omega (arith, zeros_by digits iter true s e v, (zero_there k s v e).zeros))
+    let by = λ (b : Bool). zeros_by (digit_laws k) (iter_laws k) b in
+    by_walk (zeros_fall (digit_laws k) (iter_laws k)) (λ s. zeros_in k s ≡ zeros_of k s)
+    (λ s v e. by false s e v ∙ sym (zeros_none k s e))
+    (λ s v e rest. omega (arith, by true s e v, (zero_there k s v e).zeros))
 
 pub after_zeros_are : (k : Component) (s : State) → IsState s
     → after_zeros_in k s ≡ past_zeros_of k s
 after_zeros_are k =
-    let iter = iter_laws k in
-    let digits = digit_laws k in
-    by_walk (zeros_fall digits iter) (λ s. after_zeros_in k s ≡ past_zeros_of k s)
-    (λ s v e. after_zeros_by digits iter false s e v ∙ past_none k s v e)
-    (λ s v e rest. after_zeros_by digits iter true s e v ∙ rest ∙ (zero_there k s v e).past)
+    let by = λ (b : Bool). after_zeros_by (digit_laws k) (iter_laws k) b in
+    by_walk (zeros_fall (digit_laws k) (iter_laws k))
+    (λ s. after_zeros_in k s ≡ past_zeros_of k s)
+    (λ s v e. by false s e v ∙ past_none k s v e)
+    (λ s v e rest. by true s e v ∙ rest ∙ (zero_there k s v e).past)
 
 pub digits_same : (k : Component) (one other : ℕ) (buffer : List ℕ) (start count : ℕ)
     → radix_of one k ≡ radix_of other k
@@ -108,9 +107,7 @@ pub digits_same : (k : Component) (one other : ℕ) (buffer : List ℕ) (start c
     ≡ filter (is_digit (rule_of one k)) (drain (rule_of other k) buffer start count)
 digits_same k one other buffer start count e =
     let same : (rule_of one k).radix ≡ (rule_of other k).radix = grind arith in
-    let digits = digits_of_drain (rule_of one k) buffer start count in
-    rw (digits, digit_same (rule_of one k) (rule_of other k) same)
-    (sym (digits_of_drain (rule_of other k) buffer start count))
+    grind (arith, digits_of_drain, digit_same (rule_of one k) (rule_of other k) same)
 
 pub special_drains : (s : State) → IsState s → bit s.word 44 ≡ true
     → drain_of Special s ≡ filter (λ b. not (is_separator (separator s.word) b))
@@ -123,11 +120,8 @@ pub drain_is_counted : (k : Component) (s : State) → counts k s.word ≡ true
     → own k (after_drain k s) ≡ saturating (own k s) (count_by (is_digit (rule k s)) (drain_of k s))
 unfolding after_drain
 drain_is_counted k s e =
-    let p : ℕ → Bool = is_digit (rule k s) in
     let digits = digits_of_drain (rule k s) s.buffer s.cursor (own k s) in
-    let same : count_by p (drop s.cursor s.buffer) ≡ count_by p (drain_of k s) =
-    cc (length-filter p (drop s.cursor s.buffer), length-filter p (drain_of k s)) in
-    rw (← same) (grind arith)
+    grind (arith, length-filter {X = ℕ})
 
 -- what `items_are_drain` states
 pub ruleset are_drain = (items_are_drain, after_items_are, zeros_are, after_zeros_are)

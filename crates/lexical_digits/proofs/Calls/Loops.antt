@@ -1,5 +1,5 @@
 -- For a caller's own loops by `next_of` and `peek_of`: what one more call does to drain and stop.
-use Rattle.std.proofs.Common.{◌≡◌, ℕ, ◌+◌, ◌*◌, true, false, cond, Bool, ◌∷◌, refl, sym, ap, ◌∙◌, arith, Option, Some, None, Bor, option_copied, sum_by, count_by, ℤ, pos, ◌≤ℤ◌, ◌+ℤ◌}
+use Rattle.std.proofs.Common.{◌≡◌, ℕ, ◌+◌, ◌*◌, true, false, cond, Bool, ◌∷◌, sym, ap, ◌∙◌, arith, Option, Some, None, Bor, option_copied, sum_by, count_by, ℤ, pos, ◌≤ℤ◌, ◌+ℤ◌}
 use Rattle.lexical_digits.specs.Laws.Terms.{list_any, ints, sum_by-cons, gets, Component, is_digit, State, rule, byte_at_place, taken, drain_of, Takes, Held, PeeksOf, NextsOf, stop_of}
 use Rattle.lexical_digits.specs.Laws.Table.{digit_laws, taken_buffer, taken_word}
 use Rattle.lexical_digits.proofs.Calls.ForCallers.{drain_fits}
@@ -15,17 +15,13 @@ owes_next first now next n before read = omega (arith, ints, before, read)
 pub any_after : (p : ℕ → Bool) (k : Component) (s t : State) (r : Option (Bor ℕ)) (item : Bor ℕ)
     → Takes k s t r → r ≡ Some item → p item.now ≡ false
     → list_any p (drain_of k t) ≡ list_any p (drain_of k s)
-any_after p k s t r item h e fails =
-    let first : drain_of k s ≡ item.now ∷ drain_of k t = rw e at h.drains in
-    rw (first, fails) refl
+any_after p k s t r item h e fails = grind (arith, h)
 
 -- what a byte that is taken adds to a sum, or to a count
 pub sum_after : (f : ℕ → ℕ) (k : Component) (s t : State) (r : Option (Bor ℕ)) (item : Bor ℕ)
     → Takes k s t r → r ≡ Some item
     → sum_by f (drain_of k s) ≡ f item.now + sum_by f (drain_of k t)
-sum_after f k s t r item h e =
-    let first : drain_of k s ≡ item.now ∷ drain_of k t = rw e at h.drains in
-    rw first (sum_by-cons f item.now (drain_of k t))
+sum_after f k s t r item h e = grind (arith, h, sum_by-cons {X = ℕ})
 
 pub count_after : (p : ℕ → Bool) (k : Component) (s t : State) (r : Option (Bor ℕ)) (item : Bor ℕ)
     → Takes k s t r → r ≡ Some item
@@ -68,15 +64,10 @@ module _ (k : Component) {a b : Held} {r : Option (Bor ℕ)} (peeks : PeeksOf k 
     -- the cursor is at the stop where another byte was peeked at, or none
     pub stops_other : {item : Bor ℕ} → r ≡ Some item → is_digit (rule k b.state) item.now ≡ false
         → b.state.cursor ≡ stop_of k a.state
-    stops_other {item} e is =
-        let there : Some item.now ≡ byte_at_place k a.state = rw e at peeks.byte in
-        let other : is_digit (rule k a.state) item.now ≡ false = rw peeks.settles at is in
-        ap (λ s. s.cursor) peeks.settles ∙ sym (none_there k a.state (rw (sym there) other)).stop
+    stops_other {item} e is = grind (arith, peeks, none_there k a.state)
 
     pub stops_none : r ≡ None → b.state.cursor ≡ stop_of k a.state
-    stops_none e =
-        let there : None ≡ byte_at_place k a.state = rw e at peeks.byte in
-        ap (λ s. s.cursor) peeks.settles ∙ sym (none_there k a.state (rw (sym there) refl)).stop
+    stops_none e = grind (arith, peeks, none_there k a.state)
 
 -- one turn of a loop by `next_of` that counts
 pub ruleset counts = (count_after, word_after)

@@ -1,6 +1,6 @@
 -- Draining any component by `next` gives what the filter over the whole buffer keeps.
-use Rattle.std.proofs.Common.{◌≡◌, ℕ, ◌+◌, ◌<◌, ◌≤◌, ◌^◌, not, ◌&&◌, cond, Option, Some, None, List, [], ◌∷◌, length, get_or, drop, refl, sym, ◌∙◌, arith, inl, inr, option_copied, Bor}
-use Rattle.lexical_digits.specs.Laws.Terms.{gets, slice_get_within, cases_Bool, bit, Rule, Component, Special, kept_positions, drain, has_flags, State, IsState, with_cursor, rule, own, with_own, counts, count_after, is_special, place_of, settled, taken, drain_of, own_after, after_drain, byte_at_place, Takes}
+use Rattle.std.proofs.Common.{◌≡◌, ℕ, ◌+◌, ◌<◌, ◌≤◌, ◌^◌, not, ◌&&◌, cond, Option, Some, None, List, [], ◌∷◌, length, get_or, drop, refl, sym, ◌∙◌, arith, inr, option_copied, Bor}
+use Rattle.lexical_digits.specs.Laws.Terms.{gets, slice_get_within, Rule, Component, Special, kept_positions, drain, has_flags, State, IsState, with_cursor, rule, own, with_own, counts, count_after, is_special, place_of, settled, taken, drain_of, own_after, after_drain, byte_at_place, Takes}
 use Rattle.lexical_digits.specs.Laws.Kept.{CountsOrIgnores}
 use Rattle.lexical_digits.proofs.Rule.Drain.{counted, counted_at_place, counted_at_end, digits_from_place, positions_at_place, positions_at_end}
 use Rattle.lexical_digits.proofs.Rule.Grants.{ignores_seen}
@@ -10,12 +10,8 @@ use Rattle.lexical_digits.specs.Laws.Table.{none_without_flags, place_from, plac
 
 pub each_counts : (k : Component) (s : State)
     → CountsOrIgnores (rule k s) s.buffer (counts k s.word)
-each_counts Special s = inr (ignores_seen (rule Special s) s.buffer
-    (elim (cases_Bool (bit s.word 44)) [ inl e ↦ inr (e, e, e, e) | inr e ↦ inl (e, e, e) ]))
-each_counts k s = elim (cases_Bool (has_flags (rule k s))) [
-  | inl e ↦ inl e
-  | inr e ↦ inr (ignores_seen (rule k s) s.buffer (inl (none_without_flags (rule k s) e)))
-]
+each_counts Special s = inr (ignores_seen (rule Special s) s.buffer (grind arith))
+each_counts k s = grind (arith, none_without_flags, ignores_seen (rule k s) s.buffer)
 
 -- ---- one call of `next` takes the first of the drain
 
@@ -111,9 +107,7 @@ takes k s (Some item) v e =
 -- the same at both ends of a call: where nothing is found the state is settled, else past the byte
 pub takes_none : (k : Component) (s t : State) → IsState s → None ≡ byte_at_place k s
     → t ≡ settled k s → Takes k s t None
-takes_none k s t v e left =
-    let past : length s.buffer ≤ place_of k s = grind (arith, gets) in
-    rw (left, ← taken_none k s past) (takes k s None v e)
+takes_none k s t v e left = grind (arith, gets, taken_none k s, takes k s None v e)
 
 pub takes_some : (k : Component) (s m t : State) (item : Bor ℕ) → IsState s
     → Some item.now ≡ byte_at_place k s → m ≡ settled k s

@@ -1,6 +1,6 @@
 -- What is left of the drain after its zeros, and after the digits that lead.
-use Rattle.std.proofs.Common.{◌≡◌, ℕ, suc, ◌+◌, ◌<◌, ◌≤◌, Bool, true, false, not, eqb, List, ◌∷◌, length, get_or, drop, refl, sym, ap, ◌∙◌, arith, inl, inr, slice_index, one-add, map, take_while, find, unwrap_or}
-use Rattle.lexical_digits.specs.Laws.Terms.{gets, cases_lt, Component, Rule, State, IsState, rule, own, is_special, count_after, drain, place, place_of, settled, taken, drain_of, zeros_of, past_zeros_of, leading_digits, leading_digits_of, stop, stop_of, past_digits_of, take_while-cons, is_digit, digit_value, nat_tests}
+use Rattle.std.proofs.Common.{◌≡◌, ℕ, ◌+◌, ◌<◌, ◌≤◌, Bool, true, false, not, eqb, List, ◌∷◌, length, get_or, drop, refl, ap, arith, slice_index, one-add, map, take_while, find, unwrap_or}
+use Rattle.lexical_digits.specs.Laws.Terms.{gets, cases_lt, Component, Rule, State, IsState, rule, is_special, count_after, drain, place, place_of, settled, drain_of, zeros_of, past_zeros_of, leading_digits, leading_digits_of, stop, stop_of, past_digits_of, take_while-cons, is_digit, digit_value, nat_tests}
 use Rattle.lexical_digits.specs.Laws.Kept.{CountsOrIgnores}
 use Rattle.lexical_digits.specs.Laws.Table.{iter_laws, digit_laws, place_to, own_fits, place_again}
 use Rattle.lexical_digits.proofs.Rule.Drain as places
@@ -16,15 +16,9 @@ use Rattle.lexical_digits.proofs.Calls.ItemsOfComponents.{at_zero_in, past_zero_
 
 positions_settled : (k : Component) (s : State) → IsState s
     → positions_of k (settled k s) ≡ positions_of k s
-positions_settled k s v = elim (cases_lt (place_of k s) (length s.buffer)) [
-  | inl l ↦
-      let there : place_of k (settled k s) < length s.buffer = rw (place_again k s) l in
-      positions_some k (settled k s) there
-      ∙ rw (place_again k s, (digit_laws k).settled_taken s v) (sym (positions_some k s l))
-  | inr l ↦
-      let end : place_of k s ≡ length s.buffer = omega (arith, place_to k s) in
-      positions_none k (settled k s) (place_again k s ∙ end) ∙ sym (positions_none k s end)
-]
+positions_settled k s v =
+    let settled = (digit_laws k).settled_taken s v in
+    grind (arith, cases_lt, place_to k s, place_again k s, positions_some k, positions_none k)
 
 pub drain_settled : (k : Component) (s : State) → IsState s
     → drain_of k (settled k s) ≡ drain_of k s
@@ -57,26 +51,17 @@ first_zero : (k : Component) (s : State) → IsState s → at_zero_in k s ≡ tr
 unfolding place_of
 first_zero k s v e =
     let within : place_of k s < length s.buffer = grind (arith, gets) in
-    let zero : eqb (get_or s.buffer (place_of k s) 0) 48 ≡ true = grind (arith, gets) in
     let count = places.zero_counts (rule k s) s.buffer (supported_rule s.word k v.word)
-    (not (is_special k)) _ (own k s) zero in
-    let more = drain_at_place (rule k s) s.buffer (not (is_special k)) (counts_zeros k s)
-    s.cursor (own k s) within in
-    grind arith
+    (not (is_special k)) in
+    grind (arith, gets, drain_at_place (rule k s) s.buffer (not (is_special k)) (counts_zeros k s))
 
 pub rest_after_zeros : (k : Component) (s : State) → IsState s
     → drain_of k (past_zeros_of k s) ≡ drop (zeros_of k s) (drain_of k s)
 rest_after_zeros k =
     by_walk (zeros_fall (digit_laws k) (iter_laws k))
     (λ s. drain_of k (past_zeros_of k s) ≡ drop (zeros_of k s) (drain_of k s))
-    (λ s v e.
-    ap (drain_of k) (sym (past_none k s v e)) ∙ drain_settled k s v
-    ∙ sym (ap (λ n. drop n (drain_of k s)) (zeros_none k s e)))
-    (λ s v e rest.
-    let zero = zero_there k s v e in
-    ap (drain_of k) (sym zero.past) ∙ rest
-    ∙ sym (ap (λ n. drop n (drain_of k s)) (zero.zeros ∙ one-add _)
-    ∙ ap (drop (suc (zeros_of k (past_zero_in k s)))) (first_zero k s v e)))
+    (λ s v e. grind (arith, past_none k s v e, zeros_none k s e, drain_settled k s v))
+    (λ s v e rest. grind (arith, zero_there k s v e, first_zero k s v e, one-add))
 
 -- the digits that lead, after a zero that is one of them
 first_digit : (k : Component) (s : State) → IsState s → at_zero_in k s ≡ true
@@ -96,14 +81,8 @@ pub digits_after_zeros : (k : Component) (s : State) → IsState s
 digits_after_zeros k =
     by_walk (zeros_fall (digit_laws k) (iter_laws k))
     (λ s. leading_digits_of k (past_zeros_of k s) ≡ drop (zeros_of k s) (leading_digits_of k s))
-    (λ s v e.
-    ap (leading_digits_of k) (sym (past_none k s v e)) ∙ leading_settled k s v
-    ∙ sym (ap (λ n. drop n (leading_digits_of k s)) (zeros_none k s e)))
-    (λ s v e rest.
-    let zero = zero_there k s v e in
-    ap (leading_digits_of k) (sym zero.past) ∙ rest
-    ∙ sym (ap (λ n. drop n (leading_digits_of k s)) (zero.zeros ∙ one-add _)
-    ∙ ap (drop (suc (zeros_of k (past_zero_in k s)))) (first_digit k s v e)))
+    (λ s v e. grind (arith, past_none k s v e, zeros_none k s e, leading_settled k s v))
+    (λ s v e rest. grind (arith, zero_there k s v e, first_digit k s v e, one-add))
 
 pub zeros_within : (k : Component) (s : State) → IsState s
     → zeros_of k s ≤ length (leading_digits_of k s)
@@ -111,8 +90,7 @@ zeros_within k =
     by_walk (zeros_fall (digit_laws k) (iter_laws k))
     (λ s. zeros_of k s ≤ length (leading_digits_of k s))
     (λ s v e. omega (arith, zeros_none k s e))
-    (λ s v e rest.
-    omega (arith, rest, (zero_there k s v e).zeros, ap length (first_digit k s v e)))
+    (λ s v e rest. grind (arith, zero_there k s v e, first_digit k s v e))
 
 -- the cursor is at the place after them
 pub stays_after_zeros : (k : Component) (s : State) → IsState s
@@ -120,43 +98,30 @@ pub stays_after_zeros : (k : Component) (s : State) → IsState s
 stays_after_zeros k =
     by_walk (zeros_fall (digit_laws k) (iter_laws k))
     (λ s. settled k (past_zeros_of k s) ≡ past_zeros_of k s)
-    (λ s v e.
-    ap (settled k) (sym (past_none k s v e)) ∙ (digit_laws k).settled_twice s v
-    ∙ past_none k s v e)
-    (λ s v e rest.
-    let zero = zero_there k s v e in
-    ap (settled k) (sym zero.past) ∙ rest ∙ zero.past)
+    (λ s v e. grind (arith, past_none k s v e, (digit_laws k).settled_twice s v))
+    (λ s v e rest. grind (arith, zero_there k s v e))
 
 -- ---- after the digits that lead
 
 past_settled : (k : Component) (s : State) → IsState s → at_digit k s ≡ false
     → past_digits_of k s ≡ settled k s
 past_settled k s v e =
-    let none = none_there k s e in
-    grind (arith, none, own_fits k s v, with_own_same k s (place_of k s))
+    grind (arith, none_there k s e, own_fits k s v, with_own_same k s (place_of k s))
 
 pub rest_after_digits : (k : Component) (s : State) → IsState s
     → drain_of k (past_digits_of k s) ≡ drop (length (leading_digits_of k s)) (drain_of k s)
 rest_after_digits k =
     by_digits k
     (λ s. drain_of k (past_digits_of k s) ≡ drop (length (leading_digits_of k s)) (drain_of k s))
-    (λ s v e.
-    ap (drain_of k) (past_settled k s v e) ∙ drain_settled k s v
-    ∙ sym (ap (λ xs. drop (length xs) (drain_of k s)) (none_there k s e).leading))
-    (λ s v d rest.
-    ap (drain_of k) (sym (past_more k s d)) ∙ rest
-    ∙ sym (ap (λ xs. drop (length xs) (drain_of k s)) d.leading
-    ∙ ap (drop (suc (length (leading_digits_of k (taken k s))))) (drain_some k s d.within)))
+    (λ s v e. grind (arith, past_settled k s v e, none_there k s e, drain_settled k s v))
+    (λ s v d rest. grind (arith, d, past_more k s d, drain_some k s d.within))
 
 pub stays_after_digits : (k : Component) (s : State) → IsState s
     → settled k (past_digits_of k s) ≡ past_digits_of k s
 stays_after_digits k =
     by_digits k (λ s. settled k (past_digits_of k s) ≡ past_digits_of k s)
-    (λ s v e.
-    let same = past_settled k s v e in
-    ap (settled k) same ∙ (digit_laws k).settled_twice s v ∙ sym same)
-    (λ s v d rest.
-    ap (settled k) (sym (past_more k s d)) ∙ rest ∙ past_more k s d)
+    (λ s v e. grind (arith, past_settled k s v e, (digit_laws k).settled_twice s v))
+    (λ s v d rest. grind (arith, past_more k s d))
 
 -- what `rest_is_left` states
 pub ruleset rests = (

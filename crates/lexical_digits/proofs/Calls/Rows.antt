@@ -1,23 +1,17 @@
 -- Calls that are several rows of the call table: a count that is raised, and digits that are taken.
-use Rattle.std.proofs.Common.{◌≡◌, ℕ, zero, suc, ◌<◌, ◌^◌, [], ◌∷◌, ◌++◌, length, replicate, refl, sym, ap, ◌∙◌, arith}
-use Rattle.lexical_digits.specs.Laws.Terms.{iterate, Component, Integer, Fraction, Exponent, Special, State, IsState, own, counted, counted_by, settled, taken, run_of, On, Peek, Next, IncrementCount, after_leading, leading_digits_of, past_digits_of}
+use Rattle.std.proofs.Common.{◌≡◌, ℕ, zero, suc, [], ◌∷◌, ◌++◌, length, replicate, refl, sym, ap, ◌∙◌, arith}
+use Rattle.lexical_digits.specs.Laws.Terms.{iterate, Component, State, IsState, counted, counted_by, settled, taken, run_of, On, Peek, Next, IncrementCount, after_leading, leading_digits_of, past_digits_of}
 use Rattle.lexical_digits.specs.Laws.Table.{own_fits}
 use Rattle.lexical_digits.proofs.Fields.CarriedByCursor.{state_counted}
 use Rattle.lexical_digits.proofs.Calls.Stops.{leading_are, after_leading_are}
 
-counted_never : (k : Component) (s : State) → own k s < 2 ^ 64 → counted_by 0 k s ≡ s
-counted_never k s l = grind (arith, l)
-
 counted_on : (n : ℕ) (k : Component) (s : State)
     → counted_by n k (counted k s) ≡ counted_by (suc n) k s
-counted_on n Integer s = grind arith
-counted_on n Fraction s = grind arith
-counted_on n Exponent s = grind arith
-counted_on n Special s = refl
+counted_on n k s = grind arith
 
 pub counts_are_rows : (n : ℕ) (k : Component) (s : State) → IsState s
     → counted_by n k s ≡ (run_of s (replicate n (On k, IncrementCount))).state
-counts_are_rows zero k s v = counted_never k s (own_fits k s v)
+counts_are_rows zero k s v = grind (arith, own_fits k s v)
 counts_are_rows (suc n) k s v =
     sym (counted_on n k s) ∙ counts_are_rows n k (counted k s) (state_counted 1 k s v)
 

@@ -1,6 +1,6 @@
 -- On the iterator of a component the leading digits are those from the cursor to the stop.
-use Rattle.std.proofs.Common.{◌≡◌, ℕ, zero, suc, ◌+◌, ◌-◌, ◌<◌, ◌≤◌, Bool, cond, List, [], ◌∷◌, length, get_or, take, sym, ap, ◌∙◌, arith, slice_range, filter, if◌then◌else◌}
-use Rattle.lexical_digits.specs.Laws.Terms.{iterate, slice_get-get_or, drop_more, is_digit_of_radix, Rule, Component, is_digit, place, State, IsState, with_cursor, rule, rule_of, own, with_own, counts, saturating, place_of, settled, taken, leading, after_leading, leading_digits, stop_of, leading_digits_of, past_digits_of, IsNthDigit}
+use Rattle.std.proofs.Common.{◌≡◌, ℕ, zero, suc, ◌+◌, ◌-◌, ◌<◌, ◌≤◌, Bool, cond, List, [], ◌∷◌, length, get_or, take, ap, ◌∙◌, arith, slice_range, filter, if◌then◌else◌}
+use Rattle.lexical_digits.specs.Laws.Terms.{iterate, slice_get-get_or, drop_more, is_digit_of_radix, Rule, Component, is_digit, place, State, IsState, with_cursor, rule, own, with_own, counts, saturating, place_of, settled, taken, leading, after_leading, leading_digits, stop_of, leading_digits_of, past_digits_of, IsNthDigit}
 use Rattle.lexical_digits.specs.Laws.Kept.{place_kept, place_end}
 use Rattle.lexical_digits.specs.Laws.Place.{by_steps, place_low}
 use Rattle.lexical_digits.specs.Laws.Table.{digit_laws, place_from, own_fits, taken_buffer, taken_word}
@@ -35,11 +35,9 @@ after_leading_are k =
     (λ s v e. after_none (digit_laws k) (is_digit (rule k s)) s v e
     ∙ grind (arith, none_there k s e, own_fits k s v, with_own_same k s (place_of k s)))
     (λ s v d rest.
-    after_digit (digit_laws k) (is_digit (rule k s)) s _ v
-    (slice_get-get_or s.buffer (place_of k s) 0 d.within) d.is
-    ∙ ap (λ (w : ℕ). after_in k (is_digit (rule_of w k)) (taken k s)) (sym (taken_word k s))
-    ∙ rest
-    ∙ past_more k s d)
+    let there = slice_get-get_or s.buffer (place_of k s) 0 d.within in
+    let after = after_digit (digit_laws k) (is_digit (rule k s)) s _ v there d.is in
+    grind (arith, taken_word k s, past_more k s d))
 
 -- ---- the digits from the cursor to the stop
 
@@ -51,7 +49,7 @@ filter_first p xs s e l m =
     let more : e - s ≡ suc (e - (s + 1)) = omega arith in rw (more, drop_more xs s 0 l)
 
 filter_none : (p : ℕ → Bool) (xs : List ℕ) (s e : ℕ) → e ≤ s → filter p (slice_range xs s e) ≡ []
-filter_none p xs s e l = let none : e - s ≡ zero = omega arith in rw none
+filter_none p xs s e l = grind arith
 
 -- what is passed over holds no digit
 skipped : (rule : Rule) (buffer : List ℕ) (e s c : ℕ) → s ≤ length buffer

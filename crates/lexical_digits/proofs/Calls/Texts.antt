@@ -1,6 +1,6 @@
 -- Where reading a text from its start stops, in words of its bytes.
-use Rattle.std.proofs.Common.{◌≡◌, ℕ, zero, suc, ◌+◌, ◌-◌, ◌<◌, ◌≤◌, Bool, true, false, not, ltb, List, [], length, drop, refl, arith, slice_index, inl, inr}
-use Rattle.lexical_digits.specs.Laws.Terms.{not-false, cases_Bool, cases_lt, nat_tests, drop_all, gets, Rule, is_digit, class, neighbour, right_side, holds_separator, is_dropped, digits_seen, is_kept, GrantsAll, IsSupported, stop, IsInternalAlone, IsInternalInRuns, is_digit_or_between, is_digit_or_separator, IsFirstFault, holds_digit, digit_before, AllDigitsOrSeparators, IsFromDigitToDigit}
+use Rattle.std.proofs.Common.{◌≡◌, ℕ, zero, suc, ◌+◌, ◌-◌, ◌<◌, ◌≤◌, Bool, true, false, not, ltb, List, [], length, drop, refl, arith, slice_index}
+use Rattle.lexical_digits.specs.Laws.Terms.{not-false, cases_Bool, cases_lt, nat_tests, drop_all, gets, Rule, is_digit, class, neighbour, holds_separator, is_dropped, digits_seen, is_kept, GrantsAll, IsSupported, stop, IsInternalAlone, IsInternalInRuns, is_digit_or_between, is_digit_or_separator, IsFirstFault, holds_digit, digit_before, AllDigitsOrSeparators, IsFromDigitToDigit}
 use Rattle.lexical_digits.specs.declared.skip.rule.Class.TheVariants.{Digit}
 use Rattle.lexical_digits.specs.Laws.Kept.{dropped_holds_separator, seen_none, seen_first}
 use Rattle.lexical_digits.proofs.Rule.Supported.{supported_rule}
@@ -33,10 +33,7 @@ module _ (rule : Rule) (text : List ℕ) where
 
   pub end_if_all : (passes : ℕ → Bool) → IsFirstFault passes (length text) end
       → ((q : ℕ) → q < length text → passes q ≡ true) → end ≡ length text
-  end_if_all passes fault all = elim (cases_lt end (length text)) [
-    | inl l ↦ grind (arith, fault.at l, all end l)
-    | inr l ↦ omega (arith, l, fault.within)
-  ]
+  end_if_all passes fault all = grind (arith, cases_lt end (length text), fault, all end)
 
   -- ---- the internal flag alone
 
@@ -58,12 +55,8 @@ module _ (rule : Rule) (text : List ℕ) where
       → holds_digit rule text (q + 1) ≡ true → is_dropped rule text seen q ≡ true
   unfolding is_dropped
   drops_between fits only seen q l h left right =
-      grind (
-        arith,
-        only,
-        left_one rule text fits only.consecutive q l,
-        right_single rule text only.consecutive q,
-      )
+      let left_side = left_one rule text fits only.consecutive q l in
+      grind (arith, only, right_single rule text only.consecutive q)
 
   -- before the end a digit stands before each separator that is dropped
   before_dropped : IsSupported rule → IsInternalAlone rule → (q : ℕ) → q < length text
@@ -112,15 +105,12 @@ module _ (rule : Rule) (text : List ℕ) where
   unfolding holds_separator
   digit_on fits many all last zero q e =
       let next : length text ≡ suc q = omega (arith, e) in
-      let here : holds_digit rule text q ≡ true = grind (arith, next) in
-      let ends : holds_separator rule text q ≡ false = grind (arith, gets) in
-      rw (right_at rule text fits many q ends) (grind (arith, gets))
-  digit_on fits many all last (suc d) q e = elim (cases_Bool (holds_separator rule text q)) [
-    | inl h ↦ rw (right_in_run rule text many q h)
-        (digit_on fits many all last d (q + 1) (omega (arith, e)))
-    | inr h ↦ rw (right_at rule text fits many q h)
-        (grind (arith, gets, all q (omega (arith, e))))
-  ]
+      grind (arith, gets, right_at rule text fits many q)
+  digit_on fits many all last (suc d) q e =
+      let run = right_in_run rule text many q in
+      let on = digit_on fits many all last d (q + 1) in
+      let both = cases_Bool (holds_separator rule text q) in
+      grind (arith, gets, right_at rule text fits many q, all q)
 
   -- a separator with no byte before it, or none after it, is kept
   last_kept : IsInternalInRuns rule → (seen : Bool) (q : ℕ) → q + 1 ≡ length text
@@ -136,15 +126,10 @@ module _ (rule : Rule) (text : List ℕ) where
       let keeps : KeepsDigits (length text) = rw e at keeps_digits in
       record {
         all = λ q l. grind (arith, gets, keeps q l, dropped_holds_separator rule text);
-        first = λ l. grind (
-          arith,
-          gets,
-          nat_tests,
-          keeps 0 l,
-          only,
-          neighbour_many rule text only.consecutive,
-          seen_none rule text 0 0,
-        );
+        first = λ l.
+            let kept = keeps 0 l in
+            let many = neighbour_many rule text only.consecutive in
+            grind (arith, gets, nat_tests, only, seen_none rule text 0 0);
         last = λ l. last_digit keeps (length text) refl l;
       }
     where
@@ -152,12 +137,8 @@ module _ (rule : Rule) (text : List ℕ) where
           → digit_before rule text n ≡ true
       last_digit keeps zero e l = absurd (omega (arith, l))
       last_digit keeps (suc q) e l =
-          grind (
-            arith,
-            gets,
-            keeps q (omega (arith, e)),
-            last_kept only (ltb 0 (digits_seen rule text 0 0 q)) q (omega (arith, e)),
-          )
+          let kept = last_kept only (ltb 0 (digits_seen rule text 0 0 q)) q (omega (arith, e)) in
+          grind (arith, gets, keeps q (omega (arith, e)))
 
   -- after the first digit, one was seen
   seen_digit : holds_digit rule text 0 ≡ true → (q : ℕ) → 0 < q → q < length text
@@ -171,21 +152,15 @@ module _ (rule : Rule) (text : List ℕ) where
       → is_kept rule text 0 0 q ≡ false
   unfolding is_kept is_dropped holds_separator
   drops_run fits only ends q l h =
-      let some : 0 < length text = omega (arith, l) in
-      let past : 0 < q = grind (arith, gets, ends.first some) in
-      let more : q + 1 < length text = grind (arith, gets, ends.last some) in
-      let right : right_side rule text q ≡ Digit =
-      digit_on fits only.consecutive ends.all (ends.last some) (length text - (q + 2)) (q + 1)
-      (omega (arith, more)) in
-      grind (arith, only, seen_digit (ends.first some) q past l)
+      let right = digit_on fits only.consecutive ends.all (ends.last (omega (arith, l)))
+      (length text - (q + 2)) (q + 1) in
+      grind (arith, gets, only, ends, seen_digit (ends.first (omega (arith, l))) q)
 
   pub read_if_ends : IsSupported rule → IsInternalInRuns rule → IsFromDigitToDigit rule text
       → end ≡ length text
   unfolding holds_separator
-  read_if_ends fits only ends = elim (cases_lt end (length text)) [
-    | inl l ↦ grind (arith, gets, found.at l, ends.all _ l, drops_run fits only ends _ l)
-    | inr l ↦ omega (arith, l, found.within)
-  ]
+  read_if_ends fits only ends =
+      grind (arith, gets, cases_lt end (length text), found, ends, drops_run fits only ends end)
 
 pub ruleset between = (fault_between, all_if_end, end_if_all, supported_rule)
 

@@ -1,6 +1,6 @@
 -- Reading where the cursor stands: nothing is passed over there, and nothing scanned.
 use Rattle.std.proofs.Common.{◌≡◌, ℕ, ◌+◌, ◌<◌, ◌≤◌, ◌≤ℤ◌, ◌&&◌, Bool, true, false, cond, Option, Some, None, [], refl, sym, ap, ◌∙◌, arith, slice_get, Bor, length}
-use Rattle.lexical_digits.specs.Laws.Terms.{Component, Integer, Fraction, Exponent, Special, Rule, separator, is_digit, is_separator, IsSupported, State, with_cursor, rule, is_contiguous, own, with_own, counts, count_after, saturating, is_direct, has_no_flags, place_of, counted, separator_at, scans, Held, Costs, PeeksOf, NextsOf, NoLooks, owed, not-true, or_parts, and_parts, and_left, and_right, nat_tests, slice_get_within}
+use Rattle.lexical_digits.specs.Laws.Terms.{Component, Integer, Fraction, Exponent, Special, Rule, separator, is_digit, is_separator, IsSupported, State, with_cursor, rule, is_contiguous, own, with_own, counts, count_after, saturating, is_direct, has_no_flags, place_of, counted, separator_at, scans, Held, Costs, PeeksOf, NextsOf, NoLooks, owed, not-true, or_parts, and_parts, and_left, nat_tests, slice_get_within}
 use Rattle.lexical_digits.specs.Laws.Table.{place_contiguous}
 use Rattle.lexical_digits.proofs.Rule.Supported.{supported_rule}
 use Rattle.lexical_digits.proofs.Rule.Runs.{separator_no_digit}
@@ -14,21 +14,17 @@ pub record IsHere (k : Component) (a : Held) : Type 0 where
   pub unscanned : scans (rule k a.state) a.state.buffer a.state.cursor a.run ≡ false
 
 pub here_contiguous : (k : Component) (a : Held) → is_contiguous k a.state.word ≡ true → IsHere k a
-here_contiguous k a e = record {
-  place = place_contiguous k a.state e a.holds.within;
-  unscanned =
-      and_left _ _ (and_left _ _ (or_parts _ (rule k a.state).consecutive (not-true _ e)).1);
-}
+here_contiguous k a e =
+    grind (arith, place_contiguous k a.state e a.holds.within, or_parts, not-true)
 
 pub here_other : (k : Component) (a : Held)
     → separator_at (separator a.state.word) a.state.buffer a.state.cursor ≡ false → IsHere k a
 unfolding place_of
-here_other k a e = let other = rw (sym (separator_of k a.state.word)) at e in record {
-  place = place_at_other (rule k a.state) a.state.buffer
-      (supported_rule a.state.word k a.holds.word) a.state.cursor (own k a.state) other
-      a.holds.within;
-  unscanned = and_left _ _ (and_right _ _ other);
-}
+here_other k a e =
+    let other = rw (sym (separator_of k a.state.word)) at e in
+    let supported = supported_rule a.state.word k a.holds.word in
+    let place = place_at_other (rule k a.state) a.state.buffer supported a.state.cursor in
+    grind (arith, place (own k a.state) other a.holds.within)
 
 pub here_byte : (k : Component) (a : Held) (byte : ℕ)
     → Some byte ≡ slice_get a.state.buffer a.state.cursor
@@ -52,7 +48,7 @@ costs_on k a b n here run l e low high =
 costs_end : (k : Component) (a : Held) → slice_get a.state.buffer a.state.cursor ≡ None
     → Costs k a a
 costs_end k a e = let here = here_end k a e in
-    costs_unscanned k a a refl (omega arith) (rw (here.place, e) (omega arith)) (omega arith)
+    costs_unscanned k a a refl (omega arith) (grind arith) (omega arith)
     (λ _. omega arith) (and_left _ _ here.unscanned)
 
 -- a digit is no separator
@@ -86,7 +82,7 @@ here_all k a e = here_contiguous k a (contiguous_all k a.state.word e)
 
 -- without a flag `next` counts nothing
 pub counts_none : (k : Component) (word : ℕ) → has_no_flags word ≡ true → counts k word ≡ false
-counts_none k word e = and_right _ _ (not-true _ (contiguous_all k word e))
+counts_none k word e = grind (arith, contiguous_all k word e)
 
 -- a byte that is passed at once is counted if digits are
 pub direct_counts : (k : Component) (s : State) (byte : ℕ) → is_direct (rule k s) byte ≡ true
@@ -98,8 +94,7 @@ pub stepped : (k : Component) (s : State) (byte i : ℕ) (b : Bool)
     → b ≡ (counts k s.word && is_digit (rule k s) byte)
     → with_cursor (cond b (counted k s) s) i
     ≡ with_cursor (with_own k s (count_after (rule k s) (counts k s.word) byte (own k s))) i
-stepped k s byte i true e = rw (sym e) refl
-stepped k s byte i false e = rw (sym e) (sym (with_own_same k s i))
+stepped k s byte i b e = grind (arith, with_own_same k s i)
 
 -- ---- a read that stays
 
@@ -114,8 +109,7 @@ pub peeks_at : (k : Component) (a b : Held) (byte : ℕ) → IsHere k a
 peeks_at k a b byte here at state run looks = record {
   byte = rw here.place at;
   settles = rw here.place state;
-  costs = costs_on k a b 1 here run (omega (arith, ap (λ (s : State). s.cursor) state)) looks
-      (omega arith) (omega arith);
+  costs = costs_on k a b 1 here run (grind arith) looks (omega arith) (omega arith);
 }
 
 -- ---- a read that takes the byte
@@ -178,16 +172,9 @@ module _ (k : Component) (a m b : Held) (same : m.state ≡ a.state) (no_looks :
   }
 
   pub peeks_switched : (answer : Option ℕ) → PeeksOf k m b answer → PeeksOf k a b answer
-  peeks_switched answer peeks = record {
-    byte = rw (← same) peeks.byte;
-    settles = rw (← same) peeks.settles;
-    costs = costs_switched peeks.costs;
-  }
+  peeks_switched answer peeks = grind (arith, peeks, same, costs_switched)
 
   pub nexts_switched : (result : Option (Bor ℕ)) → NextsOf k m b result → NextsOf k a b result
-  nexts_switched result nexts = record {
-    takes = rw (← same) nexts.takes;
-    costs = costs_switched nexts.costs;
-  }
+  nexts_switched result nexts = grind (arith, nexts, same, costs_switched)
 
 pub ruleset after_switch = (peeks_switched, nexts_switched)

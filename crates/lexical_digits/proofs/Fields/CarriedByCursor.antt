@@ -1,6 +1,6 @@
 -- What the cursor carries: state, looks and reader of a `Bytes` where its fields change.
-use Rattle.std.proofs.Common.{rules, ◌≡◌, ℕ, ◌+◌, ◌<◌, ◌≤◌, Bool, true, false, cond, List, length, refl, sym, ap, ◌∙◌, arith, ◌≤ℤ◌, Option}
-use Rattle.lexical_digits.specs.Laws.Terms.{Component, Integer, Fraction, Exponent, Special, Rule, Tally, Shortcuts, Inside, separator, State, IsState, with_cursor, with_own, with_no_counts, rule_of, counts, own, one_more, counted, counted_by, saturating, Remembers, owed_by, count_of, integer_of, fraction_of, exponent_of, state_of, looks_of, Leaves, AreShortcuts, IsInner, has_no_flags, IsReading, false≢true}
+use Rattle.std.proofs.Common.{rules, ◌≡◌, ℕ, ◌+◌, ◌<◌, ◌≤◌, Bool, true, cond, List, length, arith, ◌≤ℤ◌, Option}
+use Rattle.lexical_digits.specs.Laws.Terms.{Component, Rule, Tally, Shortcuts, Inside, separator, State, IsState, with_cursor, with_own, with_no_counts, rule_of, counts, own, counted, counted_by, saturating, Remembers, owed_by, count_of, integer_of, fraction_of, exponent_of, state_of, looks_of, Leaves, AreShortcuts, IsInner, has_no_flags, IsReading}
 use Rattle.lexical_digits.specs.declared.skip.decision.Run.{Run}
 use Rattle.lexical_digits.specs.Laws.Table.{with_own_buffer, with_own_is, own_fits}
 use Rattle.lexical_digits.proofs.Looks.Owed.{owed_onward}
@@ -17,29 +17,22 @@ state_cleared s v = search rules
 -- a byte passed, and then counted
 pub counted_after : (k : Component) (s m t : State) (i : ℕ) → m ≡ with_cursor s i
     → t ≡ counted k m → t ≡ with_cursor (counted k s) i
-counted_after k s m t i e f = rw (f, e) (grind arith)
+counted_after k s m t i e f = grind arith
 
 -- a byte further, which is counted or not
 pub state_passed : (k : Component) (b : Bool) (s : State) → IsState s → s.cursor < length s.buffer
     → IsState (with_cursor (cond b (counted k s) s) (s.cursor + 1))
-state_passed k true s v l =
-    let same = ap length (with_own_buffer k s (one_more (own k s))) in
-    state_moved (counted k s) (s.cursor + 1) (state_counted 1 k s v) (omega (arith, l, same))
-state_passed k false s v l = state_moved s (s.cursor + 1) v (omega (arith, l))
+state_passed k b s v l = grind (arith, state_moved, state_counted, with_own_buffer)
 
 -- digits that were read on the way to a position, which are counted or not
 pub state_read : (k : Component) (b : Bool) (n m i : ℕ) (s : State) → IsState s → m ≡ cond b n 0
     → with_cursor (counted_by m k s) i
     ≡ with_cursor (with_own k s (cond b (saturating (own k s) n) (own k s))) i
-state_read k true n m i s v e = rw e refl
-state_read k false n m i s v e =
-    ap (λ (c : ℕ). with_cursor (with_own k s c) i) (omega (arith, e, own_fits k s v))
+state_read k b n m i s v e = grind (arith, own_fits k s v)
 
 pub state_read_is : (k : Component) (n i : ℕ) (s : State) → IsState s → i ≤ length s.buffer
     → IsState (with_cursor (counted_by n k s) i)
-state_read_is k n i s v l =
-    let same = ap length (with_own_buffer k s (saturating (own k s) n)) in
-    state_moved (counted_by n k s) i (state_counted n k s v) (omega (arith, l, same))
+state_read_is k n i s v l = grind (arith, state_moved, state_counted, with_own_buffer)
 
 -- the count that a tally answers
 pub own_counted : (k : Component) (buffer : List ℕ) (word : ℕ) (t : Tally)
@@ -97,7 +90,4 @@ pub counted_since : (buffer : List ℕ) (word : ℕ) (t : Tally) (k : Component)
     → t.is_counting ≡ counts k word → t.is_counting ≡ true → t.counted_from < t.index
     → 0 < own k (state_of buffer word t)
 unfolding integer_of fraction_of exponent_of
-counted_since buffer word t Integer e f g l = rw (g, e) (omega (arith, l))
-counted_since buffer word t Fraction e f g l = rw (g, e) (omega (arith, l))
-counted_since buffer word t Exponent e f g l = rw (g, e) (omega (arith, l))
-counted_since buffer word t Special e f g l = absurd (false≢true (sym f ∙ g))
+counted_since buffer word t k e f g l = grind arith

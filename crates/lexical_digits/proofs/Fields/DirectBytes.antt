@@ -1,6 +1,6 @@
 -- Direct bytes: which they are by the shortcuts, and by the rule of the reader.
-use Rattle.std.proofs.Common.{◌≡◌, ℕ, ◌+◌, ◌-◌, ◌<◌, ◌≤◌, ◌%◌, ◌||◌, Bool, true, false, not, min, leb, ltb, refl, sym, ◌∙◌, ap, arith}
-use Rattle.lexical_digits.specs.Laws.Terms.{digit_value, Rule, Shortcuts, separator, is_digit, is_separator, has_flags, IsSupported, Component, Inside, rule_of, counts, lower, is_direct, is_direct_by, AreShortcuts, le-leb, nat_tests, and_pow}
+use Rattle.std.proofs.Common.{◌≡◌, ℕ, ◌+◌, ◌-◌, ◌<◌, ◌≤◌, ◌%◌, ◌||◌, Bool, false, min, leb, ltb, sym, ◌∙◌, ap, arith}
+use Rattle.lexical_digits.specs.Laws.Terms.{digit_value, Rule, Shortcuts, separator, is_digit, is_separator, IsSupported, Component, Inside, rule_of, counts, lower, is_direct, is_direct_by, AreShortcuts, nat_tests, and_pow}
 use Rattle.std.specs.Int.Bits.{bit_or, or_add_and}
 use Rattle.lexical_digits.proofs.Rule.Supported.{supported_rule}
 use Rattle.lexical_digits.proofs.Looks.Owed.{separator_of}
@@ -17,12 +17,9 @@ digit_test rule byte last letters fits low high e f = grind (arith, nat_tests)
 
 direct_test : (rule : Rule) (s : Shortcuts) (byte : ℕ) → byte < 256 → IsSupported rule
     → AreShortcuts rule s → is_direct_by s byte ≡ is_direct rule byte
-direct_test rule s byte fits supported are = here (has_flags rule) refl
-  where
-    here : (b : Bool) → has_flags rule ≡ b → is_direct_by s byte ≡ (not b || is_digit rule byte)
-    here true e = digit_test rule byte s.last_figure s.letters fits supported.low supported.high
-        (are.figures e) (are.letters e)
-    here false e = rw (le-leb ((byte + 208) % 256) s.last_figure (omega (arith, are.all e))) refl
+direct_test rule s byte fits supported are =
+    let figures = digit_test rule byte s.last_figure s.letters fits supported.low supported.high in
+    grind (arith, nat_tests, are)
 
 -- what is decoded is that of the component that reads
 module _ (b : Inside) (k : Component) (reader : b.tally.reader ≡ k) where

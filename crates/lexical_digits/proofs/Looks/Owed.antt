@@ -1,7 +1,7 @@
 -- What a read owes: a run that it scans lies behind what was scanned before.
 use Rattle.std.proofs.Common.{◌&&◌, ap, ◌≡◌, ℕ, ◌+◌, ◌-◌, ◌^◌, ◌≤◌, min, Bool, true, false, not, ltb, Option, Some, None, List, length, refl, sym, ◌∙◌, arith, pos, ◌≤ℤ◌, ◌+ℤ◌, ◌*◌, is_some, slice_get}
 use Rattle.std.proofs.Math.Bool.{and-not_self}
-use Rattle.lexical_digits.specs.Laws.Terms.{Component, separator, State, rule, rule_of, own, saturating, place_of, byte_at_place, settled, separator_at, IsRunOrNone, run_holds, run_length, scans, Finds, one_if, far, owed_by, Held, owed, Costs, NoLooks, Remembers, has_scanned, needs_run, FollowsDigit, not-true, false≢true, and_left, and_parts, lt-ltb, nat_tests, ints, slice_get_cases}
+use Rattle.lexical_digits.specs.Laws.Terms.{Component, separator, State, rule, rule_of, own, saturating, place_of, byte_at_place, settled, separator_at, IsRunOrNone, run_holds, run_length, scans, Finds, one_if, far, owed_by, Held, owed, Costs, NoLooks, Remembers, has_scanned, needs_run, FollowsDigit, not-true, false≢true, and_left, and_parts, nat_tests, ints, slice_get_cases}
 use Rattle.lexical_digits.specs.declared.skip.decision.Run.{Run}
 use Rattle.lexical_digits.specs.Laws.Table.{place_from}
 
@@ -85,24 +85,12 @@ pub arrives : (k : Component) (a b : Held) (saw_next : Bool)
 arrives k a b saw_next follows e saw =
     here (scans (rule k a.state) a.state.buffer a.state.cursor a.run) refl
   where
-    most : (t : Bool) → (t ≡ true → FollowsDigit k a.state)
-        → one_if t + one_if (not (ltb 0 (own k a.state))) ≤ 1
-    most false f = grind (arith, nat_tests)
-    most true f = rw (lt-ltb 0 (own k a.state) (f refl).counted) (omega arith)
-
     one : one_if saw_next + one_if (not (ltb 0 (own k a.state))) ≤ 1
-    one = most saw_next follows
-
-    none : (t : Bool) → (t ≡ true → FollowsDigit k a.state)
-        → separator_at (rule k a.state).separator a.state.buffer a.state.cursor ≡ false
-        → one_if t ≡ 0
-    none false f e = refl
-    none true f e = absurd (false≢true (sym e ∙ (rw separator_of (f refl).here)))
+    one = grind (arith, nat_tests, follows)
 
     other : separator_at (separator a.state.word) a.state.buffer a.state.cursor ≡ false
         → b.looks ≤ a.looks + 2
-    other f = let g = rw (sym (separator_of k a.state.word)) at f in
-        omega (arith, saw.without_separator g, none saw_next follows g)
+    other f = grind (arith, saw.without_separator, follows, separator_of k a.state.word)
 
     onward : a.state.cursor ≤ b.state.cursor
     onward = omega (arith, ap (λ (s : State). s.cursor) e, place_from k a.state a.holds.within)
@@ -134,14 +122,6 @@ arrives k a b saw_next follows e saw =
 -- a step after a read costs nothing
 pub costs_then : (k : Component) (a m b : Held) → Costs k a m → NoLooks m b → owed b ≤ℤ owed m
     → Costs k a b
-costs_then k a m b costs no_looks owes = record {
-  owes = omega (arith, ints, costs.owes, owes);
-  at_least = rw (no_looks.run, no_looks.looks) costs.at_least;
-  at_most = rw (no_looks.run, no_looks.looks) costs.at_most;
-  unscanned = rw no_looks.run costs.unscanned;
-  needed = rw no_looks.run costs.needed;
-  allowed = rw no_looks.run costs.allowed;
-  without_separator = rw no_looks.looks costs.without_separator;
-}
+costs_then k a m b costs no_looks owes = grind (arith, ints, costs, no_looks)
 
 pub ruleset owed_by_moves = (owed_onward, owed_back)

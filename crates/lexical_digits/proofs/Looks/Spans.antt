@@ -1,6 +1,6 @@
 -- What a separator is judged by.
-use Rattle.std.proofs.Common.{◌≡◌, ℕ, ◌+◌, ◌-◌, ◌<◌, ◌≤◌, Bool, true, false, ltb, List, length, sym, ◌∙◌, arith, slice_get}
-use Rattle.lexical_digits.specs.Laws.Terms.{list_any, Rule, class, holds_separator, left_side, roles, grants, place, IsSupported, separator_at, IsRun, IsSpan, not_from_true, not_from_false}
+use Rattle.std.proofs.Common.{◌≡◌, ℕ, ◌+◌, ◌-◌, ◌<◌, ◌≤◌, Bool, true, false, ltb, List, length, ◌∙◌, arith, slice_get}
+use Rattle.lexical_digits.specs.Laws.Terms.{list_any, Rule, class, holds_separator, left_side, roles, grants, place, IsSupported, separator_at, IsRun, IsSpan}
 use Rattle.lexical_digits.specs.declared.skip.rule.Class.{Class}
 use Rattle.lexical_digits.specs.Laws.Kept.{place_kept, separator_within}
 use Rattle.lexical_digits.proofs.Rule.Runs.{place_next, place_run}
@@ -47,15 +47,14 @@ module _ (rule : Rule) (buffer : List ℕ) (supported : IsSupported rule) where
     pub place_dropped_by : list_any (grants rule) (roles left (class rule (slice_get buffer to)))
         ≡ true → place rule buffer q count ≡ to
     place_dropped_by some =
-        span.reach count (kept_by_sides rule buffer supported q count counted above here
-        ∙ rw (sym at_left, sym span.right) (not_from_true _ some))
+        grind (arith, span, at_left, kept_by_sides rule buffer supported q count counted above here)
 
     pub place_kept_by : list_any (grants rule) (roles left (class rule (slice_get buffer to)))
         ≡ false → place rule buffer q count ≡ q
     place_kept_by none =
-        place_kept rule buffer q count (separator_within rule buffer q here)
-        (kept_by_sides rule buffer supported q count counted above here
-        ∙ rw (sym at_left, sym span.right) (not_from_false _ none))
+        let kept = kept_by_sides rule buffer supported q count counted above here in
+        let within = separator_within rule buffer q here in
+        grind (arith, span, at_left, place_kept rule buffer q count)
 
 pub ruleset spans = (span_alone, span_of_run)
 

@@ -1,5 +1,5 @@
 -- What flags do to a drain.
-use Rattle.std.proofs.Common.{◌≡◌, ℕ, ◌+◌, Bool, true, false, not, Option, List, [], ◌∷◌, get_or, drop, map, refl, sym, ap, ◌∙◌, arith, ◌⊎◌, inl, inr, slice_get, find, filter, count_by, slice_range}
+use Rattle.std.proofs.Common.{◌≡◌, ℕ, Bool, true, false, not, Option, List, [], ◌∷◌, get_or, drop, map, refl, sym, ap, ◌∙◌, arith, ◌⊎◌, inl, inr, slice_get, find, filter}
 use Rattle.lexical_digits.specs.Laws.Terms.{get_or_past, gets, nat_tests, Rule, is_digit_of_radix, is_digit, is_separator, class, is_separator_class, neighbour, holds_separator, is_dropped, digits_seen, is_kept, kept_positions, drain, GrantsNone, GrantsAll, GrantsAtLeast, IsSupported}
 use Rattle.lexical_digits.specs.Laws.Ranges.{reads_positions}
 use Rattle.lexical_digits.specs.Laws.Place.{grants_no_list}
@@ -59,8 +59,7 @@ module _ (lesser greater : Rule) (more : GrantsAtLeast lesser greater)
   seen_same : (buffer : List ℕ) (s c k : ℕ)
       → digits_seen lesser buffer s c k ≡ digits_seen greater buffer s c k
   unfolding digits_seen
-  seen_same buffer s c k =
-      ap (λ t. c + count_by t (slice_range buffer s k)) (digit_same lesser greater more.radix)
+  seen_same buffer s c k = grind (arith, digit_same lesser greater more.radix)
 
   -- a first byte that is no separator is the first of these
   first_found : (xs : List ℕ) → is_separator_class (class lesser (slice_get xs 0)) ≡ false
@@ -72,9 +71,7 @@ module _ (lesser greater : Rule) (more : GrantsAtLeast lesser greater)
   side_same : (xs : List ℕ) → is_separator_class (class lesser (neighbour lesser xs)) ≡ false
       → class lesser (neighbour lesser xs) ≡ class greater (neighbour greater xs)
   unfolding neighbour
-  side_same xs h =
-      let found = ap (λ t. find (λ byte. not (is_separator t byte)) xs) more.separator in
-      grind (arith, class_same, first_found xs, more.consecutive)
+  side_same xs h = grind (arith, class_same, first_found xs, more)
 
   dropped_by_greater : (buffer : List ℕ) (t : Bool) (q : ℕ) → is_dropped lesser buffer t q ≡ true
       → is_dropped greater buffer t q ≡ true

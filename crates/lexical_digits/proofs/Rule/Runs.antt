@@ -50,9 +50,8 @@ module _ (rule : Rule) (buffer : List ℕ) where
       → is_kept rule buffer s c s ≡ false → place rule buffer s c ≡ s + 1
   unfolding is_kept is_dropped holds_separator
   place_next single s c l h =
-      let past : holds_separator rule buffer (s + 1) ≡ false =
-      grind (arith, right_single single s) in
-      place_dropped rule buffer s c l h ∙ place_after_run (s + 1) c past (omega arith)
+      let past = place_after_run (s + 1) c in
+      grind (arith, right_single single s, place_dropped rule buffer s c l h)
 
   -- ---- with the consecutive flag
 

@@ -39,8 +39,7 @@ module _ (rule : Rule) (buffer : List ℕ) (supported : IsSupported rule) where
       → is_kept rule buffer q c q
       ≡ not (list_any (grants rule) (roles (left_side rule buffer t q) (right_side rule buffer q)))
   unfolding is_kept is_dropped
-  kept_by_sides q c t e h =
-      rw (h, seen_none rule buffer q c, ← e) refl
+  kept_by_sides q c t e h = grind (arith, seen_none rule buffer q c)
 
   pub right_many : rule.consecutive ≡ true → (q e : ℕ) → holds_separator rule buffer q ≡ true
       → q ≤ e → Separators rule buffer q e → holds_separator rule buffer e ≡ false

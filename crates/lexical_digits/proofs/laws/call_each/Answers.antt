@@ -13,13 +13,4 @@ returns-clause-owes g c =
       takes,
       c.peek.ensures.settles,
     ) at c.skip_zeros.ensures.answers in
-    omega (
-      arith,
-      ints,
-      c.peek.ensures.owes,
-      next,
-      c.increment_count.ensures.owes,
-      c.try_read.ensures.owes,
-      c.skip_zeros.ensures.owes,
-      more,
-    )
+    omega (arith, ints)

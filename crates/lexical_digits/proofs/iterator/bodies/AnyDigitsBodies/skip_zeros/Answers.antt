@@ -19,19 +19,13 @@ loop-self-preserved g c =
     let same_end = after_zeros_by digits met.laws true m zero v in
     let at = past_cursor digits met.laws m v zero in
     let from : i.cursor m ≤ d.place m = digits.place_from m v in
+    let moved = c.set_cursor.ensures.owes (omega (arith, c.cursor-at.ensures.value)) in
     record {
       counts = rw past (omega (arith, c.loop-self.invariant.counts));
       leaves = rw past (sym same_end ∙ c.loop-self.invariant.leaves);
       keeps_loan = cc;
       below = rw past (omega (arith, c.loop-self.invariant.below));
-      owes = omega (
-        arith,
-        ints,
-        c.loop-self.invariant.owes,
-        c.peek_is_cased.ensures.owes,
-        c.set_cursor.ensures.owes (omega (arith, c.cursor-at.ensures.value)),
-        c.increment_count.ensures.owes,
-      );
+      owes = omega (arith, ints);
     }
 
 pub returns : goal.returns
