@@ -11,6 +11,7 @@ use Rattle.lexical_digits.specs.Separators.{is_digit}
 use Rattle.lexical_digits.specs.State.{State, IsState, with_cursor, rule, own, with_own, counts, saturating}
 use Rattle.lexical_digits.specs.Looks.{Held, IsCopy, owed}
 use Rattle.lexical_digits.specs.Stop.{stop_of, leading_digits_of}
+use Rattle.lexical_digits.specs.Laws.Table.{with_own_buffer, with_own_word}
 use Rattle.lexical_digits.proofs.Calls.Stops.{leading_between}
 use Rattle.digit_literals.specs.After.{digits_to, past_digits_to, ExceedsAt}
 use Rattle.digit_literals.specs.Reads.{IsWorth, ReadsTo, IsOffSlice, Passes, ReadsOn, outcome}
@@ -82,14 +83,6 @@ passes_copy k before most a copy left b read is p back = record {
   at_least = omega (arith, p.at_least, is.looks, back.looks);
 }
 
-pub same_buffer : (k : Component) (s t : State) (i : ℕ) → t ≡ past_digits_to k s i
-    → t.buffer ≡ s.buffer
-same_buffer k s t i e = rw e (grind arith)
-
-pub same_word : (k : Component) (s t : State) (i : ℕ) → t ≡ past_digits_to k s i
-    → t.word ≡ s.word
-same_word k s t i e = rw e (grind arith)
-
 -- ---- the outcome
 
 module _ (k : Component) (before : ℕ) (most : Option ℕ) (a b : Held) (value count end : ℕ) where
@@ -155,3 +148,6 @@ pub never_large : (k : Component) (before : ℕ) (a b : Held) (error : TooLarge)
 never_large k before a b error h = h.too_large
 
 pub ruleset by_state = (leading_between, digits_fit, never_large)
+
+-- what `go_on_from` requires
+pub ruleset on_copy = (with_own_buffer, with_own_word)

@@ -72,20 +72,21 @@ module _ {M : Type 0} {valid : M → Type 0} {buffer : M → List ℕ} {cursor c
         };
       }
 
+  -- `take_byte` after a `peek`
+  past : (s t : M) → s ≡ settled n → t ≡ taken s → t ≡ taken n
+  past s t settles takes = takes ∙ ap taken settles ∙ laws.settled_taken n v
+
   pub one_taken : (m s t : M) (count : ℕ) → Taken m n count
       → at_digit buffer cursor place taken p n ≡ true → s ≡ settled n → t ≡ taken s
       → Taken m t (count + 1)
   one_taken m s t count so e settles takes =
-      let same : t ≡ taken n =
-      takes ∙ ap taken settles ∙ laws.settled_taken n v in
-      rw same (has_next m count so e).more
+      rw (past s t settles takes) (has_next m count so e).more
 
   pub moves_on : (s t : M) → at_digit buffer cursor place taken p n ≡ true → s ≡ settled n
       → t ≡ taken s → length (buffer t) - cursor t < length (buffer n) - cursor n
   moves_on s t e settles takes =
       let l : place n < length (buffer n) = grind (arith, gets) in
-      let same : t ≡ taken n = takes ∙ ap taken settles ∙ laws.settled_taken n v in
-      rw (same, laws.taken_buffer n v)
+      rw (past s t settles takes, laws.taken_buffer n v)
       (omega (arith, l, laws.taken_cursor n v l, laws.place_from n v))
 
   pub counts_bytes : (m s : M) (count : ℕ) → Taken m n count → s ≡ settled n → count ≤ cursor s
@@ -96,6 +97,13 @@ module _ {M : Type 0} {valid : M → Type 0} {buffer : M → List ℕ} {cursor c
     laws.settled_cursor n v,
     ap cursor settles,
   )
+
+  pub still_same : (s t : M) → SameDigits p (digit n) → s ≡ settled n → t ≡ taken s
+      → SameDigits p (digit t)
+  still_same s t same settles takes = record {
+    alike = λ byte l. same.alike byte l ∙ sym (laws.taken_digit n byte v l)
+        ∙ ap (λ x. digit x byte) (sym (past s t settles takes));
+  }
 
   -- ---- these are all where no digit stands at the place
 
@@ -128,19 +136,6 @@ pub same_answer : (p q : ℕ → Bool) (o : Option ℕ) (b : Bool) → SameDigit
     → IfSome o (λ byte. byte < 256) → b ≡ holds_of q o → holds_of p o ≡ b
 same_answer p q None b same l e = sym e
 same_answer p q (Some byte) b same l e = same.alike byte l ∙ sym e
-
-pub still_same : {M : Type 0} {valid : M → Type 0} {buffer : M → List ℕ}
-    {cursor current_count : M → ℕ} {contiguous : M → Bool} {separates : M → ℕ → Bool}
-    {moved : M → ℕ → M} {place : M → ℕ} {digit : M → ℕ → Bool} {settled counted taken : M → M}
-    → DigitLaws valid buffer cursor current_count contiguous separates moved place digit settled
-    counted taken → (n : M) → valid n → (p : ℕ → Bool) (s t : M) → SameDigits p (digit n)
-    → s ≡ settled n → t ≡ taken s → SameDigits p (digit t)
-still_same {digit = digit} {taken = taken} laws n v p s t same settles takes = record {
-  alike = λ byte l.
-      same.alike byte l ∙ sym (laws.taken_digit n byte v l)
-      ∙ ap (λ x. digit x byte)
-      (sym (takes ∙ ap taken settles ∙ laws.settled_taken n v));
-}
 
 pub ruleset taking = (
   none_taken,

@@ -4,7 +4,7 @@ use Rattle.std.specs.Prelude.{IfSome}
 use Rattle.std.specs.Fn.{iterate}
 use Rattle.std.specs.Str.Parse.{digits_value_after}
 use Rattle.std.proofs.lemmas.Int.{ints}
-use Rattle.std.proofs.lemmas.List.{take_more, take_all}
+use Rattle.std.proofs.lemmas.List.{take_more, take_all, nil_from_length}
 use Rattle.lexical_format.specs.Digits.{digit_of_radix, is_digit_of_radix}
 use Rattle.lexical_digits.specs.Cursor.{DigitLaws}
 use Rattle.lexical_digits.specs.Stop.{after_leading}
@@ -12,7 +12,7 @@ use Rattle.digit_literals.specs.declared.reading.Digits.{Digits}
 use Rattle.digit_literals.specs.declared.reading.TooLarge.{TooLarge}
 use Rattle.digit_literals.specs.Reads.{IsWorth, IsMore}
 use Rattle.digit_literals.specs.Outcomes.{digits, ReadsAfter, StopsAt, FindsNone, OverflowsAt}
-use Rattle.digit_literals.proofs.Worth.{digit_at, none_at, value_next, worth_next}
+use Rattle.digit_literals.proofs.Worth.{digit_at, none_at, value_next, worth_none, worth_next}
 use Rattle.digit_literals.proofs.Taking.{HasTaken, HasNext, none_taken, has_next, one_taken, moves_on, counts_bytes, all_taken, leaves_all}
 
 -- ---- what was read
@@ -41,8 +41,8 @@ module _ {M : Type 0} {valid : M → Type 0} {buffer : M → List ℕ} {cursor c
   module _ (most : Option ℕ) (m : M) (value count : ℕ) (so : Read most m n value count) where
     -- with the digit at the place
     module _ (d : ℕ) (e : peeked ≡ Some d) where
-      pub there : digit_of_radix radix (slice_index (buffer n) (place n)) ≡ Some d
-      there = (digit_at radix (buffer n) (place n) d e).value
+      pub digit_there : digit_of_radix radix (slice_index (buffer n) (place n)) ≡ Some d
+      digit_there = (digit_at radix (buffer n) (place n) d e).value
 
       pub next : HasNext laws n v (is_digit_of_radix radix) m count
       next = has_next laws n v (is_digit_of_radix radix) m count so.led
@@ -58,7 +58,7 @@ module _ {M : Type 0} {valid : M → Type 0} {buffer : M → List ℕ} {cursor c
         led = one_taken laws n v (is_digit_of_radix radix) m s t count so.led
             (digit_at radix (buffer n) (place n) d e).is settles takes;
         worth = rw one_longer (worth_next radix before most value d more (take count (led m))
-            (slice_index (buffer n) (place n)) there so.worth is_more);
+            (slice_index (buffer n) (place n)) digit_there so.worth is_more);
       }
 
       pub reads_on : (s t : M) → s ≡ settled n → t ≡ taken s
@@ -84,7 +84,7 @@ module _ {M : Type 0} {valid : M → Type 0} {buffer : M → List ℕ} {cursor c
         passes = rw (
           one_longer (Some most) m value count so d e,
           value_next radix before value d (take count (led m))
-              (slice_index (buffer n) (place n)) (there (Some most) m value count so d e)
+              (slice_index (buffer n) (place n)) (digit_there (Some most) m value count so d e)
               so.worth.is,
         ) over;
         stands = stands ∙ ap cursor settles ∙ laws.settled_cursor n v ∙ ap place so.led.stands;
@@ -113,13 +113,8 @@ pub none_read : {M : Type 0} {buffer : M → List ℕ} {cursor place : M → ℕ
     → HasRead buffer cursor place taken settled radix before most m m before 0
 none_read radix before most m fits = record {
   led = none_taken (is_digit_of_radix radix) m;
-  worth = worth most fits;
+  worth = worth_none radix before most fits;
 }
-  where
-    worth : (o : Option ℕ) → IfSome o (λ greatest. before ≤ greatest)
-        → IfSome o (IsWorth radix before [] before)
-    worth None h = tt
-    worth (Some greatest) h = record { is = refl; fits = h }
 
 pub ruleset reading = (none_read, one_read, reads_on, counts_read, stops_at, reads_after)
 
@@ -136,14 +131,10 @@ module _ {M : Type 0} (buffer : M → List ℕ) (cursor place : M → ℕ) (take
       let left : t ≡ settled m = h.leaves
       ∙ ap (λ (n : ℕ). settled (iterate taken n m)) (sym h.counts ∙ none) in
       record {
-        none = empty (digits buffer cursor place taken settled radix m) (sym h.counts ∙ none);
+        none = nil_from_length _ (sym h.counts ∙ none);
         stands = stands ∙ ap cursor left ∙ settles;
         leaves = left;
       }
-    where
-      empty : (xs : List ℕ) → length xs ≡ 0 → xs ≡ []
-      empty [] e = refl
-      empty (x ∷ xs) e = cc
 
   pub overflows_at : (owed owed_after : ℤ) (error : TooLarge) (t : M)
       → StopsAt buffer cursor place taken settled radix 0 (2 ^ 64 - 1) m error t

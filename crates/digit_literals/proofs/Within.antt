@@ -1,7 +1,8 @@
 -- The positions that `read_integer` answers are within the text. `positions_within` is for callers.
-use Rattle.std.proofs.Common.{◌≡◌, ℕ, ◌<◌, ◌≤◌, Bool, true, false, List, [], ◌∷◌, length, Option, Some, None, Ok, Err, refl, sym, ◌∙◌, ◌+◌, ◌*◌, arith}
+use Rattle.std.proofs.Common.{◌≡◌, ℕ, ◌<◌, ◌≤◌, Bool, true, false, List, length, Option, Some, None, refl, sym, ◌∙◌, ◌+◌, ◌*◌, arith}
 use Rattle.std.specs.Prelude.{◌==◌, IfSome, IfOk}
 use Rattle.std.proofs.lemmas.Bool.Decides.{nat_tests}
+use Rattle.std.proofs.lemmas.List.{nil_from_length}
 use Rattle.std.specs.declared.result.Result.{Result}
 use Rattle.lexical_digits.specs.declared.skip.rule.Rule.{Rule}
 use Rattle.lexical_digits.proofs.Calls.FirstOther.{stop_is_first}
@@ -9,7 +10,6 @@ use Rattle.digit_literals.specs.Reads.{ReadsTo}
 use Rattle.digit_literals.specs.Integers.{IsInteger, HasNoDigit, IsTooLarge, ReadsFrom, integer_of}
 use Rattle.digit_literals.specs.Outcomes.{IfEmpty, IfOverflow}
 use Rattle.digit_literals.specs.declared.LiteralError.{LiteralError}
-use Rattle.digit_literals.specs.declared.LiteralError.TheVariants.{Empty, Overflow}
 use Rattle.digit_literals.specs.declared.slice.ReadTo.{ReadTo}
 
 pub integer_within : (rule : Rule) (text : List ℕ) (value end : ℕ) →
@@ -50,9 +50,11 @@ module _ (rule : Rule) (text : List ℕ) (start most : ℕ) (l : start ≤ lengt
     abbrev read_to : Bool → ReadTo
     read_to large = record { value = value; count = count; end = end; is_too_large = large }
 
-    too_large : ReadsTo rule text start 0 (Some most) (read_to true) 0
-        → Answers (Err (Overflow end))
-    too_large h =
+    pub answers : (large is_empty : Bool) → (is_empty ≡ true → count ≡ 0)
+        → (is_empty ≡ false → 0 < count)
+        → ReadsTo rule text start 0 (Some most) (read_to large) 0
+        → Answers (integer_of (read_to large) is_empty)
+    answers true is_empty e f h =
         let over = h.exceeds refl in
         let first = stop_is_first rule text start 0 l in
         record {
@@ -61,49 +63,35 @@ module _ (rule : Rule) (text : List ℕ) (start most : ℕ) (l : start ≤ lengt
           empty_at = tt;
           overflow_at = (h.onward, omega (arith, over.before_stop, first.within));
         }
-
-    none : count ≡ 0 → ReadsTo rule text start 0 (Some most) (read_to false) 0
-        → Answers (Err (Empty end))
-    none e h = record {
-      reads = record {
-        ok = tt;
-        empty = record { stops = h.stops refl; none = empty _ (sym h.digits ∙ e) };
-        overflow = tt;
-      };
-      end = tt;
-      empty_at = (h.onward, h.within);
-      overflow_at = tt;
-    }
-      where
-        empty : (xs : List ℕ) → length xs ≡ 0 → xs ≡ []
-        empty [] e = refl
-        empty (x ∷ xs) e = cc
-
-    some : 0 < count → ReadsTo rule text start 0 (Some most) (read_to false) 0
-        → Answers (Ok (value, end))
-    some e h = record {
-      reads = record {
-        ok = record {
-          ends = h.stops refl;
-          some = omega (arith, e, h.digits);
-          is = h.worth.is;
-          fits = h.worth.fits;
-        };
-        empty = tt;
-        overflow = tt;
-      };
-      end = (h.onward, h.within);
-      empty_at = tt;
-      overflow_at = tt;
-    }
-
-    pub answers : (large is_empty : Bool) → (is_empty ≡ true → count ≡ 0)
-        → (is_empty ≡ false → 0 < count)
-        → ReadsTo rule text start 0 (Some most) (read_to large) 0
-        → Answers (integer_of (read_to large) is_empty)
-    answers true is_empty e f h = too_large h
-    answers false true e f h = none (e refl) h
-    answers false false e f h = some (f refl) h
+    answers false true e f h =
+        let none = nil_from_length _ (sym h.digits ∙ e refl) in
+        record {
+          reads = record {
+            ok = tt;
+            empty = record { stops = h.stops refl; none = none };
+            overflow = tt;
+          };
+          end = tt;
+          empty_at = (h.onward, h.within);
+          overflow_at = tt;
+        }
+    answers false false e f h =
+        let some = f refl in
+        record {
+          reads = record {
+            ok = record {
+              ends = h.stops refl;
+              some = omega (arith, some, h.digits);
+              is = h.worth.is;
+              fits = h.worth.fits;
+            };
+            empty = tt;
+            overflow = tt;
+          };
+          end = (h.onward, h.within);
+          empty_at = tt;
+          overflow_at = tt;
+        }
 
 -- off the slice there are digits exactly if there are bytes
 pub no_digit : (start count end : ℕ) → end ≤ start + 2 * count → start + count ≤ end

@@ -1,9 +1,9 @@
 -- A value with one more digit, and the digit at a place.
-use Rattle.std.proofs.Common.{◌≡◌, ℕ, ◌+◌, ◌*◌, true, false, List, [], ◌∷◌, ◌++◌, slice_get, slice_index, Option, Some, None, is_some, option_and_then, refl, ap, sym, ◌∙◌, arith}
+use Rattle.std.proofs.Common.{◌≡◌, ℕ, ◌+◌, ◌*◌, ◌≤◌, true, false, List, [], ◌∷◌, ◌++◌, slice_get, slice_index, Option, Some, None, is_some, option_and_then, refl, ap, sym, ◌∙◌, arith}
 use Rattle.std.specs.Char.{digit_value}
 use Rattle.std.specs.Prelude.{IfSome}
 use Rattle.std.specs.Str.Parse.{digits_value_after}
-use Rattle.std.proofs.lemmas.Option.{gets}
+use Rattle.std.proofs.lemmas.Option.{IfSome_then, gets}
 use Rattle.lexical_format.specs.Digits.{digit_of_radix, is_digit_of_radix}
 use Rattle.lexical_digits.specs.Cursor.{holds_of}
 use Rattle.digit_literals.specs.Reads.{IsWorth, IsMore}
@@ -45,6 +45,10 @@ pub value_next : (radix before value d : ℕ) (ds : List ℕ) (byte : ℕ)
     → digits_value_after radix before (ds ++ byte ∷ []) ≡ value * radix + d
 value_next radix before value d ds byte e is =
     value_push radix before ds byte ∙ rw (← is, value_is radix byte d e) refl
+
+pub worth_none : (radix before : ℕ) (most : Option ℕ) → IfSome most (λ greatest. before ≤ greatest)
+    → IfSome most (IsWorth radix before [] before)
+worth_none radix before most fits = IfSome_then most fits (λ _ l. record { is = refl; fits = l })
 
 pub worth_next : (radix before : ℕ) (most : Option ℕ) (value d more : ℕ) (ds : List ℕ) (byte : ℕ)
     → digit_of_radix radix byte ≡ Some d → IfSome most (IsWorth radix before ds value)

@@ -108,6 +108,7 @@ pub fn read_digits_up_to(
 /// passes them. [`TooLarge`] is answered only if `most` is given, and otherwise the value means
 /// nothing.
 #[inline(always)]
+#[tactic(auto, using(crate::proofs::States::on_copy))]
 fn read_on(
     bytes: &mut Bytes,
     component: Component,

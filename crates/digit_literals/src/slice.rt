@@ -99,7 +99,7 @@ pub(super) fn read_slice(
 
 /// [`read_slice`], where `radix` is the rule's.
 #[inline(always)]
-#[tactic(auto, using(crate::proofs::Leads::leads))]
+#[tactic(auto, using(crate::proofs::Leads::none_led))]
 fn read_radix(
     text: &[u8],
     rule: Rule,

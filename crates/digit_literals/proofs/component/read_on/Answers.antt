@@ -1,7 +1,6 @@
-use Rattle.std.proofs.Common.{rules, arith, ◌∙◌, ap}
-use Rattle.lexical_digits.specs.State.{State}
+use Rattle.std.proofs.Common.{rules, arith}
 use Rattle.lexical_digits.specs.Looks.{IsCopy}
-use Rattle.digit_literals.proofs.States.{passes_slice, passes_copy, same_buffer, same_word, reads_on}
+use Rattle.digit_literals.proofs.States.{passes_slice, passes_copy, reads_on}
 use Rattle.digit_literals.proofs.component.read_on.Goals as goal
 
 pub pass_read-requires-clause-within : goal.pass_read-requires-clause-within
@@ -18,18 +17,6 @@ returns-in-Some c =
     (passes_slice c.args.component c.args.before c.args.most c.args.bytes.now c.pass_read.new.self
     c.in-Some.read off c.pass_read.ensures.state c.pass_read.ensures.looks
     c.pass_read.ensures.owes))
-
-pub go_on_from-requires-clause-buffer : goal.go_on_from-requires-clause-buffer
-go_on_from-requires-clause-buffer c =
-    let copy : IsCopy c.args.bytes.now c.unwrap-copy.result = search rules in
-    same_buffer c.args.component _ _ _ c.read_counted-read.ensures.state
-    ∙ ap (λ (s : State). s.buffer) copy.state
-
-pub go_on_from-requires-clause-word : goal.go_on_from-requires-clause-word
-go_on_from-requires-clause-word c =
-    let copy : IsCopy c.args.bytes.now c.unwrap-copy.result = search rules in
-    same_word c.args.component _ _ _ c.read_counted-read.ensures.state
-    ∙ ap (λ (s : State). s.word) copy.state
 
 pub returns : goal.returns
 returns c =

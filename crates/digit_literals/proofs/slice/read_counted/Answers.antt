@@ -1,6 +1,6 @@
 use Rattle.std.proofs.Common.{rules, arith}
 use Rattle.lexical_digits.specs.Laws.Table.{digit_laws}
-use Rattle.digit_literals.proofs.Counted.{one_paid, stays_at, exceeds_at, stays_there, ends_at, passes}
+use Rattle.digit_literals.proofs.Counted.{one_paid, stops_before, ends_there}
 use Rattle.digit_literals.proofs.Values.{one_read, reads_on, counts_read}
 use Rattle.digit_literals.proofs.slice.read_counted.Goals as goal
 
@@ -34,20 +34,13 @@ prove-unreachable-requires c = omega (
 pub returns-in_default-add_if : goal.returns-in_default-add_if
 returns-in_default-add_if c =
     let peeked = c.peek_digit_of.ensures in
-    passes c.args.component c.args.before c.args.most c.args.bytes.now _ _ _ _ _ _
-    c.loop-digit.invariant.paid peeked.costs peeked.settles c.cursor-end.ensures.value
-    (exceeds_at c.args.component _ _ _ _ c.args.bytes.now.holds (search rules) _
-    c.loop-digit.bytes.holds _ _ c.loop-digit.invariant.read c.in-Some.digit (search rules)
-    c.in_default-add_if.ensures)
-    (stays_at c.args.component _ _ _ _ c.args.bytes.now.holds (search rules) _
-    c.loop-digit.bytes.holds _ _ c.loop-digit.invariant.read c.in-Some.digit (search rules))
+    stops_before c.args.component _ c.args.before c.args.most c.args.bytes.now _ _ (search rules)
+    _ _ c.loop-digit.invariant.read c.loop-digit.invariant.paid peeked.costs peeked.settles
+    c.in-Some.digit (search rules) c.in_default-add_if.ensures _ c.cursor-end.ensures.value
 
 pub returns : goal.returns
 returns c =
     let peeked = c.peek_digit_of.ensures in
-    passes c.args.component c.args.before c.args.most c.args.bytes.now _ _ _ _ _ _
-    c.loop-digit.invariant.paid peeked.costs peeked.settles c.cursor.ensures.value
-    (ends_at c.args.component _ _ _ _ c.args.bytes.now.holds (search rules) _
-    c.loop-digit.bytes.holds _ _ c.loop-digit.invariant.read (search rules))
-    (stays_there c.args.component _ _ _ _ c.args.bytes.now.holds (search rules) _
-    c.loop-digit.bytes.holds _ _ c.loop-digit.invariant.read (search rules))
+    ends_there c.args.component _ c.args.before c.args.most c.args.bytes.now _ _ (search rules)
+    _ _ c.loop-digit.invariant.read c.loop-digit.invariant.paid peeked.costs peeked.settles
+    (search rules) _ c.cursor.ensures.value
