@@ -19,7 +19,7 @@ use Rattle.lexical_digits.proofs.Calls.FirstOther.{stop_is_first}
 use Rattle.digit_literals.specs.declared.LiteralError.{LiteralError}
 use Rattle.digit_literals.specs.declared.LiteralError.TheVariants.{Empty, Overflow}
 use Rattle.digit_literals.specs.Outcomes.{IfEmpty, IfOverflow}
-use Rattle.digit_literals.specs.Integers.{digits_before, IsTooLarge}
+use Rattle.digit_literals.specs.Integers.{IsTooLarge}
 
 -- ---- where digits end
 
@@ -90,16 +90,11 @@ fewer p (suc n) (x ∷ xs) = grind (arith, fewer p n xs)
 pub few_digits_fit : (rule : Rule) (text : List ℕ) (at n : ℕ) → IsTooLarge rule text at
     → 1 ≤ rule.radix → rule.radix ^ n ≤ 2 ^ 64 → length (filter (is_digit rule) text) ≤ n → ⊥
 few_digits_fit rule text at n h some fits few =
-    let digits : List ℕ = digits_before rule text (at + 1) in
-    let fewer_than_n : length digits ≤ n =
+    let upto : List ℕ = take (at + 1 - 0) text in
+    let below = digits_value-lt rule.radix (filter (is_digit rule) upto) (all_digits rule upto) in
+    let at_most : length (filter (is_digit rule) upto) ≤ n =
     omega (arith, few, fewer (is_digit rule) (at + 1 - 0) text) in
-    omega (
-      arith,
-      fits,
-      h.passes,
-      digits_value-lt rule.radix digits (all_digits rule (take (at + 1 - 0) text)),
-      pow-le-pow_right {n = rule.radix} some fewer_than_n,
-    )
+    omega (arith, fits, h.passes, below, pow-le-pow_right {n = rule.radix} some at_most)
 
 -- ---- an integer and the fraction behind it
 

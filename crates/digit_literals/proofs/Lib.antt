@@ -8,7 +8,6 @@ pub mod LeadingZeros
 pub mod PassedZeros
 pub mod Between
 pub mod Worth
-pub mod Whole
 pub mod Texts
 pub mod Within
 pub mod ForCallers

@@ -1,13 +1,9 @@
 -- After a digit with which the value is too large the digits from there on are left.
-use Rattle.std.proofs.Common.{◌≡◌, ℕ, zero, suc, ◌+◌, ◌<◌, ◌≤◌, length, take, drop, sym, ap, subst, ◌∙◌, arith, append-nil, length-append, slice_index, [], ◌∷◌}
-use Rattle.std.specs.Prelude.{if◌then◌else◌}
-use Rattle.std.specs.Fn.{iterate}
+use Rattle.std.proofs.Common.{◌≡◌, ℕ, zero, suc, ◌+◌, ◌<◌, ◌≤◌, length, take, drop, sym, ap, subst, if◌then◌else◌, ◌∙◌, arith, append-nil, length-append, slice_index, [], ◌∷◌}
 use Rattle.std.specs.Str.Parse.{digits_value_after}
 use Rattle.std.proofs.lemmas.List.{take-append-drop, length-take, length-drop}
 use Rattle.lexical_digits.specs.declared.skip.component.Component.{Component}
-use Rattle.lexical_digits.specs.State.{State, IsState, with_cursor, rule, own, with_own, counts, saturating}
-use Rattle.lexical_digits.specs.CallTable.{place_of, settled, taken}
-use Rattle.lexical_digits.specs.Stop.{stop_of, leading_digits_of, past_digits_of, IsNthDigit}
+use Rattle.lexical_digits.specs.Laws.Terms.{iterate, State, IsState, with_cursor, rule, own, with_own, counts, saturating, place_of, settled, taken, stop_of, leading_digits_of, past_digits_of, IsNthDigit}
 use Rattle.lexical_digits.specs.Laws.Table.{digit_laws}
 use Rattle.lexical_digits.proofs.Rule.Supported.{supported_rule}
 use Rattle.lexical_digits.proofs.Calls.FirstOther.{stop_is_first}

@@ -50,10 +50,10 @@ significants radix (d ∷ ds) = elim (cases_Bool (eqb d 48)) [
       let zero_is : digit_value d ≡ 0 = grind (arith, nat_tests) in
       let none : 0 * radix + digit_value d ≡ 0 = omega arith in
       record {
-        value = rw (e, one-add, none) rest.value;
-        all = λ h. rw (e, one-add) (rest.all h.1);
-        more = λ es. rw (e, one-add, one-add) (rest.more es);
-        low = rw (e, one-add) rest.low;
+        value = simp (e, one-add, none) rest.value;
+        all = λ h. simp (e, one-add) (rest.all h.1);
+        more = λ es. simp (e, one-add) (rest.more es);
+        low = simp (e, one-add) rest.low;
       }
   | inr e ↦
       let some : 1 ≤ digit_value d = grind (arith, nat_tests) in

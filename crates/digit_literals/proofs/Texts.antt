@@ -1,14 +1,10 @@
 -- No two outcomes can be had of one text.
-use Rattle.std.proofs.Common.{◌≡◌, ℕ, zero, suc, ◌+◌, ◌-◌, ◌<◌, ◌≤◌, Bool, List, [], ◌∷◌, length, take, drop, sym, ◌∙◌, ap, arith, IsTrue}
-use Rattle.std.specs.List.{filter}
+use Rattle.std.proofs.Common.{◌≡◌, ℕ, zero, suc, ◌+◌, ◌-◌, ◌<◌, ◌≤◌, Bool, List, [], ◌∷◌, length, take, drop, sym, ◌∙◌, ap, arith, IsTrue, filter}
 use Rattle.std.specs.Str.Parse.{digits_value, digits_value_after}
-use Rattle.lexical_format.specs.Word.{is_supported}
 use Rattle.lexical_digits.specs.declared.skip.rule.Rule.{Rule}
 use Rattle.lexical_digits.specs.declared.skip.component.Component.TheVariants.{Integer}
-use Rattle.lexical_digits.specs.Separators.{is_digit}
-use Rattle.lexical_digits.specs.State.{rule_of}
+use Rattle.lexical_digits.specs.Laws.Terms.{is_supported, is_digit, rule_of, stop}
 use Rattle.lexical_digits.proofs.Rule.Supported.{supported_rule}
-use Rattle.lexical_digits.specs.Stop.{stop}
 use Rattle.digit_literals.specs.After.{digits_between}
 use Rattle.digit_literals.specs.Integers.{IsIntegerFrom, HasNoDigitFrom, IsTooLargeFrom}
 use Rattle.digit_literals.specs.Whole.{IsFaultFrom}

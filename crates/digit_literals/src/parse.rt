@@ -91,7 +91,7 @@ fn begins_with(text: &[u8], byte: u8) -> bool
 }
 
 /// How many bytes the sign takes.
-#[tactic(auto, using(crate::proofs::Whole::sign_within))]
+#[tactic(auto, using(std::proofs::lemmas::Option::gets))]
 fn sign_length(text: &[u8]) -> usize
     ensures length { result ≡ sign_length text.now }
     ensures within { result ≤ length text.now }
@@ -124,7 +124,7 @@ fn signed(is_negative: bool, magnitude: u64) -> i64
 
 /// The same of the integer from a start on, up to a greatest value.
 #[inline(always)]
-#[tactic(auto, using(crate::proofs::Whole::whole))]
+#[tactic(auto, using(crate::proofs::ForCallers::stop_within))]
 fn parse_from(text: &[u8], word: u128, start: usize, most: u64) -> Result<u64, ParseError>
     requires supported { IsTrue (is_supported word) }
     requires within { start ≤ length text.now }

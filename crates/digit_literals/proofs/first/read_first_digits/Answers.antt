@@ -2,7 +2,7 @@ use Rattle.std.proofs.Common.{◌≡◌, ℕ, ◌+◌, ◌∙◌, ap, sym, lengt
 use Rattle.std.specs.Str.Parse.{digits_value_after}
 use Rattle.std.proofs.lemmas.List.{take_all}
 use Rattle.lexical_digits.specs.State.{rule}
-use Rattle.lexical_digits.specs.Stop.{leading_digits_of, past_digits_of}
+use Rattle.lexical_digits.specs.Stop.{leading_digits_of}
 use Rattle.digit_literals.specs.After.{digits_to}
 use Rattle.digit_literals.specs.Rest.{LeavesRest}
 use Rattle.digit_literals.proofs.Firsts.{reads_first}
@@ -28,14 +28,7 @@ rest c = leaves_rest c.args.component c.args.bytes.now.state c.args.before c.arg
 
 count : (c : goal.After-struct_known-1) → c.in-Err.error.count + c.pass_others-dropped.result
     ≡ length (leading_digits_of c.args.component c.args.bytes.now.state)
-count c = omega (
-  arith,
-  c.pass_others-dropped.ensures.digits,
-  ap (λ t. length (leading_digits_of c.args.component t)) c.in-Err.ensures.stays,
-  c.in-Err.ensures.so_far.digits,
-  ap length (rest c).digits,
-  length-append (digits_to c.args.component c.args.bytes.now.state c.in-Err.error.at),
-)
+count c = grind (arith, rest c, length-append {A = ℕ})
 
 pub returns-in-Err-clause-first : goal.returns-in-Err-clause-first
 returns-in-Err-clause-first c =
@@ -53,8 +46,7 @@ returns-in-Err-clause-first c =
     (λ _. rw (upto k s c.args.before c.args.most at holds large) at large.passes)
 
 pub returns-in-Err-clause-state : goal.returns-in-Err-clause-state
-returns-in-Err-clause-state c = c.pass_others-dropped.ensures.state
-    ∙ ap (past_digits_of c.args.component) c.in-Err.ensures.stays ∙ (rest c).passed
+returns-in-Err-clause-state c = grind (arith, rest c)
 
 pub returns-in-Err-clause-few : goal.returns-in-Err-clause-few
 returns-in-Err-clause-few c = grind (arith, count c, digits_fit)
