@@ -98,4 +98,6 @@ pub fn integers_have_no_fault(text: &[u8], word: u128)
         IsFault r text.now one → IsFault r text.now other → one ≡ other }
     ensures signed { (value : ℤ) (error : ParseError) → let r = rule_of word Integer in
         IsSigned r text.now value → IsSignedFault r text.now error → ⊥ }
+    ensures one_signed_fault { (one other : ParseError) → let r = rule_of word Integer in
+        IsSignedFault r text.now one → IsSignedFault r text.now other → one ≡ other }
 {}

@@ -14,4 +14,5 @@ returns c =
       one_fault = one_fault word text 0 _ c.requires;
       signed = λ value error is. integer_or_fault word text (sign_length text) _ c.requires
           is.magnitude error is.integer;
+      one_signed_fault = one_fault word text (sign_length text) _ c.requires;
     }
