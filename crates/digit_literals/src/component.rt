@@ -132,8 +132,8 @@ fn read_on(
 }
 
 /// Passes the bytes `0` of a component that lead from the cursor on, and answers how many there
-/// are. Each is counted if the component counts. The cursor is then at the next byte that the
-/// component keeps, or else at the end.
+/// are. Each is counted, also where `next` counts none; special has no count. The cursor is then at
+/// the next byte that the component keeps, or else at the end.
 #[inline(always)]
 #[tactic(auto, using(crate::proofs::PassedZeros::passing))]
 pub fn pass_zeros(bytes: &mut Bytes, component: Component) -> usize
