@@ -1,5 +1,5 @@
 -- A float in words of its text: the digits of integer and fraction, the exponent, and their ends.
-use Rattle.std.specs.Prelude.{◌≡◌, ℕ, ◌+◌, ◌<◌, ◌≤◌, ◌^◌, true, if◌then◌else◌, List, [], ◌++◌, length, ℤ, pos, neg_ℤ, ◌+ℤ◌, ◌-ℤ◌}
+use Rattle.std.specs.Prelude.{◌≡◌, ⊤, ℕ, ◌+◌, ◌<◌, ◌≤◌, ◌^◌, true, if◌then◌else◌, List, [], ◌++◌, length, ℤ, pos, neg_ℤ, ◌+ℤ◌, ◌-ℤ◌}
 use Rattle.std.specs.Str.Parse.{digits_value}
 use Rattle.lexical_format.specs.Word.{exponent_radix}
 use Rattle.lexical_digits.specs.declared.skip.component.Component.{Component}
@@ -103,3 +103,13 @@ module _ (word : ℕ) (text : List ℕ) where
   abbrev pub IsFault : FloatError → Type 0
   IsFault (NoDigit at) = HasNoDigit at
   IsFault (NoExponent at) = HasNoExponent at
+
+-- ---- the words of the mantissa, and of the exponent, to be named in an attribute
+
+unfoldable pub mantissas : ⊤
+unfolding mantissa_digits mantissa_end places fraction_digits fraction_end
+mantissas = tt
+
+unfoldable pub exponents : ⊤
+unfolding written exponent_end exponent_digits
+exponents = tt

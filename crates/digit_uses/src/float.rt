@@ -118,7 +118,7 @@ struct Mantissa {
 
 /// Reads integer and fraction from the cursor on. Requires that no digit was counted.
 #[inline(always)]
-#[tactic(auto, unfolding(crate::specs::Float::mantissa_digits, crate::specs::Float::mantissa_end, crate::specs::Float::places, crate::specs::Float::fraction_digits, crate::specs::Float::fraction_end))]
+#[tactic(auto, unfolding(crate::specs::Float::mantissas))]
 fn read_mantissa(bytes: &mut Bytes) -> Mantissa
     requires integer { bytes.old.state.integer ≡ 0 }
     requires fraction { bytes.old.state.fraction ≡ 0 }
@@ -219,7 +219,7 @@ fn shift_of(dropped: usize, places: usize) -> i64
 /// the end of `i64` nearest to that. `None` if no digit follows the mark. Requires that no digit of
 /// it was counted.
 #[inline(always)]
-#[tactic(auto, using(crate::proofs::Floats::unchanged), unfolding(crate::specs::Float::written, crate::specs::Float::exponent_end, crate::specs::Float::exponent_digits))]
+#[tactic(auto, using(crate::proofs::Floats::unchanged), unfolding(crate::specs::Float::exponents))]
 fn read_exponent(bytes: &mut Bytes, mantissa: Mantissa) -> Option<i64>
     requires exponent { bytes.old.state.exponent ≡ 0 }
     requires dropped { mantissa.dropped < 2 ^ 63 }
