@@ -100,7 +100,8 @@ fn floats_are_taken_apart(rt: HostRuntime) {
             exponent: *exponent,
             end: *end,
         };
-        assert!(rt; read(&rt, text) == Ok(float), "{text:?}");
+        let answer = read(&rt, text);
+        assert!(rt; answer == Ok(float), "{text:?}: {answer:?}");
     }
 }
 
@@ -133,7 +134,8 @@ static FAULTS: [(&[u8], FloatError); 11] = [
 #[test]
 fn a_text_without_a_float_has_one_fault(rt: HostRuntime) {
     for (text, fault) in &FAULTS {
-        assert!(rt; read(&rt, text) == Err(*fault), "{text:?}");
+        let answer = read(&rt, text);
+        assert!(rt; answer == Err(*fault), "{text:?}: {answer:?}");
     }
 }
 
@@ -188,7 +190,8 @@ fn value(float: Float) -> f64 {
 fn floats_agree_with_std(rt: HostRuntime) {
     for text in &EXACT {
         let std: Option<f64> = text.parse::<f64>().ok();
-        let here: Option<f64> = read(&rt, text.as_bytes()).ok().map(value);
-        assert!(rt; std.is_some() && std == here, "{text}");
+        let answer = read(&rt, text.as_bytes());
+        let here: Option<f64> = answer.ok().map(value);
+        assert!(rt; std.is_some() && std == here, "{text}: {answer:?}");
     }
 }

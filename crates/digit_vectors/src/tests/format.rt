@@ -14,117 +14,89 @@ fn word_of(mantissa_radix: u8, separator: u8) -> u128 {
     (u128::from(mantissa_radix) << 104) | (u128::from(separator) << 64)
 }
 
+/// Separator, radixes of mantissa and exponent, flags, whether the special flag is among them, and
+/// whether the word is supported.
+type Fields = (u8, u32, u32, u128, bool, bool);
+
+/// Words and their fields. A zero exponent radix stands for the mantissa radix. A word of ones has
+/// every flag, and no bit beside them is one.
+static FIELDS: [(u128, Fields); 4] = [
+    (
+        (10 << 104) | (0x5f << 64) | (1 << 32),
+        (b'_', 10, 10, INTEGER_INTERNAL_DIGIT_SEPARATOR, false, true),
+    ),
+    (u128::MAX, (0xFF, 255, 255, 0x1FFF << 32, true, false)),
+    ((16 << 104) | (0x5f << 64), (b'_', 16, 16, 0, false, true)),
+    (
+        (10 << 120) | (16 << 104) | (0x5f << 64),
+        (b'_', 16, 10, 0, false, true),
+    ),
+];
+
+fn fields_of(word: u128) -> Fields {
+    let format = NumberFormat::new(word);
+    (
+        format.digit_separator(),
+        format.mantissa_radix(),
+        format.exponent_radix(),
+        format.digit_separator_flags(),
+        format.special_digit_separator(),
+        is_supported(word),
+    )
+}
+
 #[test]
 fn a_word_is_read_field_by_field(rt: HostRuntime) {
-    let word = (10 << 104) | (0x5f << 64) | (1 << 32);
-    let format = NumberFormat::new(word);
-    assert_eq!(rt; format, NumberFormat { word });
-    assert_eq!(rt; format.digit_separator(), b'_');
-    assert_eq!(rt; format.mantissa_radix(), 10);
-    assert_eq!(rt; format.exponent_radix(), 10);
-    assert_eq!(rt;
-        format.digit_separator_flags(),
-        INTEGER_INTERNAL_DIGIT_SEPARATOR
-    );
-    assert!(rt; !format.special_digit_separator());
-    assert!(rt; is_supported(word));
-}
-
-#[test]
-fn a_word_of_ones_has_every_flag_and_no_bit_beside_them(rt: HostRuntime) {
-    let format = NumberFormat::new(u128::MAX);
-    assert_eq!(rt; format.digit_separator(), 0xFF);
-    assert_eq!(rt; format.mantissa_radix(), 255);
-    assert_eq!(rt; format.exponent_radix(), 255);
-    assert_eq!(rt; format.digit_separator_flags(), 0x1FFF << 32);
-    assert!(rt; format.special_digit_separator());
-    assert!(rt; !is_supported(u128::MAX));
-}
-
-#[test]
-fn a_zero_exponent_radix_stands_for_the_mantissa_radix(rt: HostRuntime) {
-    let hexadecimal = word_of(16, b'_');
-    assert_eq!(rt; NumberFormat::new(hexadecimal).exponent_radix(), 16);
-    assert_eq!(rt;
-        NumberFormat::new(hexadecimal | (10 << 120)).exponent_radix(),
-        10
-    );
-    assert_eq!(rt;
-        NumberFormat::new(hexadecimal | (10 << 120)).mantissa_radix(),
-        16
-    );
+    for (word, fields) in &FIELDS {
+        let read = fields_of(*word);
+        assert!(rt; read == *fields, "{word}: {read:?}");
+    }
 }
 
 #[test]
 fn a_radix_has_to_be_2_to_36(rt: HostRuntime) {
-    for radix in 0..=u8::MAX {
-        let expected = !matches!(radix, 0 | 1 | 37..=255);
-        assert_eq!(rt;
-            is_supported(word_of(radix, b'_')),
-            expected,
-            "radix {radix}"
-        );
-    }
-}
-
-#[test]
-fn an_exponent_radix_has_to_be_2_to_36_too(rt: HostRuntime) {
     for radix in 1..=u8::MAX {
-        assert_eq!(rt;
-            is_supported(word_of(10, b'_') | (u128::from(radix) << 120)),
-            !matches!(radix, 1 | 37..=255),
-            "exponent radix {radix}"
-        );
+        let expected = !matches!(radix, 1 | 37..=255);
+        let mantissa = is_supported(word_of(radix, b'_'));
+        let exponent = is_supported(word_of(10, b'_') | (u128::from(radix) << 120));
+        let is = mantissa == expected && exponent == expected;
+        assert!(rt; is, "radix {radix}: {mantissa}, {exponent}");
     }
 }
 
-#[test]
-fn a_zero_exponent_radix_is_as_good_as_the_mantissa_radix(rt: HostRuntime) {
-    assert!(rt; is_supported(word_of(36, b'_')));
-    assert!(rt; !is_supported(word_of(37, b'_')));
-    assert!(rt; !is_supported(word_of(37, b'_') | (10 << 120)));
-}
-
-#[test]
-fn a_separator_may_be_a_digit_of_neither_radix(rt: HostRuntime) {
-    for (mantissa_radix, exponent_radix, separator, expected) in [
-        (10, 16, b'a', false),
-        (16, 10, b'a', false),
-        (16, 10, b'A', false),
-        (2, 10, b'9', false),
-        (10, 16, b'g', true),
-        (2, 8, b'9', true),
-        (16, 10, 0, true),
-    ] {
-        let word = word_of(mantissa_radix, separator) | (exponent_radix << 120);
-        assert_eq!(rt;
-            is_supported(word),
-            expected,
-            "{separator} beside {mantissa_radix} and {exponent_radix}"
-        );
-    }
-}
+/// Radixes of mantissa and exponent, a separator, and whether the word is supported, with flags or
+/// without. A separator may be a digit of neither radix. A zero exponent radix is as good as the
+/// mantissa radix.
+static SUPPORTED: [(u8, u8, u8, bool); 17] = [
+    (0, 0, b'_', false),
+    (36, 0, b'_', true),
+    (37, 0, b'_', false),
+    (37, 10, b'_', false),
+    (16, 0, b'a', false),
+    (10, 0, b'9', false),
+    (2, 0, b'9', true),
+    (10, 0, b'+', true),
+    (10, 0, 0xFF, true),
+    (10, 0, 0, true),
+    (10, 16, b'a', false),
+    (16, 10, b'a', false),
+    (16, 10, b'A', false),
+    (2, 10, b'9', false),
+    (10, 16, b'g', true),
+    (2, 8, b'9', true),
+    (16, 10, 0, true),
+];
 
 #[test]
 fn a_separator_may_be_no_digit(rt: HostRuntime) {
-    for (radix, separator, expected) in [
-        (16, b'a', false),
-        (10, b'9', false),
-        (2, b'9', true),
-        (10, b'+', true),
-        (10, 0xFF, true),
-        (10, 0, true),
-    ] {
-        let word = word_of(radix, separator);
-        assert_eq!(rt;
-            is_supported(word),
-            expected,
-            "{separator} in radix {radix}"
-        );
-        assert_eq!(rt;
-            is_supported(word | DIGIT_SEPARATOR_FLAG_MASK),
-            expected,
-            "with flags"
+    for (mantissa, exponent, separator, expected) in &SUPPORTED {
+        let word = word_of(*mantissa, *separator) | (u128::from(*exponent) << 120);
+        let plain = is_supported(word);
+        let flagged = is_supported(word | DIGIT_SEPARATOR_FLAG_MASK);
+        let is = plain == *expected && flagged == *expected;
+        assert!(rt;
+            is,
+            "{separator} in {mantissa} and {exponent}: {plain}, {flagged}"
         );
     }
 }
@@ -270,27 +242,36 @@ fn a_builder_puts_a_flag_in_its_place(rt: HostRuntime) {
 fn equal_values_have_equal_parts(rt: HostRuntime) {
     let (standard, json) = (NumberFormat::new(STANDARD), NumberFormat::new(words::JSON));
     assert!(rt; laws::same_format(standard, json));
+    assert!(rt; standard == NumberFormat { word: STANDARD });
     assert!(rt; !laws::same_format(standard, NumberFormat::new(words::HEXADECIMAL)));
     let (standard, flags, decimal) = laws::clones_are_same(standard, ALL_FLAGS, DECIMAL);
     assert!(rt; standard == json && flags == ALL_FLAGS && decimal == DECIMAL);
 }
 
+/// Words with names, and their bits: internal is 7 << 32, consecutive 7 << 41, trailing of integer
+/// and fraction 3 << 38, leading and trailing of the exponent 1 << 37 and 1 << 40.
+static NAMED: [(u128, u128); 4] = [
+    (
+        words::RUST_LITERAL,
+        (10 << 104) | (0x5f << 64) | (7 << 32) | (3 << 38) | (1 << 37) | (1 << 40) | (7 << 41),
+    ),
+    (
+        words::RUST_HEX_LITERAL,
+        (16 << 104) | (0x5f << 64) | (0x249 << 32),
+    ),
+    (
+        words::CXX14_HEX_LITERAL,
+        (10 << 120) | (16 << 104) | (0x27 << 64) | (7 << 32),
+    ),
+    (
+        words::JAVA_LITERAL,
+        (10 << 104) | (0x5f << 64) | (7 << 32) | (7 << 41),
+    ),
+];
+
 #[test]
 fn words_with_names_by_their_bits(rt: HostRuntime) {
-    // Internal is 7 << 32, consecutive 7 << 41, trailing of integer and fraction 3 << 38.
-    let exponent = (1 << 37) | (1 << 40);
-    let rust = (7 << 32) | (3 << 38) | exponent | (7 << 41);
-    assert_eq!(rt; words::RUST_LITERAL, (10 << 104) | (0x5f << 64) | rust);
-    assert_eq!(rt;
-        words::RUST_HEX_LITERAL,
-        (16 << 104) | (0x5f << 64) | (0x249 << 32)
-    );
-    assert_eq!(rt;
-        words::CXX14_HEX_LITERAL,
-        (10 << 120) | (16 << 104) | (0x27 << 64) | (7 << 32)
-    );
-    assert_eq!(rt;
-        words::JAVA_LITERAL,
-        (10 << 104) | (0x5f << 64) | (7 << 32) | (7 << 41)
-    );
+    for (word, bits) in &NAMED {
+        assert_eq!(rt; *word, *bits);
+    }
 }

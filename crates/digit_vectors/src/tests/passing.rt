@@ -30,16 +30,22 @@ static PASSED: [Passed; 9] = [
 ];
 
 /// The three of them after a call.
-fn is_left(bytes: &Bytes, cursor: usize, count: usize, looks: u64) -> bool {
-    bytes.cursor() == cursor && bytes.current_count_of(Integer) == count && bytes.looks() == looks
+fn left_of(bytes: &Bytes) -> (usize, usize, u64) {
+    (
+        bytes.cursor(),
+        bytes.current_count_of(Integer),
+        bytes.looks(),
+    )
 }
 
 #[test]
 fn digits_that_are_passed_are_counted_and_looked_at(rt: HostRuntime) {
     for &(flags, text, digits, cursor, count, looks) in &PASSED {
         let mut bytes = bytes_of(&rt, text, UNFLAGGED | flags);
-        assert!(rt; pass_digits(&mut bytes, Integer) == digits, "{text:?}");
-        assert!(rt; is_left(&bytes, cursor, count, looks), "{text:?}");
+        let passed = pass_digits(&mut bytes, Integer);
+        let left = left_of(&bytes);
+        let is = passed == digits && left == (cursor, count, looks);
+        assert!(rt; is, "{text:?}: {passed}, {left:?}");
     }
 }
 
@@ -64,8 +70,10 @@ static ZEROS: [Passed; 7] = [
 fn zeros_that_are_passed_are_counted_and_looked_at(rt: HostRuntime) {
     for &(flags, text, zeros, cursor, count, looks) in &ZEROS {
         let mut bytes = bytes_of(&rt, text, UNFLAGGED | flags);
-        assert!(rt; pass_zeros(&mut bytes, Integer) == zeros, "{text:?}");
-        assert!(rt; is_left(&bytes, cursor, count, looks), "{text:?}");
+        let passed = pass_zeros(&mut bytes, Integer);
+        let left = left_of(&bytes);
+        let is = passed == zeros && left == (cursor, count, looks);
+        assert!(rt; is, "{text:?}: {passed}, {left:?}");
     }
 }
 
@@ -116,14 +124,10 @@ fn assert_read(
     cursor: usize,
 ) {
     let mut bytes = bytes_of(rt, text, (radix << 104) | (0x5f << 64) | INTERNAL);
-    assert!(rt;
-        read_digits_up_to(&mut bytes, Integer, 0, most) == read,
-        "{text:?}"
-    );
-    assert!(rt;
-        bytes.cursor() == cursor && bytes.looks() == 2 * cursor as u64,
-        "{text:?}"
-    );
+    let answer = read_digits_up_to(&mut bytes, Integer, 0, most);
+    let (at, looks) = (bytes.cursor(), bytes.looks());
+    let is = answer == read && at == cursor && looks == 2 * cursor as u64;
+    assert!(rt; is, "{text:?}: {answer:?}, {at}, {looks}");
 }
 
 #[test]
@@ -211,12 +215,11 @@ fn the_first_digits_are_read_and_the_others_passed(rt: HostRuntime) {
             count,
             dropped,
         };
-        assert!(rt;
-            read_first_digits(&mut bytes, Integer, before, most) == first,
-            "{text:?}"
-        );
+        let answer = read_first_digits(&mut bytes, Integer, before, most);
+        let (at, counted) = (bytes.cursor(), bytes.current_count_of(Integer));
         let end = if count == 0 { 0 } else { text.len() };
-        assert!(rt; bytes.cursor() == end && bytes.current_count_of(Integer) == count);
+        let is = answer == first && at == end && counted == count;
+        assert!(rt; is, "{text:?}: {answer:?}, {at}, {counted}");
     }
 }
 
@@ -259,8 +262,10 @@ fn special_counts_no_digit(rt: HostRuntime) {
     let word = UNFLAGGED | INTERNAL | SPECIAL_DIGIT_SEPARATOR;
     for text in [b"1_2".as_slice(), b"_1__2_".as_slice()] {
         let mut bytes = bytes_of(&rt, text, word);
-        assert!(rt; pass_digits(&mut bytes, Special) == 2, "{text:?}");
-        assert!(rt; bytes.cursor() == text.len() && bytes.current_count_of(Integer) == 0);
+        let passed = pass_digits(&mut bytes, Special);
+        let (at, counted) = (bytes.cursor(), bytes.current_count_of(Integer));
+        let is = passed == 2 && at == text.len() && counted == 0;
+        assert!(rt; is, "{text:?}: {passed}, {at}, {counted}");
     }
 }
 
@@ -269,9 +274,10 @@ fn a_count_stops_at_the_greatest_number(rt: HostRuntime) {
     for (flags, text) in [(INTERNAL, b"12".as_slice()), (INTERNAL, b"_12".as_slice())] {
         let mut bytes = bytes_of(&rt, text, UNFLAGGED | flags);
         bytes.increment_count_of(Integer, usize::MAX);
-        assert!(rt; pass_digits(&mut bytes, Integer) == 2, "{text:?}");
-        assert!(rt; bytes.cursor() == text.len());
-        assert!(rt; bytes.current_count_of(Integer) == usize::MAX);
+        let passed = pass_digits(&mut bytes, Integer);
+        let (at, counted) = (bytes.cursor(), bytes.current_count_of(Integer));
+        let is = passed == 2 && at == text.len() && counted == usize::MAX;
+        assert!(rt; is, "{text:?}: {passed}, {at}, {counted}");
     }
 }
 
@@ -305,10 +311,8 @@ fn assert_from(
     read: Result<(u64, usize), LiteralError>,
 ) {
     assert!(rt; is_supported(UNFLAGGED | INTERNAL) && start <= text.len());
-    assert!(rt;
-        read_integer_from(text, UNFLAGGED | INTERNAL, start, most) == read,
-        "{text:?}"
-    );
+    let answer = read_integer_from(text, UNFLAGGED | INTERNAL, start, most);
+    assert!(rt; answer == read, "{text:?}: {answer:?}");
 }
 
 #[test]

@@ -1,5 +1,6 @@
 //! Each use once. The expected values are worked out by hand.
 
+use super::{bytes_of, move_to};
 use digit_literals::LiteralError;
 use digit_script::{Answer, Call, Op, Part};
 use digit_uses::back::try_exponent;
@@ -14,13 +15,14 @@ use digit_uses::loops::{Parser, component_end, count_yielded, take_through, yiel
 use digit_uses::rest::read_or_where;
 use digit_uses::validate::{is_integer, validate};
 use lexical_digits::iterator::Iter;
-use lexical_digits::skip::{Bytes, Component};
+use lexical_digits::skip::Component;
 use lexical_format::words::{JSON, RUST_LITERAL};
 use lexical_format::{
     EXPONENT_INTERNAL_DIGIT_SEPARATOR, FRACTION_TRAILING_DIGIT_SEPARATOR,
     INTEGER_INTERNAL_DIGIT_SEPARATOR, is_supported,
 };
-use std::test::Fail;
+use std::alloc::Global;
+use std::process::Abort;
 
 /// Radix 10, with `_` between digits of integer and exponent, and after the fraction.
 const WORD: u128 = (10 << 104)
@@ -29,115 +31,206 @@ const WORD: u128 = (10 << 104)
     | FRACTION_TRAILING_DIGIT_SEPARATOR
     | EXPONENT_INTERNAL_DIGIT_SEPARATOR;
 
+/// A text, and where its digits end.
+static ENDS: [(&[u8], usize); 3] = [(b"123abc", 3), (b"1_000", 1), (b"", 0)];
+
 #[test]
 fn the_first_caller(rt: HostRuntime) {
-    assert_eq!(rt; digits_end(b"123abc"), 3);
-    assert_eq!(rt; digits_end(b"1_000"), 1);
-    assert_eq!(rt; digits_end(b""), 0);
+    for (text, end) in &ENDS {
+        let answer = digits_end(text);
+        assert!(rt; answer == *end, "{text:?}: {answer}");
+    }
 }
 
-fn is_literal(text: &[u8], value: u64, end: usize) -> bool {
-    read_literal(text) == Ok(Literal { value, end })
-}
+/// A text, with the value and the end of its literal.
+static LITERALS: [(&[u8], u64, usize); 7] = [
+    (b"0", 0, 1),
+    (b"1_000_u8", 1000, 6),
+    (b"0xFF_ff_u32", 65535, 8),
+    (b"0b____1010", 10, 10),
+    (b"0o17z", 15, 4),
+    (b"0b12", 1, 3),
+    (b"18446744073709551615", u64::MAX, 20),
+];
 
 #[test]
 fn literals_of_rust(rt: HostRuntime) {
-    assert!(rt; is_literal(b"0", 0, 1));
-    assert!(rt; is_literal(b"1_000_u8", 1000, 6));
-    assert!(rt; is_literal(b"0xFF_ff_u32", 65535, 8));
-    assert!(rt; is_literal(b"0b____1010", 10, 10));
-    assert!(rt; is_literal(b"0o17z", 15, 4));
-    assert!(rt; is_literal(b"0b12", 1, 3));
-    assert!(rt; is_literal(b"18446744073709551615", u64::MAX, 20));
-    assert_eq!(rt; read_literal(b"_1"), Err(LiteralError::Empty(0)));
-    assert_eq!(rt; read_literal(b"0x_g"), Err(LiteralError::Empty(3)));
-    let too_large = read_literal(b"1844674407370955161_6");
-    assert_eq!(rt; too_large, Err(LiteralError::Overflow(20)));
+    for (text, value, end) in &LITERALS {
+        let answer = read_literal(text);
+        let literal = Literal {
+            value: *value,
+            end: *end,
+        };
+        assert!(rt; answer == Ok(literal), "{text:?}: {answer:?}");
+    }
 }
+
+/// A text, and why it begins with no literal.
+static NO_LITERALS: [(&[u8], LiteralError); 3] = [
+    (b"_1", LiteralError::Empty(0)),
+    (b"0x_g", LiteralError::Empty(3)),
+    (b"1844674407370955161_6", LiteralError::Overflow(20)),
+];
+
+#[test]
+fn faults_of_literals_of_rust(rt: HostRuntime) {
+    for (text, fault) in &NO_LITERALS {
+        let answer = read_literal(text);
+        assert!(rt; answer == Err(*fault), "{text:?}: {answer:?}");
+    }
+}
+
+/// A text: the zeros before its integer's other digits, how many of those there are, and the end.
+static FIGURES: [(&[u8], usize, usize, usize); 3] = [
+    (b"0_0012_03x", 3, 4, 9),
+    (b"00", 2, 0, 2),
+    (b"_01", 0, 0, 0),
+];
 
 #[test]
 fn figures_without_the_zeros_before_them(rt: HostRuntime) {
     assert!(rt; is_supported(WORD));
-    let figures = |zeros, significant, end| Figures {
-        zeros,
-        significant,
-        end,
-    };
-    assert_eq!(rt; read_figures(b"0_0012_03x", WORD), figures(3, 4, 9));
-    assert_eq!(rt; read_figures(b"00", WORD), figures(2, 0, 2));
-    assert_eq!(rt; read_figures(b"_01", WORD), figures(0, 0, 0));
+    for (text, zeros, significant, end) in &FIGURES {
+        let answer = read_figures(text, WORD);
+        let figures = Figures {
+            zeros: *zeros,
+            significant: *significant,
+            end: *end,
+        };
+        assert!(rt; answer == figures, "{text:?}: {answer:?}");
+    }
 }
 
 #[test]
-fn a_text_without_its_separators(rt: HostRuntime) -> Result<(), Fail> {
+fn a_text_without_its_separators(rt: HostRuntime) {
     assert!(rt; is_supported(WORD));
-    let bytes = without_separators(rt.alloc(), b"1_000_", WORD).map_err(|_| "no memory")?;
+    let bytes = without_separators(rt.alloc(), b"1_000_", WORD).expect(&rt, "memory");
     assert_eq!(rt; bytes.as_slice(), b"1000_".as_slice());
+}
+
+#[test]
+fn the_length_of_a_text_without_its_separators(rt: HostRuntime) {
+    assert!(rt; is_supported(WORD));
     assert_eq!(rt; length_without_separators(b"1_000_", WORD), 5);
-    Ok(())
+}
+
+/// A line has these numbers, of which the last ends there, and then this fault.
+fn assert_numbers(
+    rt: &impl Abort,
+    alloc: Global,
+    text: &[u8],
+    tokens: &[Token],
+    (end, fault): (usize, Option<Fault>),
+) {
+    assert!(rt; is_supported(WORD));
+    let read = numbers(alloc, text, WORD).expect(rt, "memory");
+    let is = read.tokens.as_slice() == tokens && read.end == end && read.fault == fault;
+    assert!(rt;
+        is,
+        "{text:?}: {:?}, {}, {:?}",
+        read.tokens,
+        read.end,
+        read.fault
+    );
 }
 
 #[test]
-fn a_line_of_numbers(rt: HostRuntime) -> Result<(), Fail> {
-    assert!(rt; is_supported(WORD));
-    let token = |value, from, to| Token { value, from, to };
-    let read = numbers(rt.alloc(), b" 1_0,, 7 ", WORD).map_err(|_| "no memory")?;
-    let tokens = [token(10, 1, 4), token(7, 7, 8)];
-    assert_eq!(rt; read.tokens.as_slice(), tokens.as_slice());
-    assert_eq!(rt; read.end, 8);
-    assert_eq!(rt; read.fault, None);
-    Ok(())
+fn a_line_of_numbers(rt: HostRuntime) {
+    let tokens = [
+        Token {
+            value: 10,
+            from: 1,
+            to: 4,
+        },
+        Token {
+            value: 7,
+            from: 7,
+            to: 8,
+        },
+    ];
+    assert_numbers(&rt, rt.alloc(), b" 1_0,, 7 ", &tokens, (8, None));
+}
+
+/// The second number has no digit before its `_`.
+#[test]
+fn a_line_of_numbers_ends_at_a_fault(rt: HostRuntime) {
+    let fault = Fault::NoNumber { start: 2, at: 2 };
+    let one = Token {
+        value: 1,
+        from: 0,
+        to: 1,
+    };
+    assert_numbers(&rt, rt.alloc(), b"1,_5", &[one], (1, Some(fault)));
 }
 
 #[test]
-fn a_line_of_numbers_ends_at_a_fault(rt: HostRuntime) -> Result<(), Fail> {
-    assert!(rt; is_supported(WORD));
-    // the second number has no digit before its `_`
-    let read = numbers(rt.alloc(), b"1,_5", WORD).map_err(|_| "no memory")?;
-    assert_eq!(rt; read.end, 1);
-    assert_eq!(rt; read.fault, Some(Fault::NoNumber { start: 2, at: 2 }));
-    let read = numbers(rt.alloc(), b"12y", WORD).map_err(|_| "no memory")?;
-    assert_eq!(rt; read.fault, Some(Fault::CutOff { start: 0, at: 2 }));
-    Ok(())
+fn a_line_of_numbers_may_be_cut_off(rt: HostRuntime) {
+    let fault = Fault::CutOff { start: 0, at: 2 };
+    assert_numbers(&rt, rt.alloc(), b"12y", &[], (0, Some(fault)));
 }
+
+/// A text, the number of digits that is asked for, and the value of the groups.
+static GROUPS: [(&[u8], usize, Result<u64, GroupsError>); 5] = [
+    (b"aa:bb:cc", 6, Ok(0xaabbcc)),
+    (b"FFFFFFFFFFFFFFFF", 16, Ok(u64::MAX)),
+    (b"aa:bb", 6, Err(GroupsError::Count(4))),
+    (b"aa::bb", 4, Err(GroupsError::Byte(2))),
+    (b"aa:bg", 4, Err(GroupsError::Byte(4))),
+];
 
 #[test]
 fn groups_of_hexadecimal_digits(rt: HostRuntime) {
-    assert_eq!(rt; read_groups(b"aa:bb:cc", 6), Ok(0xaabbcc));
-    assert_eq!(rt; read_groups(b"FFFFFFFFFFFFFFFF", 16), Ok(u64::MAX));
-    assert_eq!(rt; read_groups(b"aa:bb", 6), Err(GroupsError::Count(4)));
-    assert_eq!(rt; read_groups(b"aa::bb", 4), Err(GroupsError::Byte(2)));
-    assert_eq!(rt; read_groups(b"aa:bg", 4), Err(GroupsError::Byte(4)));
+    for (text, count, value) in &GROUPS {
+        assert!(rt; 1 <= *count && *count <= 16);
+        let answer = read_groups(text, *count);
+        assert!(rt; answer == *value, "{text:?}: {answer:?}");
+    }
 }
+
+/// A word, a text and a cursor there; the value of the exponent that is read, and the cursor left.
+static EXPONENTS: [(u128, &[u8], usize, Option<u64>, usize); 2] = [
+    (JSON, b"12em", 2, None, 2),
+    (RUST_LITERAL, b"E1_0m", 0, Some(10), 4),
+];
 
 #[test]
 fn an_exponent_without_digits_is_not_passed(rt: HostRuntime) {
-    assert!(rt; is_supported(JSON));
-    let mut bytes = Bytes::new(b"12em", JSON);
-    bytes.set_cursor(2);
-    assert_eq!(rt; try_exponent(&mut bytes), Ok(None));
-    assert_eq!(rt; bytes.cursor(), 2);
-    assert!(rt; is_supported(RUST_LITERAL));
-    let mut bytes = Bytes::new(b"E1_0m", RUST_LITERAL);
-    assert_eq!(rt; try_exponent(&mut bytes), Ok(Some(10)));
-    assert_eq!(rt; bytes.cursor(), 4);
+    for (word, text, from, value, to) in &EXPONENTS {
+        let mut bytes = bytes_of(&rt, text, *word);
+        move_to(&rt, &mut bytes, *from);
+        let answer = try_exponent(&mut bytes);
+        let cursor = bytes.cursor();
+        let is = answer == Ok(*value) && cursor == *to;
+        assert!(rt; is, "{text:?}: {answer:?}, {cursor}");
+    }
+}
+
+/// Two reads of digits, and what they answer on `1_2`.
+static TWO_READS: [Call; 2] = [
+    Call {
+        part: Part::Integer,
+        op: Op::Next,
+    },
+    Call {
+        part: Part::Integer,
+        op: Op::Next,
+    },
+];
+
+static ONE_TWO: [Answer; 2] = [Answer::Byte(Some(b'1')), Answer::Byte(Some(b'2'))];
+
+#[test]
+fn calls_of_a_list(rt: HostRuntime) {
+    let mut bytes = bytes_of(&rt, b"1_2", WORD);
+    let made = make_calls(rt.alloc(), &mut bytes, &TWO_READS).expect(&rt, "memory");
+    assert_eq!(rt; made.as_slice(), ONE_TWO.as_slice());
 }
 
 #[test]
-fn calls_and_their_looks(rt: HostRuntime) -> Result<(), Fail> {
-    assert!(rt; is_supported(WORD));
-    let next = Call {
-        part: Part::Integer,
-        op: Op::Next,
-    };
-    let mut bytes = Bytes::new(b"1_2", WORD);
-    let made = make_calls(rt.alloc(), &mut bytes, &[next, next]).map_err(|_| "no memory")?;
-    let answers = [Answer::Byte(Some(b'1')), Answer::Byte(Some(b'2'))];
-    assert_eq!(rt; made.as_slice(), answers.as_slice());
-    let mut bytes = Bytes::new(b"1_2.5e3x", WORD);
+fn a_number_is_passed(rt: HostRuntime) {
+    let mut bytes = bytes_of(&rt, b"1_2.5e3x", WORD);
     pass_number(&mut bytes);
     assert_eq!(rt; bytes.cursor(), 7);
-    Ok(())
 }
 
 #[test]
@@ -146,18 +239,24 @@ fn loops_of_a_callers_own(rt: HostRuntime) {
     assert_eq!(rt; count_yielded(b"1_2x3_", WORD, Component::Integer), 3);
     assert!(rt; !yields(b"1_2", WORD, b'_'));
     assert!(rt; yields(b"1__2", WORD, b'_'));
-    assert_eq!(rt;
-        component_end(b"1_000.5", WORD, Component::Integer),
-        (5, true)
-    );
-    assert_eq!(rt; component_end(b"12_", WORD, Component::Integer), (2, false));
+}
+
+/// A text, where its integer ends, and whether a point is there.
+static INTEGER_ENDS: [(&[u8], usize, bool); 2] = [(b"1_000.5", 5, true), (b"12_", 2, false)];
+
+#[test]
+fn the_end_of_an_integer(rt: HostRuntime) {
+    assert!(rt; is_supported(WORD));
+    for (text, end, is_point) in &INTEGER_ENDS {
+        let answer = component_end(text, WORD, Component::Integer);
+        assert!(rt; answer == (*end, *is_point), "{text:?}: {answer:?}");
+    }
 }
 
 #[test]
 fn a_parser_of_a_callers_own(rt: HostRuntime) {
-    assert!(rt; is_supported(WORD));
     let mut parser = Parser {
-        bytes: Bytes::new(b"12x3_", WORD),
+        bytes: bytes_of(&rt, b"12x3_", WORD),
         radix: 10,
     };
     assert_eq!(rt; parser.sum_digits(), 6);
@@ -166,29 +265,48 @@ fn a_parser_of_a_callers_own(rt: HostRuntime) {
 
 #[test]
 fn a_wanted_byte_is_read_too(rt: HostRuntime) {
-    assert!(rt; is_supported(WORD));
-    let mut bytes = Bytes::new(b"12.5", WORD);
+    let mut bytes = bytes_of(&rt, b"12.5", WORD);
     assert!(rt; take_through(&mut bytes, b'.'));
     assert_eq!(rt; bytes.cursor(), 3);
     assert!(rt; !take_through(&mut bytes, b'.'));
 }
 
+/// A text, and what the rest of it begins with.
+static RESTS: [(&[u8], Result<(u64, usize), LiteralError>); 2] = [
+    (b"x", Err(LiteralError::Empty(0))),
+    (b"10 ", Ok((10, 2))),
+];
+
 #[test]
 fn numbers_in_the_rest_of_a_text(rt: HostRuntime) {
     assert!(rt; is_supported(JSON));
-    assert_eq!(rt; read_or_where(b"x", JSON), Err(LiteralError::Empty(0)));
-    assert_eq!(rt; read_or_where(b"10 ", JSON), Ok((10, 2)));
+    for (text, read) in &RESTS {
+        let answer = read_or_where(text, JSON);
+        assert!(rt; answer == *read, "{text:?}: {answer:?}");
+    }
 }
+
+/// A text, and whether it is one integer.
+static INTEGERS: [(&[u8], bool); 6] = [
+    (b"1_000", true),
+    (b"", true),
+    (b"1__0", false),
+    (b"_1", false),
+    (b"1_", false),
+    (b"1x", false),
+];
 
 #[test]
 fn a_text_is_one_integer(rt: HostRuntime) {
     assert!(rt; is_supported(WORD));
-    assert!(rt; is_integer(b"1_000", WORD));
-    assert!(rt; is_integer(b"", WORD));
-    assert!(rt; !is_integer(b"1__0", WORD));
-    assert!(rt; !is_integer(b"_1", WORD));
-    assert!(rt; !is_integer(b"1_", WORD));
-    assert!(rt; !is_integer(b"1x", WORD));
+    for (text, is) in &INTEGERS {
+        assert!(rt; is_integer(text, WORD) == *is, "{text:?}");
+    }
+}
+
+#[test]
+fn a_text_that_is_no_integer_has_a_fault(rt: HostRuntime) {
+    assert!(rt; is_supported(WORD));
     assert_eq!(rt; validate(b"1_0", WORD), Ok(()));
     assert_eq!(rt; validate(b"12__3", WORD), Err(2));
 }
