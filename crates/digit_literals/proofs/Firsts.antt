@@ -161,8 +161,9 @@ module _ (k : Component) (s : State) (valid : IsState s) (most before n : ℕ) (
             let whole : (others ++ es) ++ rest ≡ others ++ digits =
             append_assoc others es rest ∙ ap (λ ds. others ++ ds) (take-append-drop n digits) in
             let next_is = rw (← is) at (one_more radix before n digits) in
-            rw (whole, dropped) at (then_passed radix m read.value more one some (others ++ es) on rest
-            parts.1 (λ l. omega (arith, next (omega arith), next_is)))
+            let passed = then_passed radix m read.value more one some (others ++ es) on rest parts.1
+            (λ l. omega (arith, next (omega arith), next_is)) in
+            rw (whole, dropped) at passed
 
 -- how many digits there are at most, and where they are
 pub ruleset bounds = (by_state, within_stop, ints)
