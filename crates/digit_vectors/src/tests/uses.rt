@@ -128,9 +128,7 @@ fn assert_numbers(
     assert!(rt;
         is,
         "{text:?}: {:?}, {}, {:?}",
-        read.tokens,
-        read.end,
-        read.fault
+        read.tokens, read.end, read.fault
     );
 }
 
