@@ -68,8 +68,8 @@ struct Drained {
     cursor: usize,
 }
 
-/// Drains a component by `next_of`, and adds the bytes that it yields to the output. The contract of
-/// its iterator's `next` is the same.
+/// Drains a component by `next_of`, and adds the bytes that it yields to the output. The contract
+/// of its iterator's `next` is the same.
 fn push_component<A: Allocator>(
     output: &mut Vec<u8, A>,
     bytes: &mut Bytes<'_>,

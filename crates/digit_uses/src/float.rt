@@ -17,7 +17,7 @@ ghost use Rattle.lexical_digits.specs.declared.skip.component.Component.TheVaria
 ghost use Rattle.digit_literals.specs.First.{ReadsFirst};
 ghost use Rattle.digit_literals.specs.Significant.{significant, IsOfFirstDigits};
 ghost use Rattle.digit_uses.specs.Bytes.{one_of, is_minus, stands};
-ghost use Rattle.digit_uses.specs.Float.{past_sign, digits_from, digits_end, exponent_end, signed_at, written, HasExponent, fraction_digits, fraction_end, mantissa_digits, places, mantissa_end, float_digits, exponent_at, scaled, LacksExponent, IsFault};
+ghost use Rattle.digit_uses.specs.Float.{past_sign, digits_from, digits_end, exponent_end, signed_at, written, HasExponent, mantissa_digits, places, mantissa_end, float_digits, exponent_at, scaled, LacksExponent, IsFault};
 
 use digit_literals::{FirstDigits, read_first_digits};
 use lexical_digits::iterator::{Iter, IterBodies};
