@@ -12,6 +12,7 @@ pub mod groups;
 pub mod lexer;
 pub mod literal;
 pub mod loops;
+pub mod onward;
 pub mod readme;
 pub mod rest;
 pub mod validate;
