@@ -12,6 +12,7 @@ use digit_uses::groups::{GroupsError, read_groups};
 use digit_uses::lexer::{Fault, Token, numbers};
 use digit_uses::literal::{Literal, read_literal};
 use digit_uses::loops::{Parser, component_end, count_yielded, take_through, yields};
+use digit_uses::onward::{read_mantissa, read_past_zeros, read_range};
 use digit_uses::rest::read_or_where;
 use digit_uses::validate::{is_integer, validate};
 use lexical_digits::iterator::Iter;
@@ -99,6 +100,19 @@ fn figures_without_the_zeros_before_them(rt: HostRuntime) {
         };
         assert!(rt; answer == figures, "{text:?}: {answer:?}");
     }
+}
+
+#[test]
+fn calls_that_go_on_from_another(rt: HostRuntime) {
+    assert!(rt; is_supported(WORD));
+    let mut bytes = Bytes::new(b"1_2.34x", WORD);
+    assert_eq!(rt; read_mantissa(&mut bytes), Ok(1234));
+    assert_eq!(rt; bytes.cursor(), 6);
+    let mut bytes = Bytes::new(b"0_012_3x", WORD);
+    assert_eq!(rt; read_past_zeros(&mut bytes), Ok((2, 123)));
+    assert_eq!(rt; bytes.cursor(), 7);
+    assert_eq!(rt; read_range(b"1_0-20x", WORD), Ok(((10, 3), (20, 6))));
+    assert_eq!(rt; read_range(b"1_0", WORD), Err(LiteralError::Empty(3)));
 }
 
 #[test]
