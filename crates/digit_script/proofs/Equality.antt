@@ -1,60 +1,49 @@
--- Two ops are equal only if they are the same, by the variant of the first. Three lemmas share the
--- variants, since one of them all is beyond the checker's limit.
-use Rattle.std.proofs.Common.{◌≡◌, Bool, true, false, arith, refl}
-use Rattle.std.proofs.lemmas.Bool.Decides.{nat_tests}
+-- Two ops are equal only if they are the same. The derived `==` compares what two values of one
+-- variant hold, so it is equality if each variant's comparison is.
+use Rattle.std.proofs.Common.{◌≡◌, Bool, true, false, ◌&&◌, ◌==◌, ℕ, List, [], ◌∷◌, refl, ap}
+use Rattle.std.proofs.Math.Bool.{beq}
+use Rattle.std.proofs.lemmas.Bool.Decides.{Decides-eqb}
+use Rattle.std.specs.Cmp.{booleans_Decides, first_so, second_so}
+use mathlib.Core.Logic.{inl, inr}
+use denote.Struct.Field.{Field}
+use denote.Struct.Values.{Values}
+use denote.Enum.Declared.{Choice, values_one}
+use denote.Enum.Compared.{Each, by}
 use Rattle.digit_script.specs.declared.Op.{Op}
-use Rattle.digit_script.specs.declared.Op.TheVariants.{AsSlice, GetBuffer, BufferLength, Cursor, CurrentCount, IsBufferEmpty, IsContiguous, First, FirstIsCased, FirstIsUncased, FirstIs, PeekU32, PeekU64, SetCursor, SkipZeros, IsSign, IsDigitSeparator, TakeN, StepBy, Step, IsConsumed, IncrementCount, Peek, TryRead, Next, PeekIsCased, PeekIsUncased, PeekIs, ReadIfEqual, ReadIfNever, ReadIfValueCased, ReadIfValueUncased, ReadIfValue, IsDigit}
+use Rattle.digit_script.specs.contracts.Op.{enum}
 use Rattle.digit_script.specs.contracts.OpPartialEq.TheImpl as derived
-use Rattle.digit_script.specs.Script.{asks, call_of, goes_by_part}
 
-asking : (a b : Op) → asks (call_of a) ≡ true → derived.ghosts.eq a b ≡ true → a ≡ b
-asking AsSlice b h e = grind (arith, nat_tests)
-asking GetBuffer b h e = grind (arith, nat_tests)
-asking BufferLength b h e = grind (arith, nat_tests)
-asking Cursor b h e = grind (arith, nat_tests)
-asking CurrentCount b h e = grind (arith, nat_tests)
-asking IsBufferEmpty b h e = grind (arith, nat_tests)
-asking IsContiguous b h e = grind (arith, nat_tests)
-asking First b h e = grind (arith, nat_tests)
-asking (FirstIsCased v) b h e = grind (arith, nat_tests)
-asking (FirstIsUncased v) b h e = grind (arith, nat_tests)
-asking (FirstIs v c) b h e = grind (arith, nat_tests)
-asking PeekU32 b h e = grind (arith, nat_tests)
-asking PeekU64 b h e = grind (arith, nat_tests)
-asking a b h e = absurd cc
+-- ---- of any enum
 
-by_part : (a b : Op) → goes_by_part (call_of a) ≡ true → derived.ghosts.eq a b ≡ true → a ≡ b
-by_part (SetCursor n) b h e = grind (arith, nat_tests)
-by_part SkipZeros b h e = grind (arith, nat_tests)
-by_part (IsSign v) b h e = grind (arith, nat_tests)
-by_part (IsDigitSeparator v) b h e = grind (arith, nat_tests)
-by_part (TakeN n) b h e = grind (arith, nat_tests)
-by_part a b h e = absurd cc
+-- each variant's comparison is equality
+abbrev AreEqualities : (Fss : List (List Field)) → Each Bool Fss → Type 0
+AreEqualities [] es = Unit {0}
+AreEqualities (Fs ∷ Fss) es = ((x y : Values Fs) → es.0 x y ≡ true → x ≡ y) × AreEqualities Fss es.1
 
-by_traits : (a b : Op) → asks (call_of a) ≡ false → goes_by_part (call_of a) ≡ false
-    → derived.ghosts.eq a b ≡ true → a ≡ b
-by_traits (StepBy n) b h k e = grind (arith, nat_tests)
-by_traits Step b h k e = grind (arith, nat_tests)
-by_traits IsConsumed b h k e = grind (arith, nat_tests)
-by_traits IncrementCount b h k e = grind (arith, nat_tests)
-by_traits Peek b h k e = grind (arith, nat_tests)
-by_traits TryRead b h k e = grind (arith, nat_tests)
-by_traits Next b h k e = grind (arith, nat_tests)
-by_traits (PeekIsCased v) b h k e = grind (arith, nat_tests)
-by_traits (PeekIsUncased v) b h k e = grind (arith, nat_tests)
-by_traits (PeekIs v c) b h k e = grind (arith, nat_tests)
-by_traits (ReadIfEqual v) b h k e = grind (arith, nat_tests)
-by_traits ReadIfNever b h k e = grind (arith, nat_tests)
-by_traits (ReadIfValueCased v) b h k e = grind (arith, nat_tests)
-by_traits (ReadIfValueUncased v) b h k e = grind (arith, nat_tests)
-by_traits (ReadIfValue v c) b h k e = grind (arith, nat_tests)
-by_traits (IsDigit v) b h k e = grind (arith, nat_tests)
-by_traits a b h k e = absurd cc
+same_choice : (Fss : List (List Field)) (es : Each Bool Fss) → AreEqualities Fss es
+    → (c d : Choice Fss) → by false false Fss es c d ≡ true → c ≡ d
+same_choice [] es all c d e = absurd c
+same_choice (Fs ∷ Fss) es all (inl x) (inl y) e = ap inl (all.0 x y e)
+same_choice (Fs ∷ Fss) es all (inl x) (inr d) e = absurd cc
+same_choice (Fs ∷ Fss) es all (inr c) (inl y) e = absurd cc
+same_choice (Fs ∷ Fss) es all (inr c) (inr d) e = ap inr (same_choice Fss es.1 all.1 c d e)
+
+-- ---- what a variant holds is nothing, a number, or a number and a flag
+
+nothing : (x y : Unit {0}) → true ≡ true → x ≡ y
+nothing x y e = refl
+
+number : (x y : ℕ × Unit {0}) → (x.0 == y.0) ≡ true → x ≡ y
+number x y e = ap (λ n. (n, tt)) ((Decides-eqb x.0 y.0).0 e)
+
+number_and_flag : (x y : ℕ × (Bool × Unit {0})) → ((x.0 == y.0) && beq x.1.0 y.1.0) ≡ true
+    → x ≡ y
+number_and_flag x y e =
+    let n = (Decides-eqb x.0 y.0).0 (first_so (x.0 == y.0) (beq x.1.0 y.1.0) e) in
+    let f = (booleans_Decides x.1.0 y.1.0).0 (second_so (x.0 == y.0) (beq x.1.0 y.1.0) e) in
+    λ i. (n i, (f i, tt))
 
 pub equal_is_same : (a b : Op) → derived.ghosts.eq a b ≡ true → a ≡ b
-equal_is_same a b e = here (asks (call_of a)) (goes_by_part (call_of a)) refl refl
-  where
-    here : (x y : Bool) → asks (call_of a) ≡ x → goes_by_part (call_of a) ≡ y → a ≡ b
-    here true y h k = asking a b h e
-    here false true h k = by_part a b k e
-    here false false h k = by_traits a b h k e
+equal_is_same a b e =
+    values_one enum a b (same_choice enum.parts _ (search (nothing, number, number_and_flag))
+    (enum.as_values a) (enum.as_values b) e)
