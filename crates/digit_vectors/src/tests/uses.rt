@@ -16,7 +16,7 @@ use digit_uses::onward::{read_mantissa, read_past_zeros, read_range};
 use digit_uses::rest::read_or_where;
 use digit_uses::validate::{is_integer, validate};
 use lexical_digits::iterator::Iter;
-use lexical_digits::skip::Component;
+use lexical_digits::skip::{Bytes, Component};
 use lexical_format::words::{JSON, RUST_LITERAL};
 use lexical_format::{
     EXPONENT_INTERNAL_DIGIT_SEPARATOR, FRACTION_TRAILING_DIGIT_SEPARATOR,
