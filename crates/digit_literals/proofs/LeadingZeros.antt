@@ -114,7 +114,7 @@ module _ (rule : Rule) (text : List ℕ) where
           past = λ own. so.past own
               ∙ past_none rule text at (own + so.count) (none (own + so.count))
               ∙ here (own + so.count);
-          onward = omega (arith, so.all);
+          below = omega (arith, so.all);
           within = within;
           few = omega (arith, so.all, so.few);
         }

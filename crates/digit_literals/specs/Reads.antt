@@ -48,7 +48,7 @@ module _ (rule : Rule) (text : List ℕ) (start before : ℕ) (most : Option ℕ
 pub record AreZeros (rule : Rule) (text : List ℕ) (start : ℕ) (read : ZerosTo) : Type 0 where
   pub is : (own : ℕ) → zeros rule text start own ≡ read.count
   pub past : (own : ℕ) → past_zeros rule text start own ≡ read.end
-  pub onward : start ≤ read.end
+  pub below : start + read.count ≤ read.end
   pub within : read.end ≤ length text
   pub few : read.end ≤ start + 2 * read.count
 

@@ -12,9 +12,8 @@ ghost use Rattle.digit_literals.specs.Reads.{ReadsOn};
 
 use super::reading::{Digits, TooLarge};
 use super::slice::{read_counted, read_slice};
-use super::zeros::read_zeros;
-use lexical_digits::iterator::{DigitsBodies, Iter};
-use lexical_digits::on_iterator;
+use super::zeros::{pass_counted, read_zeros};
+use lexical_digits::iterator::Iter;
 use lexical_digits::skip::{Bytes, Component};
 
 /// Passes the digits of a component that lead from the cursor on, and answers how many there are.
@@ -140,6 +139,7 @@ pub fn pass_zeros(bytes: &mut Bytes, component: Component) -> usize
     ensures zeros { result ≡ zeros_of component bytes.old.state }
     ensures state { bytes.new.state ≡ past_zeros_of component bytes.old.state }
     ensures owes { owed bytes.new ≤ℤ (owed bytes.old +ℤ pos (4 * (result + 1))) }
+    ensures at_least { min (bytes.old.looks + result) (2 ^ 64 - 1) ≤ bytes.new.looks }
 {
     let rule = bytes.rule(component);
     let text = bytes.get_buffer();
@@ -150,19 +150,7 @@ pub fn pass_zeros(bytes: &mut Bytes, component: Component) -> usize
     }
     // on a copy, as in `read_on`
     let mut copy = bytes.clone().unwrap();
-    let zeros = skip_zeros_of(&mut copy, component);
+    let zeros = pass_counted(&mut copy, component);
     bytes.go_on_from(copy);
     zeros
-}
-
-/// [`pass_zeros`] by the iterator of the component.
-#[cold]
-#[inline(never)]
-#[tactic(auto, using(crate::proofs::PassedZeros::leading_zeros))]
-fn skip_zeros_of(bytes: &mut Bytes, component: Component) -> usize
-    ensures zeros { result ≡ zeros_of component bytes.old.state }
-    ensures state { bytes.new.state ≡ past_zeros_of component bytes.old.state }
-    ensures owes { owed bytes.new ≤ℤ (owed bytes.old +ℤ pos (4 * (result + 1))) }
-{
-    on_iterator!(bytes, component, iter => iter.skip_zeros())
 }

@@ -1,12 +1,16 @@
 //! The bytes `0` that lead, read off a slice. Where another separator than a lone one between a
-//! zero and a digit is met, an iterator reads them.
+//! zero and a digit is met, a `Bytes` reads them.
 
-ghost use Rattle.std.specs.Prelude.{◌≤◌, length, IfSome};
+ghost use Rattle.std.specs.Prelude.{◌≡◌, ◌+◌, ◌*◌, ◌-◌, ◌^◌, ◌≤◌, ◌==◌, min, length, pos, ◌≤ℤ◌, ◌+ℤ◌, IfSome};
 ghost use Rattle.lexical_digits.specs.Separators.{IsSupported};
+ghost use Rattle.lexical_digits.specs.Cursor.{holds_of};
+ghost use Rattle.lexical_digits.specs.CallTable.{byte_at_place, settled, zeros_of, past_zeros_of};
+ghost use Rattle.lexical_digits.specs.Looks.{Costs, owed};
 ghost use Rattle.digit_literals.specs.Reads.{AreZeros};
 
 use super::slice::is_inner;
-use lexical_digits::skip::Rule;
+use lexical_digits::iterator::Iter;
+use lexical_digits::skip::{Bytes, Component, Rule};
 
 /// Zeros that were read from a start on.
 #[derive(Clone, Copy)]
@@ -47,4 +51,36 @@ pub(super) fn read_zeros(text: &[u8], rule: Rule, start: usize) -> Option<ZerosT
         count: text.len() - start - separators,
         end: text.len(),
     })
+}
+
+/// Whether a byte `0` is at the place of a component.
+#[inline(always)]
+fn peek_is_zero(bytes: &mut Bytes, component: Component) -> bool
+    ensures zero { result
+        ≡ holds_of (λ byte. byte == 48) (byte_at_place component bytes.old.state) }
+    ensures settles { bytes.new.state ≡ settled component bytes.old.state }
+    ensures costs { Costs component bytes.old bytes.new }
+{
+    bytes.peek_of(component) == Some(&b'0')
+}
+
+/// Passes the zeros of a component that lead from the cursor on, whatever separators are met, and
+/// answers how many there are.
+#[cold]
+#[inline(never)]
+#[tactic(auto, using(crate::proofs::PassedZeros::counting))]
+pub(super) fn pass_counted(bytes: &mut Bytes, component: Component) -> usize
+    ensures zeros { result ≡ zeros_of component bytes.old.state }
+    ensures state { bytes.new.state ≡ past_zeros_of component bytes.old.state }
+    ensures owes { owed bytes.new ≤ℤ (owed bytes.old +ℤ pos (4 * (result + 1))) }
+    ensures at_least { min (bytes.old.looks + result) (2 ^ 64 - 1) ≤ bytes.new.looks }
+{
+    let mut zeros = 0;
+    while peek_is_zero(bytes, component) {
+        let at = bytes.cursor();
+        bytes.set_cursor(at + 1);
+        bytes.increment_count_of(component, 1);
+        zeros += 1;
+    }
+    zeros
 }
