@@ -10,6 +10,8 @@ use Rattle.lexical_digits.specs.Laws.Terms.{cases_lt, ints, State, IsState, rule
 use Rattle.lexical_digits.proofs.Calls.Stops.{leading_between}
 use Rattle.lexical_digits.proofs.Rule.Supported.{supported_rule}
 use Rattle.digit_literals.specs.declared.first.FirstDigits.{FirstDigits}
+use Rattle.digit_literals.specs.declared.reading.Digits.{Digits}
+use Rattle.digit_literals.specs.After.{IsDigits}
 use Rattle.digit_literals.specs.First.{ReadsFirst}
 use Rattle.digit_literals.specs.Significant.{significant, IsOfFirstDigits}
 use Rattle.digit_literals.proofs.ForCallers.{value_of_both, all_digits}
@@ -164,6 +166,17 @@ module _ (k : Component) (s : State) (valid : IsState s) (most before n : ℕ) (
             let passed = then_passed radix m read.value more one some (others ++ es) on rest parts.1
             (λ l. omega (arith, next (omega arith), next_is)) in
             rw (whole, dropped) at passed
+
+-- where no digit is too large
+pub reads_all : (k : Component) (s : State) → IsState s → (most before : ℕ) (read : Digits)
+    → IsDigits k s before read → read.value ≤ most
+    → ReadsFirst (rule k s).radix most before (leading_digits_of k s)
+    (record { value = read.value; count = read.count; dropped = 0 })
+reads_all k s valid most before read ok fits =
+    let all = take_all read.count (leading_digits_of k s) (omega (arith, ok.digits)) in
+    reads_first k s valid most before read.count _ ok.digits (omega arith)
+    (ok.is ∙ sym (ap (digits_value_after (rule k s).radix before) all)) fits
+    (λ l. absurd (omega (arith, l)))
 
 -- how many digits there are at most, and where they are
 pub ruleset bounds = (by_state, within_stop, ints)

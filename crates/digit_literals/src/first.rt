@@ -1,13 +1,17 @@
 //! The first digits of a number, where it may have more than a `u64` holds.
 
-ghost use Rattle.std.specs.Prelude.{◌≡◌, ◌+◌, ◌*◌, ◌^◌, ◌-◌, ◌≤◌, min, length, pos, ◌≤ℤ◌, ◌+ℤ◌};
+ghost use Rattle.std.specs.Prelude.{◌≡◌, ◌+◌, ◌*◌, ◌^◌, ◌-◌, ◌≤◌, min, length, pos, ◌≤ℤ◌, ◌+ℤ◌, Some, IfSome, IfNone, Ok};
 ghost use Rattle.lexical_digits.specs.State.{rule};
 ghost use Rattle.lexical_digits.specs.Looks.{owed};
 ghost use Rattle.lexical_digits.specs.Stop.{stop_of, leading_digits_of, past_digits_of};
 ghost use Rattle.digit_literals.specs.After.{digits_to};
 ghost use Rattle.digit_literals.specs.First.{ReadsFirst};
+ghost use Rattle.digit_literals.specs.Reads.{ReadsOn};
 
 use super::component::{pass_digits, read_digits_up_to};
+use super::reading::Digits;
+use super::slice::read_radix;
+use lexical_digits::iterator::Iter;
 use lexical_digits::skip::{Bytes, Component};
 
 /// The digits of a component, of which the first were read after a value, and the others passed.
@@ -33,13 +37,69 @@ pub struct FirstDigits {
 /// `98_76` with internal `_`, up to 99: FirstDigits { value: 98, count: 4, dropped: 2 }
 /// ```
 #[inline(always)]
-#[tactic(auto, using(crate::proofs::Firsts::bounds))]
+#[tactic(auto, using(crate::proofs::States::on_copy, crate::proofs::Firsts::bounds))]
 pub fn read_first_digits(
     bytes: &mut Bytes,
     component: Component,
     before: u64,
     most: u64,
 ) -> FirstDigits
+    requires { before ≤ most }
+    ensures first { let s = bytes.old.state in
+        ReadsFirst (rule component s).radix most before (leading_digits_of component s) result }
+    ensures between { let s = bytes.old.state in
+        leading_digits_of component s ≡ digits_to component s (stop_of component s) }
+    ensures few { result.count ≤ length bytes.old.state.buffer }
+    ensures within { bytes.old.state.cursor + result.count ≤ bytes.new.state.cursor }
+    ensures state { bytes.new.state ≡ past_digits_of component bytes.old.state }
+    ensures owes { owed bytes.new ≤ℤ (owed bytes.old +ℤ pos (8 * result.count + 8)) }
+    ensures at_least { min (bytes.old.looks + 2 * result.count) (2 ^ 64 - 1) ≤ bytes.new.looks }
+{
+    if let Some(read) = read_decimal(bytes, component, before, most) {
+        return FirstDigits {
+            value: read.value,
+            count: read.count,
+            dropped: 0,
+        };
+    }
+    // on a copy, so that `bytes` may stay in registers
+    let mut copy = bytes.clone().unwrap();
+    let read = read_first_apart(&mut copy, component, before, most);
+    bytes.go_on_from(copy);
+    read
+}
+
+/// Reads and passes the digits of a component with radix 10, where the slice is enough and no digit
+/// is too large. Otherwise it leaves all.
+#[inline(always)]
+fn read_decimal(bytes: &mut Bytes, component: Component, before: u64, most: u64) -> Option<Digits>
+    requires { before ≤ most }
+    ensures reads { IfSome result (λ read.
+        ReadsOn component before (Some most) bytes.old bytes.new (Ok read)) }
+    ensures leaves { IfNone result (bytes.new ≡ bytes.old) }
+{
+    let rule = bytes.rule(component);
+    if rule.radix != 10 {
+        return None;
+    }
+    let text = bytes.get_buffer();
+    let read = read_radix(text, rule, 10, bytes.cursor(), before, Some(most))?;
+    if read.is_too_large {
+        return None;
+    }
+    bytes.pass_read(component, read.end, read.count);
+    Some(Digits {
+        value: read.value,
+        count: read.count,
+    })
+}
+
+/// [`read_first_digits`] in code of its own, whatever separators are met and however many digits
+/// there are.
+#[cold]
+#[inline(never)]
+#[tactic(auto, using(crate::proofs::Firsts::bounds))]
+fn read_first_apart(bytes: &mut Bytes, component: Component, before: u64, most: u64) -> FirstDigits
     requires { before ≤ most }
     ensures first { let s = bytes.old.state in
         ReadsFirst (rule component s).radix most before (leading_digits_of component s) result }
@@ -58,7 +118,7 @@ pub fn read_first_digits(
             dropped: 0,
         },
         Err(error) => {
-            let dropped = pass_others(bytes, component);
+            let dropped = pass_digits(bytes, component);
             FirstDigits {
                 value: error.value,
                 count: error.count + dropped,
@@ -66,30 +126,4 @@ pub fn read_first_digits(
             }
         }
     }
-}
-
-/// [`pass_digits`] on a copy, so that `bytes` may stay in registers.
-#[inline(always)]
-fn pass_others(bytes: &mut Bytes, component: Component) -> usize
-    ensures digits { result ≡ length (leading_digits_of component bytes.old.state) }
-    ensures state { bytes.new.state ≡ past_digits_of component bytes.old.state }
-    ensures owes { owed bytes.new ≤ℤ (owed bytes.old +ℤ pos (8 * result + 4)) }
-    ensures at_least { min (bytes.old.looks + 2 * result) (2 ^ 64 - 1) ≤ bytes.new.looks }
-{
-    let mut copy = bytes.clone().unwrap();
-    let digits = pass_apart(&mut copy, component);
-    bytes.go_on_from(copy);
-    digits
-}
-
-/// [`pass_digits`] in code of its own: few numbers have so many digits.
-#[cold]
-#[inline(never)]
-fn pass_apart(bytes: &mut Bytes, component: Component) -> usize
-    ensures digits { result ≡ length (leading_digits_of component bytes.old.state) }
-    ensures state { bytes.new.state ≡ past_digits_of component bytes.old.state }
-    ensures owes { owed bytes.new ≤ℤ (owed bytes.old +ℤ pos (8 * result + 4)) }
-    ensures at_least { min (bytes.old.looks + 2 * result) (2 ^ 64 - 1) ≤ bytes.new.looks }
-{
-    pass_digits(bytes, component)
 }

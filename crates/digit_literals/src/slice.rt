@@ -100,7 +100,7 @@ pub(super) fn read_slice(
 /// [`read_slice`], where `radix` is the rule's.
 #[inline(always)]
 #[tactic(auto, using(crate::proofs::Leads::none_led))]
-fn read_radix(
+pub(super) fn read_radix(
     text: &[u8],
     rule: Rule,
     radix: u32,
