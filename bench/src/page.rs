@@ -91,14 +91,14 @@ pub fn print_summary(medians: &Medians) {
     );
     println!(
         "`pass_digits` takes {} on grouped numbers, `read_digits_of` {}, and lines with one \
-         integer each {}. The worst rows are {} on grouped numbers that are peeked, {} on runs of \
-         16 dropped separators and {} on a float's mantissa and exponent without separators.",
+         integer each {}. Slower are {} on grouped numbers that are peeked, {} on runs of 16 \
+         dropped separators and {} on letters that are peeked.",
         both("o: I, grouped, pass_digits"),
         both("l: I, grouped, by read_digits_of"),
         both("t: I, grouped, lines"),
         both("n: I, grouped numbers to a comma"),
         both("e: ILTC, runs of 16, number"),
-        both("s: no flags, mantissa and exponent"),
+        both("k: I, other bytes, peeked"),
     );
     let [short, long] = RUNS.map(|case| time(case, Side::Library, medians));
     let leading = [Side::Library, Side::Original]
