@@ -2,8 +2,11 @@
 //! tests compare them with.
 #![tactic(auto)]
 
+#[cfg(test)]
 pub mod chains;
+#[cfg(test)]
 pub mod example;
+#[cfg(test)]
 pub mod slow;
 pub mod spaced;
 #[cfg(test)]
