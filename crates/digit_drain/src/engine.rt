@@ -1,6 +1,6 @@
 //! Runs the program over any reader and writer: input, output and status.
 
-ghost use Rattle.std.specs.Prelude.{◌≡◌, IfOk, string_bytes};
+ghost use Rattle.std.specs.Prelude.{◌≡◌, ◌++◌, IfOk, codes, decimal, string_bytes};
 ghost use Rattle.digit_drain.specs.Outcome.{Runs, Tells, Serves, line_of};
 
 pub use super::fault::Fault;
@@ -52,13 +52,21 @@ pub fn run_in<A: Allocator, R: Read, W: Write>(
     }
 }
 
+/// The error line of a bad line with this number, which ends so.
+fn line_with<A: Allocator>(alloc: A, number: usize, end: &str) -> Result<String<A>, AllocError>
+    ensures { IfOk result (λ line. string_bytes line ≡
+        codes "error: line " ++ decimal number ++ end.now) }
+{
+    format!(in alloc; "error: line {number}{end}")
+}
+
 /// The error line of a fault, with its line feed.
 fn line_for<A: Allocator>(alloc: A, fault: &Fault) -> Result<String<A>, AllocError>
     ensures { IfOk result (λ line. string_bytes line ≡ line_of fault.now) }
 {
     match *fault {
-        Fault::Line(n) => format!(in alloc; "error: line {n}: not a request\n"),
-        Fault::Word(n) => format!(in alloc; "error: line {n}: word not supported\n"),
+        Fault::Line(n) => line_with(alloc, n, ": not a request\n"),
+        Fault::Word(n) => line_with(alloc, n, ": word not supported\n"),
         Fault::TooLong => String::from_str(alloc, "error: input longer than 65536 bytes\n"),
         Fault::Read => String::from_str(alloc, "error: read failed\n"),
         Fault::Write => String::from_str(alloc, "error: write failed\n"),
