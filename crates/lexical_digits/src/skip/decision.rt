@@ -4,7 +4,7 @@
 //! lexical-util has code of its own for each of fifteen rules. Here one function judges by any
 //! rule.
 
-ghost use Rattle.std.specs.Prelude.{◌≡◌, ℕ, ◌+◌, ◌-◌, ◌*◌, ◌<◌, ◌≤◌, ◌^◌, List, min, Some, length, slice_index, slice_get, nat_lt, not, true, false};
+ghost use Rattle.std.specs.Prelude.{◌≡◌, ℕ, ◌+◌, ◌-◌, ◌*◌, ◌<◌, ◌≤◌, ◌^◌, List, min, Some, if◌then◌else◌, length, slice_index, slice_get, nat_lt, not, true, false};
 ghost use Rattle.lexical_digits.specs.Separators.{class, left_side, place, IsSupported};
 ghost use Rattle.lexical_digits.specs.Looks.{separator_at, scans, run_holds, run_length, IsRun, IsRunOrNone, IsSpan, LooksBetween, one_if};
 
@@ -91,8 +91,16 @@ pub fn decide<S: ByteSource>(
     let right = class_at(src, rule, span.to);
     Sight {
         place: if rule.drops(left, right) { span.to } else { at },
-        run: if rule.consecutive { Some(span) } else { run },
+        run: run_after(rule, span, run),
     }
+}
+
+/// The run to remember after a separator was judged by a span.
+#[inline(always)]
+fn run_after(rule: Rule, span: Run, run: Option<Run>) -> Option<Run>
+    ensures { result ≡ if rule.consecutive then Some span else run }
+{
+    if rule.consecutive { Some(span) } else { run }
 }
 
 /// What is judged as one at a separator: under a consecutive rule the run that holds it, which is
