@@ -1,181 +1,162 @@
--- What was read where `next_of` took the digits of a component, and what that took.
-use Rattle.std.proofs.Common.{◌≡◌, ℕ, ◌+◌, ◌-◌, ◌*◌, ◌^◌, ◌<◌, ◌≤◌, Bool, true, false, List, length, take, slice_get, slice_index, Option, Some, None, is_some, option_and_then, refl, ap, sym, subst, ◌∙◌, arith, min, pos, ◌≤ℤ◌, ◌+ℤ◌}
-use Rattle.std.specs.Prelude.{if◌then◌else◌, IfSome, MatchOption}
+-- What is read where `next_of` takes the digits of a component, and what that takes.
+use Rattle.std.proofs.Common.{◌≡◌, ℕ, ◌+◌, ◌*◌, ◌<◌, ◌≤◌, Bool, true, false, length, slice_index, Option, Some, None, is_some, option_and_then, refl, ap, sym, ◌∙◌, arith}
+use Rattle.std.specs.Prelude.{IfSome, MatchOption}
+use Rattle.std.specs.Char.{digit_value}
 use Rattle.std.specs.Str.Parse.{digits_value_after}
 use Rattle.std.proofs.lemmas.Int.{ints}
-use Rattle.std.proofs.lemmas.List.{length-take-le, take_all}
-use Rattle.lexical_format.specs.Digits.{digit_of_radix, is_digit_of_radix}
+use Rattle.std.proofs.lemmas.Option.{IfSome_then}
+use Rattle.lexical_format.specs.Digits.{digit_of_radix}
 use Rattle.lexical_digits.specs.declared.skip.component.Component.{Component}
-use Rattle.lexical_digits.specs.State.{State, with_cursor, rule, own, with_own, counts, saturating}
-use Rattle.lexical_digits.specs.CallTable.{place_of, settled, taken, byte_at_place}
-use Rattle.lexical_digits.specs.Stop.{leading, stop_of, leading_digits_of, past_digits_of, IsNthDigit}
-use Rattle.lexical_digits.specs.Looks.{Held, Costs, owed}
-use Rattle.lexical_digits.specs.Laws.Table.{digit_laws, place_again}
-use Rattle.lexical_digits.proofs.Calls.Stops.{leading_by_radix, after_leading_by_radix, leading_between, nth_digit, nth_leaves}
-use Rattle.lexical_digits.proofs.Calls.FirstOther.{stop_is_first}
+use Rattle.lexical_digits.specs.Laws.Terms.{State, rule, own, is_digit, place_of, settled, taken, byte_at_place, stop_of, leading_digits_of, Held, Costs, one_if}
+use Rattle.lexical_digits.specs.Laws.Table.{digit_laws, place_from, place_to, place_again, taken_word, taken_buffer}
+use Rattle.lexical_digits.proofs.Calls.DigitAtPlace.{Digit, at_digit, digit_there, none_there}
+use Rattle.lexical_digits.proofs.Calls.Stops.{none_before, none_counted, one_counted, digits_upto, nth_digit}
+use Rattle.digit_literals.specs.declared.slice.ReadTo.{ReadTo}
 use Rattle.digit_literals.specs.After.{digits_to, ExceedsAt}
-use Rattle.digit_literals.specs.Reads.{IsWorth, Passes}
-use Rattle.digit_literals.proofs.Taking.{all_taken, leaves_all}
-use Rattle.digit_literals.proofs.Worth.{value_next, none_at}
-use Rattle.digit_literals.proofs.Values.{HasRead, digit_there, next, one_longer}
+use Rattle.digit_literals.specs.Reads.{IsMore, Passes}
+use Rattle.digit_literals.proofs.Worth.{digit_at, none_at, worth_none}
+use Rattle.digit_literals.proofs.ForCallers.{value_is}
 
--- ---- what it took
+-- Whatever reading on from b comes to, with `count` digits more it is that of all from a.
+pub record ReadsOn (k : Component) (before : ℕ) (most : Option ℕ) (a b : Held)
+    (radix value count : ℕ) : Type 0 where
+  pub same : radix ≡ (rule k b.state).radix
+  pub fits : IfSome most (λ m. value ≤ m)
+  pub below : count ≤ b.state.cursor
+  pub all : (c : Held) (read : ReadTo) (total : ℕ) → total ≡ count + read.count
+      → Passes k value most b c read → Passes k before most a c (record read { count = total })
 
--- two looks for each digit, and at most eight
-pub record HasPaid (old new : Held) (digits : ℕ) : Type 0 where
-  pub owes : owed new ≤ℤ (owed old +ℤ pos (8 * digits))
-  pub at_least : min (old.looks + 2 * digits) (2 ^ 64 - 1) ≤ new.looks
+-- what follows of a value, if there is one
+both : {X : Type 0} (N : Type 0) (o : Option X) {P Q R : X → Type 0}
+    → IfSome o P → MatchOption o N Q → ((x : X) → P x → Q x → R x) → MatchOption o N R
+both N None p q f = q
+both N (Some x) p q f = f x p q
 
-pub none_paid : (old : Held) → HasPaid old old 0
-none_paid old = record { owes = omega (arith, ints); at_least = omega arith }
-
-pub one_paid : (k : Component) (radix digits d : ℕ) (old a b c : Held) → HasPaid old a digits
-    → Costs k a b → b.state ≡ settled k a.state → Costs k b c
-    → option_and_then (digit_of_radix radix) (byte_at_place k a.state) ≡ Some d
-    → HasPaid old c (digits + 1)
-one_paid k radix digits d old a b c so peeks settles takes found =
-    let here : is_some (byte_at_place k a.state) ≡ true = grind arith in
-    let again : is_some (byte_at_place k b.state) ≡ true =
-    rw (settles, place_again k a.state) here in
-    let one = rw here at peeks.at_least in
-    let two = rw again at takes.at_least in
-    record {
-      owes = omega (arith, ints, so.owes, peeks.owes, takes.owes);
-      at_least = omega (arith, so.at_least, one, two);
-    }
-
--- ---- what is left, where the last `peek` went from a to b
-
-module _ (k : Component) (radix before : ℕ) (most : Option ℕ) (old a b : Held)
-    (e : radix ≡ (rule k old.state).radix) (value count : ℕ)
-    (so : HasRead (λ (m : State). m.buffer) (λ m. m.cursor) (place_of k) (taken k) (settled k) radix
-    before most old.state a.state value count) (paid : HasPaid old a count) (peeks : Costs k a b)
-    (settles : b.state ≡ settled k a.state) where
+module _ (k : Component) (before : ℕ) (most : Option ℕ) (a b c : Held) (radix value count : ℕ)
+    (so : ReadsOn k before most a b radix value count) (peeks : Costs k b c)
+    (settles : c.state ≡ settled k b.state) where
   abbrev s : State
-  s = old.state
+  s = b.state
 
-  abbrev at : ℕ
-  at = place_of k a.state
-
-  abbrev led : List ℕ
-  led = leading (λ (m : State). m.buffer) (λ m. m.cursor) (place_of k) (taken k)
-      (is_digit_of_radix radix) s
-
-  are : led ≡ leading_digits_of k s
-  are = leading_by_radix k s radix old.holds e
+  from : s.cursor ≤ place_of k s
+  from = place_from k s b.holds.within
 
   abbrev peeked : Option ℕ
-  peeked = option_and_then (digit_of_radix radix) (slice_get a.state.buffer at)
+  peeked = option_and_then (digit_of_radix radix) (byte_at_place k s)
 
-  abbrev counted : ℕ → ℕ → State
-  counted c i = with_cursor (with_own k s
-      (if counts k s.word then saturating (own k s) c else own k s)) i
-
-  -- so many of the digits that lead are before the place
-  record IsThere : Type 0 where
-    pub onward : s.cursor ≤ at
-    pub within : at ≤ length s.buffer
-    pub digits : digits_to k s at ≡ take count led
-    pub leaves : settled k a.state ≡ counted count at
-
-  passes : IsThere → (large : Bool) (end : ℕ) → end ≡ b.state.cursor
-      → (large ≡ false → at ≡ stop_of k s)
+  -- where it stops at the place
+  passes : (large : Bool) (end : ℕ) → end ≡ c.state.cursor
+      → (large ≡ false → stop_of k s ≡ place_of k s)
       → (large ≡ true → MatchOption most ⊥
-      (λ m. ExceedsAt (rule k s) s.buffer s.cursor (own k s) before m at))
-      → Passes k before most old b
+      (λ m. ExceedsAt (rule k s) s.buffer s.cursor (own k s) value m (place_of k s)))
+      → Passes k before most a c
       (record { value = value; count = count; end = end; is_too_large = large })
-  passes is large end on stops exceeds =
-      let same : end ≡ at = on ∙ ap (λ (m : State). m.cursor) settles in
-      let as_many : count ≡ length (digits_to k s at) =
-      sym (ap length is.digits ∙ length-take-le count led so.led.within) in
-      subst (λ (i : ℕ). Passes k before most old b
-      (record { value = value; count = count; end = i; is_too_large = large })) (sym same)
-      (record {
+  passes large end on stops exceeds =
+      let same : end ≡ place_of k s = on ∙ ap (λ (m : State). m.cursor) settles in
+      let none = none_before k s b.holds in
+      rw same (so.all c
+      (record { value = value; count = 0; end = place_of k s; is_too_large = large }) count
+      (omega arith) (record {
         reads = record {
-          onward = is.onward;
-          within = is.within;
-          digits = as_many;
-          worth = subst (λ ds. IfSome most (IsWorth (rule k s).radix before ds value))
-              (sym is.digits)
-              (subst (λ r. IfSome most (IsWorth r before (take count led) value)) e so.worth);
-          stops = stops;
+          onward = from;
+          within = place_to k s;
+          digits = sym (ap length none);
+          worth = rw none (worth_none (rule k s).radix value most so.fits);
+          stops = λ e. sym (stops e);
           exceeds = exceeds;
         };
-        state = settles ∙ is.leaves ∙ ap (λ (c : ℕ). counted c at) as_many;
-        owes = omega (arith, ints, paid.owes, peeks.owes);
-        at_least = omega (arith, paid.at_least, peeks.at_least);
-      })
+        state = settles ∙ rw none (none_counted k s b.holds (place_of k s));
+        owes = omega (arith, ints, peeks.owes);
+        at_least = omega (arith, peeks.at_least);
+      }))
 
-  -- before a digit with which the value is too large
-  pub stops_before : (d : ℕ) → peeked ≡ Some d → MatchOption most ⊥ (λ m. m < value * radix + d)
-      → (end : ℕ) → end ≡ b.state.cursor → Passes k before most old b
-      (record { value = value; count = count; end = end; is_too_large = true })
-  stops_before d found over end on =
-      passes there true end on (λ f. cc) (λ _. exceeds most so.worth over)
-    where
-      few : count < length (leading_digits_of k s)
-      few = omega (
-        arith,
-        (next (digit_laws k) a.state a.holds radix before most s value count so d found).within,
-        ap length are,
-      )
-
-      nth : IsNthDigit k s count at
-      nth = subst (λ m. IsNthDigit k s count (place_of k m)) (sym so.led.stands)
-          (nth_digit count k s old.holds few)
-
-      there : IsThere
-      there = record {
-        onward = nth.onward;
-        within = omega (
-          arith,
-          nth.before_stop,
-          (stop_is_first (rule k s) s.buffer s.cursor (own k s) old.holds.within).within,
-        );
-        digits = nth.before ∙ ap (take count) (sym are);
-        leaves = subst (λ m. settled k m ≡ counted count (place_of k m)) (sym so.led.stands)
-            (nth_leaves count k s old.holds few);
-      }
-
-      worth_with : value ≡ digits_value_after radix before (take count led)
-          → digits_value_after (rule k s).radix before (digits_to k s (at + 1)) ≡ value * radix + d
-      worth_with is =
-          ap (λ (r : ℕ). digits_value_after r before (digits_to k s (at + 1))) (sym e)
-          ∙ ap (digits_value_after radix before) (nth.upto ∙ ap (take (count + 1)) (sym are)
-          ∙ one_longer (digit_laws k) a.state a.holds radix before most s value count so d found)
-          ∙ value_next radix before value d (take count led) (slice_index a.state.buffer at)
-          (digit_there (digit_laws k) a.state a.holds radix before most s value count so d found) is
-
-      exceeds : (o : Option ℕ) → IfSome o (IsWorth radix before (take count led) value)
-          → MatchOption o ⊥ (λ m. m < value * radix + d)
-          → MatchOption o ⊥ (λ m. ExceedsAt (rule k s) s.buffer s.cursor (own k s) before m at)
-      exceeds None h over = over
-      exceeds (Some m) h over = record {
-        onward = nth.onward;
-        before_stop = nth.before_stop;
-        fits = subst (λ ds. digits_value_after (rule k s).radix before ds ≤ m) (sym there.digits)
-            (subst (λ r. digits_value_after r before (take count led) ≤ m) e
-            (omega (arith, h.is, h.fits)));
-        passes = omega (arith, worth_with h.is, over);
-      }
-
-  -- where no digit is
-  pub ends_there : peeked ≡ None → (end : ℕ) → end ≡ b.state.cursor → Passes k before most old b
+  pub ends_there : (end : ℕ) → end ≡ c.state.cursor → peeked ≡ None → Passes k before most a c
       (record { value = value; count = count; end = end; is_too_large = false })
-  ends_there none end on =
-      let p : ℕ → Bool = is_digit_of_radix radix in
-      let other = none_at radix (slice_get a.state.buffer at) none in
-      let all = all_taken (digit_laws k) a.state a.holds p s count so.led other in
-      let left : settled k a.state ≡ past_digits_of k s =
-      leaves_all (digit_laws k) a.state a.holds p s (settled k a.state) count so.led other refl
-      ∙ after_leading_by_radix k s radix old.holds e in
-      let stands : at ≡ stop_of k s = ap (λ (m : State). m.cursor) left in
-      let first = stop_is_first (rule k s) s.buffer s.cursor (own k s) old.holds.within in
-      passes (record {
-        onward = omega (arith, stands, first.onward);
-        within = omega (arith, stands, first.within);
-        digits = ap (digits_to k s) stands ∙ sym (leading_between k s old.holds) ∙ sym are
-            ∙ sym (take_all count led (omega (arith, all)));
-        leaves = left ∙ ap (λ (c : ℕ). counted c (stop_of k s)) (sym (all ∙ ap length are))
-            ∙ ap (counted count) (sym stands);
-      }) false end on (λ _. stands) (λ f. cc)
+  unfolding is_digit
+  ends_there end on e =
+      let other : at_digit k s ≡ false = rw so.same at (none_at radix _ e) in
+      passes false end on (λ _. (none_there k s other).stop) (λ f. cc)
+
+  module _ (d : ℕ) (found : peeked ≡ Some d) where
+    there : Digit k s
+    unfolding is_digit
+    there = digit_there k s (rw so.same at (digit_at radix s.buffer (place_of k s) d found).is)
+
+    is : digit_value (slice_index s.buffer (place_of k s)) ≡ d
+    is = value_is radix _ d (digit_at radix s.buffer (place_of k s) d found).value
+
+    past : (t : State) → t ≡ taken k c.state → t ≡ taken k s
+    past t takes = takes ∙ ap (taken k) settles ∙ (digit_laws k).settled_taken s b.holds
+
+    -- before a digit with which the value is too large
+    pub stops_before : (end : ℕ) → end ≡ c.state.cursor
+        → MatchOption most ⊥ (λ m. m < value * radix + d) → Passes k before most a c
+        (record { value = value; count = count; end = end; is_too_large = true })
+    stops_before end on over =
+        let nth = nth_digit 0 k s b.holds (omega (arith, ap length there.leading)) in
+        passes true end on (λ f. cc) (λ _. both _ most so.fits over (λ m fits over. record {
+          onward = nth.onward;
+          before_stop = nth.before_stop;
+          fits = rw (none_before k s b.holds) fits;
+          passes = rw (nth.upto, there.leading, is, ← so.same) over;
+        }))
+
+    -- the value up to a position after the digit
+    value_to : (end more : ℕ) → place_of k s < end → more ≡ value * radix + d
+        → digits_value_after (rule k s).radix value (digits_to k s end)
+        ≡ digits_value_after (rule k (taken k s)).radix more (digits_to k (taken k s) end)
+    value_to end more l e =
+        rw (digits_upto k s b.holds there end l, taken_word k s, e, so.same, ← is) refl
+
+    pub one_read : (more : ℕ) (e : Held) → IfSome most (IsMore radix value d more) → Costs k c e
+        → e.state ≡ taken k c.state → ReadsOn k before most a e radix more (count + 1)
+    one_read more e is_more pays takes =
+        let here : is_some (byte_at_place k s) ≡ true = grind arith in
+        let again : is_some (byte_at_place k c.state) ≡ true =
+        rw (settles, place_again k s) here in
+        record {
+          same = rw (past e.state takes) (so.same ∙ rw (taken_word k s) refl);
+          fits = IfSome_then most is_more (λ _ h. h.fits);
+          below = rw (past e.state takes) (omega (arith, so.below, there.on, from));
+          all = λ f read total same h.
+              let reads = rw (past e.state takes) at h.reads in
+              let on : place_of k s < read.end = omega (arith, reads.onward, there.on) in
+              let upto = digits_upto k s b.holds there read.end on in
+              so.all f (record read { count = read.count + 1 }) total (omega (arith, same))
+              (record {
+                reads = record {
+                  onward = omega (arith, on, from);
+                  within = rw (taken_buffer k s) at reads.within;
+                  digits = omega (arith, reads.digits, ap length upto);
+                  worth = both _ most is_more reads.worth (λ m g w. record {
+                    is = w.is ∙ sym (value_to read.end more on g.is);
+                    fits = w.fits;
+                  });
+                  stops = λ e. reads.stops e ∙ sym there.stop;
+                  exceeds = λ e. both _ most is_more (reads.exceeds e) (λ m g x. record {
+                    onward = omega (arith, on, from);
+                    before_stop = omega (arith, x.before_stop, there.stop);
+                    fits = omega (arith, x.fits, value_to read.end more on g.is);
+                    passes = omega (
+                      arith,
+                      x.passes,
+                      value_to (read.end + 1) more (omega (arith, on)) g.is,
+                    );
+                  });
+                };
+                state = h.state ∙ rw (past e.state takes, upto) (one_counted k s there _ read.end);
+                owes = omega (arith, ints, h.owes, peeks.owes, pays.owes);
+                at_least = omega (
+                  arith,
+                  h.at_least,
+                  peeks.at_least,
+                  pays.at_least,
+                  ap one_if here,
+                  ap one_if again,
+                );
+              });
+        }
+
+    pub falls : (t : State) → t ≡ taken k c.state
+        → length (leading_digits_of k t) < length (leading_digits_of k s)
+    falls t takes = rw (past t takes, there.leading) (omega arith)

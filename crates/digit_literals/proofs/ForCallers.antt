@@ -1,8 +1,7 @@
 -- For those who call the readers of this crate: what a proof over their answers needs again and
 -- again. These stay.
 use Rattle.std.proofs.Common.{◌≡◌, ℕ, zero, suc, ◌+◌, ◌-◌, ◌*◌, ◌^◌, ◌<◌, ◌≤◌, Bool, true, List, [], ◌∷◌, ◌++◌, length, take, drop, slice_index, refl, sym, arith}
-use Rattle.std.specs.Prelude.{Ok, Err, Some}
-use Rattle.std.specs.declared.result.Result.{Result}
+use Rattle.std.specs.Prelude.{Some}
 use Rattle.std.specs.Char.{digit_value}
 use Rattle.std.specs.List.{filter, slice_range}
 use Rattle.std.specs.Str.Parse.{AllDigits, digits_value, digits_value_after}
@@ -10,15 +9,13 @@ use Rattle.std.proofs.Math.Nat.{pow-le-pow_right}
 use Rattle.std.proofs.lemmas.Bool.Decides.{nat_tests}
 use Rattle.std.proofs.lemmas.Int.Digits.{digits_value-lt}
 use Rattle.std.proofs.lemmas.List.{take_rest, length-drop, get_or-drop}
-use Rattle.lexical_format.specs.Digits.{digit_of_radix, is_digit_of_radix}
+use Rattle.lexical_format.specs.Digits.{digit_of_radix}
 use Rattle.lexical_format.specs.Digits as words
 use Rattle.lexical_digits.specs.declared.skip.rule.Rule.{Rule}
 use Rattle.lexical_digits.specs.Separators.{is_digit}
 use Rattle.lexical_digits.specs.Stop.{stop}
 use Rattle.lexical_digits.proofs.Calls.FirstOther.{stop_is_first}
-use Rattle.digit_literals.specs.declared.LiteralError.{LiteralError}
-use Rattle.digit_literals.specs.declared.LiteralError.TheVariants.{Empty, Overflow}
-use Rattle.digit_literals.specs.Outcomes.{IfEmpty, IfOverflow}
+use Rattle.digit_literals.specs.After.{digits_between}
 use Rattle.digit_literals.specs.Integers.{IsTooLarge}
 
 -- ---- where digits end
@@ -35,32 +32,23 @@ module _ (rule : Rule) (text : List ℕ) (start count : ℕ) where
   -- it is past a digit that stands at the start
   pub stop_past_digit : start < length text → is_digit rule (slice_index text start) ≡ true
       → start < stop rule text start count
-  stop_past_digit l h =
-      let first = stop_is_first rule text start count (omega arith) in
-      grind (arith, first.onward, first.at)
+  stop_past_digit l h = grind (arith, stop_is_first rule text start count)
 
 -- the three, to be named in an attribute
 pub ruleset stops = (stop_from, stop_within, stop_past_digit)
 
 -- ---- the rest of a text, `&text[at..]`
 
--- it is the text without what stands before
-pub rest_is : (text : List ℕ) (at : ℕ) → slice_range text at (length text) ≡ drop at text
-rest_is text at = take_rest text at
-
-pub length_rest : (text : List ℕ) (at : ℕ) → length (drop at text) ≡ length text - at
-length_rest text at = length-drop at text
-
 -- its first byte is the one there
 pub first_of_rest : (text : List ℕ) (at : ℕ) → slice_index (drop at text) 0 ≡ slice_index text at
 first_of_rest text at = let same : at + 0 ≡ at = omega arith in rw (get_or-drop, same) refl
 
--- and from 0 on it is the whole text
+-- from 0 on it is the whole text
 pub all_is : (text : List ℕ) → slice_range text 0 (length text) ≡ text
 all_is text = take_rest text 0
 
 -- to be named in an attribute, for a stop over it
-pub ruleset rests = (stops, rest_is, length_rest, first_of_rest)
+pub ruleset rests = (stops, take_rest, length-drop, first_of_rest)
 
 -- ---- the value of one digit
 
@@ -71,13 +59,10 @@ value_is radix byte d e = grind (arith, nat_tests)
 
 -- ---- so few digits always fit
 
-pub digit_fits : (radix byte : ℕ) → is_digit_of_radix radix byte ≡ true → digit_value byte < radix
-digit_fits radix byte h = grind (arith, nat_tests, value_is radix byte)
-
 pub all_digits : (rule : Rule) (xs : List ℕ) → AllDigits rule.radix (filter (is_digit rule) xs)
 unfolding is_digit
 all_digits rule [] = tt
-all_digits rule (x ∷ xs) = grind (arith, digit_fits, all_digits rule xs)
+all_digits rule (x ∷ xs) = grind (arith, nat_tests, value_is rule.radix x, all_digits rule xs)
 
 pub fewer : (p : ℕ → Bool) (n : ℕ) (xs : List ℕ)
     → length (filter p (take n xs)) ≤ length (filter p xs)
@@ -90,15 +75,14 @@ fewer p (suc n) (x ∷ xs) = grind (arith, fewer p n xs)
 pub few_digits_fit : (rule : Rule) (text : List ℕ) (at n : ℕ) → IsTooLarge rule text at
     → 1 ≤ rule.radix → rule.radix ^ n ≤ 2 ^ 64 → length (filter (is_digit rule) text) ≤ n → ⊥
 few_digits_fit rule text at n h some fits few =
-    let upto : List ℕ = take (at + 1 - 0) text in
-    let below = digits_value-lt rule.radix (filter (is_digit rule) upto) (all_digits rule upto) in
-    let at_most : length (filter (is_digit rule) upto) ≤ n =
-    omega (arith, few, fewer (is_digit rule) (at + 1 - 0) text) in
+    let read : List ℕ = digits_between rule text 0 (at + 1) in
+    let below = digits_value-lt rule.radix read (all_digits rule _) in
+    let at_most : length read ≤ n = omega (arith, few, fewer (is_digit rule) (at + 1 - 0) text) in
     omega (arith, fits, h.passes, below, pow-le-pow_right {n = rule.radix} some at_most)
 
--- ---- an integer and the fraction behind it
+-- ---- an integer and the fraction after it
 
--- digits behind the value of others are worth what all of them are
+-- digits after the value of others are worth what all of them are
 pub value_of_both : (radix : ℕ) (ds es : List ℕ)
     → digits_value_after radix (digits_value radix ds) es ≡ digits_value radix (ds ++ es)
 value_of_both radix ds es = sym (after_both radix 0 ds es)
@@ -107,17 +91,3 @@ value_of_both radix ds es = sym (after_both radix 0 ds es)
         ≡ digits_value_after radix (digits_value_after radix n ds) es
     after_both radix n [] es = refl
     after_both radix n (d ∷ ds) es = after_both radix (n * radix + digit_value d) ds es
-
--- ---- a reader's error, with less said of it
-
-pub IfEmpty-weaker : {T : Type 0} (r : Result T LiteralError) (P Q : ℕ → Type 0)
-    → ((at : ℕ) → P at → Q at) → IfEmpty r P → IfEmpty r Q
-IfEmpty-weaker (Ok v) P Q h given = tt
-IfEmpty-weaker (Err (Empty at)) P Q h given = h at given
-IfEmpty-weaker (Err (Overflow at)) P Q h given = tt
-
-pub IfOverflow-weaker : {T : Type 0} (r : Result T LiteralError) (P Q : ℕ → Type 0)
-    → ((at : ℕ) → P at → Q at) → IfOverflow r P → IfOverflow r Q
-IfOverflow-weaker (Ok v) P Q h given = tt
-IfOverflow-weaker (Err (Empty at)) P Q h given = tt
-IfOverflow-weaker (Err (Overflow at)) P Q h given = h at given

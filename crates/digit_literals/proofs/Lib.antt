@@ -1,15 +1,12 @@
 pub mod Taking
-pub mod Values
 pub mod States
-pub mod StopSteps
-pub mod Leads
+pub mod Passed
 pub mod Counted
 pub mod LeadingZeros
 pub mod PassedZeros
 pub mod Between
 pub mod Worth
 pub mod Texts
-pub mod Within
 pub mod ForCallers
 pub mod Rest
 pub mod Significant

@@ -1,85 +1,107 @@
--- The significant digits of a list, and what digits are worth.
-use Rattle.std.proofs.Common.{◌≡◌, ℕ, zero, suc, ◌+◌, ◌*◌, ◌^◌, ◌<◌, ◌≤◌, eqb, List, [], ◌∷◌, ◌++◌, length, take, refl, arith, inl, inr, one-add}
+-- The significant digits of a list, of which some were read before, and what digits are worth.
+use Rattle.std.proofs.Common.{◌≡◌, ℕ, zero, suc, ◌+◌, ◌-◌, ◌*◌, ◌^◌, ◌<◌, ◌≤◌, min, false, eqb, if◌then◌else◌, List, [], ◌∷◌, ◌++◌, length, take, refl, arith, one-add, length-append}
 use Rattle.std.specs.Char.{digit_value}
 use Rattle.std.specs.Str.Parse.{AllDigits, digits_value, digits_value_after}
-use Rattle.std.proofs.Math.Nat.{pow-zero, pow-succ', mul-le-mul_left, mul-le-mul_right}
-use Rattle.std.proofs.lemmas.Bool.Decides.{nat_tests}
-use Rattle.std.proofs.lemmas.Str.Parse.{digits_value-take-le}
-use Rattle.lexical_digits.specs.Laws.Terms.{cases_Bool, cases_lt}
-use Rattle.digit_literals.specs.Significant.{significant}
+use Rattle.std.proofs.Math.Nat.{pow-zero, pow-suc, one-le-pow, pow-le-pow_right, mul-le-mul_left, mul-le-mul_right}
+use Rattle.std.proofs.lemmas.List.{take_all, take_min}
+use Rattle.lexical_digits.specs.Laws.Terms.{cases_Bool, nat_tests}
+use Rattle.digit_literals.specs.Significant.{significant, IsOfFirstDigits}
 
 -- more digits are worth no less
 pub grows : (radix i : ℕ) (ds : List ℕ) (v : ℕ) → 1 ≤ radix
     → digits_value_after radix v (take i ds) ≤ digits_value_after radix v ds
 grows radix zero [] v one = omega arith
 grows radix zero (d ∷ ds) v one =
-    let more : v * 1 ≤ v * radix = mul-le-mul_left v one in
-    omega (arith, more, grows radix zero ds (v * radix + digit_value d) one)
+    grind (arith, mul-le-mul_left v one, grows radix zero ds (v * radix + digit_value d) one)
 grows radix (suc i) [] v one = omega arith
 grows radix (suc i) (d ∷ ds) v one = grows radix i ds (v * radix + digit_value d) one
 
--- the first n digits after a value are worth at least the value times the power n
-worth_low : (radix n : ℕ) (ds : List ℕ) (v : ℕ) → n ≤ length ds
-    → v * radix ^ n ≤ digits_value_after radix v (take n ds)
-worth_low radix zero ds v l = rw (pow-zero radix) (omega arith)
-worth_low radix (suc n) [] v l = absurd (omega arith)
-worth_low radix (suc n) (d ∷ ds) v l =
-    let rest = worth_low radix n ds (v * radix + digit_value d) (omega arith) in
-    rw (pow-succ' radix n) (omega (arith, rest))
+-- n digits after a value of a digits and one more
+worth : (radix n a v : ℕ) (ds : List ℕ) → AllDigits radix ds → n ≤ length ds → radix ^ a ≤ v
+    → v < radix ^ suc a → (radix ^ (a + n) ≤ digits_value_after radix v (take n ds))
+    × (digits_value_after radix v (take n ds) < radix ^ suc (a + n))
+worth radix zero a v ds all l low high = grind arith
+worth radix (suc n) a v [] all l low high = absurd (omega arith)
+worth radix (suc n) a v (d ∷ ds) all l low high =
+    let least = mul-le-mul_right radix low in
+    let most = mul-le-mul_right radix high in
+    grind (arith, worth radix n (suc a) (v * radix + digit_value d) ds all.1, pow-suc radix)
 
-pub record Significants (radix : ℕ) (ds : List ℕ) : Type 0 where
-  pub value : digits_value radix (significant ds) ≡ digits_value radix ds
-  pub all : AllDigits radix ds → AllDigits radix (significant ds)
-  pub more : (es : List ℕ) → 0 < length (significant ds)
-      → significant (ds ++ es) ≡ significant ds ++ es
-  -- the first of them, and n more, are worth at least the power n
-  pub low : (n : ℕ) → n < length (significant ds)
-      → radix ^ n ≤ digits_value radix (take (suc n) (significant ds))
+value_of_take : (radix n v : ℕ) (ds es : List ℕ) → digits_value_after radix v (take n (ds ++ es))
+    ≡ digits_value_after radix (digits_value_after radix v (take n ds)) (take (n - length ds) es)
+value_of_take radix zero v ds es = grind arith
+value_of_take radix (suc n) v [] es = let all : suc n - 0 ≡ suc n = omega arith in rw all refl
+value_of_take radix (suc n) v (d ∷ ds) es = grind (arith, value_of_take radix n)
 
-pub significants : (radix : ℕ) (ds : List ℕ) → Significants radix ds
+-- of these digits k were read after a value, as many as leave it below the power n
+pub record Reads (radix n v k : ℕ) (ds : List ℕ) : Type 0 where
+  pub within : k ≤ length ds
+  pub all : AllDigits radix ds
+  pub below : digits_value_after radix v (take k ds) < radix ^ n
+  pub over : k < length ds → radix ^ n ≤ digits_value_after radix v (take (suc k) ds)
+
+all_both : (radix : ℕ) (ds es : List ℕ) → AllDigits radix ds → AllDigits radix es
+    → AllDigits radix (ds ++ es)
+all_both radix [] es h i = i
+all_both radix (d ∷ ds) es h i = (h.0, all_both radix ds es h.1 i)
+
+-- zeros at the head are no significant digits
+none : significant [] ≡ []
 unfolding significant
-significants radix [] = record {
-  value = refl;
-  all = λ h. h;
-  more = λ es l. absurd (omega arith);
-  low = λ n l. absurd (omega arith);
-}
-significants radix (d ∷ ds) = elim (cases_Bool (eqb d 48)) [
-  | inl e ↦
-      let rest = significants radix ds in
-      let zero_is : digit_value d ≡ 0 = grind (arith, nat_tests) in
-      let none : 0 * radix + digit_value d ≡ 0 = omega arith in
-      record {
-        value = simp (e, one-add, none) rest.value;
-        all = λ h. simp (e, one-add) (rest.all h.1);
-        more = λ es. simp (e, one-add) (rest.more es);
-        low = simp (e, one-add) rest.low;
-      }
-  | inr e ↦
-      let some : 1 ≤ digit_value d = grind (arith, nat_tests) in
-      record {
-        value = rw e refl;
-        all = λ h. rw e h;
-        more = λ es l. rw e refl;
-        low = rw e (λ n l. worth_one n (0 * radix + digit_value d) (omega arith) (omega arith));
-      }
-]
-  where
-    worth_one : (n v : ℕ) → 1 ≤ v → n ≤ length ds
-        → radix ^ n ≤ digits_value_after radix v (take n ds)
-    worth_one n v some l =
-        let one : 1 * radix ^ n ≤ v * radix ^ n = mul-le-mul_right (radix ^ n) some in
-        omega (arith, one, worth_low radix n ds v l)
+none = refl
 
--- a value below the power n has at most n of them
-pub at_most : (radix n : ℕ) (ds : List ℕ) → 1 ≤ radix → digits_value radix ds < radix ^ n
-    → length (significant ds) ≤ n
-at_most radix n ds one l = elim (cases_lt n (length (significant ds))) [
-  | inl m ↦ absurd (omega (
-    arith,
-    (significants radix ds).low n m,
-    digits_value-take-le radix (significant ds) (suc n) one,
-    (significants radix ds).value,
-  ))
-  | inr m ↦ m
-]
+one_more : (d : ℕ) (ds : List ℕ)
+    → significant (d ∷ ds) ≡ (if eqb d 48 then significant ds else d ∷ ds)
+unfolding significant
+one_more d ds = grind (arith, one-add)
+
+ruleset heads = (none, one_more)
+
+-- after others, the first of which is no zero
+pub led : (radix p k d v more : ℕ) (os ds : List ℕ) → 1 ≤ radix → eqb d 48 ≡ false
+    → IsOfFirstDigits radix (suc p) (d ∷ os) v more → Reads radix (suc p) v k ds
+    → IsOfFirstDigits radix (suc p) (d ∷ os ++ ds) (digits_value_after radix v (take k ds))
+    (more + (length ds - k))
+led radix p k d v more os ds one e of so =
+    let some : 1 ≤ digit_value d = grind (arith, nat_tests) in
+    let is = rw (one_more d os, e) at of.is in
+    let a : ℕ = min p (length os) in
+    let from = worth radix a 0 (0 * radix + digit_value d) os of.digits_all.1 (omega arith)
+    (grind (arith, pow-zero)) (grind (arith, pow-zero, pow-suc)) in
+    let few : suc p ≤ a + k → radix ^ suc p ≤ radix ^ (a + k) = pow-le-pow_right one in
+    let many : suc (a + suc k) ≤ suc p → radix ^ suc (a + suc k) ≤ radix ^ suc p =
+    pow-le-pow_right one in
+    let many : k ≡ min (p - length os) (length ds) = grind
+    (arith, take_min p os, worth radix k a v ds so.all, worth radix (suc k) a v ds so.all) in
+    grind (arith, heads, all_both, value_of_take, length-append os ds, take_min (p - length os) ds)
+
+pub alone : (radix p k : ℕ) (ds : List ℕ) → 1 ≤ radix → Reads radix (suc p) 0 k ds
+    → IsOfFirstDigits radix (suc p) ds (digits_value radix (take k ds)) (length ds - k)
+alone radix p k [] one so = grind (arith, heads, take_all {A = ℕ} k [])
+alone radix p zero (d ∷ ds) one so =
+    let low = mul-le-mul_right radix (one-le-pow p radix one) in
+    absurd (omega (arith, low, pow-suc radix p))
+alone radix p (suc k) (d ∷ ds) one so =
+    let rest : Reads radix (suc p) (0 * radix + digit_value d) k ds = grind arith in
+    grind (
+      arith,
+      heads,
+      nat_tests,
+      cases_Bool (eqb d 48),
+      take_all {A = ℕ} p [],
+      alone radix p k ds one,
+      led radix p k d (0 * radix + digit_value d) 0 [] ds one,
+    )
+
+pub first : (radix p k v more : ℕ) (os ds : List ℕ) → 1 ≤ radix
+    → IsOfFirstDigits radix (suc p) os v more → Reads radix (suc p) v k ds
+    → IsOfFirstDigits radix (suc p) (os ++ ds) (digits_value_after radix v (take k ds))
+    (more + (length ds - k))
+first radix p k v more [] ds one of so = grind (arith, heads, alone radix p k ds one)
+first radix p k v more (o ∷ os) ds one of so = grind (
+  arith,
+  heads,
+  cases_Bool (eqb o 48),
+  first radix p k v more os ds one,
+  led radix p k o v more os ds one,
+)

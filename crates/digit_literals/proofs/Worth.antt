@@ -1,12 +1,16 @@
 -- A value with one more digit, and the digit at a place.
-use Rattle.std.proofs.Common.{◌≡◌, ℕ, ◌+◌, ◌*◌, ◌≤◌, true, false, List, [], ◌∷◌, ◌++◌, slice_get, slice_index, Option, Some, None, is_some, option_and_then, refl, ap, sym, ◌∙◌, arith}
+use Rattle.std.proofs.Common.{◌≡◌, ℕ, ◌+◌, ◌*◌, ◌<◌, ◌≤◌, true, false, List, [], ◌∷◌, ◌++◌, length, slice_get, slice_index, Option, Some, None, option_and_then, refl, ◌∙◌, arith}
 use Rattle.std.specs.Char.{digit_value}
 use Rattle.std.specs.Prelude.{IfSome}
 use Rattle.std.specs.Str.Parse.{digits_value_after}
-use Rattle.std.proofs.lemmas.Option.{IfSome_then, gets}
+use Rattle.std.proofs.lemmas.Option.{gets}
 use Rattle.lexical_format.specs.Digits.{digit_of_radix, is_digit_of_radix}
 use Rattle.lexical_digits.specs.Cursor.{holds_of}
+use Rattle.lexical_digits.specs.declared.skip.rule.Rule.{Rule}
+use Rattle.lexical_digits.specs.Separators.{is_digit}
+use Rattle.digit_literals.specs.After.{digits_between}
 use Rattle.digit_literals.specs.Reads.{IsWorth, IsMore}
+use Rattle.digit_literals.proofs.Between.{more_between}
 use Rattle.digit_literals.proofs.ForCallers.{value_is}
 
 pub record IsDigitAt (radix : ℕ) (xs : List ℕ) (i d : ℕ) : Type 0 where
@@ -15,22 +19,11 @@ pub record IsDigitAt (radix : ℕ) (xs : List ℕ) (i d : ℕ) : Type 0 where
 
 pub digit_at : (radix : ℕ) (xs : List ℕ) (i d : ℕ)
     → option_and_then (digit_of_radix radix) (slice_get xs i) ≡ Some d → IsDigitAt radix xs i d
-digit_at radix xs i d e = here (slice_get xs i) refl e
-  where
-    here : (o : Option ℕ) → slice_get xs i ≡ o
-        → option_and_then (digit_of_radix radix) o ≡ Some d → IsDigitAt radix xs i d
-    here None there h = cc
-    here (Some byte) there h =
-        let same : slice_index xs i ≡ byte = grind (arith, gets) in
-        record {
-          is = rw there (ap is_some h);
-          value = rw same h;
-        }
+digit_at radix xs i d e = grind (arith, gets)
 
 pub none_at : (radix : ℕ) (o : Option ℕ) → option_and_then (digit_of_radix radix) o ≡ None
     → holds_of (is_digit_of_radix radix) o ≡ false
-none_at radix None e = refl
-none_at radix (Some byte) e = ap is_some e
+none_at radix o e = grind arith
 
 -- ---- a value, and one more digit
 
@@ -48,14 +41,20 @@ value_next radix before value d ds byte e is =
 
 pub worth_none : (radix before : ℕ) (most : Option ℕ) → IfSome most (λ greatest. before ≤ greatest)
     → IfSome most (IsWorth radix before [] before)
-worth_none radix before most fits = IfSome_then most fits (λ _ l. record { is = refl; fits = l })
+worth_none radix before most fits = grind arith
 
 pub worth_next : (radix before : ℕ) (most : Option ℕ) (value d more : ℕ) (ds : List ℕ) (byte : ℕ)
     → digit_of_radix radix byte ≡ Some d → IfSome most (IsWorth radix before ds value)
     → IfSome most (IsMore radix value d more)
     → IfSome most (IsWorth radix before (ds ++ byte ∷ []) more)
-worth_next radix before None value d more ds byte e worth is_more = tt
-worth_next radix before (Some m) value d more ds byte e worth is_more = record {
-  is = is_more.is ∙ sym (value_next radix before value d ds byte e worth.is);
-  fits = is_more.fits;
-}
+worth_next radix before most value d more ds byte e worth is_more =
+    grind (arith, value_next radix before value d ds byte e)
+
+-- with the digit at a position
+pub value_more : (rule : Rule) (text : List ℕ) (start before at radix d : ℕ) → start ≤ at
+    → at < length text → radix ≡ rule.radix → digit_of_radix radix (slice_index text at) ≡ Some d
+    → digits_value_after rule.radix before (digits_between rule text start (at + 1))
+    ≡ digits_value_after rule.radix before (digits_between rule text start at) * radix + d
+unfolding is_digit
+value_more rule text start before at radix d low l same e =
+    grind (arith, more_between rule text start at low l, value_next)

@@ -45,10 +45,6 @@ integer_of read is_empty =
 -- ---- what a text begins with, up to `u64::MAX`
 
 module _ (rule : Rule) (text : List ℕ) where
-  -- the digits of the text that stand before a position
-  abbrev pub digits_before : ℕ → List ℕ
-  digits_before at = digits_between rule text 0 at
-
   -- there are digits before `end`, which is the stop, and their value is at most `u64::MAX`
   abbrev pub IsInteger : ℕ → ℕ → Type 0
   IsInteger value end = IsIntegerFrom rule text 0 (2 ^ 64 - 1) value end

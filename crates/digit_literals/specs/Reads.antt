@@ -1,14 +1,14 @@
 -- Digits that were read from a start on, up to where they end, or up to the first with which their
 -- value is too large.
-use Rattle.std.specs.Prelude.{◌≡◌, ℕ, ◌+◌, ◌-◌, ◌*◌, ◌^◌, ◌≤◌, min, true, false, if◌then◌else◌, List, length, Option, IfSome, MatchOption, Result, Ok, Err, IfOk, IfErr, OnOk, pos, ◌≤ℤ◌, ◌+ℤ◌}
+use Rattle.std.specs.Prelude.{◌≡◌, ℕ, ◌+◌, ◌-◌, ◌*◌, ◌^◌, ◌≤◌, min, true, false, if◌then◌else◌, List, length, Option, IfSome, MatchOption, Result, Ok, Err, pos, ◌≤ℤ◌, ◌+ℤ◌}
 use Rattle.std.specs.Str.Parse.{digits_value_after}
 use Rattle.lexical_digits.specs.declared.skip.rule.Rule.{Rule}
 use Rattle.lexical_digits.specs.declared.skip.component.Component.{Component}
 use Rattle.lexical_digits.specs.Separators.{zeros, past_zeros}
 use Rattle.lexical_digits.specs.State.{rule, own}
 use Rattle.lexical_digits.specs.Looks.{Held, owed}
-use Rattle.lexical_digits.specs.Stop.{stop, leading_digits_of, past_digits_of}
-use Rattle.digit_literals.specs.After.{digits_between, past_digits_to, digits_read, IsDigits, IsReadTo, ExceedsAt}
+use Rattle.lexical_digits.specs.Stop.{stop, past_digits_of}
+use Rattle.digit_literals.specs.After.{digits_between, past_digits_to, IsDigits, ExceedsAt}
 use Rattle.digit_literals.specs.declared.reading.Digits.{Digits}
 use Rattle.digit_literals.specs.declared.reading.TooLarge.{TooLarge}
 use Rattle.digit_literals.specs.declared.slice.ReadTo.{ReadTo}
@@ -69,19 +69,17 @@ outcome read =
     then Err (record { at = read.end; value = read.value; count = read.count })
     else Ok (record { value = read.value; count = read.count })
 
--- The outcome of a read of a component, where a `Bytes` was a before and is b after. The value is
--- said, and may be too large, only if a greatest one is asked for.
+-- the answer of a reader of a component, where a `Bytes` was a before and is b after
 pub record ReadsOn (k : Component) (before : ℕ) (most : Option ℕ) (a b : Held)
     (result : Result Digits TooLarge) : Type 0 where
-  pub count : IfOk result (λ read. read.count ≡ length (leading_digits_of k a.state))
-  pub ok : IfOk result (λ read. IfSome most (λ _. IsDigits k a.state before read))
-  pub fits : IfOk result (λ read. IfSome most (λ greatest. read.value ≤ greatest))
-  pub passed : OnOk result (b.state ≡ past_digits_of k a.state)
-  pub too_large : IfErr result (λ error. MatchOption most ⊥ (λ greatest.
-      ExceedsAt (rule k a.state) a.state.buffer a.state.cursor (own k a.state) before greatest
-      error.at))
-  pub so_far : IfErr result (λ error. IfSome most (λ _. IsReadTo k a.state before error))
-  pub stays : IfErr result (λ error. b.state ≡ past_digits_to k a.state error.at)
-  pub few : digits_read result ≤ length (leading_digits_of k a.state)
-  pub owes : owed b ≤ℤ (owed a +ℤ pos (8 * digits_read result + 4))
-  pub at_least : min (a.looks + 2 * digits_read result) (2 ^ 64 - 1) ≤ b.looks
+  pub read : ReadTo
+  pub passes : Passes k before most a b read
+  pub is : result ≡ outcome read
+
+-- all digits that lead were read and passed, and their value is at most the greatest
+pub record PassesAll (k : Component) (before most : ℕ) (a b : Held) (read : Digits) : Type 0 where
+  pub ok : IsDigits k a.state before read
+  pub fits : read.value ≤ most
+  pub passed : b.state ≡ past_digits_of k a.state
+  pub owes : owed b ≤ℤ (owed a +ℤ pos (8 * read.count + 4))
+  pub at_least : min (a.looks + 2 * read.count) (2 ^ 64 - 1) ≤ b.looks

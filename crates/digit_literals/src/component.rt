@@ -70,7 +70,7 @@ pub fn read_digits_of(
     ensures at_least { let digits = digits_read result in
         min (bytes.old.looks + 2 * digits) (2 ^ 64 - 1) ≤ bytes.new.looks }
 {
-    read_on(bytes, component, before, Some(u64::MAX))
+    read_digits_up_to(bytes, component, before, u64::MAX)
 }
 
 /// [`read_digits_of`] up to a greatest value: [`TooLarge`] holds the position of the first digit

@@ -1,12 +1,12 @@
 //! The first digits of a number, where it may have more than a `u64` holds.
 
-ghost use Rattle.std.specs.Prelude.{◌≡◌, ◌+◌, ◌*◌, ◌^◌, ◌-◌, ◌≤◌, min, length, pos, ◌≤ℤ◌, ◌+ℤ◌, Some, IfSome, IfNone, Ok};
+ghost use Rattle.std.specs.Prelude.{◌≡◌, ◌+◌, ◌*◌, ◌^◌, ◌-◌, ◌≤◌, min, length, pos, ◌≤ℤ◌, ◌+ℤ◌, IfSome, IfNone};
 ghost use Rattle.lexical_digits.specs.State.{rule};
 ghost use Rattle.lexical_digits.specs.Looks.{owed};
 ghost use Rattle.lexical_digits.specs.Stop.{stop_of, leading_digits_of, past_digits_of};
 ghost use Rattle.digit_literals.specs.After.{digits_to};
 ghost use Rattle.digit_literals.specs.First.{ReadsFirst};
-ghost use Rattle.digit_literals.specs.Reads.{ReadsOn};
+ghost use Rattle.digit_literals.specs.Reads.{PassesAll};
 
 use super::component::{pass_digits, read_digits_up_to};
 use super::reading::Digits;
@@ -74,8 +74,7 @@ pub fn read_first_digits(
 #[inline(always)]
 fn read_decimal(bytes: &mut Bytes, component: Component, before: u64, most: u64) -> Option<Digits>
     requires { before ≤ most }
-    ensures reads { IfSome result (λ read.
-        ReadsOn component before (Some most) bytes.old bytes.new (Ok read)) }
+    ensures reads { IfSome result (PassesAll component before most bytes.old bytes.new) }
     ensures leaves { IfNone result (bytes.new ≡ bytes.old) }
 {
     let rule = bytes.rule(component);
@@ -103,10 +102,6 @@ fn read_first_apart(bytes: &mut Bytes, component: Component, before: u64, most: 
     requires { before ≤ most }
     ensures first { let s = bytes.old.state in
         ReadsFirst (rule component s).radix most before (leading_digits_of component s) result }
-    ensures between { let s = bytes.old.state in
-        leading_digits_of component s ≡ digits_to component s (stop_of component s) }
-    ensures few { result.count ≤ length bytes.old.state.buffer }
-    ensures within { bytes.old.state.cursor + result.count ≤ bytes.new.state.cursor }
     ensures state { bytes.new.state ≡ past_digits_of component bytes.old.state }
     ensures owes { owed bytes.new ≤ℤ (owed bytes.old +ℤ pos (8 * result.count + 8)) }
     ensures at_least { min (bytes.old.looks + 2 * result.count) (2 ^ 64 - 1) ≤ bytes.new.looks }

@@ -1,7 +1,7 @@
 //! The integer that a text begins with, and how many digits it has. No `Bytes` is made where the
 //! slice is enough.
 
-ghost use Rattle.std.specs.Prelude.{◌≡◌, ◌-◌, ◌<◌, ◌≤◌, None, length, filter, IfOk, IfErr, IsTrue};
+ghost use Rattle.std.specs.Prelude.{◌≡◌, ◌==◌, ◌-◌, ◌<◌, ◌≤◌, None, length, filter, IfSome, IfOk, IfErr, IsTrue};
 ghost use Rattle.lexical_format.specs.Word.{is_supported};
 ghost use Rattle.lexical_digits.specs.declared.skip.component.Component.TheVariants.{Integer};
 ghost use Rattle.lexical_digits.specs.Separators.{is_digit};
@@ -52,6 +52,7 @@ pub fn read_integer(text: &[u8], word: u128) -> Result<(u64, usize), LiteralErro
 /// `0x1_f` with internal `_` and radix 16, from 2: Ok((31, 5)); up to 9: Err(Overflow(4))
 /// ```
 #[inline(always)]
+#[tactic(auto, using(crate::proofs::ForCallers::stops))]
 pub fn read_integer_from(
     text: &[u8],
     word: u128,
@@ -68,8 +69,7 @@ pub fn read_integer_from(
     ensures overflow_at { let n = length text.now in
         IfOverflow result (λ at. (start ≤ at) × (at < n)) }
 {
-    let rule = Rule::of(word, Component::Integer);
-    match read_slice(text, rule, start, 0, Some(most)) {
+    match read_ahead(text, word, start, Some(most)) {
         Some(read) => integer_of(read, read.end == start),
         None => {
             let read = read_fresh(text, word, start, Some(most));
@@ -118,24 +118,35 @@ pub fn count_digits(text: &[u8], word: u128) -> Result<usize, usize>
     }
 }
 
-/// The digits of the integer that a text begins with, off the slice or else by a `Bytes`. No value
-/// is asked for.
+/// The digits of the integer that a text begins with. No value is asked for.
 #[inline(always)]
 fn count_text(text: &[u8], word: u128) -> ReadTo
     requires { IsTrue (is_supported word) }
     ensures { ReadsTo (rule_of word Integer) text.now 0 0 None result 0 }
 {
-    match read_slice(text, Rule::of(word, Component::Integer), 0, 0, None) {
+    match read_ahead(text, word, 0, None) {
         Some(read) => read,
         None => read_fresh(text, word, 0, None),
     }
+}
+
+/// Reads the digits of the integer from `start` on, where the slice is enough: up to a greatest
+/// value if one is asked for. There is no digit exactly if no byte was passed.
+#[inline(always)]
+fn read_ahead(text: &[u8], word: u128, start: usize, most: Option<u64>) -> Option<ReadTo>
+    requires supported { IsTrue (is_supported word) }
+    requires within { start ≤ length text.now }
+    ensures reads { let r = rule_of word Integer in
+        IfSome result (λ read. ReadsTo r text.now start 0 most read 0) }
+    ensures empty { IfSome result (λ read. (read.end == start) ≡ (read.count == 0)) }
+{
+    read_slice(text, Rule::of(word, Component::Integer), start, 0, most)
 }
 
 /// Reads the digits of the integer from `start` on by a `Bytes`, whatever separators are met: up to
 /// a greatest value if one is asked for.
 #[cold]
 #[inline(never)]
-#[tactic(auto, using(crate::proofs::Within::any_fits))]
 fn read_fresh(text: &[u8], word: u128, start: usize, most: Option<u64>) -> ReadTo
     requires supported { IsTrue (is_supported word) }
     requires within { start ≤ length text.now }

@@ -1,11 +1,10 @@
 //! The digits that lead what an iterator yields: their value, their number, or both.
 
-ghost use Rattle.std.specs.Prelude.{◌≡◌, ◌+◌, ◌*◌, ◌-◌, ◌<◌, ◌≤◌, length, pos, ◌≤ℤ◌, ◌+ℤ◌, slice_get, option_and_then, MatchOption, IfSome, IfOk, IfErr};
-ghost use Rattle.lexical_format.specs.Digits.{digit_of_radix};
-ghost use Rattle.lexical_digits.specs.Cursor.{holds_of, DigitLaws};
+ghost use Rattle.std.specs.Prelude.{◌≡◌, ℕ, Bool, ◌+◌, ◌*◌, ◌-◌, ◌<◌, ◌≤◌, length, pos, ◌≤ℤ◌, ◌+ℤ◌, slice_get, is_some, option_and_then, MatchOption, IfSome, IfOk, IfErr};
+ghost use Rattle.lexical_format.specs.Digits.{digit_of_radix, is_digit_of_radix};
 ghost use Rattle.lexical_digits.specs.Stop.{leading, after_leading};
 ghost use Rattle.digit_literals.specs.After.{digits_read};
-ghost use Rattle.digit_literals.specs.Outcomes.{digits, ReadsAfter, StopsAt, ReadsAll, FindsNone, PassesMost, OverflowsAt, IfEmpty, IfOverflow};
+ghost use Rattle.digit_literals.specs.Outcomes.{digits, Peeks, ReadsAfter, StopsAt, ReadsAll, FindsNone, PassesMost, OverflowsAt, IfEmpty, IfOverflow};
 ghost use Rattle.digit_literals.specs.declared.LiteralError.TheVariants.{Overflow};
 
 use super::LiteralError;
@@ -58,12 +57,10 @@ impl From<TooLarge> for LiteralError {
 /// The value of the byte at the place, if it is a digit.
 #[inline(always)]
 fn peek_digit<'a, I: DigitsIter<'a>>(iter: &mut I, radix: u32) -> Option<u32>
+    ensures peeks { Peeks I.buffer I.cursor I.place I.taken I.settled (is_digit_of_radix radix)
+        (I.meaning iter.old) (I.meaning iter.new) (is_some result) }
     ensures digit { let m = I.meaning iter.old in
         result ≡ option_and_then (digit_of_radix radix) (slice_get (I.buffer m) (I.place m)) }
-    ensures settles { I.meaning iter.new ≡ I.settled (I.meaning iter.old) }
-    ensures laws { DigitLaws I.valid I.buffer I.cursor I.current_count I.contiguous I.separates
-        I.moved I.place I.digit I.settled I.counted I.taken }
-    ensures valid { I.valid (I.meaning iter.old) }
     ensures owes { I.owed iter.new ≤ℤ (I.owed iter.old +ℤ pos 4) }
     ensures keeps_loan { I.loan iter.new ≡ I.loan iter.old }
 {
@@ -110,7 +107,6 @@ fn take_byte<'a, I: DigitsIter<'a>>(iter: &mut I)
 /// Requires that `before` is at most `most`. Radix and digits are as in [`read_digits`]. Takes no
 /// memory.
 #[inline]
-#[tactic(auto, using(crate::proofs::Values::reading))]
 pub fn read_digits_after<'a, I: DigitsIter<'a>>(
     iter: &mut I,
     radix: u32,
@@ -180,17 +176,14 @@ pub fn read_digits<'a, I: DigitsIter<'a>>(iter: &mut I, radix: u32) -> Result<u6
     Ok(read.value)
 }
 
-/// Whether the byte at the place is a digit.
+/// Whether the byte at the place is a digit: also by each test that tells bytes alike.
 #[inline(always)]
 fn peek_is_digit<'a, I: DigitsIter<'a>>(iter: &mut I) -> bool
-    ensures answers { let m = I.meaning iter.old in
-        result ≡ holds_of (I.digit m) (slice_get (I.buffer m) (I.place m)) }
-    ensures is_byte { let m = I.meaning iter.old in
-        IfSome (slice_get (I.buffer m) (I.place m)) (λ byte. byte < 256) }
-    ensures settles { I.meaning iter.new ≡ I.settled (I.meaning iter.old) }
-    ensures laws { DigitLaws I.valid I.buffer I.cursor I.current_count I.contiguous I.separates
-        I.moved I.place I.digit I.settled I.counted I.taken }
-    ensures valid { I.valid (I.meaning iter.old) }
+    ensures peeks { let m = I.meaning iter.old in
+        (p : ℕ → Bool) → ((byte : ℕ) → byte < 256 → p byte ≡ I.digit m byte)
+        → Peeks I.buffer I.cursor I.place I.taken I.settled p m (I.meaning iter.new) result }
+    ensures same { let m = I.meaning iter.old in
+        (byte : ℕ) → byte < 256 → I.digit (I.taken m) byte ≡ I.digit m byte }
     ensures owes { I.owed iter.new ≤ℤ (I.owed iter.old +ℤ pos 4) }
     ensures keeps_loan { I.loan iter.new ≡ I.loan iter.old }
 {
@@ -205,7 +198,6 @@ fn peek_is_digit<'a, I: DigitsIter<'a>>(iter: &mut I) -> bool
 /// that counts has counted them. The cursor ends at the first item after them, past any separators
 /// before that item, or at the end. Takes no memory.
 #[inline]
-#[tactic(auto, using(crate::proofs::Taking::taking))]
 pub fn take_digits<'a, I: DigitsIter<'a>>(iter: &mut I) -> usize
     ensures digits { let m = I.meaning iter.old in
         result ≡ length (leading I.buffer I.cursor I.place I.taken (I.digit m) m) }

@@ -99,7 +99,7 @@ pub(super) fn read_slice(
 
 /// [`read_slice`], where `radix` is the rule's.
 #[inline(always)]
-#[tactic(auto, using(crate::proofs::Leads::none_led))]
+#[tactic(auto, using(crate::proofs::Passed::reading))]
 pub(super) fn read_radix(
     text: &[u8],
     rule: Rule,
@@ -166,7 +166,7 @@ fn peek_digit_of(bytes: &mut Bytes, component: Component, radix: u32) -> Option<
 /// are met. `next_of` takes each of them.
 #[cold]
 #[inline(never)]
-#[tactic(auto, using(crate::proofs::Values::reading))]
+#[tactic(auto, using(lexical_digits::specs::Laws::Table::place_from))]
 pub(super) fn read_counted(
     bytes: &mut Bytes,
     component: Component,

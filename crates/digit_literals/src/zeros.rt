@@ -5,7 +5,7 @@ ghost use Rattle.std.specs.Prelude.{◌≡◌, ◌+◌, ◌*◌, ◌-◌, ◌^�
 ghost use Rattle.lexical_digits.specs.Separators.{IsSupported};
 ghost use Rattle.lexical_digits.specs.Cursor.{holds_of};
 ghost use Rattle.lexical_digits.specs.CallTable.{byte_at_place, settled, zeros_of, past_zeros_of};
-ghost use Rattle.lexical_digits.specs.Looks.{Costs, owed};
+ghost use Rattle.lexical_digits.specs.Looks.{one_if, owed};
 ghost use Rattle.digit_literals.specs.Reads.{AreZeros};
 
 use super::slice::is_inner;
@@ -59,7 +59,8 @@ fn peek_is_zero(bytes: &mut Bytes, component: Component) -> bool
     ensures zero { result
         ≡ holds_of (λ byte. byte == 48) (byte_at_place component bytes.old.state) }
     ensures settles { bytes.new.state ≡ settled component bytes.old.state }
-    ensures costs { Costs component bytes.old bytes.new }
+    ensures owes { owed bytes.new ≤ℤ (owed bytes.old +ℤ pos 4) }
+    ensures at_least { min (bytes.old.looks + one_if result) (2 ^ 64 - 1) ≤ bytes.new.looks }
 {
     bytes.peek_of(component) == Some(&b'0')
 }

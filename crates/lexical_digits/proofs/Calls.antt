@@ -13,3 +13,4 @@ pub mod ForCallers
 pub mod Loops
 pub mod Rest
 pub mod Rows
+pub use Rattle.lexical_digits.proofs.Calls.Stops.{ends}

@@ -19,7 +19,7 @@ ghost use Rattle.lexical_digits.specs.declared.skip.component.Component.{Compone
 ///
 /// A generic function that reads digits states its contract for any implementer. Its caller calls
 /// this, and then knows what that contract says of an iterator over a `Bytes`.
-#[tactic(auto, using(crate::proofs::Calls::Stops::ends))]
+#[tactic(auto, using(crate::proofs::Calls::ends), unfolding(crate::specs::Separators::is_digit))]
 pub fn digits_end()
     ensures digits { (k : Component) (s : State) → IsState s →
         leading (λ (m : State). m.buffer) (λ m. m.cursor) (place_of k) (taken k)

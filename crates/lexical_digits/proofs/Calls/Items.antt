@@ -1,6 +1,6 @@
 -- For any implementer, what reads come to: the items, the digits that lead, and the zeros.
 use Rattle.std.proofs.Common.{◌≡◌, ℕ, ◌<◌, ◌≤◌, ◌∷◌, [], suc, Bool, List, Some, length, slice_get, slice_index, refl, arith, length-drop, nat_lt, if◌then◌else◌, is_some, zero, true, false, ◌+◌, ltb-true, ltb-false, lt-ltb, le-ltb}
-use Rattle.lexical_digits.specs.Laws.Terms.{gets, slice_get-get_or, slice_get_past, cases_lt, option_map_or, iterate, take_while-cons, leading, after_leading, holds_of, at_zero, past_zero, after_zeros, IterLaws, bytes_left, items, after_items, DigitLaws}
+use Rattle.lexical_digits.specs.Laws.Terms.{gets, slice_get-get_or, slice_get_past, cases_lt, option_map_or, iterate, take_while-cons, leading, holds_of, at_zero, past_zero, after_zeros, IterLaws, bytes_left, items, after_items, DigitLaws}
 use Rattle.lexical_digits.specs.Cursor.{zeros}
 use Rattle.lexical_digits.proofs.Calls.Walk.{Falls, by_walk, walk_step, walk_end}
 
@@ -76,18 +76,6 @@ module _ {M : Type 0} {valid : M → Type 0} {buffer : M → List ℕ} {cursor c
         → leading buffer cursor place taken p m ≡ []
     unfolding leading
     leading_none m v h = rw (items_unroll m v) (grind (arith, take_while-cons {X = ℕ}))
-
-    -- what is left behind a digit is left behind all that lead
-    pub after_digit : (m : M) (b : ℕ) → valid m → slice_get (buffer m) (place m) ≡ Some b
-        → p b ≡ true → after_leading buffer cursor place taken settled p m
-        ≡ after_leading buffer cursor place taken settled p (taken m)
-    unfolding after_leading
-    after_digit m b v e h = rw (leading_digit m b v e h) refl
-
-    pub after_none : (m : M) → valid m → holds_of p (slice_get (buffer m) (place m)) ≡ false
-        → after_leading buffer cursor place taken settled p m ≡ settled m
-    unfolding after_leading
-    after_none m v h = rw (leading_none m v h) refl
 
   module _ (iter : IterLaws valid buffer cursor contiguous separates moved) where
     abbrev starts : M → Bool

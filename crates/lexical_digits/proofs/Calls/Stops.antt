@@ -1,13 +1,12 @@
 -- On the iterator of a component the leading digits are those from the cursor to the stop.
 use Rattle.std.proofs.Common.{◌≡◌, ℕ, zero, suc, ◌+◌, ◌-◌, ◌<◌, ◌≤◌, Bool, cond, List, [], ◌∷◌, length, get_or, take, ap, ◌∙◌, arith, slice_range, filter, if◌then◌else◌}
-use Rattle.lexical_digits.specs.Laws.Terms.{iterate, slice_get-get_or, drop_more, is_digit_of_radix, Rule, Component, is_digit, place, State, IsState, with_cursor, rule, own, with_own, counts, saturating, place_of, settled, taken, leading, after_leading, leading_digits, stop_of, leading_digits_of, past_digits_of, IsNthDigit}
+use Rattle.lexical_digits.specs.Laws.Terms.{iterate, drop_more, Rule, Component, is_digit, place, State, IsState, with_cursor, rule, own, with_own, counts, saturating, place_of, settled, taken, leading, after_leading, leading_digits, stop_of, leading_digits_of, past_digits_of, IsNthDigit}
 use Rattle.lexical_digits.specs.Laws.Kept.{place_kept, place_end}
 use Rattle.lexical_digits.specs.Laws.Place.{by_steps, place_low}
 use Rattle.lexical_digits.specs.Laws.Table.{digit_laws, place_from, own_fits, taken_buffer, taken_word}
 use Rattle.lexical_digits.proofs.Rule.Drain.{passed}
 use Rattle.lexical_digits.proofs.Calls.NextTakesFirst.{of_taken, with_own_taken, with_own_same}
 use Rattle.lexical_digits.proofs.Calls.DigitAtPlace.{Digit, digit_there, none_there, by_digits}
-use Rattle.lexical_digits.proofs.Calls.Items.{after_digit, after_none}
 use Rattle.lexical_digits.proofs.Calls.ItemsOfComponents.{items_are_drain}
 
 pub leading_are : (k : Component) (s : State) → IsState s
@@ -16,28 +15,41 @@ pub leading_are : (k : Component) (s : State) → IsState s
 unfolding leading leading_digits
 leading_are k s v = rw (items_are_drain k s v)
 
-pub past_more : (k : Component) (s : State) → Digit k s
-    → past_digits_of k (taken k s) ≡ past_digits_of k s
-past_more k s d =
+-- the cursor at a position, and n more on the own count, if any count
+abbrev pub counted_to : Component → State → ℕ → ℕ → State
+counted_to k s n i =
+    with_cursor (with_own k s (if counts k s.word then saturating (own k s) n else own k s)) i
+
+pub none_counted : (k : Component) (s : State) → IsState s → (i : ℕ)
+    → with_cursor s i ≡ counted_to k s 0 i
+none_counted k s v i = grind (arith, own_fits k s v, with_own_same k s i)
+
+-- a digit that `next` took is counted with the others
+pub one_counted : (k : Component) (s : State) → Digit k s → (n i : ℕ)
+    → counted_to k (taken k s) n i ≡ counted_to k s (suc n) i
+one_counted k s d n i =
     let own_taken = of_taken (λ r b i c. c) k s d.within in
-    let same = λ (n : ℕ). with_own_taken k s n (stop_of k s) d.within in
+    let same = λ (c : ℕ). with_own_taken k s c i d.within in
     grind (arith, d, taken_word k s)
 
-abbrev after_in : Component → (ℕ → Bool) → State → State
-after_in k p s =
-    after_leading (λ (m : State). m.buffer) (λ m. m.cursor) (place_of k) (taken k) (settled k) p s
+pub past_more : (k : Component) (s : State) → Digit k s
+    → past_digits_of k (taken k s) ≡ past_digits_of k s
+past_more k s d = rw (d.leading, d.stop) (one_counted k s d _ _)
+
+all_left : (k : Component) (s : State) → IsState s
+    → settled k (iterate (taken k) (length (leading_digits_of k s)) s) ≡ past_digits_of k s
+all_left k =
+    by_digits k
+    (λ s. settled k (iterate (taken k) (length (leading_digits_of k s)) s) ≡ past_digits_of k s)
+    (λ s v e. grind (arith, none_there k s e, none_counted k s v (place_of k s)))
+    (λ s v d rest. ap (λ (ds : List ℕ). settled k (iterate (taken k) (length ds) s)) d.leading
+    ∙ rest ∙ past_more k s d)
 
 pub after_leading_are : (k : Component) (s : State) → IsState s
     → after_leading (λ (m : State). m.buffer) (λ m. m.cursor) (place_of k) (taken k) (settled k)
     (is_digit (rule k s)) s ≡ past_digits_of k s
-after_leading_are k =
-    by_digits k (λ s. after_in k (is_digit (rule k s)) s ≡ past_digits_of k s)
-    (λ s v e. after_none (digit_laws k) (is_digit (rule k s)) s v e
-    ∙ grind (arith, none_there k s e, own_fits k s v, with_own_same k s (place_of k s)))
-    (λ s v d rest.
-    let there = slice_get-get_or s.buffer (place_of k s) 0 d.within in
-    let after = after_digit (digit_laws k) (is_digit (rule k s)) s _ v there d.is in
-    grind (arith, taken_word k s, past_more k s d))
+unfolding after_leading
+after_leading_are k s v = rw (leading_are k s v) (all_left k s v)
 
 -- ---- the digits from the cursor to the stop
 
@@ -65,14 +77,15 @@ skipped rule buffer e =
 abbrev digits_to : Component → State → ℕ → List ℕ
 digits_to k s e = filter (is_digit (rule k s)) (slice_range s.buffer s.cursor e)
 
-none_before : (k : Component) (s : State) → IsState s → digits_to k s (place_of k s) ≡ []
+pub none_before : (k : Component) (s : State) → IsState s → digits_to k s (place_of k s) ≡ []
 unfolding place_of
 none_before k s v =
     skipped (rule k s) s.buffer (place_of k s) s.cursor (own k s) v.within (omega arith)
     ∙ filter_none (is_digit (rule k s)) s.buffer (place_of k s) (place_of k s) (omega arith)
 
 -- the digits up to a position behind the first of them
-digits_upto : (k : Component) (s : State) → IsState s → Digit k s → (e : ℕ) → place_of k s < e
+pub digits_upto : (k : Component) (s : State) → IsState s → Digit k s → (e : ℕ)
+    → place_of k s < e
     → digits_to k s e ≡ get_or s.buffer (place_of k s) 0 ∷ digits_to k (taken k s) e
 unfolding place_of
 digits_upto k s v d e past =
@@ -127,41 +140,17 @@ nth_digit (suc n) k s v l =
 -- after n digits `peek` leaves the cursor at the next, and n more on the own count, if any count
 pub nth_leaves : (n : ℕ) (k : Component) (s : State) → IsState s
     → n < length (leading_digits_of k s)
-    → settled k (iterate (taken k) n s)
-    ≡ with_cursor
-    (with_own k s (if counts k s.word then saturating (own k s) n else own k s))
-    (place_of k (iterate (taken k) n s))
-nth_leaves zero k s v l = grind (arith, own_fits k s v, with_own_same k s (place_of k s))
+    → settled k (iterate (taken k) n s) ≡ counted_to k s n (place_of k (iterate (taken k) n s))
+nth_leaves zero k s v l = none_counted k s v (place_of k s)
 nth_leaves (suc n) k s v l =
     let d = digit_first k s (omega arith) in
-    let own_taken = of_taken (λ r b i c. c) k s d.within in
-    let at : ℕ = place_of k (iterate (taken k) n (taken k s)) in
-    let same = λ (c : ℕ). with_own_taken k s c at d.within in
-    let less : n < length (leading_digits_of k (taken k s)) =
-    omega (arith, l, ap length d.leading) in
-    let rest = nth_leaves n k (taken k s) ((digit_laws k).taken_valid s v) less in
-    grind (arith, d, taken_word k s)
+    nth_leaves n k (taken k s) ((digit_laws k).taken_valid s v)
+    (omega (arith, l, ap length d.leading)) ∙ one_counted k s d n _
 
 -- where none leads, the place is the stop
 pub none_leads : (k : Component) (s : State) → leading_digits_of k s ≡ []
     → stop_of k s ≡ place_of k s
 none_leads k s e = grind (arith, digit_there k s, none_there k s)
 
-pub leading_by_radix : (k : Component) (s : State) (radix : ℕ) → IsState s
-    → radix ≡ (rule k s).radix
-    → leading (λ (m : State). m.buffer) (λ m. m.cursor) (place_of k) (taken k)
-    (is_digit_of_radix radix) s ≡ leading_digits_of k s
-unfolding is_digit
-leading_by_radix k s radix v e = rw e (leading_are k s v)
-
-pub after_leading_by_radix : (k : Component) (s : State) (radix : ℕ) → IsState s
-    → radix ≡ (rule k s).radix
-    → after_leading (λ (m : State). m.buffer) (λ m. m.cursor) (place_of k) (taken k) (settled k)
-    (is_digit_of_radix radix) s ≡ past_digits_of k s
-unfolding is_digit
-after_leading_by_radix k s radix v e = rw e (after_leading_are k s v)
-
 -- what `digits_end` promises
-pub ruleset by_rule = (leading_are, after_leading_are, leading_between, none_leads, nth_digit)
-
-pub ruleset ends = (by_rule, leading_by_radix, after_leading_by_radix)
+pub ruleset ends = (leading_are, after_leading_are, leading_between, none_leads, nth_digit)

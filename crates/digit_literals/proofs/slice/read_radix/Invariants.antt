@@ -1,5 +1,15 @@
-use Rattle.digit_literals.proofs.Leads.{HasLed}
+use Rattle.std.proofs.Common.{◌≡◌, ◌+◌, length}
+use Rattle.std.specs.Prelude.{IfSome}
+use Rattle.digit_literals.specs.After.{digits_between}
+use Rattle.digit_literals.specs.Reads.{IsWorth}
+use Rattle.digit_literals.proofs.Passed.{HasPassed}
 use Rattle.digit_literals.proofs.slice.read_radix.Given as goal
 
 abbrev pub invariant-loop-at : goal.invariant-loop-at
-invariant-loop-at l = HasLed l.rule l.text l.start l.before l.most l.at l.separators l.value
+invariant-loop-at l =
+    let digits = digits_between l.rule l.text l.start l.at in
+    record {
+      passed : HasPassed l.rule l.text l.start l.at;
+      all : l.at ≡ l.start + length digits + l.separators;
+      worth : IfSome l.most (IsWorth l.rule.radix l.before digits l.value);
+    }

@@ -1,5 +1,12 @@
-use Rattle.digit_literals.proofs.LeadingZeros.{HasPassed}
+use Rattle.std.proofs.Common.{◌≡◌, ◌+◌, length}
+use Rattle.digit_literals.specs.After.{digits_between}
+use Rattle.digit_literals.proofs.LeadingZeros.{AllZeros}
+use Rattle.digit_literals.proofs.Passed.{HasPassed}
 use Rattle.digit_literals.proofs.zeros.read_zeros.Given as goal
 
 abbrev pub invariant-loop-at : goal.invariant-loop-at
-invariant-loop-at l = HasPassed l.rule l.text l.start l.at l.separators
+invariant-loop-at l = record {
+  passed : HasPassed l.rule l.text l.start l.at;
+  zeros : AllZeros l.rule l.text l.start l.at;
+  all : l.at ≡ l.start + length (digits_between l.rule l.text l.start l.at) + l.separators;
+}

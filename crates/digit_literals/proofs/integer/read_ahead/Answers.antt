@@ -1,10 +1,7 @@
 use Rattle.lexical_digits.specs.declared.skip.component.Component.TheVariants.{Integer}
 use Rattle.lexical_digits.proofs.Rule.Supported.{supported_by}
-use Rattle.digit_literals.proofs.integer.count_text.Goals as goal
+use Rattle.digit_literals.proofs.integer.read_ahead.Goals as goal
 
 pub read_slice-requires-clause-supported : goal.read_slice-requires-clause-supported
 read_slice-requires-clause-supported c =
-    supported_by _ c.args.word Integer c.of.ensures c.requires
-
-pub returns-in-Some : goal.returns-in-Some
-returns-in-Some c = (rw c.of.ensures at c.in-Some.ensures).reads 0
+    supported_by _ c.args.word Integer c.of.ensures c.requires.supported

@@ -1,0 +1,22 @@
+use Rattle.std.proofs.Common.{rules, ap, sym, ◌∙◌, refl, ◌<◌}
+use Rattle.digit_literals.proofs.Taking.{peeks}
+use Rattle.digit_literals.proofs.reading.peek_is_digit.Goals as goal
+
+pub returns-in-Some-clause-peeks : goal.returns-in-Some-clause-peeks
+returns-in-Some-clause-peeks g c = λ p same.
+    let k : g.claim c.lifetimes = search rules in
+    let laws = (g.met.I.DigitsIter c.lifetimes k).digit_laws in
+    let v = (g.met.I.Iter c.lifetimes k).valid_now c.args.iter.now in
+    let l : c.in-Some.byte.now < 256 = search rules in
+    peeks laws _ v p _ _ c.peek.ensures.settles
+    (rw (← c.peek.ensures.byte, c.in-Some.is) (c.is_digit.ensures
+    ∙ ap (λ m. g.I.DigitsIter.digit m c.in-Some.byte.now) c.peek.ensures.settles
+    ∙ laws.settled_digit _ _ v l ∙ sym (same _ l)))
+
+pub returns-in-None-clause-peeks : goal.returns-in-None-clause-peeks
+returns-in-None-clause-peeks g c = λ p same.
+    let k : g.claim c.lifetimes = search rules in
+    let laws = (g.met.I.DigitsIter c.lifetimes k).digit_laws in
+    let v = (g.met.I.Iter c.lifetimes k).valid_now c.args.iter.now in
+    peeks laws _ v p _ _ c.peek.ensures.settles
+    (rw (← c.peek.ensures.byte, c.in-None.is) refl)
