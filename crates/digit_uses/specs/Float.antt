@@ -1,10 +1,10 @@
 -- A float in words of its text: the digits of integer and fraction, the exponent, and their ends.
-use Rattle.std.specs.Prelude.{◌≡◌, ⊤, ℕ, ◌+◌, ◌<◌, ◌≤◌, ◌^◌, true, if◌then◌else◌, List, [], ◌++◌, length, ℤ, pos, neg_ℤ, ◌+ℤ◌, ◌-ℤ◌}
+use Rattle.std.specs.Prelude.{◌≡◌, ⊤, ℕ, ◌+◌, ◌<◌, true, if◌then◌else◌, List, [], ◌++◌, length, ℤ, pos, neg_ℤ, ◌+ℤ◌, ◌-ℤ◌}
 use Rattle.std.specs.Str.Parse.{digits_value}
 use Rattle.lexical_format.specs.Word.{exponent_radix}
 use Rattle.lexical_digits.specs.declared.skip.component.Component.{Component}
 use Rattle.lexical_digits.specs.declared.skip.component.Component.TheVariants.{Integer, Fraction, Exponent}
-use Rattle.lexical_digits.specs.State.{State, rule_of}
+use Rattle.lexical_digits.specs.State.{rule_of}
 use Rattle.lexical_digits.specs.Stop.{stop}
 use Rattle.digit_literals.specs.After.{digits_between}
 use Rattle.digit_uses.specs.declared.float.FloatError.{FloatError}

@@ -2,18 +2,38 @@
 //!
 //! Proof by hand: 8 lines, four answers on what is owed.
 
-ghost use Rattle.std.specs.Prelude.{◌≡◌, ◌+◌, ◌*◌, ◌<◌, pos, ◌≤ℤ◌, ◌+ℤ◌, true, length, IfOk, IfErr, IfSome, IfNone};
+ghost use Rattle.std.specs.Prelude.{◌≡◌, ◌+◌, ◌*◌, ◌<◌, if◌then◌else◌, pos, ◌≤ℤ◌, ◌+ℤ◌, true, length, IfOk, IfErr, IfSome, IfNone};
 ghost use Rattle.std.specs.Str.Parse.{digits_value};
 ghost use Rattle.lexical_digits.specs.State.{rule, own, with_cursor};
 ghost use Rattle.lexical_digits.specs.Looks.{owed};
 ghost use Rattle.lexical_digits.specs.Stop.{leading_digits_of, past_digits_of};
 ghost use Rattle.lexical_digits.specs.declared.skip.component.Component.TheVariants.{Exponent};
 ghost use Rattle.digit_literals.specs.After.{PassesAt};
-ghost use Rattle.digit_uses.specs.Bytes.{stands, is_mark};
+ghost use Rattle.digit_uses.specs.Bytes.{one_of, stands, is_mark};
 
-use crate::float::pass_one_of;
 use digit_literals::{TooLarge, read_digits_of};
+use lexical_digits::iterator::{Iter, IterBodies};
 use lexical_digits::skip::{Bytes, Component};
+
+/// Moves past the byte at the cursor if it is one of these, and answers whether it is.
+#[inline(always)]
+fn pass_one_of(bytes: &mut Bytes, wanted: &[u8]) -> bool
+    ensures answer { let s = bytes.old.state in
+        result ≡ stands (one_of wanted.now) s.buffer s.cursor }
+    ensures state { let s = bytes.old.state in
+        bytes.new.state ≡ if result then with_cursor s (s.cursor + 1) else s }
+    ensures owes { owed bytes.new ≤ℤ owed bytes.old }
+{
+    let found = match bytes.first() {
+        Some(byte) => wanted.contains(byte),
+        None => false,
+    };
+    if found {
+        let at = bytes.cursor();
+        bytes.set_cursor(at + 1);
+    }
+    found
+}
 
 /// The value of the exponent whose mark `e` or `E` is at the cursor, which is then after its
 /// digits. `None` if there is no mark, or no digit follows it, as in `12em`. Then, and if the value

@@ -1,18 +1,19 @@
 //! The front half of a reader of decimal floats: takes `-1_234.5_6e+1_0` apart into sign, mantissa
-//! and exponent, by three components of one `Bytes`. The mantissa is the first 19 significant
+//! and exponent, each component by a `Bytes` of its own. The mantissa is the first 19 significant
 //! digits of integer and fraction, which a `u64` always holds. The exponent counts those that are
 //! dropped, so that a reader goes on as for a short number.
 //!
-//! Proof by hand: 41 lines in the answers of `read_mantissa` and `read_float`, which carry what a
-//! call ensures from one state to the next, and 16 in `proofs/Floats.antt`.
+//! A component's digits depend on the text, the word and the position, and not on what was read
+//! before. So each call takes these three, and its clauses speak of no state.
+//!
+//! Proof by hand: 28 lines in the answers of `read_part` and `read_mantissa`, and 26 in
+//! `proofs/Floats.antt`.
 
-ghost use Rattle.std.specs.Prelude.{◌≡◌, ◌+◌, ◌-◌, ◌^◌, ◌<◌, ◌≤◌, min, length, take, IsTrue, if◌then◌else◌, IfOk, IfErr, OnOk, IfSome, IfNone, MatchOption, pos, ◌+ℤ◌, ◌-ℤ◌, ◌≤ℤ◌};
+ghost use Rattle.std.specs.Prelude.{◌≡◌, true, ◌+◌, ◌-◌, ◌^◌, ◌<◌, ◌≤◌, length, take, IsTrue, IfOk, IfErr, OnOk, pos, ◌+ℤ◌, ◌-ℤ◌};
 ghost use Rattle.std.specs.Int.{saturate_signed, w64};
 ghost use Rattle.std.specs.Str.Parse.{digits_value};
-ghost use Rattle.lexical_format.specs.Word.{is_supported, mantissa_radix, exponent_radix};
-ghost use Rattle.lexical_digits.specs.State.{rule, own, with_cursor};
-ghost use Rattle.lexical_digits.specs.Stop.{past_digits_of};
-ghost use Rattle.lexical_digits.specs.Looks.{owed};
+ghost use Rattle.lexical_format.specs.Word.{is_supported, mantissa_radix};
+ghost use Rattle.lexical_digits.specs.State.{start, rule_of, with_cursor};
 ghost use Rattle.lexical_digits.specs.declared.skip.component.Component.TheVariants.{Exponent};
 ghost use Rattle.digit_literals.specs.First.{ReadsFirst};
 ghost use Rattle.digit_literals.specs.Significant.{significant, IsOfFirstDigits};
@@ -49,58 +50,72 @@ pub enum FloatError {
     NoExponent(usize),
 }
 
-/// Moves past the byte at the cursor if it is one of these, and answers whether it is.
-#[inline(always)]
-pub(crate) fn pass_one_of(bytes: &mut Bytes, wanted: &[u8]) -> bool
-    ensures answer { let s = bytes.old.state in
-        result ≡ stands (one_of wanted.now) s.buffer s.cursor }
-    ensures state { let s = bytes.old.state in
-        bytes.new.state ≡ if result then with_cursor s (s.cursor + 1) else s }
-    ensures owes { owed bytes.new ≤ℤ owed bytes.old }
+/// Whether one of these bytes stands at a position.
+#[inline]
+fn has_one_of(text: &[u8], at: usize, wanted: &[u8]) -> bool
+    ensures answer { result ≡ stands (one_of wanted.now) text.now at }
+    ensures within { result ≡ true → at < length text.now }
 {
-    let found = match bytes.first() {
+    match text.get(at) {
         Some(byte) => wanted.contains(byte),
         None => false,
-    };
-    if found {
-        let at = bytes.cursor();
-        bytes.set_cursor(at + 1);
     }
-    found
 }
 
-/// Moves past a sign at the cursor, if there is one, and answers whether it is a minus.
-#[inline(always)]
-fn pass_sign(bytes: &mut Bytes) -> bool
-    ensures answer { let s = bytes.old.state in result ≡ stands is_minus s.buffer s.cursor }
-    ensures state { let s = bytes.old.state in
-        bytes.new.state ≡ with_cursor s (past_sign s.buffer s.cursor) }
+/// A sign, if there is one: whether it is a minus, and the position after it.
+#[inline]
+fn read_sign(text: &[u8], at: usize) -> (bool, usize)
+    requires { at ≤ length text.now }
+    ensures minus { result.0 ≡ stands is_minus text.now at }
+    ensures after { result.1 ≡ past_sign text.now at }
+    ensures within { result.1 ≤ length text.now }
 {
-    let is_negative = bytes.first_is_cased(b'-');
-    pass_one_of(bytes, b"+-");
-    is_negative
+    match text.get(at) {
+        Some(b'-') => (true, at + 1),
+        Some(b'+') => (false, at + 1),
+        _ => (false, at),
+    }
 }
 
 /// The greatest value of 19 digits.
 const MOST: u64 = 9_999_999_999_999_999_999;
 
-/// [`read_first_digits`] from the cursor on, in words of the text. Requires that no digit of the
-/// component was counted.
+/// A `Bytes` that counted nothing, with the cursor at a position.
+// `inline(always)` would make `read_float` too large to be inlined.
+#[inline]
+fn bytes_at<'a>(text: &'a [u8], word: u128, at: usize) -> Bytes<'a>
+    requires supported { IsTrue (is_supported word) }
+    requires within { at ≤ length text.now }
+    ensures { result.state ≡ with_cursor (start text.now word) at }
+{
+    let mut bytes = Bytes::new(text, word);
+    bytes.set_cursor(at);
+    bytes
+}
+
+/// [`read_first_digits`] from a position on, and where they end.
 #[inline(always)]
 #[tactic(auto, unfolding(crate::specs::Float::digits_from, crate::specs::Float::digits_end))]
-fn read_part(bytes: &mut Bytes, component: Component, before: u64, most: u64) -> FirstDigits
-    requires uncounted { own component bytes.old.state ≡ 0 }
+fn read_part(
+    text: &[u8],
+    word: u128,
+    component: Component,
+    at: usize,
+    before: u64,
+    most: u64,
+) -> (FirstDigits, usize)
+    requires supported { IsTrue (is_supported word) }
+    requires within { at ≤ length text.now }
     requires before { before ≤ most }
-    ensures part { let s = bytes.old.state in ReadsFirst (rule component s).radix most before
-        (digits_from s.word s.buffer component s.cursor) result }
-    ensures end { let s = bytes.old.state in
-        bytes.new.state.cursor ≡ digits_end s.word s.buffer component s.cursor }
-    ensures within { bytes.old.state.cursor + result.count ≤ bytes.new.state.cursor }
-    ensures word { bytes.new.state.word ≡ bytes.old.state.word }
-    ensures buffer { bytes.new.state.buffer ≡ bytes.old.state.buffer }
-    ensures state { bytes.new.state ≡ past_digits_of component bytes.old.state }
+    ensures part { ReadsFirst (rule_of word component).radix most before
+        (digits_from word text.now component at) result.0 }
+    ensures end { result.1 ≡ digits_end word text.now component at }
+    ensures onward { at + result.0.count ≤ result.1 }
+    ensures within { result.1 ≤ length text.now }
 {
-    read_first_digits(bytes, component, before, most)
+    let mut bytes = bytes_at(text, word, at);
+    let read = read_first_digits(&mut bytes, component, before, most);
+    (read, bytes.cursor())
 }
 
 /// The digits of integer and fraction.
@@ -114,99 +129,55 @@ struct Mantissa {
     places: usize,
     /// How many follow the first 19 significant ones.
     dropped: usize,
+    /// Where they end.
+    end: usize,
 }
 
-/// Reads integer and fraction from the cursor on. Requires that no digit was counted.
+/// Reads integer and fraction from a position on.
 #[inline(always)]
 #[tactic(auto, unfolding(crate::specs::Float::mantissas))]
-fn read_mantissa(bytes: &mut Bytes) -> Mantissa
-    requires integer { bytes.old.state.integer ≡ 0 }
-    requires fraction { bytes.old.state.fraction ≡ 0 }
-    requires exponent { bytes.old.state.exponent ≡ 0 }
-    requires decimal { mantissa_radix bytes.old.state.word ≡ 10 }
-    ensures first { let s = bytes.old.state in
-        IsOfFirstDigits 10 19 (mantissa_digits s.word s.buffer s.cursor)
+fn read_mantissa(text: &[u8], word: u128, at: usize) -> Mantissa
+    requires supported { IsTrue (is_supported word) }
+    requires decimal { mantissa_radix word ≡ 10 }
+    requires within { at ≤ length text.now }
+    ensures first { IsOfFirstDigits 10 19 (mantissa_digits word text.now at)
         result.value result.dropped }
-    ensures digits { let s = bytes.old.state in
-        result.digits ≡ length (mantissa_digits s.word s.buffer s.cursor) }
-    ensures places { let s = bytes.old.state in
-        result.places ≡ length (places s.word s.buffer s.cursor) }
+    ensures digits { result.digits ≡ length (mantissa_digits word text.now at) }
+    ensures places { result.places ≡ length (places word text.now at) }
     ensures few_places { result.places < 2 ^ 63 }
     ensures few_dropped { result.dropped < 2 ^ 63 }
-    ensures word { bytes.new.state.word ≡ bytes.old.state.word }
-    ensures buffer { bytes.new.state.buffer ≡ bytes.old.state.buffer }
-    ensures end { let s = bytes.old.state in
-        bytes.new.state.cursor ≡ mantissa_end s.word s.buffer s.cursor }
-    ensures exponent { bytes.new.state.exponent ≡ 0 }
+    ensures end { result.end ≡ mantissa_end word text.now at }
+    ensures within { result.end ≤ length text.now }
 {
-    let integer = read_part(bytes, Component::Integer, 0, MOST);
-    if !pass_one_of(bytes, b".") {
+    let (integer, end) = read_part(text, word, Component::Integer, at, 0, MOST);
+    if !has_one_of(text, end, b".") {
         return Mantissa {
             value: integer.value,
             digits: integer.count,
             places: 0,
             dropped: integer.dropped,
+            end,
         };
     }
-    let fraction = read_part(bytes, Component::Fraction, integer.value, MOST);
+    let (fraction, end) = read_part(
+        text,
+        word,
+        Component::Fraction,
+        end + 1,
+        integer.value,
+        MOST,
+    );
     Mantissa {
         value: fraction.value,
         digits: integer.count + fraction.count,
         places: fraction.count,
         dropped: integer.dropped + fraction.dropped,
+        end,
     }
-}
-
-/// Reads the digits of an exponent: their value, or `u64::MAX` if it is above that. `None` if there
-/// is no digit.
-#[inline(always)]
-fn read_magnitude(bytes: &mut Bytes) -> Option<u64>
-    requires { bytes.old.state.exponent ≡ 0 }
-    ensures value { let s = bytes.old.state in
-        let ds = digits_from s.word s.buffer Exponent s.cursor in
-        IfSome result (λ v. v ≡ min (digits_value (exponent_radix s.word) ds) (2 ^ 64 - 1)) }
-    ensures digits { let s = bytes.old.state in
-        let ds = digits_from s.word s.buffer Exponent s.cursor in
-        MatchOption result (length ds ≡ 0) (λ _. 0 < length ds) }
-    ensures end { let s = bytes.old.state in
-        bytes.new.state.cursor ≡ digits_end s.word s.buffer Exponent s.cursor }
-{
-    let part = read_part(bytes, Component::Exponent, 0, u64::MAX);
-    if part.count == 0 {
-        return None;
-    }
-    Some(if part.dropped == 0 {
-        part.value
-    } else {
-        u64::MAX
-    })
-}
-
-/// Reads a sign and the digits of an exponent: answers their value with `more` added, or the end of
-/// `i64` nearest to that. `None` if there is no digit.
-#[inline(always)]
-#[tactic(auto, using(crate::proofs::Floats::capped), unfolding(crate::specs::Float::signed_at))]
-fn read_signed(bytes: &mut Bytes, more: i64) -> Option<i64>
-    requires { bytes.old.state.exponent ≡ 0 }
-    ensures sum { let s = bytes.old.state in IfSome result (λ e.
-        e ≡ saturate_signed w64 (signed_at s.word s.buffer s.cursor +ℤ more)) }
-    ensures digits { let s = bytes.old.state in
-        let ds = digits_from s.word s.buffer Exponent (past_sign s.buffer s.cursor) in
-        MatchOption result (length ds ≡ 0) (λ _. 0 < length ds) }
-    ensures end { let s = bytes.old.state in bytes.new.state.cursor
-        ≡ digits_end s.word s.buffer Exponent (past_sign s.buffer s.cursor) }
-{
-    let is_negative = pass_sign(bytes);
-    let value = read_magnitude(bytes)?;
-    Some(if is_negative {
-        more.saturating_sub_unsigned(value)
-    } else {
-        more.saturating_add_unsigned(value)
-    })
 }
 
 /// What the digits that are dropped, and those that follow the point, add to the exponent.
-#[inline(always)]
+#[inline]
 fn shift_of(dropped: usize, places: usize) -> i64
     requires dropped { dropped < 2 ^ 63 }
     requires places { places < 2 ^ 63 }
@@ -215,30 +186,65 @@ fn shift_of(dropped: usize, places: usize) -> i64
     dropped as i64 - places as i64
 }
 
-/// Reads an exponent, if its mark is at the cursor: answers it with the shift of the mantissa, or
-/// the end of `i64` nearest to that. `None` if no digit follows the mark. Requires that no digit of
-/// it was counted.
+/// Reads a sign and the digits of an exponent: answers their value with `more` added, or the end of
+/// `i64` nearest to that, and where they end; only where they end if there is no digit.
+#[inline(always)]
+#[tactic(auto, using(crate::proofs::Floats::capped), unfolding(crate::specs::Float::signed_at))]
+fn read_signed(text: &[u8], word: u128, at: usize, more: i64) -> Result<(i64, usize), usize>
+    requires supported { IsTrue (is_supported word) }
+    requires within { at ≤ length text.now }
+    ensures sum { IfOk result (λ r.
+        r.0 ≡ saturate_signed w64 (signed_at word text.now at +ℤ more)) }
+    ensures some { OnOk result
+        (0 < length (digits_from word text.now Exponent (past_sign text.now at))) }
+    ensures none { IfErr result (λ _.
+        length (digits_from word text.now Exponent (past_sign text.now at)) ≡ 0) }
+    ensures end { IfOk result (λ r.
+        r.1 ≡ digits_end word text.now Exponent (past_sign text.now at)) }
+    ensures stop { IfErr result (λ stop.
+        stop ≡ digits_end word text.now Exponent (past_sign text.now at)) }
+{
+    let (is_negative, digits_at) = read_sign(text, at);
+    let (part, end) = read_part(text, word, Component::Exponent, digits_at, 0, u64::MAX);
+    if part.count == 0 {
+        return Err(end);
+    }
+    let value = if part.dropped == 0 {
+        part.value
+    } else {
+        u64::MAX
+    };
+    let exponent = if is_negative {
+        more.saturating_sub_unsigned(value)
+    } else {
+        more.saturating_add_unsigned(value)
+    };
+    Ok((exponent, end))
+}
+
+/// Reads an exponent after a mantissa, if its mark is there: answers it with the shift of the
+/// mantissa, or the end of `i64` nearest to that, and where it ends; only where it ends if no digit
+/// follows the mark.
 #[inline(always)]
 #[tactic(auto, using(crate::proofs::Floats::unchanged), unfolding(crate::specs::Float::exponents))]
-fn read_exponent(bytes: &mut Bytes, mantissa: Mantissa) -> Option<i64>
-    requires exponent { bytes.old.state.exponent ≡ 0 }
+fn read_exponent(text: &[u8], word: u128, mantissa: Mantissa) -> Result<(i64, usize), usize>
+    requires supported { IsTrue (is_supported word) }
+    requires within { mantissa.end ≤ length text.now }
     requires dropped { mantissa.dropped < 2 ^ 63 }
     requires places { mantissa.places < 2 ^ 63 }
-    ensures exponent { let s = bytes.old.state in IfSome result (λ e.
-        e ≡ saturate_signed w64 (written s.word s.buffer s.cursor
+    ensures exponent { IfOk result (λ r.
+        r.0 ≡ saturate_signed w64 (written word text.now mantissa.end
         +ℤ (pos mantissa.dropped -ℤ pos mantissa.places))) }
-    ensures some { let s = bytes.old.state in
-        IfSome result (λ _. HasExponent s.word s.buffer s.cursor) }
-    ensures none { let s = bytes.old.state in
-        IfNone result (LacksExponent s.word s.buffer s.cursor) }
-    ensures end { let s = bytes.old.state in
-        bytes.new.state.cursor ≡ exponent_end s.word s.buffer s.cursor }
+    ensures some { OnOk result (HasExponent word text.now mantissa.end) }
+    ensures none { IfErr result (λ _. LacksExponent word text.now mantissa.end) }
+    ensures end { IfOk result (λ r. r.1 ≡ exponent_end word text.now mantissa.end) }
+    ensures stop { IfErr result (λ stop. stop ≡ exponent_end word text.now mantissa.end) }
 {
     let more = shift_of(mantissa.dropped, mantissa.places);
-    if pass_one_of(bytes, b"eE") {
-        read_signed(bytes, more)
+    if has_one_of(text, mantissa.end, b"eE") {
+        read_signed(text, word, mantissa.end + 1, more)
     } else {
-        Some(more)
+        Ok((more, mantissa.end))
     }
 }
 
@@ -266,20 +272,19 @@ pub fn read_float(text: &[u8], word: u128) -> Result<Float, FloatError>
         f.end ≡ exponent_end word text.now (exponent_at word text.now)) }
     ensures fault { IfErr result (IsFault word text.now) }
 {
-    let mut bytes = Bytes::new(text, word);
-    let is_negative = pass_sign(&mut bytes);
-    let mantissa = read_mantissa(&mut bytes);
+    let (is_negative, start) = read_sign(text, 0);
+    let mantissa = read_mantissa(text, word, start);
     if mantissa.digits == 0 {
-        return Err(FloatError::NoDigit(bytes.cursor()));
+        return Err(FloatError::NoDigit(mantissa.end));
     }
-    let Some(exponent) = read_exponent(&mut bytes, mantissa) else {
-        return Err(FloatError::NoExponent(bytes.cursor()));
-    };
-    Ok(Float {
-        is_negative,
-        mantissa: mantissa.value,
-        dropped: mantissa.dropped,
-        exponent,
-        end: bytes.cursor(),
-    })
+    match read_exponent(text, word, mantissa) {
+        Ok((exponent, end)) => Ok(Float {
+            is_negative,
+            mantissa: mantissa.value,
+            dropped: mantissa.dropped,
+            exponent,
+            end,
+        }),
+        Err(at) => Err(FloatError::NoExponent(at)),
+    }
 }

@@ -2,22 +2,20 @@ use Rattle.std.proofs.Common.{append-nil, refl, arith}
 use Rattle.digit_uses.specs.Float.{mantissa_digits, places, fraction_digits}
 use Rattle.digit_uses.proofs.float.read_mantissa.Goals as goal
 
-pub returns-then-not-pass_one_of-clause-first : goal.returns-then-not-pass_one_of-clause-first
+pub returns-then-not-has_one_of-clause-first : goal.returns-then-not-has_one_of-clause-first
 unfolding mantissa_digits places fraction_digits
-returns-then-not-pass_one_of-clause-first c =
-    let read = c.read_part-integer.ensures in
+returns-then-not-has_one_of-clause-first c =
+    let read = c.read_part-end.ensures in
     let integer = rw c.requires.decimal at read.part in
-    let stop = rw (read.buffer, read.end) at c.if-not-pass_one_of.ensures.answer in
+    let stop = rw read.end at c.if-not-has_one_of.ensures.answer in
     rw (← stop, append-nil) (integer.alone 19 (omega arith) refl refl)
 
 pub returns-clause-first : goal.returns-clause-first
 unfolding mantissa_digits places fraction_digits
 returns-clause-first c =
-    let read = c.read_part-integer.ensures in
+    let read = c.read_part-end.ensures in
     let integer = rw c.requires.decimal at read.part in
-    let point = c.if-not-pass_one_of.ensures in
-    let stop = rw (read.buffer, read.end) at point.answer in
-    let fraction = rw (point.state, read.word, read.buffer, read.end, c.requires.decimal)
-    at c.read_part-fraction.ensures.part in
+    let stop = rw read.end at c.if-not-has_one_of.ensures.answer in
+    let fraction = rw (read.end, c.requires.decimal) at c.read_part-end-2.ensures.part in
     rw (← stop)
     (fraction.first 19 _ _ (omega arith) refl (integer.alone 19 (omega arith) refl refl))
