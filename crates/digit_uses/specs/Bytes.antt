@@ -1,10 +1,11 @@
 -- Which byte stands at a position, and what passing it leaves.
 use Rattle.std.specs.Prelude.{ℕ, Bool, ◌+◌, ◌==◌, if◌then◌else◌, List, [], ◌∷◌, slice_get}
 use Rattle.std.specs.List.{list_any}
+use Rattle.lexical_format.specs.Digits.{is_digit_of_radix}
 use Rattle.lexical_digits.specs.declared.skip.component.Component.{Component}
 use Rattle.lexical_digits.specs.State.{State, with_cursor}
 use Rattle.lexical_digits.specs.Cursor.{holds_of}
-use Rattle.lexical_digits.specs.Stop.{past_digits_of}
+use Rattle.lexical_digits.specs.Stop.{after_leading, past_digits_of}
 
 -- a byte is one of these
 abbrev pub one_of : List ℕ → ℕ → Bool
@@ -35,3 +36,11 @@ abbrev pub past_component : Component → ℕ → State → State
 past_component k mark s =
     let t = past_digits_of k s in
     if stands (λ byte. byte == mark) t.buffer t.cursor then with_cursor t (t.cursor + 1) else t
+
+-- the same of an iterator, for the digits of a radix
+module _ {M : Type 0} (buffer : M → List ℕ) (cursor place : M → ℕ) (taken settled : M → M)
+    (moved : M → ℕ → M) (radix : ℕ) where
+  abbrev pub past_leading : ℕ → M → M
+  past_leading mark m =
+      let t = after_leading buffer cursor place taken settled (is_digit_of_radix radix) m in
+      if stands (λ byte. byte == mark) (buffer t) (cursor t) then moved t (cursor t + 1) else t

@@ -4,19 +4,22 @@
 
 ghost use Rattle.std.specs.Prelude.{◌≡◌, ◌++◌, ◌+◌, ◌-◌, ◌^◌, IfOk, OnOk, IsTrue};
 ghost use Rattle.std.specs.Str.Parse.{digits_value};
+ghost use Rattle.lexical_format.specs.Digits.{is_digit_of_radix};
 ghost use Rattle.lexical_format.specs.Word.{is_supported};
 ghost use Rattle.lexical_digits.specs.State.{rule, rule_of};
 ghost use Rattle.lexical_digits.specs.CallTable.{zeros_of, past_zeros_of};
-ghost use Rattle.lexical_digits.specs.Stop.{leading_digits_of, past_digits_of};
+ghost use Rattle.lexical_digits.specs.Stop.{after_leading, leading_digits_of, past_digits_of};
 ghost use Rattle.lexical_digits.specs.declared.skip.component.Component.TheVariants.{Integer, Fraction};
 ghost use Rattle.digit_literals.specs.After.{IsDigits};
 ghost use Rattle.digit_literals.specs.Integers.{IsInteger, IsIntegerFrom};
-ghost use Rattle.digit_uses.specs.Bytes.{past_component};
+ghost use Rattle.digit_literals.specs.Outcomes.{digits};
+ghost use Rattle.digit_uses.specs.Bytes.{past_component, past_leading};
 
 use digit_literals::{
-    Digits, LiteralError, TooLarge, pass_zeros, read_digits_of, read_integer, read_integer_from,
+    Digits, LiteralError, TooLarge, pass_zeros, read_digits_after, read_digits_of, read_integer,
+    read_integer_from,
 };
-use lexical_digits::iterator::{Iter, IterBodies};
+use lexical_digits::iterator::{DigitsIter, Iter, IterBodies};
 use lexical_digits::skip::{Bytes, Component};
 
 /// Reads the digits of the integer, and passes the point after them if there is one.
@@ -44,6 +47,38 @@ pub fn read_mantissa(bytes: &mut Bytes) -> Result<u64, TooLarge>
 {
     let integer = read_up_to_point(bytes)?;
     Ok(read_digits_of(bytes, Component::Fraction, integer.value)?.value)
+}
+
+/// [`read_up_to_point`] for any iterator and radix.
+fn read_through_point<'a, I: DigitsIter<'a>>(iter: &mut I, radix: u32) -> Result<Digits, TooLarge>
+    ensures ok { IfOk result (λ read. read.value ≡ digits_value radix
+        (digits I.buffer I.cursor I.place I.taken I.settled radix (I.meaning iter.old))) }
+    ensures leaves { OnOk result (I.meaning iter.new ≡ past_leading I.buffer I.cursor I.place
+        I.taken I.settled I.moved radix 46 (I.meaning iter.old)) }
+{
+    let read = read_digits_after(iter, radix, 0, u64::MAX)?;
+    if iter.first_is_cased(b'.') {
+        let at = iter.cursor();
+        iter.set_cursor(at + 1);
+    }
+    Ok(read)
+}
+
+/// [`read_mantissa`] for any iterator and radix: the fraction is read after the integer's value.
+#[tactic(auto, using(digit_literals::proofs::ForCallers::value_of_both))]
+pub fn read_number<'a, I: DigitsIter<'a>>(iter: &mut I, radix: u32) -> Result<u64, TooLarge>
+    ensures value { let m = I.meaning iter.old in
+        let t = past_leading I.buffer I.cursor I.place I.taken I.settled I.moved radix 46 m in
+        IfOk result (λ value. value ≡ digits_value radix
+        (digits I.buffer I.cursor I.place I.taken I.settled radix m
+        ++ digits I.buffer I.cursor I.place I.taken I.settled radix t)) }
+    ensures leaves { let m = I.meaning iter.old in
+        let t = past_leading I.buffer I.cursor I.place I.taken I.settled I.moved radix 46 m in
+        OnOk result (I.meaning iter.new ≡ after_leading I.buffer I.cursor I.place I.taken I.settled
+        (is_digit_of_radix radix) t) }
+{
+    let integer = read_through_point(iter, radix)?;
+    Ok(read_digits_after(iter, radix, integer.value, u64::MAX)?.value)
 }
 
 /// How many zeros the integer has in front, and the value of the digits after them.

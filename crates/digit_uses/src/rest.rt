@@ -1,17 +1,15 @@
 //! A number in the rest of a text, and where it ends.
 //!
-//! Proof by hand: 6 lines, two answers by lemmas for callers.
+//! Proof by hand: none.
 
-ghost use Rattle.std.specs.Prelude.{◌≡◌, ◌+◌, ◌<◌, ◌≤◌, length, drop, slice_index, true, IfOk, IsTrue};
+ghost use Rattle.std.specs.Prelude.{◌≡◌, ◌+◌, ◌<◌, ◌≤◌, length, drop, slice_index, true, IsTrue};
 ghost use Rattle.lexical_format.specs.Word.{is_supported};
 ghost use Rattle.lexical_digits.specs.declared.skip.component.Component.TheVariants.{Integer};
 ghost use Rattle.lexical_digits.specs.Separators.{is_digit};
 ghost use Rattle.lexical_digits.specs.State.{rule_of};
 ghost use Rattle.lexical_digits.specs.Stop.{stop};
-ghost use Rattle.digit_literals.specs.Integers.{IsInteger, HasNoDigit, IsTooLarge};
-ghost use Rattle.digit_literals.specs.Outcomes.{IfEmpty, IfOverflow};
 
-use digit_literals::{LiteralError, pass_digits, read_integer};
+use digit_literals::pass_digits;
 use lexical_digits::iterator::Iter;
 use lexical_digits::skip::{Bytes, Component};
 
@@ -28,17 +26,4 @@ pub fn number_end(text: &[u8], word: u128, from: usize) -> usize
     let mut bytes = Bytes::new(&text[from..], word);
     pass_digits(&mut bytes, Component::Integer);
     from + bytes.cursor()
-}
-
-/// The integer at the start of a text. Of a fault it also says that its position is in the text, or
-/// at most at its end where there is no digit.
-pub fn read_or_where(text: &[u8], word: u128) -> Result<(u64, usize), LiteralError>
-    requires { IsTrue (is_supported word) }
-    ensures ok { IfOk result (λ read. IsInteger (rule_of word Integer) text.now read.0 read.1) }
-    ensures empty { IfEmpty result (λ at. HasNoDigit (rule_of word Integer) text.now at) }
-    ensures overflow { IfOverflow result (λ at. IsTooLarge (rule_of word Integer) text.now at) }
-    ensures empty_within { IfEmpty result (λ at. at ≤ length text.now) }
-    ensures overflow_within { IfOverflow result (λ at. at < length text.now) }
-{
-    read_integer(text, word)
 }

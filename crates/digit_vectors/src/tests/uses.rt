@@ -1,7 +1,7 @@
 //! Each use once. The expected values are worked out by hand.
 
 use super::{bytes_of, move_to};
-use digit_literals::LiteralError;
+use digit_literals::{LiteralError, TooLarge};
 use digit_script::{Answer, Call, Op, Part};
 use digit_uses::back::try_exponent;
 use digit_uses::calls::{make_calls, pass_number};
@@ -12,15 +12,15 @@ use digit_uses::groups::{GroupsError, read_groups};
 use digit_uses::lexer::{Fault, Token, numbers};
 use digit_uses::literal::{Literal, read_literal};
 use digit_uses::loops::{Parser, component_end, count_yielded, take_through, yields};
-use digit_uses::onward::{read_mantissa, read_past_zeros, read_range};
-use digit_uses::rest::read_or_where;
+use digit_uses::onward::{read_mantissa, read_number, read_past_zeros, read_range};
+use digit_uses::rest::number_end;
 use digit_uses::validate::{is_integer, validate};
 use lexical_digits::iterator::Iter;
 use lexical_digits::skip::{Bytes, Component};
 use lexical_format::words::{JSON, RUST_LITERAL};
 use lexical_format::{
     EXPONENT_INTERNAL_DIGIT_SEPARATOR, FRACTION_TRAILING_DIGIT_SEPARATOR,
-    INTEGER_INTERNAL_DIGIT_SEPARATOR, is_supported,
+    INTEGER_INTERNAL_DIGIT_SEPARATOR, char_is_digit_const, is_supported,
 };
 use std::alloc::Global;
 use std::process::Abort;
@@ -108,6 +108,16 @@ fn calls_that_go_on_from_another(rt: HostRuntime) {
     let mut bytes = Bytes::new(b"1_2.34x", WORD);
     assert_eq!(rt; read_mantissa(&mut bytes), Ok(1234));
     assert_eq!(rt; bytes.cursor(), 6);
+    let mut bytes = Bytes::new(b"1_2.3_4x", WORD);
+    assert_eq!(rt; read_number(&mut bytes.integer_iter(), 10), Ok(1234));
+    assert_eq!(rt; bytes.cursor(), 7);
+    let mut bytes = Bytes::new(b"1844674407370955161.6", WORD);
+    let error = TooLarge {
+        at: 20,
+        value: 1844674407370955161,
+        count: 0,
+    };
+    assert_eq!(rt; read_number(&mut bytes.integer_iter(), 10), Err(error));
     let mut bytes = Bytes::new(b"0_012_3x", WORD);
     assert_eq!(rt; read_past_zeros(&mut bytes), Ok((2, 123)));
     assert_eq!(rt; bytes.cursor(), 7);
@@ -283,19 +293,13 @@ fn a_wanted_byte_is_read_too(rt: HostRuntime) {
     assert!(rt; !take_through(&mut bytes, b'.'));
 }
 
-/// A text, and what the rest of it begins with.
-static RESTS: [(&[u8], Result<(u64, usize), LiteralError>); 2] = [
-    (b"x", Err(LiteralError::Empty(0))),
-    (b"10 ", Ok((10, 2))),
-];
-
 #[test]
-fn numbers_in_the_rest_of_a_text(rt: HostRuntime) {
+#[tactic(auto, unfolding(lexical_digits::specs::Separators::is_digit))]
+fn a_number_in_the_rest_of_a_text_ends(rt: HostRuntime) {
     assert!(rt; is_supported(JSON));
-    for (text, read) in &RESTS {
-        let answer = read_or_where(text, JSON);
-        assert!(rt; answer == *read, "{text:?}: {answer:?}");
-    }
+    assert!(rt; char_is_digit_const(b'1', 10) && char_is_digit_const(b'3', 10));
+    assert_eq!(rt; number_end(b"[12,3]", JSON, 1), 3);
+    assert_eq!(rt; number_end(b"[12,3]", JSON, 4), 5);
 }
 
 /// A text, and whether it is one integer.
