@@ -54,8 +54,8 @@ module _ (k : Component) (s : State) (most before : ℕ) (valid : IsState s) whe
           is = rw here is;
           fits = fits;
           next = rw here next;
-          whole = grind (arith, take_all n digits);
-          over = grind (arith, grows radix (n + 1) digits before one);
+          whole = grind (arith, take_all {A = ℕ});
+          over = grind (arith, grows);
           alone = λ m some power. (by_power m some power).0;
           first = λ m more others some power. (by_power m some power).1 more others;
         }
@@ -80,5 +80,5 @@ module _ (k : Component) (s : State) (most before : ℕ) (valid : IsState s) whe
       reads_first error.count _ (grind (arith, length-append {A = ℕ})) (omega arith) (grind arith)
       (grind arith) (λ _. grind arith)
 
--- what is read, how many digits there are at most, and where they are
-pub ruleset bounds = (by_state, within_stop, ints, reads_all, reads_rest)
+-- how many digits there are at most, and where they are
+pub ruleset bounds = (by_state, within_stop, ints, reads_rest)

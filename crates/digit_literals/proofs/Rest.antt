@@ -15,13 +15,10 @@ use Rattle.digit_literals.proofs.Between.{more_between, fewer_between}
 use Rattle.digit_literals.proofs.Significant.{grows}
 
 -- what is left after n digits and a `peek`
-record Left (k : Component) (s t : State) (n : ℕ) : Type 0 where
-  pub leading : leading_digits_of k t ≡ drop n (leading_digits_of k s)
-  pub stop : stop_of k t ≡ stop_of k s
-  pub passed : past_digits_of k t ≡ past_digits_of k s
-
 left_after : (n : ℕ) (k : Component) (s : State) → IsState s → n ≤ length (leading_digits_of k s)
-    → Left k s (settled k (iterate (taken k) n s)) n
+    → let t : State = settled k (iterate (taken k) n s) in
+    (leading_digits_of k t ≡ drop n (leading_digits_of k s)) × (stop_of k t ≡ stop_of k s)
+    × (past_digits_of k t ≡ past_digits_of k s)
 left_after zero k s v l = grind (arith, leading_settled k s v, stop_settled k s v)
 left_after (suc n) k s v l =
     let d : Digit k s = grind (arith, digit_there k s, none_there k s) in
@@ -51,12 +48,5 @@ module _ (k : Component) (s : State) (before most at : ℕ) (v : IsState s)
       let same : settled k (iterate (taken k) n s) ≡ past_digits_to k s at =
       cc (nth_leaves n k s v leads, place_is) in
       let left = rw same at (left_after n k s v (omega (arith, leads))) in
-      grind (
-        arith,
-        nth,
-        leads,
-        take-append-drop {A = ℕ} n,
-        length-drop {A = ℕ},
-        (supported_rule s.word k v.word).low,
-        grows (rule k s).radix (n + 1),
-      )
+      let one = (supported_rule s.word k v.word).low in
+      grind (arith, nth, leads, take-append-drop {A = ℕ} n, length-drop {A = ℕ}, grows)

@@ -4,7 +4,7 @@ use Rattle.std.specs.Char.{digit_value}
 use Rattle.std.specs.Str.Parse.{AllDigits, digits_value, digits_value_after}
 use Rattle.std.proofs.Math.Nat.{pow-zero, pow-suc, one-le-pow, pow-le-pow_right, mul-le-mul_left, mul-le-mul_right}
 use Rattle.std.proofs.lemmas.List.{take_all, take_min}
-use Rattle.lexical_digits.specs.Laws.Terms.{cases_Bool, nat_tests}
+use Rattle.lexical_digits.specs.Laws.Terms.{nat_tests}
 use Rattle.digit_literals.specs.Significant.{significant, IsOfFirstDigits}
 
 -- more digits are worth no less
@@ -27,6 +27,7 @@ worth radix (suc n) a v (d ∷ ds) all l low high =
     let most = mul-le-mul_right radix high in
     grind (arith, worth radix n (suc a) (v * radix + digit_value d) ds all.1, pow-suc radix)
 
+-- where the first n of two lists stand
 value_of_take : (radix n v : ℕ) (ds es : List ℕ) → digits_value_after radix v (take n (ds ++ es))
     ≡ digits_value_after radix (digits_value_after radix v (take n ds)) (take (n - length ds) es)
 value_of_take radix zero v ds es = grind arith
@@ -45,63 +46,53 @@ all_both : (radix : ℕ) (ds es : List ℕ) → AllDigits radix ds → AllDigits
 all_both radix [] es h i = i
 all_both radix (d ∷ ds) es h i = (h.0, all_both radix ds es h.1 i)
 
--- zeros at the head are no significant digits
-none : significant [] ≡ []
+-- a zero at the head is no significant digit
+of_none : significant [] ≡ []
 unfolding significant
-none = refl
+of_none = refl
 
-one_more : (d : ℕ) (ds : List ℕ)
+of_one_more : (d : ℕ) (ds : List ℕ)
     → significant (d ∷ ds) ≡ (if eqb d 48 then significant ds else d ∷ ds)
 unfolding significant
-one_more d ds = grind (arith, one-add)
+of_one_more d ds = grind (arith, one-add)
 
-ruleset heads = (none, one_more)
+ruleset heads = (of_none, of_one_more)
 
 -- after others, the first of which is no zero
-pub led : (radix p k d v more : ℕ) (os ds : List ℕ) → 1 ≤ radix → eqb d 48 ≡ false
+led : (radix p k d v more : ℕ) (os ds : List ℕ) → 1 ≤ radix → eqb d 48 ≡ false
     → IsOfFirstDigits radix (suc p) (d ∷ os) v more → Reads radix (suc p) v k ds
     → IsOfFirstDigits radix (suc p) (d ∷ os ++ ds) (digits_value_after radix v (take k ds))
     (more + (length ds - k))
 led radix p k d v more os ds one e of so =
     let some : 1 ≤ digit_value d = grind (arith, nat_tests) in
-    let is = rw (one_more d os, e) at of.is in
+    let is = rw (of_one_more d os, e) at of.is in
     let a : ℕ = min p (length os) in
     let from = worth radix a 0 (0 * radix + digit_value d) os of.digits_all.1 (omega arith)
     (grind (arith, pow-zero)) (grind (arith, pow-zero, pow-suc)) in
     let few : suc p ≤ a + k → radix ^ suc p ≤ radix ^ (a + k) = pow-le-pow_right one in
     let many : suc (a + suc k) ≤ suc p → radix ^ suc (a + suc k) ≤ radix ^ suc p =
     pow-le-pow_right one in
-    let many : k ≡ min (p - length os) (length ds) = grind
+    let next : k ≡ min (p - length os) (length ds) = grind
     (arith, take_min p os, worth radix k a v ds so.all, worth radix (suc k) a v ds so.all) in
     grind (arith, heads, all_both, value_of_take, length-append os ds, take_min (p - length os) ds)
 
+-- after none
 pub alone : (radix p k : ℕ) (ds : List ℕ) → 1 ≤ radix → Reads radix (suc p) 0 k ds
     → IsOfFirstDigits radix (suc p) ds (digits_value radix (take k ds)) (length ds - k)
 alone radix p k [] one so = grind (arith, heads, take_all {A = ℕ} k [])
 alone radix p zero (d ∷ ds) one so =
-    let low = mul-le-mul_right radix (one-le-pow p radix one) in
-    absurd (omega (arith, low, pow-suc radix p))
+    grind (arith, mul-le-mul_right radix (one-le-pow p radix one), pow-suc radix p)
 alone radix p (suc k) (d ∷ ds) one so =
-    let rest : Reads radix (suc p) (0 * radix + digit_value d) k ds = grind arith in
-    grind (
-      arith,
-      heads,
-      nat_tests,
-      cases_Bool (eqb d 48),
-      take_all {A = ℕ} p [],
-      alone radix p k ds one,
-      led radix p k d (0 * radix + digit_value d) 0 [] ds one,
-    )
+    let v : ℕ = 0 * radix + digit_value d in
+    let rest : Reads radix (suc p) v k ds = grind arith in
+    let rest_of_one = take_all {A = ℕ} p [] in
+    grind (arith, heads, nat_tests, alone radix p k ds one, led radix p k d v 0 [] ds one)
 
+-- after others, of which the first significant digits were read
 pub first : (radix p k v more : ℕ) (os ds : List ℕ) → 1 ≤ radix
     → IsOfFirstDigits radix (suc p) os v more → Reads radix (suc p) v k ds
     → IsOfFirstDigits radix (suc p) (os ++ ds) (digits_value_after radix v (take k ds))
     (more + (length ds - k))
 first radix p k v more [] ds one of so = grind (arith, heads, alone radix p k ds one)
-first radix p k v more (o ∷ os) ds one of so = grind (
-  arith,
-  heads,
-  cases_Bool (eqb o 48),
-  first radix p k v more os ds one,
-  led radix p k o v more os ds one,
-)
+first radix p k v more (o ∷ os) ds one of so =
+    grind (arith, heads, first radix p k v more os ds one, led radix p k o v more os ds one)

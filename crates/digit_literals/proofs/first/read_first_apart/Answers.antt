@@ -12,8 +12,5 @@ returns-in-Err-clause-first c = reads_rest _ _ _ _ c.args.bytes.now.holds c.in-E
     c.in-Err.ensures.so_far (search rules)
 
 pub returns-in-Err-clause-state : goal.returns-in-Err-clause-state
-returns-in-Err-clause-state c = grind (
-  arith,
-  leaves_rest c.args.component c.args.bytes.now.state c.args.before c.args.most c.in-Err.error.at
-      c.args.bytes.now.holds c.in-Err.ensures.too_large,
-)
+returns-in-Err-clause-state c =
+    grind (arith, leaves_rest c.args.component c.args.bytes.now.state c.args.before c.args.most)
