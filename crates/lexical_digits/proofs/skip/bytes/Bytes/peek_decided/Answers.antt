@@ -9,8 +9,7 @@ use Rattle.lexical_digits.proofs.skip.bytes.Bytes.peek_decided.Goals as goal
 pub find-found-requires-clause-supported : goal.find-found-requires-clause-supported
 find-found-requires-clause-supported c =
     let b = c.self.inside in
-    let rule_is = rw (sym c.self.view_is) at c.requires.rule in
-    supported_by c.args.rule b.format c.args.component rule_is b.holds.word
+    supported_by _ b.format _ (rw (sym c.self.view_is) at c.requires.rule) b.holds.word
 
 pub invariant_of-self-inside : goal.invariant_of-self-inside
 unfolding place_of
