@@ -17,12 +17,11 @@ invariant_of-self-inside c =
 
 pub returns : goal.returns
 returns c =
-    let b = c.self.inside in
     let hands = c.go_on_from.ensures in
     let buffer = rw (sym c.self.view_is, sym c.copy.view_is) at c.requires.buffer in
     let word = rw (sym c.self.view_is, sym c.copy.view_is) at c.requires.word in
     rw (sym c.copy.view_is) record {
-      state = rw (hands.state b.slc.now b.format, ← buffer, ← word) refl;
+      state = rw (hands.state c.self.inside.slc.now c.self.inside.format, ← buffer, ← word) refl;
       run = refl;
       looks = hands.looks;
     }

@@ -6,9 +6,8 @@ use Rattle.lexical_digits.proofs.skip.bytes.Bytes.move_to.Goals as goal
 
 pub invariant_of-self-inside : goal.invariant_of-self-inside
 invariant_of-self-inside c =
-    let b = c.self.inside in
-    let within = rw (sym c.self.view_is) at c.requires in
-    carried b c.move_to.ensures (state_moved _ c.args.index b.holds within)
+    carried c.self.inside c.move_to.ensures
+    (state_moved _ c.args.index c.self.inside.holds (rw (sym c.self.view_is) at c.requires))
 
 pub returns-clause-state : goal.returns-clause-state
 returns-clause-state c =

@@ -12,8 +12,6 @@ invariant_of-self-inside c = carried c.self.inside c.look.ensures c.self.inside.
 
 pub returns : goal.returns
 returns c =
-    let b = c.self.inside in
-    let free = rw (sym c.self.view_is) at c.requires in
-    rw (sym c.self.view_is)
-    (peeks_at c.args.component _ _ _ (here_all c.args.component _ free) c.in_ok-byte.ensures
-    (c.look.ensures.state b.slc.now b.format) refl c.look.ensures.looks)
+    rw (sym c.self.view_is) (peeks_at c.args.component _ _ _
+    (here_all c.args.component _ (rw (sym c.self.view_is) at c.requires)) c.in_ok-byte.ensures
+    (c.look.ensures.state c.self.inside.slc.now c.self.inside.format) refl c.look.ensures.looks)
