@@ -1,6 +1,6 @@
 //! The digits that lead what an iterator yields: their value, their number, or both.
 
-ghost use Rattle.std.specs.Prelude.{◌≡◌, ℕ, Bool, ◌+◌, ◌*◌, ◌-◌, ◌<◌, ◌≤◌, length, pos, ◌≤ℤ◌, ◌+ℤ◌, slice_get, is_some, option_and_then, MatchOption, IfSome, IfOk, IfErr};
+ghost use Rattle.std.specs.Prelude.{◌≡◌, ℕ, Bool, ◌+◌, ◌*◌, ◌-◌, ◌<◌, ◌≤◌, length, pos, ◌≤ℤ◌, ◌+ℤ◌, slice_get, is_some, option_and_then, MatchOption, IfOk, IfErr};
 ghost use Rattle.lexical_format.specs.Digits.{digit_of_radix, is_digit_of_radix};
 ghost use Rattle.lexical_digits.specs.Stop.{leading, after_leading};
 ghost use Rattle.digit_literals.specs.After.{digits_read};
