@@ -7,7 +7,7 @@ use Rattle.std.proofs.lemmas.Int.{ints}
 use Rattle.std.proofs.lemmas.Option.{IfSome_then}
 use Rattle.lexical_format.specs.Digits.{digit_of_radix}
 use Rattle.lexical_digits.specs.declared.skip.component.Component.{Component}
-use Rattle.lexical_digits.specs.Laws.Terms.{State, rule, own, is_digit, place_of, settled, taken, byte_at_place, stop_of, leading_digits_of, Held, Costs, one_if}
+use Rattle.lexical_digits.specs.Laws.Terms.{State, rule, own, is_digit, place_of, settled, taken, byte_at_place, stop_of, leading_digits_of, Held, Costs}
 use Rattle.lexical_digits.specs.Laws.Table.{digit_laws, place_from, place_to, place_again, taken_word, taken_buffer}
 use Rattle.lexical_digits.proofs.Calls.DigitAtPlace.{Digit, at_digit, digit_there, none_there}
 use Rattle.lexical_digits.proofs.Calls.Stops.{none_before, none_counted, one_counted, digits_upto, nth_digit}
@@ -114,6 +114,8 @@ module _ (k : Component) (before : ℕ) (most : Option ℕ) (a b c : Held) (radi
         let here : is_some (byte_at_place k s) ≡ true = grind arith in
         let again : is_some (byte_at_place k c.state) ≡ true =
         rw (settles, place_again k s) here in
+        let one = rw here at peeks.at_least in
+        let two = rw again at pays.at_least in
         record {
           same = rw (past e.state takes) (so.same ∙ rw (taken_word k s) refl);
           fits = IfSome_then most is_more (λ _ h. h.fits);
@@ -128,32 +130,17 @@ module _ (k : Component) (before : ℕ) (most : Option ℕ) (a b c : Held) (radi
                   onward = omega (arith, on, from);
                   within = rw (taken_buffer k s) at reads.within;
                   digits = omega (arith, reads.digits, ap length upto);
-                  worth = both _ most is_more reads.worth (λ m g w. record {
-                    is = w.is ∙ sym (value_to read.end more on g.is);
-                    fits = w.fits;
-                  });
+                  worth = both _ most is_more reads.worth
+                      (λ m g w. grind (arith, w, value_to read.end more on g.is));
                   stops = λ e. reads.stops e ∙ sym there.stop;
-                  exceeds = λ e. both _ most is_more (reads.exceeds e) (λ m g x. record {
-                    onward = omega (arith, on, from);
-                    before_stop = omega (arith, x.before_stop, there.stop);
-                    fits = omega (arith, x.fits, value_to read.end more on g.is);
-                    passes = omega (
-                      arith,
-                      x.passes,
-                      value_to (read.end + 1) more (omega (arith, on)) g.is,
-                    );
-                  });
+                  exceeds = λ e. both _ most is_more (reads.exceeds e) (λ m g x.
+                      let to = value_to read.end more on g.is in
+                      let past = value_to (read.end + 1) more (omega (arith, on)) g.is in
+                      grind (arith, from, there.stop));
                 };
                 state = h.state ∙ rw (past e.state takes, upto) (one_counted k s there _ read.end);
                 owes = omega (arith, ints, h.owes, peeks.owes, pays.owes);
-                at_least = omega (
-                  arith,
-                  h.at_least,
-                  peeks.at_least,
-                  pays.at_least,
-                  ap one_if here,
-                  ap one_if again,
-                );
+                at_least = omega (arith, h.at_least, one, two);
               });
         }
 

@@ -1,4 +1,4 @@
-pub mod Taking
+pub mod Peeks
 pub mod States
 pub mod Passed
 pub mod Counted

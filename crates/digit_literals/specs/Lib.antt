@@ -1,3 +1,4 @@
+pub mod Peeks
 pub mod Outcomes
 pub mod After
 pub mod Reads

@@ -1,5 +1,5 @@
 -- What reading the digits that lead an iterator answers, and what it leaves.
-use Rattle.std.specs.Prelude.{◌≡◌, ⊤, ℕ, ℤ, ◌+◌, ◌-◌, ◌*◌, ◌^◌, ◌<◌, ◌≤◌, pos, ◌≤ℤ◌, ◌+ℤ◌, Bool, true, false, List, [], ◌∷◌, ◌++◌, length, take, slice_index, codes, decimal, Result, Ok, Err}
+use Rattle.std.specs.Prelude.{◌≡◌, ⊤, ℕ, ℤ, ◌+◌, ◌-◌, ◌*◌, ◌^◌, ◌<◌, ◌≤◌, pos, ◌≤ℤ◌, ◌+ℤ◌, List, [], ◌++◌, length, take, codes, decimal, Result, Ok, Err}
 use Rattle.std.specs.Fn.{iterate}
 use Rattle.std.specs.Str.Parse.{digits_value, digits_value_after}
 use Rattle.lexical_format.specs.Digits.{is_digit_of_radix}
@@ -25,32 +25,6 @@ abbrev pub IfOverflow : {T : Type 0} → Result T LiteralError → (ℕ → Type
 IfOverflow (Ok v) P = ⊤
 IfOverflow (Err (Empty at)) P = ⊤
 IfOverflow (Err (Overflow at)) P = P at
-
--- ---- a look at the place, by any test of digits
-
-module _ {M : Type 0} (buffer : M → List ℕ) (cursor place : M → ℕ) (taken settled : M → M)
-    (p : ℕ → Bool) (m : M) where
-  -- a digit is there: it leads, and before what leads and is left where `next` took it
-  pub record Leads : Type 0 where
-    pub digits : leading buffer cursor place taken p m
-        ≡ slice_index (buffer m) (place m) ∷ leading buffer cursor place taken p (taken m)
-    pub after : after_leading buffer cursor place taken settled p m
-        ≡ after_leading buffer cursor place taken settled p (taken m)
-    pub on : cursor (taken m) ≡ place m + 1
-
-  -- none is there
-  pub record LeadsNone : Type 0 where
-    pub digits : leading buffer cursor place taken p m ≡ []
-    pub after : after_leading buffer cursor place taken settled p m ≡ settled m
-
-  -- a `peek` leaves t, and it is told whether a digit is there
-  pub record Peeks (t : M) (found : Bool) : Type 0 where
-    pub settles : t ≡ settled m
-    pub takes : taken t ≡ taken m
-    pub stands : cursor t ≡ place m
-    pub onward : cursor m ≤ cursor t
-    pub some : found ≡ true → Leads
-    pub none : found ≡ false → LeadsNone
 
 module _ {M : Type 0} (buffer : M → List ℕ) (cursor place : M → ℕ) (taken settled : M → M)
     (radix : ℕ) where

@@ -4,7 +4,8 @@ ghost use Rattle.std.specs.Prelude.{◌≡◌, ℕ, Bool, ◌+◌, ◌*◌, ◌-
 ghost use Rattle.lexical_format.specs.Digits.{digit_of_radix, is_digit_of_radix};
 ghost use Rattle.lexical_digits.specs.Stop.{leading, after_leading};
 ghost use Rattle.digit_literals.specs.After.{digits_read};
-ghost use Rattle.digit_literals.specs.Outcomes.{digits, Peeks, ReadsAfter, StopsAt, ReadsAll, FindsNone, PassesMost, OverflowsAt, IfEmpty, IfOverflow};
+ghost use Rattle.digit_literals.specs.Peeks.{Peeks};
+ghost use Rattle.digit_literals.specs.Outcomes.{digits, ReadsAfter, StopsAt, ReadsAll, FindsNone, PassesMost, OverflowsAt, IfEmpty, IfOverflow};
 ghost use Rattle.digit_literals.specs.declared.LiteralError.TheVariants.{Overflow};
 
 use super::LiteralError;

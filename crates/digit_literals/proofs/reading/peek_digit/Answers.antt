@@ -1,17 +1,15 @@
 use Rattle.std.proofs.Common.{rules, arith}
-use Rattle.digit_literals.proofs.Taking.{peeks}
+use Rattle.digit_literals.proofs.Peeks.{peeks}
 use Rattle.digit_literals.proofs.reading.peek_digit.Goals as goal
 
 pub returns-in_err-peek-clause-peeks : goal.returns-in_err-peek-clause-peeks
 returns-in_err-peek-clause-peeks g c =
-    let k : g.claim c.lifetimes = search rules in
-    peeks (g.met.I.DigitsIter c.lifetimes k).digit_laws _
-    ((g.met.I.Iter c.lifetimes k).valid_now c.args.iter.now) _ _ _ c.peek.ensures.settles
-    (grind arith)
+    peeks (g.met.I.DigitsIter c.lifetimes (search rules)).digit_laws _
+    ((g.met.I.Iter c.lifetimes (search rules)).valid_now c.args.iter.now) _ _ _
+    c.peek.ensures.settles (grind arith)
 
 pub returns-clause-peeks : goal.returns-clause-peeks
 returns-clause-peeks g c =
-    let k : g.claim c.lifetimes = search rules in
-    peeks (g.met.I.DigitsIter c.lifetimes k).digit_laws _
-    ((g.met.I.Iter c.lifetimes k).valid_now c.args.iter.now) _ _ _ c.peek.ensures.settles
-    (grind arith)
+    peeks (g.met.I.DigitsIter c.lifetimes (search rules)).digit_laws _
+    ((g.met.I.Iter c.lifetimes (search rules)).valid_now c.args.iter.now) _ _ _
+    c.peek.ensures.settles (grind arith)

@@ -1,12 +1,11 @@
 use Rattle.std.proofs.Common.{rules, ap, sym, ◌∙◌, refl, ◌<◌}
-use Rattle.digit_literals.proofs.Taking.{peeks}
+use Rattle.digit_literals.proofs.Peeks.{peeks}
 use Rattle.digit_literals.proofs.reading.peek_is_digit.Goals as goal
 
 pub returns-in-Some-clause-peeks : goal.returns-in-Some-clause-peeks
 returns-in-Some-clause-peeks g c = λ p same.
-    let k : g.claim c.lifetimes = search rules in
-    let laws = (g.met.I.DigitsIter c.lifetimes k).digit_laws in
-    let v = (g.met.I.Iter c.lifetimes k).valid_now c.args.iter.now in
+    let laws = (g.met.I.DigitsIter c.lifetimes (search rules)).digit_laws in
+    let v = (g.met.I.Iter c.lifetimes (search rules)).valid_now c.args.iter.now in
     let l : c.in-Some.byte.now < 256 = search rules in
     peeks laws _ v p _ _ c.peek.ensures.settles
     (rw (← c.peek.ensures.byte, c.in-Some.is) (c.is_digit.ensures
@@ -15,8 +14,7 @@ returns-in-Some-clause-peeks g c = λ p same.
 
 pub returns-in-None-clause-peeks : goal.returns-in-None-clause-peeks
 returns-in-None-clause-peeks g c = λ p same.
-    let k : g.claim c.lifetimes = search rules in
-    let laws = (g.met.I.DigitsIter c.lifetimes k).digit_laws in
-    let v = (g.met.I.Iter c.lifetimes k).valid_now c.args.iter.now in
+    let laws = (g.met.I.DigitsIter c.lifetimes (search rules)).digit_laws in
+    let v = (g.met.I.Iter c.lifetimes (search rules)).valid_now c.args.iter.now in
     peeks laws _ v p _ _ c.peek.ensures.settles
     (rw (← c.peek.ensures.byte, c.in-None.is) refl)

@@ -8,9 +8,8 @@ use Rattle.digit_literals.proofs.reading.read_digits.Goals as goal
 pub returns-then-read-eq0-clause-empty : goal.returns-then-read-eq0-clause-empty
 unfolding after_leading
 returns-then-read-eq0-clause-empty g c =
-    let k : g.claim c.lifetimes = search rules in
-    let laws = (g.met.I.DigitsIter c.lifetimes k).digit_laws in
-    let valid = (g.met.I.Iter c.lifetimes k).valid_now c.args.iter.now in
+    let laws = (g.met.I.DigitsIter c.lifetimes (search rules)).digit_laws in
+    let valid = (g.met.I.Iter c.lifetimes (search rules)).valid_now c.args.iter.now in
     let read = c.in_ok-read.ensures.ok in
     let none = sym read.counts ∙ c.if-read-eq0.true in
     let m = g.I.Iter.meaning c.args.iter.now in

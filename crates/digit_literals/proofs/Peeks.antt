@@ -1,10 +1,10 @@
--- What a `peek` finds, by any test of digits.
+-- What a `peek` finds, from the laws of an iterator.
 use Rattle.std.proofs.Common.{◌≡◌, ℕ, ◌<◌, Bool, true, List, slice_get, slice_index, length, refl, ap, sym, ◌∙◌, arith}
 use Rattle.std.proofs.lemmas.Option.{gets, slice_get-get_or}
 use Rattle.lexical_digits.specs.Cursor.{holds_of, DigitLaws}
 use Rattle.lexical_digits.specs.Stop.{after_leading}
 use Rattle.lexical_digits.proofs.Calls.Items.{leading_digit, leading_none}
-use Rattle.digit_literals.specs.Outcomes.{Peeks}
+use Rattle.digit_literals.specs.Peeks.{Peeks}
 
 module _ {M : Type 0} {valid : M → Type 0} {buffer : M → List ℕ} {cursor current_count : M → ℕ}
     {contiguous : M → Bool} {separates : M → ℕ → Bool} {moved : M → ℕ → M} {place : M → ℕ}
