@@ -9,7 +9,7 @@ use Rattle.lexical_digits.specs.Cursor.{holds_of}
 use Rattle.lexical_digits.specs.declared.skip.rule.Rule.{Rule}
 use Rattle.lexical_digits.specs.Separators.{is_digit}
 use Rattle.digit_literals.specs.After.{digits_between}
-use Rattle.digit_literals.specs.Reads.{IsWorth, IsMore}
+use Rattle.digit_literals.specs.Reads.{IsWorth}
 use Rattle.digit_literals.proofs.Between.{more_between}
 use Rattle.digit_literals.proofs.ForCallers.{value_is}
 
@@ -42,13 +42,6 @@ value_next radix before value d ds byte e is =
 pub worth_none : (radix before : ℕ) (most : Option ℕ) → IfSome most (λ greatest. before ≤ greatest)
     → IfSome most (IsWorth radix before [] before)
 worth_none radix before most fits = grind arith
-
-pub worth_next : (radix before : ℕ) (most : Option ℕ) (value d more : ℕ) (ds : List ℕ) (byte : ℕ)
-    → digit_of_radix radix byte ≡ Some d → IfSome most (IsWorth radix before ds value)
-    → IfSome most (IsMore radix value d more)
-    → IfSome most (IsWorth radix before (ds ++ byte ∷ []) more)
-worth_next radix before most value d more ds byte e worth is_more =
-    grind (arith, value_next radix before value d ds byte e)
 
 -- with the digit at a position
 pub value_more : (rule : Rule) (text : List ℕ) (start before at radix d : ℕ) → start ≤ at
