@@ -18,7 +18,7 @@ use Rattle.digit_literals.proofs.Worth.{digit_at, none_at, worth_none}
 use Rattle.digit_literals.proofs.ForCallers.{value_is}
 
 -- Whatever reading on from b comes to, with `count` digits more it is that of all from a.
-pub record ReadsOn (k : Component) (before : ℕ) (most : Option ℕ) (a b : Held)
+pub record GoesOn (k : Component) (before : ℕ) (most : Option ℕ) (a b : Held)
     (radix value count : ℕ) : Type 0 where
   pub same : radix ≡ (rule k b.state).radix
   pub fits : IfSome most (λ m. value ≤ m)
@@ -33,7 +33,7 @@ both N None p q f = q
 both N (Some x) p q f = f x p q
 
 module _ (k : Component) (before : ℕ) (most : Option ℕ) (a b c : Held) (radix value count : ℕ)
-    (so : ReadsOn k before most a b radix value count) (peeks : Costs k b c)
+    (so : GoesOn k before most a b radix value count) (peeks : Costs k b c)
     (settles : c.state ≡ settled k b.state) where
   abbrev s : State
   s = b.state
@@ -109,7 +109,7 @@ module _ (k : Component) (before : ℕ) (most : Option ℕ) (a b c : Held) (radi
         rw (digits_upto k s b.holds there end l, taken_word k s, e, so.same, ← is) refl
 
     pub one_read : (more : ℕ) (e : Held) → IfSome most (IsMore radix value d more) → Costs k c e
-        → e.state ≡ taken k c.state → ReadsOn k before most a e radix more (count + 1)
+        → e.state ≡ taken k c.state → GoesOn k before most a e radix more (count + 1)
     one_read more e is_more pays takes =
         let here : is_some (byte_at_place k s) ≡ true = grind arith in
         let again : is_some (byte_at_place k c.state) ≡ true =

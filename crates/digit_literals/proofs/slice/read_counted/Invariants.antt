@@ -1,11 +1,11 @@
 use Rattle.std.proofs.Common.{length}
 use Rattle.lexical_digits.specs.Stop.{leading_digits_of}
-use Rattle.digit_literals.proofs.Counted.{ReadsOn}
+use Rattle.digit_literals.proofs.Counted.{GoesOn}
 use Rattle.digit_literals.proofs.slice.read_counted.Given as goal
 
 abbrev pub invariant-loop-digit : goal.invariant-loop-digit
 invariant-loop-digit l =
-    ReadsOn l.fn.component l.before l.most l.initial.bytes l.bytes l.radix l.value l.count
+    GoesOn l.fn.component l.before l.most l.initial.bytes l.bytes l.radix l.value l.count
 
 abbrev pub decreases-loop-digit : goal.decreases-loop-digit
 decreases-loop-digit l = length (leading_digits_of l.fn.component l.bytes.state)
