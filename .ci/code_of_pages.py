@@ -39,24 +39,47 @@ def fault(page, here, path, there):
     return None
 
 
-def check():
-    page, faults, count = "CALLING.md", [], 0
+# The pages whose blocks are a whole file, and its module in digit_uses and in a caller's crate.
+PAGES = {"CALLING.md": ("calling", ""), "docs/LOOPS.md": ("loops", "loops.")}
+
+
+def files_of(page, module, prefix, faults):
+    """The files that the blocks of a page are, with their lines."""
     rust = blocks_of(page, "rust")
-    lines = [pair for first, block in rust for pair in code(block, first)]
-    files = {f"{USES}/src/calling.rt": lines}
+    files = {f"{USES}/src/{module}.rt": [pair for first, block in rust
+                                         for pair in code(block, first)]}
     for first, block in blocks_of(page, "antt"):
         text = "\n".join(block)
-        name = re.search(r"Rattle\.my_parser\.proofs\.(\w+)\.Given", text)
+        name = re.search(rf"Rattle\.my_parser\.proofs\.{prefix}(\w+)\.Given", text)
         if name is None:
-            faults.append(f"{page}:{first}: no `Rattle.my_parser.proofs.NAME.Given` in the block")
+            faults.append(f"{page}:{first}: no `Rattle.my_parser.proofs.{prefix}NAME.Given` here")
             continue
-        block = text.replace("my_parser.proofs.", "digit_uses.proofs.calling.").split("\n")
-        files[f"{USES}/proofs/calling/{name[1]}/Invariants.antt"] = code(block, first)
-    count = len(rust) + len(files) - 1
-    for path, here in files.items():
-        faults.append(fault(page, here, path, code(read(path).split("\n"), 1)))
+        text = text.replace(f"my_parser.proofs.{prefix}", f"digit_uses.proofs.{module}.")
+        files[f"{USES}/proofs/{module}/{name[1]}/Invariants.antt"] = code(text.split("\n"), first)
+    return files, len(rust)
+
+
+def answers(faults):
+    """Each answer that the first block of README shows is one that a test asserts."""
+    path = "crates/digit_vectors/src/tests/readme.rt"
+    asserted = " ".join(read(path).split())
+    first, block = blocks_of("README.md", "rust")[0]
+    for number, line in enumerate(block, first):
+        m = re.search(r" = (.*); // ((?:Ok|Err)\(.*\))", line)
+        if m and f"{m[1]} == {m[2]})" not in asserted:
+            faults.append(f"README.md:{number}: no `{m[1]} == {m[2]}` in {path}")
+
+
+def check():
+    faults, count = [], 0
+    answers(faults)
+    for page, (module, prefix) in PAGES.items():
+        files, blocks = files_of(page, module, prefix, faults)
+        count += blocks + len(files) - 1
+        for path, here in files.items():
+            faults.append(fault(page, here, path, code(read(path).split("\n"), 1)))
     first, block = blocks_of("README.md", "rust")[0]
     path = f"{USES}/src/readme.rt"
     faults.append(fault("README.md", code(block, first), path, code(read(path).split("\n"), 1)))
-    return (f"{count} blocks of CALLING.md and the first of README.md are proved code",
+    return (f"{count} blocks of {', '.join(PAGES)} and the first of README.md are proved code",
             [found for found in faults if found])

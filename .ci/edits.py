@@ -1,15 +1,9 @@
-"""The must-fail edits, for .ci/examples and .ci/refusals."""
-import glob
+"""The must-fail edits, for .ci/examples, .ci/refusals and .ci/pages."""
 import os
 import re
 import sys
 
-TOP = os.path.normpath(os.path.join(os.path.dirname(os.path.abspath(__file__)), ".."))
-
-
-def text_of(path):
-    with open(path, encoding="utf8") as file:
-        return file.read()
+from sources import crates, files_below, read
 
 
 def write(path, text):
@@ -18,12 +12,8 @@ def write(path, text):
         file.write(text)
 
 
-# Each crate, and the crates that it uses. The lower ones come first.
-USES = {
-    name: used.split()
-    for name, used in re.findall(r"^(\w+)[^:#\n]*:(.*)$", text_of(f"{TOP}/crates.txt"), re.M)
-    if name != "digit_bench"
-}
+# Each crate that may have edits, and the crates that it uses.
+USES = {name: used for name, used in crates().items() if name != "digit_bench"}
 
 
 class Edit:
@@ -33,7 +23,7 @@ class Edit:
         self.crate = path.split("/")[-3]
         self.name = f"{self.crate}/{os.path.basename(path)[:-len('.edit')]}"
         self.examples, self.changes, self.functions = [], [], set()
-        for line in text_of(path).split("\n"):
+        for line in read(path).split("\n"):
             word, _, rest = line.partition(": ")
             if word == "example":
                 self.examples.append(rest)
@@ -43,9 +33,23 @@ class Edit:
                 old = rest
             elif word == "new":
                 self.changes.append((file, old, rest))
-                before = text_of(f"{TOP}/crates/{self.crate}/{file}").partition(old)[0]
+                before = read(f"crates/{self.crate}/{file}").partition(old)[0]
                 names = re.findall(r"\bfn (\w+)", (before + old).split("\n}\n")[-1])
                 self.functions.add((file, names[-1] if names else None))
+
+
+def check():
+    """Whether each edit has an example and finds each of its texts once, for .ci/pages."""
+    faults = []
+    for path in files_below("crates", ".edit"):
+        try:
+            edit = Edit(path)
+            faults += [] if edit.examples else [f"{path}:1: no line `example:` (docs/WORKING.md)"]
+            faults += [] if edit.changes else [f"{path}:1: no lines `old:` and `new:`"]
+            edited([edit])
+        except (OSError, SystemExit) as error:
+            faults.append(f"{path}:1: {error}")
+    return f"each of {len(files_below('crates', '.edit'))} has an example and finds its text once", faults
 
 
 def edited(edits):
@@ -53,7 +57,7 @@ def edited(edits):
     texts = {}
     for edit in edits:
         for file, old, new in edit.changes:
-            text = texts.get(file) or text_of(f"{TOP}/crates/{edit.crate}/{file}")
+            text = texts.get(file) or read(f"crates/{edit.crate}/{file}")
             if text.count(old) != 1:
                 sys.exit(f"{edit.name}: not once in {file}: {old}")
             texts[file] = text.replace(old, new)
@@ -62,7 +66,7 @@ def edited(edits):
 
 def chosen(words):
     """The edits with these names or of these crates, or all edits if there are no words."""
-    edits = [Edit(path) for path in sorted(glob.glob(f"{TOP}/crates/*/must-fail/*.edit"))]
+    edits = [Edit(path) for path in files_below("crates", ".edit")]
     found = [it for it in edits if {it.crate, it.name, it.name.split("/")[1]} & {*words}]
     if words and not found:
         sys.exit("no edit and no crate has such a name")

@@ -1,10 +1,19 @@
 """The links of the pages: each link and its anchor, each heading that is cited after a link, and
-each backquoted path or proof module has to exist. No page names a host of a package registry."""
+each backquoted path, proof module or name has to exist. Another page links to each page that isn't
+a crate's. No page names a host of a package registry."""
 import os
 import re
 
-from sources import TOP, read
+from sources import TOP, files_below, read
 
+# `](target)`, also with a title, and `, "heading"` after it; `[name]: target`; `<a href="target">`
+LINKS = re.compile(r'\]\(([^)\s]+)(?: "[^"]*")?\)(?:, "([^"]+)")?|^\[[^\]]+\]:\s+(\S+)|'
+                   r'<\w+[^>]*\b(?:href|src)="([^"]+)"')
+# a path such as `laws::rows`, or a name with a `_` inside; no part of a name as `parse_`, `_from`
+NAMES = r"(?!X_)[A-Za-z](?:\w*_\w*[A-Za-z\d]|\w*(?:::\w+)+)(?:\(\))?"
+# what pages say of other libraries
+OTHERS = {"parse_partial", "parse_with_options", "from_str_radix"}
+FOREIGN = {"docs/DIFFERENCES.md": NAMES, "docs/RULES.md": r"[A-Z]\w*_(LITERAL|STRING)"}
 HOSTS = r"\b(crates\.io|docs\.rs|lib\.rs/crates|pypi\.org|npmjs\.com|proxy\.golang\.org)\b"
 
 
@@ -75,23 +84,42 @@ class Tree:
         return None
 
 
+def words_of_sources():
+    """Each word of the sources, also of the benchmark and of .ci."""
+    paths = [path for ending in (".rt", ".antt", ".rs", ".py", ".txt", ".edit")
+             for path in files_below(".", ending)]
+    paths += [f".ci/{name}" for name in os.listdir(f"{TOP}/.ci")
+              if "." not in name and name != "selftest"]
+    return set(re.findall(r"\w+", "\n".join(map(read, paths)))) | OTHERS
+
+
 def check():
-    tree, faults, links = Tree(), [], 0
+    tree, faults, links, linked = Tree(), [], 0, {"README.md"}
+    known = words_of_sources()
     for page in tree.pages:
         text = re.sub(r"```.*?```", lambda m: "\n" * m[0].count("\n"), tree.text(page), flags=re.S)
         is_reference = page.startswith("docs/reference/")
         for number, line in enumerate(tree.text(page).split("\n"), 1):
+            if line.endswith("\r"):
+                faults.append(f"{page}:{number}: ends in a carriage return")
             if re.search(HOSTS, line):
                 faults.append(f"{page}:{number}: names a host of a package registry")
         for number, line in enumerate(text.split("\n"), 1):
-            for target, heading in re.findall(r'\]\(([^)\s]+)\)(?:, "([^"]+)")?', line):
+            for inline, heading, defined, html in LINKS.findall(line):
+                target = inline or defined or html
                 if "://" in target:
                     continue
                 links += 1
+                linked.add(os.path.normpath(os.path.join(os.path.dirname(page),
+                                                         target.partition("#")[0])))
                 fault = tree.link_fault(page, target, heading)
                 if fault:
                     faults.append(f"{page}:{number}: {fault}")
             for quoted in re.findall(r"`([^`]+)`", line):
+                is_foreign = page in FOREIGN and re.fullmatch(FOREIGN[page], quoted)
+                if not is_reference and not is_foreign and re.fullmatch(NAMES, quoted):
+                    lost = [word for word in re.findall(r"\w+", quoted) if word not in known]
+                    faults += [f"{page}:{number}: no {word} in the sources" for word in lost]
                 module = re.fullmatch(r"Rattle\.(\w+)\.((?:specs|proofs)\.[\w.]+)", quoted)
                 if module and not is_reference:
                     path = "crates/" + module[1] + "/" + module[2].replace(".", "/") + ".antt"
@@ -100,4 +128,7 @@ def check():
                 elif tree.is_path(quoted) and not tree.has(
                         quoted, tree.bases + [os.path.dirname(page) or "."]):
                     faults.append(f"{page}:{number}: no path {quoted}")
+    crates = [path for path in tree.pages if re.match(r"crates/", path)]
+    faults += [f"{page}:1: no page links to it" for page in tree.pages
+               if page not in linked and page not in crates]
     return f"{links} links of {len(tree.pages)} pages, and their paths", faults

@@ -8,7 +8,7 @@ problems = []
 
 
 def read(path):
-    with open(os.path.join(TOP, path), encoding="utf8") as file:
+    with open(os.path.join(TOP, path), encoding="utf8", newline="\n") as file:
         return file.read()
 
 
@@ -19,6 +19,21 @@ def files_below(folder, ending):
         inner[:] = sorted(name for name in inner if name not in ("out", "target", ".git"))
         found += [os.path.join(here, name) for name in sorted(names) if name.endswith(ending)]
     return [os.path.relpath(path, TOP) for path in found]
+
+
+def crates():
+    """Each crate of crates.txt, with those that it depends on. The lower ones come first."""
+    lines = (line.partition("#")[0].partition(":") for line in read("crates.txt").split("\n"))
+    return {head.split()[0]: below.split() for head, _, below in lines if head.strip()}
+
+
+# The crates that no caller uses: examples, the program, tests, the benchmark.
+INNER = ("digit_uses", "digit_drain", "digit_vectors", "digit_bench")
+
+
+def libraries():
+    """The crates for callers. Each has a page in docs/reference."""
+    return [name for name in crates() if name not in INNER]
 
 
 def dedent(text):
@@ -300,8 +315,8 @@ class Crate:
 
 # ---- definitions of specs/
 
-DEFINES = re.compile(r"(?:(?:abbrev|unfoldable|rec|opaque)\s+)*pub\s+(?:(?:record|data|abbrev)\s+)?"
-                     r"([^\s:(]+)")
+DEFINES = re.compile(r"(?:(?:abbrev|unfoldable|rec|opaque)\s+)*pub\s+"
+                     r"(?:(?:record|data|abbrev|ruleset)\s+)?([^\s:(]+)")
 
 
 class Definition:
@@ -312,10 +327,10 @@ class Definition:
         self.__dict__.update(fields)
 
 
-def definitions_of(crate):
-    """{(module, name): Definition} of specs/; a constructor stands for its type."""
+def definitions_of(crate, folder="specs"):
+    """{(module, name): Definition} of a folder; a constructor stands for its type."""
     found = {}
-    for path in files_below(f"crates/{crate}/specs", ".antt"):
+    for path in files_below(f"crates/{crate}/{folder}", ".antt"):
         module = f"Rattle.{crate}." + path[len(f"crates/{crate}/"):-len(".antt")].replace("/", ".")
         lines = read(path).split("\n")
         comment, scopes, section, i = [], [], "", 0

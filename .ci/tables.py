@@ -1,8 +1,15 @@
-"""The tables of docs/RULES.md: each row is a row of a test, and the other way round."""
-import ast
-import re
+#!/usr/bin/env python3
+"""The tables of docs/RULES.md: each row is a row of a test, and the other way round.
 
-from sources import read
+    .ci/tables.py --write    writes the table of words with names from words.rt, and adds the
+                             languages that CALLING.md leaves out to its list"""
+import ast
+import os
+import re
+import sys
+
+sys.dont_write_bytecode = True
+from sources import TOP, read  # noqa: E402
 
 PAGE = "docs/RULES.md"
 TESTS = "crates/digit_vectors/src/tests/rules.rt"
@@ -11,6 +18,10 @@ LETTERS = {"I": 1 << 32, "L": 1 << 35, "T": 1 << 38, "C": 1 << 41}
 
 
 WORDS = ("crates/lexical_format/src/lib.rt", "crates/lexical_format/src/words.rt")
+# each word with a name is in the law `words_say` and has a row of a test
+NAMING = ("crates/lexical_format/src/laws.rt", "crates/digit_vectors/src/tests/languages.rt")
+# and its language is in CALLING's list, by its name or by that of the word
+LISTING = "CALLING.md"
 
 
 def constants(*paths):
@@ -184,20 +195,76 @@ class Check:
     def words(self, rows):
         """Each cell has the flags of the word that the row and the column name, and each word is in
         the table."""
-        names = set(re.findall(r"pub const (\w+):", read("crates/lexical_format/src/words.rt")))
-        shown = {"JSON", "HEXADECIMAL"}
+        names, shown = set(named_words()), set(BARE)
         for line, (language, *cells) in rows:
-            language = language.split(" ")[0]
-            for cell, (ending, radix) in zip(cells, RADIX_OF.items()):
-                name = language + ("" if language == "TOML" else "_LITERAL")
-                name = name.replace(language, language + ending)
+            for cell, (name, there) in zip(cells, self.cells(language.split(" ")[0])):
                 shown.add(name)
-                there = word_said(self.named[name], radix) if name in names else "-"
                 self.count += 1
                 if cell != there:
-                    self.faults.append(f"{PAGE}:{line}: {name} is {there}, not {cell}")
+                    self.faults.append(f"{PAGE}:{line}: {name} is {there}, not {cell}: {MEND}")
         for name in sorted(names - shown):
-            self.faults.append(f"{PAGE}:{rows[0][0]}: no {name} of words.rt")
+            self.faults.append(f"{PAGE}:{rows[0][0]}: no {name} of words.rt: {MEND}")
+        for path in NAMING:
+            named = set(re.findall(r"\w+", read(path)))
+            self.faults += [f"{path}:1: no {name} of words.rt" for name in sorted(names - named)]
+        self.faults += [f"{LISTING}:1: no {it} of words.rt: {MEND}" for it in unlisted()]
+
+    def cells(self, language):
+        """The words of a language with what the table says of each."""
+        for ending, radix in RADIX_OF.items():
+            name = f"{language}{ending}" + ("" if language == "TOML" else "_LITERAL")
+            yield name, word_said(self.named[name], radix) if name in self.named else "-"
+
+    def write(self):
+        """Writes the table of words, and adds the languages that a page leaves out."""
+        lines = read(PAGE).split("\n")
+        end = start = next(n for n, line in enumerate(lines) if line.startswith("| X |")) + 2
+        heads = []
+        while lines[end].startswith("|"):
+            heads.append(lines[end].split("|")[1].strip())
+            end += 1
+        shown = {head.split("`")[1] for head in heads}
+        heads += [f"`{it}`" for it in languages() if it not in shown and it not in BARE]
+        lines[start:end] = [" | ".join([f"| {head}", *(said for _, said in self.cells(
+            head.split("`")[1])), ""]).strip() for head in heads]
+        texts = {PAGE: "\n".join(lines), LISTING: read(LISTING)}
+        for language in unlisted():
+            texts[LISTING] = texts[LISTING].replace(", and `JSON`", f", `{language}`, and `JSON`")
+        for path, text in texts.items():
+            with open(os.path.join(TOP, path), "w", encoding="utf8") as file:
+                file.write(text)
+
+    def bits(self, rows):
+        """The bits of the flags are those of the constants."""
+        kinds = ("INTERNAL", "LEADING", "TRAILING", "CONSECUTIVE")
+        for line, (component, *cells) in rows:
+            for cell, kind in zip(cells, kinds):
+                bit = self.named[f"{component.upper()}_{kind}_DIGIT_SEPARATOR"].bit_length() - 1
+                self.count += 1
+                if cell != f"bit {bit}":
+                    self.faults.append(f"{PAGE}:{line}: {kind.lower()} of {component} is bit {bit}")
+
+
+# The words of no language.
+BARE = ("JSON", "HEXADECIMAL", "HEXADECIMAL_FLOAT", "OCTAL", "BINARY")
+MEND = "run .ci/tables.py --write"
+
+
+def named_words():
+    return re.findall(r"pub const (\w+):", read("crates/lexical_format/src/words.rt"))
+
+
+def languages():
+    """The languages of the words with names, and the words of none."""
+    return list(dict.fromkeys(
+        name if name in BARE else re.sub(r"(_HEX|_OCTAL|_BINARY)?(_LITERAL)?$", "", name)
+        for name in named_words()))
+
+
+def unlisted():
+    """The languages that are not in CALLING's list, by their names or by those of their words."""
+    listed = set(re.findall(r"\w+", read(LISTING).upper()))
+    return [it for it in languages() if it not in listed]
 
 
 RADIX_OF = {"": 10, "_HEX": 16, "_OCTAL": 8, "_BINARY": 2}
@@ -245,6 +312,7 @@ def check():
     it.states()
     by_columns = {
         ("X", "Radix 10", "16", "8", "2"): it.words,
+        ("Component", "I", "L", "T", "C"): it.bits,
         ("Flags", "Bytes", "Drained", "Count", "Why"): it.examples,
         ("Flags", "Bytes", "Cursor, count", "Drained", "Why"): it.within,
         ("Flags", "Separator, radix", "Bytes", "Drained", "Count", "Why"): it.others,
@@ -260,3 +328,11 @@ def check():
     for columns in by_columns:
         it.faults.append(f"{PAGE}:1: no table with the columns {', '.join(columns)}")
     return f"{it.count} rows and words of {PAGE} are those of the tests", it.faults
+
+
+if __name__ == "__main__":
+    if sys.argv[1:] == ["--write"]:
+        Check().write()
+    said, faults = check()
+    print("\n".join(faults) if faults else f"tables: {said}")
+    sys.exit(1 if faults else 0)

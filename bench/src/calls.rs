@@ -48,7 +48,7 @@ pub fn drained<B: Buffers>(work: Work, word: u128) -> Way {
         Work::Peeked => Box::new(move |text| peeked::<B>(&text.bytes, word)),
         Work::Handed => Box::new(move |text| handed::<B>(&text.bytes, word)),
         Work::Eights => Box::new(move |text| eights::<B>(&text.bytes, word)),
-        Work::Numbers => on_each(move |text| number::<B>(text, word)),
+        Work::Numbers | Work::Asked => on_each(move |text| number::<B>(text, word)),
         Work::Stopped => on_each(move |text| stopped::<B>(text, word)),
         Work::Literals => on_each(move |text| literal::<B>(text, word)),
         Work::Parsed => on_each(move |text| parsed::<B>(text, word)),

@@ -3,13 +3,14 @@
 use crate::measure::Job;
 use crate::texts::{
     digits, each_third, floats, hex_digits, hex_numbers, lines, literals, numbers, others, runs,
+    shortest_floats, shortest_lines, shortest_literals, shortest_numbers, shortest_stopped_numbers,
     signed_literals, stopped_numbers, zeros, Text,
 };
 use crate::word::{I, IC, ILTC, I_16, I_IN_ALL, NONE};
 use crate::work::Sides;
 use crate::work::Work::{
-    Cleared, Counted, Digits, Eights, Floats, FloatsOf, Handed, Lines, Literals, Mantissas, Number,
-    Numbers, Parsed, Parts, Peeked, Signed, Stopped, Sum, Zeros,
+    Asked, Cleared, Counted, Digits, Eights, Floats, FloatsOf, Handed, Lines, Literals, Mantissas,
+    Number, Numbers, Parsed, Parts, Peeked, Signed, Stopped, Sum, Zeros,
 };
 
 /// The greatest wanted ratio of the library, with its word at run time, to the floor.
@@ -29,11 +30,7 @@ impl Case {
 
     /// The greatest wanted ratio of the library with a constant word to the original.
     pub fn to_original(&self) -> f64 {
-        if self.name.starts_with("e:") {
-            1.3
-        } else {
-            1.1
-        }
+        most_to_original(self.name)
     }
 
     fn run(&self, run: fn(&[Job])) {
@@ -44,6 +41,14 @@ impl Case {
     }
 }
 
+/// The greatest wanted ratio of the library with a constant word to the original, in a case.
+pub fn most_to_original(case: &str) -> f64 {
+    match case.split(':').next() {
+        Some("e") => 1.3,
+        _ => 1.1,
+    }
+}
+
 /// Runs the wanted cases: measures them, or runs them once.
 pub fn run_all(run: fn(&[Job]), is_wanted: impl Fn(&str) -> bool) {
     all().iter().filter(|case| is_wanted(case.name)).for_each(|case| case.run(run));
@@ -51,7 +56,14 @@ pub fn run_all(run: fn(&[Job]), is_wanted: impl Fn(&str) -> bool) {
 
 /// The cases, in the order of the table.
 pub fn all() -> Vec<Case> {
-    let groups = [drains(), short_texts(), other_calls(), literal_texts(), other_texts()];
+    let groups = [
+        drains(),
+        short_texts(),
+        other_calls(),
+        literal_texts(),
+        other_texts(),
+        shortest_components(),
+    ];
     groups.into_iter().flatten().collect()
 }
 
@@ -90,9 +102,27 @@ fn short_texts() -> Vec<Case> {
             grouped_hex,
             Sides::skip::<I_16>(Numbers),
         ),
+        Case::new("f: no flags, 1 to 4 digits", shortest_numbers, Sides::skip::<NONE>(Numbers)),
+        Case::new("f: I, 1 to 4 digits", shortest_numbers, Sides::skip::<I>(Numbers)),
+        Case::new(
+            "f: no flags, 1 to 4 digits, looks asked",
+            shortest_numbers,
+            Sides::skip::<NONE>(Asked),
+        ),
+        Case::new("f: I, 1 to 4 digits, looks asked", shortest_numbers, Sides::skip::<I>(Asked)),
         Case::new("n: no flags, numbers to a comma", stopped, Sides::skip::<NONE>(Stopped)),
         Case::new("n: I, numbers to a comma", stopped, Sides::skip::<I>(Stopped)),
         Case::new("n: I, grouped numbers to a comma", grouped_stopped, Sides::skip::<I>(Stopped)),
+        Case::new(
+            "n: no flags, 1 to 4 digits to a comma",
+            shortest_stopped_numbers,
+            Sides::skip::<NONE>(Stopped),
+        ),
+        Case::new(
+            "n: I, 1 to 4 digits to a comma",
+            shortest_stopped_numbers,
+            Sides::skip::<I>(Stopped),
+        ),
     ]
 }
 
@@ -123,17 +153,41 @@ fn literal_texts() -> Vec<Case> {
         Case::new("j: no flags, literals", plain, Sides::skip::<NONE>(Literals)),
         Case::new("j: I, literals", plain, Sides::skip::<I>(Literals)),
         Case::new("j: I, grouped literals", grouped, Sides::skip::<I>(Literals)),
+        Case::new("j: no flags, 1 to 4 digits", shortest_literals, Sides::skip::<NONE>(Literals)),
+        Case::new("j: I, 1 to 4 digits", shortest_literals, Sides::skip::<I>(Literals)),
         Case::new("p: no flags, parse_integer", plain, Sides::skip::<NONE>(Parsed)),
         Case::new("p: I, grouped, parse_integer", grouped, Sides::skip::<I>(Parsed)),
+        Case::new(
+            "p: no flags, 1 to 4 digits, parse_integer",
+            shortest_literals,
+            Sides::skip::<NONE>(Parsed),
+        ),
+        Case::new(
+            "p: I, 1 to 4 digits, parse_integer",
+            shortest_literals,
+            Sides::skip::<I>(Parsed),
+        ),
         Case::new("p: no flags, parse_signed", signed, Sides::skip::<NONE>(Signed)),
         Case::new("p: I, grouped, parse_signed", grouped_signed, Sides::skip::<I>(Signed)),
         Case::new("p: I, grouped, count_digits", grouped, Sides::skip::<I>(Counted)),
         Case::new("t: no flags, lines", lines, Sides::skip::<NONE>(Lines)),
         Case::new("t: I, grouped, lines", grouped_lines, Sides::skip::<I>(Lines)),
+        Case::new("t: no flags, 1 to 4 digits", shortest_lines, Sides::skip::<NONE>(Lines)),
+        Case::new("t: I, 1 to 4 digits", shortest_lines, Sides::skip::<I>(Lines)),
         Case::new("q: no flags, clear_counts", stopped, Sides::skip::<NONE>(Cleared)),
         Case::new("q: I, grouped, clear_counts", grouped_stopped, Sides::skip::<I>(Cleared)),
         Case::new("o: no flags, pass_digits", stopped, Sides::skip::<NONE>(Digits)),
         Case::new("o: I, grouped, pass_digits", grouped_stopped, Sides::skip::<I>(Digits)),
+        Case::new(
+            "o: no flags, 1 to 4 digits, pass_digits",
+            shortest_stopped_numbers,
+            Sides::skip::<NONE>(Digits),
+        ),
+        Case::new(
+            "o: I, 1 to 4 digits, pass_digits",
+            shortest_stopped_numbers,
+            Sides::skip::<I>(Digits),
+        ),
         Case::new("o: I, grouped, pass_zeros", grouped_zeros, Sides::skip::<I>(Zeros)),
     ]
 }
@@ -154,5 +208,24 @@ fn other_texts() -> Vec<Case> {
         Case::new("l: I, grouped, by read_digits_of", grouped, Sides::skip::<I_IN_ALL>(Mantissas)),
         Case::new("s: no flags, mantissa and exponent", plain, Sides::skip::<NONE>(Parts)),
         Case::new("s: I, grouped, mantissa and exponent", grouped, Sides::skip::<I_IN_ALL>(Parts)),
+    ]
+}
+
+/// Numbers of three components, of 1 to 4 digits each.
+fn shortest_components() -> Vec<Case> {
+    let text: fn() -> Text = shortest_floats;
+    vec![
+        Case::new("l: no flags, 1 to 4 digits", text, Sides::skip::<NONE>(Floats)),
+        Case::new("l: I, 1 to 4 digits", text, Sides::skip::<I_IN_ALL>(Floats)),
+        Case::new("l: no flags, 1 to 4 digits, by next_of", text, Sides::skip::<NONE>(FloatsOf)),
+        Case::new("l: I, 1 to 4 digits, by next_of", text, Sides::skip::<I_IN_ALL>(FloatsOf)),
+        Case::new(
+            "l: no flags, 1 to 4 digits, read_digits_of",
+            text,
+            Sides::skip::<NONE>(Mantissas),
+        ),
+        Case::new("l: I, 1 to 4 digits, read_digits_of", text, Sides::skip::<I_IN_ALL>(Mantissas)),
+        Case::new("s: no flags, 1 to 4 digits", text, Sides::skip::<NONE>(Parts)),
+        Case::new("s: I, 1 to 4 digits", text, Sides::skip::<I_IN_ALL>(Parts)),
     ]
 }

@@ -18,7 +18,9 @@ pub fn filtered<const WORD: u128>(work: Work) -> Option<Way> {
             Some(Box::new(|text| of_value(number::<WORD>(&text.bytes))))
         }
         Work::Eights => Some(Box::new(|text| of_value(number_of_eights(&text.bytes)))),
-        Work::Numbers => Some(Box::new(|text| each(text, |text| of_value(number::<WORD>(text))))),
+        Work::Numbers | Work::Asked => {
+            Some(Box::new(|text| each(text, |text| of_value(number::<WORD>(text)))))
+        }
         Work::Literals => Some(Box::new(|text| each_parsed(text, Rule::<WORD>::RADIX))),
         Work::Floats | Work::FloatsOf => Some(Box::new(|text| each(text, float::<WORD>))),
         Work::Parsed | Work::Lines => Some(Box::new(|text| each_parsed(text, Rule::<WORD>::RADIX))),

@@ -1,6 +1,7 @@
 //! The hostile texts: a digit, a run of separators that is kept, and a point.
 
-use crate::measure::{measure, Job};
+use crate::library::{self, Format};
+use crate::measure::Job;
 use crate::medians::{self, Side};
 use crate::texts::{self, Text};
 use crate::word::{IC, LC};
@@ -18,24 +19,38 @@ pub fn name_at(name: &str, length: usize) -> String {
     format!("{name} of {length}")
 }
 
-/// Measures the wanted words.
-pub fn measure_all(is_wanted: impl Fn(&str) -> bool) {
-    let words = [Sides::skip::<IC>(Work::Number), Sides::skip::<LC>(Work::Number)];
-    for (name, sides) in NAMES.iter().zip(&words).filter(|(name, _)| is_wanted(name)) {
-        measure_word(name, sides);
+/// Ends the program unless the sides agree on the texts, except the longest.
+pub fn check_all() {
+    for (name, sides) in NAMES.iter().zip(words()) {
+        for length in LENGTHS.into_iter().filter(|&length| length <= LONGEST_SQUARE) {
+            sides.check(&name_at(name, length), &texts::hostile(length));
+        }
     }
 }
 
-/// Measures a word. The library takes turns on all lengths, since it is compared with itself.
-fn measure_word(name: &str, sides: &Sides) {
+/// The work under each of the words.
+fn words() -> [Sides; 2] {
+    [Sides::skip::<IC>(Work::Number), Sides::skip::<LC>(Work::Number)]
+}
+
+/// Runs the wanted words: measures them, or runs them once.
+pub fn run_all(run: fn(&[Job]), is_wanted: impl Fn(&str) -> bool) {
+    for ((name, sides), word) in NAMES.iter().zip(&words()).zip([IC, LC]) {
+        if is_wanted(name) {
+            run_word(run, name, sides, Format { word, is_constant: false });
+        }
+    }
+}
+
+/// Runs a word. The library takes turns on all lengths, since it is compared with itself.
+fn run_word(run: fn(&[Job]), name: &str, sides: &Sides, format: Format) {
     let texts = LENGTHS.map(|length| (name_at(name, length), texts::hostile(length)));
     for (case, text) in &texts {
-        sides.check(case, text);
-        let looks = (sides.library)(text).looks as f64 / text.bytes.len() as f64;
-        medians::tell_looks(case, looks);
+        let drained = library::call(library::digit_bench_looks, &text.bytes, format);
+        medians::tell_looks(case, drained.looks as f64 / text.bytes.len() as f64);
     }
     let library = texts.iter().map(|(case, text)| job(case, text, (Side::Library, &sides.library)));
-    measure(&library.collect::<Vec<_>>());
+    run(&library.collect::<Vec<_>>());
     for (length, (case, text)) in LENGTHS.iter().zip(&texts) {
         let is_wanted = |side: &Side| match side {
             Side::Library | Side::Constant => false,
@@ -43,7 +58,7 @@ fn measure_word(name: &str, sides: &Sides) {
             Side::Filter => true,
         };
         let others = sides.named().filter(|(side, _)| is_wanted(side));
-        measure(&others.map(|other| job(case, text, other)).collect::<Vec<_>>());
+        run(&others.map(|other| job(case, text, other)).collect::<Vec<_>>());
     }
 }
 

@@ -9,7 +9,7 @@ pub struct Outcome {
     pub value: u64,
     /// What `current_count` answers after the drain.
     pub count: u64,
-    /// How many looks at a byte were counted. Only the library counts them.
+    /// How many looks at a byte were counted, by the library's exports that ask.
     pub looks: u64,
 }
 
@@ -44,6 +44,7 @@ exports! {
     text:
         digit_bench_sum
         digit_bench_number
+        digit_bench_looks
         digit_bench_peeked
         digit_bench_handed
         digit_bench_eights
@@ -54,6 +55,7 @@ exports! {
         digit_bench_plain_peeked;
     many:
         digit_bench_numbers
+        digit_bench_asked
         digit_bench_stopped
         digit_bench_literals
         digit_bench_parsed

@@ -3,7 +3,8 @@
 //!
 //! - `bench measure WORD..` tells the medians of the cases whose name holds one of the words, or of
 //!   all;
-//! - `bench once WORD..` does the work of those cases once, for `bench/count`;
+//! - `bench once WORD..` does the work of those cases once, on texts of an eighth of the size, for
+//!   `bench/count`;
 //! - `bench table` reads what such programs told and prints all of it as Markdown;
 //! - `bench page` reads the same and prints the rows of docs/SPEED.md;
 //! - `bench summary` reads the same and prints the sentences of README;
@@ -30,13 +31,18 @@ mod texts;
 mod word;
 mod work;
 
+use measure::Job;
 use medians::Medians;
+use std::sync::atomic::Ordering::Relaxed;
 
 fn main() {
     let words: Vec<String> = std::env::args().skip(1).collect();
     match words.first().map(String::as_str) {
         Some("measure") => measure(&words[1..]),
-        Some("once") => cases::run_all(measure::run_once, is_one_of(&words[1..])),
+        Some("once") => {
+            texts::SIZE.store(1 << 17, Relaxed);
+            run(measure::run_once, &words[1..]);
+        }
         Some("table") => table::print(&medians()),
         Some("page") => page::print(&medians()),
         Some("summary") => page::print_summary(&medians()),
@@ -52,9 +58,15 @@ fn medians() -> Medians {
 
 fn measure(words: &[String]) {
     agree::check_all();
+    hostile::check_all();
+    run(measure::measure, words);
+}
+
+/// Runs the cases whose name holds one of the words: measures them, or runs them once.
+fn run(run: fn(&[Job]), words: &[String]) {
     medians::tell_program(library::digit_bench_size());
-    cases::run_all(measure::measure, is_one_of(words));
-    hostile::measure_all(is_one_of(words));
+    cases::run_all(run, is_one_of(words));
+    hostile::run_all(run, is_one_of(words));
 }
 
 /// Whether a name holds one of the words, if there are any.

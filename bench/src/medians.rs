@@ -1,5 +1,5 @@
 //! What the programs measured, on its way from each of them to the table: lines of fields with a
-//! tab between them.
+//! tab between them. `bench/count` tells its instructions in the same form.
 
 use crate::place;
 use std::collections::{BTreeMap, BTreeSet};
@@ -35,6 +35,13 @@ impl Side {
     fn named(name: &str) -> Option<Side> {
         Side::ALL.into_iter().find(|side| side.name() == name)
     }
+}
+
+/// What a byte takes.
+#[derive(Clone, Copy, PartialEq, Eq)]
+pub enum Unit {
+    Instructions,
+    Nanoseconds,
 }
 
 /// Tells what one median was, in nanoseconds for each byte.
@@ -82,6 +89,8 @@ pub struct Medians {
     /// By case and side, and then by the pad of the program.
     times: BTreeMap<(String, Side), BTreeMap<usize, Vec<f64>>>,
     looks: BTreeMap<String, f64>,
+    /// The instructions for each byte.
+    counts: BTreeMap<(String, Side), f64>,
     /// The pads of the programs, and where the library and the Rust code lie in them.
     pads: BTreeSet<usize>,
     library_offsets: BTreeSet<usize>,
@@ -106,6 +115,9 @@ impl Medians {
             ["time", case, side, pad, time] => {
                 let times = self.times.entry((case.into(), Side::named(side)?)).or_default();
                 times.entry(pad.parse().ok()?).or_default().push(time.parse().ok()?);
+            }
+            ["count", case, side, instructions] => {
+                self.counts.insert((case.into(), Side::named(side)?), instructions.parse().ok()?);
             }
             ["looks", case, looks] => {
                 self.looks.insert(case.into(), looks.parse().ok()?);
@@ -134,9 +146,22 @@ impl Medians {
         self.times.get(&(case.into(), side)).map(Timing::of)
     }
 
-    /// The time of a side in a case to that of another.
-    pub fn ratio(&self, case: &str, side: Side, other: Side) -> Option<f64> {
-        Some(self.timing(case, side)?.least / self.timing(case, other)?.least)
+    /// What a byte takes on a side in a case, if it was measured.
+    pub fn value(&self, unit: Unit, case: &str, side: Side) -> Option<f64> {
+        match unit {
+            Unit::Instructions => self.counts.get(&(case.into(), side)).copied(),
+            Unit::Nanoseconds => self.timing(case, side).map(|timing| timing.least),
+        }
+    }
+
+    /// What a side takes in a case to what another one takes.
+    pub fn ratio(&self, unit: Unit, case: &str, side: Side, other: Side) -> Option<f64> {
+        Some(self.value(unit, case, side)? / self.value(unit, case, other)?)
+    }
+
+    /// What a side takes in a case to what the side takes that has its word fixed.
+    pub fn to_fixed(&self, unit: Unit, case: &str, side: Side) -> Option<f64> {
+        self.ratio(unit, case, side, self.fixed_side(case))
     }
 
     /// The looks that the library counted in a case, for each byte.
@@ -152,14 +177,15 @@ impl Medians {
 
     /// Whether a side was measured in any case.
     pub fn has(&self, side: Side) -> bool {
-        self.times.keys().any(|key| key.1 == side)
+        self.times.keys().chain(self.counts.keys()).any(|key| key.1 == side)
     }
 
     /// The side that has its word fixed: the original, if it was measured in a case.
     pub fn fixed_side(&self, case: &str) -> Side {
-        match self.timing(case, Side::Original) {
-            Some(_) => Side::Original,
-            None => Side::Fixed,
+        let units = [Unit::Instructions, Unit::Nanoseconds];
+        match units.iter().any(|&unit| self.value(unit, case, Side::Original).is_some()) {
+            true => Side::Original,
+            false => Side::Fixed,
         }
     }
 }

@@ -1,20 +1,23 @@
-//! The table of docs/SPEED.md: the rows that a user has, in words; and the sentences of README.
+//! The tables of docs/SPEED.md: the rows that a user has, in words; and the sentences of README.
 
-use crate::cases::TO_FLOOR;
-use crate::medians::{Medians, Side};
-use crate::table::{print_table, ratio, time};
+use crate::cases::{self, most_to_original, TO_FLOOR};
+use crate::medians::{Medians, Side, Unit};
+use crate::table::{print_means, print_part, ratio, value, UNITS};
 
 /// The rows, with the cases that they show.
-pub const ROWS: [(&str, &str); 14] = [
+pub const ROWS: [(&str, &str); 17] = [
     ("Digits, no separators allowed", "a: no flags, digits, number"),
     ("Digits, separators allowed", "b: I, digits, number"),
-    ("Short numbers, grouped by thousands", "f: I, short grouped numbers"),
+    ("Numbers of 8 to 20 bytes, grouped by thousands", "f: I, short grouped numbers"),
     ("The same in radix 16", "f: I, radix 16, short grouped numbers"),
+    ("Numbers of 1 to 4 digits, separators allowed", "f: I, 1 to 4 digits"),
+    ("The same up to a comma, by `peek`, `is_digit` and `next`", "n: I, 1 to 4 digits to a comma"),
     (
         "Grouped numbers up to a comma, by `peek`, `is_digit` and `next`",
         "n: I, grouped numbers to a comma",
     ),
     ("Grouped integers, by `read_integer`", "j: I, grouped literals"),
+    ("Integers of 1 to 4 digits, by `read_integer`", "j: I, 1 to 4 digits"),
     ("Lines with one grouped integer each, by `read_integer_from`", "t: I, grouped, lines"),
     ("Grouped digits up to a comma, by `pass_digits`", "o: I, grouped, pass_digits"),
     ("Grouped zeros, by `pass_zeros`", "o: I, grouped, pass_zeros"),
@@ -28,9 +31,18 @@ pub const ROWS: [(&str, &str); 14] = [
 /// The longest and the shortest run that is kept.
 const RUNS: [&str; 2] = ["g: IC, a kept run of 100", "g: IC, a kept run of 100000"];
 
-/// Prints the table.
+/// Prints the tables.
 pub fn print(medians: &Medians) {
     medians.check_places();
+    for (unit, words) in UNITS {
+        print_unit(unit, words, medians);
+    }
+    print_means(medians);
+    print_asked(medians);
+    print_runs(medians);
+}
+
+fn print_unit(unit: Unit, words: &str, medians: &Medians) {
     let head = [
         "What is read",
         "Library",
@@ -40,41 +52,53 @@ pub fn print(medians: &Medians) {
         "to the original",
         "Original",
     ];
-    print_table(
-        &head.map(String::from),
-        ROWS.map(|(words, case)| row(words, case, medians)).into(),
-    );
-    print_runs(medians);
+    let is_there = |case| medians.value(unit, case, Side::Library).is_some();
+    let rows = ROWS.iter().filter(|(_, case)| is_there(case));
+    let rows = rows.map(|(words, case)| row(unit, words, case, medians)).collect();
+    print_part(words, &head.map(String::from), rows);
 }
 
-fn row(words: &str, case: &str, medians: &Medians) -> Vec<String> {
+fn row(unit: Unit, words: &str, case: &str, medians: &Medians) -> Vec<String> {
     let fixed = medians.fixed_side(case);
-    let most = if case.starts_with("e:") { 1.3 } else { 1.1 };
+    let ratio = |side, other, most| ratio(unit, medians, case, side, other, most);
     vec![
         words.into(),
-        time(case, Side::Library, medians),
-        ratio(medians, case, Side::Library, Side::Floor, TO_FLOOR),
-        ratio(medians, case, Side::Library, fixed, f64::INFINITY),
-        time(case, Side::Constant, medians),
-        ratio(medians, case, Side::Constant, fixed, most),
-        time(case, fixed, medians),
+        value(unit, case, Side::Library, medians),
+        ratio(Side::Library, Side::Floor, TO_FLOOR),
+        ratio(Side::Library, fixed, f64::INFINITY),
+        value(unit, case, Side::Constant, medians),
+        ratio(Side::Constant, fixed, most_to_original(case)),
+        value(unit, case, fixed, medians),
     ]
 }
 
-fn print_runs(medians: &Medians) {
-    let [short, long] = RUNS.map(|case| time(case, Side::Library, medians));
-    let original = time("g: IC, a kept run of 10000", Side::Original, medians);
+/// What it costs to ask the looks after each number.
+fn print_asked(medians: &Medians) {
+    let [none, internal] = ["f: no flags, 1 to 4 digits", "f: I, 1 to 4 digits"].map(|case| {
+        let [silent, asked] = [case, &format!("{case}, looks asked")]
+            .map(|case| value(Unit::Instructions, case, Side::Constant, medians));
+        format!("{silent} to {asked}")
+    });
     println!(
-        "A run of separators that is kept, as hostile text may have it, takes {short} ns a byte at \
-         100 separators and {long} at 100,000 (word IC). The original takes {original} at 10,000, \
-         and that grows with the run."
+        "To ask `looks` after each number of 1 to 4 digits raises the instructions for each byte \
+         from {none} without flags and from {internal} with separators allowed (constant word).\n"
+    );
+}
+
+fn print_runs(medians: &Medians) {
+    let [short, long] = RUNS.map(|case| value(Unit::Instructions, case, Side::Library, medians));
+    let original = value(Unit::Instructions, "g: IC, a kept run of 10000", Side::Original, medians);
+    println!(
+        "A run of separators that is kept, as hostile text may have it, takes {short} instructions \
+         a byte at 100 separators and {long} at 100,000 (word IC). The original takes {original} \
+         at 10,000, and that grows with the run."
     );
 }
 
 /// Prints the sentences of README.
 pub fn print_summary(medians: &Medians) {
     let to_original = |case: &str, side| {
-        let ratio = medians.ratio(case, side, medians.fixed_side(case));
+        let ratio = medians.to_fixed(Unit::Instructions, case, side);
         ratio.map_or("–".into(), |ratio| format!("{ratio:.1}"))
     };
     let both = |case: &str| {
@@ -84,29 +108,45 @@ pub fn print_summary(medians: &Medians) {
     };
     println!(
         "Beside lexical-util, which knows its word when it is compiled, a constant word takes {} \
-         times as long on digits and {} on short grouped numbers; in parentheses a word that is \
-         known at run time.",
+         times as many instructions on digits, {} on grouped numbers of 8 to 20 bytes and {} on \
+         numbers of 1 to 4 digits; in parentheses a word that is known at run time.",
         both("b: I, digits, number"),
         both("f: I, short grouped numbers"),
+        both("f: I, 1 to 4 digits"),
     );
     println!(
-        "`pass_digits` takes {} on grouped numbers, `read_digits_of` {}, and lines with one \
-         integer each {}. Slower are {} on grouped numbers that are peeked, {} on runs of 16 \
-         dropped separators and {} on letters that are peeked.",
+        "`pass_digits` takes {} on grouped numbers, `read_digits_of` {}, `read_integer` {} on \
+         numbers of 1 to 4 digits, and lines with one integer each {}. More are {} on grouped \
+         numbers that are peeked, {} on runs of 16 dropped separators and {} on letters that are \
+         peeked. {}",
         both("o: I, grouped, pass_digits"),
         both("l: I, grouped, by read_digits_of"),
+        both("j: I, 1 to 4 digits"),
         both("t: I, grouped, lines"),
         both("n: I, grouped numbers to a comma"),
         both("e: ILTC, runs of 16, number"),
         both("k: I, other bytes, peeked"),
+        worst(medians),
     );
-    let [short, long] = RUNS.map(|case| time(case, Side::Library, medians));
+    let [short, long] = RUNS.map(|case| value(Unit::Instructions, case, Side::Library, medians));
     let leading = [Side::Library, Side::Original]
-        .map(|side| time("g: LC, a kept run of 1000", side, medians));
+        .map(|side| value(Unit::Instructions, "g: LC, a kept run of 1000", side, medians));
     println!(
-        "A kept run costs {short} ns a byte at 100 separators and {long} at 100,000, where \
-         lexical-util's time grows with the square under internal and consecutive; under leading \
+        "A kept run costs {short} instructions a byte at 100 separators and {long} at 100,000, \
+         where lexical-util's work grows with the square under internal and consecutive; under leading \
          and consecutive it takes {} and lexical-util {}.",
         leading[0], leading[1],
     );
+}
+
+/// The sentence of the worst row at run time.
+fn worst(medians: &Medians) -> String {
+    let ratio = |case: &str| medians.to_fixed(Unit::Instructions, case, Side::Library);
+    let ratios = cases::all().into_iter().filter_map(|case| Some((ratio(case.name)?, case.name)));
+    match ratios.max_by(|one, other| one.0.total_cmp(&other.0)) {
+        Some((ratio, case)) => {
+            format!("The worst row at run time is \"{case}\": {ratio:.1} times the instructions.")
+        }
+        None => String::new(),
+    }
 }

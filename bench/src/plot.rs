@@ -1,10 +1,11 @@
-//! The picture of the tables: the ratios by case, and a byte's time against the length of a run
+//! The picture of the tables: the ratios of instructions by case, and a byte's instructions against the length of a run
 //! that is kept.
 
 use crate::cases::{self, Case};
 use crate::hostile;
-use crate::medians::{Medians, Side};
+use crate::medians::{Medians, Side, Unit};
 use crate::svg::{ink, Anchor, Font, Mark, Point, Svg};
+use crate::table::printed;
 
 const WIDTH: f64 = 960.0;
 /// Where the area of both panels begins and ends.
@@ -63,19 +64,19 @@ fn look_of(side: Side) -> (&'static str, Mark) {
 
 /// The picture of what was measured.
 pub fn svg(medians: &Medians) -> String {
-    let is_measured = |case: &Case| medians.timing(case.name, Side::Library).is_some();
+    let is_measured = |case: &Case| ratio(medians, case.name, Side::Library).is_some();
     let cases: Vec<Case> = cases::all().into_iter().filter(is_measured).collect();
     let bottom = TOP + ROW * cases.len() as f64;
-    let name = "Time of the library to that of the original";
+    let name = "Instructions of the library to those of the original";
     let mut svg = Svg::new(WIDTH, bottom + GAP + RUNS + 70.0, name);
     draw_ratios(&mut svg, &cases, medians, bottom);
     draw_runs(&mut svg, medians, bottom + GAP);
     svg.finish()
 }
 
-/// The time of a side of the library to that of the original.
+/// The instructions of a side of the library to those of the original.
 fn ratio(medians: &Medians, case: &str, side: Side) -> Option<f64> {
-    medians.ratio(case, side, medians.fixed_side(case))
+    medians.to_fixed(Unit::Instructions, case, side)
 }
 
 fn draw_ratios(svg: &mut Svg, cases: &[Case], medians: &Medians, bottom: f64) {
@@ -116,7 +117,7 @@ fn draw_ratio_axis(svg: &mut Svg, axis: &Axis, bottom: f64) {
         svg.text(label, Anchor::Middle, LABEL, &step.to_string());
     }
     let middle = Point { x: (LEFT + RIGHT) / 2.0, y: bottom + 42.0 };
-    let title = "time of the library / time of the original (left of 1: the library is faster)";
+    let title = "instructions of the library / instructions of the original (left of 1: the library has fewer)";
     svg.text(middle, Anchor::Middle, NOTE, title);
 }
 
@@ -127,7 +128,8 @@ fn draw_case(svg: &mut Svg, case: &Case, medians: &Medians, axis: &Axis, y: f64)
     for side in DRAWN {
         if let Some(ratio) = ratio(medians, case.name, side) {
             let (colour, mark) = look_of(side);
-            svg.mark(mark, Point { x: axis.at(ratio), y }, colour);
+            let title = format!("{}, {}: {ratio:.2}", case.name, side.name());
+            svg.titled_mark(mark, Point { x: axis.at(ratio), y }, colour, &title);
         }
     }
 }
@@ -156,18 +158,18 @@ fn draw_runs(svg: &mut Svg, medians: &Medians, top: f64) {
     let up = Axis { least: 0.8, greatest: greatest * 1.5, from: top + RUNS, to: top };
     let head = "A run of separators that is kept (word IC)";
     svg.text(Point { x: 24.0, y: top - 42.0 }, Anchor::Start, HEAD, head);
-    let note = "Flat: a run twice as long takes twice the time. Rising: four times.";
+    let note = "Flat: a run twice as long takes twice the instructions. Rising: four times.";
     svg.text(Point { x: 24.0, y: top - 20.0 }, Anchor::Start, NOTE, note);
     draw_run_axes(svg, &across, &up);
     draw_curves(svg, &curves, &across, &up);
 }
 
-/// A side's time for each byte by the length of the run.
+/// A side's instructions for each byte by the length of the run.
 fn curve(medians: &Medians, name: &str, side: Side) -> Vec<(f64, f64)> {
     let lengths = hostile::LENGTHS.into_iter();
     let values = lengths.filter_map(|length| {
-        let timing = medians.timing(&hostile::name_at(name, length), side)?;
-        Some((length as f64, timing.least))
+        let case = hostile::name_at(name, length);
+        Some((length as f64, medians.value(Unit::Instructions, &case, side)?))
     });
     values.collect()
 }
@@ -191,7 +193,7 @@ fn draw_run_axes(svg: &mut Svg, across: &Axis, up: &Axis) {
     let below = Point { x: (across.from + across.to) / 2.0, y: up.from + 46.0 };
     svg.text(below, Anchor::Middle, NOTE, "separators in the run");
     let beside = Point { x: across.from - 70.0, y: (up.from + up.to) / 2.0 };
-    svg.upright(beside, Anchor::Middle, NOTE, "nanoseconds for each byte");
+    svg.upright(beside, Anchor::Middle, NOTE, "instructions for each byte");
 }
 
 /// The curves with their marks, and each side's name where its curve ends.
@@ -202,7 +204,10 @@ fn draw_curves(svg: &mut Svg, curves: &[(Side, Vec<(f64, f64)>)], across: &Axis,
         let points: Vec<Point> = values.iter().map(point).collect();
         let (colour, mark) = look_of(*side);
         svg.curve(&points, colour);
-        points.iter().for_each(|&point| svg.mark(mark, point, colour));
+        for (&point, (length, time)) in points.iter().zip(values) {
+            let title = format!("{}, {length} separators: {}", side.name(), printed(*time));
+            svg.titled_mark(mark, point, colour, &title);
+        }
         names.extend(points.last().map(|&end| (end, *side)));
     }
     names.sort_by(|one, other| one.0.y.total_cmp(&other.0.y));

@@ -93,6 +93,13 @@ impl Svg {
         ));
     }
 
+    /// A mark, and what it shows, for a reader that points at it.
+    pub fn titled_mark(&mut self, mark: Mark, at: Point, colour: &str, title: &str) {
+        self.put(format_args!("<g><title>{title}</title>"));
+        self.mark(mark, at, colour);
+        self.put(format_args!("</g>"));
+    }
+
     pub fn mark(&mut self, mark: Mark, Point { x, y }: Point, colour: &str) {
         let shape = match mark {
             Mark::Disc => format!("circle cx=\"{x:.1}\" cy=\"{y:.1}\" r=\"4.5\""),

@@ -2,7 +2,7 @@
 
 use crate::cases::{self, Case, TO_FLOOR};
 use crate::hostile;
-use crate::medians::{Medians, Side};
+use crate::medians::{Medians, Side, Unit};
 
 /// The greatest wanted ratio of the library's time for each byte of a kept run to that on a run of
 /// [`REFERENCE`].
@@ -12,11 +12,53 @@ const REFERENCE: usize = 1_000;
 /// Prints what was measured.
 pub fn print(medians: &Medians) {
     medians.check_places();
-    let rows = cases::all().into_iter().filter_map(|case| case_row(&case, medians));
-    print_table(&case_head(medians), rows.collect());
-    let rows = hostile::NAMES.iter().flat_map(|name| hostile_rows(name, medians));
-    print_table(&hostile_head(medians), rows.collect());
-    println!("A `Bytes` takes {} bytes. No export takes an allocator.", medians.size);
+    for (unit, words) in UNITS {
+        let rows = cases::all().into_iter().filter_map(|case| case_row(unit, &case, medians));
+        print_part(words, &case_head(unit, medians), rows.collect());
+    }
+    print_means(medians);
+    for (unit, words) in UNITS {
+        let rows = hostile::NAMES.iter().flat_map(|name| hostile_rows(unit, name, medians));
+        print_part(words, &hostile_head(unit, medians), rows.collect());
+    }
+    if medians.size > 0 {
+        println!("A `Bytes` takes {} bytes. No export takes an allocator.", medians.size);
+    }
+}
+
+/// Prints the geometric means of what the library takes to what the original takes.
+pub fn print_means(medians: &Medians) {
+    for (unit, words) in [(Unit::Instructions, "instructions"), (Unit::Nanoseconds, "time")] {
+        let means = [Side::Constant, Side::Library].map(|side| mean(unit, side, medians));
+        if let [Some(constant), Some(library)] = means {
+            println!(
+                "Geometric mean of all rows to the original, by {words}: {constant:.2} with a \
+                 constant word, {library:.2} with a word at run time.\n"
+            );
+        }
+    }
+}
+
+fn mean(unit: Unit, side: Side, medians: &Medians) -> Option<f64> {
+    let cases = cases::all().into_iter();
+    let ratios: Vec<f64> =
+        cases.filter_map(|case| medians.to_fixed(unit, case.name, side)).collect();
+    let sum: f64 = ratios.iter().map(|ratio| ratio.ln()).sum();
+    (!ratios.is_empty()).then(|| (sum / ratios.len() as f64).exp())
+}
+
+/// What the tables have for each byte, and the line above each.
+pub const UNITS: [(Unit, &str); 2] = [
+    (Unit::Instructions, "Instructions for each byte:"),
+    (Unit::Nanoseconds, "Nanoseconds for each byte, on this machine:"),
+];
+
+/// Prints a table with a line above it, if it has rows.
+pub fn print_part(words: &str, head: &[String], rows: Vec<Vec<String>>) {
+    if !rows.is_empty() {
+        println!("{words}\n");
+    }
+    print_table(head, rows);
 }
 
 /// Prints a table, if it has rows.
@@ -37,38 +79,53 @@ fn sides(medians: &Medians) -> impl Iterator<Item = Side> + '_ {
     Side::ALL.into_iter().filter(|&side| medians.has(side))
 }
 
-fn case_head(medians: &Medians) -> Vec<String> {
+fn case_head(unit: Unit, medians: &Medians) -> Vec<String> {
     let mut head = vec!["Case".into()];
     head.extend(sides(medians).map(|side| side.name().into()));
-    let ratios = ["Library / floor", "Constant / fixed", "Library / fixed", "Apart", "Spread"];
-    head.extend(ratios.map(String::from));
+    head.extend(["Library / floor", "Constant / fixed", "Library / fixed"].map(String::from));
+    if unit == Unit::Nanoseconds {
+        head.extend(["Apart", "Spread"].map(String::from));
+    }
     head
 }
 
 /// The row of a case, if it was measured. Ratios to what has its word fixed are to the original
 /// where that was measured.
-fn case_row(case: &Case, medians: &Medians) -> Option<Vec<String>> {
-    let library = medians.timing(case.name, Side::Library)?;
+fn case_row(unit: Unit, case: &Case, medians: &Medians) -> Option<Vec<String>> {
+    medians.value(unit, case.name, Side::Library)?;
     let fixed = medians.fixed_side(case.name);
     let mut row = vec![case.name.into()];
-    row.extend(sides(medians).map(|side| time(case.name, side, medians)));
-    let ratio = |side, other, most| ratio(medians, case.name, side, other, most);
+    row.extend(sides(medians).map(|side| value(unit, case.name, side, medians)));
+    let ratio = |side, other, most| ratio(unit, medians, case.name, side, other, most);
     row.push(ratio(Side::Library, Side::Floor, TO_FLOOR));
     row.push(ratio(Side::Constant, fixed, case.to_original()));
     row.push(ratio(Side::Library, fixed, f64::INFINITY));
-    row.extend([per_cent(library.apart), per_cent(medians.spread(case.name))]);
+    if unit == Unit::Nanoseconds {
+        let library = medians.timing(case.name, Side::Library)?;
+        row.extend([per_cent(library.apart), per_cent(medians.spread(case.name))]);
+    }
     Some(row)
 }
 
 /// A ratio, and whether it is above the greatest that is wanted.
-pub fn ratio(medians: &Medians, case: &str, side: Side, other: Side, most: f64) -> String {
-    medians.ratio(case, side, other).map_or("–".into(), |ratio| at_most(ratio, most))
+pub fn ratio(
+    unit: Unit,
+    medians: &Medians,
+    case: &str,
+    side: Side,
+    other: Side,
+    most: f64,
+) -> String {
+    medians.ratio(unit, case, side, other).map_or("–".into(), |ratio| at_most(ratio, most))
 }
 
-fn hostile_head(medians: &Medians) -> Vec<String> {
+fn hostile_head(unit: Unit, medians: &Medians) -> Vec<String> {
     let mut head = ["Case", "Separators", "Looks"].map(String::from).to_vec();
     head.extend(hostile_sides(medians).map(|side| side.name().into()));
-    head.extend(["To a run of 1,000", "Apart", "Spread"].map(String::from));
+    head.push("To a run of 1,000".into());
+    if unit == Unit::Nanoseconds {
+        head.extend(["Apart", "Spread"].map(String::from));
+    }
     head
 }
 
@@ -76,37 +133,45 @@ fn hostile_sides(medians: &Medians) -> impl Iterator<Item = Side> + '_ {
     sides(medians).filter(|&side| side != Side::Constant)
 }
 
-fn hostile_rows(name: &str, medians: &Medians) -> Vec<Vec<String>> {
-    let reference = medians.timing(&hostile::name_at(name, REFERENCE), Side::Library);
+fn hostile_rows(unit: Unit, name: &str, medians: &Medians) -> Vec<Vec<String>> {
+    let reference = medians.value(unit, &hostile::name_at(name, REFERENCE), Side::Library);
     let Some(reference) = reference else {
         return Vec::new();
     };
-    let row = |length| hostile_row(name, length, reference.least, medians);
+    let row = |length| hostile_row(unit, name, length, reference, medians);
     hostile::LENGTHS.into_iter().filter_map(row).collect()
 }
 
 fn hostile_row(
+    unit: Unit,
     name: &str,
     length: usize,
     reference: f64,
     medians: &Medians,
 ) -> Option<Vec<String>> {
     let case = &hostile::name_at(name, length);
-    let library = medians.timing(case, Side::Library)?;
+    let library = medians.value(unit, case, Side::Library)?;
     let mut row = vec![name.into(), length.to_string()];
     row.push(medians.looks(case).map_or("–".into(), |looks| format!("{looks:.2}")));
-    row.extend(hostile_sides(medians).map(|side| time(case, side, medians)));
-    row.push(at_most(library.least / reference, FLAT));
-    row.extend([per_cent(library.apart), per_cent(medians.spread(case))]);
+    row.extend(hostile_sides(medians).map(|side| value(unit, case, side, medians)));
+    row.push(at_most(library / reference, FLAT));
+    if unit == Unit::Nanoseconds {
+        let apart = medians.timing(case, Side::Library)?.apart;
+        row.extend([per_cent(apart), per_cent(medians.spread(case))]);
+    }
     Some(row)
 }
 
-/// A side's nanoseconds for each byte.
-pub fn time(case: &str, side: Side, medians: &Medians) -> String {
-    match medians.timing(case, side).map(|timing| timing.least) {
-        None => "–".into(),
-        Some(long) if long >= 100.0 => format!("{long:.0}"),
-        Some(time) => format!("{time:.2}"),
+/// What a side takes for each byte.
+pub fn value(unit: Unit, case: &str, side: Side, medians: &Medians) -> String {
+    medians.value(unit, case, side).map_or("–".into(), printed)
+}
+
+/// A number as the tables have it.
+pub fn printed(value: f64) -> String {
+    match value {
+        100.0.. => format!("{value:.0}"),
+        _ => format!("{value:.2}"),
     }
 }
 

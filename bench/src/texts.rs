@@ -1,6 +1,7 @@
 //! The texts that are drained. They are the same in each run.
 
 use std::ops::RangeInclusive;
+use std::sync::atomic::{AtomicUsize, Ordering::Relaxed};
 
 /// Bytes, and where they are many numbers, the lengths of these, and the digits alone.
 #[derive(Default)]
@@ -29,6 +30,10 @@ impl Random {
         (self.0 >> 11) % bound
     }
 
+    fn within(&mut self, range: &RangeInclusive<u64>) -> u64 {
+        range.start() + self.below(range.end() - range.start() + 1)
+    }
+
     fn digit(&mut self) -> u8 {
         b'0' + self.below(10) as u8
     }
@@ -49,7 +54,7 @@ impl Random {
         range: RangeInclusive<u64>,
         group: Option<u64>,
     ) {
-        let digits = range.start() + self.below(range.end() - range.start() + 1);
+        let digits = self.within(&range);
         for at in 0..digits {
             if at > 0 && group.is_some_and(|group| at.is_multiple_of(group)) {
                 bytes.push(b'_');
@@ -60,61 +65,83 @@ impl Random {
 }
 
 const SEED: u64 = 0x9E37_79B9_7F4A_7C15;
-const MEBIBYTE: usize = 1 << 20;
 
-/// A mebibyte of what a function gives for each position.
-fn mebibyte(mut byte: impl FnMut(usize, &mut Random) -> u8) -> Text {
+/// How many bytes a text has, or a few more.
+pub static SIZE: AtomicUsize = AtomicUsize::new(1 << 20);
+
+/// A text of what a function gives for each position.
+fn text_of(mut byte: impl FnMut(usize, &mut Random) -> u8) -> Text {
     let mut random = Random(SEED);
-    let bytes: Vec<u8> = (0..MEBIBYTE).map(|at| byte(at, &mut random)).collect();
+    let bytes: Vec<u8> = (0..SIZE.load(Relaxed)).map(|at| byte(at, &mut random)).collect();
     bytes.into()
 }
 
-/// A mebibyte of digits.
+/// Digits.
 pub fn digits() -> Text {
-    mebibyte(|_, random| random.digit())
+    text_of(|_, random| random.digit())
 }
 
-/// A mebibyte of digits of radix 16.
+/// Digits of radix 16.
 pub fn hex_digits() -> Text {
-    mebibyte(|_, random| random.hex_digit())
+    text_of(|_, random| random.hex_digit())
 }
 
-/// A mebibyte with a separator at each third byte, between digits.
+/// Digits with a separator at each third byte, between digits.
 pub fn each_third() -> Text {
-    mebibyte(|at, random| if at % 3 == 2 { b'_' } else { random.digit() })
+    text_of(|at, random| if at % 3 == 2 { b'_' } else { random.digit() })
 }
 
-/// A mebibyte of as many digits as separators, in runs of that length.
+/// As many digits as separators, in runs of that length.
 pub fn runs(length: usize) -> Text {
-    mebibyte(|at, random| if at / length % 2 == 1 { b'_' } else { random.digit() })
+    text_of(|at, random| if at / length % 2 == 1 { b'_' } else { random.digit() })
 }
 
-/// About a mebibyte of numbers of 8 to 20 bytes; grouped by threes where `grouped` says so.
+/// How many bytes or digits the numbers have that are called short.
+const SHORT: RangeInclusive<u64> = 8..=20;
+/// How many digits the shortest numbers have.
+const SHORTEST: RangeInclusive<u64> = 1..=4;
+
+/// Numbers of 8 to 20 bytes; grouped by threes where `grouped` says so.
 pub fn numbers(grouped: bool) -> Text {
-    numbers_of(grouped, Random::digit, None)
+    numbers_of(SHORT, grouped, Random::digit, None)
 }
 
-/// The same in radix 16.
-pub fn hex_numbers(grouped: bool) -> Text {
-    numbers_of(grouped, Random::hex_digit, None)
+/// Numbers of 1 to 4 digits.
+pub fn shortest_numbers() -> Text {
+    numbers_of(SHORTEST, false, Random::digit, None)
 }
 
 /// The same, each with a comma after it.
+pub fn shortest_stopped_numbers() -> Text {
+    numbers_of(SHORTEST, false, Random::digit, Some(b','))
+}
+
+/// Numbers of 8 to 20 bytes in radix 16; grouped likewise.
+pub fn hex_numbers(grouped: bool) -> Text {
+    numbers_of(SHORT, grouped, Random::hex_digit, None)
+}
+
+/// The same in radix 10, each with a comma after it.
 pub fn stopped_numbers(grouped: bool) -> Text {
-    numbers_of(grouped, Random::digit, Some(b','))
+    numbers_of(SHORT, grouped, Random::digit, Some(b','))
 }
 
-/// About a mebibyte of numbers of 8 to 20 zeros and a 7 after each.
+/// Numbers of 8 to 20 zeros and a 7 after each.
 pub fn zeros(grouped: bool) -> Text {
-    numbers_of(grouped, |_| b'0', Some(b'7'))
+    numbers_of(SHORT, grouped, |_| b'0', Some(b'7'))
 }
 
-/// About a mebibyte of numbers of 8 to 20 bytes, with the byte `end` after each.
-fn numbers_of(grouped: bool, digit: fn(&mut Random) -> u8, end: Option<u8>) -> Text {
+/// Numbers of so many bytes, with the byte `end` after each.
+fn numbers_of(
+    lengths: RangeInclusive<u64>,
+    grouped: bool,
+    digit: fn(&mut Random) -> u8,
+    end: Option<u8>,
+) -> Text {
     let mut random = Random(SEED);
     let mut text = Text::default();
-    while text.bytes.len() < MEBIBYTE {
-        let length = 8 + random.below(13) as u8;
+    while text.bytes.len() < SIZE.load(Relaxed) {
+        let length = random.within(&lengths) as u8;
         for at in 0..length {
             let is_separator = grouped && at > 0 && (length - at).is_multiple_of(4);
             text.bytes.push(if is_separator { b'_' } else { digit(&mut random) });
@@ -125,33 +152,43 @@ fn numbers_of(grouped: bool, digit: fn(&mut Random) -> u8, end: Option<u8>) -> T
     text
 }
 
-/// About a mebibyte of numbers of 8 to 20 digits, some above `u64::MAX`, and the same digits
+/// Numbers of 8 to 20 digits, some above `u64::MAX`, and the same digits
 /// without separators; grouped by threes where `grouped` says so.
 pub fn literals(grouped: bool) -> Text {
-    literals_of(grouped, 20, |_| None, None)
+    literals_of(SHORT, grouped, |_| None, None)
 }
 
-/// The same, with a sign before two of three.
+/// Numbers of 1 to 4 digits.
+pub fn shortest_literals() -> Text {
+    literals_of(SHORTEST, false, |_| None, None)
+}
+
+/// The same, each on a line of its own.
+pub fn shortest_lines() -> Text {
+    literals_of(SHORTEST, false, |_| None, Some(b'\n'))
+}
+
+/// Literals as `literals` makes, with a sign before two of three.
 pub fn signed_literals(grouped: bool) -> Text {
     let sign = |random: &mut Random| [None, Some(b'-'), Some(b'+')][random.below(3) as usize];
-    literals_of(grouped, 20, sign, None)
+    literals_of(SHORT, grouped, sign, None)
 }
 
 /// The same without signs, of 8 to 18 digits, each on a line of its own.
 pub fn lines(grouped: bool) -> Text {
-    literals_of(grouped, 18, |_| None, Some(b'\n'))
+    literals_of(8..=18, grouped, |_| None, Some(b'\n'))
 }
 
 fn literals_of(
+    lengths: RangeInclusive<u64>,
     grouped: bool,
-    most: u64,
     sign: fn(&mut Random) -> Option<u8>,
     end: Option<u8>,
 ) -> Text {
     let mut random = Random(SEED);
     let mut text = Text::default();
-    while text.bytes.len() < MEBIBYTE {
-        let digits = (8 + random.below(most - 7)) as u8;
+    while text.bytes.len() < SIZE.load(Relaxed) {
+        let digits = random.within(&lengths) as u8;
         let start = text.bytes.len();
         let sign = sign(&mut random);
         text.bytes.extend(sign);
@@ -171,24 +208,33 @@ fn literals_of(
     text
 }
 
-/// A mebibyte of bytes that are neither digits nor separators.
+/// Bytes that are neither digits nor separators.
 pub fn others() -> Text {
-    mebibyte(|_, random| random.letter())
+    text_of(|_, random| random.letter())
 }
 
-/// About a mebibyte of numbers of an integer, a fraction and an exponent, as `1234.56789e12`, and
-/// the same without separators; with separators, as in `123_456.789_012e1_0`, where `grouped` says
-/// so.
+/// Numbers of an integer and a fraction of 4 to 9 digits each and an exponent of two, as
+/// `1234.56789e12`, and the same without separators; with separators, as in
+/// `123_456.789_012e1_0`, where `grouped` says so.
 pub fn floats(grouped: bool) -> Text {
+    floats_of(4..=9, 2..=2, grouped)
+}
+
+/// Numbers with 1 to 4 digits in the integer and in the fraction, and 1 in the exponent.
+pub fn shortest_floats() -> Text {
+    floats_of(SHORTEST, 1..=1, false)
+}
+
+fn floats_of(digits: RangeInclusive<u64>, exponent: RangeInclusive<u64>, grouped: bool) -> Text {
     let mut random = Random(SEED);
     let mut text = Text::default();
-    while text.bytes.len() < MEBIBYTE {
+    while text.bytes.len() < SIZE.load(Relaxed) {
         let start = text.bytes.len();
-        random.push_component(&mut text.bytes, 4..=9, grouped.then_some(3));
+        random.push_component(&mut text.bytes, digits.clone(), grouped.then_some(3));
         text.bytes.push(b'.');
-        random.push_component(&mut text.bytes, 4..=9, grouped.then_some(3));
+        random.push_component(&mut text.bytes, digits.clone(), grouped.then_some(3));
         text.bytes.push(b'e');
-        random.push_component(&mut text.bytes, 2..=2, grouped.then_some(1));
+        random.push_component(&mut text.bytes, exponent.clone(), grouped.then_some(1));
         let number = &text.bytes[start..];
         let plain = number.iter().filter(|&&byte| byte != b'_').map(|&byte| char::from(byte));
         let before = text.digits.len();

@@ -26,6 +26,8 @@ pub enum Work {
     Eights,
     /// Makes a number of each of many short texts, and adds these up.
     Numbers,
+    /// The same: the library asks the looks after each, which no other side counts.
+    Asked,
     /// Makes a number of the digits that begin each of many texts, by `peek`, `is_digit` and
     /// `next`.
     Stopped,
@@ -156,6 +158,7 @@ fn skipping(work: Work, format: Format) -> Way {
         Work::Handed => exported(library::digit_bench_handed, format),
         Work::Eights => exported(library::digit_bench_eights, format),
         Work::Numbers => exported_many(library::digit_bench_numbers, format),
+        Work::Asked => exported_many(library::digit_bench_asked, format),
         Work::Stopped => exported_many(library::digit_bench_stopped, format),
         Work::Literals => exported_many(library::digit_bench_literals, format),
         Work::Parsed => exported_many(library::digit_bench_parsed, format),

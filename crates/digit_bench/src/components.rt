@@ -17,7 +17,7 @@ fn read(integer: u64, fraction: u64, exponent: u64, bytes: &Bytes) -> Outcome {
     Outcome {
         value: mantissa.wrapping_mul(31).wrapping_add(exponent),
         count: bytes.current_count() as u64,
-        looks: bytes.looks(),
+        looks: 0,
     }
 }
 

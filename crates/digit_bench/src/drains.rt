@@ -6,13 +6,22 @@ use super::{Outcome, loops};
 use lexical_digits::iterator::{Iter, IterBodies};
 use lexical_digits::skip::{Bytes, Component};
 
-/// What a drain of the integer came to.
+/// What a drain of the integer came to. The looks aren't asked.
 #[inline(always)]
 pub fn drained(value: u64, bytes: &Bytes) -> Outcome {
     Outcome {
         value,
         count: bytes.current_count_of(Component::Integer) as u64,
+        looks: 0,
+    }
+}
+
+/// The same, and the looks that were counted.
+#[inline(always)]
+fn drained_with_looks(value: u64, bytes: &Bytes) -> Outcome {
+    Outcome {
         looks: bytes.looks(),
+        ..drained(value, bytes)
     }
 }
 
@@ -50,6 +59,30 @@ impl Work for Numbers {
         let mut bytes = Bytes::new(text, format.word());
         let number = loops::number(&mut bytes.integer_iter(), format);
         drained(number, &bytes)
+    }
+}
+
+/// The work of [`Number`], with the looks.
+struct Looks;
+
+impl Work for Looks {
+    #[inline(always)]
+    fn on<F: Format>(text: &[u8], format: F) -> Outcome {
+        let mut bytes = Bytes::new(text, format.word());
+        let number = loops::number(&mut bytes.integer_iter(), format);
+        drained_with_looks(number, &bytes)
+    }
+}
+
+/// The work of [`Numbers`], with the looks of each text.
+struct Asked;
+
+impl Work for Asked {
+    #[inline(always)]
+    fn on<F: Format>(text: &[u8], format: F) -> Outcome {
+        let mut bytes = Bytes::new(text, format.word());
+        let number = loops::number(&mut bytes.integer_iter(), format);
+        drained_with_looks(number, &bytes)
     }
 }
 
@@ -136,7 +169,7 @@ impl Work for Cleared {
         Outcome {
             value: total,
             count: bytes.cursor() as u64,
-            looks: bytes.looks(),
+            looks: 0,
         }
     }
 }
@@ -161,6 +194,17 @@ pub extern "C" fn digit_bench_number(
     outcome: &mut Outcome,
 ) {
     *outcome = run::<Number>(text, low, high, is_constant);
+}
+
+#[unsafe(no_mangle)]
+pub extern "C" fn digit_bench_looks(
+    text: &[u8],
+    low: u64,
+    high: u64,
+    is_constant: u32,
+    outcome: &mut Outcome,
+) {
+    *outcome = run::<Looks>(text, low, high, is_constant);
 }
 
 #[unsafe(no_mangle)]
@@ -217,6 +261,18 @@ pub extern "C" fn digit_bench_numbers(
     outcome: &mut Outcome,
 ) {
     *outcome = run_each::<Numbers>(text, lengths, low, high, is_constant);
+}
+
+#[unsafe(no_mangle)]
+pub extern "C" fn digit_bench_asked(
+    text: &[u8],
+    lengths: &[u8],
+    low: u64,
+    high: u64,
+    is_constant: u32,
+    outcome: &mut Outcome,
+) {
+    *outcome = run_each::<Asked>(text, lengths, low, high, is_constant);
 }
 
 #[unsafe(no_mangle)]

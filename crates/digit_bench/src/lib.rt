@@ -19,7 +19,7 @@ pub struct Outcome {
     pub value: u64,
     /// What `current_count` answers after the work.
     pub count: u64,
-    /// How many looks at a byte were counted; 0 where none are.
+    /// How many looks at a byte were counted, by the two exports that ask; 0 by the others.
     pub looks: u64,
 }
 

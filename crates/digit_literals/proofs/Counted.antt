@@ -10,6 +10,7 @@ use Rattle.lexical_digits.specs.declared.skip.component.Component.{Component}
 use Rattle.lexical_digits.specs.Laws.Terms.{State, rule, own, is_digit, place_of, settled, taken, byte_at_place, stop_of, leading_digits_of, Held, Costs}
 use Rattle.lexical_digits.specs.Laws.Table.{digit_laws, place_from, place_to, place_again, taken_word, taken_buffer}
 use Rattle.lexical_digits.proofs.Calls.DigitAtPlace.{Digit, at_digit, digit_there, none_there}
+use Rattle.lexical_digits.proofs.Looks.Needed.{arrived}
 use Rattle.lexical_digits.proofs.Calls.Stops.{none_before, none_counted, one_counted, digits_upto, nth_digit}
 use Rattle.digit_literals.specs.declared.slice.ReadTo.{ReadTo}
 use Rattle.digit_literals.specs.After.{digits_to, ExceedsAt}
@@ -66,6 +67,7 @@ module _ (k : Component) (before : ℕ) (most : Option ℕ) (a b c : Held) (radi
           exceeds = exceeds;
         };
         state = settles ∙ rw none (none_counted k s b.holds (place_of k s));
+        remembers = arrived k b c peeks settles;
         owes = omega (arith, ints, peeks.owes);
         at_least = omega (arith, peeks.at_least);
       }))
@@ -139,6 +141,7 @@ module _ (k : Component) (before : ℕ) (most : Option ℕ) (a b c : Held) (radi
                       grind (arith, from, there.stop));
                 };
                 state = h.state ∙ rw (past e.state takes, upto) (one_counted k s there _ read.end);
+                remembers = h.remembers;
                 owes = omega (arith, ints, h.owes, peeks.owes, pays.owes);
                 at_least = omega (arith, h.at_least, one, two);
               });

@@ -4,11 +4,14 @@ use Rattle.std.proofs.Common.{◌≡◌, ℕ, ◌+◌, ◌-◌, ◌<◌, ◌≤�
 use Rattle.std.specs.Prelude.{slice_index, filter}
 use Rattle.std.specs.List.{range_with_len, prefix_len}
 use Rattle.std.proofs.lemmas.Bool.Decides.{nat_tests}
+use Rattle.std.proofs.lemmas.Bool.{cases_lt}
+use Rattle.std.proofs.lemmas.Option.{gets}
 use Rattle.lexical_format.specs.Digits as words
 use Rattle.lexical_digits.specs.declared.skip.rule.Rule.{Rule}
 use Rattle.lexical_digits.specs.Separators.{is_digit, is_separator, is_kept, kept_positions, zeros, past_zeros, drain, IsSupported}
 use Rattle.lexical_digits.specs.Laws.Ranges.{range_first, range_none}
 use Rattle.lexical_digits.proofs.Rule.Runs.{along}
+use Rattle.lexical_digits.proofs.Looks.WhereSeparatorsStand.{separators}
 use Rattle.digit_literals.specs.After.{digits_between}
 use Rattle.digit_literals.specs.Reads.{AreZeros}
 use Rattle.digit_literals.proofs.Between.{none_between, one_more}
@@ -46,6 +49,7 @@ module _ (rule : Rule) (text : List ℕ) (start : ℕ) where
       ends other = record {
         is = λ own. grind (arith, ranges, same_zeros own, none_between);
         past = λ own. grind (arith, ranges, same_zeros own);
+        other = grind (arith, cases_lt at (length text), other, gets, separators);
         below = so.below;
         within = l;
         few = so.few;

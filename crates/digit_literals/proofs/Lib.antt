@@ -6,8 +6,11 @@ pub mod LeadingZeros
 pub mod PassedZeros
 pub mod Between
 pub mod Worth
+pub mod OtherBytes
 pub mod Texts
 pub mod ForCallers
 pub mod Rest
 pub mod Significant
 pub mod Firsts
+pub mod Signs
+pub mod Fresh

@@ -9,6 +9,7 @@ use Rattle.lexical_format.specs.Digits.{is_digit_of_radix}
 use Rattle.lexical_digits.specs.declared.skip.rule.Rule.{Rule}
 use Rattle.lexical_digits.specs.Separators.{is_digit, is_separator, is_kept, is_dropped, neighbour, holds_separator, digits_seen, IsSupported}
 use Rattle.lexical_digits.proofs.Rule.Runs.{separator_no_digit}
+use Rattle.lexical_digits.proofs.Looks.WhereSeparatorsStand.{separators}
 use Rattle.lexical_digits.proofs.Calls.FirstOther.{stop_is_first}
 use Rattle.digit_literals.specs.After.{digits_between}
 use Rattle.digit_literals.proofs.Between.{none_between, one_more, no_more}
@@ -54,4 +55,4 @@ by_radix rule byte = refl
 pub ruleset passed =
     (none_between, one_more, nat_tests, byte_kept, lone_dropped, separator_no_digit)
 
-pub ruleset reading = (passed, no_more, value_more, stop_is_first, by_radix)
+pub ruleset reading = (passed, no_more, value_more, stop_is_first, by_radix, separators)

@@ -1,12 +1,14 @@
 -- No two outcomes can be had of one text.
-use Rattle.std.proofs.Common.{◌≡◌, ℕ, zero, suc, ◌+◌, ◌-◌, ◌<◌, ◌≤◌, Bool, List, [], ◌∷◌, take, drop, arith, IsTrue, filter}
+use Rattle.std.proofs.Common.{◌≡◌, ℕ, zero, suc, ◌+◌, ◌-◌, ◌<◌, ◌≤◌, Bool, List, [], ◌∷◌, length, take, drop, arith, IsTrue, filter}
 use Rattle.std.specs.Str.Parse.{digits_value, digits_value_after}
 use Rattle.lexical_digits.specs.declared.skip.rule.Rule.{Rule}
 use Rattle.lexical_digits.specs.declared.skip.component.Component.TheVariants.{Integer}
 use Rattle.lexical_digits.specs.Laws.Terms.{is_supported, is_digit, rule_of, stop}
 use Rattle.lexical_digits.proofs.Rule.Supported.{supported_rule}
 use Rattle.digit_literals.specs.After.{digits_between}
-use Rattle.digit_literals.specs.Integers.{IsTooLargeFrom}
+use Rattle.digit_literals.specs.Integers.{IsIntegerFrom, HasNoDigitFrom, IsTooLargeFrom}
+use Rattle.digit_literals.specs.Whole.{IsFaultFrom}
+use Rattle.digit_literals.specs.declared.parse.ParseError.{ParseError}
 use Rattle.digit_literals.proofs.Significant.{grows}
 
 -- the digits of more bytes are worth no less
@@ -37,3 +39,24 @@ module _ (word : ℕ) (text : List ℕ) (start most : ℕ) (h : IsTrue (is_suppo
     grind (arith, value_rises (at + 1) (stop rule text start 0)),
     λ b i. grind (arith, value_rises (at + 1) b, value_rises (b + 1) at),
   )
+
+  pub not_none : (value end at : ℕ) → IsIntegerFrom rule text start most value end
+      → HasNoDigitFrom rule text start at → ⊥
+  not_none value end at i n = grind arith
+
+  pub not_large : (value end over : ℕ) → IsIntegerFrom rule text start most value end
+      → IsTooLargeFrom rule text start most over → ⊥
+  not_large value end over i t = grind (arith, too_large over t)
+
+  pub none_not_large : (at over : ℕ) → HasNoDigitFrom rule text start at
+      → IsTooLargeFrom rule text start most over → ⊥
+  none_not_large at over n t = grind (arith, too_large over t)
+
+  pub not_fault : (value : ℕ) (error : ParseError)
+      → IsIntegerFrom rule text start most value (length text)
+      → IsFaultFrom rule text start most error → ⊥
+  not_fault value error i f = let over = too_large in grind arith
+
+  pub same_fault : (one other : ParseError) → IsFaultFrom rule text start most one
+      → IsFaultFrom rule text start most other → one ≡ other
+  same_fault one other f g = let over = too_large in grind arith

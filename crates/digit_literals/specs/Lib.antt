@@ -7,3 +7,4 @@ pub mod Rest
 pub mod Significant
 pub mod First
 pub mod Whole
+pub mod Numbers

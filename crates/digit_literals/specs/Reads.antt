@@ -6,7 +6,7 @@ use Rattle.lexical_digits.specs.declared.skip.rule.Rule.{Rule}
 use Rattle.lexical_digits.specs.declared.skip.component.Component.{Component}
 use Rattle.lexical_digits.specs.Separators.{zeros, past_zeros}
 use Rattle.lexical_digits.specs.State.{rule, own}
-use Rattle.lexical_digits.specs.Looks.{Held, owed}
+use Rattle.lexical_digits.specs.Looks.{Held, owed, needs_run, separator_at}
 use Rattle.lexical_digits.specs.Stop.{stop, past_digits_of}
 use Rattle.digit_literals.specs.After.{digits_between, past_digits_to, IsDigits, ExceedsAt}
 use Rattle.digit_literals.specs.declared.reading.Digits.{Digits}
@@ -37,28 +37,32 @@ module _ (rule : Rule) (text : List ℕ) (start before : ℕ) (most : Option ℕ
     pub exceeds : read.is_too_large ≡ true → MatchOption most ⊥
         (λ m. ExceedsAt rule text start own before m read.end)
 
-  -- the same whatever was counted before, with at most one separator for each digit
+  -- the same whatever was counted before, with at most one separator for each digit, and none at
+  -- the end
   pub record IsOffSlice : Type 0 where
     pub reads : (own : ℕ) → ReadsTo own
+    pub other : separator_at rule.separator text read.end ≡ false
     pub below : start + read.count ≤ read.end
     pub few : read.end ≤ start + 2 * read.count
 
 -- The bytes `0` from the start on were passed, whatever was counted before, with at most one
--- separator for each.
+-- separator for each, and none at the end.
 pub record AreZeros (rule : Rule) (text : List ℕ) (start : ℕ) (read : ZerosTo) : Type 0 where
   pub is : (own : ℕ) → zeros rule text start own ≡ read.count
   pub past : (own : ℕ) → past_zeros rule text start own ≡ read.end
+  pub other : separator_at rule.separator text read.end ≡ false
   pub below : start + read.count ≤ read.end
   pub within : read.end ≤ length text
   pub few : read.end ≤ start + 2 * read.count
 
 -- What a read of a component leaves of a `Bytes`, which was a before: the digits that were read are
--- passed, and counted as by `next`.
+-- passed, and counted as by `next`. The next read has no run to look for.
 pub record Passes (k : Component) (before : ℕ) (most : Option ℕ) (a b : Held) (read : ReadTo)
     : Type 0 where
   pub reads : ReadsTo (rule k a.state) a.state.buffer a.state.cursor before most read
       (own k a.state)
   pub state : b.state ≡ past_digits_to k a.state read.end
+  pub remembers : needs_run k b ≡ false
   pub owes : owed b ≤ℤ (owed a +ℤ pos (8 * read.count + 4))
   pub at_least : min (a.looks + 2 * read.count) (2 ^ 64 - 1) ≤ b.looks
 
@@ -81,5 +85,6 @@ pub record PassesAll (k : Component) (before most : ℕ) (a b : Held) (read : Di
   pub ok : IsDigits k a.state before read
   pub fits : read.value ≤ most
   pub passed : b.state ≡ past_digits_of k a.state
+  pub remembers : needs_run k b ≡ false
   pub owes : owed b ≤ℤ (owed a +ℤ pos (8 * read.count + 4))
   pub at_least : min (a.looks + 2 * read.count) (2 ^ 64 - 1) ≤ b.looks

@@ -30,7 +30,7 @@ IsFault rule text error = IsFaultFrom rule text 0 (2 ^ 64 - 1) error
 
 -- what is printed of a fault
 abbrev pub message : ParseError → List ℕ
-message (Empty at) = codes "there is no digit"
+message (Empty at) = codes "there is no digit at " ++ decimal at
 message (Invalid at) = codes "the byte at " ++ decimal at ++ codes " is no part of an integer"
 message (Overflow at) =
     codes "the number is too large with the digit at " ++ decimal at

@@ -1,11 +1,11 @@
 //! The digits, or the zeros, of one component of a number, read or passed over a `Bytes`. The next
 //! call goes on from the cursor.
 
-ghost use Rattle.std.specs.Prelude.{◌≡◌, ◌+◌, ◌*◌, ◌-◌, ◌^◌, ◌≤◌, min, None, length, filter, slice_range, pos, ◌≤ℤ◌, ◌+ℤ◌, IfSome, IfOk, IfErr, OnOk};
+ghost use Rattle.std.specs.Prelude.{◌≡◌, ◌+◌, ◌*◌, ◌-◌, ◌^◌, ◌≤◌, min, false, None, length, filter, slice_range, pos, ◌≤ℤ◌, ◌+ℤ◌, IfSome, IfOk, IfErr, OnOk};
 ghost use Rattle.lexical_digits.specs.Separators.{is_digit};
 ghost use Rattle.lexical_digits.specs.State.{rule, own};
 ghost use Rattle.lexical_digits.specs.CallTable.{zeros_of, past_zeros_of};
-ghost use Rattle.lexical_digits.specs.Looks.{owed};
+ghost use Rattle.lexical_digits.specs.Looks.{owed, needs_run};
 ghost use Rattle.lexical_digits.specs.Stop.{stop_of, leading_digits_of, past_digits_of};
 ghost use Rattle.digit_literals.specs.After.{digits_to, past_digits_to, digits_read, IsDigits, IsReadTo, ExceedsAt, PassesAt};
 ghost use Rattle.digit_literals.specs.Reads.{ReadsOn};
@@ -27,7 +27,9 @@ pub fn pass_digits(bytes: &mut Bytes, component: Component) -> usize
         result ≡ length (filter (is_digit (rule component s))
         (slice_range s.buffer s.cursor (stop_of component s))) }
     ensures few { result ≤ length bytes.old.state.buffer }
+    ensures within { bytes.old.state.cursor + result ≤ bytes.new.state.cursor }
     ensures state { bytes.new.state ≡ past_digits_of component bytes.old.state }
+    ensures remembers { needs_run component bytes.new ≡ false }
     ensures owes { owed bytes.new ≤ℤ (owed bytes.old +ℤ pos (8 * result + 4)) }
     ensures at_least { min (bytes.old.looks + 2 * result) (2 ^ 64 - 1) ≤ bytes.new.looks }
 {
@@ -65,7 +67,10 @@ pub fn read_digits_of(
     ensures so_far { IfErr result (IsReadTo component bytes.old.state before) }
     ensures stays { let s = bytes.old.state in
         IfErr result (λ error. bytes.new.state ≡ past_digits_to component s error.at) }
+    ensures remembers { needs_run component bytes.new ≡ false }
     ensures few { digits_read result ≤ length (leading_digits_of component bytes.old.state) }
+    ensures within_buffer { digits_read result ≤ length bytes.old.state.buffer }
+    ensures within { bytes.old.state.cursor + digits_read result ≤ bytes.new.state.cursor }
     ensures owes { owed bytes.new ≤ℤ (owed bytes.old +ℤ pos (8 * digits_read result + 4)) }
     ensures at_least { let digits = digits_read result in
         min (bytes.old.looks + 2 * digits) (2 ^ 64 - 1) ≤ bytes.new.looks }
@@ -75,6 +80,10 @@ pub fn read_digits_of(
 
 /// [`read_digits_of`] up to a greatest value: [`TooLarge`] holds the position of the first digit
 /// with which the value is above `most`. Requires that `before` is at most `most`.
+///
+/// ```text
+/// `98_76` with internal `_`, after 0, up to 99: Err(TooLarge { at: 3, value: 98, count: 2 })
+/// ```
 #[inline(always)]
 #[tactic(auto, using(crate::proofs::States::by_state))]
 pub fn read_digits_up_to(
@@ -95,7 +104,10 @@ pub fn read_digits_up_to(
     ensures so_far { IfErr result (IsReadTo component bytes.old.state before) }
     ensures stays { let s = bytes.old.state in
         IfErr result (λ error. bytes.new.state ≡ past_digits_to component s error.at) }
+    ensures remembers { needs_run component bytes.new ≡ false }
     ensures few { digits_read result ≤ length (leading_digits_of component bytes.old.state) }
+    ensures within_buffer { digits_read result ≤ length bytes.old.state.buffer }
+    ensures within { bytes.old.state.cursor + digits_read result ≤ bytes.new.state.cursor }
     ensures owes { owed bytes.new ≤ℤ (owed bytes.old +ℤ pos (8 * digits_read result + 4)) }
     ensures at_least { let digits = digits_read result in
         min (bytes.old.looks + 2 * digits) (2 ^ 64 - 1) ≤ bytes.new.looks }
@@ -138,6 +150,8 @@ fn read_on(
 pub fn pass_zeros(bytes: &mut Bytes, component: Component) -> usize
     ensures zeros { result ≡ zeros_of component bytes.old.state }
     ensures state { bytes.new.state ≡ past_zeros_of component bytes.old.state }
+    ensures remembers { needs_run component bytes.new ≡ false }
+    ensures within { bytes.old.state.cursor + result ≤ bytes.new.state.cursor }
     ensures owes { owed bytes.new ≤ℤ (owed bytes.old +ℤ pos (4 * (result + 1))) }
     ensures at_least { min (bytes.old.looks + result) (2 ^ 64 - 1) ≤ bytes.new.looks }
 {

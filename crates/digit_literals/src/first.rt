@@ -1,10 +1,11 @@
 //! The first digits of a number, where it may have more than a `u64` holds.
 
-ghost use Rattle.std.specs.Prelude.{◌≡◌, ◌+◌, ◌*◌, ◌^◌, ◌-◌, ◌≤◌, min, length, pos, ◌≤ℤ◌, ◌+ℤ◌, IfSome, IfNone};
-ghost use Rattle.lexical_digits.specs.State.{rule};
-ghost use Rattle.lexical_digits.specs.Looks.{owed};
-ghost use Rattle.lexical_digits.specs.Stop.{stop_of, leading_digits_of, past_digits_of};
-ghost use Rattle.digit_literals.specs.After.{digits_to};
+ghost use Rattle.std.specs.Prelude.{◌≡◌, ◌+◌, ◌*◌, ◌^◌, ◌-◌, ◌≤◌, min, false, length, pos, ◌≤ℤ◌, ◌+ℤ◌, IfSome, IfNone, IsTrue};
+ghost use Rattle.lexical_format.specs.Word.{is_supported};
+ghost use Rattle.lexical_digits.specs.State.{rule, rule_of};
+ghost use Rattle.lexical_digits.specs.Looks.{owed, needs_run};
+ghost use Rattle.lexical_digits.specs.Stop.{stop, stop_of, leading_digits_of, past_digits_of};
+ghost use Rattle.digit_literals.specs.After.{digits_between, digits_to};
 ghost use Rattle.digit_literals.specs.First.{ReadsFirst};
 ghost use Rattle.digit_literals.specs.Reads.{PassesAll};
 
@@ -52,6 +53,7 @@ pub fn read_first_digits(
     ensures few { result.count ≤ length bytes.old.state.buffer }
     ensures within { bytes.old.state.cursor + result.count ≤ bytes.new.state.cursor }
     ensures state { bytes.new.state ≡ past_digits_of component bytes.old.state }
+    ensures remembers { needs_run component bytes.new ≡ false }
     ensures owes { owed bytes.new ≤ℤ (owed bytes.old +ℤ pos (8 * result.count + 8)) }
     ensures at_least { min (bytes.old.looks + 2 * result.count) (2 ^ 64 - 1) ≤ bytes.new.looks }
 {
@@ -67,6 +69,41 @@ pub fn read_first_digits(
     let read = read_first_apart(&mut copy, component, before, most);
     bytes.go_on_from(copy);
     read
+}
+
+/// Reads the first digits of a component that begins at `start` by [`read_first_digits`], and
+/// answers where its digits end. Positions count from the start of the text: the byte before
+/// `start` is the left side of a separator there. Requires that `start` is within the text, the
+/// word is supported, and `before` is at most `most`. The call counts no looks on a `Bytes` of its
+/// caller.
+///
+/// ```text
+/// `1.98_76e` with internal `_`, the fraction from 2, up to 99: 98 of 4 digits, of which 2 are
+/// dropped, and 7
+/// ```
+#[inline(always)]
+pub fn read_first_digits_from(
+    text: &[u8],
+    word: u128,
+    component: Component,
+    start: usize,
+    before: u64,
+    most: u64,
+) -> (FirstDigits, usize)
+    requires supported { IsTrue (is_supported word) }
+    requires within { start ≤ length text.now }
+    requires fits { before ≤ most }
+    ensures first { let r = rule_of word component in
+        let digits = digits_between r text.now start (stop r text.now start 0) in
+        ReadsFirst r.radix most before digits result.0 }
+    ensures stops { result.1 ≡ stop (rule_of word component) text.now start 0 }
+    ensures onward { start + result.0.count ≤ result.1 }
+    ensures end { result.1 ≤ length text.now }
+{
+    let mut bytes = Bytes::new(text, word);
+    bytes.set_cursor(start);
+    let read = read_first_digits(&mut bytes, component, before, most);
+    (read, bytes.cursor())
 }
 
 /// Reads and passes the digits of a component with radix 10, where the slice is enough and no digit
@@ -103,6 +140,7 @@ fn read_first_apart(bytes: &mut Bytes, component: Component, before: u64, most: 
     ensures first { let s = bytes.old.state in
         ReadsFirst (rule component s).radix most before (leading_digits_of component s) result }
     ensures state { bytes.new.state ≡ past_digits_of component bytes.old.state }
+    ensures remembers { needs_run component bytes.new ≡ false }
     ensures owes { owed bytes.new ≤ℤ (owed bytes.old +ℤ pos (8 * result.count + 8)) }
     ensures at_least { min (bytes.old.looks + 2 * result.count) (2 ^ 64 - 1) ≤ bytes.new.looks }
 {

@@ -1,5 +1,5 @@
-//! The integer that a text begins with, and how many digits it has. No `Bytes` is made where the
-//! slice is enough.
+//! The integer that a text begins with, how many digits it has, and where the digits of a component
+//! end. No `Bytes` is made where the slice is enough.
 
 ghost use Rattle.std.specs.Prelude.{◌≡◌, ◌==◌, ◌-◌, ◌<◌, ◌≤◌, None, length, filter, IfSome, IfOk, IfErr, IsTrue};
 ghost use Rattle.lexical_format.specs.Word.{is_supported};
@@ -69,10 +69,10 @@ pub fn read_integer_from(
     ensures overflow_at { let n = length text.now in
         IfOverflow result (λ at. (start ≤ at) × (at < n)) }
 {
-    match read_ahead(text, word, start, Some(most)) {
+    match read_ahead(text, word, Component::Integer, start, Some(most)) {
         Some(read) => integer_of(read, read.end == start),
         None => {
-            let read = read_fresh(text, word, start, Some(most));
+            let read = read_fresh(text, word, Component::Integer, start, Some(most));
             integer_of(read, read.count == 0)
         }
     }
@@ -81,7 +81,7 @@ pub fn read_integer_from(
 /// The value of the digits that were read and where they end, or why there is none. `is_empty` says
 /// that no digit was read.
 #[inline(always)]
-fn integer_of(read: ReadTo, is_empty: bool) -> Result<(u64, usize), LiteralError>
+pub(super) fn integer_of(read: ReadTo, is_empty: bool) -> Result<(u64, usize), LiteralError>
     ensures { result ≡ integer_of read is_empty }
 {
     if read.is_too_large {
@@ -110,7 +110,7 @@ pub fn count_digits(text: &[u8], word: u128) -> Result<usize, usize>
     ensures stops { IfErr result (λ at. at ≡ stop (rule_of word Integer) text.now 0 0) }
     ensures within { IfErr result (λ at. at < length text.now) }
 {
-    let read = count_text(text, word);
+    let read = read_text(text, word, Component::Integer, 0, None);
     if read.end == text.len() {
         Ok(read.count)
     } else {
@@ -118,41 +118,80 @@ pub fn count_digits(text: &[u8], word: u128) -> Result<usize, usize>
     }
 }
 
-/// The digits of the integer that a text begins with. No value is asked for.
+/// Where the digits of a component end that begin at `start`: the first position from there on that
+/// the component keeps and that holds no digit, or else the end of the text. The byte before
+/// `start` is the left side of a separator there. Requires that `start` is within the text and the
+/// word is supported. The call counts no looks on a `Bytes` of its caller.
+///
+/// ```text
+/// `1.5_0e7` with internal `_` in the fraction: the fraction from 2 ends at 5
+/// ```
 #[inline(always)]
-fn count_text(text: &[u8], word: u128) -> ReadTo
-    requires { IsTrue (is_supported word) }
-    ensures { ReadsTo (rule_of word Integer) text.now 0 0 None result 0 }
+#[tactic(auto, using(crate::proofs::ForCallers::stops))]
+pub fn stop_from(text: &[u8], word: u128, component: Component, start: usize) -> usize
+    requires supported { IsTrue (is_supported word) }
+    requires within { start ≤ length text.now }
+    ensures stops { result ≡ stop (rule_of word component) text.now start 0 }
+    ensures onward { start ≤ result }
+    ensures within { result ≤ length text.now }
 {
-    match read_ahead(text, word, 0, None) {
+    read_text(text, word, component, start, None).end
+}
+
+/// The digits of a component that lead from `start` on: up to a greatest value if one is asked for.
+#[inline(always)]
+pub(super) fn read_text(
+    text: &[u8],
+    word: u128,
+    component: Component,
+    start: usize,
+    most: Option<u64>,
+) -> ReadTo
+    requires supported { IsTrue (is_supported word) }
+    requires within { start ≤ length text.now }
+    ensures { ReadsTo (rule_of word component) text.now start 0 most result 0 }
+{
+    match read_ahead(text, word, component, start, most) {
         Some(read) => read,
-        None => read_fresh(text, word, 0, None),
+        None => read_fresh(text, word, component, start, most),
     }
 }
 
-/// Reads the digits of the integer from `start` on, where the slice is enough: up to a greatest
+/// Reads the digits of a component from `start` on, where the slice is enough: up to a greatest
 /// value if one is asked for. There is no digit exactly if no byte was passed.
 #[inline(always)]
-fn read_ahead(text: &[u8], word: u128, start: usize, most: Option<u64>) -> Option<ReadTo>
+fn read_ahead(
+    text: &[u8],
+    word: u128,
+    component: Component,
+    start: usize,
+    most: Option<u64>,
+) -> Option<ReadTo>
     requires supported { IsTrue (is_supported word) }
     requires within { start ≤ length text.now }
-    ensures reads { let r = rule_of word Integer in
+    ensures reads { let r = rule_of word component in
         IfSome result (λ read. ReadsTo r text.now start 0 most read 0) }
     ensures empty { IfSome result (λ read. (read.end == start) ≡ (read.count == 0)) }
 {
-    read_slice(text, Rule::of(word, Component::Integer), start, 0, most)
+    read_slice(text, Rule::of(word, component), start, 0, most)
 }
 
-/// Reads the digits of the integer from `start` on by a `Bytes`, whatever separators are met: up to
+/// Reads the digits of a component from `start` on by a `Bytes`, whatever separators are met: up to
 /// a greatest value if one is asked for.
 #[cold]
 #[inline(never)]
-fn read_fresh(text: &[u8], word: u128, start: usize, most: Option<u64>) -> ReadTo
+fn read_fresh(
+    text: &[u8],
+    word: u128,
+    component: Component,
+    start: usize,
+    most: Option<u64>,
+) -> ReadTo
     requires supported { IsTrue (is_supported word) }
     requires within { start ≤ length text.now }
-    ensures { ReadsTo (rule_of word Integer) text.now start 0 most result 0 }
+    ensures { ReadsTo (rule_of word component) text.now start 0 most result 0 }
 {
     let mut bytes = Bytes::new(text, word);
     bytes.set_cursor(start);
-    read_counted(&mut bytes, Component::Integer, 0, most)
+    read_counted(&mut bytes, component, 0, most)
 }

@@ -23,16 +23,20 @@ pub mod equality;
 mod first;
 mod integer;
 pub mod laws;
+mod number;
 mod parse;
 mod reading;
 mod slice;
+mod wide;
 mod zeros;
 
 pub use self::component::{pass_digits, pass_zeros, read_digits_of, read_digits_up_to};
-pub use self::first::{FirstDigits, read_first_digits};
-pub use self::integer::{count_digits, read_integer, read_integer_from};
+pub use self::first::{FirstDigits, read_first_digits, read_first_digits_from};
+pub use self::integer::{count_digits, read_integer, read_integer_from, stop_from};
+pub use self::number::{Number, parse_number, parse_number_from, read_number, read_number_from};
 pub use self::parse::{ParseError, parse_integer, parse_signed};
 pub use self::reading::{Digits, TooLarge, read_digits, read_digits_after, take_digits};
+pub use self::wide::read_wide_from;
 use lexical_digits::iterator::DigitsIter;
 use std::error::Error;
 use std::fmt;
@@ -43,8 +47,8 @@ pub enum LiteralError {
     /// The first kept byte, which is at this position, is no digit; or there is none, and this
     /// is the end.
     Empty(usize),
-    /// With the digit at this position the value is above `u64::MAX`, or the `most` of
-    /// [`read_integer_from`].
+    /// With the digit at this position the value is above the greatest that was asked for, or
+    /// `u64::MAX` where none was.
     Overflow(usize),
 }
 

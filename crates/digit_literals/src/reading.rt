@@ -149,8 +149,9 @@ pub fn read_digits_after<'a, I: DigitsIter<'a>>(
 /// at the position that it holds. [`Overflow`](LiteralError::Overflow) at the first digit with
 /// which the value is above `u64::MAX`: the digits before it were taken, and the cursor is on it.
 ///
-/// Digits are those of [`char_to_digit_const`], letters in either case, in any radix. Usually the
-/// radix is that of the iterator's own `is_digit`. Takes no memory.
+/// Digits are those of [`char_to_digit_const`](lexical_format::char_to_digit_const), letters in
+/// either case, in any radix. Usually the radix is that of the iterator's own `is_digit`. Takes no
+/// memory.
 #[inline]
 pub fn read_digits<'a, I: DigitsIter<'a>>(iter: &mut I, radix: u32) -> Result<u64, LiteralError>
     ensures ok { IfOk result (λ value.

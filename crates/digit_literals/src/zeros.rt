@@ -1,11 +1,11 @@
 //! The bytes `0` that lead, read off a slice. Where another separator than a lone one between a
 //! zero and a digit is met, a `Bytes` reads them.
 
-ghost use Rattle.std.specs.Prelude.{◌≡◌, ◌+◌, ◌*◌, ◌-◌, ◌^◌, ◌≤◌, ◌==◌, min, length, pos, ◌≤ℤ◌, ◌+ℤ◌, IfSome};
+ghost use Rattle.std.specs.Prelude.{◌≡◌, ◌+◌, ◌*◌, ◌-◌, ◌^◌, ◌≤◌, ◌==◌, min, false, length, pos, ◌≤ℤ◌, ◌+ℤ◌, IfSome};
 ghost use Rattle.lexical_digits.specs.Separators.{IsSupported};
 ghost use Rattle.lexical_digits.specs.Cursor.{holds_of};
 ghost use Rattle.lexical_digits.specs.CallTable.{byte_at_place, settled, zeros_of, past_zeros_of};
-ghost use Rattle.lexical_digits.specs.Looks.{one_if, owed};
+ghost use Rattle.lexical_digits.specs.Looks.{one_if, owed, needs_run};
 ghost use Rattle.digit_literals.specs.Reads.{AreZeros};
 
 use super::slice::is_inner;
@@ -55,10 +55,12 @@ pub(super) fn read_zeros(text: &[u8], rule: Rule, start: usize) -> Option<ZerosT
 
 /// Whether a byte `0` is at the place of a component.
 #[inline(always)]
+#[tactic(auto, using(lexical_digits::proofs::Looks::Needed::arrived))]
 fn peek_is_zero(bytes: &mut Bytes, component: Component) -> bool
     ensures zero { result
         ≡ holds_of (λ byte. byte == 48) (byte_at_place component bytes.old.state) }
     ensures settles { bytes.new.state ≡ settled component bytes.old.state }
+    ensures remembers { needs_run component bytes.new ≡ false }
     ensures owes { owed bytes.new ≤ℤ (owed bytes.old +ℤ pos 4) }
     ensures at_least { min (bytes.old.looks + one_if result) (2 ^ 64 - 1) ≤ bytes.new.looks }
 {
@@ -73,6 +75,7 @@ fn peek_is_zero(bytes: &mut Bytes, component: Component) -> bool
 pub(super) fn pass_counted(bytes: &mut Bytes, component: Component) -> usize
     ensures zeros { result ≡ zeros_of component bytes.old.state }
     ensures state { bytes.new.state ≡ past_zeros_of component bytes.old.state }
+    ensures remembers { needs_run component bytes.new ≡ false }
     ensures owes { owed bytes.new ≤ℤ (owed bytes.old +ℤ pos (4 * (result + 1))) }
     ensures at_least { min (bytes.old.looks + result) (2 ^ 64 - 1) ≤ bytes.new.looks }
 {

@@ -4,9 +4,6 @@ use Rattle.std.specs.Prelude.{List, ℤ, pos, neg_ℤ, ◌+ℤ◌, ◌-ℤ◌}
 use Rattle.std.specs.Int.{saturate_signed, w64}
 use Rattle.std.specs.Int.RustNames.{FitsSigned}
 use Rattle.std.proofs.lemmas.Int.{ints, clamps}
-use Rattle.lexical_digits.specs.declared.skip.component.Component.{Component}
-use Rattle.lexical_digits.specs.declared.skip.component.Component.TheVariants.{Integer, Fraction, Exponent, Special}
-use Rattle.lexical_digits.specs.State.{own, start, with_cursor}
 
 pub added : (more : ℤ) (v : ℕ) → FitsSigned w64 more
     → saturate_signed w64 (more +ℤ pos (min v (2 ^ 64 - 1))) ≡ saturate_signed w64 (pos v +ℤ more)
@@ -21,11 +18,3 @@ pub unchanged : (more : ℤ) → FitsSigned w64 more → saturate_signed w64 (po
 unchanged more fits = grind (arith, ints)
 
 pub ruleset capped = (added, taken_off)
-
--- a fresh `Bytes` counted no digit
-pub uncounted : (k : Component) (text : List ℕ) (word at : ℕ)
-    → own k (with_cursor (start text word) at) ≡ 0
-uncounted Integer text word at = refl
-uncounted Fraction text word at = refl
-uncounted Exponent text word at = refl
-uncounted Special text word at = refl

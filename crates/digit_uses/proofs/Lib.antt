@@ -1,3 +1,2 @@
-mod FewDigits
 mod Floats
 mod Tokens

@@ -4,3 +4,4 @@ pub mod Groups
 pub mod Lexer
 pub mod Literal
 pub mod Loops
+pub mod Rounded

@@ -1,40 +1,57 @@
--- Rust's integer literals.
-use Rattle.std.specs.Prelude.{ℕ, Bool, true, ◌&&◌, ◌==◌, if◌then◌else◌, nat_le, List, length, slice_index}
-use Rattle.lexical_digits.specs.declared.skip.rule.Rule.{Rule}
-use Rattle.digit_uses.specs.declared.literal.Base.{Base}
-use Rattle.digit_uses.specs.declared.literal.Base.TheVariants.{Binary, Octal, Decimal, Hexadecimal}
+-- Rust's integer literals with the name of a type.
+use Rattle.std.specs.Prelude.{◌≡◌, ℕ, ◌-◌, ◌^◌, ◌<◌, ◌≤◌, if◌then◌else◌, List, drop, codes, bytes_eq, Option, Some, None}
+use Rattle.digit_languages.specs.declared.literal.Literal.{Literal}
+use Rattle.digit_languages.specs.declared.languages.TheConstants.{RUST}
+use Rattle.digit_languages.specs.Literals.{IsLiteral, IsNoLiteral}
+use Rattle.digit_uses.specs.declared.literal.Suffix.{Suffix}
+use Rattle.digit_uses.specs.declared.literal.Suffix.TheVariants.{Absent, U8, U16, U32, U64, U128}
+use Rattle.digit_uses.specs.declared.literal.LiteralFault.{LiteralFault}
+use Rattle.digit_uses.specs.declared.literal.LiteralFault.TheVariants.{Number, Name, Range}
 
-abbrev pub radix_of : Base → ℕ
-radix_of Binary = 2
-radix_of Octal = 8
-radix_of Decimal = 10
-radix_of Hexadecimal = 16
+-- the type that a name says
+abbrev pub suffix_of : List ℕ → Option Suffix
+suffix_of name =
+    if bytes_eq name (codes "") then Some Absent
+    else if bytes_eq name (codes "u8") then Some U8
+    else if bytes_eq name (codes "u16") then Some U16
+    else if bytes_eq name (codes "u32") then Some U32
+    else if bytes_eq name (codes "u64") then Some U64
+    else if bytes_eq name (codes "u128") then Some U128
+    else None
 
--- how many bytes say the base
-abbrev pub prefix_of : Base → ℕ
-prefix_of Binary = 2
-prefix_of Octal = 2
-prefix_of Decimal = 0
-prefix_of Hexadecimal = 2
+-- its greatest value
+abbrev pub most_of : Suffix → ℕ
+most_of Absent = 2 ^ 128 - 1
+most_of U8 = 2 ^ 8 - 1
+most_of U16 = 2 ^ 16 - 1
+most_of U32 = 2 ^ 32 - 1
+most_of U64 = 2 ^ 64 - 1
+most_of U128 = 2 ^ 128 - 1
 
--- `_` wherever it stands, but not in front of a decimal number
-abbrev pub rule_for : Base → Rule
-rule_for base = record {
-  separator = 95;
-  radix = radix_of base;
-  internal = true;
-  leading = prefix_of base == 2;
-  trailing = true;
-  consecutive = true;
-}
+module _ (text : List ℕ) where
+  -- the text begins with this literal
+  abbrev pub Begins : Literal → Type 0
+  Begins read = IsLiteral RUST text 0 (2 ^ 128 - 1) read
 
--- whether a text begins with `0` and that letter
-abbrev pub begins : List ℕ → ℕ → Bool
-begins text letter =
-    nat_le 2 (length text) && (slice_index text 0 == 48) && (slice_index text 1 == letter)
+  -- the text is this literal and the name of its type
+  pub record IsTyped (read : Literal) (suffix : Suffix) : Type 0 where
+    pub literal : Begins read
+    pub named : suffix_of (drop read.end text) ≡ Some suffix
+    pub fits : read.value ≤ most_of suffix
 
-abbrev pub base_of : List ℕ → Base
-base_of text =
-    if begins text 98 then Binary else
-    if begins text 111 then Octal else
-    if begins text 120 then Hexadecimal else Decimal
+  -- what follows the literal names no type
+  pub record IsUnnamed (read : Literal) : Type 0 where
+    pub literal : Begins read
+    pub unnamed : suffix_of (drop read.end text) ≡ None
+
+  -- the type hasn't the literal's value
+  pub record IsOutOfRange (read : Literal) (suffix : Suffix) : Type 0 where
+    pub literal : Begins read
+    pub named : suffix_of (drop read.end text) ≡ Some suffix
+    pub exceeds : most_of suffix < read.value
+
+  -- why the text isn't one
+  abbrev pub IsTypedFault : LiteralFault → Type 0
+  IsTypedFault (Number error) = IsNoLiteral RUST text 0 (2 ^ 128 - 1) error
+  IsTypedFault (Name read) = IsUnnamed read
+  IsTypedFault (Range read suffix) = IsOutOfRange read suffix

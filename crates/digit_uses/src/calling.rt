@@ -1,45 +1,78 @@
 //! The blocks of the page CALLING.md, in its order. `.ci/pages` compares the two.
 
-ghost use Rattle.std.specs.Prelude.{◌≡◌, ◌==◌, IfOk, IfSome, IsTrue, count_by};
-ghost use Rattle.std.specs.List.{list_any};
+ghost use Rattle.std.specs.Prelude.{◌≡◌, ◌+◌, ◌-◌, ◌^◌, ◌≤◌, length, IfOk, IfErr, IfSome, IsTrue};
+ghost use Rattle.std.specs.Float.{binary64};
 ghost use Rattle.lexical_format.specs.Word.{is_supported};
-ghost use Rattle.lexical_digits.specs.Separators.{is_digit};
-ghost use Rattle.lexical_digits.specs.State.{start, rule_of};
-ghost use Rattle.lexical_digits.specs.CallTable.{drain_of};
-ghost use Rattle.lexical_digits.specs.Stop.{stop_of};
+ghost use Rattle.lexical_digits.specs.State.{rule_of};
+ghost use Rattle.lexical_digits.specs.Stop.{stop};
 ghost use Rattle.lexical_digits.specs.declared.skip.component.Component.TheVariants.{Integer};
-ghost use Rattle.digit_literals.specs.Integers.{IsInteger};
+ghost use Rattle.digit_literals.specs.After.{digits_between};
+ghost use Rattle.digit_literals.specs.Integers.{IsIntegerFrom};
+ghost use Rattle.digit_literals.specs.Numbers.{IsNumberFrom, IsNumberFault};
+ghost use Rattle.digit_floats.specs.Float.{past_sign, float_at, IsWholeFault};
+ghost use Rattle.digit_languages.specs.Literals.{IsLiteral, IsNoLiteral};
 
-use digit_literals::{LiteralError, pass_digits, read_integer};
-use lexical_digits::iterator::Iter;
-use lexical_digits::skip::{Bytes, Component, IntegerDigitsIterator};
+use digit_floats::{FloatError, parse_float};
+use digit_languages::languages::RUST;
+use digit_languages::{LanguageError, Literal, read_literal};
+use digit_literals::{
+    LiteralError, ParseError, parse_number, read_number, read_number_from, stop_from,
+};
+use lexical_digits::skip::{Component, Rule};
 use lexical_format::words::PYTHON_LITERAL;
 use lexical_format::{
     DECIMAL, DigitSeparatorFlags, INTEGER_INTERNAL_DIGIT_SEPARATOR, NO_FLAGS, NumberFormatBuilder,
     is_supported,
 };
+use std::alloc::{AllocError, Global};
 
-/// The integer that a text begins with, and where its digits end: `1_000 m` gives `(1000, 5)`.
+/// The height that a text is: `-1_000` gives -1000, and `1_000m` gives `Invalid(5)`.
 #[tactic(auto, unfolding(lexical_format::proofs::OnLiterals::lexical_on_literals))]
-pub fn first_integer(text: &[u8]) -> Result<(u64, usize), LiteralError>
-    ensures { IfOk result (λ read.
-        IsInteger (rule_of PYTHON_LITERAL Integer) text.now read.0 read.1) }
+pub fn parse_height(text: &[u8]) -> Result<i32, ParseError>
+    ensures ok { let r = rule_of PYTHON_LITERAL Integer in IfOk result (λ value.
+        IsNumberFrom (2 ^ 31) (2 ^ 31 - 1) r text.now 0 value (length text.now)) }
+    ensures fault { let r = rule_of PYTHON_LITERAL Integer in
+        IfErr result (IsNumberFault (2 ^ 31) (2 ^ 31 - 1) r text.now 0) }
 {
-    read_integer(text, PYTHON_LITERAL)
+    parse_number::<i32>(text, PYTHON_LITERAL)
+}
+
+/// The rate that a text is, as the nearest `f64`: `1_234.5e-1` gives 123.45.
+#[tactic(auto, unfolding(lexical_format::proofs::OnLiterals::lexical_on_literals))]
+pub fn parse_rate(text: &[u8]) -> Result<f64, FloatError>
+    ensures value { IfOk result (λ x. x ≡ float_at PYTHON_LITERAL text.now binary64 0) }
+    ensures fault { let start = past_sign text.now 0 in
+        IfErr result (IsWholeFault PYTHON_LITERAL text.now start) }
+{
+    parse_float::<f64>(text, PYTHON_LITERAL)
+}
+
+/// The size that a text begins with, and where it ends: `1_920x1_080 px` gives `(1920, 1080, 11)`.
+#[tactic(auto, unfolding(lexical_format::proofs::OnLiterals::lexical_on_literals))]
+pub fn read_size(text: &[u8]) -> Result<(u32, u32, usize), LiteralError>
+    ensures { let r = rule_of PYTHON_LITERAL Integer in IfOk result (λ size.
+        IsIntegerFrom r text.now (stop r text.now 0 0 + 1) (2 ^ 32 - 1) size.1 size.2) }
+{
+    let (width, end) = read_number::<u32>(text, PYTHON_LITERAL)?;
+    if end == text.len() || text[end] != b'x' {
+        return Err(LiteralError::Empty(end));
+    }
+    let (height, end) = read_number_from::<u32>(text, PYTHON_LITERAL, end + 1)?;
+    Ok((width, height, end))
+}
+
+/// The literal of Rust that a text begins with, up to `u16::MAX`: `0xff_u8` gives 255, and 5 as
+/// its end, where the suffix begins.
+#[tactic(auto, unfolding(lexical_format::proofs::OnLiterals::lexical_on_literals))]
+pub fn read_mask(text: &[u8]) -> Result<Literal, LanguageError>
+    ensures ok { IfOk result (IsLiteral RUST text.now 0 (2 ^ 16 - 1)) }
+    ensures none { IfErr result (IsNoLiteral RUST text.now 0 (2 ^ 16 - 1)) }
+{
+    read_literal(text, 0, RUST, u128::from(u16::MAX))
 }
 
 /// Radix 16, and `'` between digits.
 pub const APOSTROPHES: u128 = (16 << 104) | (0x27 << 64) | INTEGER_INTERNAL_DIGIT_SEPARATOR;
-
-/// Where the integer ends that a text begins with.
-#[tactic(auto, unfolding(lexical_format::proofs::OnLiterals::lexical_on_literals))]
-pub fn integer_end(text: &[u8]) -> usize
-    ensures { result ≡ stop_of Integer (start text.now APOSTROPHES) }
-{
-    let mut bytes = Bytes::new(text, APOSTROPHES);
-    pass_digits(&mut bytes, Component::Integer);
-    bytes.cursor()
-}
 
 /// The word with `_` between the digits of a radix, if there is one.
 pub fn underscores(radix: u8) -> Option<u128>
@@ -59,32 +92,17 @@ pub fn underscores(radix: u8) -> Option<u128>
     if is_supported(word) { Some(word) } else { None }
 }
 
-/// How many digits a component of a text yields, up to the end of the text.
-#[tactic(auto, using(lexical_digits::proofs::Calls::Loops::counts))]
-pub fn count_yielded(text: &[u8], word: u128, component: Component) -> usize
+/// The digits of the integer that a text begins with, at any length, without its separators.
+pub fn digits_of(alloc: Global, text: &[u8], word: u128) -> Result<Vec<u8>, AllocError>
     requires { IsTrue (is_supported word) }
-    ensures { result ≡ count_by (is_digit (rule_of word component))
-        (drain_of component (start text.now word)) }
+    ensures { let r = rule_of word Integer in IfOk result (λ digits.
+        digits.items ≡ digits_between r text.now 0 (stop r text.now 0 0)) }
 {
-    let mut bytes = Bytes::new(text, word);
-    let mut digits = 0;
-    while let Some(byte) = bytes.next_of(component) {
-        if bytes.is_digit_of(component, *byte) {
-            digits += 1;
-        }
-    }
-    digits
-}
-
-/// Whether the integer yields a byte, from the cursor on.
-pub fn yields(bytes: &mut Bytes, wanted: u8) -> bool
-    ensures { result ≡ list_any (λ byte. byte == wanted) (drain_of Integer bytes.old.state) }
-{
-    let mut iter = IntegerDigitsIterator { byte: bytes };
-    while let Some(byte) = iter.next() {
-        if *byte == wanted {
-            return true;
-        }
-    }
-    false
+    let rule = Rule::of(word, Component::Integer);
+    let end = stop_from(text, word, Component::Integer, 0);
+    text[..end]
+        .iter()
+        .copied()
+        .filter(|byte| rule.is_digit(*byte))
+        .collect(alloc)
 }

@@ -1,7 +1,7 @@
 //! What calls answer, and how many looks they take: of a list of calls, and of one number in three
 //! components.
 //!
-//! Proof by hand: 26 lines, two answers, which add up what is owed, and a lemma.
+//! Proof by hand: 16 lines, two answers, which add up what is owed.
 
 ghost use Rattle.std.specs.Prelude.{◌≡◌, ◌+◌, ◌*◌, ◌≤◌, pos, ◌≤ℤ◌, ◌+ℤ◌, length, map, IfOk, OnOk, OnErr};
 ghost use Rattle.lexical_digits.specs.CallTable.{run_of};
@@ -38,7 +38,6 @@ pub fn make_calls(
 
 /// Passes the digits of a component, then the byte after them if it is `mark`. Answers how many
 /// digits there are.
-#[tactic(auto, using(crate::proofs::FewDigits::passed_within))]
 fn pass_component(bytes: &mut Bytes, component: Component, mark: u8) -> usize
     ensures state { bytes.new.state ≡ past_component component mark bytes.old.state }
     ensures within { result + bytes.old.state.cursor ≤ bytes.new.state.cursor }

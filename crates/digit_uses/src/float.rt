@@ -1,28 +1,27 @@
 //! The front half of a reader of decimal floats: takes `-1_234.5_6e+1_0` apart into sign, mantissa
-//! and exponent, each component by a `Bytes` of its own. The mantissa is the first 19 significant
+//! and exponent, each component from where it begins. The mantissa is the first 19 significant
 //! digits of integer and fraction, which a `u64` always holds. The exponent counts those that are
 //! dropped, so that a reader goes on as for a short number.
 //!
 //! A component's digits depend on the text, the word and the position, and not on what was read
 //! before. So each call takes these three, and its clauses speak of no state.
 //!
-//! Proof by hand: 28 lines in the answers of `read_part` and `read_mantissa`, and 26 in
+//! Proof by hand: 14 lines in the answers of `read_mantissa`, and 10 in
 //! `proofs/Floats.antt`.
 
 ghost use Rattle.std.specs.Prelude.{◌≡◌, true, ◌+◌, ◌-◌, ◌^◌, ◌<◌, ◌≤◌, length, take, IsTrue, IfOk, IfErr, OnOk, pos, ◌+ℤ◌, ◌-ℤ◌};
 ghost use Rattle.std.specs.Int.{saturate_signed, w64};
 ghost use Rattle.std.specs.Str.Parse.{digits_value};
 ghost use Rattle.lexical_format.specs.Word.{is_supported, mantissa_radix};
-ghost use Rattle.lexical_digits.specs.State.{start, rule_of, with_cursor};
+ghost use Rattle.lexical_digits.specs.State.{rule_of};
 ghost use Rattle.lexical_digits.specs.declared.skip.component.Component.TheVariants.{Exponent};
 ghost use Rattle.digit_literals.specs.First.{ReadsFirst};
 ghost use Rattle.digit_literals.specs.Significant.{significant, IsOfFirstDigits};
 ghost use Rattle.digit_uses.specs.Bytes.{one_of, is_minus, stands};
 ghost use Rattle.digit_uses.specs.Float.{past_sign, digits_from, digits_end, exponent_end, signed_at, written, HasExponent, mantissa_digits, places, mantissa_end, float_digits, exponent_at, scaled, LacksExponent, IsFault};
 
-use digit_literals::{FirstDigits, read_first_digits};
-use lexical_digits::iterator::{Iter, IterBodies};
-use lexical_digits::skip::{Bytes, Component};
+use digit_literals::{FirstDigits, read_first_digits_from};
+use lexical_digits::skip::Component;
 
 /// A float: about the mantissa times ten to the power `exponent`, and exactly that if no digit was
 /// dropped.
@@ -80,20 +79,7 @@ fn read_sign(text: &[u8], at: usize) -> (bool, usize)
 /// The greatest value of 19 digits.
 const MOST: u64 = 9_999_999_999_999_999_999;
 
-/// A `Bytes` that counted nothing, with the cursor at a position.
-// `inline(always)` would make `read_float` too large to be inlined.
-#[inline]
-fn bytes_at<'a>(text: &'a [u8], word: u128, at: usize) -> Bytes<'a>
-    requires supported { IsTrue (is_supported word) }
-    requires within { at ≤ length text.now }
-    ensures { result.state ≡ with_cursor (start text.now word) at }
-{
-    let mut bytes = Bytes::new(text, word);
-    bytes.set_cursor(at);
-    bytes
-}
-
-/// [`read_first_digits`] from a position on, and where they end.
+/// [`read_first_digits_from`] in words of this reader.
 #[inline(always)]
 #[tactic(auto, unfolding(crate::specs::Float::digits_from, crate::specs::Float::digits_end))]
 fn read_part(
@@ -113,9 +99,7 @@ fn read_part(
     ensures onward { at + result.0.count ≤ result.1 }
     ensures within { result.1 ≤ length text.now }
 {
-    let mut bytes = bytes_at(text, word, at);
-    let read = read_first_digits(&mut bytes, component, before, most);
-    (read, bytes.cursor())
+    read_first_digits_from(text, word, component, at, before, most)
 }
 
 /// The digits of integer and fraction.

@@ -3,7 +3,7 @@
 //!
 //! Proof by hand: 5 lines, an answer by a lemma for callers.
 
-ghost use Rattle.std.specs.Prelude.{◌≡◌, ◌≤◌, length, filter, slice_range, IfOk, IfErr, IsTrue};
+ghost use Rattle.std.specs.Prelude.{◌≡◌, ◌≤◌, length, filter, IfOk, IfErr, IsTrue};
 ghost use Rattle.std.specs.Str.Parse.{digits_value};
 ghost use Rattle.lexical_format.specs.Word.{is_supported};
 ghost use Rattle.lexical_digits.specs.State.{rule_of};
@@ -12,9 +12,7 @@ ghost use Rattle.lexical_digits.specs.Stop.{stop};
 ghost use Rattle.lexical_digits.specs.declared.skip.component.Component.TheVariants.{Integer};
 ghost use Rattle.digit_uses.specs.Groups.{colons, IsGroups, IsFault};
 
-use digit_literals::{LiteralError, pass_digits, read_integer};
-use lexical_digits::iterator::Iter;
-use lexical_digits::skip::{Bytes, Component};
+use digit_literals::{LiteralError, count_digits, read_integer};
 use lexical_format::INTEGER_INTERNAL_DIGIT_SEPARATOR;
 
 /// Why a text isn't such digits.
@@ -33,20 +31,6 @@ fn word() -> u128
     ensures rule { rule_of result Integer ≡ colons }
 {
     (16 << 104) | (0x3a << 64) | INTEGER_INTERNAL_DIGIT_SEPARATOR
-}
-
-/// How many digits a text begins with, and where they end.
-#[tactic(auto, using(digit_literals::proofs::ForCallers::stop_within))]
-fn lead(text: &[u8], word: u128) -> (usize, usize)
-    requires { IsTrue (is_supported word) }
-    ensures count { let r = rule_of word Integer in
-        result.0 ≡ length (filter (is_digit r) (slice_range text.now 0 result.1)) }
-    ensures end { result.1 ≡ stop (rule_of word Integer) text.now 0 0 }
-    ensures within { result.1 ≤ length text.now }
-{
-    let mut bytes = Bytes::new(text, word);
-    let digits = pass_digits(&mut bytes, Component::Integer);
-    (digits, bytes.cursor())
 }
 
 /// The value of a text of hexadecimal digits that reach its end: 1 to 16 digits always fit.
@@ -74,12 +58,9 @@ pub fn read_groups(text: &[u8], count: usize) -> Result<u64, GroupsError>
     ensures ok { IfOk result (IsGroups text.now count) }
     ensures err { IfErr result (IsFault text.now count) }
 {
-    let (digits, end) = lead(text, word());
-    if end != text.len() {
-        return Err(GroupsError::Byte(end));
+    match count_digits(text, word()) {
+        Ok(digits) if digits == count => Ok(value_of(text, word())),
+        Ok(digits) => Err(GroupsError::Count(digits)),
+        Err(at) => Err(GroupsError::Byte(at)),
     }
-    if digits != count {
-        return Err(GroupsError::Count(digits));
-    }
-    Ok(value_of(text, word()))
 }

@@ -64,7 +64,6 @@ fn gaps_end(line: &[u8], from: usize) -> usize
 
 /// The next number from the cursor on, or `None` if only gaps are left. The cursor is then after
 /// it. The counts start at zero for each number.
-#[tactic(auto, using(crate::proofs::FewDigits::few_in_range))]
 pub fn next_number(bytes: &mut Bytes, component: Component) -> Result<Option<Token>, Fault>
     ensures ok { let s = bytes.old.state in IfOk result (λ token. MatchOption token
         (AreGaps s.buffer s.cursor (length s.buffer))

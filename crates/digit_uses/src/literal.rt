@@ -1,81 +1,90 @@
-//! Rust's integer literals: a prefix that says the base, digits with `_`, and then whatever
-//! follows, such as a suffix.
+//! Rust's integer literals with their suffix: the digits by `digit_languages`, and then the name of
+//! a type, whose greatest value counts.
 //!
 //! Proof by hand: none.
 
-ghost use Rattle.std.specs.Prelude.{◌≡◌, ◌-◌, ◌^◌, ◌≤◌, length, IfOk, IsTrue};
-ghost use Rattle.lexical_format.specs.Word.{is_supported};
-ghost use Rattle.lexical_digits.specs.State.{rule_of};
-ghost use Rattle.lexical_digits.specs.declared.skip.component.Component.TheVariants.{Integer};
-ghost use Rattle.digit_literals.specs.Outcomes.{IfEmpty, IfOverflow};
-ghost use Rattle.digit_literals.specs.Integers.{IsIntegerFrom, HasNoDigitFrom, IsTooLargeFrom};
-ghost use Rattle.digit_uses.specs.Literal.{base_of, prefix_of, rule_for};
+ghost use Rattle.std.specs.Prelude.{◌≡◌, IfOk, IfErr};
+ghost use Rattle.digit_uses.specs.Literal.{most_of, suffix_of, IsTyped, IsTypedFault};
 
-use digit_literals::{LiteralError, read_integer_from};
-use lexical_format::words::{
-    RUST_BINARY_LITERAL, RUST_HEX_LITERAL, RUST_LITERAL, RUST_OCTAL_LITERAL,
-};
+use digit_languages::languages::RUST;
+use digit_languages::{LanguageError, Literal, read_literal};
 
-/// The bases of Rust's integer literals.
+/// The type that a literal names.
 #[derive(Clone, Copy, Debug, PartialEq, Eq)]
-pub enum Base {
-    Binary,
-    Octal,
-    Decimal,
-    Hexadecimal,
+pub enum Suffix {
+    /// The literal ends with its digits.
+    Absent,
+    U8,
+    U16,
+    U32,
+    U64,
+    U128,
 }
 
-/// A literal that was read.
+/// Why a text isn't one literal.
 #[derive(Clone, Copy, Debug, PartialEq, Eq)]
-pub struct Literal {
-    pub value: u64,
-    /// Where the digits end. A suffix begins here.
-    pub end: usize,
+pub enum LiteralFault {
+    /// It begins with none.
+    Number(LanguageError),
+    /// What begins at the literal's end names no type.
+    Name(Literal),
+    /// The type hasn't the literal's value.
+    Range(Literal, Suffix),
 }
 
-/// The format word of a base.
+/// The type that a name says.
+fn suffix_of(name: &[u8]) -> Option<Suffix>
+    ensures { result ≡ suffix_of name.now }
+{
+    if name == b"".as_slice() {
+        Some(Suffix::Absent)
+    } else if name == b"u8".as_slice() {
+        Some(Suffix::U8)
+    } else if name == b"u16".as_slice() {
+        Some(Suffix::U16)
+    } else if name == b"u32".as_slice() {
+        Some(Suffix::U32)
+    } else if name == b"u64".as_slice() {
+        Some(Suffix::U64)
+    } else if name == b"u128".as_slice() {
+        Some(Suffix::U128)
+    } else {
+        None
+    }
+}
+
+/// The greatest value of a type.
+fn most_of(suffix: Suffix) -> u128
+    ensures { result ≡ most_of suffix }
+{
+    match suffix {
+        Suffix::U8 => u128::from(u8::MAX),
+        Suffix::U16 => u128::from(u16::MAX),
+        Suffix::U32 => u128::from(u32::MAX),
+        Suffix::U64 => u128::from(u64::MAX),
+        Suffix::Absent | Suffix::U128 => u128::MAX,
+    }
+}
+
+/// The literal that a text is, up to the name of its type: `1_000_u16` has the value 1000, of which
+/// `u8` is out of range.
 #[tactic(auto, unfolding(lexical_format::proofs::OnLiterals::lexical_on_literals))]
-fn word_of(base: Base) -> u128
-    ensures supported { IsTrue (is_supported result) }
-    ensures rule { rule_of result Integer ≡ rule_for base }
+pub fn parse_literal(text: &[u8]) -> Result<(Literal, Suffix), LiteralFault>
+    ensures ok { IfOk result (λ read. IsTyped text.now read.0 read.1) }
+    ensures fault { IfErr result (IsTypedFault text.now) }
 {
-    match base {
-        Base::Binary => RUST_BINARY_LITERAL,
-        Base::Octal => RUST_OCTAL_LITERAL,
-        Base::Decimal => RUST_LITERAL,
-        Base::Hexadecimal => RUST_HEX_LITERAL,
+    let read = match read_literal(text, 0, RUST, u128::MAX) {
+        Ok(read) => read,
+        Err(error) => return Err(LiteralFault::Number(error)),
+    };
+    match suffix_of(&text[read.end..]) {
+        None => Err(LiteralFault::Name(read)),
+        Some(suffix) => {
+            if read.value > most_of(suffix) {
+                Err(LiteralFault::Range(read, suffix))
+            } else {
+                Ok((read, suffix))
+            }
+        }
     }
-}
-
-/// The base that a text begins with, and the length of its prefix.
-fn base_of(text: &[u8]) -> (Base, usize)
-    ensures base { result.0 ≡ base_of text.now }
-    ensures prefix { result.1 ≡ prefix_of result.0 }
-    ensures within { result.1 ≤ length text.now }
-{
-    if text.len() < 2 || text[0] != b'0' {
-        return (Base::Decimal, 0);
-    }
-    match text[1] {
-        b'b' => (Base::Binary, 2),
-        b'o' => (Base::Octal, 2),
-        b'x' => (Base::Hexadecimal, 2),
-        _ => (Base::Decimal, 0),
-    }
-}
-
-/// The integer literal at the start of a text: its base by `0b`, `0o` or `0x`, and then the digits,
-/// with `_` among them. A suffix is not read. Positions count from the start of the text.
-pub fn read_literal(text: &[u8]) -> Result<Literal, LiteralError>
-    ensures ok { let b = base_of text.now in
-        IfOk result (λ read. IsIntegerFrom (rule_for b) text.now (prefix_of b) (2 ^ 64 - 1)
-        read.value read.end) }
-    ensures empty { let b = base_of text.now in
-        IfEmpty result (HasNoDigitFrom (rule_for b) text.now (prefix_of b)) }
-    ensures overflow { let b = base_of text.now in
-        IfOverflow result (IsTooLargeFrom (rule_for b) text.now (prefix_of b) (2 ^ 64 - 1)) }
-{
-    let (base, prefix) = base_of(text);
-    let (value, end) = read_integer_from(text, word_of(base), prefix, u64::MAX)?;
-    Ok(Literal { value, end })
 }

@@ -1,14 +1,18 @@
 //! The first block of the page README.md. `.ci/pages` compares the two.
 
-use digit_literals::{pass_digits, read_integer};
-use lexical_digits::skip::{Bytes, Component};
+use digit_languages::languages::RUST; // `0b`, `0o`, `0x`, and `_` among the digits
+use digit_languages::read_literal;
+use digit_floats::parse_float;
+use digit_literals::{parse_number, read_number};
 use lexical_format::words::PYTHON_LITERAL; // radix 10, one `_` between two digits
 
 #[tactic(auto, unfolding(lexical_format::proofs::OnLiterals::lexical_on_literals))]
 pub fn first_reads() {
-    let read = read_integer(b"1_000 m", PYTHON_LITERAL); // Ok((1000, 5)): the value, its end
-    let none = read_integer(b"_1", PYTHON_LITERAL); // Err(Empty(0)): no digit before position 0
-    let mut bytes = Bytes::new(b"1_000.5", PYTHON_LITERAL);
-    let digits = pass_digits(&mut bytes, Component::Integer); // 4; the cursor is at the point
-    let next = bytes.integer_iter().next(); // Some(&b'.')
+    let rate = parse_float::<f64>(b"1_234.5e-1", PYTHON_LITERAL); // Ok(123.45)
+    let debt = parse_number::<i32>(b"-1_000", PYTHON_LITERAL); // Ok(-1000)
+    let size = read_number::<u64>(b"1_000 m", PYTHON_LITERAL); // Ok((1000, 5)): value, end
+    let mask = read_literal(b"0xff_u8", 0, RUST, 255); // Ok: value 255, digits from 2 to 5
+    let port = parse_number::<u16>(b"70_000", PYTHON_LITERAL); // Err(Overflow(5))
+    let stray = parse_number::<i32>(b"1__0", PYTHON_LITERAL); // Err(Invalid(1))
+    let none = parse_number::<i32>(b"-", PYTHON_LITERAL); // Err(Empty(1))
 }

@@ -3,7 +3,7 @@
 //!
 //! Proof by hand: none.
 
-ghost use Rattle.std.specs.Prelude.{◌≡◌, ◌<◌, ◌≤◌, length, true, IfOk, IfErr, IsTrue};
+ghost use Rattle.std.specs.Prelude.{◌≡◌, ◌<◌, length, true, IfOk, IfErr, IsTrue};
 ghost use Rattle.lexical_format.specs.Word.{is_supported};
 ghost use Rattle.lexical_digits.specs.Separators.{GrantsAll};
 ghost use Rattle.lexical_digits.specs.State.{rule_of};
@@ -11,22 +11,9 @@ ghost use Rattle.lexical_digits.specs.Stop.{stop};
 ghost use Rattle.lexical_digits.specs.Texts.{IsInternalAlone, IsInternalInRuns, is_digit_or_between, IsFirstFault, AllDigitsOrBetween, AllDigitsOrSeparators, IsFromDigitToDigit};
 ghost use Rattle.lexical_digits.specs.declared.skip.component.Component.TheVariants.{Integer};
 
-use digit_literals::pass_digits;
-use lexical_digits::iterator::Iter;
-use lexical_digits::skip::{Bytes, Component};
+use digit_literals::count_digits;
+use lexical_digits::skip::Component;
 use lexical_digits::texts::{all_flags_read_every, internal_reads_between, runs_read_between};
-
-/// Where the digits at the start of a text end.
-#[tactic(auto, using(digit_literals::proofs::ForCallers::stop_within))]
-fn digits_end(text: &[u8], word: u128, component: Component) -> usize
-    requires { IsTrue (is_supported word) }
-    ensures end { result ≡ stop (rule_of word component) text.now 0 0 }
-    ensures within { result ≤ length text.now }
-{
-    let mut bytes = Bytes::new(text, word);
-    pass_digits(&mut bytes, component);
-    bytes.cursor()
-}
 
 /// Whether a text is one integer and nothing else, and if not, the position of the first byte at
 /// fault. With only the internal flag, as in Python and C++, that is the first byte that is
@@ -42,8 +29,8 @@ pub fn validate(text: &[u8], word: u128) -> Result<(), usize>
     ensures within { IfErr result (λ at. at < length text.now) }
 {
     internal_reads_between(text, word, Component::Integer);
-    let end = digits_end(text, word, Component::Integer);
-    if end == text.len() { Ok(()) } else { Err(end) }
+    count_digits(text, word)?;
+    Ok(())
 }
 
 /// Whether a text is one integer and nothing else. Examples with the separator `_`: with the
@@ -69,5 +56,5 @@ pub fn is_integer(text: &[u8], word: u128) -> bool
     internal_reads_between(text, word, Component::Integer);
     runs_read_between(text, word, Component::Integer);
     all_flags_read_every(text, word, Component::Integer);
-    digits_end(text, word, Component::Integer) == text.len()
+    count_digits(text, word).is_ok()
 }

@@ -1,7 +1,8 @@
 //! Chains of std's iterators over the bytes that a component keeps. Each contract names the drain,
-//! which is a filter over the whole buffer. Every call asks that the word is supported.
+//! which is a filter over the whole buffer. Every call asks that the word is supported. One by
+//! `count` is in `drained` of `digit_uses`.
 
-ghost use Rattle.std.specs.Prelude.{◌≡◌, length, IsTrue, IfOk, None, slice_get, fold, ◌+◌, ◌%◌};
+ghost use Rattle.std.specs.Prelude.{◌≡◌, IsTrue, IfOk, None, slice_get, fold, ◌+◌, ◌%◌};
 ghost use Rattle.std.specs.List.{last_or};
 ghost use Rattle.lexical_format.specs.Word.{is_supported};
 ghost use Rattle.lexical_digits.specs.Separators.{drain};
@@ -10,15 +11,6 @@ ghost use Rattle.lexical_digits.specs.declared.skip.component.Component.TheVaria
 
 use lexical_digits::skip::Bytes;
 use std::alloc::{AllocError, Global};
-
-/// The number of bytes that the integer of a text keeps, by `count`.
-pub fn kept_count(text: &[u8], word: u128) -> usize
-    requires { IsTrue (is_supported word) }
-    ensures { result ≡ length (drain (rule_of word Integer) text.now 0 0) }
-{
-    let mut bytes = Bytes::new(text, word);
-    bytes.integer_iter().count()
-}
 
 /// The bytes that the fraction of a text keeps, by `collect`. Refuses if memory is refused.
 pub fn kept_bytes(alloc: Global, text: &[u8], word: u128) -> Result<Vec<u8>, AllocError>

@@ -2,3 +2,4 @@
 pub mod WhereSeparatorsStand
 pub mod Spans
 pub mod Owed
+pub mod Needed

@@ -147,9 +147,9 @@ pub fn items_are_drain()
 {}
 
 /// What is left after a read. After a `peek`: the same drain, digits and stop. After `skip_zeros`:
-/// the drain without those zeros, and the digits that lead without them. After the digits that
-/// lead: the drain without them. The last two leave the cursor at the place, so that a `peek`
-/// changes nothing.
+/// the drain without those zeros, the digits that lead without them, and the same stop. After the
+/// digits that lead: the drain without them, no digit that leads, and the same stop. The last two
+/// leave the cursor at the place, so that a `peek` changes nothing.
 #[tactic(auto, using(crate::proofs::Calls::Rest::rests))]
 pub fn rest_is_left()
     ensures peek { (k : Component) (s : State) → IsState s →
@@ -162,12 +162,18 @@ pub fn rest_is_left()
         drain_of k (past_zeros_of k s) ≡ drop (zeros_of k s) (drain_of k s) }
     ensures digits_after_zeros { (k : Component) (s : State) → IsState s →
         leading_digits_of k (past_zeros_of k s) ≡ drop (zeros_of k s) (leading_digits_of k s) }
+    ensures stop_after_zeros { (k : Component) (s : State) → IsState s →
+        stop_of k (past_zeros_of k s) ≡ stop_of k s }
     ensures zeros_lead { (k : Component) (s : State) → IsState s →
         zeros_of k s ≤ length (leading_digits_of k s) }
     ensures zeros_stay { (k : Component) (s : State) → IsState s →
         settled k (past_zeros_of k s) ≡ past_zeros_of k s }
     ensures digits { (k : Component) (s : State) → IsState s →
         drain_of k (past_digits_of k s) ≡ drop (length (leading_digits_of k s)) (drain_of k s) }
+    ensures none_after_digits { (k : Component) (s : State) → IsState s →
+        leading_digits_of k (past_digits_of k s) ≡ [] }
+    ensures stop_after_digits { (k : Component) (s : State) → IsState s →
+        stop_of k (past_digits_of k s) ≡ stop_of k s }
     ensures digits_stay { (k : Component) (s : State) → IsState s →
         settled k (past_digits_of k s) ≡ past_digits_of k s }
 {}

@@ -51,6 +51,9 @@ pub fn words_say()
     ensures json { IsWord JSON 10 10 0 nowhere nowhere nowhere }
     ensures json_is { JSON ≡ STANDARD }
     ensures hexadecimal { IsWord HEXADECIMAL 16 16 0 nowhere nowhere nowhere }
+    ensures hexadecimal_float { IsWord HEXADECIMAL_FLOAT 16 10 0 nowhere nowhere nowhere }
+    ensures octal { IsWord OCTAL 8 8 0 nowhere nowhere nowhere }
+    ensures binary { IsWord BINARY 2 2 0 nowhere nowhere nowhere }
     ensures rust { IsWord RUST_LITERAL 10 10 95 after_digits after_digits everywhere }
     ensures rust_hex { IsWord RUST_HEX_LITERAL 16 16 95 everywhere nowhere nowhere }
     ensures rust_octal { IsWord RUST_OCTAL_LITERAL 8 8 95 everywhere nowhere nowhere }
@@ -89,18 +92,23 @@ pub fn words_say()
     ensures swift_hex { IsWord SWIFT_HEX_LITERAL 16 10 95 after_digits after_digits after_digits }
     ensures swift_octal { IsInteger SWIFT_OCTAL_LITERAL 8 after_digits }
     ensures swift_binary { IsInteger SWIFT_BINARY_LITERAL 2 after_digits }
+    ensures octave { IsDecimal OCTAVE_LITERAL after_digits }
+    ensures octave_hex { IsInteger OCTAVE_HEX_LITERAL 16 after_digits }
+    ensures octave_binary { IsInteger OCTAVE_BINARY_LITERAL 2 after_digits }
     ensures ruby { IsDecimal RUBY_LITERAL between_digits }
     ensures ruby_integers { AreIntegers
         RUBY_HEX_LITERAL RUBY_OCTAL_LITERAL RUBY_BINARY_LITERAL between_digits }
     ensures perl { IsWord PERL_LITERAL 10 10 95 after_digits everywhere everywhere }
-    ensures perl_integers { AreIntegers
-        PERL_HEX_LITERAL PERL_OCTAL_LITERAL PERL_BINARY_LITERAL everywhere }
+    ensures perl_hex { IsWord PERL_HEX_LITERAL 16 10 95 everywhere after_digits after_digits }
+    ensures perl_octal { IsWord PERL_OCTAL_LITERAL 8 10 95 everywhere after_digits after_digits }
+    ensures perl_binary { IsWord PERL_BINARY_LITERAL 2 10 95 everywhere after_digits after_digits }
     ensures php { IsDecimal PHP_LITERAL between_digits }
     ensures php_integers { AreIntegers
         PHP_HEX_LITERAL PHP_OCTAL_LITERAL PHP_BINARY_LITERAL between_digits }
     ensures julia { IsWord JULIA_LITERAL 10 10 95 between_digits between_digits nowhere }
-    ensures julia_integers { AreIntegers
-        JULIA_HEX_LITERAL JULIA_OCTAL_LITERAL JULIA_BINARY_LITERAL between_digits }
+    ensures julia_hex { IsWord JULIA_HEX_LITERAL 16 10 95 between_digits between_digits nowhere }
+    ensures julia_octal { IsInteger JULIA_OCTAL_LITERAL 8 between_digits }
+    ensures julia_binary { IsInteger JULIA_BINARY_LITERAL 2 between_digits }
     ensures d { IsWord D_LITERAL 10 10 95 after_digits after_digits everywhere }
     ensures d_hex { IsWord D_HEX_LITERAL 16 10 95 everywhere after_digits everywhere }
     ensures d_binary { IsInteger D_BINARY_LITERAL 2 everywhere }
@@ -117,14 +125,15 @@ pub fn words_say()
     ensures haskell_octal { IsInteger HASKELL_OCTAL_LITERAL 8 in_runs_before_digits }
     ensures haskell_binary { IsInteger HASKELL_BINARY_LITERAL 2 in_runs_before_digits }
     ensures scala { IsDecimal SCALA_LITERAL in_runs_between_digits }
+    ensures scala_hex { IsInteger SCALA_HEX_LITERAL 16 in_runs_between_digits }
     ensures zig { IsDecimal ZIG_LITERAL between_digits }
     ensures zig_hex { IsWord ZIG_HEX_LITERAL 16 10 95 between_digits between_digits between_digits }
     ensures zig_octal { IsInteger ZIG_OCTAL_LITERAL 8 between_digits }
     ensures zig_binary { IsInteger ZIG_BINARY_LITERAL 2 between_digits }
     ensures ada { IsDecimal ADA_LITERAL between_digits }
     ensures ada_hex { IsWord ADA_HEX_LITERAL 16 10 95 between_digits between_digits between_digits }
-    ensures ada_octal { IsInteger ADA_OCTAL_LITERAL 8 between_digits }
-    ensures ada_binary { IsInteger ADA_BINARY_LITERAL 2 between_digits }
+    ensures ada_octal { IsWord ADA_OCTAL_LITERAL 8 10 95 between_digits between_digits between_digits }
+    ensures ada_binary { IsWord ADA_BINARY_LITERAL 2 10 95 between_digits between_digits between_digits }
     ensures elixir { IsDecimal ELIXIR_LITERAL between_digits }
     ensures elixir_integers { AreIntegers
         ELIXIR_HEX_LITERAL ELIXIR_OCTAL_LITERAL ELIXIR_BINARY_LITERAL between_digits }

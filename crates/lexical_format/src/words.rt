@@ -49,20 +49,28 @@ const ALL_AFTER_DIGITS: u128 = UNDERSCORE
     | EXPONENT_TRAILING_DIGIT_SEPARATOR
     | CONSECUTIVE;
 
-/// Radix 8.
-const OCTAL: u128 = 8 << 104;
+/// Radix 10 for the exponent.
+const DECIMAL_EXPONENT: u128 = 10 << 120;
 
-/// Radix 2.
-const BINARY: u128 = 2 << 104;
-
-/// Radix 16, and 10 for the exponent, which follows `p`.
-const HEXADECIMAL_FLOAT: u128 = (10 << 120) | HEXADECIMAL;
+/// Any number of `_` anywhere in the integer, and after a digit of fraction and exponent, which has
+/// radix 10.
+const PERL_FLOAT: u128 = DECIMAL_EXPONENT | ALL_AFTER_DIGITS | INTEGER_LEADING_DIGIT_SEPARATOR;
 
 /// JSON's numbers: radix 10, no separator. This is [`STANDARD`].
 pub const JSON: u128 = STANDARD;
 
-/// Radix 16 for every component, no separator.
+/// Radix 16 for every component, no separator. For the digits of a float after `0x`, whose exponent
+/// follows `p`, use [`HEXADECIMAL_FLOAT`].
 pub const HEXADECIMAL: u128 = 16 << 104;
+
+/// Radix 16, and 10 for the exponent, no separator: the exponent of C's `0x1p10` is ten.
+pub const HEXADECIMAL_FLOAT: u128 = DECIMAL_EXPONENT | HEXADECIMAL;
+
+/// Radix 8 for every component, no separator.
+pub const OCTAL: u128 = 8 << 104;
+
+/// Radix 2 for every component, no separator.
+pub const BINARY: u128 = 2 << 104;
 
 /// Rust's decimal literals. In integer and fraction any number of `_` may follow the first digit,
 /// in the exponent anywhere: `1_000.5__0_e+_1_0`.
@@ -187,6 +195,15 @@ pub const SWIFT_OCTAL_LITERAL: u128 = OCTAL | AFTER_DIGITS;
 /// The digits of Swift's literals after `0b`: any number of `_` after a digit.
 pub const SWIFT_BINARY_LITERAL: u128 = BINARY | AFTER_DIGITS;
 
+/// Octave's decimal literals: any number of `_` after a digit. This is [`SWIFT_LITERAL`].
+pub const OCTAVE_LITERAL: u128 = SWIFT_LITERAL;
+
+/// The digits of Octave's literals after `0x`: any number of `_` after a digit.
+pub const OCTAVE_HEX_LITERAL: u128 = HEXADECIMAL | AFTER_DIGITS;
+
+/// The digits of Octave's literals after `0b`: any number of `_` after a digit.
+pub const OCTAVE_BINARY_LITERAL: u128 = BINARY | AFTER_DIGITS;
+
 /// Ruby's decimal literals: one `_` between two digits.
 pub const RUBY_LITERAL: u128 = PYTHON_LITERAL;
 
@@ -205,15 +222,16 @@ pub const RUBY_BINARY_LITERAL: u128 = BINARY | BETWEEN_DIGITS;
 /// between two digits.
 pub const PERL_LITERAL: u128 = RUST_LITERAL | FRACTION_LEADING_DIGIT_SEPARATOR;
 
-/// The digits of Perl's literals after `0x`: any number of `_` anywhere.
-pub const PERL_HEX_LITERAL: u128 = HEXADECIMAL | EVERYWHERE;
+/// The digits of Perl's literals after `0x`: any number of `_` anywhere. In fraction and exponent
+/// only after a digit; the exponent, after `p`, has radix 10.
+pub const PERL_HEX_LITERAL: u128 = HEXADECIMAL | PERL_FLOAT;
 
-/// The digits of Perl's literals after `0o`, or after an octal integer's first `0`: any number of
-/// `_` anywhere.
-pub const PERL_OCTAL_LITERAL: u128 = OCTAL | EVERYWHERE;
+/// The digits of Perl's literals after `0o`, or after an octal integer's first `0`, with `_` as in
+/// [`PERL_HEX_LITERAL`].
+pub const PERL_OCTAL_LITERAL: u128 = OCTAL | PERL_FLOAT;
 
-/// The digits of Perl's literals after `0b`: any number of `_` anywhere.
-pub const PERL_BINARY_LITERAL: u128 = BINARY | EVERYWHERE;
+/// The digits of Perl's literals after `0b`, with `_` as in [`PERL_HEX_LITERAL`].
+pub const PERL_BINARY_LITERAL: u128 = BINARY | PERL_FLOAT;
 
 /// PHP's decimal literals, since 7.4: one `_` between two digits.
 pub const PHP_LITERAL: u128 = PYTHON_LITERAL;
@@ -232,8 +250,11 @@ pub const PHP_BINARY_LITERAL: u128 = BINARY | BETWEEN_DIGITS;
 /// exponent.
 pub const JULIA_LITERAL: u128 = STANDARD | BETWEEN_DIGITS | FRACTION_INTERNAL_DIGIT_SEPARATOR;
 
-/// The digits of Julia's literals after `0x`: one `_` between two digits.
-pub const JULIA_HEX_LITERAL: u128 = HEXADECIMAL | BETWEEN_DIGITS;
+/// The digits of Julia's literals after `0x`: one `_` between two digits of integer and fraction.
+/// The exponent, after `p`, has radix 10 and no `_`.
+pub const JULIA_HEX_LITERAL: u128 = HEXADECIMAL_FLOAT
+    | BETWEEN_DIGITS
+    | FRACTION_INTERNAL_DIGIT_SEPARATOR;
 
 /// The digits of Julia's literals after `0o`: one `_` between two digits.
 pub const JULIA_OCTAL_LITERAL: u128 = OCTAL | BETWEEN_DIGITS;
@@ -304,6 +325,9 @@ pub const HASKELL_BINARY_LITERAL: u128 = BINARY | IN_RUNS_BEFORE_DIGITS;
 /// Scala's decimal literals, since 2.13: any number of `_` between two digits.
 pub const SCALA_LITERAL: u128 = JAVA_LITERAL;
 
+/// The digits of Scala's literals after `0x`: any number of `_` between two digits.
+pub const SCALA_HEX_LITERAL: u128 = HEXADECIMAL | IN_RUNS_BETWEEN_DIGITS;
+
 /// Zig's decimal literals: one `_` between two digits. An integer with the first digit 0 has no
 /// other digit.
 pub const ZIG_LITERAL: u128 = PYTHON_LITERAL;
@@ -325,11 +349,13 @@ pub const ADA_LITERAL: u128 = PYTHON_LITERAL;
 /// second `#`, has radix 10.
 pub const ADA_HEX_LITERAL: u128 = HEXADECIMAL_FLOAT | UNDERSCORE | INTERNAL;
 
-/// The digits of Ada's literals after `8#`: one `_` between two digits.
-pub const ADA_OCTAL_LITERAL: u128 = OCTAL | BETWEEN_DIGITS;
+/// The digits of Ada's literals after `8#`: one `_` between two digits. The exponent, after the
+/// second `#`, has radix 10.
+pub const ADA_OCTAL_LITERAL: u128 = DECIMAL_EXPONENT | OCTAL | UNDERSCORE | INTERNAL;
 
-/// The digits of Ada's literals after `2#`: one `_` between two digits.
-pub const ADA_BINARY_LITERAL: u128 = BINARY | BETWEEN_DIGITS;
+/// The digits of Ada's literals after `2#`: one `_` between two digits. The exponent, after the
+/// second `#`, has radix 10.
+pub const ADA_BINARY_LITERAL: u128 = DECIMAL_EXPONENT | BINARY | UNDERSCORE | INTERNAL;
 
 /// Elixir's decimal literals: one `_` between two digits.
 pub const ELIXIR_LITERAL: u128 = PYTHON_LITERAL;

@@ -8,6 +8,8 @@ ghost use Rattle.lexical_digits.specs.CallTable as skip;
 ghost use Rattle.lexical_digits.specs.State as skip_state;
 ghost use Rattle.lexical_plain.specs.Plain.{start, with_cursor, rest, zeros, taken, run_of, both_have, without_counts, IsPlainWord};
 
+pub mod rows;
+
 use crate::noskip::DigitsIterator;
 use lexical_digits::iterator::DigitsBodies;
 

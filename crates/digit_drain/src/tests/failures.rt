@@ -8,7 +8,7 @@ use crate::fault::{clone_of_fault, same_fault};
 use crate::script::{self, Call, Op, Part};
 use lexical_digits::iterator::Iter;
 use lexical_digits::skip::Bytes;
-use lexical_format::{STANDARD, is_supported};
+use lexical_format::{INTEGER_INTERNAL_DIGIT_SEPARATOR, STANDARD, is_supported};
 use std::alloc::Global;
 use std::process::Abort;
 
@@ -119,20 +119,28 @@ static TWO_READS: [Call; 2] = [
     },
 ];
 
+/// Radix 10, and `_` between digits of the integer.
+const GROUPED: u128 = STANDARD | (0x5f << 64) | INTEGER_INTERNAL_DIGIT_SEPARATOR;
+
 /// Makes those calls on `12` with at most `requests` requests for memory: whether they are made,
-/// and the cursor after them.
-fn calls_within(rt: &impl Abort, alloc: Global, requests: u64) -> (bool, usize) {
-    assert!(rt; is_supported(STANDARD));
-    let mut bytes = Bytes::new(b"12", STANDARD);
+/// and the cursor, the count and the looks after them.
+fn calls_within(rt: &impl Abort, alloc: Global, requests: u64) -> (bool, usize, usize, u64) {
+    assert!(rt; is_supported(GROUPED));
+    let mut bytes = Bytes::new(b"12", GROUPED);
     let limited = Limited::new(alloc, requests);
     let is_made = script::run_in(&limited, &mut bytes, &TWO_READS).is_ok();
-    (is_made, bytes.cursor())
+    (
+        is_made,
+        bytes.cursor(),
+        bytes.current_count(),
+        bytes.looks(),
+    )
 }
 
 #[test]
 fn a_list_of_calls_takes_one_reservation(rt: HostRuntime) {
-    assert_eq!(rt; calls_within(&rt, rt.alloc(), 0), (false, 0));
-    assert_eq!(rt; calls_within(&rt, rt.alloc(), 1), (true, 2));
+    assert_eq!(rt; calls_within(&rt, rt.alloc(), 0), (false, 0, 0, 0));
+    assert_eq!(rt; calls_within(&rt, rt.alloc(), 1), (true, 2, 2, 4));
 }
 
 // ---- the reader

@@ -1,7 +1,8 @@
 //! Tests of std's chains over the digits.
 
 use super::{INTERNAL, UNFLAGGED};
-use crate::chains::{checksum, kept_at, kept_by_for, kept_bytes, kept_count, last_kept};
+use crate::chains::{checksum, kept_at, kept_by_for, kept_bytes, last_kept};
+use digit_uses::drained::length_without_separators;
 use lexical_format::{
     EXPONENT_INTERNAL_DIGIT_SEPARATOR, FRACTION_INTERNAL_DIGIT_SEPARATOR,
     FRACTION_LEADING_DIGIT_SEPARATOR, SPECIAL_DIGIT_SEPARATOR, is_supported,
@@ -12,7 +13,7 @@ use std::test::Fail;
 /// The integer of a text keeps this number of bytes, and this one last.
 fn assert_integer(rt: &impl Abort, word: u128, text: &[u8], count: usize, last: Option<u8>) {
     assert!(rt; is_supported(word));
-    assert!(rt; kept_count(text, word) == count);
+    assert!(rt; length_without_separators(text, word) == count);
     assert!(rt; last_kept(text, word) == last);
 }
 

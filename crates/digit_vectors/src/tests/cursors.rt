@@ -79,6 +79,17 @@ fn only_is_consumed_passes_a_dropped_end(rt: HostRuntime) {
 }
 
 #[test]
+fn each_component_has_both_signs(rt: HostRuntime) {
+    let mut bytes = bytes_of(&rt, b"", UNFLAGGED | INTERNAL);
+    for (byte, is_sign) in [(b'+', true), (b'-', true), (b'.', false), (b'_', false)] {
+        assert!(rt; bytes.integer_iter().is_sign(byte) == is_sign);
+        assert!(rt; bytes.fraction_iter().is_sign(byte) == is_sign);
+        assert!(rt; bytes.exponent_iter().is_sign(byte) == is_sign);
+        assert!(rt; bytes.special_iter().is_sign(byte) == is_sign);
+    }
+}
+
+#[test]
 fn a_separator_may_be_a_sign(rt: HostRuntime) {
     let mut bytes = bytes_of(&rt, b"+12", (10 << 104) | (0x2b << 64) | LEADING);
     let iter = bytes.integer_iter();

@@ -1,12 +1,12 @@
-//! Random lists of calls over all five parts. A list is answered as its calls are one by one, and
-//! each peek finds the byte that the slow program keeps first.
+//! Random lists of calls over all five parts. Each answer, in a list and by itself, and each cursor
+//! and count that a call leaves are compared with `table`, the call table as a slow program.
 
 use super::bytes_of;
 use super::scripts::PARTS;
-use crate::slow::place;
+use super::table::{Format, Table};
 use digit_script::{Answer, Call, Op, Part, run};
-use lexical_digits::iterator::{Iter, IterBodies};
-use lexical_digits::skip::{Bytes, Component, Rule};
+use lexical_digits::iterator::Iter;
+use lexical_digits::skip::{Bytes, Component};
 use lexical_format::{
     EXPONENT_INTERNAL_DIGIT_SEPARATOR, EXPONENT_LEADING_DIGIT_SEPARATOR,
     FRACTION_CONSECUTIVE_DIGIT_SEPARATOR, FRACTION_LEADING_DIGIT_SEPARATOR,
@@ -140,88 +140,65 @@ fn text_of(alloc: Global, separator: u8) -> Result<Vec<u8>, AllocError> {
 }
 
 /// The answer to a call by itself.
-fn answer(alloc: Global, bytes: &mut Bytes, part: Part, op: Op) -> Option<Answer> {
-    let answers = run(alloc, bytes, &[Call { part, op }]).ok()?;
+fn answer(alloc: Global, bytes: &mut Bytes, call: Call) -> Option<Answer> {
+    let answers = run(alloc, bytes, &[call]).ok()?;
     answers.first().copied()
 }
 
-/// The iterators, each with its component.
-static ITERATORS: [(Part, Component); 4] = [
-    (Part::Integer, Component::Integer),
-    (Part::Fraction, Component::Fraction),
-    (Part::Exponent, Component::Exponent),
-    (Part::Special, Component::Special),
-];
-
-/// Peeks on an iterator over a copy: whether that finds what the slow program keeps first.
-fn is_peek(alloc: Global, bytes: &Bytes, word: u128, (part, component): (Part, Component)) -> bool {
-    let (text, start) = (bytes.get_buffer(), bytes.cursor());
-    let Ok(mut copy) = bytes.clone() else {
-        return false;
-    };
-    if start > text.len() {
-        return false;
-    }
-    let count = bytes.current_count_of(component);
-    let at = place(Rule::of(word, component), text, start, count);
-    let byte = Answer::Byte(text.get(at).copied());
-    answer(alloc, &mut copy, part, Op::Peek) == Some(byte) && copy.cursor() == at
+/// Whether the cursor and each count are the table's.
+fn is_state(bytes: &Bytes, table: &Table) -> bool {
+    bytes.cursor() == table.cursor
+        && bytes.current_count() == table.current_count(Part::Bytes)
+        && bytes.current_count_of(Component::Integer) == table.current_count(Part::Integer)
+        && bytes.current_count_of(Component::Fraction) == table.current_count(Part::Fraction)
+        && bytes.current_count_of(Component::Exponent) == table.current_count(Part::Exponent)
+        && bytes.current_count_of(Component::Special) == table.current_count(Part::Special)
 }
 
-/// Whether that is so on each iterator.
-fn are_peeks(alloc: Global, bytes: &Bytes, word: u128) -> bool {
-    for iterator in &ITERATORS {
-        if !is_peek(alloc, bytes, word, *iterator) {
-            return false;
-        }
-    }
-    true
-}
-
-/// The first call that is answered otherwise by itself than in its list, or after which a peek
-/// finds another byte than the slow program; its number, from 0, and its answer in the list.
+/// The first call that is answered, in its list or by itself, otherwise than by the table, or that
+/// leaves another state: its number, from 0, the call, its answer in the list, and the table's.
 fn wrong_call(
     alloc: Global,
     bytes: &mut Bytes,
-    word: u128,
+    table: &mut Table,
     calls: &[Call],
     answers: &[Answer],
-) -> Option<(usize, Call, Answer)> {
+) -> Option<(usize, Call, Answer, Answer)> {
     for (at, (call, answered)) in calls.iter().zip(answers).enumerate() {
-        let is_same = answer(alloc, bytes, call.part, call.op) == Some(*answered);
-        if !is_same || !are_peeks(alloc, bytes, word) {
-            return Some((at, *call, *answered));
+        let wanted = table.answer(*call);
+        let is_same = *answered == wanted && answer(alloc, bytes, *call) == Some(wanted);
+        if !is_same || !is_state(bytes, table) {
+            return Some((at, *call, *answered, wanted));
         }
     }
     None
 }
 
 /// Runs a list over the pattern, and then its calls one by one.
-fn assert_list(
-    rt: &impl Abort,
-    alloc: Global,
-    (radix, exponent_radix, separator): (u8, u8, u8),
-    flags: u128,
-    seed: u64,
-) -> Result<(), Fail> {
-    let radixes = (u128::from(exponent_radix) << 120) | (u128::from(radix) << 104);
-    let word = radixes | (u128::from(separator) << 64) | flags;
-    let text = text_of(alloc, separator)?;
+fn assert_list(rt: &impl Abort, alloc: Global, format: Format, seed: u64) -> Result<(), Fail> {
+    let text = text_of(alloc, format.separator)?;
     let calls = random_calls(alloc, seed)?;
-    let answers = run(alloc, &mut bytes_of(rt, &text, word), &calls)?;
-    let mut bytes = bytes_of(rt, &text, word);
-    let wrong = wrong_call(alloc, &mut bytes, word, &calls, &answers);
+    let answers = run(alloc, &mut bytes_of(rt, &text, format.word()), &calls)?;
+    let mut bytes = bytes_of(rt, &text, format.word());
+    let mut table = Table::new(&text, format);
+    let wrong = wrong_call(alloc, &mut bytes, &mut table, &calls, &answers);
     assert!(rt;
         answers.len() == CALLS && wrong.is_none(),
-        "{wrong:?}, by {word}"
+        "number, call, answer, and what was wanted: {wrong:?}, which leaves {table:?}"
     );
     Ok(())
 }
 
 #[test]
-fn each_peek_of_a_thousand_calls_is_the_slow_programs(rt: HostRuntime) -> Result<(), Fail> {
-    assert_list(&rt, rt.alloc(), (10, 0, b'_'), MIXED, 1)?;
-    assert_list(&rt, rt.alloc(), (10, 0, b'_'), MIXED, 2)
+fn a_thousand_calls_are_answered_by_the_table(rt: HostRuntime) -> Result<(), Fail> {
+    let format = Format {
+        radix: 10,
+        exponent_radix: 0,
+        separator: b'_',
+        flags: MIXED,
+    };
+    assert_list(&rt, rt.alloc(), format, 1)?;
+    assert_list(&rt, rt.alloc(), format, 2)
 }
 
 /// The radixes of integer and exponent and the separator of hostile words: a byte that is no text,
@@ -240,10 +217,17 @@ static HOSTILE: [(u8, u8, u8); 9] = [
 ];
 
 #[test]
-fn each_peek_by_a_hostile_word_is_the_slow_programs(rt: HostRuntime) -> Result<(), Fail> {
-    for word in &HOSTILE {
-        assert_list(&rt, rt.alloc(), *word, MIXED, 3)?;
-        assert_list(&rt, rt.alloc(), *word, OTHERS, 3)?;
+fn hostile_words_are_answered_by_the_table(rt: HostRuntime) -> Result<(), Fail> {
+    for (radix, exponent_radix, separator) in &HOSTILE {
+        for flags in [MIXED, OTHERS] {
+            let format = Format {
+                radix: *radix,
+                exponent_radix: *exponent_radix,
+                separator: *separator,
+                flags,
+            };
+            assert_list(&rt, rt.alloc(), format, 3)?;
+        }
     }
     Ok(())
 }

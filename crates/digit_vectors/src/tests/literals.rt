@@ -11,7 +11,7 @@ use digit_literals::equality::{
 };
 use digit_literals::{
     Digits, FirstDigits, LiteralError, ParseError, TooLarge, pass_digits, read_digits,
-    read_digits_of, read_digits_up_to, read_integer, read_integer_from, take_digits,
+    read_digits_of, read_digits_up_to, read_integer, read_integer_from, stop_from, take_digits,
 };
 use lexical_digits::iterator::{DigitsIter, Iter};
 use lexical_digits::skip::Bytes;
@@ -49,6 +49,20 @@ fn assert_integer_from(
         read_integer_from(text, word, start, most) == read,
         "{start} {most}"
     );
+}
+
+/// The digits of a component that begin at a position end here.
+fn assert_stop(
+    rt: &impl Abort,
+    word: u128,
+    text: &[u8],
+    component: Component,
+    start: usize,
+    end: usize,
+) {
+    assert!(rt; is_supported(word) && start <= text.len());
+    let answer = stop_from(text, word, component, start);
+    assert!(rt; answer == end, "{text:?} from {start}: {answer}");
 }
 
 /// A call over the decimal digits of an iterator, with what it answers.
@@ -153,6 +167,29 @@ fn an_integer_is_read_from_a_position_on_up_to_a_value(rt: HostRuntime) {
     ] {
         assert_integer_from(&rt, b"0x1_f", start, most, read);
     }
+}
+
+#[test]
+fn digits_of_a_component_end_from_a_position_on(rt: HostRuntime) {
+    let word = UNFLAGGED | INTERNAL | FRACTION_INTERNAL_DIGIT_SEPARATOR;
+    for (component, start, end) in [
+        (Integer, 0, 3),
+        // the byte before the start is the separator's left side
+        (Integer, 1, 3),
+        (Integer, 3, 3),
+        (Fraction, 4, 7),
+        (Exponent, 4, 5),
+        (Exponent, 9, 9),
+    ] {
+        assert_stop(&rt, word, b"1_0.5_0e7", component, start, end);
+    }
+    assert_stop(&rt, word, b"1__0", Integer, 0, 1);
+    assert_stop(&rt, UNFLAGGED | LEADING, b"__1_", Integer, 1, 1);
+    let word = UNFLAGGED | SPECIAL_DIGIT_SEPARATOR;
+    assert_stop(&rt, word, b"x_1__2_x", Special, 1, 7);
+    let word = (16 << 104) | (10 << 120);
+    assert_stop(&rt, word, b"0x1fp1f", Integer, 2, 4);
+    assert_stop(&rt, word, b"0x1fp1f", Exponent, 5, 6);
 }
 
 #[test]
@@ -278,6 +315,13 @@ fn digits_are_read_up_to_a_value(rt: HostRuntime) {
                 count: 1
             })
     );
+    let mut bytes = bytes_of(&rt, b"98_76", UNFLAGGED | INTERNAL);
+    let too_large = TooLarge {
+        at: 3,
+        value: 98,
+        count: 2,
+    };
+    assert!(rt; read_digits_up_to(&mut bytes, Integer, 0, 99) == Err(too_large));
 }
 
 #[test]

@@ -2,28 +2,28 @@
 
 use super::{INTERNAL, UNFLAGGED, bytes_of};
 use digit_literals::{
-    Digits, ParseError, TooLarge, count_digits, parse_integer, parse_signed, read_digits_after,
+    Digits, LiteralError, ParseError, TooLarge, count_digits, parse_integer, parse_signed,
+    read_digits_after,
 };
 use lexical_digits::iterator::Iter;
 use lexical_format::is_supported;
+use std::alloc::Global;
+use std::fmt::Display;
 use std::process::Abort;
+use std::str::from_utf8;
 
 /// The whole text has this value, or this first fault; `_` may stand between two digits.
 fn assert_whole(rt: &impl Abort, text: &[u8], read: Result<u64, ParseError>) {
     assert!(rt; is_supported(UNFLAGGED | INTERNAL));
-    assert!(rt;
-        parse_integer(text, UNFLAGGED | INTERNAL) == read,
-        "{text:?}"
-    );
+    let (came, text) = (parse_integer(text, UNFLAGGED | INTERNAL), from_utf8(text));
+    assert!(rt; came == read, "{text:?}: {came:?}, not {read:?}");
 }
 
 /// The same with a sign.
 fn assert_signed(rt: &impl Abort, text: &[u8], read: Result<i64, ParseError>) {
     assert!(rt; is_supported(UNFLAGGED | INTERNAL));
-    assert!(rt;
-        parse_signed(text, UNFLAGGED | INTERNAL) == read,
-        "{text:?}"
-    );
+    let (came, text) = (parse_signed(text, UNFLAGGED | INTERNAL), from_utf8(text));
+    assert!(rt; came == read, "{text:?}: {came:?}, not {read:?}");
 }
 
 #[test]
@@ -76,10 +76,8 @@ fn a_greatest_value_is_not_passed(rt: HostRuntime) {
 /// digits.
 fn assert_digits(rt: &impl Abort, text: &[u8], digits: Result<usize, usize>) {
     assert!(rt; is_supported(UNFLAGGED | INTERNAL));
-    assert!(rt;
-        count_digits(text, UNFLAGGED | INTERNAL) == digits,
-        "{text:?}"
-    );
+    let (came, text) = (count_digits(text, UNFLAGGED | INTERNAL), from_utf8(text));
+    assert!(rt; came == digits, "{text:?}: {came:?}, not {digits:?}");
 }
 
 #[test]
@@ -88,4 +86,29 @@ fn the_digits_of_a_whole_text_are_counted(rt: HostRuntime) {
     assert_digits(&rt, b"", Ok(0));
     assert_digits(&rt, b"1_", Err(1));
     assert_digits(&rt, b"1x", Err(1));
+}
+
+/// An error is printed as this text.
+fn assert_printed<E: Display>(rt: &impl Abort, alloc: Global, error: &E, wanted: &str) {
+    let printed = format!(in alloc; "{error}").expect(rt, "memory");
+    assert!(rt; printed.as_str() == wanted, "{printed}, not {wanted}");
+}
+
+#[test]
+fn errors_say_what_and_where(rt: HostRuntime) {
+    let overflow = "the number is too large with the digit at 20";
+    let empty = "there is no digit at 3";
+    let invalid = "the byte at 0 is no part of an integer";
+    assert_printed(&rt, rt.alloc(), &LiteralError::Empty(3), empty);
+    assert_printed(&rt, rt.alloc(), &LiteralError::Overflow(20), overflow);
+    assert_printed(&rt, rt.alloc(), &ParseError::Empty(3), empty);
+    assert_printed(&rt, rt.alloc(), &ParseError::Invalid(0), invalid);
+    assert_printed(&rt, rt.alloc(), &ParseError::Overflow(20), overflow);
+    let (value, count) = (u64::MAX / 10, 19);
+    let too_large = TooLarge {
+        at: 20,
+        value,
+        count,
+    };
+    assert_printed(&rt, rt.alloc(), &too_large, overflow);
 }

@@ -3,12 +3,12 @@
 use super::{CONSECUTIVE, INTERNAL, LEADING, TRAILING, UNFLAGGED, bytes_of, move_to};
 use digit_literals::{
     Digits, FirstDigits, LiteralError, TooLarge, count_digits, pass_digits, pass_zeros,
-    read_digits_up_to, read_first_digits, read_integer_from,
+    read_digits_up_to, read_first_digits, read_first_digits_from, read_integer_from,
 };
 use lexical_digits::iterator::{Iter, IterBodies};
 use lexical_digits::skip::Bytes;
 use lexical_digits::skip::Component::{Fraction, Integer, Special};
-use lexical_format::{SPECIAL_DIGIT_SEPARATOR, is_supported};
+use lexical_format::{FRACTION_INTERNAL_DIGIT_SEPARATOR, SPECIAL_DIGIT_SEPARATOR, is_supported};
 use std::process::Abort;
 
 /// Flags and a text, how many digits of the integer are passed, and then the cursor, the integer's
@@ -241,6 +241,20 @@ fn first_digits_of_two_components_are_one_number(rt: HostRuntime) {
     };
     assert!(rt; read_first_digits(&mut bytes, Fraction, 12, 999) == fraction);
     assert!(rt; bytes.cursor() == 9);
+}
+
+/// The fraction from 2, up to 99: `7` and `6` are only passed.
+#[test]
+fn the_first_digits_of_a_text_have_an_end(rt: HostRuntime) {
+    let word = UNFLAGGED | FRACTION_INTERNAL_DIGIT_SEPARATOR;
+    assert!(rt; is_supported(word));
+    let fraction = FirstDigits {
+        value: 98,
+        count: 4,
+        dropped: 2,
+    };
+    let answer = read_first_digits_from(b"1.98_76e", word, Fraction, 2, 0, 99);
+    assert!(rt; answer == (fraction, 7));
 }
 
 /// Three bytes with two digits take six looks. Then a copy reads on, and its state is taken over.

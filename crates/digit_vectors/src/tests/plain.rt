@@ -111,6 +111,19 @@ fn a_clone_keeps_the_cursor_and_its_own(rt: HostRuntime) {
     assert!(rt; bytes.cursor() == 1);
 }
 
+#[test]
+fn a_digit_is_one_of_the_mantissa_radix(rt: HostRuntime) {
+    let word = (10 << 120) | (16 << 104);
+    assert!(rt; is_supported(word));
+    let mut bytes = Bytes::new(b"", word);
+    let steps = [
+        IsDigit(b'9', true),
+        IsDigit(b'F', true),
+        IsDigit(b'g', false),
+    ];
+    assert_steps(&rt, &mut bytes.exponent_iter(), &steps);
+}
+
 /// The length of any iterator that knows it.
 fn length_of<I: ExactSizeIterator>(iter: &I) -> usize {
     iter.len()

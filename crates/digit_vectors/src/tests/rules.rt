@@ -15,6 +15,7 @@ use lexical_format::{
 };
 use std::alloc::Global;
 use std::process::Abort;
+use std::str::from_utf8;
 
 /// All four flags of the integer.
 const ALL: u128 = INTERNAL | LEADING | TRAILING | CONSECUTIVE;
@@ -47,9 +48,10 @@ fn assert_drained(
     let counted = bytes.current_count_of(Component::Integer);
     let is = drained.as_slice() == kept && counted == count_after;
     let rule = Rule::of(word, Component::Integer);
+    let (text, drained, kept) = (from_utf8(text), from_utf8(&drained), from_utf8(kept));
     assert!(rt;
         is,
-        "{text:?} from {cursor} by {rule:?}: {drained:?} and count {counted}"
+        "{text:?} from {cursor} by {rule:?}: {drained:?} and count {counted}, not {kept:?} and {count_after}"
     );
 }
 

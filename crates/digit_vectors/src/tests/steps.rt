@@ -4,6 +4,7 @@ use super::bytes_of;
 use lexical_digits::iterator::{DigitsBodies, DigitsIter, Iter, IterBodies};
 use lexical_digits::skip::Bytes;
 use std::process::Abort;
+use std::str::from_utf8;
 
 /// What is called: the `Bytes` itself, or the iterator of a component.
 #[derive(Clone, Copy)]
@@ -28,7 +29,7 @@ pub static ITERATORS: [Part; 4] = [Part::Integer, Part::Fraction, Part::Exponent
 
 /// A call: its arguments, then its answer. `Cursor` and `Count` ask for the cursor and the count.
 /// The calls up to `PeekU64` are those that every part has; the others are those of the iterators.
-#[derive(Clone, Copy)]
+#[derive(Clone, Copy, Debug)]
 pub enum Step<'s> {
     Cursor(usize),
     Count(usize),
@@ -214,45 +215,50 @@ fn wrong_step_of(bytes: &mut Bytes, part: Part, steps: &[Step]) -> Option<usize>
     }
 }
 
-/// Fails with the index of a wrong step, and with what it left.
-fn assert_none<'a, I: Iter<'a>>(rt: &impl Abort, iter: &I, wrong: Option<usize>) {
+/// Fails with the text, the number of a wrong step, what was wanted, and what it left.
+fn assert_none<'a, I: Iter<'a>>(rt: &impl Abort, iter: &I, steps: &[Step], wrong: Option<usize>) {
+    let Some(at) = wrong else {
+        return;
+    };
     let (text, cursor, count) = (iter.get_buffer(), iter.cursor(), iter.current_count());
+    let (text, wanted) = (from_utf8(text), steps.get(at));
     assert!(rt;
-        wrong.is_none(),
-        "step {wrong:?} on {text:?} leaves {cursor}, count {count}"
+        false,
+        "{text:?}, step {at}: not {wanted:?}; cursor {cursor}, count {count}"
     );
 }
 
 /// Makes these calls on an iterator.
 pub fn assert_steps<'a, D: DigitsIter<'a>>(rt: &impl Abort, iter: &mut D, steps: &[Step]) {
     let wrong = wrong_step(iter, steps);
-    assert_none(rt, iter, wrong);
+    assert_none(rt, iter, steps, wrong);
 }
 
 /// Makes these calls on one part of a `Bytes`.
 pub fn assert_part(rt: &impl Abort, bytes: &mut Bytes, part: Part, steps: &[Step]) {
     let wrong = wrong_step_of(bytes, part, steps);
-    assert_none(rt, bytes, wrong);
+    assert_none(rt, bytes, steps, wrong);
 }
 
 /// Makes these calls on one part of a text.
 pub fn assert_goes(rt: &impl Abort, word: u128, text: &[u8], part: Part, steps: &[Step]) {
     let mut bytes = bytes_of(rt, text, word);
-    if let Some(at) = wrong_step_of(&mut bytes, part, steps) {
-        let cursor = bytes.cursor();
-        assert!(rt; false, "step {at} on {text:?} by {word} leaves {cursor}");
-    }
+    let wrong = wrong_step_of(&mut bytes, part, steps);
+    assert_none(rt, &bytes, steps, wrong);
 }
 
 /// Makes these calls in turn on the parts of a text, each on an iterator of its own.
 pub fn assert_turns(rt: &impl Abort, word: u128, text: &[u8], turns: &[(Part, Step)]) {
     let mut bytes = bytes_of(rt, text, word);
     for (at, (part, step)) in turns.iter().enumerate() {
-        let wrong = wrong_step_of(&mut bytes, *part, &[*step]);
-        let cursor = bytes.cursor();
+        let (is_wrong, text) = (
+            wrong_step_of(&mut bytes, *part, &[*step]).is_some(),
+            from_utf8(text),
+        );
+        let (cursor, count) = (bytes.cursor(), bytes.current_count());
         assert!(rt;
-            wrong.is_none(),
-            "turn {at} of {text:?} by {word} leaves {cursor}"
+            !is_wrong,
+            "{text:?}, turn {at}: not {step:?}; cursor {cursor}, count {count}"
         );
     }
 }

@@ -1,23 +1,27 @@
 //! Each use once. The expected values are worked out by hand.
 
 use super::{bytes_of, move_to};
+use digit_languages::{LanguageError, Literal};
 use digit_literals::{LiteralError, TooLarge};
 use digit_script::{Answer, Call, Op, Part};
 use digit_uses::back::try_exponent;
 use digit_uses::calls::{make_calls, pass_number};
 use digit_uses::drained::{length_without_separators, without_separators};
+use digit_uses::ends::{Parser, component_end, take_through};
 use digit_uses::figures::{Figures, read_figures};
-use digit_uses::first::digits_end;
 use digit_uses::groups::{GroupsError, read_groups};
 use digit_uses::lexer::{Fault, Token, numbers};
-use digit_uses::literal::{Literal, read_literal};
-use digit_uses::loops::{Parser, component_end, count_yielded, take_through, yields};
+use digit_uses::literal::{LiteralFault, Suffix, parse_literal};
+use digit_uses::loops::{count_yielded, yields};
 use digit_uses::onward::{read_mantissa, read_number, read_past_zeros, read_range};
 use digit_uses::rest::number_end;
+use digit_uses::rounded::{FloatFault, parse_f64};
 use digit_uses::validate::{is_integer, validate};
 use lexical_digits::iterator::Iter;
 use lexical_digits::skip::{Bytes, Component};
-use lexical_format::words::{JSON, RUST_LITERAL};
+use lexical_format::words::{
+    JSON, RUST_BINARY_LITERAL, RUST_HEX_LITERAL, RUST_LITERAL, RUST_OCTAL_LITERAL,
+};
 use lexical_format::{
     EXPONENT_INTERNAL_DIGIT_SEPARATOR, FRACTION_TRAILING_DIGIT_SEPARATOR,
     INTEGER_INTERNAL_DIGIT_SEPARATOR, char_is_digit_const, is_supported,
@@ -32,51 +36,64 @@ const WORD: u128 = (10 << 104)
     | FRACTION_TRAILING_DIGIT_SEPARATOR
     | EXPONENT_INTERNAL_DIGIT_SEPARATOR;
 
-/// A text, and where its digits end.
-static ENDS: [(&[u8], usize); 3] = [(b"123abc", 3), (b"1_000", 1), (b"", 0)];
-
-#[test]
-fn the_first_caller(rt: HostRuntime) {
-    for (text, end) in &ENDS {
-        let answer = digits_end(text);
-        assert!(rt; answer == *end, "{text:?}: {answer}");
-    }
-}
-
-/// A text, with the value and the end of its literal.
-static LITERALS: [(&[u8], u64, usize); 7] = [
-    (b"0", 0, 1),
-    (b"1_000_u8", 1000, 6),
-    (b"0xFF_ff_u32", 65535, 8),
-    (b"0b____1010", 10, 10),
-    (b"0o17z", 15, 4),
-    (b"0b12", 1, 3),
-    (b"18446744073709551615", u64::MAX, 20),
+/// A text, with the value, the word, the first digit and the end of its literal, and its type.
+static LITERALS: [(&[u8], u128, u128, usize, usize, Suffix); 7] = [
+    (b"0", 0, RUST_LITERAL, 0, 1, Suffix::Absent),
+    (b"1_000_u16", 1000, RUST_LITERAL, 0, 6, Suffix::U16),
+    (b"255u8", 255, RUST_LITERAL, 0, 3, Suffix::U8),
+    (b"0xFF_ff_u32", 65535, RUST_HEX_LITERAL, 2, 8, Suffix::U32),
+    (b"0b____1010", 10, RUST_BINARY_LITERAL, 2, 10, Suffix::Absent),
+    (b"18446744073709551615u64", 18446744073709551615, RUST_LITERAL, 0, 20, Suffix::U64),
+    (b"0o17u128", 15, RUST_OCTAL_LITERAL, 2, 4, Suffix::U128),
 ];
 
 #[test]
 fn literals_of_rust(rt: HostRuntime) {
-    for (text, value, end) in &LITERALS {
-        let answer = read_literal(text);
+    for (text, value, word, digits, end, suffix) in &LITERALS {
+        let answer = parse_literal(text);
         let literal = Literal {
             value: *value,
+            word: *word,
+            digits: *digits,
             end: *end,
         };
-        assert!(rt; answer == Ok(literal), "{text:?}: {answer:?}");
+        assert!(rt; answer == Ok((literal, *suffix)), "{text:?}: {answer:?}");
     }
 }
 
-/// A text, and why it begins with no literal.
-static NO_LITERALS: [(&[u8], LiteralError); 3] = [
-    (b"_1", LiteralError::Empty(0)),
-    (b"0x_g", LiteralError::Empty(3)),
-    (b"1844674407370955161_6", LiteralError::Overflow(20)),
+/// The literal 1000, which ends at 6.
+const THOUSAND: Literal = Literal {
+    value: 1000,
+    word: RUST_LITERAL,
+    digits: 0,
+    end: 6,
+};
+
+/// The literal 1 of radix 2, which ends at 3.
+const ONE: Literal = Literal {
+    value: 1,
+    word: RUST_BINARY_LITERAL,
+    digits: 2,
+    end: 3,
+};
+
+/// A text, and why it is no literal.
+static NO_LITERALS: [(&[u8], LiteralFault); 6] = [
+    (b"_1", LiteralFault::Number(LanguageError::Empty(0))),
+    (b"0x_g", LiteralFault::Number(LanguageError::Empty(3))),
+    (
+        b"340282366920938463463374607431768211456",
+        LiteralFault::Number(LanguageError::Overflow(38)),
+    ),
+    (b"1_000_u8", LiteralFault::Range(THOUSAND, Suffix::U8)),
+    (b"1_000_u9", LiteralFault::Name(THOUSAND)),
+    (b"0b12", LiteralFault::Name(ONE)),
 ];
 
 #[test]
 fn faults_of_literals_of_rust(rt: HostRuntime) {
     for (text, fault) in &NO_LITERALS {
-        let answer = read_literal(text);
+        let answer = parse_literal(text);
         assert!(rt; answer == Err(*fault), "{text:?}: {answer:?}");
     }
 }
@@ -259,8 +276,8 @@ fn a_number_is_passed(rt: HostRuntime) {
 fn loops_of_a_callers_own(rt: HostRuntime) {
     assert!(rt; is_supported(WORD));
     assert_eq!(rt; count_yielded(b"1_2x3_", WORD, Component::Integer), 3);
-    assert!(rt; !yields(b"1_2", WORD, b'_'));
-    assert!(rt; yields(b"1__2", WORD, b'_'));
+    assert!(rt; !yields(&mut Bytes::new(b"1_2", WORD), b'_'));
+    assert!(rt; yields(&mut Bytes::new(b"1__2", WORD), b'_'));
 }
 
 /// A text, where its integer ends, and whether a point is there.
@@ -300,6 +317,24 @@ fn a_number_in_the_rest_of_a_text_ends(rt: HostRuntime) {
     assert!(rt; char_is_digit_const(b'1', 10) && char_is_digit_const(b'3', 10));
     assert_eq!(rt; number_end(b"[12,3]", JSON, 1), 3);
     assert_eq!(rt; number_end(b"[12,3]", JSON, 4), 5);
+}
+
+#[test]
+fn a_text_is_read_as_the_nearest_float(rt: HostRuntime) {
+    assert!(rt; matches!(parse_f64(rt.alloc(), b"-1_234.5_6e+1_0"), Ok(x) if x == -1234.56e10));
+    assert!(rt; matches!(parse_f64(rt.alloc(), b"1_0"), Ok(x) if x == 10.0));
+    for (text, fault) in [
+        (b"1_.5".as_slice(), FloatFault::Invalid(1)),
+        (b"1.5x", FloatFault::Invalid(3)),
+        (b"nan", FloatFault::Invalid(0)),
+        (b"1e", FloatFault::NoNumber),
+        (b"", FloatFault::NoNumber),
+    ] {
+        assert!(rt;
+            matches!(parse_f64(rt.alloc(), text), Err(it) if it == fault),
+            "{text:?}"
+        );
+    }
 }
 
 /// A text, and whether it is one integer.

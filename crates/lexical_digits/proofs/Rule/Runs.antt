@@ -101,3 +101,21 @@ module _ (rule : Rule) (buffer : List ℕ) where
       dropped k m n = sym (along (λ k. is_kept rule buffer k c k) (k - s) s k (omega arith)
           (λ i o p. sym (kept_in_run many i c (all i o (omega arith))
           (all (i + 1) (omega arith) (omega arith))))) ∙ h
+
+  -- a place beyond a dropped separator is none
+  pub place_past_run : rule.consecutive ≡ true → (d s c : ℕ) → s + d ≡ length buffer
+      → is_kept rule buffer s c s ≡ false
+      → holds_separator rule buffer (place rule buffer s c) ≡ false
+  place_past_run many zero s c sum h =
+      absurd (omega (arith, separator_within rule buffer s (dropped_is_separator s c h)))
+  place_past_run many (suc d) s c sum h =
+      let here = dropped_is_separator s c h in
+      let within = separator_within rule buffer s here in
+      let next = place_dropped rule buffer s c within h in
+      grind (
+        arith,
+        next,
+        kept_in_run many s c here,
+        place_after_run (s + 1) c,
+        place_past_run many d (s + 1) c,
+      )

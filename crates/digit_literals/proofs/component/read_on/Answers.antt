@@ -1,6 +1,7 @@
 use Rattle.std.proofs.Common.{arith}
 use Rattle.std.proofs.lemmas.Int.{ints}
 use Rattle.lexical_digits.specs.State.{own}
+use Rattle.lexical_digits.proofs.Looks.Needed.{none_needed}
 use Rattle.digit_literals.proofs.States.{owed_same}
 use Rattle.digit_literals.proofs.component.read_on.Goals as goal
 
@@ -12,7 +13,7 @@ returns-in-Some c =
     let off = rw (c.rule-rule.ensures.value, c.get_buffer-text.ensures, c.cursor.ensures.value)
     at c.in-Some.ensures in
     let reads = off.reads (own c.args.component c.args.bytes.now.state) in
-    record { read = c.in-Some.read; passes = grind (arith, ints); is = c.outcome.ensures }
+    record { read = c.in-Some.read; passes = grind (arith, ints, none_needed); is = c.outcome.ensures }
 
 pub returns : goal.returns
 returns c = record {

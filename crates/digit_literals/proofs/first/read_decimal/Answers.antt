@@ -1,6 +1,7 @@
 use Rattle.std.proofs.Common.{arith}
 use Rattle.std.proofs.lemmas.Int.{ints}
 use Rattle.lexical_digits.specs.State.{own}
+use Rattle.lexical_digits.proofs.Looks.Needed.{none_needed}
 use Rattle.lexical_digits.proofs.Calls.Stops.{leading_between}
 use Rattle.digit_literals.proofs.first.read_decimal.Goals as goal
 
@@ -10,4 +11,4 @@ pass_read-requires-clause-within c = let reads = c.in_ok-read.ensures.reads 0 in
 pub returns-clause-reads : goal.returns-clause-reads
 returns-clause-reads c =
     let reads = c.in_ok-read.ensures.reads (own c.args.component c.args.bytes.now.state) in
-    grind (arith, ints, leading_between)
+    grind (arith, ints, leading_between, none_needed)

@@ -1,7 +1,6 @@
-use Rattle.lexical_digits.specs.declared.skip.component.Component.TheVariants.{Integer}
 use Rattle.lexical_digits.proofs.Rule.Supported.{supported_by}
 use Rattle.digit_literals.proofs.integer.read_ahead.Goals as goal
 
 pub read_slice-requires-clause-supported : goal.read_slice-requires-clause-supported
 read_slice-requires-clause-supported c =
-    supported_by _ c.args.word Integer c.of.ensures c.requires.supported
+    supported_by _ c.args.word c.args.component c.of.ensures c.requires.supported

@@ -1,5 +1,5 @@
 use Rattle.std.proofs.Common.{ap, arith, length, length-drop, ◌≡◌, ◌-◌, ◌∙◌}
-use Rattle.lexical_digits.specs.Stop.{leading_digits_of}
+use Rattle.lexical_digits.specs.Stop.{stop_of, leading_digits_of}
 use Rattle.lexical_digits.specs.CallTable.{zeros_of, past_zeros_of}
 use Rattle.lexical_digits.specs.declared.skip.component.Component.TheVariants.{Integer}
 use Rattle.digit_uses.proofs.figures.read_figures.Goals as goal
@@ -30,3 +30,10 @@ pub returns-clause-others : goal.returns-clause-others
 returns-clause-others c =
     let zeros = c.pass_zeros-zeros.ensures.zeros ∙ ap (zeros_of Integer) c.new-bytes.ensures.state
     in omega (arith, returns-clause-all c, zeros)
+
+pub returns-clause-end : goal.returns-clause-end
+returns-clause-end c =
+    let stop = c.rest_is_left.ensures.stop_after_zeros Integer _ c.new-bytes.result.holds in
+    c.cursor.ensures.value ∙ ap (λ t. t.cursor) c.pass_digits-significant.ensures.state
+    ∙ ap (stop_of Integer) c.pass_zeros-zeros.ensures.state ∙ stop
+    ∙ ap (stop_of Integer) c.new-bytes.ensures.state

@@ -4,7 +4,7 @@ use Rattle.lexical_digits.specs.State.{State, start, rule_of}
 use Rattle.lexical_digits.specs.CallTable.{drain_of}
 use Rattle.digit_uses.proofs.loops.count_yielded.Given as goal
 
--- those so far, with those to come, are all of them
+-- the digits so far and those to come are all of them
 abbrev pub invariant-loop-byte : goal.invariant-loop-byte
 invariant-loop-byte l =
     let count : State → ℕ = λ s. count_by (is_digit (rule_of l.fn.word l.fn.component))

@@ -1,6 +1,8 @@
 //! How a `Bytes` reads: the one place where word, cursor, shortcuts, run and decision meet.
 //!
-//! A peek and a next try the same cases in the same order. Each case ends the read.
+//! A peek and a next try these cases in order, and each case ends the read. But a peek asks first
+//! whether the byte separates, and answers one that doesn't, digit or not. Where two cases of a
+//! peek end alike, the compiler tests the byte again in the `next` that follows.
 //!
 //! | Case | a peek | a next |
 //! |---|---|---|
@@ -129,6 +131,10 @@ impl<'a> Bytes<'a> {
             return self.peek_decided(component, rule, false);
         }
         let byte = byte_at(self.slc, self.tally.index)?;
+        if !self.rule.is_separator(*byte) {
+            self.tally.look();
+            return Some(byte);
+        }
         if self.shortcuts.is_direct(*byte) {
             self.tally.look();
             return Some(byte);
@@ -137,10 +143,6 @@ impl<'a> Bytes<'a> {
         if let Some(next) = next {
             self.tally.pass_other();
             return Some(next);
-        }
-        if !self.rule.is_separator(*byte) {
-            self.tally.look();
-            return Some(byte);
         }
         let rule = self.rule;
         self.peek_decided(component, rule, saw_next)
@@ -188,13 +190,16 @@ impl<'a> Bytes<'a> {
             self.tally.pass_digit();
             return Some(byte);
         }
-        let (next, saw_next) = inner_digit(self.slc, self.tally, self.shortcuts, *byte);
-        if let Some(next) = next {
-            self.tally.pass_other();
-            self.tally.pass_digit();
-            return Some(next);
-        }
-        if !self.rule.is_separator(*byte) {
+        let mut saw_next = false;
+        if self.shortcuts.inner_separator == *byte as u16 {
+            let (next, saw) = inner_digit(self.slc, self.tally, self.shortcuts, *byte);
+            if let Some(next) = next {
+                self.tally.pass_other();
+                self.tally.pass_digit();
+                return Some(next);
+            }
+            saw_next = saw;
+        } else if !self.rule.is_separator(*byte) {
             self.tally.pass_other();
             return Some(byte);
         }

@@ -147,7 +147,7 @@ impl Tally {
 
     /// Moves the cursor onward. Counts no digit and no look.
     #[inline(always)]
-    fn move_onward(&mut self, index: usize)
+    pub(super) fn move_onward(&mut self, index: usize)
         requires { self.old.index ≤ index }
         ensures { Leaves self.old self.new (λ s. with_cursor s index) index (looks_of self.old) }
     {

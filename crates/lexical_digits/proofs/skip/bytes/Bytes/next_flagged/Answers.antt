@@ -1,10 +1,11 @@
 use Rattle.std.proofs.Common.{false, refl, sym, ◌∙◌, ◌<◌, ap, arith, min, length, ◌+◌, ◌-◌, ◌^◌}
-use Rattle.lexical_digits.specs.Laws.Terms.{is_digit, rule_of, state_of, counts, slice_get_within, and_right, or_parts}
+use Rattle.lexical_digits.specs.Laws.Terms.{is_digit, rule_of, state_of, counts, slice_get_within, false≢true, and_right, or_parts}
 use Rattle.lexical_digits.proofs.Fields.CarriedByCursor.{state_passed, state_moved, carried, carried_on}
 use Rattle.lexical_digits.proofs.Fields.DirectBytes.{rule_by, direct_by, counts_by, other_by}
 use Rattle.lexical_digits.proofs.Fields.AtTheCursor.{here_byte, here_direct, direct_counts, yields_by, yields_end}
 use Rattle.lexical_digits.proofs.Fields.InnerSeparator.{over_by, yields_over, follows_by}
 use Rattle.lexical_digits.proofs.skip.bytes.Bytes.next_flagged.Goals as goal
+use Rattle.lexical_digits.proofs.skip.bytes.Bytes.next_flagged.Goals.{then-self-byte+in_default, else-self-byte+else-not-is_separator}
 
 pub returns-in_err-byte : goal.returns-in_err-byte
 returns-in_err-byte c = rw (sym c.self.view_is)
@@ -35,7 +36,7 @@ returns-then-is_direct c =
 pub invariant_of-self-inside-in-Some : goal.invariant_of-self-inside-in-Some
 invariant_of-self-inside-in-Some c =
     let b = c.self.inside in
-    let over = rw c.in-Some.is at c.inner_digit-saw_next.ensures.digit in
+    let over = rw c.in-Some.is at c.inner_digit-saw.ensures.digit in
     let within = slice_get_within b.slc.now _ _ over.next in
     let moved = carried b c.pass_other.ensures (state_moved _ _ b.holds (omega (arith, within))) in
     let after : c.pass_other.new.self.index < length b.slc.now =
@@ -47,7 +48,7 @@ returns-in-Some c =
     let b = c.self.inside in
     let reader = c.is_reader.ensures c.if-not-is_reader.false in
     let over = over_by b _ reader _ c.is_direct.ensures.fits c.in_ok-byte.ensures _
-    (rw c.in-Some.is at c.inner_digit-saw_next.ensures.digit) in
+    (rw c.in-Some.is at c.inner_digit-saw.ensures.digit) in
     rw (sym c.self.view_is) (yields_over _ _ _ _ c.pass_other.new.self _ over
     (c.pass_other.ensures.state b.slc.now b.format) c.pass_other.ensures.index
     (c.pass_other.ensures.reader ∙ reader) (c.pass_other.ensures.is_counting ∙ counts_by b _ reader)
@@ -85,6 +86,10 @@ next_decided-requires-2-clause-rule c = rw (sym c.self.view_is)
     (rule_by c.self.inside _ (c.is_reader.ensures c.if-not-is_reader.false))
 
 pub next_decided-requires-2-clause-saw_next : goal.next_decided-requires-2-clause-saw_next
-next_decided-requires-2-clause-saw_next c e = rw (sym c.self.view_is)
-    (follows_by c.self.inside _ (c.is_reader.ensures c.if-not-is_reader.false) _
-    c.is_direct.ensures.fits c.in_ok-byte.ensures (c.inner_digit-saw_next.ensures.saw_next e))
+next_decided-requires-2-clause-saw_next c = elim c.if-self-byte.branch [
+  | then-self-byte+in_default w ↦ λ e. rw (sym c.self.view_is)
+      (follows_by c.self.inside _ (c.is_reader.ensures c.if-not-is_reader.false) _
+      c.is_direct.ensures.fits c.in_ok-byte.ensures
+      (w.inner_digit-saw.ensures.saw_next (sym w.saw_next-is ∙ e)))
+  | else-self-byte+else-not-is_separator w ↦ λ e. absurd (false≢true (sym w.saw_next-is ∙ e))
+]

@@ -10,10 +10,25 @@ pub returns-in_err-byte : goal.returns-in_err-byte
 returns-in_err-byte c = rw (sym c.self.view_is, c.from_residual.ensures)
     (peeks_end c.args.component _ _ (sym c.in_err-byte.ensures) refl)
 
--- ---- a direct byte
+-- ---- no separator
 
 pub invariant_of-self-inside : goal.invariant_of-self-inside
 invariant_of-self-inside c = carried c.self.inside c.look.ensures c.self.inside.holds
+
+pub returns-then-not-is_separator : goal.returns-then-not-is_separator
+returns-then-not-is_separator c =
+    let b = c.self.inside in
+    let other = other_by b _ (c.is_reader.ensures c.if-not-is_reader.false) _
+    (sym c.is_separator.ensures ∙ c.if-not-is_separator.true) in
+    rw (sym c.self.view_is) (peeks_at c.args.component _ _ _
+    (here_byte _ _ _ c.in_ok-byte.ensures other) c.in_ok-byte.ensures
+    (c.look.ensures.state b.slc.now b.format) refl c.look.ensures.looks)
+
+-- ---- a separator of a component without flags
+
+pub invariant_of-self-inside-then-is_direct : goal.invariant_of-self-inside-then-is_direct
+invariant_of-self-inside-then-is_direct c =
+    carried c.self.inside c.look-then-is_direct.ensures c.self.inside.holds
 
 pub returns-then-is_direct : goal.returns-then-is_direct
 returns-then-is_direct c =
@@ -21,7 +36,8 @@ returns-then-is_direct c =
     c.is_direct.ensures.fits (sym c.is_direct.ensures.value ∙ c.if-is_direct.true) in
     rw (sym c.self.view_is) (peeks_at c.args.component _ _ _
     (here_direct _ _ _ c.in_ok-byte.ensures direct) c.in_ok-byte.ensures
-    (c.look.ensures.state c.self.inside.slc.now c.self.inside.format) refl c.look.ensures.looks)
+    (c.look-then-is_direct.ensures.state c.self.inside.slc.now c.self.inside.format) refl
+    c.look-then-is_direct.ensures.looks)
 
 -- ---- a lone separator, and the digit after it
 
@@ -40,23 +56,6 @@ returns-in-Some c =
     (rw c.in-Some.is at c.inner_digit-saw_next.ensures.digit) in
     rw (sym c.self.view_is) (peeks_over c.args.component _ _ _ over
     (c.pass_other.ensures.state b.slc.now b.format) refl c.pass_other.ensures.looks)
-
--- ---- neither digit nor separator
-
-pub invariant_of-self-inside-then-not-is_separator :
-    goal.invariant_of-self-inside-then-not-is_separator
-invariant_of-self-inside-then-not-is_separator c =
-    carried c.self.inside c.look-then-not-is_separator.ensures c.self.inside.holds
-
-pub returns-then-not-is_separator : goal.returns-then-not-is_separator
-returns-then-not-is_separator c =
-    let b = c.self.inside in
-    let other = other_by b _ (c.is_reader.ensures c.if-not-is_reader.false) _
-    (sym c.is_separator.ensures ∙ c.if-not-is_separator.true) in
-    rw (sym c.self.view_is) (peeks_at c.args.component _ _ _
-    (here_byte _ _ _ c.in_ok-byte.ensures other) c.in_ok-byte.ensures
-    (c.look-then-not-is_separator.ensures.state b.slc.now b.format) refl
-    c.look-then-not-is_separator.ensures.looks)
 
 -- ---- another separator
 

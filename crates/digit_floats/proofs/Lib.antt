@@ -1,0 +1,5 @@
+mod Decimals
+mod Numbers
+mod Plain
+mod Signs
+mod Tens

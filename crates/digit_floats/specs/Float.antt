@@ -1,0 +1,146 @@
+-- The float at a position of a text: its digits, its parts in std's word, and why there is none.
+use Rattle.std.specs.Prelude.{◌≡◌, ⊤, ℕ, ◌+◌, ◌-◌, ◌<◌, ◌≤◌, Bool, true, if◌then◌else◌, ◌&&◌, List, [], length}
+use Rattle.std.specs.Float.{Float, Format}
+use Rattle.std.specs.Float.Numeral.{Parts, nearest_float}
+use Rattle.lexical_format.specs.Word.{mantissa_radix, exponent_radix}
+use Rattle.lexical_digits.specs.declared.skip.component.Component.{Component}
+use Rattle.lexical_digits.specs.declared.skip.component.Component.TheVariants.{Integer, Fraction, Exponent}
+use Rattle.lexical_digits.specs.State.{rule_of}
+use Rattle.lexical_digits.specs.Stop.{stop}
+use Rattle.digit_literals.specs.After.{digits_between}
+use Rattle.digit_floats.specs.declared.FloatError.{FloatError}
+use Rattle.digit_floats.specs.declared.FloatError.TheVariants.{Empty, EmptyExponent, Invalid, TooLong}
+use Rattle.digit_floats.specs.Bytes.{stands, is_sign, is_minus, is_point, is_mark}
+
+-- mantissa and exponent are written in decimal
+abbrev pub IsDecimal : ℕ → Type 0
+IsDecimal word = (mantissa_radix word ≡ 10) × (exponent_radix word ≡ 10)
+
+-- the position after a sign, if one stands there
+abbrev pub past_sign : List ℕ → ℕ → ℕ
+past_sign text at = if stands is_sign text at then at + 1 else at
+
+module _ (word : ℕ) (text : List ℕ) where
+  -- where the digits of a component end that begin at a position, and these digits
+  unfoldable pub digits_end : Component → ℕ → ℕ
+  digits_end k at = stop (rule_of word k) text at 0
+
+  unfoldable pub digits_from : Component → ℕ → List ℕ
+  digits_from k at = digits_between (rule_of word k) text at (digits_end k at)
+
+  -- the fraction at a position: after a point, if one stands there
+  unfoldable pub fraction_digits : ℕ → List ℕ
+  fraction_digits at = if stands is_point text at then digits_from Fraction (at + 1) else []
+
+  unfoldable pub fraction_end : ℕ → ℕ
+  fraction_end at = if stands is_point text at then digits_end Fraction (at + 1) else at
+
+  -- the exponent at a position: after a mark and a sign, if a mark stands there
+  unfoldable pub exponent_digits : ℕ → List ℕ
+  exponent_digits at =
+      if stands is_mark text at then digits_from Exponent (past_sign text (at + 1)) else []
+
+  unfoldable pub exponent_end : ℕ → ℕ
+  exponent_end at =
+      if stands is_mark text at then digits_end Exponent (past_sign text (at + 1)) else at
+
+  unfoldable pub exponent_negative : ℕ → Bool
+  exponent_negative at = stands is_mark text at && stands is_minus text (at + 1)
+
+  -- ---- the number at a position, which follows any sign
+
+  -- where integer and fraction end
+  abbrev pub mantissa_end : ℕ → ℕ
+  mantissa_end at = fraction_end (digits_end Integer at)
+
+  -- its parts in std's word: what `scan_numeral` finds in a text without separators
+  abbrev pub parts_at : ℕ → Parts
+  parts_at at = record {
+    whole = digits_from Integer at;
+    point = stands is_point text (digits_end Integer at);
+    fraction = fraction_digits (digits_end Integer at);
+    exponent_negative = exponent_negative (mantissa_end at);
+    exponent = exponent_digits (mantissa_end at);
+    len = exponent_end (mantissa_end at) - at;
+  }
+
+  -- the position after it
+  abbrev pub number_end : ℕ → ℕ
+  number_end at = exponent_end (mantissa_end at)
+
+  -- ---- the float at a position, with a sign
+
+  -- the float nearest to the number that the parts write
+  abbrev pub float_at : Format → ℕ → Float
+  float_at f at = nearest_float f (stands is_minus text at) (parts_at (past_sign text at))
+
+  abbrev pub float_end : ℕ → ℕ
+  float_end at = number_end (past_sign text at)
+
+  -- ---- why there is none
+
+  abbrev pub mantissa_count : ℕ → ℕ
+  mantissa_count at =
+      length (digits_from Integer at) + length (fraction_digits (digits_end Integer at))
+
+  -- how many digits integer, fraction and exponent have together
+  abbrev pub digit_count : ℕ → ℕ
+  digit_count at = mantissa_count at + length (exponent_digits (mantissa_end at))
+
+  -- neither integer nor fraction has a digit; they end here
+  pub record HasNoDigit (at stop : ℕ) : Type 0 where
+    pub none : mantissa_count at ≡ 0
+    pub stops : stop ≡ mantissa_end at
+
+  -- a mark follows a digit, and no digit the mark; one would be here
+  pub record HasNoExponent (at stop : ℕ) : Type 0 where
+    pub some : 0 < mantissa_count at
+    pub mark : stands is_mark text (mantissa_end at) ≡ true
+    pub none : length (exponent_digits (mantissa_end at)) ≡ 0
+    pub stops : stop ≡ number_end at
+
+  -- there is a digit, and one after any mark
+  pub record HasFloat (at : ℕ) : Type 0 where
+    pub some : 0 < mantissa_count at
+    pub exponent : stands is_mark text (mantissa_end at) ≡ true
+        → 0 < length (exponent_digits (mantissa_end at))
+
+  -- there is a float that ends here, with more than 1,000 digits
+  pub record IsLong (at stop : ℕ) : Type 0 where
+    pub is : HasFloat at
+    pub stops : stop ≡ number_end at
+    pub many : 1000 < digit_count at
+
+  -- there is one that ends here, with fewer, and it isn't the whole text
+  pub record IsFollowed (at stop : ℕ) : Type 0 where
+    pub is : HasFloat at
+    pub stops : stop ≡ number_end at
+    pub few : digit_count at ≤ 1000
+    pub before_end : stop < length text
+
+  -- of the number from a position on, after any sign
+  abbrev pub IsFault : ℕ → FloatError → Type 0
+  IsFault at (Empty stop) = HasNoDigit at stop
+  IsFault at (EmptyExponent stop) = HasNoExponent at stop
+  IsFault at (TooLong stop) = IsLong at stop
+  IsFault at (Invalid stop) = ⊥
+
+  -- of a text that is to be one float from a position on, after any sign
+  abbrev pub IsWholeFault : ℕ → FloatError → Type 0
+  IsWholeFault at (Empty stop) = HasNoDigit at stop
+  IsWholeFault at (EmptyExponent stop) = HasNoExponent at stop
+  IsWholeFault at (TooLong stop) = IsLong at stop
+  IsWholeFault at (Invalid stop) = IsFollowed at stop
+
+-- the words of the mantissa, and of the exponent, to be named in an attribute
+unfoldable pub mantissas : ⊤
+unfolding fraction_end fraction_digits
+mantissas = tt
+
+unfoldable pub exponents : ⊤
+unfolding exponent_end exponent_digits exponent_negative
+exponents = tt
+
+unfoldable pub components : ⊤
+unfolding digits_from digits_end
+components = tt

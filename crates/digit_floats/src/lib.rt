@@ -1,0 +1,238 @@
+//! The nearest `f64` or `f32` of a text with digit separators.
+#![tactic(auto)]
+
+ghost use Rattle.std.specs.Prelude.{◌≡◌, ◌<◌, ◌≤◌, ◌*◌, ◌^◌, false, IfSome, length, Some, None, MatchOption, IsTrue, IfOk, IfErr, OnOk};
+ghost use Rattle.std.specs.Float as Ieee;
+ghost use Rattle.std.specs.Float.{Format, NotNan, binary32, binary64};
+ghost use Rattle.std.specs.Float.Ieee.{neg, round};
+ghost use Rattle.std.specs.Float.Parse.{parse_float as std_float};
+ghost use Rattle.lexical_format.specs.Word.{is_supported};
+ghost use Rattle.digit_floats.specs.Float.{IsDecimal, past_sign, float_at, float_end, digit_count, HasFloat, IsFault, IsWholeFault};
+
+mod exact;
+mod read;
+#[cfg(test)]
+mod tests;
+mod text;
+
+use exact::{round_exact, ten_to_f32, ten_to_f64};
+use read::{read_exponent, read_mantissa, read_sign};
+use text::{MOST_DIGITS, round_digits};
+
+/// `f64` and `f32`.
+pub trait Float: Copy {
+    /// The format, in std's word.
+    ghost format: { Format };
+
+    /// The number that a float is.
+    ghost value: { Self → Ieee.Float };
+
+    /// The float that a text is, by std's `parse`.
+    fn of_text(text: &str) -> Option<Self>
+        ensures { MatchOption result (std_float format text.now ≡ None)
+            (λ x. std_float format text.now ≡ Some (value x)) };
+
+    /// The digits times ten to a power, if both factors are exact.
+    fn times_ten_to(digits: u64, tens: u64) -> Option<Self>
+        requires { 0 < digits }
+        ensures { IfSome result (λ x. value x ≡ round format false (digits * 10 ^ tens) 1) };
+
+    /// The digits over ten to a power, if both are exact.
+    fn over_ten_to(digits: u64, tens: u64) -> Option<Self>
+        requires { 0 < digits }
+        ensures { IfSome result (λ x. value x ≡ round format false digits (10 ^ tens)) };
+
+    /// The float with the other sign.
+    fn negated(self) -> Self
+        ensures { value result ≡ neg (value self) };
+}
+
+impl Float for f64 {
+    ghost format = { binary64 };
+
+    ghost value = { λ x. x };
+
+    #[inline]
+    fn of_text(text: &str) -> Option<f64> {
+        match text.parse::<f64>() {
+            Ok(x) => Some(x),
+            Err(_) => None,
+        }
+    }
+
+    #[inline(always)]
+    fn times_ten_to(digits: u64, tens: u64) -> Option<f64> {
+        if digits > 1 << 53 || tens > 22 {
+            return None;
+        }
+        Some(digits as f64 * ten_to_f64(tens))
+    }
+
+    #[inline(always)]
+    fn over_ten_to(digits: u64, tens: u64) -> Option<f64> {
+        if digits > 1 << 53 || tens > 22 {
+            return None;
+        }
+        Some(digits as f64 / ten_to_f64(tens))
+    }
+
+    #[inline(always)]
+    fn negated(self) -> f64 {
+        -self
+    }
+}
+
+impl Float for f32 {
+    ghost format = { binary32 };
+
+    ghost value = { λ x. x };
+
+    #[inline]
+    fn of_text(text: &str) -> Option<f32> {
+        match text.parse::<f32>() {
+            Ok(x) => Some(x),
+            Err(_) => None,
+        }
+    }
+
+    #[inline(always)]
+    fn times_ten_to(digits: u64, tens: u64) -> Option<f32> {
+        if digits > 1 << 24 || tens > 10 {
+            return None;
+        }
+        Some(digits as f32 * ten_to_f32(tens))
+    }
+
+    #[inline(always)]
+    fn over_ten_to(digits: u64, tens: u64) -> Option<f32> {
+        if digits > 1 << 24 || tens > 10 {
+            return None;
+        }
+        Some(digits as f32 / ten_to_f32(tens))
+    }
+
+    #[inline(always)]
+    fn negated(self) -> f32 {
+        -self
+    }
+}
+
+/// Why there is no float. A position counts bytes from the start of the text, from 0.
+#[derive(Clone, Copy, Debug, PartialEq, Eq)]
+pub enum FloatError {
+    /// Neither integer nor fraction has a digit; they end here.
+    Empty(usize),
+    /// No digit follows the mark of an exponent; one would be here.
+    EmptyExponent(usize),
+    /// The byte at this position is no part of the float before it.
+    Invalid(usize),
+    /// Integer, fraction and exponent together have more than 1,000 digits; the float ends here.
+    TooLong(usize),
+}
+
+/// The float that begins at a position of a text, and the position after it: a sign, digits with a
+/// point before, among or after them, and an exponent after `e` or `E`. Requires that the word is
+/// supported, and that its mantissa and exponent are decimal. `inf` and `nan` are no digits, so
+/// they are refused as `Empty`: a word says nothing about them.
+#[inline]
+#[tactic(auto, using(crate::proofs::Numbers::round_number))]
+pub fn read_float_from<F: Float>(
+    text: &[u8],
+    word: u128,
+    start: usize,
+) -> Result<(F, usize), FloatError>
+    requires supported { IsTrue (is_supported word) }
+    requires decimal { IsDecimal word }
+    requires within { start ≤ length text.now }
+    ensures value { IfOk result (λ r. F.value r.0 ≡ float_at word text.now F.format start) }
+    ensures number { IfOk result (λ r. NotNan (F.value r.0)) }
+    ensures end { IfOk result (λ r. r.1 ≡ float_end word text.now start) }
+    ensures within { IfOk result (λ r. r.1 ≤ length text.now) }
+    ensures is { OnOk result (HasFloat word text.now (past_sign text.now start)) }
+    ensures short { OnOk result (digit_count word text.now (past_sign text.now start) ≤ 1000) }
+    ensures fault { IfErr result (IsFault word text.now (past_sign text.now start)) }
+{
+    let (negative, at) = read_sign(text, start);
+    let mantissa = read_mantissa(text, word, at);
+    if mantissa.digits == 0 {
+        return Err(FloatError::Empty(mantissa.end));
+    }
+    let power = match read_exponent(text, word, mantissa.end) {
+        Ok(power) => power,
+        Err(stop) => return Err(FloatError::EmptyExponent(stop)),
+    };
+    if mantissa.digits > MOST_DIGITS || power.digits > MOST_DIGITS - mantissa.digits {
+        return Err(FloatError::TooLong(power.end));
+    }
+    if mantissa.dropped == 0 && power.dropped == 0 && power.value <= 0xffff_ffff {
+        let places = mantissa.places as u64;
+        if let Some(x) = round_exact::<F>(
+            negative,
+            mantissa.value,
+            places,
+            power.negative,
+            power.value,
+        ) {
+            return Ok((x, power.end));
+        }
+    }
+    let x = round_digits::<F>(
+        negative,
+        &text[at..mantissa.whole_end],
+        &text[mantissa.fraction_start..mantissa.end],
+        power.negative,
+        &text[power.start..power.end],
+    );
+    Ok((x, power.end))
+}
+
+/// [`read_float_from`] from the start of a text on.
+#[inline]
+pub fn read_float<F: Float>(text: &[u8], word: u128) -> Result<(F, usize), FloatError>
+    requires supported { IsTrue (is_supported word) }
+    requires decimal { IsDecimal word }
+    ensures value { IfOk result (λ r. F.value r.0 ≡ float_at word text.now F.format 0) }
+    ensures number { IfOk result (λ r. NotNan (F.value r.0)) }
+    ensures end { IfOk result (λ r. r.1 ≡ float_end word text.now 0) }
+    ensures within { IfOk result (λ r. r.1 ≤ length text.now) }
+    ensures is { OnOk result (HasFloat word text.now (past_sign text.now 0)) }
+    ensures short { OnOk result (digit_count word text.now (past_sign text.now 0) ≤ 1000) }
+    ensures fault { IfErr result (IsFault word text.now (past_sign text.now 0)) }
+{
+    read_float_from::<F>(text, word, 0)
+}
+
+/// The float that a text is from a position on, as by [`read_float_from`].
+#[inline]
+pub fn parse_float_from<F: Float>(text: &[u8], word: u128, start: usize) -> Result<F, FloatError>
+    requires supported { IsTrue (is_supported word) }
+    requires decimal { IsDecimal word }
+    requires within { start ≤ length text.now }
+    ensures value { IfOk result (λ x. F.value x ≡ float_at word text.now F.format start) }
+    ensures number { IfOk result (λ x. NotNan (F.value x)) }
+    ensures is { OnOk result (HasFloat word text.now (past_sign text.now start)) }
+    ensures short { OnOk result (digit_count word text.now (past_sign text.now start) ≤ 1000) }
+    ensures whole { OnOk result (float_end word text.now start ≡ length text.now) }
+    ensures fault { IfErr result (IsWholeFault word text.now (past_sign text.now start)) }
+{
+    let (x, end) = read_float_from::<F>(text, word, start)?;
+    if end < text.len() {
+        return Err(FloatError::Invalid(end));
+    }
+    Ok(x)
+}
+
+/// The float that a text is, as by [`read_float_from`].
+#[inline]
+pub fn parse_float<F: Float>(text: &[u8], word: u128) -> Result<F, FloatError>
+    requires supported { IsTrue (is_supported word) }
+    requires decimal { IsDecimal word }
+    ensures value { IfOk result (λ x. F.value x ≡ float_at word text.now F.format 0) }
+    ensures number { IfOk result (λ x. NotNan (F.value x)) }
+    ensures is { OnOk result (HasFloat word text.now (past_sign text.now 0)) }
+    ensures short { OnOk result (digit_count word text.now (past_sign text.now 0) ≤ 1000) }
+    ensures whole { OnOk result (float_end word text.now 0 ≡ length text.now) }
+    ensures fault { IfErr result (IsWholeFault word text.now (past_sign text.now 0)) }
+{
+    parse_float_from::<F>(text, word, 0)
+}

@@ -1,0 +1,74 @@
+//! What a language says of its integer literals.
+
+ghost use Rattle.std.specs.Prelude.{◌≡◌, IsTrue, IfSome};
+ghost use Rattle.digit_languages.specs.Words.{Serves, octal_of, IsLanguage};
+
+use lexical_format::is_supported;
+
+/// How a language writes integers. A prefix is `0` and a letter.
+#[derive(Clone, Copy, Debug, PartialEq, Eq)]
+pub struct Language {
+    /// The word of a literal without a prefix.
+    pub decimal: u128,
+    /// The word of the digits after `0b`, if the language has that prefix.
+    pub binary: Option<u128>,
+    /// The word of the digits after `0o`.
+    pub octal: Option<u128>,
+    /// The word of the digits after `0x`.
+    pub hexadecimal: Option<u128>,
+    /// Whether the letter of a prefix may also be in upper case.
+    pub upper: bool,
+    /// What a first `0` says that begins no prefix.
+    pub first_zero: FirstZero,
+}
+
+/// What a first `0` says.
+#[derive(Clone, Copy, Debug, PartialEq, Eq)]
+pub enum FirstZero {
+    /// Nothing: it is a digit as any other.
+    Plain,
+    /// The literal is octal. It is read by this word, from the `0` on.
+    Octal(u128),
+    /// The literal ends after it, or is refused.
+    Alone,
+    /// All digits are `0`, or the literal is refused.
+    Zeros,
+}
+
+impl FirstZero {
+    /// By which word the literal is read, if not by the decimal one.
+    #[inline(always)]
+    pub(crate) fn octal(self) -> Option<u128>
+        ensures { result ≡ octal_of self }
+    {
+        match self {
+            FirstZero::Octal(word) => Some(word),
+            FirstZero::Plain | FirstZero::Alone | FirstZero::Zeros => None,
+        }
+    }
+}
+
+/// Whether each word of a language is supported, as [`read_literal`](super::read_literal) requires.
+#[inline(always)]
+pub fn is_language(language: Language) -> bool
+    ensures is { IsTrue result → IsLanguage language }
+    ensures only { IsLanguage language → IsTrue result }
+{
+    is_supported(language.decimal)
+        && serves(language.binary)
+        && serves(language.octal)
+        && serves(language.hexadecimal)
+        && serves(language.first_zero.octal())
+}
+
+/// Whether a word is supported, if there is one.
+#[inline(always)]
+fn serves(word: Option<u128>) -> bool
+    ensures is { IsTrue result → IfSome word Serves }
+    ensures only { IfSome word Serves → IsTrue result }
+{
+    match word {
+        Some(word) => is_supported(word),
+        None => true,
+    }
+}

@@ -1,0 +1,12 @@
+//! Integer literals of languages: a prefix says the radix, and with it the format word.
+#![tactic(auto)]
+
+mod language;
+pub mod languages;
+mod literal;
+
+pub use self::language::{FirstZero, Language, is_language};
+pub use self::literal::{LanguageError, Literal, read_literal};
+
+#[cfg(test)]
+mod tests;

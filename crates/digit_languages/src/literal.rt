@@ -1,0 +1,181 @@
+//! The integer literal that stands at a position.
+
+ghost use Rattle.std.specs.Prelude.{◌≡◌, ◌+◌, ◌-◌, ◌^◌, ◌<◌, ◌≤◌, Some, length, is_some, IfOk, IfErr, IsTrue, IfSome};
+ghost use Rattle.lexical_format.specs.Word.{is_supported};
+ghost use Rattle.digit_literals.specs.Numbers.{stands};
+ghost use Rattle.digit_languages.specs.Words.{IsLanguage};
+ghost use Rattle.digit_languages.specs.Literals.{has_prefix, prefix_word, plain_word, refuses, IsLiteral, IsNoLiteral, position, message};
+
+use super::language::{FirstZero, Language};
+use digit_literals::{LiteralError, read_wide_from};
+use std::error::Error;
+use std::fmt;
+
+/// A literal that was read.
+#[derive(Clone, Copy, Debug, PartialEq, Eq)]
+pub struct Literal {
+    pub value: u128,
+    /// The word by which its digits were read.
+    pub word: u128,
+    /// Where its digits begin: after the prefix.
+    pub digits: usize,
+    /// Where they end. A suffix begins here.
+    pub end: usize,
+}
+
+/// Why there is no literal. A position counts bytes from the start of the text, from 0.
+#[derive(Clone, Copy, Debug, PartialEq, Eq)]
+pub enum LanguageError {
+    /// The first kept byte after the prefix, at this position, is no digit; or there is none.
+    Empty(usize),
+    /// With the digit at this position the value is above the greatest one.
+    Overflow(usize),
+    /// The language refuses the first `0`, which is at this position.
+    Zero(usize),
+}
+
+impl fmt::Display for LanguageError {
+    ghost output = { λ e. Some (message e) };
+
+    fn fmt<W: fmt::Write>(&self, f: &mut fmt::Formatter<W>) -> fmt::Result {
+        match *self {
+            LanguageError::Empty(at) => write!(f, "there is no digit at {at}"),
+            LanguageError::Overflow(at) => {
+                write!(f, "the number is too large with the digit at {at}")
+            }
+            LanguageError::Zero(at) => write!(f, "the number has a first 0 at {at}"),
+        }
+    }
+}
+
+impl Error for LanguageError {}
+
+/// Whether a byte stands at a position.
+#[inline(always)]
+fn stands(text: &[u8], at: usize, byte: u8) -> bool
+    ensures { result ≡ stands text.now at byte }
+{
+    match text.get(at) {
+        Some(there) => *there == byte,
+        None => false,
+    }
+}
+
+/// Whether the letter of a prefix, in lower case, follows a `0` at the start.
+#[inline(always)]
+fn has_prefix(language: Language, text: &[u8], start: usize, letter: u8) -> bool
+    requires within { start ≤ length text.now }
+    requires lower { 32 ≤ letter }
+    ensures is { result ≡ has_prefix language text.now start letter }
+{
+    stands(text, start, b'0')
+        && (stands(text, start + 1, letter)
+            || (language.upper && stands(text, start + 1, letter - 32)))
+}
+
+/// The word that a prefix at the start says.
+#[inline(always)]
+#[tactic(auto, using(std::proofs::lemmas::Option::gets))]
+fn prefix_word(language: Language, text: &[u8], start: usize) -> Option<u128>
+    requires language { IsLanguage language }
+    requires within { start ≤ length text.now }
+    ensures is { result ≡ prefix_word language text.now start }
+    ensures supported { IfSome result (λ word. IsTrue (is_supported word)) }
+    ensures within { IfSome result (λ _. start + 2 ≤ length text.now) }
+{
+    if has_prefix(language, text, start, b'b') {
+        language.binary
+    } else if has_prefix(language, text, start, b'o') {
+        language.octal
+    } else if has_prefix(language, text, start, b'x') {
+        language.hexadecimal
+    } else {
+        None
+    }
+}
+
+/// The word of a literal without a prefix.
+#[inline(always)]
+fn plain_word(language: Language, text: &[u8], start: usize) -> u128
+    requires { IsLanguage language }
+    ensures is { result ≡ plain_word language text.now start }
+    ensures supported { IsTrue (is_supported result) }
+{
+    if !stands(text, start, b'0') {
+        return language.decimal;
+    }
+    match language.first_zero.octal() {
+        Some(word) => word,
+        None => language.decimal,
+    }
+}
+
+/// Whether a language refuses a literal without a prefix for its first `0`.
+#[inline(always)]
+fn refuses(language: Language, text: &[u8], start: usize, value: u128, end: usize) -> bool
+    requires { start ≤ length text.now }
+    ensures { result ≡ refuses language text.now start value end }
+{
+    stands(text, start, b'0')
+        && match language.first_zero {
+            FirstZero::Plain | FirstZero::Octal(_) => false,
+            FirstZero::Alone => start + 1 < end,
+            FirstZero::Zeros => value > 0,
+        }
+}
+
+/// The integer literal of a language that begins at `start`, if its value is at most `most`: a
+/// prefix that the language has, and then digits as its word says. What follows, such as a suffix,
+/// isn't read. Requires that `start` is within the text and the language's words are supported.
+///
+/// ```text
+/// of Rust, `0xff_u8`: value 255, digits 2, end 5        `0b`: Err(Empty(2))
+/// of Java, `017`: value 15                              of Zig: Err(Zero(0))
+/// ```
+#[inline(always)]
+pub fn read_literal(
+    text: &[u8],
+    start: usize,
+    language: Language,
+    most: u128,
+) -> Result<Literal, LanguageError>
+    requires within { start ≤ length text.now }
+    requires language { IsLanguage language }
+    ensures ok { IfOk result (IsLiteral language text.now start most) }
+    ensures none { IfErr result (IsNoLiteral language text.now start most) }
+    ensures end { let n = length text.now in
+        IfOk result (λ read. (start ≤ read.end) × (read.end ≤ n)) }
+    ensures at { let n = length text.now in
+        IfErr result (λ error. (start ≤ position error) × (position error ≤ n)) }
+{
+    if let Some(word) = prefix_word(language, text, start) {
+        let digits = start + 2;
+        return match read_wide_from(text, word, digits, most) {
+            Ok((value, end)) => Ok(Literal {
+                value,
+                word,
+                digits,
+                end,
+            }),
+            Err(LiteralError::Empty(at)) => Err(LanguageError::Empty(at)),
+            Err(LiteralError::Overflow(at)) => Err(LanguageError::Overflow(at)),
+        };
+    }
+    let word = plain_word(language, text, start);
+    match read_wide_from(text, word, start, most) {
+        Ok((value, end)) => {
+            if refuses(language, text, start, value, end) {
+                Err(LanguageError::Zero(start))
+            } else {
+                Ok(Literal {
+                    value,
+                    word,
+                    digits: start,
+                    end,
+                })
+            }
+        }
+        Err(LiteralError::Empty(at)) => Err(LanguageError::Empty(at)),
+        Err(LiteralError::Overflow(at)) => Err(LanguageError::Overflow(at)),
+    }
+}

@@ -1,0 +1,405 @@
+//! Numbers of any integer type.
+
+ghost use Rattle.std.specs.Prelude.{◌≡◌, ℕ, ℤ, ◌+◌, ◌^◌, ◌-◌, ◌<◌, ◌≤◌, pos, Bool, if◌then◌else◌, nat_lt, length, IfOk, IfErr, IsTrue};
+ghost use Rattle.lexical_format.specs.Word.{is_supported};
+ghost use Rattle.lexical_digits.specs.declared.skip.component.Component.TheVariants.{Integer};
+ghost use Rattle.lexical_digits.specs.State.{rule_of};
+ghost use Rattle.digit_literals.specs.Outcomes.{IfEmpty, IfOverflow};
+ghost use Rattle.digit_literals.specs.Numbers.{IsNumberFrom, ReadsNumber, IsNumberFault, digits_from, is_negative_from, most_from, stands};
+ghost use Rattle.digit_literals.specs.Whole.{signed, position};
+
+use super::wide::read_wide_from;
+use super::{LiteralError, ParseError};
+
+/// A type of integers: `u8` to `u128`, `i8` to `i128`, `usize` and `isize`.
+pub trait Number: Copy {
+    /// The greatest number.
+    const MOST: u128;
+
+    /// The magnitude of the least number. It is 0 exactly if the type has no sign.
+    const LEAST: u128;
+
+    ghost MOST: { ℕ };
+
+    ghost LEAST: { ℕ };
+
+    /// The number that a value is.
+    ghost number: { Self → ℤ };
+
+    /// The value of a magnitude with its sign. Requires that the type has it.
+    fn of_magnitude(is_negative: bool, magnitude: u128) -> Self
+        requires { magnitude ≤ (if is_negative then LEAST else MOST) }
+        ensures { number result ≡ signed is_negative magnitude };
+}
+
+impl Number for u8 {
+    const MOST: u128 = u8::MAX as u128;
+
+    const LEAST: u128 = 0;
+
+    ghost MOST = { 2 ^ 8 - 1 };
+
+    ghost LEAST = { 0 };
+
+    ghost number = { λ x. pos x };
+
+    #[inline(always)]
+    fn of_magnitude(is_negative: bool, magnitude: u128) -> u8 {
+        if is_negative { 0 } else { magnitude as u8 }
+    }
+}
+
+impl Number for u16 {
+    const MOST: u128 = u16::MAX as u128;
+
+    const LEAST: u128 = 0;
+
+    ghost MOST = { 2 ^ 16 - 1 };
+
+    ghost LEAST = { 0 };
+
+    ghost number = { λ x. pos x };
+
+    #[inline(always)]
+    fn of_magnitude(is_negative: bool, magnitude: u128) -> u16 {
+        if is_negative { 0 } else { magnitude as u16 }
+    }
+}
+
+impl Number for u32 {
+    const MOST: u128 = u32::MAX as u128;
+
+    const LEAST: u128 = 0;
+
+    ghost MOST = { 2 ^ 32 - 1 };
+
+    ghost LEAST = { 0 };
+
+    ghost number = { λ x. pos x };
+
+    #[inline(always)]
+    fn of_magnitude(is_negative: bool, magnitude: u128) -> u32 {
+        if is_negative { 0 } else { magnitude as u32 }
+    }
+}
+
+impl Number for u64 {
+    const MOST: u128 = u64::MAX as u128;
+
+    const LEAST: u128 = 0;
+
+    ghost MOST = { 2 ^ 64 - 1 };
+
+    ghost LEAST = { 0 };
+
+    ghost number = { λ x. pos x };
+
+    #[inline(always)]
+    fn of_magnitude(is_negative: bool, magnitude: u128) -> u64 {
+        if is_negative { 0 } else { magnitude as u64 }
+    }
+}
+
+impl Number for u128 {
+    const MOST: u128 = u128::MAX;
+
+    const LEAST: u128 = 0;
+
+    ghost MOST = { 2 ^ 128 - 1 };
+
+    ghost LEAST = { 0 };
+
+    ghost number = { λ x. pos x };
+
+    #[inline(always)]
+    fn of_magnitude(is_negative: bool, magnitude: u128) -> u128 {
+        if is_negative { 0 } else { magnitude }
+    }
+}
+
+impl Number for usize {
+    const MOST: u128 = usize::MAX as u128;
+
+    const LEAST: u128 = 0;
+
+    ghost MOST = { 2 ^ 64 - 1 };
+
+    ghost LEAST = { 0 };
+
+    ghost number = { λ x. pos x };
+
+    #[inline(always)]
+    fn of_magnitude(is_negative: bool, magnitude: u128) -> usize {
+        if is_negative { 0 } else { magnitude as usize }
+    }
+}
+
+impl Number for i8 {
+    const MOST: u128 = (1 << 7) - 1;
+
+    const LEAST: u128 = 1 << 7;
+
+    ghost MOST = { 2 ^ 7 - 1 };
+
+    ghost LEAST = { 2 ^ 7 };
+
+    ghost number = { λ x. x };
+
+    #[inline(always)]
+    fn of_magnitude(is_negative: bool, magnitude: u128) -> i8 {
+        if is_negative {
+            -(magnitude as i128) as i8
+        } else {
+            magnitude as i8
+        }
+    }
+}
+
+impl Number for i16 {
+    const MOST: u128 = (1 << 15) - 1;
+
+    const LEAST: u128 = 1 << 15;
+
+    ghost MOST = { 2 ^ 15 - 1 };
+
+    ghost LEAST = { 2 ^ 15 };
+
+    ghost number = { λ x. x };
+
+    #[inline(always)]
+    fn of_magnitude(is_negative: bool, magnitude: u128) -> i16 {
+        if is_negative {
+            -(magnitude as i128) as i16
+        } else {
+            magnitude as i16
+        }
+    }
+}
+
+impl Number for i32 {
+    const MOST: u128 = (1 << 31) - 1;
+
+    const LEAST: u128 = 1 << 31;
+
+    ghost MOST = { 2 ^ 31 - 1 };
+
+    ghost LEAST = { 2 ^ 31 };
+
+    ghost number = { λ x. x };
+
+    #[inline(always)]
+    fn of_magnitude(is_negative: bool, magnitude: u128) -> i32 {
+        if is_negative {
+            -(magnitude as i128) as i32
+        } else {
+            magnitude as i32
+        }
+    }
+}
+
+impl Number for i64 {
+    const MOST: u128 = (1 << 63) - 1;
+
+    const LEAST: u128 = 1 << 63;
+
+    ghost MOST = { 2 ^ 63 - 1 };
+
+    ghost LEAST = { 2 ^ 63 };
+
+    ghost number = { λ x. x };
+
+    #[inline(always)]
+    fn of_magnitude(is_negative: bool, magnitude: u128) -> i64 {
+        if is_negative {
+            -(magnitude as i128) as i64
+        } else {
+            magnitude as i64
+        }
+    }
+}
+
+impl Number for i128 {
+    const MOST: u128 = (1 << 127) - 1;
+
+    const LEAST: u128 = 1 << 127;
+
+    ghost MOST = { 2 ^ 127 - 1 };
+
+    ghost LEAST = { 2 ^ 127 };
+
+    ghost number = { λ x. x };
+
+    #[inline(always)]
+    fn of_magnitude(is_negative: bool, magnitude: u128) -> i128 {
+        if is_negative && magnitude > 0 {
+            !((magnitude - 1) as i128)
+        } else {
+            magnitude as i128
+        }
+    }
+}
+
+impl Number for isize {
+    const MOST: u128 = (1 << 63) - 1;
+
+    const LEAST: u128 = 1 << 63;
+
+    ghost MOST = { 2 ^ 63 - 1 };
+
+    ghost LEAST = { 2 ^ 63 };
+
+    ghost number = { λ x. x };
+
+    #[inline(always)]
+    fn of_magnitude(is_negative: bool, magnitude: u128) -> isize {
+        if is_negative {
+            -(magnitude as i128) as isize
+        } else {
+            magnitude as isize
+        }
+    }
+}
+
+/// Whether a byte stands at a position.
+#[inline(always)]
+fn stands(text: &[u8], at: usize, byte: u8) -> bool
+    ensures { result ≡ stands text.now at byte }
+{
+    match text.get(at) {
+        Some(there) => *there == byte,
+        None => false,
+    }
+}
+
+/// Whether a number at a position is negative.
+#[inline(always)]
+fn is_negative_from<T: Number>(text: &[u8], start: usize) -> bool
+    ensures { result ≡ is_negative_from T.LEAST text.now start }
+{
+    T::LEAST > 0 && stands(text, start, b'-')
+}
+
+/// Where the digits of a number begin.
+#[inline(always)]
+#[tactic(auto, using(std::proofs::lemmas::Option::gets))]
+fn digits_from<T: Number>(text: &[u8], start: usize) -> usize
+    requires { start ≤ length text.now }
+    ensures begins { result ≡ digits_from T.LEAST text.now start }
+    ensures onward { start ≤ result }
+    ensures within { result ≤ length text.now }
+{
+    if T::LEAST > 0 && (stands(text, start, b'-') || stands(text, start, b'+')) {
+        start + 1
+    } else {
+        start
+    }
+}
+
+/// The number of a type that begins at `start`, and where it ends: an optional `+` or `-` if the
+/// type has a sign, and then an integer. Requires that `start` is within the text and the word is
+/// supported.
+///
+/// [`Empty`](LiteralError::Empty) holds the first kept byte after the sign, which is no digit, or
+/// the end of the text; [`Overflow`](LiteralError::Overflow) the first digit with which the type
+/// has no such number. The call counts no looks on a `Bytes` of its caller.
+///
+/// ```text
+/// `8080:65536`, `read_number_from::<u16>` from 5: Err(Overflow(9))
+/// ```
+#[inline(always)]
+pub fn read_number_from<T: Number>(
+    text: &[u8],
+    word: u128,
+    start: usize,
+) -> Result<(T, usize), LiteralError>
+    requires supported { IsTrue (is_supported word) }
+    requires within { start ≤ length text.now }
+    ensures reads { let r = rule_of word Integer in
+        ReadsNumber T.LEAST T.MOST r text.now start T.number result }
+    ensures end { let n = length text.now in
+        IfOk result (λ read. (start ≤ read.1) × (read.1 ≤ n)) }
+    ensures empty_at { let n = length text.now in
+        IfEmpty result (λ at. (start ≤ at) × (at ≤ n)) }
+    ensures overflow_at { let n = length text.now in
+        IfOverflow result (λ at. (start ≤ at) × (at < n)) }
+{
+    let is_negative = is_negative_from::<T>(text, start);
+    let most = if is_negative { T::LEAST } else { T::MOST };
+    let (magnitude, end) = read_wide_from(text, word, digits_from::<T>(text, start), most)?;
+    Ok((T::of_magnitude(is_negative, magnitude), end))
+}
+
+/// The number of a type that a text is from `start` on to its end. Otherwise the first fault; its
+/// position is that in the text. Requires that `start` is within the text and the word is
+/// supported. The call counts no looks on a `Bytes` of its caller.
+///
+/// ```text
+/// `x=-1_29` with internal `_`, `parse_number_from::<i8>` from 2: Err(Overflow(6))
+/// ```
+#[inline(always)]
+#[tactic(auto, using(crate::proofs::ForCallers::stop_within))]
+pub fn parse_number_from<T: Number>(text: &[u8], word: u128, start: usize) -> Result<T, ParseError>
+    requires supported { IsTrue (is_supported word) }
+    requires within { start ≤ length text.now }
+    ensures ok { let r = rule_of word Integer in IfOk result (λ value.
+        IsNumberFrom T.LEAST T.MOST r text.now start (T.number value) (length text.now)) }
+    ensures fault { let r = rule_of word Integer in
+        IfErr result (IsNumberFault T.LEAST T.MOST r text.now start) }
+    ensures fault_at { let n = length text.now in
+        IfErr result (λ error. (start ≤ position error) × (position error ≤ n)) }
+{
+    match read_number_from::<T>(text, word, start) {
+        Ok((value, end)) => {
+            if end == text.len() {
+                Ok(value)
+            } else {
+                Err(ParseError::Invalid(end))
+            }
+        }
+        Err(LiteralError::Empty(at)) => {
+            if at == text.len() {
+                Err(ParseError::Empty(at))
+            } else {
+                Err(ParseError::Invalid(at))
+            }
+        }
+        Err(LiteralError::Overflow(at)) => Err(ParseError::Overflow(at)),
+    }
+}
+
+/// The number of a type that a text is: `u8` to `u128`, `i8` to `i128`, `usize`, `isize`. Otherwise
+/// the first fault. Only a type with a sign takes a `+` or a `-`. Requires that the word is
+/// supported. The call counts no looks on a `Bytes` of its caller.
+///
+/// ```text
+/// with internal `_`, `parse_number::<i8>`: `-1_28` is Ok(-128), `128` is Err(Overflow(2))
+/// ```
+#[inline(always)]
+pub fn parse_number<T: Number>(text: &[u8], word: u128) -> Result<T, ParseError>
+    requires { IsTrue (is_supported word) }
+    ensures ok { let r = rule_of word Integer in IfOk result (λ value.
+        IsNumberFrom T.LEAST T.MOST r text.now 0 (T.number value) (length text.now)) }
+    ensures fault { let r = rule_of word Integer in
+        IfErr result (IsNumberFault T.LEAST T.MOST r text.now 0) }
+    ensures fault_at { let n = length text.now in IfErr result (λ error. position error ≤ n) }
+{
+    parse_number_from::<T>(text, word, 0)
+}
+
+/// The number of a type that a text begins with, and where it ends: [`read_number_from`] from 0.
+/// Requires that the word is supported.
+///
+/// ```text
+/// `-1_000 m` with internal `_`, `read_number::<i32>`: Ok((-1000, 6))
+/// ```
+#[inline(always)]
+pub fn read_number<T: Number>(text: &[u8], word: u128) -> Result<(T, usize), LiteralError>
+    requires { IsTrue (is_supported word) }
+    ensures reads { let r = rule_of word Integer in
+        ReadsNumber T.LEAST T.MOST r text.now 0 T.number result }
+    ensures end { IfOk result (λ read. read.1 ≤ length text.now) }
+    ensures empty_at { IfEmpty result (λ at. at ≤ length text.now) }
+    ensures overflow_at { IfOverflow result (λ at. at < length text.now) }
+{
+    read_number_from::<T>(text, word, 0)
+}
