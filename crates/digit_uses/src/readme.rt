@@ -1,8 +1,8 @@
 //! The first block of the page README.md. `.ci/pages` compares the two.
 
 use digit_languages::languages::RUST; // `0b`, `0o`, `0x`, and `_` among the digits
-use digit_languages::read_literal;
 use digit_floats::parse_float;
+use digit_languages::read_literal;
 use digit_literals::{parse_number, read_number};
 use lexical_format::words::PYTHON_LITERAL; // radix 10, one `_` between two digits
 

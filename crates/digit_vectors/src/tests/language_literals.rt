@@ -122,7 +122,16 @@ fn literals_are_those_of_cxx(rt: HostRuntime) {
 
 /// A language, a text, a start and a greatest value; and of the literal there its value, its word,
 /// where its digits begin, and where they end.
-type Row = (Language, &'static [u8], usize, u128, u128, u128, usize, usize);
+type Row = (
+    Language,
+    &'static [u8],
+    usize,
+    u128,
+    u128,
+    u128,
+    usize,
+    usize,
+);
 
 static LITERALS: [Row; 6] = [
     (RUST, b"x=0xff_u8", 2, 255, 255, RUST_HEX_LITERAL, 4, 7),

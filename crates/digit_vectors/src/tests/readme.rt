@@ -1,9 +1,9 @@
 //! The answers that the first block of README.md shows, each worked out by hand. `.ci/pages`
 //! compares them.
 
+use digit_floats::parse_float;
 use digit_languages::languages::RUST;
 use digit_languages::{Literal, read_literal};
-use digit_floats::parse_float;
 use digit_literals::ParseError::{Empty, Invalid, Overflow};
 use digit_literals::{parse_number, read_number};
 use lexical_format::words::{PYTHON_LITERAL, RUST_HEX_LITERAL};

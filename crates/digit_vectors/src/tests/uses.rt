@@ -42,8 +42,22 @@ static LITERALS: [(&[u8], u128, u128, usize, usize, Suffix); 7] = [
     (b"1_000_u16", 1000, RUST_LITERAL, 0, 6, Suffix::U16),
     (b"255u8", 255, RUST_LITERAL, 0, 3, Suffix::U8),
     (b"0xFF_ff_u32", 65535, RUST_HEX_LITERAL, 2, 8, Suffix::U32),
-    (b"0b____1010", 10, RUST_BINARY_LITERAL, 2, 10, Suffix::Absent),
-    (b"18446744073709551615u64", 18446744073709551615, RUST_LITERAL, 0, 20, Suffix::U64),
+    (
+        b"0b____1010",
+        10,
+        RUST_BINARY_LITERAL,
+        2,
+        10,
+        Suffix::Absent,
+    ),
+    (
+        b"18446744073709551615u64",
+        18446744073709551615,
+        RUST_LITERAL,
+        0,
+        20,
+        Suffix::U64,
+    ),
     (b"0o17u128", 15, RUST_OCTAL_LITERAL, 2, 4, Suffix::U128),
 ];
 
