@@ -1,8 +1,9 @@
 #!/usr/bin/env python3
 """The tables of docs/RULES.md: each row is a row of a test, and the other way round.
 
-    .ci/tables.py --write    writes the table of words with names from words.rt, and adds the
-                             languages that CALLING.md leaves out to its list"""
+    .ci/tables.py --write    writes the table of words with names from words.rt and that of a first
+                             0 from languages.rt, and adds the languages that CALLING.md leaves out
+                             to its list"""
 import ast
 import os
 import re
@@ -22,6 +23,9 @@ WORDS = ("crates/lexical_format/src/lib.rt", "crates/lexical_format/src/words.rt
 NAMING = ("crates/lexical_format/src/laws.rt", "crates/digit_vectors/src/tests/languages.rt")
 # and its language is in CALLING's list, by its name or by that of the word
 LISTING = "CALLING.md"
+# each language with its prefixes and its first 0, and what the languages' own tools read
+LANGUAGES = "crates/digit_languages/src/languages.rt"
+TOOLS = "crates/digit_vectors/src/tests/language_literals.rt"
 
 
 def constants(*paths):
@@ -209,6 +213,26 @@ class Check:
             self.faults += [f"{path}:1: no {name} of words.rt" for name in sorted(names - named)]
         self.faults += [f"{LISTING}:1: no {it} of words.rt: {MEND}" for it in unlisted()]
 
+    def first_zeros(self, rows):
+        """Each language of languages.rt has its row, as its `FirstZero` says, and no row is read
+        otherwise by the tool of the language."""
+        wanted, shown = dict(first_zeros(self.named)), {}
+        for line, (language, *cells) in rows:
+            shown[language] = cells
+            self.count += len(cells)
+            if cells != wanted.get(language):
+                self.faults.append(f"{PAGE}:{line}: {language} is not as languages.rt has it: {MEND}")
+        for name in sorted(set(wanted) - set(shown)):
+            self.faults.append(f"{PAGE}:{rows[0][0]}: no {name} of languages.rt: {MEND}")
+        for line, language, text, value in tool_values():
+            cells = shown.get(language)
+            if cells and text in FIRST:
+                self.count += 1
+                cell = cells[2 + FIRST.index(text)]
+                if (cell if cell.isdigit() else None) != value:
+                    self.faults.append(f"{TOOLS}:{line}: {text} of {language} is {value}, and "
+                                       f"{cell} in {PAGE}")
+
     def cells(self, language):
         """The words of a language with what the table says of each."""
         for ending, radix in RADIX_OF.items():
@@ -216,8 +240,13 @@ class Check:
             yield name, word_said(self.named[name], radix) if name in self.named else "-"
 
     def write(self):
-        """Writes the table of words, and adds the languages that a page leaves out."""
+        """Writes the tables of words and of a first 0, and adds the languages that a page leaves
+        out."""
         lines = read(PAGE).split("\n")
+        start = next(n for n, line in enumerate(lines) if line.startswith("| Language |")) + 2
+        end = next(n for n in range(start, len(lines)) if not lines[n].startswith("|"))
+        lines[start:end] = [" | ".join([f"| {marked(name)}", *map(marked, cells), ""]).strip()
+                            for name, cells in first_zeros(self.named)]
         end = start = next(n for n, line in enumerate(lines) if line.startswith("| X |")) + 2
         heads = []
         while lines[end].startswith("|"):
@@ -269,6 +298,65 @@ def unlisted():
 
 RADIX_OF = {"": 10, "_HEX": 16, "_OCTAL": 8, "_BINARY": 2}
 
+# The texts of the table of a first 0; `_` is the separator of the language.
+FIRST = ("00", "017", "08", "0_7")
+FIRST_ZERO = {"Plain": "nothing", "Octal": "octal", "Alone": "no digit follows",
+              "Zeros": "only zeros follow"}
+
+
+def first_zeros(words):
+    """Each language of languages.rt, and the cells of its row."""
+    found = []
+    for name, body in re.findall(r"pub const (\w+): Language = Language \{(.*?)^\};",
+                                 read(LANGUAGES), re.S | re.M):
+        field = dict(re.findall(r"^    (\w+): ([^;]*?),$", body, re.M))
+        kind, octal = re.fullmatch(r"FirstZero::(\w+)(?:\((\w+)\))?", field["first_zero"]).groups()
+        word = words[octal or field["decimal"].split("::")[-1]]
+        prefixes = [letter for letter, prefix in (("0b", "binary"), ("0o", "octal"),
+                                                  ("0x", "hexadecimal")) if field[prefix] != "None"]
+        if prefixes and field["upper"] == "true":
+            prefixes.append("either case")
+        cells = [first_zero_said(kind, word, text) for text in FIRST]
+        found.append((name, [", ".join(prefixes) or "none", FIRST_ZERO[kind], *cells]))
+    return found
+
+
+def first_zero_said(kind, word, text):
+    """What a text is that begins with a 0: its value, or the literal that it begins with."""
+    radix, separator, end = (word >> 104) & 0xff, chr((word >> 64) & 0xff), 0
+    if separator != "\0":
+        text = text.replace("_", separator)
+    is_inner = word & LETTERS["I"]
+    digits = ""
+    while end < len(text):
+        if text[end].isdigit() and int(text[end]) < radix:
+            digits += text[end]
+        elif not (is_inner and text[end] == separator and text[end + 1:end + 2].isdigit()
+                  and int(text[end + 1]) < radix):
+            break
+        end += 1
+    value = int(digits, radix)
+    if kind == "Alone" and end > 1 or kind == "Zeros" and value > 0:
+        return "refused"
+    return str(value) if end == len(text) else f"{digits}, then {text[end:]}"
+
+
+def marked(cell):
+    """A cell with its code marked."""
+    return re.sub(r"\b0[box]\b|\b[A-Z]\w+|(?<=^0, then ).*|^0(?=, then)", r"`\g<0>`", cell)
+
+
+def tool_values():
+    """(line, language, text, value or None) of each literal in the tests that the tools read."""
+    text = read(TOOLS)
+    names = re.findall(r"\w+", re.search(r"static LANGUAGES: .*? = \[(.*?)\];", text, re.S)[1])
+    for static, languages in (("VALUES", names), ("VALUES_IN_CXX", ["CXX14"])):
+        for row, line in statics(TOOLS, {"NO": None})[static]:
+            values = row[1] if isinstance(row[1], tuple) else (row[1],)
+            for language, value in zip(languages, values):
+                yield (line, language, row[0].decode().replace("'", "_"),
+                       None if value is None else str(value))
+
 
 def word_said(word, radix):
     """The flags of a word's components as the table has them, if its parts are as the page says."""
@@ -312,6 +400,7 @@ def check():
     it.states()
     by_columns = {
         ("X", "Radix 10", "16", "8", "2"): it.words,
+        ("Language", "Prefixes", "A first 0 says", *FIRST): it.first_zeros,
         ("Component", "I", "L", "T", "C"): it.bits,
         ("Flags", "Bytes", "Drained", "Count", "Why"): it.examples,
         ("Flags", "Bytes", "Cursor, count", "Drained", "Why"): it.within,
