@@ -1,5 +1,6 @@
 //! The sides on many small texts, before anything is timed.
 
+use crate::numbers::Type;
 use crate::texts::Text;
 use crate::word::{in_all, with_flags};
 use crate::work::{Sides, Work};
@@ -38,10 +39,14 @@ fn check<const WORD: u128, const IN_ALL: u128>(texts: &[Text]) {
         Work::Counted,
         Work::Digits,
         Work::Zeros,
+        Work::NumberOf(Type::U8),
+        Work::NumberOf(Type::U128),
+        Work::NumberFrom(Type::U64),
+        Work::NumberFrom(Type::I64),
     ] {
         check_calls::<WORD>(work, texts);
     }
-    for work in [Work::Floats, Work::FloatsOf, Work::Mantissas] {
+    for work in [Work::Floats, Work::FloatsOf, Work::Mantissas, Work::Nearest] {
         check_calls::<IN_ALL>(work, texts);
     }
 }

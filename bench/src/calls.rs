@@ -1,6 +1,7 @@
 //! The calls that a Rust user has, and what is done by them.
 
 use crate::library::Outcome;
+use crate::numbers::{self, for_type};
 use crate::texts::Text;
 use crate::work::{each, float_of, with_digit, with_eight, Way, Work};
 
@@ -61,6 +62,14 @@ pub fn drained<B: Buffers>(work: Work, word: u128) -> Way {
         Work::Mantissas => on_each(move |text| mantissa::<B>(text, word)),
         Work::Lines => Box::new(move |text| lines::<B>(&text.bytes, word)),
         Work::Parts => on_each(move |text| parts::<B>(text, word)),
+        Work::NumberOf(of) => {
+            for_type!(of, T, on_each(move |text| numbers::parsed::<B, T>(text, word)))
+        }
+        Work::NumberFrom(of) => {
+            for_type!(of, T, on_each(move |text| numbers::read::<B, T>(text, word)))
+        }
+        Work::RustLiterals => on_each(numbers::rust_literal::<B, B, B, B>),
+        Work::Nearest => on_each(move |text| numbers::nearest::<B>(text, word)),
     }
 }
 

@@ -1,16 +1,20 @@
 //! The ordinary texts.
 
 use crate::measure::Job;
+use crate::numbers::Type::{I32, I64, U128, U16, U32, U64, U8};
 use crate::texts::{
-    digits, each_third, floats, hex_digits, hex_numbers, lines, literals, numbers, others, runs,
-    shortest_floats, shortest_lines, shortest_literals, shortest_numbers, shortest_stopped_numbers,
-    signed_literals, stopped_numbers, zeros, Text,
+    decimals, digits, each_third, floats, fractions, hex_digits, hex_numbers, lines, literals,
+    long_decimals, middle_literals, middle_signed_literals, numbers, others, runs, rust_literals,
+    shortest_decimals, shortest_floats, shortest_lines, shortest_literals, shortest_numbers,
+    shortest_signed_literals, shortest_stopped_numbers, signed_literals, stopped_numbers,
+    tiny_literals, wide_literals, zeros, Text,
 };
-use crate::word::{I, IC, ILTC, I_16, I_IN_ALL, NONE};
+use crate::word::{I, IC, ILTC, I_16, I_IN_ALL, NONE, RUST};
 use crate::work::Sides;
 use crate::work::Work::{
     Asked, Cleared, Counted, Digits, Eights, Floats, FloatsOf, Handed, Lines, Literals, Mantissas,
-    Number, Numbers, Parsed, Parts, Peeked, Signed, Stopped, Sum, Zeros,
+    Nearest, Number, NumberFrom, NumberOf, Numbers, Parsed, Parts, Peeked, RustLiterals, Signed,
+    Stopped, Sum, Zeros,
 };
 
 /// The greatest wanted ratio of the library, with its word at run time, to the floor.
@@ -63,6 +67,8 @@ pub fn all() -> Vec<Case> {
         literal_texts(),
         other_texts(),
         shortest_components(),
+        number_texts(),
+        float_texts(),
     ];
     groups.into_iter().flatten().collect()
 }
@@ -227,5 +233,89 @@ fn shortest_components() -> Vec<Case> {
         Case::new("l: I, 1 to 4 digits, read_digits_of", text, Sides::skip::<I_IN_ALL>(Mantissas)),
         Case::new("s: no flags, 1 to 4 digits", text, Sides::skip::<NONE>(Parts)),
         Case::new("s: I, 1 to 4 digits", text, Sides::skip::<I_IN_ALL>(Parts)),
+    ]
+}
+
+/// Numbers of other types than those of p, and literals of Rust.
+fn number_texts() -> Vec<Case> {
+    let tiny: fn() -> Text = tiny_literals;
+    let short: fn() -> Text = shortest_literals;
+    let signed: fn() -> Text = shortest_signed_literals;
+    let [plain, grouped]: [fn() -> Text; 2] = [|| literals(false), || literals(true)];
+    let [middle, grouped_middle]: [fn() -> Text; 2] =
+        [|| middle_literals(false), || middle_literals(true)];
+    let [middle_signed, grouped_signed]: [fn() -> Text; 2] =
+        [|| middle_signed_literals(false), || middle_signed_literals(true)];
+    let [wide, grouped_wide]: [fn() -> Text; 2] = [|| wide_literals(false), || wide_literals(true)];
+    let [rust, grouped_rust]: [fn() -> Text; 2] = [|| rust_literals(false), || rust_literals(true)];
+    let none = |name, text, of| Case::new(name, text, Sides::skip::<NONE>(NumberOf(of)));
+    let internal = |name, text, of| Case::new(name, text, Sides::skip::<I>(NumberOf(of)));
+    let read_none = |name, text, of| Case::new(name, text, Sides::skip::<NONE>(NumberFrom(of)));
+    let read = |name, text, of| Case::new(name, text, Sides::skip::<I>(NumberFrom(of)));
+    vec![
+        none("u: no flags, 1 or 2 digits, u8", tiny, U8),
+        internal("u: I, 1 or 2 digits, u8", tiny, U8),
+        none("u: no flags, 1 to 4 digits, u16", short, U16),
+        internal("u: I, 1 to 4 digits, u16", short, U16),
+        none("u: no flags, u32", middle, U32),
+        internal("u: I, grouped, u32", grouped_middle, U32),
+        none("u: no flags, 1 to 4 digits, u32", short, U32),
+        internal("u: I, 1 to 4 digits, u32", short, U32),
+        none("u: no flags, i32", middle_signed, I32),
+        internal("u: I, grouped, i32", grouped_signed, I32),
+        none("u: no flags, 1 to 4 digits, i32", signed, I32),
+        internal("u: I, 1 to 4 digits, i32", signed, I32),
+        none("u: no flags, 1 to 4 digits, i64", signed, I64),
+        internal("u: I, 1 to 4 digits, i64", signed, I64),
+        none("u: no flags, u128", plain, U128),
+        internal("u: I, grouped, u128", grouped, U128),
+        none("u: no flags, 1 to 4 digits, u128", short, U128),
+        internal("u: I, 1 to 4 digits, u128", short, U128),
+        none("u: no flags, 20 to 39 digits, u128", wide, U128),
+        internal("u: I, grouped, 20 to 39 digits, u128", grouped_wide, U128),
+        read_none("v: no flags, u64", plain, U64),
+        read("v: I, grouped, u64", grouped, U64),
+        read_none("v: no flags, 1 to 4 digits, u64", short, U64),
+        read("v: I, 1 to 4 digits, u64", short, U64),
+        read_none("v: no flags, 1 to 4 digits, u32", short, U32),
+        read("v: I, 1 to 4 digits, u32", short, U32),
+        read_none("v: no flags, i64", plain, I64),
+        read("v: I, grouped, i64", grouped, I64),
+        read_none("v: no flags, 1 to 4 digits, i64", short, I64),
+        read("v: I, 1 to 4 digits, i64", short, I64),
+        read_none("v: no flags, u128", plain, U128),
+        read("v: I, grouped, u128", grouped, U128),
+        read_none("v: no flags, 1 to 4 digits, u128", short, U128),
+        read("v: I, 1 to 4 digits, u128", short, U128),
+        Case::new("w: literals of Rust", rust, Sides::skip::<RUST>(RustLiterals)),
+        Case::new("w: grouped literals of Rust", grouped_rust, Sides::skip::<RUST>(RustLiterals)),
+    ]
+}
+
+/// Floats.
+fn float_texts() -> Vec<Case> {
+    let [plain, grouped]: [fn() -> Text; 2] = [|| literals(false), || literals(true)];
+    let [points, grouped_points]: [fn() -> Text; 2] = [|| decimals(false), || decimals(true)];
+    let [powers, grouped_powers]: [fn() -> Text; 2] = [|| floats(false), || floats(true)];
+    let [long, grouped_long]: [fn() -> Text; 2] = [|| long_decimals(false), || long_decimals(true)];
+    let none = |name, text| Case::new(name, text, Sides::skip::<NONE>(Nearest));
+    let internal = |name, text| Case::new(name, text, Sides::skip::<I_IN_ALL>(Nearest));
+    vec![
+        none("x: no flags, integers of 1 to 4 digits", shortest_literals),
+        internal("x: I, integers of 1 to 4 digits", shortest_literals),
+        none("x: no flags, integers of 8 to 20 digits", plain),
+        internal("x: I, grouped integers of 8 to 20 digits", grouped),
+        none("x: no flags, 1 to 4 digits, a point", shortest_decimals),
+        internal("x: I, 1 to 4 digits, a point", shortest_decimals),
+        none("x: no flags, 8 to 20 digits, a point", points),
+        internal("x: I, grouped, 8 to 20 digits, a point", grouped_points),
+        none("x: no flags, 1 to 4 digits, an exponent", shortest_floats),
+        internal("x: I, 1 to 4 digits, an exponent", shortest_floats),
+        none("x: no flags, 8 to 18 digits, an exponent", powers),
+        internal("x: I, grouped, 8 to 18 digits, an exponent", grouped_powers),
+        none("x: no flags, 18 to 40 digits", long),
+        internal("x: I, grouped, 18 to 40 digits", grouped_long),
+        none("x: no flags, in [0, 1) with 17 digits", fractions),
+        internal("x: I, in [0, 1) with 17 digits", fractions),
     ]
 }

@@ -2,6 +2,7 @@
 //! cursor, no call for each byte, and no count.
 
 use crate::library::Outcome;
+use crate::numbers::{self, for_type};
 use crate::texts::Text;
 use crate::word::{Class, Rule};
 use crate::work::{each, float_of, with_digit, with_eight, Way, Work};
@@ -28,6 +29,11 @@ pub fn filtered<const WORD: u128>(work: Work) -> Option<Way> {
         Work::Counted => Some(Box::new(|text| each(text, counted::<WORD>))),
         Work::Cleared => Some(Box::new(|text| of_value(sum_of_numbers::<WORD>(&text.bytes)))),
         Work::Parts => Some(Box::new(each_float)),
+        Work::NumberOf(of) | Work::NumberFrom(of) => {
+            Some(for_type!(of, T, Box::new(numbers::each_parsed::<T>)))
+        }
+        Work::RustLiterals => Some(Box::new(numbers::each_rust_literal)),
+        Work::Nearest => Some(Box::new(numbers::each_nearest)),
         Work::Stopped | Work::Digits | Work::Zeros | Work::Mantissas => None,
     }
 }

@@ -67,6 +67,18 @@ exports! {
         digit_bench_floats_of
         digit_bench_mantissas
         digit_bench_parts
+        digit_bench_parsed_u8
+        digit_bench_parsed_u16
+        digit_bench_parsed_u32
+        digit_bench_parsed_i32
+        digit_bench_parsed_i64
+        digit_bench_parsed_u128
+        digit_bench_read_u32
+        digit_bench_read_u64
+        digit_bench_read_i64
+        digit_bench_read_u128
+        digit_bench_languages
+        digit_bench_nearest
 }
 
 pub type Export = unsafe extern "C" fn(*const u8, usize, u64, u64, u32, *mut Outcome);

@@ -20,6 +20,7 @@ mod hostile;
 mod library;
 mod measure;
 mod medians;
+mod numbers;
 #[cfg(feature = "original")]
 mod original;
 mod page;

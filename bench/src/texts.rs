@@ -42,6 +42,10 @@ impl Random {
         b'a' + self.below(26) as u8
     }
 
+    fn sign(&mut self) -> Option<u8> {
+        [None, Some(b'-'), Some(b'+')][self.below(3) as usize]
+    }
+
     /// A digit of radix 16, its letter in either case.
     fn hex_digit(&mut self) -> u8 {
         b"0123456789abcdefABCDEF"[self.below(22) as usize]
@@ -61,6 +65,13 @@ impl Random {
             }
             bytes.push(self.digit());
         }
+    }
+
+    /// An integer, a point and a fraction.
+    fn push_decimal(&mut self, bytes: &mut Vec<u8>, digits: RangeInclusive<u64>, grouped: bool) {
+        self.push_component(bytes, digits.clone(), grouped.then_some(3));
+        bytes.push(b'.');
+        self.push_component(bytes, digits, grouped.then_some(3));
     }
 }
 
@@ -168,10 +179,55 @@ pub fn shortest_lines() -> Text {
     literals_of(SHORTEST, false, |_| None, Some(b'\n'))
 }
 
+/// Numbers of 1 or 2 digits, which a `u8` holds.
+pub fn tiny_literals() -> Text {
+    literals_of(1..=2, false, |_| None, None)
+}
+
+/// Numbers of 8 or 9 digits, which 32 bits hold; grouped likewise.
+pub fn middle_literals(grouped: bool) -> Text {
+    literals_of(8..=9, grouped, |_| None, None)
+}
+
+/// Numbers of 20 to 39 digits, some above `u128::MAX`; grouped likewise.
+pub fn wide_literals(grouped: bool) -> Text {
+    literals_of(20..=39, grouped, |_| None, None)
+}
+
+/// Numbers of 1 to 4 digits, with a sign before two of three.
+pub fn shortest_signed_literals() -> Text {
+    literals_of(SHORTEST, false, Random::sign, None)
+}
+
+/// The same of 8 or 9 digits; grouped likewise.
+pub fn middle_signed_literals(grouped: bool) -> Text {
+    literals_of(8..=9, grouped, Random::sign, None)
+}
+
+/// Literals of Rust: of each radix as many, of 4 to 16 digits; grouped by threes where `grouped`
+/// says so.
+pub fn rust_literals(grouped: bool) -> Text {
+    numbers_by(|random, bytes| {
+        let (prefix, digits): (&[u8], &[u8]) = match random.below(4) {
+            0 => (b"", b"123456789"),
+            1 => (b"0b", b"01"),
+            2 => (b"0o", b"01234567"),
+            _ => (b"0x", b"0123456789abcdefABCDEF"),
+        };
+        bytes.extend(prefix);
+        let length = random.within(&(4..=16));
+        for at in 0..length {
+            if grouped && at > 0 && (length - at).is_multiple_of(3) {
+                bytes.push(b'_');
+            }
+            bytes.push(digits[random.below(digits.len() as u64) as usize]);
+        }
+    })
+}
+
 /// Literals as `literals` makes, with a sign before two of three.
 pub fn signed_literals(grouped: bool) -> Text {
-    let sign = |random: &mut Random| [None, Some(b'-'), Some(b'+')][random.below(3) as usize];
-    literals_of(SHORT, grouped, sign, None)
+    literals_of(SHORT, grouped, Random::sign, None)
 }
 
 /// The same without signs, of 8 to 18 digits, each on a line of its own.
@@ -226,15 +282,43 @@ pub fn shortest_floats() -> Text {
 }
 
 fn floats_of(digits: RangeInclusive<u64>, exponent: RangeInclusive<u64>, grouped: bool) -> Text {
+    numbers_by(|random, bytes| {
+        random.push_decimal(bytes, digits.clone(), grouped);
+        bytes.push(b'e');
+        random.push_component(bytes, exponent.clone(), grouped.then_some(1));
+    })
+}
+
+/// Numbers of an integer and a fraction, each of 1 to 4 digits: `12.345`.
+pub fn shortest_decimals() -> Text {
+    numbers_by(|random, bytes| random.push_decimal(bytes, SHORTEST, false))
+}
+
+/// The same of 4 to 10 digits each; grouped by threes where `grouped` says so.
+pub fn decimals(grouped: bool) -> Text {
+    numbers_by(|random, bytes| random.push_decimal(bytes, 4..=10, grouped))
+}
+
+/// The same of 9 to 20 digits each.
+pub fn long_decimals(grouped: bool) -> Text {
+    numbers_by(|random, bytes| random.push_decimal(bytes, 9..=20, grouped))
+}
+
+/// Numbers of 17 digits after `0.`.
+pub fn fractions() -> Text {
+    numbers_by(|random, bytes| {
+        bytes.extend(b"0.");
+        random.push_component(bytes, 17..=17, None);
+    })
+}
+
+/// Numbers that a function adds to bytes, and the same without separators.
+fn numbers_by(mut push: impl FnMut(&mut Random, &mut Vec<u8>)) -> Text {
     let mut random = Random(SEED);
     let mut text = Text::default();
     while text.bytes.len() < SIZE.load(Relaxed) {
         let start = text.bytes.len();
-        random.push_component(&mut text.bytes, digits.clone(), grouped.then_some(3));
-        text.bytes.push(b'.');
-        random.push_component(&mut text.bytes, digits.clone(), grouped.then_some(3));
-        text.bytes.push(b'e');
-        random.push_component(&mut text.bytes, exponent.clone(), grouped.then_some(1));
+        push(&mut random, &mut text.bytes);
         let number = &text.bytes[start..];
         let plain = number.iter().filter(|&&byte| byte != b'_').map(|&byte| char::from(byte));
         let before = text.digits.len();

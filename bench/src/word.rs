@@ -30,6 +30,17 @@ pub const LC: u128 = UNGRANTED | LEADING | CONSECUTIVE;
 pub const ILTC: u128 = IC | LEADING | TRAILING;
 /// As [`I`], in radix 16.
 pub const I_16: u128 = I + (6 << 104);
+/// Rust's decimal literals: separators after the first digit.
+pub const RUST: u128 = IC | TRAILING;
+/// The digits after `0b`, `0o` and `0x`: separators anywhere.
+pub const RUST_2: u128 = in_radix(2);
+pub const RUST_8: u128 = in_radix(8);
+pub const RUST_16: u128 = in_radix(16);
+
+/// As [`ILTC`], in another radix.
+const fn in_radix(radix: u128) -> u128 {
+    (ILTC & !(0xff << 104)) | radix << 104
+}
 
 /// Whether the library has code of its own for the word as a constant.
 pub fn is_constant(word: u128) -> bool {

@@ -6,10 +6,11 @@ use crate::fixed::Fixed;
 use crate::floor::Floor;
 use crate::library::{self, Export, Format, ManyExport, Outcome};
 use crate::medians::Side;
+use crate::numbers::{rust_literal, Type};
 #[cfg(feature = "original")]
 use crate::original::Original;
 use crate::texts::Text;
-use crate::word::{is_constant, NONE};
+use crate::word::{is_constant, NONE, RUST, RUST_16, RUST_2, RUST_8};
 
 /// What is done with a text.
 #[derive(Clone, Copy)]
@@ -60,6 +61,19 @@ pub enum Work {
     /// Takes each of many numbers apart into mantissa and decimal exponent: the library by
     /// `digit_uses::float`. In place of the filter stands `str::parse`, which makes an `f64`.
     Parts,
+    /// Parses each of many texts as a number of a type: the library by `parse_number`. In place of
+    /// the filter stands `str::parse`, on the digits without separators.
+    NumberOf(Type),
+    /// Reads the number of a type that each of many texts begins with: the library by
+    /// `read_number`.
+    NumberFrom(Type),
+    /// Reads each of many integer literals of Rust: the library by `read_literal`. In place of the
+    /// filter stands a match on the prefix with `from_str_radix`, without separators.
+    RustLiterals,
+    /// Parses each of many texts as the nearest `f64`: the library by `parse_float`. The other
+    /// sides copy what the iterators answer, and parse it by `str::parse`; the filter has the text
+    /// without separators.
+    Nearest,
 }
 
 /// One side's way to do the work.
@@ -105,9 +119,12 @@ impl Sides {
         let constant = Format { is_constant: true, ..at_run_time };
         Sides {
             library: library(at_run_time),
-            constant: is_constant(WORD).then(|| library(constant)),
+            constant: has_constant(WORD, work).then(|| library(constant)),
             floor: drained::<Floor>(work, WORD),
-            fixed: drained::<Fixed<WORD>>(work, WORD),
+            fixed: match work {
+                Work::RustLiterals => rust_literals(),
+                _ => drained::<Fixed<WORD>>(work, WORD),
+            },
             original: original::<WORD>(work),
             filter: filtered::<WORD>(work),
             filter_agrees: !matches!(work, Work::Parts),
@@ -172,7 +189,48 @@ fn skipping(work: Work, format: Format) -> Way {
         Work::Mantissas => exported_many(library::digit_bench_mantissas, format),
         Work::Lines => exported(library::digit_bench_lines, format),
         Work::Parts => exported_many(library::digit_bench_parts, format),
+        Work::NumberOf(of) => exported_many(parsed_export(of), format),
+        Work::NumberFrom(of) => exported_many(read_export(of), format),
+        // the language has the number 0
+        Work::RustLiterals => {
+            exported_many(library::digit_bench_languages, Format { word: 0, ..format })
+        }
+        Work::Nearest => exported_many(library::digit_bench_nearest, format),
     }
+}
+
+/// Whether the library has code of its own for the word as a constant, or for the language.
+fn has_constant(word: u128, work: Work) -> bool {
+    is_constant(word) || matches!(work, Work::RustLiterals)
+}
+
+fn parsed_export(of: Type) -> ManyExport {
+    match of {
+        Type::U8 => library::digit_bench_parsed_u8,
+        Type::U16 => library::digit_bench_parsed_u16,
+        Type::U32 => library::digit_bench_parsed_u32,
+        Type::U64 => library::digit_bench_parsed,
+        Type::I32 => library::digit_bench_parsed_i32,
+        Type::I64 => library::digit_bench_parsed_i64,
+        Type::U128 => library::digit_bench_parsed_u128,
+    }
+}
+
+fn read_export(of: Type) -> ManyExport {
+    match of {
+        Type::U32 => library::digit_bench_read_u32,
+        Type::U64 => library::digit_bench_read_u64,
+        Type::I64 => library::digit_bench_read_i64,
+        Type::U128 => library::digit_bench_read_u128,
+        Type::U8 | Type::U16 | Type::I32 => unreachable!("no case reads such a number"),
+    }
+}
+
+/// The literals of Rust, by code for each of its words.
+fn rust_literals() -> Way {
+    Box::new(|text| {
+        each(text, rust_literal::<Fixed<RUST>, Fixed<RUST_2>, Fixed<RUST_8>, Fixed<RUST_16>>)
+    })
 }
 
 fn exported(export: Export, format: Format) -> Way {

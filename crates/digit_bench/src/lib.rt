@@ -6,8 +6,10 @@
 mod components;
 mod drains;
 mod format;
+mod languages;
 mod literals;
 mod loops;
+mod numbers;
 mod plain;
 mod work;
 

@@ -2,7 +2,8 @@
 
 ghost use Rattle.std.specs.Prelude.{◌≡◌, ◌+◌, ◌*◌, ◌^◌, ◌-◌, ◌≤◌, min, false, length, pos, ◌≤ℤ◌, ◌+ℤ◌, IfSome, IfNone, IsTrue};
 ghost use Rattle.lexical_format.specs.Word.{is_supported};
-ghost use Rattle.lexical_digits.specs.State.{rule, rule_of};
+ghost use Rattle.lexical_digits.specs.State as State;
+ghost use Rattle.lexical_digits.specs.State.{with_cursor, rule, rule_of};
 ghost use Rattle.lexical_digits.specs.Looks.{owed, needs_run};
 ghost use Rattle.lexical_digits.specs.Stop.{stop, stop_of, leading_digits_of, past_digits_of};
 ghost use Rattle.digit_literals.specs.After.{digits_between, digits_to};
@@ -100,10 +101,22 @@ pub fn read_first_digits_from(
     ensures onward { start + result.0.count ≤ result.1 }
     ensures end { result.1 ≤ length text.now }
 {
-    let mut bytes = Bytes::new(text, word);
-    bytes.set_cursor(start);
+    let mut bytes = bytes_at(text, word, start);
     let read = read_first_digits(&mut bytes, component, before, most);
     (read, bytes.cursor())
+}
+
+/// A `Bytes` that counted nothing, with the cursor at a position. It isn't `inline(always)`: a
+/// compiler that gets it inlined leaves the `Bytes` of a call in memory.
+#[inline]
+fn bytes_at<'a>(text: &'a [u8], word: u128, at: usize) -> Bytes<'a>
+    requires supported { IsTrue (is_supported word) }
+    requires within { at ≤ length text.now }
+    ensures { result.state ≡ with_cursor (State.start text.now word) at }
+{
+    let mut bytes = Bytes::new(text, word);
+    bytes.set_cursor(at);
+    bytes
 }
 
 /// Reads and passes the digits of a component with radix 10, where the slice is enough and no digit
