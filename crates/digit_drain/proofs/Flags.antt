@@ -7,9 +7,10 @@ use Rattle.std.proofs.lemmas.Bool.{cases_Bool}
 use Rattle.std.proofs.lemmas.Bool.Decides.{nat_tests}
 use Rattle.std.proofs.lemmas.List.Elements.{All-head, All-tail, All-cons, All-nil}
 use Rattle.lexical_digits.specs.declared.skip.component.Component.{Component}
-use Rattle.lexical_digits.specs.declared.skip.component.Component.TheVariants.{Special}
-use Rattle.digit_drain.specs.declared.line.Flags.{Flags}
-use Rattle.digit_drain.specs.Line.{name_of, component_of, IsFlagLetter, has_letter, AreLetters, AreFlags, is_flag_letter, are_flag_letters, letters_of, flags_of}
+use Rattle.lexical_digits.specs.declared.skip.component.Component.TheVariants.{Integer, Fraction, Exponent, Special}
+use Rattle.lexical_format.specs.declared.builder.DigitSeparatorFlags.{DigitSeparatorFlags}
+use Rattle.lexical_format.specs.declared.builder.NumberFormatBuilder.{NumberFormatBuilder}
+use Rattle.digit_drain.specs.Line.{name_of, component_of, IsFlagLetter, has_letter, AreNumberFlags, AreLetters, AreFlags, is_flag_letter, are_flag_letters, number_flags_of, letters_of, flags_of, with_radixes}
 use Rattle.std.proofs.lemmas.Slice.Eq.{bytes_eq-Decides}
 
 -- ---- the names of the components
@@ -61,34 +62,53 @@ letters_to (b ∷ bs) letters distinct =
 
 -- ---- the flags
 
-letters_of_from : (k : Component) (field : List ℕ) (flags : Flags) →
-    letters_of k field ≡ Some flags → AreLetters k field flags
-letters_of_from Special field flags e = grind (arith, bytes_eq-Decides)
-letters_of_from k field flags e =
+number_flags_from : (field : List ℕ) (flags : DigitSeparatorFlags) →
+    number_flags_of field ≡ Some flags → AreNumberFlags field flags
+number_flags_from field flags e =
     grind (arith, nat_tests, letters_from field, distinct_from field)
 
-letters_of_to : (k : Component) (field : List ℕ) (flags : Flags) →
-    AreLetters k field flags → letters_of k field ≡ Some flags
-letters_of_to Special field flags a = rw (a.0, a.1) refl
-letters_of_to k field flags a =
+number_flags_to : (field : List ℕ) (flags : DigitSeparatorFlags) →
+    AreNumberFlags field flags → number_flags_of field ≡ Some flags
+number_flags_to field flags a =
     grind (arith, nat_tests, letters_to field a.letters a.none_twice)
 
-pub flags_from : (k : Component) (field : List ℕ) (flags : Flags) →
-    flags_of k field ≡ Some flags → AreFlags k field flags
-flags_from k field flags e = elim (cases_Bool (bytes_eq field (codes "-"))) [
+letters_of_from : (k : Component) (field : List ℕ) (f : NumberFormatBuilder) (r : ℕ × ℕ) (s : ℕ) →
+    letters_of k field ≡ Some f → AreLetters k field (with_radixes f r s)
+letters_of_from k field f r s e = grind (arith, bytes_eq-Decides, number_flags_from field)
+
+-- what a format is without radixes and separator
+abbrev flags_in : NumberFormatBuilder → NumberFormatBuilder
+flags_in f = with_radixes f (10, 0) 0
+
+letters_of_to : (k : Component) (field : List ℕ) (f : NumberFormatBuilder) →
+    AreLetters k field f → letters_of k field ≡ Some (flags_in f)
+letters_of_to Integer field f (a, b, c, d) = rw (number_flags_to field f.integer a, b, c, d) refl
+letters_of_to Fraction field f (a, b, c, d) = rw (number_flags_to field f.fraction a, b, c, d) refl
+letters_of_to Exponent field f (a, b, c, d) = rw (number_flags_to field f.exponent a, b, c, d) refl
+letters_of_to Special field f (a, b, c, d, e) = rw (a, b, c, d, e) refl
+
+pub flags_from : (k : Component) (field : List ℕ) (f : NumberFormatBuilder) (r : ℕ × ℕ) (s : ℕ) →
+    flags_of k field ≡ Some f → AreFlags k field (with_radixes f r s)
+flags_from k field f r s e = elim (cases_Bool (bytes_eq field (codes "-"))) [
   | inl t ↦ inl (grind (arith, bytes_eq-Decides))
-  | inr t ↦ inr (letters_of_from k field flags (rw t at e))
+  | inr t ↦ inr (letters_of_from k field f r s (rw t at e))
 ]
 
 -- a hyphen is no letter
-letters_no_hyphen : (k : Component) (field : List ℕ) (flags : Flags) → AreLetters k field flags
-    → field ≢ codes "-"
-letters_no_hyphen Special field flags a = λ e. grind arith
-letters_no_hyphen k field flags a = λ e.
-    let letters : All IsFlagLetter (45 ∷ []) = subst (All IsFlagLetter) e a.letters in
-    grind (arith, All-head IsFlagLetter 45 [] letters)
+hyphen : (field : List ℕ) → All IsFlagLetter field → field ≢ codes "-"
+hyphen field letters = λ e.
+    let one : All IsFlagLetter (45 ∷ []) = subst (All IsFlagLetter) e letters in
+    grind (arith, All-head IsFlagLetter 45 [] one)
 
-pub flags_to : (k : Component) (field : List ℕ) (flags : Flags) →
-    AreFlags k field flags → flags_of k field ≡ Some flags
-flags_to k field flags a =
-    grind (arith, bytes_eq-Decides, letters_no_hyphen k field flags, letters_of_to k field flags)
+letters_no_hyphen : (k : Component) (field : List ℕ) (f : NumberFormatBuilder)
+    → AreLetters k field f → field ≢ codes "-"
+letters_no_hyphen Integer field f a = hyphen field a.0.letters
+letters_no_hyphen Fraction field f a = hyphen field a.0.letters
+letters_no_hyphen Exponent field f a = hyphen field a.0.letters
+letters_no_hyphen Special field f a = λ e. grind arith
+
+pub flags_to : (k : Component) (field : List ℕ) (f : NumberFormatBuilder) →
+    AreFlags k field f → flags_of k field ≡ Some (flags_in f)
+flags_to k field f (inl none) = rw (none.0, none.1.0, none.1.1, none.1.2, none.1.3) refl
+flags_to k field f (inr a) =
+    grind (arith, bytes_eq-Decides, letters_no_hyphen k field f a, letters_of_to k field f a)

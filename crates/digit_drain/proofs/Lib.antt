@@ -5,4 +5,3 @@ pub mod Flags
 pub mod Numbers
 pub mod Reading
 pub mod Spelled
-pub mod WordSays

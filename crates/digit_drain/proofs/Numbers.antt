@@ -9,8 +9,7 @@ use Rattle.std.proofs.lemmas.Bool.Decides.{nat_tests}
 use Rattle.std.proofs.lemmas.List.Elements.{All-cons, All-nil}
 use Rattle.std.proofs.lemmas.Int.Digits.{digits_value-lt}
 use Rattle.std.proofs.lemmas.Str.Parse.{digit_from_value}
-use Rattle.digit_drain.specs.declared.line.Radix.{Radix}
-use Rattle.digit_drain.specs.Line.{IsDecimal, IsHexadecimal, IsRadix, decimal_of, hexadecimal_of, radix_of}
+use Rattle.digit_drain.specs.Line.{IsDecimal, IsHexadecimal, AreRadixes, decimal_of, hexadecimal_of, radixes_of}
 use Rattle.digit_drain.proofs.FirstMark.{cut_splits, cut_joined, cut_of_none}
 
 -- ---- numbers
@@ -48,20 +47,21 @@ no_slash [] h = All-nil (λ b. b ≢ 47)
 no_slash (b ∷ bs) h = All-cons (λ b. b ≢ 47) b bs
     (λ e. let range = digit_from_value b h.0 in omega (arith, range, e)) (no_slash bs h.1)
 
-pub radix_from : (field : List ℕ) (radix : Radix) → radix_of field ≡ Some radix
-    → IsRadix field radix
-unfolding radix_of
-radix_from field radix e = grind (arith, decimal_from, cut_splits 47 field)
+pub radixes_from : (field : List ℕ) (radixes : ℕ × ℕ) → radixes_of field ≡ Some radixes
+    → AreRadixes field radixes.0 radixes.1
+unfolding radixes_of
+radixes_from field radixes e = grind (arith, decimal_from, cut_splits 47 field)
 
-pub radix_to : (field : List ℕ) (radix : Radix) → IsRadix field radix → radix_of field ≡ Some radix
-unfolding radix_of
-radix_to field radix (inl one) =
+pub radixes_to : (field : List ℕ) (mantissa exponent : ℕ) → AreRadixes field mantissa exponent
+    → radixes_of field ≡ Some (mantissa, exponent)
+unfolding radixes_of
+radixes_to field mantissa exponent (inl one) =
     let none = cut_of_none 47 field (no_slash field one.0.numeral.1) in
-    grind (arith, decimal_to field radix.mantissa one.0)
-radix_to field radix (inr r) =
+    grind (arith, decimal_to field mantissa one.0)
+radixes_to field mantissa exponent (inr r) =
     rw (
       r.field_is,
-      cut_joined 47 r.mantissa r.exponent (no_slash r.mantissa r.mantissa_is.numeral.1),
-      decimal_to r.mantissa radix.mantissa r.mantissa_is,
-      decimal_to r.exponent radix.exponent r.exponent_is,
+      cut_joined 47 r.before r.after (no_slash r.before r.mantissa_is.numeral.1),
+      decimal_to r.before mantissa r.mantissa_is,
+      decimal_to r.after exponent r.exponent_is,
     ) refl

@@ -1,10 +1,10 @@
 -- A line is read as a request exactly if it is spelled as one.
 use Rattle.std.proofs.Common.{◌≡◌, ℕ, List, refl, subst, Some, None, Option}
 use Rattle.std.proofs.lemmas.Option.{same_Some}
-use Rattle.digit_drain.specs.Line.{◌>>=◌, cut, component_of, radix_of, hexadecimal_of, flags_of, Asked, Spells, request_of}
+use Rattle.digit_drain.specs.Line.{◌>>=◌, cut, component_of, radixes_of, hexadecimal_of, flags_of, Asked, Spells, request_of}
 use Rattle.digit_drain.proofs.FirstMark.{cut_splits, cut_joined}
 use Rattle.digit_drain.proofs.Flags.{component_from, component_to, flags_from, flags_to}
-use Rattle.digit_drain.proofs.Numbers.{radix_from, radix_to, hexadecimal_from, hexadecimal_to}
+use Rattle.digit_drain.proofs.Numbers.{radixes_from, radixes_to, hexadecimal_from, hexadecimal_to}
 
 -- what a step that gave something came from
 bind_then : {A B P : Type 0} (o : Option A) (f : A → Option B) (y : B) →
@@ -20,7 +20,7 @@ read_spells line asked e =
     bind_then (cut 32 r.1) _ asked e2 (λ s es e3.
     bind_then (cut 32 s.1) _ asked e3 (λ f ef e4.
     bind_then (component_of c.0) _ asked e4 (λ k ek e5.
-    bind_then (radix_of r.0) _ asked e5 (λ m em e6.
+    bind_then (radixes_of r.0) _ asked e5 (λ m em e6.
     bind_then (hexadecimal_of s.0) _ asked e6 (λ b eb e7.
     bind_then (flags_of k f.0) _ asked e7 (λ l el e8.
     let pc = cut_splits 32 line c.0 c.1 ec in
@@ -29,15 +29,15 @@ read_spells line asked e =
     let pf = cut_splits 32 s.1 f.0 f.1 ef in
     subst (Spells line) (same_Some _ asked e8) (record {
       component = c.0;
-      radix = r.0;
+      radixes = r.0;
       separator = s.0;
       flags = f.0;
       line_is = rw (pc.whole, pr.whole, ps.whole, pf.whole) refl;
       no_spaces = (pc.before, pr.before, ps.before, pf.before);
       component_is = component_from c.0 k ek;
-      radix_is = radix_from r.0 m em;
+      radixes_are = radixes_from r.0 m em;
       separator_is = hexadecimal_from s.0 b eb;
-      flags_are = flags_from k f.0 l el;
+      flags_are = flags_from k f.0 l m b el;
     })))))))))
 
 pub spells_read : (line : List ℕ) (asked : Asked) → Spells line asked → request_of line ≡ Some asked
@@ -46,11 +46,11 @@ spells_read line asked s =
     rw (
       s.line_is,
       cut_joined 32 s.component _ s.no_spaces.0,
-      cut_joined 32 s.radix _ s.no_spaces.1,
+      cut_joined 32 s.radixes _ s.no_spaces.1,
       cut_joined 32 s.separator _ s.no_spaces.2,
       cut_joined 32 s.flags asked.text s.no_spaces.3,
       component_to s.component asked.component s.component_is,
-      radix_to s.radix asked.radix s.radix_is,
-      hexadecimal_to s.separator asked.separator s.separator_is,
-      flags_to asked.component s.flags asked.flags s.flags_are,
+      radixes_to s.radixes asked.format.mantissa_radix asked.format.exponent_radix s.radixes_are,
+      hexadecimal_to s.separator asked.format.digit_separator s.separator_is,
+      flags_to asked.component s.flags asked.format s.flags_are,
     ) refl

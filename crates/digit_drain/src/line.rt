@@ -6,43 +6,14 @@ ghost use Rattle.digit_drain.specs.Line as Line;
 use lexical_digits::skip::Component;
 use lexical_format::{DECIMAL, DigitSeparatorFlags, NumberFormatBuilder};
 
-/// The request of a line: the drain of a text by the iterator of a component, under a format word
-/// with this radix, separator and flags.
+/// The request of a line: the drain of a text by the iterator of a component, under the word of a
+/// format in which no other component has a flag.
 #[derive(Clone, Copy, Debug, PartialEq, Eq)]
 pub struct Request<'a> {
     pub component: Component,
-    pub radix: Radix,
-    /// The separator byte, or zero for none.
-    pub separator: u8,
-    pub flags: Flags,
+    pub format: NumberFormatBuilder,
     pub text: &'a [u8],
 }
-
-/// The radixes of a request. An exponent radix of zero means the mantissa radix.
-#[derive(Clone, Copy, Debug, PartialEq, Eq)]
-pub struct Radix {
-    pub mantissa: u8,
-    pub exponent: u8,
-}
-
-/// The flags of a request's component. Integer, fraction and exponent have the first four, and
-/// special has the last.
-#[derive(Clone, Copy, Debug, PartialEq, Eq)]
-pub struct Flags {
-    pub internal: bool,
-    pub leading: bool,
-    pub trailing: bool,
-    pub consecutive: bool,
-    pub special: bool,
-}
-
-const NO_FLAGS: Flags = Flags {
-    internal: false,
-    leading: false,
-    trailing: false,
-    consecutive: false,
-    special: false,
-};
 
 fn find(bytes: &[u8], mark: u8) -> Option<usize>
     ensures { result ≡ position (λ byte. byte == mark) bytes.now }
@@ -106,19 +77,14 @@ fn read_hexadecimal(field: &[u8]) -> Option<u8>
     read_number(field, 16)
 }
 
-#[tactic(auto, unfolding(crate::specs::Line::radix_of))]
-fn read_radix(field: &[u8]) -> Option<Radix>
-    ensures { result ≡ Line.radix_of field.now }
+/// The mantissa's radix and the exponent's. If one is missing, it is the exponent's, and zero.
+#[tactic(auto, unfolding(crate::specs::Line::radixes_of))]
+fn read_radixes(field: &[u8]) -> Option<(u8, u8)>
+    ensures { result ≡ Line.radixes_of field.now }
 {
     match cut(field, b'/') {
-        None => Some(Radix {
-            mantissa: read_decimal(field)?,
-            exponent: 0,
-        }),
-        Some((mantissa, exponent)) => Some(Radix {
-            mantissa: read_decimal(mantissa)?,
-            exponent: read_decimal(exponent)?,
-        }),
+        None => Some((read_decimal(field)?, 0)),
+        Some((mantissa, exponent)) => Some((read_decimal(mantissa)?, read_decimal(exponent)?)),
     }
 }
 
@@ -150,40 +116,36 @@ fn are_flag_letters(field: &[u8]) -> bool
 }
 
 /// One or more of the letters `I`, `L`, `T` and `C`, none of them twice, in any order.
-fn read_number_flags(field: &[u8]) -> Option<Flags>
+fn read_number_flags(field: &[u8]) -> Option<DigitSeparatorFlags>
     ensures { result ≡ Line.number_flags_of field.now }
 {
     if field.is_empty() || !are_flag_letters(field) {
         return None;
     }
-    Some(Flags {
+    Some(DigitSeparatorFlags {
         internal: has_letter(field, b'I'),
         leading: has_letter(field, b'L'),
         trailing: has_letter(field, b'T'),
         consecutive: has_letter(field, b'C'),
-        special: false,
     })
 }
 
-fn read_flags(component: Component, field: &[u8]) -> Option<Flags>
+/// The decimal format in which a component has these flags.
+fn read_flags(component: Component, field: &[u8]) -> Option<NumberFormatBuilder>
     ensures { result ≡ Line.flags_of component field.now }
 {
+    let mut format = DECIMAL;
     if field == b"-".as_slice() {
-        return Some(NO_FLAGS);
+        return Some(format);
     }
     match component {
-        Component::Integer | Component::Fraction | Component::Exponent => read_number_flags(field),
-        Component::Special => {
-            if field == b"S".as_slice() {
-                Some(Flags {
-                    special: true,
-                    ..NO_FLAGS
-                })
-            } else {
-                None
-            }
-        }
+        Component::Integer => format.integer = read_number_flags(field)?,
+        Component::Fraction => format.fraction = read_number_flags(field)?,
+        Component::Exponent => format.exponent = read_number_flags(field)?,
+        Component::Special if field == b"S".as_slice() => format.special = true,
+        Component::Special => return None,
     }
+    Some(format)
 }
 
 /// Reads a line, without its line feed, as a request. `None` if it is not one.
@@ -192,60 +154,23 @@ pub fn read_request(line: &[u8]) -> Option<Request<'_>>
     ensures { Line.request_of line.now ≡ option_map Line.asked_by result }
 {
     let (component, rest) = cut(line, b' ')?;
-    let (radix, rest) = cut(rest, b' ')?;
+    let (radixes, rest) = cut(rest, b' ')?;
     let (separator, rest) = cut(rest, b' ')?;
     let (flags, text) = cut(rest, b' ')?;
     let component = read_component(component)?;
-    let radix = read_radix(radix)?;
-    let separator = read_hexadecimal(separator)?;
-    let flags = read_flags(component, flags)?;
+    let (mantissa_radix, exponent_radix) = read_radixes(radixes)?;
+    let digit_separator = read_hexadecimal(separator)?;
+    let format = NumberFormatBuilder {
+        mantissa_radix,
+        exponent_radix,
+        digit_separator,
+        ..read_flags(component, flags)?
+    };
     Some(Request {
         component,
-        radix,
-        separator,
-        flags,
+        format,
         text,
     })
-}
-
-/// The format word of a request.
-#[tactic(auto, unfolding(crate::specs::Line::word_of), using(crate::proofs::WordSays::word_says))]
-pub fn word(request: &Request<'_>) -> u128
-    ensures value { result ≡ Line.word_of (Line.asked_by request.now) }
-    ensures says { Line.Says result (Line.asked_by request.now) }
-{
-    let flags = request.flags;
-    let number = DigitSeparatorFlags {
-        internal: flags.internal,
-        leading: flags.leading,
-        trailing: flags.trailing,
-        consecutive: flags.consecutive,
-    };
-    let plain = NumberFormatBuilder {
-        mantissa_radix: request.radix.mantissa,
-        exponent_radix: request.radix.exponent,
-        digit_separator: request.separator,
-        ..DECIMAL
-    };
-    let builder = match request.component {
-        Component::Integer => NumberFormatBuilder {
-            integer: number,
-            ..plain
-        },
-        Component::Fraction => NumberFormatBuilder {
-            fraction: number,
-            ..plain
-        },
-        Component::Exponent => NumberFormatBuilder {
-            exponent: number,
-            ..plain
-        },
-        Component::Special => NumberFormatBuilder {
-            special: flags.special,
-            ..plain
-        },
-    };
-    builder.build()
 }
 
 /// The law of [`read_request`]: a line is read as a request exactly if it is spelled as one.

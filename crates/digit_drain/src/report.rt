@@ -8,7 +8,7 @@ ghost use Rattle.lexical_digits.specs.CallTable.{drain_of, after_drain};
 ghost use Rattle.digit_drain.specs.Line.{asked_by, word_of};
 ghost use Rattle.digit_drain.specs.Report.{lines_of, request_at, count_of, answer_to, report_of, AddsDrain};
 
-use super::line::{Request, cut, read_request, word};
+use super::line::{Request, cut, read_request};
 use lexical_digits::iterator::Iter;
 use lexical_digits::skip::{Bytes, Component};
 use lexical_format::is_supported;
@@ -46,7 +46,7 @@ fn supported_request(number: usize, line: &[u8]) -> Result<(Request<'_>, u128), 
     let Some(request) = read_request(line) else {
         return Err(BadLine::NotARequest(number));
     };
-    let word = word(&request);
+    let word = request.format.build();
     if is_supported(word) {
         Ok((request, word))
     } else {
