@@ -4,4 +4,5 @@ pub mod Groups
 pub mod Lexer
 pub mod Literal
 pub mod Loops
+pub mod Number
 pub mod Rounded

@@ -12,6 +12,7 @@ pub mod groups;
 pub mod lexer;
 pub mod literal;
 pub mod loops;
+pub mod number;
 pub mod numbers;
 pub mod onward;
 pub mod readme;
