@@ -1,5 +1,9 @@
+mod Cut
+mod CutOff
 mod Decimals
+mod Huge
+mod Kept
 mod Numbers
-mod Plain
 mod Signs
 mod Tens
+mod Written

@@ -1,5 +1,5 @@
 -- The float at a position of a text: its digits, its parts in std's word, and why there is none.
-use Rattle.std.specs.Prelude.{◌≡◌, ⊤, ℕ, ◌+◌, ◌-◌, ◌<◌, ◌≤◌, Bool, true, if◌then◌else◌, ◌&&◌, List, [], length}
+use Rattle.std.specs.Prelude.{◌≡◌, ⊤, ℕ, ◌+◌, ◌-◌, ◌<◌, Bool, true, if◌then◌else◌, ◌&&◌, List, [], length}
 use Rattle.std.specs.Float.{Float, Format}
 use Rattle.std.specs.Float.Numeral.{Parts, nearest_float}
 use Rattle.lexical_format.specs.Word.{mantissa_radix, exponent_radix}
@@ -9,7 +9,7 @@ use Rattle.lexical_digits.specs.State.{rule_of}
 use Rattle.lexical_digits.specs.Stop.{stop}
 use Rattle.digit_literals.specs.After.{digits_between}
 use Rattle.digit_floats.specs.declared.FloatError.{FloatError}
-use Rattle.digit_floats.specs.declared.FloatError.TheVariants.{Empty, EmptyExponent, Invalid, TooLong}
+use Rattle.digit_floats.specs.declared.FloatError.TheVariants.{Empty, EmptyExponent, Invalid}
 use Rattle.digit_floats.specs.Bytes.{stands, is_sign, is_minus, is_point, is_mark}
 
 -- mantissa and exponent are written in decimal
@@ -83,10 +83,6 @@ module _ (word : ℕ) (text : List ℕ) where
   mantissa_count at =
       length (digits_from Integer at) + length (fraction_digits (digits_end Integer at))
 
-  -- how many digits integer, fraction and exponent have together
-  abbrev pub digit_count : ℕ → ℕ
-  digit_count at = mantissa_count at + length (exponent_digits (mantissa_end at))
-
   -- neither integer nor fraction has a digit; they end here
   pub record HasNoDigit (at stop : ℕ) : Type 0 where
     pub none : mantissa_count at ≡ 0
@@ -105,31 +101,22 @@ module _ (word : ℕ) (text : List ℕ) where
     pub exponent : stands is_mark text (mantissa_end at) ≡ true
         → 0 < length (exponent_digits (mantissa_end at))
 
-  -- there is a float that ends here, with more than 1,000 digits
-  pub record IsLong (at stop : ℕ) : Type 0 where
-    pub is : HasFloat at
-    pub stops : stop ≡ number_end at
-    pub many : 1000 < digit_count at
-
-  -- there is one that ends here, with fewer, and it isn't the whole text
+  -- there is one that ends here, and it isn't the whole text
   pub record IsFollowed (at stop : ℕ) : Type 0 where
     pub is : HasFloat at
     pub stops : stop ≡ number_end at
-    pub few : digit_count at ≤ 1000
     pub before_end : stop < length text
 
   -- of the number from a position on, after any sign
   abbrev pub IsFault : ℕ → FloatError → Type 0
   IsFault at (Empty stop) = HasNoDigit at stop
   IsFault at (EmptyExponent stop) = HasNoExponent at stop
-  IsFault at (TooLong stop) = IsLong at stop
   IsFault at (Invalid stop) = ⊥
 
   -- of a text that is to be one float from a position on, after any sign
   abbrev pub IsWholeFault : ℕ → FloatError → Type 0
   IsWholeFault at (Empty stop) = HasNoDigit at stop
   IsWholeFault at (EmptyExponent stop) = HasNoExponent at stop
-  IsWholeFault at (TooLong stop) = IsLong at stop
   IsWholeFault at (Invalid stop) = IsFollowed at stop
 
 -- the words of the mantissa, and of the exponent, to be named in an attribute

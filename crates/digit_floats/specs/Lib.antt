@@ -1,4 +1,4 @@
 pub mod Bytes
+pub mod Cut
 pub mod Exact
 pub mod Float
-pub mod Plain

@@ -46,7 +46,7 @@ fn magnitude<F: Float>(digits: u64, up: u64, down: u64) -> Option<F>
 
 /// A float with a sign.
 #[inline(always)]
-fn signed<F: Float>(negative: bool, x: F) -> F
+pub fn signed<F: Float>(negative: bool, x: F) -> F
     ensures { (num den : ℕ) → F.value x ≡ round F.format false num den
         → F.value result ≡ round F.format negative num den }
 {

@@ -7,7 +7,7 @@ ghost use Rattle.std.specs.Float.{Format, NotNan, binary32, binary64};
 ghost use Rattle.std.specs.Float.Ieee.{neg, round};
 ghost use Rattle.std.specs.Float.Parse.{parse_float as std_float};
 ghost use Rattle.lexical_format.specs.Word.{is_supported};
-ghost use Rattle.digit_floats.specs.Float.{IsDecimal, past_sign, float_at, float_end, digit_count, HasFloat, IsFault, IsWholeFault};
+ghost use Rattle.digit_floats.specs.Float.{IsDecimal, past_sign, float_at, float_end, HasFloat, IsFault, IsWholeFault};
 
 mod exact;
 mod read;
@@ -17,7 +17,7 @@ mod text;
 
 use exact::{round_exact, ten_to_f32, ten_to_f64};
 use read::{read_exponent, read_mantissa, read_sign};
-use text::{MOST_DIGITS, round_digits};
+use text::round_digits;
 
 /// `f64` and `f32`.
 pub trait Float: Copy {
@@ -126,8 +126,6 @@ pub enum FloatError {
     EmptyExponent(usize),
     /// The byte at this position is no part of the float before it.
     Invalid(usize),
-    /// Integer, fraction and exponent together have more than 1,000 digits; the float ends here.
-    TooLong(usize),
 }
 
 /// The float that begins at a position of a text, and the position after it: a sign, digits with a
@@ -149,7 +147,6 @@ pub fn read_float_from<F: Float>(
     ensures end { IfOk result (λ r. r.1 ≡ float_end word text.now start) }
     ensures within { IfOk result (λ r. r.1 ≤ length text.now) }
     ensures is { OnOk result (HasFloat word text.now (past_sign text.now start)) }
-    ensures short { OnOk result (digit_count word text.now (past_sign text.now start) ≤ 1000) }
     ensures fault { IfErr result (IsFault word text.now (past_sign text.now start)) }
 {
     let (negative, at) = read_sign(text, start);
@@ -161,11 +158,8 @@ pub fn read_float_from<F: Float>(
         Ok(power) => power,
         Err(stop) => return Err(FloatError::EmptyExponent(stop)),
     };
-    if mantissa.digits > MOST_DIGITS || power.digits > MOST_DIGITS - mantissa.digits {
-        return Err(FloatError::TooLong(power.end));
-    }
-    if mantissa.dropped == 0 && power.dropped == 0 && power.value <= 0xffff_ffff {
-        let places = mantissa.places as u64;
+    let places = mantissa.places as u64;
+    if mantissa.dropped == 0 && power.value <= 0xffff_ffff {
         if let Some(x) = round_exact::<F>(
             negative,
             mantissa.value,
@@ -180,8 +174,9 @@ pub fn read_float_from<F: Float>(
         negative,
         &text[at..mantissa.whole_end],
         &text[mantissa.fraction_start..mantissa.end],
+        places,
         power.negative,
-        &text[power.start..power.end],
+        power.value,
     );
     Ok((x, power.end))
 }
@@ -196,7 +191,6 @@ pub fn read_float<F: Float>(text: &[u8], word: u128) -> Result<(F, usize), Float
     ensures end { IfOk result (λ r. r.1 ≡ float_end word text.now 0) }
     ensures within { IfOk result (λ r. r.1 ≤ length text.now) }
     ensures is { OnOk result (HasFloat word text.now (past_sign text.now 0)) }
-    ensures short { OnOk result (digit_count word text.now (past_sign text.now 0) ≤ 1000) }
     ensures fault { IfErr result (IsFault word text.now (past_sign text.now 0)) }
 {
     read_float_from::<F>(text, word, 0)
@@ -211,7 +205,6 @@ pub fn parse_float_from<F: Float>(text: &[u8], word: u128, start: usize) -> Resu
     ensures value { IfOk result (λ x. F.value x ≡ float_at word text.now F.format start) }
     ensures number { IfOk result (λ x. NotNan (F.value x)) }
     ensures is { OnOk result (HasFloat word text.now (past_sign text.now start)) }
-    ensures short { OnOk result (digit_count word text.now (past_sign text.now start) ≤ 1000) }
     ensures whole { OnOk result (float_end word text.now start ≡ length text.now) }
     ensures fault { IfErr result (IsWholeFault word text.now (past_sign text.now start)) }
 {
@@ -230,7 +223,6 @@ pub fn parse_float<F: Float>(text: &[u8], word: u128) -> Result<F, FloatError>
     ensures value { IfOk result (λ x. F.value x ≡ float_at word text.now F.format 0) }
     ensures number { IfOk result (λ x. NotNan (F.value x)) }
     ensures is { OnOk result (HasFloat word text.now (past_sign text.now 0)) }
-    ensures short { OnOk result (digit_count word text.now (past_sign text.now 0) ≤ 1000) }
     ensures whole { OnOk result (float_end word text.now 0 ≡ length text.now) }
     ensures fault { IfErr result (IsWholeFault word text.now (past_sign text.now 0)) }
 {

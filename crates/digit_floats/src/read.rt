@@ -1,6 +1,6 @@
 // Sign, mantissa and exponent, each component by a `Bytes` of its own.
 
-ghost use Rattle.std.specs.Prelude.{◌≡◌, true, ◌+◌, ◌-◌, ◌^◌, ◌<◌, ◌≤◌, ◌++◌, length, filter, slice_range, IsTrue, IfOk, IfErr, OnOk};
+ghost use Rattle.std.specs.Prelude.{◌≡◌, true, ◌+◌, ◌-◌, ◌^◌, ◌<◌, ◌≤◌, ◌++◌, min, length, filter, slice_range, IsTrue, IfOk, IfErr, OnOk};
 ghost use Rattle.std.specs.Char.{is_ascii_digit};
 ghost use Rattle.std.specs.Str.Parse.{digits_value, digits_value_after};
 ghost use Rattle.lexical_format.specs.Word.{is_supported};
@@ -86,6 +86,8 @@ fn read_part(
         → result.0.value ≡ digits_value_after (rule_of word component).radix before
         (digits_from word text.now component at) }
     ensures few { result.0.dropped ≤ result.0.count }
+    ensures over { 0 < result.0.dropped → most < digits_value_after (rule_of word component).radix before
+        (digits_from word text.now component at) }
     ensures bytes { (rule_of word component).radix ≡ 10
         → filter is_ascii_digit (slice_range text.now at result.1)
         ≡ digits_from word text.now component at }
@@ -139,7 +141,7 @@ pub fn read_mantissa(text: &[u8], word: u128, at: usize) -> Mantissa
     ensures fraction_bytes { filter is_ascii_digit (slice_range text.now result.fraction_start result.end)
         ≡ fraction_digits word text.now (digits_end word text.now Integer at) }
     ensures end { result.end ≡ mantissa_end word text.now at }
-    ensures onward { (at ≤ result.whole_end) × (result.whole_end ≤ result.end)
+    ensures onward { (at ≤ result.whole_end) × (result.whole_end ≤ result.fraction_start)
         × (result.fraction_start ≤ result.end) }
     ensures within { result.end ≤ length text.now }
 {
@@ -174,19 +176,13 @@ pub fn read_mantissa(text: &[u8], word: u128, at: usize) -> Mantissa
     }
 }
 
-/// The digits of an exponent.
+/// An exponent.
 #[derive(Clone, Copy)]
 pub struct Power {
     pub negative: bool,
-    /// The first ones as a number.
+    /// Its value, or the greatest that fits.
     pub value: u64,
-    /// How many there are.
-    pub digits: usize,
-    /// How many aren't in the value.
-    pub dropped: usize,
-    /// Where they begin.
-    pub start: usize,
-    /// Where they end.
+    /// Where its digits end.
     pub end: usize,
 }
 
@@ -198,13 +194,10 @@ pub fn read_exponent(text: &[u8], word: u128, at: usize) -> Result<Power, usize>
     requires decimal { IsDecimal word }
     requires within { at ≤ length text.now }
     ensures value { IfOk result (λ p.
-        p.dropped ≡ 0 → p.value ≡ digits_value 10 (exponent_digits word text.now at)) }
-    ensures digits { IfOk result (λ p. p.digits ≡ length (exponent_digits word text.now at)) }
+        p.value ≡ min (digits_value 10 (exponent_digits word text.now at)) (2 ^ 64 - 1)) }
     ensures negative { IfOk result (λ p. p.negative ≡ exponent_negative word text.now at) }
     ensures end { IfOk result (λ p. p.end ≡ exponent_end word text.now at) }
-    ensures bytes { IfOk result (λ p. filter is_ascii_digit (slice_range text.now p.start p.end)
-        ≡ exponent_digits word text.now at) }
-    ensures onward { IfOk result (λ p. (at ≤ p.end) × (p.start ≤ p.end)) }
+    ensures onward { IfOk result (λ p. at ≤ p.end) }
     ensures within { IfOk result (λ p. p.end ≤ length text.now) }
     ensures some { OnOk result (stands is_mark text.now at ≡ true
         → 0 < length (exponent_digits word text.now at)) }
@@ -216,9 +209,6 @@ pub fn read_exponent(text: &[u8], word: u128, at: usize) -> Result<Power, usize>
         return Ok(Power {
             negative: false,
             value: 0,
-            digits: 0,
-            dropped: 0,
-            start: at,
             end: at,
         });
     }
@@ -227,12 +217,14 @@ pub fn read_exponent(text: &[u8], word: u128, at: usize) -> Result<Power, usize>
     if part.count == 0 {
         return Err(end);
     }
+    let value = if part.dropped > 0 {
+        u64::MAX
+    } else {
+        part.value
+    };
     Ok(Power {
         negative,
-        value: part.value,
-        digits: part.count,
-        dropped: part.dropped,
-        start,
+        value,
         end,
     })
 }
