@@ -1,20 +1,20 @@
 //! The first digits of a number, where it may have more than a `u64` holds.
 
-ghost use Rattle.std.specs.Prelude.{◌≡◌, ◌+◌, ◌*◌, ◌^◌, ◌-◌, ◌≤◌, min, false, length, pos, ◌≤ℤ◌, ◌+ℤ◌, IfSome, IfNone, IsTrue};
+ghost use Rattle.std.specs.Prelude.{◌≡◌, Some, ◌+◌, ◌*◌, ◌^◌, ◌-◌, ◌≤◌, min, false, length, pos, ◌≤ℤ◌, ◌+ℤ◌, IfSome, IfNone, IsTrue};
 ghost use Rattle.lexical_format.specs.Word.{is_supported};
-ghost use Rattle.lexical_digits.specs.State as State;
-ghost use Rattle.lexical_digits.specs.State.{with_cursor, rule, rule_of};
+ghost use Rattle.lexical_digits.specs.State.{rule, rule_of};
+ghost use Rattle.lexical_digits.specs.Separators.{IsSupported};
 ghost use Rattle.lexical_digits.specs.Looks.{owed, needs_run};
 ghost use Rattle.lexical_digits.specs.Stop.{stop, stop_of, leading_digits_of, past_digits_of};
 ghost use Rattle.digit_literals.specs.After.{digits_between, digits_to};
 ghost use Rattle.digit_literals.specs.First.{ReadsFirst};
-ghost use Rattle.digit_literals.specs.Reads.{PassesAll};
+ghost use Rattle.digit_literals.specs.Reads.{IsOffSlice, PassesAll};
 
 use super::component::{pass_digits, read_digits_up_to};
 use super::reading::Digits;
-use super::slice::read_radix;
+use super::slice::{ReadTo, read_radix};
 use lexical_digits::iterator::Iter;
-use lexical_digits::skip::{Bytes, Component};
+use lexical_digits::skip::{Bytes, Component, Rule};
 
 /// The digits of a component, of which the first were read after a value, and the others passed.
 #[derive(Clone, Copy, Debug, PartialEq, Eq)]
@@ -101,22 +101,63 @@ pub fn read_first_digits_from(
     ensures onward { start + result.0.count ≤ result.1 }
     ensures end { result.1 ≤ length text.now }
 {
-    let mut bytes = bytes_at(text, word, start);
+    let rule = Rule::of(word, component);
+    match decimals_from(text, rule, start, before, most) {
+        Some(read) => {
+            let all = FirstDigits {
+                value: read.value,
+                count: read.count,
+                dropped: 0,
+            };
+            (all, read.end)
+        }
+        None => read_first_fresh(text, word, component, start, before, most),
+    }
+}
+
+/// [`read_first_digits_from`] by a `Bytes`, whatever separators are met and however many digits
+/// there are.
+#[cold]
+#[inline(never)]
+fn read_first_fresh(
+    text: &[u8],
+    word: u128,
+    component: Component,
+    start: usize,
+    before: u64,
+    most: u64,
+) -> (FirstDigits, usize)
+    requires supported { IsTrue (is_supported word) }
+    requires within { start ≤ length text.now }
+    requires fits { before ≤ most }
+    ensures first { let r = rule_of word component in
+        let digits = digits_between r text.now start (stop r text.now start 0) in
+        ReadsFirst r.radix most before digits result.0 }
+    ensures stops { result.1 ≡ stop (rule_of word component) text.now start 0 }
+    ensures onward { start + result.0.count ≤ result.1 }
+    ensures end { result.1 ≤ length text.now }
+{
+    let mut bytes = Bytes::new(text, word);
+    bytes.set_cursor(start);
     let read = read_first_digits(&mut bytes, component, before, most);
     (read, bytes.cursor())
 }
 
-/// A `Bytes` that counted nothing, with the cursor at a position. It isn't `inline(always)`: a
-/// compiler that gets it inlined leaves the `Bytes` of a call in memory.
-#[inline]
-fn bytes_at<'a>(text: &'a [u8], word: u128, at: usize) -> Bytes<'a>
-    requires supported { IsTrue (is_supported word) }
-    requires within { at ≤ length text.now }
-    ensures { result.state ≡ with_cursor (State.start text.now word) at }
+/// Reads the digits of a rule with radix 10 from `start` on, where the slice is enough and no digit
+/// is too large.
+#[inline(always)]
+fn decimals_from(text: &[u8], rule: Rule, start: usize, before: u64, most: u64) -> Option<ReadTo>
+    requires supported { IsSupported rule }
+    requires within { start ≤ length text.now }
+    requires fits { before ≤ most }
+    ensures reads { IfSome result (IsOffSlice rule text.now start before (Some most)) }
+    ensures all { IfSome result (λ read. read.is_too_large ≡ false) }
 {
-    let mut bytes = Bytes::new(text, word);
-    bytes.set_cursor(at);
-    bytes
+    if rule.radix != 10 {
+        return None;
+    }
+    let read = read_radix(text, rule, 10, start, before, Some(most))?;
+    if read.is_too_large { None } else { Some(read) }
 }
 
 /// Reads and passes the digits of a component with radix 10, where the slice is enough and no digit
@@ -128,14 +169,7 @@ fn read_decimal(bytes: &mut Bytes, component: Component, before: u64, most: u64)
     ensures leaves { IfNone result (bytes.new ≡ bytes.old) }
 {
     let rule = bytes.rule(component);
-    if rule.radix != 10 {
-        return None;
-    }
-    let text = bytes.get_buffer();
-    let read = read_radix(text, rule, 10, bytes.cursor(), before, Some(most))?;
-    if read.is_too_large {
-        return None;
-    }
+    let read = decimals_from(bytes.get_buffer(), rule, bytes.cursor(), before, most)?;
     bytes.pass_read(component, read.end, read.count);
     Some(Digits {
         value: read.value,

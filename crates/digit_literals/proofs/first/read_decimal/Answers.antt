@@ -6,9 +6,9 @@ use Rattle.lexical_digits.proofs.Calls.Stops.{leading_between}
 use Rattle.digit_literals.proofs.first.read_decimal.Goals as goal
 
 pub pass_read-requires-clause-within : goal.pass_read-requires-clause-within
-pass_read-requires-clause-within c = let reads = c.in_ok-read.ensures.reads 0 in grind arith
+pass_read-requires-clause-within c = let reads = c.in_ok-read.ensures.reads.reads 0 in grind arith
 
 pub returns-clause-reads : goal.returns-clause-reads
 returns-clause-reads c =
-    let reads = c.in_ok-read.ensures.reads (own c.args.component c.args.bytes.now.state) in
+    let reads = c.in_ok-read.ensures.reads.reads (own c.args.component c.args.bytes.now.state) in
     grind (arith, ints, leading_between, none_needed)
