@@ -1,6 +1,6 @@
 -- What `read_digits` answers on a `Bytes` that has counted no digit is what `read_integer_from`
 -- answers of its text.
-use Rattle.std.proofs.Common.{◌≡◌, ℕ, ◌-◌, ◌^◌, refl, ap, sym, ◌∙◌, arith}
+use Rattle.std.proofs.Common.{◌≡◌, ℕ, ◌-◌, ◌^◌, ap, ◌∙◌, arith}
 use Rattle.lexical_format.specs.Digits.{is_digit_of_radix}
 use Rattle.lexical_digits.specs.declared.skip.component.Component.{Component}
 use Rattle.lexical_digits.specs.declared.skip.rule.Rule.{Rule}
