@@ -7,6 +7,7 @@ pub mod PassedZeros
 pub mod Between
 pub mod Worth
 pub mod OtherBytes
+pub mod Onward
 pub mod Texts
 pub mod ForCallers
 pub mod Rest

@@ -12,6 +12,7 @@ ghost use Rattle.digit_literals.specs.Integers.{ReadsFrom, IsIntegerFrom, IsTooL
 
 use super::LiteralError;
 use super::integer::{integer_of, read_integer_from, read_text, stop_from};
+use super::slice::{ReadTo, read_slice};
 use lexical_digits::skip::{Component, Rule};
 use lexical_format::char_to_digit_const;
 
@@ -60,7 +61,7 @@ pub fn read_wide_from(
 /// the value of the digits before it. `Err` holds the first digit with which it is above `most`.
 #[cold]
 #[inline(never)]
-#[tactic(auto, using(crate::proofs::OtherBytes::some_before_stop))]
+#[tactic(auto, using(crate::proofs::OtherBytes::some_before_stop, crate::proofs::ForCallers::stops))]
 fn read_beyond(
     text: &[u8],
     word: u128,
@@ -83,75 +84,63 @@ fn read_beyond(
     ensures overflow_at { let n = length text.now in
         IfErr result (λ over. (start ≤ over) × (over < n)) }
 {
+    if let Some((value, end)) = read_pieces(text, word, start, at, before) {
+        if value <= most {
+            return Ok((value, end));
+        }
+    }
     let end = stop_from(text, word, Component::Integer, start);
     let rule = Rule::of(word, Component::Integer);
-    match value_in_pieces(text, rule, start, at, before, end, most) {
-        Some(value) => Ok((value, end)),
-        None => Ok((value_between(text, rule, start, end, most)?, end)),
-    }
+    Ok((value_between(text, rule, start, end, most)?, end))
 }
 
-/// A value followed by digits, of which the highest counts so much: if that is at most `most`.
+/// A value followed by digits that were read, if that fits 128 bits.
 #[inline(always)]
-fn join(value: u128, scale: u64, digits: u64, most: u128) -> Option<u128>
-    ensures { SomeIff result (value * scale + digits ≤ most) (value * scale + digits) }
+fn join(value: u128, radix: u32, read: ReadTo) -> Option<u128>
+    ensures { IfSome result (λ more. more ≡ value * radix ^ read.count + read.value) }
 {
-    let more = value
+    let count = u32::try_from(read.count).ok()?;
+    let scale = u64::from(radix).checked_pow(count)?;
+    value
         .checked_mul(u128::from(scale))?
-        .checked_add(u128::from(digits))?;
-    if more <= most { Some(more) } else { None }
+        .checked_add(u128::from(read.value))
 }
 
-/// A piece of digits with one more, and the scale of that piece, if both fit.
+/// The value of the integer from `start` on, and where it ends: `before` is that of the digits
+/// before the digit at `from`. It goes on from there in pieces of 64 bits. `None` if the value, or
+/// the scale of a piece, doesn't fit, or the slice isn't enough.
 #[inline(always)]
-fn add_to_piece(piece: u64, scale: u64, radix: u32, digit: u32) -> Option<(u64, u64)>
-    ensures piece { IfSome result (λ more. more.0 ≡ piece * radix + digit) }
-    ensures scale { IfSome result (λ more. more.1 ≡ scale * radix) }
-{
-    let more = piece
-        .checked_mul(u64::from(radix))?
-        .checked_add(u64::from(digit))?;
-    Some((more, scale.checked_mul(u64::from(radix))?))
-}
-
-/// The value of the digits from `start` to `end`, in pieces that fit 64 bits: `before` is that of
-/// those before `from`. `None` if a piece makes it greater than `most`.
-fn value_in_pieces(
+fn read_pieces(
     text: &[u8],
-    rule: Rule,
+    word: u128,
     start: usize,
     from: usize,
     before: u64,
-    end: usize,
-    most: u128,
-) -> Option<u128>
-    requires starts { start ≤ from }
-    requires onward { from ≤ end }
-    requires within { end ≤ length text.now }
-    requires before { before ≡ digits_value rule.radix (digits_between rule text.now start from) }
-    ensures is { IfSome result (λ v.
-        v ≡ digits_value rule.radix (digits_between rule text.now start end)) }
-    ensures fits { IfSome result (λ v. v ≤ most) }
+) -> Option<(u128, usize)>
+    requires supported { IsTrue (is_supported word) }
+    requires within { start ≤ length text.now }
+    requires beyond { IsTooLargeFrom (rule_of word Integer) text.now start (2 ^ 64 - 1) from }
+    requires before { let r = rule_of word Integer in
+        before ≡ digits_value r.radix (digits_between r text.now start from) }
+    ensures ends { IfSome result (λ read. read.1 ≡ stop (rule_of word Integer) text.now start 0) }
+    ensures is { let r = rule_of word Integer in IfSome result (λ read.
+        read.0 ≡ digits_value r.radix (digits_between r text.now start read.1)) }
 {
+    let rule = Rule::of(word, Component::Integer);
     let mut value = u128::from(before);
-    let mut piece = 0u64;
-    let mut scale = 1u64;
-    for at in from..end {
-        if let Some(digit) = char_to_digit_const(text[at], rule.radix) {
-            match add_to_piece(piece, scale, rule.radix, digit) {
-                Some((more, more_scale)) => {
-                    piece = more;
-                    scale = more_scale;
-                }
-                None => {
-                    value = join(value, scale, piece, most)?;
-                    piece = u64::from(digit);
-                    scale = u64::from(rule.radix);
-                }
-            }
+    let mut at = from;
+    while at < text.len() {
+        let read = read_slice(text, rule, at, 0, Some(u64::MAX))?;
+        value = join(value, rule.radix, read)?;
+        if !read.is_too_large {
+            return Some((value, read.end));
         }
+        if read.end == at {
+            return None;
+        }
+        at = read.end;
     }
-    join(value, scale, piece, most)
+    None
 }
 
 /// The value with one digit more, if it is at most `most`.
@@ -159,7 +148,10 @@ fn value_in_pieces(
 fn add_wide(value: u128, radix: u32, digit: u32, most: u128) -> Option<u128>
     ensures { SomeIff result (value * radix + digit ≤ most) (value * radix + digit) }
 {
-    join(value, u64::from(radix), u64::from(digit), most)
+    let more = value
+        .checked_mul(u128::from(radix))?
+        .checked_add(u128::from(digit))?;
+    if more <= most { Some(more) } else { None }
 }
 
 /// The value of the digits between two positions, or the position of the first with which it is

@@ -1,15 +1,14 @@
+use Rattle.std.proofs.Common.{refl}
 use Rattle.digit_literals.proofs.OtherBytes.{is_integer}
 use Rattle.digit_literals.proofs.wide.read_beyond.Goals as goal
 
-pub returns-in-Some-clause-ok : goal.returns-in-Some-clause-ok
-returns-in-Some-clause-ok c =
+pub returns-then-value-most-clause-ok : goal.returns-then-value-most-clause-ok
+returns-then-value-most-clause-ok c =
     let read = c.in-Some.ensures in
-    is_integer _ _ _ _ _ _ _ _ _ c.of-rule.ensures c.requires.beyond
-    c.stop_from-end.ensures.stops read.is read.fits
+    is_integer _ _ _ _ _ _ _ _ _ refl c.requires.beyond read.ends read.is c.if-value-most.true
 
-pub returns-in_ok-value_between-in-None-clause-ok :
-    goal.returns-in_ok-value_between-in-None-clause-ok
-returns-in_ok-value_between-in-None-clause-ok c =
-    let read = c.in_ok-value_between-in-None.ensures in
+pub returns-clause-ok : goal.returns-clause-ok
+returns-clause-ok c =
+    let read = c.in_ok-value_between.ensures in
     is_integer _ _ _ _ _ _ _ _ _ c.of-rule.ensures c.requires.beyond
     c.stop_from-end.ensures.stops read.is read.fits
