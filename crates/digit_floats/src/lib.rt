@@ -132,7 +132,7 @@ pub enum FloatError {
 /// point before, among or after them, and an exponent after `e` or `E`. Requires that the word is
 /// supported, and that its mantissa and exponent are decimal. `inf` and `nan` are no digits, so
 /// they are refused as `Empty`: a word says nothing about them.
-#[inline]
+#[inline(always)]
 #[tactic(auto, using(crate::proofs::Numbers::round_number))]
 pub fn read_float_from<F: Float>(
     text: &[u8],
@@ -182,7 +182,7 @@ pub fn read_float_from<F: Float>(
 }
 
 /// [`read_float_from`] from the start of a text on.
-#[inline]
+#[inline(always)]
 pub fn read_float<F: Float>(text: &[u8], word: u128) -> Result<(F, usize), FloatError>
     requires supported { IsTrue (is_supported word) }
     requires decimal { IsDecimal word }
@@ -197,7 +197,7 @@ pub fn read_float<F: Float>(text: &[u8], word: u128) -> Result<(F, usize), Float
 }
 
 /// The float that a text is from a position on, as by [`read_float_from`].
-#[inline]
+#[inline(always)]
 pub fn parse_float_from<F: Float>(text: &[u8], word: u128, start: usize) -> Result<F, FloatError>
     requires supported { IsTrue (is_supported word) }
     requires decimal { IsDecimal word }
@@ -216,7 +216,7 @@ pub fn parse_float_from<F: Float>(text: &[u8], word: u128, start: usize) -> Resu
 }
 
 /// The float that a text is, as by [`read_float_from`].
-#[inline]
+#[inline(always)]
 pub fn parse_float<F: Float>(text: &[u8], word: u128) -> Result<F, FloatError>
     requires supported { IsTrue (is_supported word) }
     requires decimal { IsDecimal word }

@@ -1,17 +1,16 @@
-// Sign, mantissa and exponent, each component by a `Bytes` of its own.
+// Sign, mantissa and exponent, each component from where it begins.
 
 ghost use Rattle.std.specs.Prelude.{◌≡◌, true, ◌+◌, ◌-◌, ◌^◌, ◌<◌, ◌≤◌, ◌++◌, min, length, filter, slice_range, IsTrue, IfOk, IfErr, OnOk};
 ghost use Rattle.std.specs.Char.{is_ascii_digit};
 ghost use Rattle.std.specs.Str.Parse.{digits_value, digits_value_after};
 ghost use Rattle.lexical_format.specs.Word.{is_supported};
-ghost use Rattle.lexical_digits.specs.State.{start, rule_of, with_cursor};
+ghost use Rattle.lexical_digits.specs.State.{rule_of};
 ghost use Rattle.lexical_digits.specs.declared.skip.component.Component.TheVariants.{Integer};
 ghost use Rattle.digit_floats.specs.Bytes.{stands, is_minus, is_point, is_mark};
 ghost use Rattle.digit_floats.specs.Float.{IsDecimal, past_sign, digits_from, digits_end, fraction_digits, mantissa_end, exponent_digits, exponent_end, exponent_negative};
 
-use digit_literals::{FirstDigits, read_first_digits};
-use lexical_digits::iterator::{Iter, IterBodies};
-use lexical_digits::skip::{Bytes, Component};
+use digit_literals::{FirstDigits, read_first_digits_from};
+use lexical_digits::skip::Component;
 
 /// A sign, if there is one: whether it is a minus, and the position after it.
 #[inline]
@@ -55,18 +54,6 @@ fn has_mark(text: &[u8], at: usize) -> bool
 /// The greatest value of 19 digits.
 const MOST: u64 = 9_999_999_999_999_999_999;
 
-/// A `Bytes` that counted nothing, with the cursor at a position.
-#[inline]
-fn bytes_at<'a>(text: &'a [u8], word: u128, at: usize) -> Bytes<'a>
-    requires supported { IsTrue (is_supported word) }
-    requires within { at ≤ length text.now }
-    ensures { result.state ≡ with_cursor (start text.now word) at }
-{
-    let mut bytes = Bytes::new(text, word);
-    bytes.set_cursor(at);
-    bytes
-}
-
 /// The first digits of a component from a position on, after those of a number, and where they end.
 #[inline(always)]
 #[tactic(auto, using(crate::proofs::Decimals::digits_are), unfolding(crate::specs::Float::digits_from, crate::specs::Float::digits_end))]
@@ -96,9 +83,7 @@ fn read_part(
     ensures onward { at + result.0.count ≤ result.1 }
     ensures within { result.1 ≤ length text.now }
 {
-    let mut bytes = bytes_at(text, word, at);
-    let read = read_first_digits(&mut bytes, component, before, most);
-    (read, bytes.cursor())
+    read_first_digits_from(text, word, component, at, before, most)
 }
 
 /// The digits of integer and fraction.

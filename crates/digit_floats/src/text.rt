@@ -191,6 +191,8 @@ fn push_tens(bytes: &mut [u8], kept: Kept, tens: Tens) -> usize
 
 /// The float nearest to the number of the digits in two texts, of which so many are places, times
 /// ten to a power, of any length.
+#[cold]
+#[inline(never)]
 pub fn round_digits<F: Float>(
     negative: bool,
     whole: &[u8],
