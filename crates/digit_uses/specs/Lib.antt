@@ -5,4 +5,3 @@ pub mod Lexer
 pub mod Literal
 pub mod Loops
 pub mod Number
-pub mod Rounded

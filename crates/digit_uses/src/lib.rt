@@ -17,5 +17,4 @@ pub mod numbers;
 pub mod onward;
 pub mod readme;
 pub mod rest;
-pub mod rounded;
 pub mod validate;

@@ -15,7 +15,6 @@ use digit_uses::literal::{LiteralFault, Suffix, parse_literal};
 use digit_uses::loops::{count_yielded, yields};
 use digit_uses::onward::{read_mantissa, read_number, read_past_zeros, read_range};
 use digit_uses::rest::number_end;
-use digit_uses::rounded::{FloatFault, parse_f64};
 use digit_uses::validate::{is_integer, validate};
 use lexical_digits::iterator::Iter;
 use lexical_digits::skip::{Bytes, Component};
@@ -331,24 +330,6 @@ fn a_number_in_the_rest_of_a_text_ends(rt: HostRuntime) {
     assert!(rt; char_is_digit_const(b'1', 10) && char_is_digit_const(b'3', 10));
     assert_eq!(rt; number_end(b"[12,3]", JSON, 1), 3);
     assert_eq!(rt; number_end(b"[12,3]", JSON, 4), 5);
-}
-
-#[test]
-fn a_text_is_read_as_the_nearest_float(rt: HostRuntime) {
-    assert!(rt; matches!(parse_f64(rt.alloc(), b"-1_234.5_6e+1_0"), Ok(x) if x == -1234.56e10));
-    assert!(rt; matches!(parse_f64(rt.alloc(), b"1_0"), Ok(x) if x == 10.0));
-    for (text, fault) in [
-        (b"1_.5".as_slice(), FloatFault::Invalid(1)),
-        (b"1.5x", FloatFault::Invalid(3)),
-        (b"nan", FloatFault::Invalid(0)),
-        (b"1e", FloatFault::NoNumber),
-        (b"", FloatFault::NoNumber),
-    ] {
-        assert!(rt;
-            matches!(parse_f64(rt.alloc(), text), Err(it) if it == fault),
-            "{text:?}"
-        );
-    }
 }
 
 /// A text, and whether it is one integer.
