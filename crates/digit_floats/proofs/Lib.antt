@@ -4,6 +4,7 @@ mod Decimals
 mod Huge
 mod Kept
 mod Numbers
+mod Outcomes
 mod Signs
 mod Tens
 mod Written

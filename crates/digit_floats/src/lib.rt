@@ -10,6 +10,7 @@ ghost use Rattle.lexical_format.specs.Word.{is_supported};
 ghost use Rattle.digit_floats.specs.Float.{IsDecimal, past_sign, float_at, float_end, HasFloat, IsFault, IsWholeFault};
 
 mod exact;
+pub mod laws;
 mod read;
 #[cfg(test)]
 mod tests;

@@ -1,0 +1,23 @@
+//! Laws: the outcomes of a text exclude each other.
+
+ghost use Rattle.std.specs.Prelude.{◌≡◌, ℕ, length};
+ghost use Rattle.digit_floats.specs.Float.{HasFloat, HasNoDigit, HasNoExponent, IsFault, IsWholeFault, number_end};
+ghost use Rattle.digit_floats.specs.declared.FloatError.{FloatError};
+
+/// From each start no text has two outcomes of [`read_float_from`](crate::read_float_from), nor a
+/// float and a fault of [`parse_float_from`](crate::parse_float_from), nor two faults. This holds
+/// of any word.
+pub fn floats_have_no_fault(text: &[u8], word: u128)
+    ensures none { (at stop : ℕ) → HasFloat word text.now at →
+        HasNoDigit word text.now at stop → ⊥ }
+    ensures exponent { (at stop : ℕ) → HasFloat word text.now at →
+        HasNoExponent word text.now at stop → ⊥ }
+    ensures none_or_exponent { (at stop other : ℕ) → HasNoDigit word text.now at stop →
+        HasNoExponent word text.now at other → ⊥ }
+    ensures float { (at : ℕ) (error : FloatError) → HasFloat word text.now at →
+        IsFault word text.now at error → ⊥ }
+    ensures whole { (at : ℕ) (error : FloatError) → HasFloat word text.now at →
+        number_end word text.now at ≡ length text.now → IsWholeFault word text.now at error → ⊥ }
+    ensures one_fault { (at : ℕ) (one other : FloatError) → IsWholeFault word text.now at one →
+        IsWholeFault word text.now at other → one ≡ other }
+{}
