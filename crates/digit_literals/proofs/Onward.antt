@@ -10,8 +10,8 @@ use Rattle.lexical_digits.specs.State.{State, IsState, own, rule_of, start, with
 use Rattle.lexical_digits.specs.Separators.{is_digit}
 use Rattle.lexical_digits.specs.Stop.{stop, stop_of}
 use Rattle.digit_literals.specs.After.{digits_between, past_digits_to, ExceedsAt}
-use Rattle.digit_literals.proofs.ForCallers.{value_of_both, stop_within, stops}
-use Rattle.digit_literals.proofs.OtherBytes.{value_of_pieces, some_before_stop}
+use Rattle.digit_literals.proofs.ForCallers.{value_of_both, value_of_pieces, stop_within, stops}
+use Rattle.digit_literals.proofs.UpToStop.{some_before_stop}
 use Rattle.digit_literals.proofs.Rest.{leaves_rest}
 
 -- a state at a position of a text, from which the stop is that of an integer from its start on
