@@ -145,6 +145,7 @@ def measured(it):
         it.compare("docs/SPEED.md", line, f"the run of {CASES}", m[0], lines[0])
     table = dict(re.findall(r'\( ?"([^"]+)", "(\w+: [^"]+)",? ?\)', source))
     rows_of_speed(it, table, rows)
+    rows_of_std(it, re.findall(r'\( ?"(\w: [^"]+)", "([^"]+)",? ?\)', source), rows)
     means(it, lines)
     ratios_of_readme(it, re.findall(r'both\("([^"]+)"\)', source), rows)
     kept_runs(it, runs)
@@ -174,6 +175,24 @@ def rows_of_speed(it, table, rows):
             there = rows[unit, case]
             it.compare("docs/SPEED.md", line, f"{unit} of \"{case}\"", row[1:],
                        [there[1], there[7], there[9], there[2], there[8], there[5]])
+
+
+def rows_of_std(it, table, rows):
+    """The rows of SPEED that have std beside the library, by case."""
+    shown = {cells(text)[0]: (line, cells(text)) for line, text in it.lines("docs/SPEED.md")
+             if len(cells(text)) == 5}
+    for case, words in table:
+        if words not in shown or ("Instructions", case) not in rows:
+            it.faults.append(f"docs/SPEED.md:1: no row \"{words}\" beside std, or no case "
+                             f"\"{case}\"")
+            continue
+        line, row = shown[words]
+        there = rows["Instructions", case]
+        it.compare("docs/SPEED.md", line, f"\"{case}\" beside std", row[1:4],
+                   [there[2], there[1], there[6]])
+        is_near = abs(float(row[4]) - float(there[2]) / float(there[6])) < 0.0101
+        it.compare("docs/SPEED.md", line, f"the ratio of \"{case}\"", row[4],
+                   row[4] if is_near else "another")
 
 
 def means(it, lines):

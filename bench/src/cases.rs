@@ -3,11 +3,11 @@
 use crate::measure::Job;
 use crate::numbers::Type::{I32, I64, U128, U16, U32, U64, U8};
 use crate::texts::{
-    decimals, digits, each_third, floats, fractions, hex_digits, hex_numbers, lines, literals,
-    long_decimals, middle_literals, middle_signed_literals, numbers, others, runs, rust_literals,
-    shortest_decimals, shortest_floats, shortest_lines, shortest_literals, shortest_numbers,
-    shortest_signed_literals, shortest_stopped_numbers, signed_literals, stopped_numbers,
-    tiny_literals, wide_literals, zeros, Text,
+    decimals, digits, each_third, exact_decimals, exact_literals, floats, fractions, hex_digits,
+    hex_numbers, lines, literals, long_decimals, middle_literals, middle_signed_literals, numbers,
+    others, runs, rust_literals, shortest_decimals, shortest_floats, shortest_lines,
+    shortest_literals, shortest_numbers, shortest_signed_literals, shortest_stopped_numbers,
+    signed_literals, stopped_numbers, tiny_literals, wide_literals, zeros, Text,
 };
 use crate::word::{I, IC, ILTC, I_16, I_IN_ALL, NONE, RUST};
 use crate::work::Sides;
@@ -295,6 +295,10 @@ fn number_texts() -> Vec<Case> {
 /// Floats.
 fn float_texts() -> Vec<Case> {
     let [plain, grouped]: [fn() -> Text; 2] = [|| literals(false), || literals(true)];
+    let [exact, grouped_exact]: [fn() -> Text; 2] =
+        [|| exact_literals(false), || exact_literals(true)];
+    let [exact_points, grouped_exact_points]: [fn() -> Text; 2] =
+        [|| exact_decimals(false), || exact_decimals(true)];
     let [points, grouped_points]: [fn() -> Text; 2] = [|| decimals(false), || decimals(true)];
     let [powers, grouped_powers]: [fn() -> Text; 2] = [|| floats(false), || floats(true)];
     let [long, grouped_long]: [fn() -> Text; 2] = [|| long_decimals(false), || long_decimals(true)];
@@ -303,10 +307,14 @@ fn float_texts() -> Vec<Case> {
     vec![
         none("x: no flags, integers of 1 to 4 digits", shortest_literals),
         internal("x: I, integers of 1 to 4 digits", shortest_literals),
+        none("x: no flags, integers of 8 to 15 digits", exact),
+        internal("x: I, grouped integers of 8 to 15 digits", grouped_exact),
         none("x: no flags, integers of 8 to 20 digits", plain),
         internal("x: I, grouped integers of 8 to 20 digits", grouped),
         none("x: no flags, 1 to 4 digits, a point", shortest_decimals),
         internal("x: I, 1 to 4 digits, a point", shortest_decimals),
+        none("x: no flags, 8 to 14 digits, a point", exact_points),
+        internal("x: I, grouped, 8 to 14 digits, a point", grouped_exact_points),
         none("x: no flags, 8 to 20 digits, a point", points),
         internal("x: I, grouped, 8 to 20 digits, a point", grouped_points),
         none("x: no flags, 1 to 4 digits, an exponent", shortest_floats),

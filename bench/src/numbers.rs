@@ -22,7 +22,10 @@ pub enum Type {
 /// An expression for a type, which it calls by a name.
 macro_rules! for_type {
     ($of:expr, $name:ident, $way:expr) => {
-        for_type!($of, $name, $way, U8 = u8, U16 = u16, U32 = u32, U64 = u64, I32 = i32, I64 = i64, U128 = u128)
+        for_type!(
+            $of, $name, $way,
+            U8 = u8, U16 = u16, U32 = u32, U64 = u64, I32 = i32, I64 = i64, U128 = u128
+        )
     };
     ($of:expr, $name:ident, $way:expr, $($variant:ident = $number:ty),*) => {
         match $of {

@@ -2,10 +2,10 @@
 
 use crate::cases::{self, most_to_original, TO_FLOOR};
 use crate::medians::{Medians, Side, Unit};
-use crate::table::{print_means, print_part, ratio, value, UNITS};
+use crate::table::{print_means, print_part, printed, ratio, value, UNITS};
 
 /// The rows, with the cases that they show.
-pub const ROWS: [(&str, &str); 17] = [
+pub const ROWS: [(&str, &str); 20] = [
     ("Digits, no separators allowed", "a: no flags, digits, number"),
     ("Digits, separators allowed", "b: I, digits, number"),
     ("Numbers of 8 to 20 bytes, grouped by thousands", "f: I, short grouped numbers"),
@@ -24,8 +24,39 @@ pub const ROWS: [(&str, &str); 17] = [
     ("Integer, fraction and exponent, grouped", "l: I, three grouped components"),
     ("The same, by `read_digits_of`", "l: I, grouped, by read_digits_of"),
     ("The same, as mantissa and exponent", "s: I, grouped, mantissa and exponent"),
+    ("Numbers of 8 or 9 digits, grouped, by `parse_number::<u32>`", "u: I, grouped, u32"),
+    (
+        "Numbers of 20 to 39 digits, grouped, by `parse_number::<u128>`",
+        "u: I, grouped, 20 to 39 digits, u128",
+    ),
+    (
+        "Floats of 8 to 14 digits, grouped, by `parse_float`",
+        "x: I, grouped, 8 to 14 digits, a point",
+    ),
     ("Runs of 16 separators, all dropped", "e: ILTC, runs of 16, number"),
     ("Letters, by `peek` and `next`", "k: I, other bytes, peeked"),
+];
+
+/// The rows beside std: cases, and what they show.
+pub const STD_ROWS: [(&str, &str); 18] = [
+    ("p: no flags, 1 to 4 digits, parse_integer", "`u64`, 1 to 4 digits"),
+    ("p: no flags, parse_integer", "`u64`, 8 to 20 digits"),
+    ("p: I, grouped, parse_integer", "`u64`, 8 to 20 digits, grouped"),
+    ("u: no flags, 1 to 4 digits, i32", "`i32`, 1 to 4 digits"),
+    ("u: no flags, i32", "`i32`, 8 or 9 digits"),
+    ("u: I, grouped, i32", "`i32`, 8 or 9 digits, grouped"),
+    ("u: no flags, u128", "`u128`, 8 to 20 digits"),
+    ("u: no flags, 20 to 39 digits, u128", "`u128`, 20 to 39 digits"),
+    ("u: I, grouped, 20 to 39 digits, u128", "`u128`, 20 to 39 digits, grouped"),
+    ("w: literals of Rust", "Literals of Rust with a prefix, by `read_literal`"),
+    ("w: grouped literals of Rust", "Literals of Rust with a prefix, grouped"),
+    ("x: no flags, integers of 1 to 4 digits", "`f64`, integers of 1 to 4 digits"),
+    ("x: no flags, 1 to 4 digits, a point", "`f64`, 1 to 4 digits before a point and after it"),
+    ("x: no flags, 8 to 14 digits, a point", "`f64`, 8 to 14 digits with a point"),
+    ("x: I, grouped, 8 to 14 digits, a point", "`f64`, 8 to 14 digits with a point, grouped"),
+    ("x: no flags, 8 to 20 digits, a point", "`f64`, 8 to 20 digits with a point"),
+    ("x: no flags, 18 to 40 digits", "`f64`, 18 to 40 digits"),
+    ("x: no flags, in [0, 1) with 17 digits", "`f64` in [0, 1), 17 digits"),
 ];
 
 /// The longest and the shortest run that is kept.
@@ -38,6 +69,7 @@ pub fn print(medians: &Medians) {
         print_unit(unit, words, medians);
     }
     print_means(medians);
+    print_std(medians);
     print_asked(medians);
     print_runs(medians);
 }
@@ -70,6 +102,20 @@ fn row(unit: Unit, words: &str, case: &str, medians: &Medians) -> Vec<String> {
         ratio(Side::Constant, fixed, most_to_original(case)),
         value(unit, case, fixed, medians),
     ]
+}
+
+/// Numbers and floats beside std's `parse`.
+fn print_std(medians: &Medians) {
+    let head = ["What is parsed", "Constant word", "Library", "std", "Constant word / std"];
+    let row = |&(case, words): &(&str, &str)| {
+        let side = |side| value(Unit::Instructions, case, side, medians);
+        let ratio = medians.ratio(Unit::Instructions, case, Side::Constant, Side::Filter)?;
+        let sides = [Side::Constant, Side::Library, Side::Filter].map(side);
+        Some([&[words.into()], &sides[..], &[printed(ratio)]].concat())
+    };
+    let words = "Beside std's `parse`, or `from_str_radix`, which reads the text without its \
+                 separators; instructions for each byte of the text with them:";
+    print_part(words, &head.map(String::from), STD_ROWS.iter().filter_map(row).collect());
 }
 
 /// What it costs to ask the looks after each number.

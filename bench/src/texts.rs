@@ -189,6 +189,11 @@ pub fn middle_literals(grouped: bool) -> Text {
     literals_of(8..=9, grouped, |_| None, None)
 }
 
+/// Numbers of 8 to 15 digits, which an `f64` holds; grouped likewise.
+pub fn exact_literals(grouped: bool) -> Text {
+    literals_of(8..=15, grouped, |_| None, None)
+}
+
 /// Numbers of 20 to 39 digits, some above `u128::MAX`; grouped likewise.
 pub fn wide_literals(grouped: bool) -> Text {
     literals_of(20..=39, grouped, |_| None, None)
@@ -297,6 +302,11 @@ pub fn shortest_decimals() -> Text {
 /// The same of 4 to 10 digits each; grouped by threes where `grouped` says so.
 pub fn decimals(grouped: bool) -> Text {
     numbers_by(|random, bytes| random.push_decimal(bytes, 4..=10, grouped))
+}
+
+/// The same of 4 to 7 digits each.
+pub fn exact_decimals(grouped: bool) -> Text {
+    numbers_by(|random, bytes| random.push_decimal(bytes, 4..=7, grouped))
 }
 
 /// The same of 9 to 20 digits each.

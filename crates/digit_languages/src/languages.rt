@@ -83,7 +83,8 @@ pub const CSHARP: Language = Language {
     first_zero: FirstZero::Plain,
 };
 
-/// JavaScript, in strict mode and in modules: `0b`, `0o`, `0x`, in either case. No digit follows a first `0`.
+/// JavaScript, in strict mode and in modules: `0b`, `0o`, `0x`, in either case. No digit follows a
+/// first `0`.
 pub const JAVASCRIPT: Language = Language {
     decimal: JAVASCRIPT_LITERAL,
     binary: Some(JAVASCRIPT_BINARY_LITERAL),

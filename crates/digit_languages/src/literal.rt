@@ -1,6 +1,6 @@
-//! The integer literal that stands at a position.
+//! The integer literal at a position.
 
-ghost use Rattle.std.specs.Prelude.{◌≡◌, ◌+◌, ◌-◌, ◌^◌, ◌<◌, ◌≤◌, Some, length, is_some, IfOk, IfErr, IsTrue, IfSome};
+ghost use Rattle.std.specs.Prelude.{◌≡◌, ◌+◌, ◌-◌, ◌<◌, ◌≤◌, Some, length, IfOk, IfErr, IsTrue, IfSome};
 ghost use Rattle.lexical_format.specs.Word.{is_supported};
 ghost use Rattle.digit_literals.specs.Numbers.{stands};
 ghost use Rattle.digit_languages.specs.Words.{IsLanguage};
@@ -50,7 +50,7 @@ impl fmt::Display for LanguageError {
 
 impl Error for LanguageError {}
 
-/// Whether a byte stands at a position.
+/// Whether a byte is at a position.
 #[inline(always)]
 fn stands(text: &[u8], at: usize, byte: u8) -> bool
     ensures { result ≡ stands text.now at byte }

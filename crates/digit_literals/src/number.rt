@@ -1,11 +1,11 @@
 //! Numbers of any integer type.
 
-ghost use Rattle.std.specs.Prelude.{◌≡◌, ℕ, ℤ, ◌+◌, ◌^◌, ◌-◌, ◌<◌, ◌≤◌, pos, Bool, if◌then◌else◌, nat_lt, length, IfOk, IfErr, IsTrue};
+ghost use Rattle.std.specs.Prelude.{◌≡◌, ℕ, ℤ, ◌+◌, ◌^◌, ◌-◌, ◌<◌, ◌≤◌, pos, if◌then◌else◌, length, IfOk, IfErr, IsTrue};
 ghost use Rattle.lexical_format.specs.Word.{is_supported};
 ghost use Rattle.lexical_digits.specs.declared.skip.component.Component.TheVariants.{Integer};
 ghost use Rattle.lexical_digits.specs.State.{rule_of};
 ghost use Rattle.digit_literals.specs.Outcomes.{IfEmpty, IfOverflow};
-ghost use Rattle.digit_literals.specs.Numbers.{IsNumberFrom, ReadsNumber, IsNumberFault, digits_from, is_negative_from, most_from, stands};
+ghost use Rattle.digit_literals.specs.Numbers.{IsNumberFrom, ReadsNumber, IsNumberFault, digits_from, is_negative_from, stands};
 ghost use Rattle.digit_literals.specs.Whole.{signed, position};
 
 use super::wide::read_wide_from;
@@ -260,7 +260,7 @@ impl Number for isize {
     }
 }
 
-/// Whether a byte stands at a position.
+/// Whether a byte is at a position.
 #[inline(always)]
 fn stands(text: &[u8], at: usize, byte: u8) -> bool
     ensures { result ≡ stands text.now at byte }

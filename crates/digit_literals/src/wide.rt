@@ -61,7 +61,7 @@ pub fn read_wide_from(
 /// the value of the digits before it. `Err` holds the first digit with which it is above `most`.
 #[cold]
 #[inline(never)]
-#[tactic(auto, using(crate::proofs::OtherBytes::some_before_stop, crate::proofs::ForCallers::stops))]
+#[tactic(auto, using(crate::proofs::Onward::bounds))]
 fn read_beyond(
     text: &[u8],
     word: u128,
@@ -94,13 +94,54 @@ fn read_beyond(
     Ok((value_between(text, rule, start, end, most)?, end))
 }
 
+/// 10 to the power of `n`, if that fits 64 bits.
+#[inline(always)]
+fn ten_to(n: usize) -> Option<u64>
+    ensures { IfSome result (λ power. power ≡ 10 ^ n) }
+{
+    Some(match n {
+        0 => 1,
+        1 => 10,
+        2 => 100,
+        3 => 1000,
+        4 => 10_000,
+        5 => 100_000,
+        6 => 1_000_000,
+        7 => 10_000_000,
+        8 => 100_000_000,
+        9 => 1_000_000_000,
+        10 => 10_000_000_000,
+        11 => 100_000_000_000,
+        12 => 1_000_000_000_000,
+        13 => 10_000_000_000_000,
+        14 => 100_000_000_000_000,
+        15 => 1_000_000_000_000_000,
+        16 => 10_000_000_000_000_000,
+        17 => 100_000_000_000_000_000,
+        18 => 1_000_000_000_000_000_000,
+        19 => 10_000_000_000_000_000_000,
+        _ => return None,
+    })
+}
+
+/// What the digits before so many others are worth, for each 1 of their value, if that fits 64
+/// bits.
+#[inline(always)]
+fn scale_of(radix: u32, count: usize) -> Option<u64>
+    ensures { IfSome result (λ scale. scale ≡ radix ^ count) }
+{
+    if radix == 10 {
+        return ten_to(count);
+    }
+    u64::from(radix).checked_pow(u32::try_from(count).ok()?)
+}
+
 /// A value followed by digits that were read, if that fits 128 bits.
 #[inline(always)]
 fn join(value: u128, radix: u32, read: ReadTo) -> Option<u128>
     ensures { IfSome result (λ more. more ≡ value * radix ^ read.count + read.value) }
 {
-    let count = u32::try_from(read.count).ok()?;
-    let scale = u64::from(radix).checked_pow(count)?;
+    let scale = scale_of(radix, read.count)?;
     value
         .checked_mul(u128::from(scale))?
         .checked_add(u128::from(read.value))

@@ -1,6 +1,6 @@
 //! The blocks of the page docs/LOOPS.md, in its order. `.ci/pages` compares the two.
 
-ghost use Rattle.std.specs.Prelude.{◌≡◌, ◌==◌, ◌<◌, IsTrue, count_by};
+ghost use Rattle.std.specs.Prelude.{◌≡◌, ◌==◌, IsTrue, count_by};
 ghost use Rattle.std.specs.List.{list_any};
 ghost use Rattle.lexical_format.specs.Word.{is_supported};
 ghost use Rattle.lexical_digits.specs.Separators.{is_digit};

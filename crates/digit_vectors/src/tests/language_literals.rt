@@ -1,8 +1,6 @@
 //! Integer literals as the languages' own tools read them: rustc 1.95.0, Elixir 1.14.0, ghc 9.0.2,
-//! ocaml 4.13.1, CPython 3.11.7 and its tomllib, node 20.20.2 in strict mode, go 1.19.8, ruby 3.1.7,
-//! PHP 8.2.36, perl 5.36.0, javac 17.0.15, and g++ 12.2.0. Positions are worked out by hand.
-
-ghost use Rattle.std.specs.Prelude.{◌≤◌};
+//! ocaml 4.13.1, CPython 3.11.7 and its tomllib, node 20.20.2 in strict mode, go 1.19.8, ruby
+//! 3.1.7, PHP 8.2.36, perl 5.36.0, javac 17.0.15, and g++ 12.2.0. Positions are worked out by hand.
 
 use digit_languages::languages::{
     CXX14, ELIXIR, GO, HASKELL, JAVA, JAVASCRIPT, JSON_NUMBER, OCAML, PERL, PHP, PYTHON, RUBY,
