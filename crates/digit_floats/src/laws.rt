@@ -1,4 +1,4 @@
-//! Laws: the outcomes of a text exclude each other.
+//! Laws: the outcomes of a text exclude each other, and std reads the same without separators.
 
 ghost use Rattle.std.specs.Prelude.{◌≡◌, ℕ, length, Some};
 ghost use Rattle.std.specs.Float.{Format};
@@ -25,9 +25,9 @@ pub fn floats_have_no_fault(text: &[u8], word: u128)
         IsWholeFault word text.now at other → one ≡ other }
 {}
 
-/// On a text without separators, all of which is a float, that is std's: what `parse` answers.
+/// On a text without separators, all of which is a float, std's `parse` answers the same float.
 #[tactic(auto, using(crate::proofs::AsStd::as_std))]
-pub fn a_text_without_separators_is_stds(text: &[u8], word: u128)
+pub fn std_reads_the_same(text: &[u8], word: u128)
     requires decimal { IsDecimal word }
     requires plain { HasNoSeparator word text.now }
     requires is { HasFloat word text.now (past_sign text.now 0) }
