@@ -1,4 +1,5 @@
--- A number cut after so many digits rounds as before.
+-- A number rounds as before if its digits after the first 1,420 become one, and its power of ten is
+-- held between two bounds: each case is one of `zeros`, `low_rest`, `both_huge`, `tiny`, `nothing`.
 use Rattle.std.proofs.Common.{◌≡◌, ℕ, zero, suc, ◌+◌, ◌-◌, ◌*◌, ◌^◌, ◌<◌, ◌≤◌, Bool, true, false, refl, sym, ap, subst, ◌∙◌, arith}
 use Rattle.std.specs.Prelude.{min}
 use Rattle.std.proofs.Math.Nat.{pow-le-pow_left, pow-le-pow_right, mul-le-mul_right, mul-le-mul, one-le-pow, one-le-mul, mul_assoc}
@@ -11,9 +12,7 @@ use lib.Ieee.Scale.{round_same}
 use Rattle.digit_floats.specs.Cut.{IsCut, last_digit}
 use Rattle.digit_floats.proofs.CutOff.{round_within}
 use Rattle.digit_floats.proofs.Huge.{round_huge, emax_below, low_below}
-
-ten_pos : (k : ℕ) → 0 < 10 ^ k
-ten_pos k = one-le-pow k 10 (omega arith)
+use Rattle.digit_floats.proofs.Tens.{ten_pos}
 
 tens : (i j : ℕ) → i ≤ j → 10 ^ i ≤ 10 ^ j
 tens i j h = pow-le-pow_right {n = 10} (omega arith) h

@@ -1,4 +1,4 @@
--- A number above all floats rounds to the infinity, and one below half of the least to zero.
+-- A number above all floats rounds to the infinity.
 use Rattle.std.proofs.Common.{◌≡◌, ℕ, suc, ◌*◌, ◌^◌, ◌<◌, ◌≤◌, true, false, refl, subst, arith}
 use lib.Dec.{T}
 use lib.Ieee.{Float, Format, nan, inf, fin, binary32, binary64, emax, low, round, le, lt, eq}

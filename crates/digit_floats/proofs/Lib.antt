@@ -1,3 +1,4 @@
+mod AsStd
 mod Cut
 mod CutOff
 mod Decimals

@@ -2,7 +2,7 @@
 use Rattle.std.proofs.Common.{◌≡◌, ℕ, List, length, ap, arith}
 use Rattle.digit_floats.specs.declared.FloatError.{FloatError}
 use Rattle.digit_floats.specs.declared.FloatError.TheVariants.{Empty, EmptyExponent, Invalid}
-use Rattle.digit_floats.specs.Float.{HasFloat, HasNoDigit, HasNoExponent, IsFollowed, IsFault, IsWholeFault, number_end}
+use Rattle.digit_floats.specs.Float.{HasFloat, HasNoDigit, HasNoExponent, IsFault, IsWholeFault, number_end}
 
 module _ (word : ℕ) (text : List ℕ) (at : ℕ) where
   pub not_none : (stop : ℕ) → HasFloat word text at → HasNoDigit word text at stop → ⊥

@@ -1,4 +1,4 @@
--- The first significant digits of a number, the digit that stands for the others, and the text
+-- The first significant digits of a number, the digit in place of the others, and the text
 -- without separators that std reads.
 use Rattle.std.specs.Prelude.{◌≡◌, ℕ, ◌+◌, ◌*◌, ◌/◌, ◌%◌, ◌^◌, ◌<◌, ◌≤◌, Bool, true, false, if◌then◌else◌, nat_lt, List, [], ◌∷◌, ◌++◌, take, length}
 use Rattle.std.specs.Float.Numeral.{Parts, text_of}
@@ -24,7 +24,7 @@ pub record IsKept (bytes : List ℕ) (kept : Kept) (number : ℕ) : Type 0 where
   pub fits : kept.len ≤ room
   pub full : 0 < kept.cut → kept.len ≡ room
 
--- the digit that stands for those that are cut
+-- the digit in place of those that are cut
 abbrev pub last_digit : Bool → ℕ
 last_digit more = if more then 1 else 0
 
@@ -34,7 +34,7 @@ four_digits n =
     let h = n / 10 / 10 in
     (48 + h / 10) ∷ (48 + h % 10) ∷ (48 + n / 10 % 10) ∷ (48 + n % 10) ∷ []
 
--- the digits, one that stands for those that are cut, and ten to `up` or to minus `down`
+-- the digits, one in place of those that are cut, and ten to `up` or to minus `down`
 abbrev pub cut_parts : List ℕ → Bool → ℕ → ℕ → Parts
 cut_parts digits more up down =
     let p : Parts = record {

@@ -2,3 +2,4 @@ pub mod Bytes
 pub mod Cut
 pub mod Exact
 pub mod Float
+pub mod Separators

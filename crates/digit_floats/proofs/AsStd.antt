@@ -1,0 +1,332 @@
+-- On a text without separators the float is that of std's `parse`.
+use Rattle.std.proofs.Common.{◌≡◌, ℕ, zero, suc, ◌+◌, ◌-◌, ◌<◌, ◌≤◌, Bool, true, false, List, [], ◌∷◌, length, take, drop, get_or, slice_index, refl, sym, ap, subst, ◌∙◌, length-drop, arith}
+use Rattle.std.specs.Prelude.{not, filter, slice_range, Some, if◌then◌else◌, ◌==◌, ◌||◌, ◌&&◌}
+use Rattle.std.specs.Char.{is_ascii_digit}
+use Rattle.std.specs.List.{prefix_len}
+use Rattle.std.proofs.lemmas.List.{get_or-drop, drop-drop, length-take}
+use Rattle.std.proofs.lemmas.List.Sums.{prefix_len_is, prefix_len_passes}
+use Rattle.std.proofs.lemmas.Bool.Decides.{nat_tests}
+use Rattle.lexical_digits.specs.declared.skip.rule.Rule.{Rule}
+use Rattle.lexical_digits.specs.Separators.{is_dropped, is_kept, holds_separator}
+use Rattle.lexical_digits.specs.Stop.{stop}
+use Rattle.lexical_digits.proofs.Calls.FirstOther.{stop_is_first}
+use Rattle.lexical_digits.specs.State.{rule_of}
+use Rattle.lexical_digits.specs.declared.skip.component.Component.{Component}
+use Rattle.lexical_digits.specs.declared.skip.component.Component.TheVariants.{Integer, Fraction, Exponent}
+use Rattle.std.specs.Float.{Float, Format}
+use Rattle.std.specs.Float.Numeral.{nearest_float}
+use Rattle.std.specs.Float.Parse.{parse_float, read_float, sign_len}
+use Rattle.std.specs.Float.Numeral as std
+use Rattle.digit_literals.specs.After.{digits_between}
+use Rattle.digit_floats.specs.Bytes.{stands, is_sign, is_minus, is_point, is_mark}
+use Rattle.digit_floats.specs.Float.{IsDecimal, past_sign, digits_end, digits_from, fraction_digits, fraction_end, exponent_digits, exponent_end, exponent_negative, mantissa_end, number_end, float_end, float_at, parts_at, HasFloat}
+use Rattle.digit_floats.specs.Separators.{HasNoSeparator}
+use Rattle.digit_floats.proofs.Decimals.{same_digit, digits_are}
+
+front : (p : ℕ → Bool) (xs : List ℕ)
+    → filter p (take (prefix_len p xs) xs) ≡ take (prefix_len p xs) xs
+front p [] = refl
+front p (x ∷ xs) = go (p x) refl (front p xs)
+  where
+    go : (b : Bool) → p x ≡ b
+        → filter p (take (prefix_len p xs) xs) ≡ take (prefix_len p xs) xs
+        → filter p (take (prefix_len p (x ∷ xs)) (x ∷ xs)) ≡ take (prefix_len p (x ∷ xs)) (x ∷ xs)
+    go true e rest =
+        let one : 1 + prefix_len p xs ≡ suc (prefix_len p xs) = omega arith in
+        rw (e, one, e) (ap (λ (t : List ℕ). x ∷ t) rest)
+    go false e rest = rw e refl
+
+-- ---- by a rule of radix 10
+
+module _ (rule : Rule) (text : List ℕ) (ten : rule.radix ≡ 10)
+    (plain : (q : ℕ) → holds_separator rule text q ≡ false) where
+  kept : (start count q : ℕ) → is_kept rule text start count q ≡ true
+  unfolding is_kept is_dropped
+  kept start count q = rw (plain q) refl
+
+  len : ℕ → ℕ
+  len at = prefix_len is_ascii_digit (drop at text)
+
+  pub stop_is : (at : ℕ) → at ≤ length text
+      → stop rule text at 0 ≡ at + prefix_len is_ascii_digit (drop at text)
+  stop_is at l =
+      let first = stop_is_first rule text at 0 l in
+      let end = stop rule text at 0 in
+      let long : length (drop at text) ≡ length text - at = length-drop at text in
+      let passes : (k : ℕ) → k < end - at → is_ascii_digit (get_or (drop at text) k 0) ≡ true =
+      λ k less.
+      let digit = first.before (at + k) (omega arith) (omega arith) (kept at 0 (at + k)) in
+      rw (get_or-drop, ← same_digit rule (slice_index text (at + k)) ten) (not_false _ digit) in
+      let stops : end - at < length (drop at text)
+      → is_ascii_digit (get_or (drop at text) (end - at) 0) ≡ false =
+      λ less.
+      let other = (first.at (omega arith)).1 in
+      let there : at + (end - at) ≡ end = omega (arith, first.onward) in
+      rw (get_or-drop, there, ← same_digit rule (slice_index text end) ten) (not_true _ other) in
+      let n =
+      prefix_len_is is_ascii_digit (drop at text) (end - at) 0 (omega (arith, first.within)) passes
+      stops in
+      omega (arith, first.onward)
+    where
+      not_false : (b : Bool) → not b ≡ false → b ≡ true
+      not_false true e = refl
+      not_false false e = cc
+
+      not_true : (b : Bool) → not b ≡ true → b ≡ false
+      not_true true e = cc
+      not_true false e = refl
+
+  -- the digits in front are all that is kept up to the stop
+  pub digits_are_front : (at : ℕ) → at ≤ length text
+      → digits_between rule text at (stop rule text at 0)
+      ≡ take (prefix_len is_ascii_digit (drop at text)) (drop at text)
+  digits_are_front at l =
+      let n = prefix_len is_ascii_digit (drop at text) in
+      let same : at + n - at ≡ n = omega arith in
+      rw (stop_is at l, same, ← digits_are rule (take n (drop at text)) ten)
+      (front is_ascii_digit (drop at text))
+
+-- ---- a byte
+
+stands_is : (p : ℕ → Bool) (text : List ℕ) (i : ℕ) → p 0 ≡ false
+    → stands p text i ≡ p (slice_index text i)
+stands_is p [] i z = sym z
+stands_is p (x ∷ xs) zero z = refl
+stands_is p (x ∷ xs) (suc i) z = stands_is p xs i z
+
+stands_within : (p : ℕ → Bool) (text : List ℕ) (i : ℕ) → stands p text i ≡ true → i < length text
+stands_within p [] i e = cc
+stands_within p (x ∷ xs) zero e = omega arith
+stands_within p (x ∷ xs) (suc i) e = let h = stands_within p xs i e in omega arith
+
+-- ---- the components from a position on, in std's words for the rest of the text
+
+module _ (word : ℕ) (text : List ℕ) (decimal : IsDecimal word) (plain : HasNoSeparator word text)
+    (at : ℕ) where
+  abbrev r : List ℕ
+  r = drop at text
+
+  byte : (p : ℕ → Bool) (i : ℕ) → p 0 ≡ false → stands p text (at + i) ≡ p (slice_index r i)
+  byte p i z = stands_is p text (at + i) z ∙ ap p (sym (get_or-drop at text i 0))
+
+  module _ (k : Component) (ten : (rule_of word k).radix ≡ 10) (i : ℕ) (l : at + i ≤ length text)
+    where
+      end_is : digits_end word text k (at + i) ≡ at + std.digits_end r i
+      unfolding digits_end
+      end_is =
+          let e = stop_is (rule_of word k) text ten (plain k) (at + i) l in
+          rw (e, drop-drop i at text) (omega arith)
+
+      digits_is : digits_from word text k (at + i) ≡ slice_range r i (std.digits_end r i)
+      unfolding digits_from digits_end
+      digits_is =
+          let e = digits_are_front (rule_of word k) text ten (plain k) (at + i) l in
+          let n = prefix_len is_ascii_digit (drop i r) in
+          let same : i + n - i ≡ n = omega arith in
+          rw (e, same, drop-drop i at text) refl
+
+  fraction_by : (i : ℕ) (b : Bool) → stands is_point text (at + i) ≡ b
+      → fraction_digits word text (at + i)
+      ≡ (if b
+      then slice_range r (i + 1) (if b then std.digits_end r (i + 1) else i)
+      else [])
+  unfolding fraction_digits
+  fraction_by i true e =
+      let l = stands_within is_point text (at + i) e in
+      let n : at + i + 1 ≡ at + (i + 1) = omega arith in
+      rw (e, n) (digits_is Fraction decimal.0 (i + 1) (omega arith))
+  fraction_by i false e = rw e refl
+
+  fraction_end_by : (i : ℕ) (b : Bool) → stands is_point text (at + i) ≡ b
+      → fraction_end word text (at + i) ≡ at + (if b then std.digits_end r (i + 1) else i)
+  unfolding fraction_end
+  fraction_end_by i true e =
+      let l = stands_within is_point text (at + i) e in
+      let n : at + i + 1 ≡ at + (i + 1) = omega arith in
+      rw (e, n) (end_is Fraction decimal.0 (i + 1) (omega arith))
+  fraction_end_by i false e = rw e refl
+
+  -- ---- the exponent, whose mark would stand at j
+
+  swap : (x : ℕ) → (x == 45 || x == 43) ≡ is_sign x
+  swap x = grind (arith, nat_tests)
+
+  start_by : (j : ℕ) (b : Bool) → stands is_sign text (at + (j + 1)) ≡ b
+      → past_sign text (at + (j + 1)) ≡ at + std.exponent_start r j
+  start_by j true e =
+      let s : is_sign (slice_index r (j + 1)) ≡ true = sym (byte is_sign (j + 1) refl) ∙ e in
+      rw (e, swap, s) (omega arith)
+  start_by j false e =
+      let s : is_sign (slice_index r (j + 1)) ≡ false = sym (byte is_sign (j + 1) refl) ∙ e in
+      rw (e, swap, s) refl
+
+  start_is : (j : ℕ) → past_sign text (at + (j + 1)) ≡ at + std.exponent_start r j
+  start_is j = start_by j _ refl
+
+  sign_within : (i : ℕ) (b : Bool) → stands is_sign text i ≡ b → i ≤ length text
+      → past_sign text i ≤ length text
+  sign_within i true e l = let h = stands_within is_sign text i e in rw e (omega arith)
+  sign_within i false e l = rw e l
+
+  start_within : (j : ℕ) → stands is_mark text (at + j) ≡ true
+      → at + std.exponent_start r j ≤ length text
+  start_within j e =
+      let l = stands_within is_mark text (at + j) e in
+      subst (λ (z : ℕ). z ≤ length text) (start_is j)
+      (sign_within (at + (j + 1)) _ refl (omega arith))
+
+  exponent_by : (j : ℕ) (b : Bool) → stands is_mark text (at + j) ≡ b
+      → exponent_digits word text (at + j)
+      ≡ (if b
+      then slice_range r (std.exponent_start r j) (std.digits_end r (std.exponent_start r j))
+      else [])
+  unfolding exponent_digits
+  exponent_by j true e =
+      let n : at + j + 1 ≡ at + (j + 1) = omega arith in
+      rw (e, n, start_is j) (digits_is Exponent decimal.1 _ (start_within j e))
+  exponent_by j false e = rw e refl
+
+  exponent_end_by : (j : ℕ) (b : Bool) → stands is_mark text (at + j) ≡ b
+      → exponent_end word text (at + j)
+      ≡ at + (if b then std.digits_end r (std.exponent_start r j) else j)
+  unfolding exponent_end
+  exponent_end_by j true e =
+      let n : at + j + 1 ≡ at + (j + 1) = omega arith in
+      rw (e, n, start_is j) (end_is Exponent decimal.1 _ (start_within j e))
+  exponent_end_by j false e = rw e refl
+
+  negative_by : (j : ℕ) (b : Bool) → stands is_mark text (at + j) ≡ b
+      → exponent_negative word text (at + j) ≡ (b && slice_index r (j + 1) == std.minus)
+  unfolding exponent_negative
+  negative_by j b e =
+      let n : at + j + 1 ≡ at + (j + 1) = omega arith in
+      rw (e, n, byte is_minus (j + 1) refl) refl
+
+  -- a digit follows the mark
+  has_by : (j : ℕ) (b : Bool) → stands is_mark text (at + j) ≡ b
+      → (b ≡ true → 0 < length (exponent_digits word text (at + j))) → std.has_exponent r j ≡ b
+  has_by j false e some =
+      let m : is_mark (slice_index r j) ≡ false = sym (byte is_mark j refl) ∙ e in
+      rw m refl
+  has_by j true e some =
+      let m : is_mark (slice_index r j) ≡ true = sym (byte is_mark j refl) ∙ e in
+      let c = std.exponent_start r j in
+      let long : 0 < length (slice_range r c (std.digits_end r c)) =
+      subst (λ (z : List ℕ). 0 < length z) (exponent_by j true e) (some refl) in
+      rw m (first_digit c long)
+    where
+      first_digit : (c : ℕ) → 0 < length (slice_range r c (std.digits_end r c))
+          → is_ascii_digit (slice_index r c) ≡ true
+      first_digit c long =
+          let n = prefix_len is_ascii_digit (drop c r) in
+          let same : c + n - c ≡ n = omega arith in
+          let few : 0 < length (take n (drop c r)) =
+          subst (λ (y : ℕ). 0 < length (take y (drop c r))) same long in
+          let some : 0 < n = omega (arith, length-take n (drop c r)) in
+          let z : c + 0 ≡ c = omega arith in
+          subst (λ (y : ℕ). is_ascii_digit (slice_index r y) ≡ true) z
+          (subst (λ (y : ℕ). is_ascii_digit y ≡ true) (get_or-drop c r 0 0)
+          (prefix_len_passes is_ascii_digit (drop c r) 0 0 some))
+
+  -- ---- the whole number
+
+  module _ (within : at ≤ length text) (is : HasFloat word text at) where
+    abbrev i : ℕ
+    i = std.digits_end r 0
+
+    abbrev j : ℕ
+    j = if slice_index r i == 46 then std.digits_end r (i + 1) else i
+
+    here : at + 0 ≡ at
+    here = omega arith
+
+    whole_end_is : digits_end word text Integer at ≡ at + std.digits_end r 0
+    whole_end_is =
+        subst (λ (y : ℕ). digits_end word text Integer y ≡ at + std.digits_end r 0) here
+        (end_is Integer decimal.0 0 (omega arith))
+
+    whole_is : digits_from word text Integer at ≡ slice_range r 0 (std.digits_end r 0)
+    whole_is =
+        subst (λ (y : ℕ). digits_from word text Integer y ≡ slice_range r 0 (std.digits_end r 0))
+        here (digits_is Integer decimal.0 0 (omega arith))
+
+    mantissa_is : mantissa_end word text at ≡ at + j
+    mantissa_is = rw whole_end_is (fraction_end_by i _ (byte is_point i refl))
+
+    has_is : std.has_exponent r j ≡ stands is_mark text (at + j)
+    has_is =
+        has_by j _ refl
+        (subst (λ (y : ℕ). stands is_mark text y ≡ true → 0 < length (exponent_digits word text y))
+        mantissa_is is.exponent)
+
+    exponent_is : exponent_digits word text (mantissa_end word text at)
+        ≡ (std.scan_numeral r).exponent
+    unfolding std.scan_numeral
+    exponent_is = rw mantissa_is (exponent_by j _ (sym has_is))
+
+    negative_is : exponent_negative word text (mantissa_end word text at)
+        ≡ (std.scan_numeral r).exponent_negative
+    unfolding std.scan_numeral
+    negative_is = rw mantissa_is (negative_by j _ (sym has_is))
+
+    end_is_std : number_end word text at ≡ at + (std.scan_numeral r).len
+    unfolding std.scan_numeral
+    end_is_std = rw mantissa_is (exponent_end_by j _ (sym has_is))
+
+    whole_is_std : digits_from word text Integer at ≡ (std.scan_numeral r).whole
+    unfolding std.scan_numeral
+    whole_is_std = whole_is
+
+    fraction_is_std : fraction_digits word text (digits_end word text Integer at)
+        ≡ (std.scan_numeral r).fraction
+    unfolding std.scan_numeral
+    fraction_is_std = rw whole_end_is (fraction_by i _ (byte is_point i refl))
+
+    pub nearest_is : (f : Format) (negative : Bool)
+        → nearest_float f negative (parts_at word text at)
+        ≡ nearest_float f negative (std.scan_numeral r)
+    nearest_is f negative =
+        rw (whole_is_std, fraction_is_std, exponent_is, negative_is) refl
+
+    pub has_digits_is : std.has_digits (std.scan_numeral r) ≡ true
+    has_digits_is = rw (← whole_is_std, ← fraction_is_std) (grind (arith, nat_tests, is.some))
+
+-- ---- the whole text
+
+sign_is : (text : List ℕ) → sign_len text ≡ past_sign text 0
+sign_is [] = refl
+sign_is (x ∷ xs) = grind (arith, nat_tests)
+
+sign_fits : (text : List ℕ) → past_sign text 0 ≤ length text
+sign_fits [] = omega arith
+sign_fits (x ∷ xs) = grind (arith, nat_tests)
+
+same : (n : ℕ) → (n == n) ≡ true
+same n = grind (arith, nat_tests)
+
+finish : (f : Format) (text : List ℕ) (x : Float) (k : ℕ) → read_float f text ≡ Some (x, k)
+    → k ≡ length text → parse_float f text ≡ Some x
+finish f text x k e l = rw (e, l, same (length text)) refl
+
+read_is : (f : Format) (text : List ℕ) (at : ℕ) → sign_len text ≡ at
+    → std.has_digits (std.scan_numeral (drop at text)) ≡ true
+    → read_float f text
+    ≡ Some (
+      nearest_float f (slice_index text 0 == std.minus) (std.scan_numeral (drop at text)),
+      at + (std.scan_numeral (drop at text)).len,
+    )
+unfolding read_float
+read_is f text at sign some = rw (sign, some) refl
+
+pub as_std : (word : ℕ) (text : List ℕ) → IsDecimal word → HasNoSeparator word text
+    → HasFloat word text (past_sign text 0) → float_end word text 0 ≡ length text
+    → (f : Format) → parse_float f text ≡ Some (float_at word text f 0)
+as_std word text decimal plain is whole f =
+    let at = past_sign text 0 in
+    let l = sign_fits text in
+    let some = has_digits_is word text decimal plain at l is in
+    let ends = end_is_std word text decimal plain at l is in
+    let minus = stands_is is_minus text 0 refl in
+    let nearest = nearest_is word text decimal plain at l is f (is_minus (slice_index text 0)) in
+    finish f text _ _ (read_is f text at (sign_is text) some) (sym ends ∙ whole)
+    ∙ rw (minus, nearest) refl
