@@ -1,12 +1,10 @@
 -- What the integer is that stands in a text from a start on. No two of the three can hold of one
 -- text.
-use Rattle.std.specs.Prelude.{◌≡◌, ℕ, ◌-◌, ◌^◌, ◌<◌, ◌≤◌, Bool, if◌then◌else◌, List, [], length, Result, Ok, Err, IfOk}
+use Rattle.std.specs.Prelude.{◌≡◌, ℕ, ◌-◌, ◌^◌, ◌<◌, ◌≤◌, List, [], length, Result, IfOk}
 use Rattle.std.specs.Str.Parse.{digits_value}
 use Rattle.lexical_digits.specs.declared.skip.rule.Rule.{Rule}
 use Rattle.lexical_digits.specs.Stop.{stop}
 use Rattle.digit_literals.specs.declared.LiteralError.{LiteralError}
-use Rattle.digit_literals.specs.declared.LiteralError.TheVariants.{Empty, Overflow}
-use Rattle.digit_literals.specs.declared.slice.ReadTo.{ReadTo}
 use Rattle.digit_literals.specs.Outcomes.{IfEmpty, IfOverflow}
 use Rattle.digit_literals.specs.After.{digits_between, ExceedsAt}
 
@@ -32,15 +30,6 @@ module _ (rule : Rule) (text : List ℕ) (start : ℕ) where
     pub ok : IfOk result (λ read. IsIntegerFrom most read.0 read.1)
     pub empty : IfEmpty result HasNoDigitFrom
     pub overflow : IfOverflow result (IsTooLargeFrom most)
-
--- the answer for the digits that were read, where it is told whether there are none
-abbrev pub integer_of : ReadTo → Bool → Result (ℕ × ℕ) LiteralError
-integer_of read is_empty =
-    if read.is_too_large
-    then Err (Overflow read.end)
-    else if is_empty
-    then Err (Empty read.end)
-    else Ok (read.value, read.end)
 
 -- ---- what a text begins with, up to `u64::MAX`
 

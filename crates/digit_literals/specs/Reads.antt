@@ -1,6 +1,6 @@
--- Digits that were read from a start on, up to where they end, or up to the first with which their
--- value is too large.
-use Rattle.std.specs.Prelude.{◌≡◌, ℕ, ◌+◌, ◌-◌, ◌*◌, ◌^◌, ◌≤◌, min, true, false, if◌then◌else◌, List, length, Option, IfSome, MatchOption, Result, Ok, Err, pos, ◌≤ℤ◌, ◌+ℤ◌}
+-- Of functions that no caller sees: digits that were read from a start on, up to where they end, or
+-- up to the first with which their value is too large. No public clause uses these words.
+use Rattle.std.specs.Prelude.{◌≡◌, ℕ, ◌+◌, ◌-◌, ◌*◌, ◌^◌, ◌≤◌, min, Bool, true, false, if◌then◌else◌, List, length, Option, IfSome, MatchOption, Result, Ok, Err, pos, ◌≤ℤ◌, ◌+ℤ◌}
 use Rattle.std.specs.Str.Parse.{digits_value_after}
 use Rattle.lexical_digits.specs.declared.skip.rule.Rule.{Rule}
 use Rattle.lexical_digits.specs.declared.skip.component.Component.{Component}
@@ -9,6 +9,8 @@ use Rattle.lexical_digits.specs.State.{rule, own}
 use Rattle.lexical_digits.specs.Looks.{Held, owed, needs_run, separator_at}
 use Rattle.lexical_digits.specs.Stop.{stop, past_digits_of}
 use Rattle.digit_literals.specs.After.{digits_between, past_digits_to, IsDigits, ExceedsAt}
+use Rattle.digit_literals.specs.declared.LiteralError.{LiteralError}
+use Rattle.digit_literals.specs.declared.LiteralError.TheVariants.{Empty, Overflow}
 use Rattle.digit_literals.specs.declared.reading.Digits.{Digits}
 use Rattle.digit_literals.specs.declared.reading.TooLarge.{TooLarge}
 use Rattle.digit_literals.specs.declared.slice.ReadTo.{ReadTo}
@@ -72,6 +74,15 @@ outcome read =
     if read.is_too_large
     then Err (record { at = read.end; value = read.value; count = read.count })
     else Ok (record { value = read.value; count = read.count })
+
+-- what a reader of an integer answers, where it is told whether there is no digit
+abbrev pub integer_of : ReadTo → Bool → Result (ℕ × ℕ) LiteralError
+integer_of read is_empty =
+    if read.is_too_large
+    then Err (Overflow read.end)
+    else if is_empty
+    then Err (Empty read.end)
+    else Ok (read.value, read.end)
 
 -- the answer of a reader of a component, where a `Bytes` was a before and is b after
 pub record ReadsOn (k : Component) (before : ℕ) (most : Option ℕ) (a b : Held)

@@ -8,8 +8,8 @@ ghost use Rattle.lexical_digits.specs.Separators.{is_digit};
 ghost use Rattle.lexical_digits.specs.State.{rule_of};
 ghost use Rattle.lexical_digits.specs.Stop.{stop};
 ghost use Rattle.digit_literals.specs.Outcomes.{IfEmpty, IfOverflow};
-ghost use Rattle.digit_literals.specs.Integers.{IsInteger, HasNoDigit, IsTooLarge, ReadsFrom, integer_of};
-ghost use Rattle.digit_literals.specs.Reads.{ReadsTo};
+ghost use Rattle.digit_literals.specs.Integers.{IsInteger, HasNoDigit, IsTooLarge, ReadsFrom};
+ghost use Rattle.digit_literals.specs.Reads.{ReadsTo, integer_of};
 
 use super::LiteralError;
 use super::slice::{ReadTo, read_counted, read_slice};
