@@ -56,7 +56,7 @@ const MOST: u64 = 9_999_999_999_999_999_999;
 
 /// The first digits of a component from a position on, after those of a number, and where they end.
 #[inline(always)]
-#[tactic(auto, using(crate::proofs::Decimals::digits_are), unfolding(crate::specs::Float::digits_from, crate::specs::Float::digits_end))]
+#[tactic(auto, using(crate::proofs::Decimals::digits_are, digit_literals::proofs::ForCallers::dropped), unfolding(crate::specs::Float::digits_from, crate::specs::Float::digits_end))]
 fn read_part(
     text: &[u8],
     word: u128,
@@ -72,7 +72,7 @@ fn read_part(
     ensures whole { result.0.dropped ≡ 0
         → result.0.value ≡ digits_value_after (rule_of word component).radix before
         (digits_from word text.now component at) }
-    ensures few { result.0.dropped ≤ result.0.count }
+    ensures dropped { result.0.dropped ≤ result.0.count }
     ensures over { 0 < result.0.dropped → most < digits_value_after (rule_of word component).radix before
         (digits_from word text.now component at) }
     ensures bytes { (rule_of word component).radix ≡ 10

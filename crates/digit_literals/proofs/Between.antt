@@ -1,5 +1,5 @@
 -- The digits between two positions.
-use Rattle.std.proofs.Common.{◌≡◌, ℕ, ◌+◌, ◌-◌, ◌<◌, ◌≤◌, false, cond, List, [], ◌∷◌, ◌++◌, length, take, drop, arith, append-nil, length-append}
+use Rattle.std.proofs.Common.{◌≡◌, ℕ, zero, suc, ◌+◌, ◌-◌, ◌<◌, ◌≤◌, Bool, false, cond, List, [], ◌∷◌, ◌++◌, length, take, drop, arith, append-nil, length-append}
 use Rattle.std.specs.Prelude.{slice_index}
 use Rattle.std.specs.List.{filter}
 use Rattle.std.proofs.lemmas.List.{take-take, length-drop, get_or-drop}
@@ -7,7 +7,6 @@ use Rattle.std.proofs.lemmas.List.Elements.{filter_more}
 use Rattle.lexical_digits.specs.declared.skip.rule.Rule.{Rule}
 use Rattle.lexical_digits.specs.Separators.{is_digit}
 use Rattle.digit_literals.specs.After.{digits_between}
-use Rattle.digit_literals.proofs.ForCallers.{fewer}
 
 module _ (rule : Rule) (text : List ℕ) (start : ℕ) where
   abbrev upto : ℕ → List ℕ
@@ -31,6 +30,13 @@ module _ (rule : Rule) (text : List ℕ) (start : ℕ) where
 
     pub no_more : is_digit rule (slice_index text at) ≡ false → upto (at + 1) ≡ upto at
     no_more e = grind (arith, more_between, append-nil {A = ℕ})
+
+-- no fewer among more elements
+pub fewer : (p : ℕ → Bool) (n : ℕ) (xs : List ℕ)
+    → length (filter p (take n xs)) ≤ length (filter p xs)
+fewer p zero xs = omega arith
+fewer p (suc n) [] = omega arith
+fewer p (suc n) (x ∷ xs) = grind (arith, fewer p n xs)
 
 -- no fewer up to a later position
 pub fewer_between : (rule : Rule) (text : List ℕ) (start at end : ℕ) → at ≤ end

@@ -1,5 +1,5 @@
 -- What is read of a number of any length: the first of its significant digits.
-use Rattle.std.proofs.Common.{◌≡◌, ℕ, zero, suc, ◌+◌, ◌-◌, ◌^◌, ◌<◌, ◌≤◌, List, ◌++◌, length, length-append, take, arith, add-one}
+use Rattle.std.proofs.Common.{◌≡◌, ℕ, ◌+◌, ◌-◌, ◌<◌, ◌≤◌, List, length, length-append, take, arith}
 use Rattle.std.specs.Str.Parse.{digits_value_after}
 use Rattle.std.proofs.lemmas.List.{take_all}
 use Rattle.lexical_digits.specs.declared.skip.component.Component.{Component}
@@ -12,10 +12,8 @@ use Rattle.digit_literals.specs.declared.reading.TooLarge.{TooLarge}
 use Rattle.digit_literals.specs.After.{past_digits_to, IsDigits, IsReadTo, ExceedsAt}
 use Rattle.digit_literals.proofs.Rest.{leaves_rest, nth}
 use Rattle.digit_literals.specs.First.{ReadsFirst}
-use Rattle.digit_literals.specs.Significant.{IsOfFirstDigits}
 use Rattle.digit_literals.proofs.ForCallers.{all_digits}
 use Rattle.digit_literals.proofs.States.{by_state, within_stop}
-use Rattle.digit_literals.proofs.Significant.{Reads, alone, first, grows}
 
 module _ (k : Component) (s : State) (most before : ℕ) (valid : IsState s) where
   abbrev radix : ℕ
@@ -29,35 +27,17 @@ module _ (k : Component) (s : State) (most before : ℕ) (valid : IsState s) whe
       (all : read.count ≡ n + read.dropped)
       (is : read.value ≡ digits_value_after radix before (take n digits)) (fits : read.value ≤ most)
       (next : 0 < read.dropped → most < digits_value_after radix before (take (n + 1) digits)) where
-    one : 1 ≤ radix
-    one = omega (arith, (supported_rule s.word k valid.word).low)
-
-    -- where the least value that is too large is a power of the radix
-    by_power : (m : ℕ) → 0 < m → most + 1 ≡ radix ^ m
-        → (before ≡ 0 → IsOfFirstDigits radix m digits read.value read.dropped)
-        × ((more : ℕ) (others : List ℕ) → IsOfFirstDigits radix m others before more
-        → IsOfFirstDigits radix m (others ++ digits) read.value (more + read.dropped))
-    by_power zero some power = absurd (omega arith)
-    by_power (suc p) some power =
-        let so : Reads radix (suc p) before n digits =
-        grind (arith, add-one, all_digits (rule k s), leading_between k s valid) in (
-          λ none. grind (arith, alone radix p n digits one),
-          λ more others of. grind (arith, first radix p n before more others digits one of so),
-        )
-
     reads_first : ReadsFirst radix most before digits read
     reads_first =
         let here : read.count - read.dropped ≡ n = omega arith in
         record {
+          some = omega (arith, (supported_rule s.word k valid.word).low);
+          all = rw (leading_between k s valid) (all_digits (rule k s) _);
           count = count;
-          few = omega arith;
+          dropped = omega arith;
           is = rw here is;
           fits = fits;
           next = rw here next;
-          whole = grind (arith, take_all {A = ℕ});
-          over = grind (arith, grows);
-          alone = λ m some power. (by_power m some power).0;
-          first = λ m more others some power. (by_power m some power).1 more others;
         }
 
   -- where no digit is too large

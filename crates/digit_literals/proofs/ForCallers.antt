@@ -1,22 +1,33 @@
 -- For those who call the readers of this crate: what a proof over their answers needs again and
 -- again. These stay.
-use Rattle.std.proofs.Common.{◌≡◌, ℕ, zero, suc, ◌+◌, ◌-◌, ◌*◌, ◌^◌, ◌<◌, ◌≤◌, Bool, true, List, [], ◌∷◌, ◌++◌, length, take, drop, slice_index, refl, sym, arith}
-use Rattle.std.specs.Prelude.{Some}
+use Rattle.std.proofs.Common.{◌≡◌, ℕ, zero, suc, ◌+◌, ◌-◌, ◌*◌, ◌^◌, ◌<◌, ◌≤◌, Bool, true, List, [], ◌∷◌, ◌++◌, length, take, drop, slice_index, refl, sym, ◌∙◌, arith, add-one, length-append}
+use Rattle.std.specs.Prelude.{Some, None}
+use native.Mathlib.Numerals.{unary_clauses}
 use Rattle.std.specs.Char.{digit_value}
 use Rattle.std.specs.List.{filter, slice_range}
 use Rattle.std.specs.Str.Parse.{AllDigits, digits_value, digits_value_after}
-use Rattle.std.proofs.Math.Nat.{pow-le-pow_right}
+use Rattle.std.proofs.Math.Nat.{pow-le-pow_right, pow-suc}
 use Rattle.std.proofs.lemmas.Bool.Decides.{nat_tests}
 use Rattle.std.proofs.lemmas.Int.Digits.{digits_value-lt}
-use Rattle.std.proofs.lemmas.List.{take_rest, length-drop, get_or-drop}
+use Rattle.std.proofs.lemmas.List.{take_all, take_rest, length-drop, get_or-drop}
 use Rattle.lexical_format.specs.Digits.{digit_of_radix}
 use Rattle.lexical_format.specs.Digits as words
 use Rattle.lexical_digits.specs.declared.skip.rule.Rule.{Rule}
 use Rattle.lexical_digits.specs.Separators.{is_digit}
-use Rattle.lexical_digits.specs.Stop.{stop}
+use Rattle.lexical_digits.specs.Stop.{stop, stop_of, leading_digits_of, past_digits_of}
+use Rattle.lexical_digits.specs.State.{State, IsState, rule}
+use Rattle.lexical_digits.specs.declared.skip.component.Component.{Component}
 use Rattle.lexical_digits.proofs.Calls.FirstOther.{stop_is_first}
-use Rattle.digit_literals.specs.After.{digits_between}
+use Rattle.digit_literals.specs.After.{digits_between, digits_to, past_digits_to, IsReadTo}
+use Rattle.digit_literals.specs.declared.reading.TooLarge.{TooLarge}
 use Rattle.digit_literals.specs.Integers.{IsTooLarge}
+use Rattle.digit_literals.specs.Rest.{LeavesRest}
+use Rattle.digit_literals.specs.First.{ReadsFirst}
+use Rattle.digit_literals.specs.Significant.{IsOfFirstDigits}
+use Rattle.digit_literals.specs.declared.first.FirstDigits.{FirstDigits}
+use Rattle.digit_literals.proofs.Rest.{leaves_rest}
+use Rattle.digit_literals.proofs.Significant.{Reads, alone, first, grows}
+use Rattle.digit_literals.proofs.Between.{fewer, more_between, no_more}
 
 -- ---- where digits end
 
@@ -64,12 +75,6 @@ unfolding is_digit
 all_digits rule [] = tt
 all_digits rule (x ∷ xs) = grind (arith, nat_tests, value_is rule.radix x, all_digits rule xs)
 
-pub fewer : (p : ℕ → Bool) (n : ℕ) (xs : List ℕ)
-    → length (filter p (take n xs)) ≤ length (filter p xs)
-fewer p zero xs = omega arith
-fewer p (suc n) [] = omega arith
-fewer p (suc n) (x ∷ xs) = grind (arith, fewer p n xs)
-
 -- a text of at most n digits has none with which the value is too large, where as many of the
 -- highest digit fit
 pub few_digits_fit : (rule : Rule) (text : List ℕ) (at n : ℕ) → IsTooLarge rule text at
@@ -80,14 +85,151 @@ few_digits_fit rule text at n h some fits few =
     let at_most : length read ≤ n = omega (arith, few, fewer (is_digit rule) (at + 1 - 0) text) in
     omega (arith, fits, h.passes, below, pow-le-pow_right {n = rule.radix} some at_most)
 
--- ---- an integer and the fraction after it
+-- ---- digits after the value of others
 
--- digits after the value of others are worth what all of them are
+-- of two lists, those of the first are before those of the second
+after_both : (radix n : ℕ) (ds es : List ℕ) → digits_value_after radix n (ds ++ es)
+    ≡ digits_value_after radix (digits_value_after radix n ds) es
+after_both radix n [] es = refl
+after_both radix n (d ∷ ds) es = after_both radix (n * radix + digit_value d) ds es
+
+-- they are worth what all of them are
 pub value_of_both : (radix : ℕ) (ds es : List ℕ)
     → digits_value_after radix (digits_value radix ds) es ≡ digits_value radix (ds ++ es)
 value_of_both radix ds es = sym (after_both radix 0 ds es)
+
+-- in two pieces, each with a value of its own
+pub value_of_pieces : (radix value : ℕ) (ds : List ℕ)
+    → digits_value_after radix value ds ≡ value * radix ^ length ds + digits_value radix ds
+value_of_pieces radix value [] =
+    let one : radix ^ 0 ≡ 1 = simp unary_clauses refl in
+    rw one (omega arith)
+value_of_pieces radix value (d ∷ ds) =
+    let a = value_of_pieces radix (value * radix + digit_value d) ds in
+    let b = value_of_pieces radix (0 * radix + digit_value d) ds in
+    rw (a, b, pow-suc radix (length ds)) (omega arith)
+
+-- ---- a loop over digits
+
+-- with one digit more
+pub value_next : (radix before value d : ℕ) (ds : List ℕ) (byte : ℕ)
+    → digit_of_radix radix byte ≡ Some d → value ≡ digits_value_after radix before ds
+    → digits_value_after radix before (ds ++ byte ∷ []) ≡ value * radix + d
+value_next radix before value d ds byte e is =
+    value_push radix before ds byte ∙ rw (← is, value_is radix byte d e) refl
   where
-    after_both : (radix n : ℕ) (ds es : List ℕ) → digits_value_after radix n (ds ++ es)
-        ≡ digits_value_after radix (digits_value_after radix n ds) es
-    after_both radix n [] es = refl
-    after_both radix n (d ∷ ds) es = after_both radix (n * radix + digit_value d) ds es
+    value_push : (radix n : ℕ) (ds : List ℕ) (c : ℕ)
+        → digits_value_after radix n (ds ++ c ∷ [])
+        ≡ digits_value_after radix n ds * radix + digit_value c
+    value_push radix n [] c = refl
+    value_push radix n (d ∷ ds) c = value_push radix (n * radix + digit_value d) ds c
+
+-- with the digit at a position
+pub value_more : (rule : Rule) (text : List ℕ) (start before at radix d : ℕ) → start ≤ at
+    → at < length text → radix ≡ rule.radix → digit_of_radix radix (slice_index text at) ≡ Some d
+    → digits_value_after rule.radix before (digits_between rule text start (at + 1))
+    ≡ digits_value_after rule.radix before (digits_between rule text start at) * radix + d
+unfolding is_digit
+value_more rule text start before at radix d low l same e =
+    grind (arith, more_between rule text start at low l, value_next)
+
+-- a byte that is no digit adds none
+pub same_more : (rule : Rule) (text : List ℕ) (start at : ℕ) → start ≤ at → at < length text
+    → digit_of_radix rule.radix (slice_index text at) ≡ None
+    → digits_between rule text start (at + 1) ≡ digits_between rule text start at
+unfolding is_digit
+same_more rule text start at low l none = no_more rule text start at low l (grind (arith, none))
+
+-- ---- going on after a digit with which the value is too large
+
+-- What a read that answers the error says of it, where the greatest value has no name: the digits
+-- before its position are worth less than with the one there.
+module _ (k : Component) (s : State) (before : ℕ) (error : TooLarge)
+    (read : IsReadTo k s before error) (onward : s.cursor ≤ error.at) (before_stop : error.at < stop_of k s)
+    (more : digits_value_after (rule k s).radix before (digits_to k s error.at)
+    < digits_value_after (rule k s).radix before (digits_to k s (error.at + 1)))
+    (valid : IsState s) where
+  -- the state that it leaves
+  abbrev left : State
+  left = past_digits_to k s error.at
+
+  abbrev with_one : ℕ
+  with_one = digits_value_after (rule k s).radix before (digits_to k s (error.at + 1))
+
+  rest : LeavesRest k s before (with_one - 1) error.at
+  rest = leaves_rest k s before (with_one - 1) error.at valid (grind arith)
+
+  -- the digits that lead there are the others
+  pub count_goes_on : length (leading_digits_of k s)
+      ≡ error.count + length (leading_digits_of k left)
+  count_goes_on = grind (arith, rest, read, length-append {A = ℕ})
+
+  -- their value follows that of the error
+  pub value_goes_on : digits_value_after (rule k s).radix before (leading_digits_of k s)
+      ≡ digits_value_after (rule k s).radix error.value (leading_digits_of k left)
+  value_goes_on = rw (rest.digits, read.is) (after_both (rule k s).radix before
+      (digits_to k s error.at) (leading_digits_of k left))
+
+  -- so all are worth two pieces
+  pub pieces_go_on : digits_value_after (rule k s).radix before (leading_digits_of k s)
+      ≡ error.value * (rule k s).radix ^ length (leading_digits_of k left)
+      + digits_value (rule k s).radix (leading_digits_of k left)
+  pieces_go_on = value_goes_on
+      ∙ value_of_pieces (rule k s).radix error.value (leading_digits_of k left)
+
+  -- with all of them it is no less than with the one there
+  pub over_goes_on : digits_value_after (rule k s).radix before (digits_to k s (error.at + 1))
+      ≤ digits_value_after (rule k s).radix before (leading_digits_of k s)
+  over_goes_on = omega (arith, rest.over, more)
+
+  -- passing them leaves what passing all leaves
+  pub passed_goes_on : past_digits_of k s ≡ past_digits_of k left
+  passed_goes_on = sym rest.passed
+
+  pub stop_goes_on : stop_of k s ≡ stop_of k left
+  stop_goes_on = sym rest.stop
+
+-- to be named in an attribute; the others are for a clause that asks for less
+pub ruleset goes_on = (count_goes_on, pieces_go_on, passed_goes_on, stop_goes_on)
+
+-- ---- the first digits of a number
+
+-- an answer of `read_first_digits`
+module _ (radix most before : ℕ) (digits : List ℕ) (read : FirstDigits)
+    (reads : ReadsFirst radix most before digits read) where
+  -- its value is that of all digits, if none was dropped
+  pub none_dropped : read.dropped ≡ 0 → digits_value_after radix before digits ≡ read.value
+  none_dropped none = grind (arith, reads, take_all {A = ℕ})
+
+  -- where the least value that is too large is a power of the radix
+  by_power : (m : ℕ) → 0 < m → most + 1 ≡ radix ^ m
+      → (before ≡ 0 → IsOfFirstDigits radix m digits read.value read.dropped)
+      × ((more : ℕ) (others : List ℕ) → IsOfFirstDigits radix m others before more
+      → IsOfFirstDigits radix m (others ++ digits) read.value (more + read.dropped))
+  by_power zero some power = absurd (omega arith)
+  by_power (suc p) some power =
+      let n : ℕ = read.count - read.dropped in
+      let so : Reads radix (suc p) before n digits = grind (arith, add-one, reads) in (
+        λ none. grind (arith, reads, alone radix p n digits reads.some),
+        λ more others of. grind
+            (arith, reads, first radix p n before more others digits reads.some of so),
+      )
+
+  module _ (given n : ℕ) (same : radix ≡ given) (some : 0 < n) (power : most + 1 ≡ given ^ n) where
+    -- it is of the first n significant digits of these digits
+    pub first_digits : before ≡ 0 → IsOfFirstDigits given n digits read.value read.dropped
+    first_digits none = rw same at ((by_power n some (rw same power)).0 none)
+
+    -- or of others and these
+    pub first_of_others : (more : ℕ) (others : List ℕ) → IsOfFirstDigits given n others before more
+        → IsOfFirstDigits given n (others ++ digits) read.value (more + read.dropped)
+    first_of_others more others of =
+        rw same at ((by_power n some (rw same power)).1 more others (rw same of))
+
+-- all digits are worth no less than the first of them
+pub first_no_more : (radix before n : ℕ) (digits : List ℕ) → 1 ≤ radix
+    → digits_value_after radix before (take n digits) ≤ digits_value_after radix before digits
+first_no_more radix before n digits = grows radix n digits before
+
+-- the value of all digits, whether some were dropped or none; to be named in an attribute
+pub ruleset dropped = (none_dropped, first_no_more)

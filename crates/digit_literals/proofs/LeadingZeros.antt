@@ -52,7 +52,7 @@ module _ (rule : Rule) (text : List ℕ) (start : ℕ) where
         other = grind (arith, cases_lt at (length text), other, gets, separators);
         below = so.below;
         within = l;
-        few = so.few;
+        dense = so.dense;
       }
 
 pub ruleset passing = (passed, zero_is_digit, ends)

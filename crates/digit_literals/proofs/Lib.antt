@@ -6,7 +6,7 @@ pub mod LeadingZeros
 pub mod PassedZeros
 pub mod Between
 pub mod Worth
-pub mod OtherBytes
+pub mod UpToStop
 pub mod Onward
 pub mod Texts
 pub mod ForCallers

@@ -1,5 +1,5 @@
 -- Going on from a digit of an integer: the stop is that of its start, and the value that of both.
-use Rattle.std.proofs.Common.{◌≡◌, ℕ, ◌+◌, ◌-◌, ◌*◌, ◌^◌, ◌<◌, ◌≤◌, List, ◌++◌, length, take, drop, IsTrue, refl, sym, ◌∙◌, arith, take-add}
+use Rattle.std.proofs.Common.{◌≡◌, ℕ, ◌+◌, ◌-◌, ◌*◌, ◌^◌, ◌<◌, ◌≤◌, List, ◌++◌, length, IsTrue, refl, sym, ◌∙◌, arith, take-add}
 use Rattle.std.specs.Str.Parse.{digits_value}
 use Rattle.std.proofs.lemmas.List.{drop-drop}
 use Rattle.std.proofs.lemmas.List.Elements.{filter-append}
@@ -7,11 +7,10 @@ use Rattle.lexical_format.specs.Word.{is_supported}
 use Rattle.lexical_digits.specs.declared.skip.rule.Rule.{Rule}
 use Rattle.lexical_digits.specs.declared.skip.component.Component.TheVariants.{Integer}
 use Rattle.lexical_digits.specs.State.{State, IsState, own, rule_of, start, with_cursor}
-use Rattle.lexical_digits.specs.Separators.{is_digit}
 use Rattle.lexical_digits.specs.Stop.{stop, stop_of}
 use Rattle.digit_literals.specs.After.{digits_between, past_digits_to, ExceedsAt}
-use Rattle.digit_literals.proofs.ForCallers.{value_of_both, stop_within, stops}
-use Rattle.digit_literals.proofs.OtherBytes.{value_of_pieces, some_before_stop}
+use Rattle.digit_literals.proofs.ForCallers.{value_of_both, value_of_pieces, stop_within, stops}
+use Rattle.digit_literals.proofs.UpToStop.{some_before_stop}
 use Rattle.digit_literals.proofs.Rest.{leaves_rest}
 
 -- a state at a position of a text, from which the stop is that of an integer from its start on

@@ -13,7 +13,7 @@ use Rattle.lexical_digits.proofs.Looks.WhereSeparatorsStand.{separators}
 use Rattle.lexical_digits.proofs.Calls.FirstOther.{stop_is_first}
 use Rattle.digit_literals.specs.After.{digits_between}
 use Rattle.digit_literals.proofs.Between.{none_between, one_more, no_more}
-use Rattle.digit_literals.proofs.Worth.{value_more}
+use Rattle.digit_literals.proofs.ForCallers.{value_more}
 
 module _ (rule : Rule) (text : List ℕ) (start : ℕ) where
   abbrev upto : ℕ → List ℕ
@@ -40,7 +40,7 @@ module _ (rule : Rule) (text : List ℕ) (start : ℕ) where
   -- digits are kept, whatever was counted before.
   pub record HasPassed (at : ℕ) : Type 0 where
     pub below : start + length (upto at) ≤ at
-    pub few : at ≤ start + 2 * length (upto at)
+    pub dense : at ≤ start + 2 * length (upto at)
     pub fewer : start < at → is_digit rule (slice_index text at) ≡ false
         → at < start + 2 * length (upto at)
     pub kept : (own q : ℕ) → start ≤ q → q < at

@@ -5,12 +5,12 @@ use Rattle.lexical_digits.specs.declared.skip.component.Component.{Component}
 use Rattle.lexical_digits.specs.Laws.Terms.{iterate, State, IsState, rule, own, place_of, settled, taken, stop_of, leading_digits_of, past_digits_of, IsNthDigit}
 use Rattle.lexical_digits.specs.Laws.Table.{digit_laws}
 use Rattle.lexical_digits.proofs.Rule.Supported.{supported_rule}
+use Rattle.lexical_digits.proofs.Calls.FirstOther.{stop_is_first}
 use Rattle.lexical_digits.proofs.Calls.DigitAtPlace.{Digit, digit_there, none_there}
 use Rattle.lexical_digits.proofs.Calls.Stops.{past_more, leading_between, nth_digit, nth_leaves}
 use Rattle.lexical_digits.proofs.Calls.Rest.{leading_settled, stop_settled}
 use Rattle.digit_literals.specs.Rest.{LeavesRest}
 use Rattle.digit_literals.specs.After.{digits_to, past_digits_to, ExceedsAt}
-use Rattle.digit_literals.proofs.ForCallers.{stop_within}
 use Rattle.digit_literals.proofs.Between.{more_between, fewer_between}
 use Rattle.digit_literals.proofs.Significant.{grows}
 
@@ -29,9 +29,13 @@ module _ (k : Component) (s : State) (before most at : ℕ) (v : IsState s)
   abbrev n : ℕ
   n = length (digits_to k s at)
 
+  within : at < length s.buffer
+  within = let end = stop_is_first (rule k s) s.buffer s.cursor (own k s) v.within in
+      omega (arith, h.before_stop, end.within)
+
   -- one digit more is before the next position
   length_more : length (digits_to k s (at + 1)) ≡ n + 1
-  length_more = grind (arith, stop_within, more_between, append-nil {A = ℕ}, length-append {A = ℕ})
+  length_more = grind (arith, within, more_between, append-nil {A = ℕ}, length-append {A = ℕ})
 
   leads : n < length (leading_digits_of k s)
   leads = grind (arith, length_more, leading_between k s v, fewer_between)

@@ -43,7 +43,7 @@ module _ (rule : Rule) (text : List ℕ) (start before : ℕ) (most : Option ℕ
     pub reads : (own : ℕ) → ReadsTo own
     pub other : separator_at rule.separator text read.end ≡ false
     pub below : start + read.count ≤ read.end
-    pub few : read.end ≤ start + 2 * read.count
+    pub dense : read.end ≤ start + 2 * read.count
 
 -- The bytes `0` from the start on were passed, whatever was counted before, with at most one
 -- separator for each, and none at the end.
@@ -53,7 +53,7 @@ pub record AreZeros (rule : Rule) (text : List ℕ) (start : ℕ) (read : ZerosT
   pub other : separator_at rule.separator text read.end ≡ false
   pub below : start + read.count ≤ read.end
   pub within : read.end ≤ length text
-  pub few : read.end ≤ start + 2 * read.count
+  pub dense : read.end ≤ start + 2 * read.count
 
 -- What a read of a component leaves of a `Bytes`, which was a before: the digits that were read are
 -- passed, and counted as by `next`. The next read has no run to look for.

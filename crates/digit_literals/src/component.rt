@@ -26,7 +26,7 @@ pub fn pass_digits(bytes: &mut Bytes, component: Component) -> usize
     ensures between { let s = bytes.old.state in
         result ≡ length (filter (is_digit (rule component s))
         (slice_range s.buffer s.cursor (stop_of component s))) }
-    ensures few { result ≤ length bytes.old.state.buffer }
+    ensures within_buffer { result ≤ length bytes.old.state.buffer }
     ensures within { bytes.old.state.cursor + result ≤ bytes.new.state.cursor }
     ensures state { bytes.new.state ≡ past_digits_of component bytes.old.state }
     ensures remembers { needs_run component bytes.new ≡ false }

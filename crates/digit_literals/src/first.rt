@@ -51,7 +51,7 @@ pub fn read_first_digits(
         ReadsFirst (rule component s).radix most before (leading_digits_of component s) result }
     ensures between { let s = bytes.old.state in
         leading_digits_of component s ≡ digits_to component s (stop_of component s) }
-    ensures few { result.count ≤ length bytes.old.state.buffer }
+    ensures within_buffer { result.count ≤ length bytes.old.state.buffer }
     ensures within { bytes.old.state.cursor + result.count ≤ bytes.new.state.cursor }
     ensures state { bytes.new.state ≡ past_digits_of component bytes.old.state }
     ensures remembers { needs_run component bytes.new ≡ false }

@@ -138,6 +138,30 @@ pub fn stop_from(text: &[u8], word: u128, component: Component, start: usize) ->
     read_text(text, word, component, start, None).end
 }
 
+/// The digits of a component that lead from `start` on, and whether there are none: up to a greatest
+/// value if one is asked for.
+#[inline(always)]
+pub(super) fn read_told(
+    text: &[u8],
+    word: u128,
+    component: Component,
+    start: usize,
+    most: Option<u64>,
+) -> (ReadTo, bool)
+    requires supported { IsTrue (is_supported word) }
+    requires within { start ≤ length text.now }
+    ensures reads { ReadsTo (rule_of word component) text.now start 0 most result.0 0 }
+    ensures empty { result.1 ≡ (result.0.count == 0) }
+{
+    match read_ahead(text, word, component, start, most) {
+        Some(read) => (read, read.end == start),
+        None => {
+            let read = read_fresh(text, word, component, start, most);
+            (read, read.count == 0)
+        }
+    }
+}
+
 /// The digits of a component that lead from `start` on: up to a greatest value if one is asked for.
 #[inline(always)]
 pub(super) fn read_text(
@@ -151,10 +175,7 @@ pub(super) fn read_text(
     requires within { start ≤ length text.now }
     ensures { ReadsTo (rule_of word component) text.now start 0 most result 0 }
 {
-    match read_ahead(text, word, component, start, most) {
-        Some(read) => read,
-        None => read_fresh(text, word, component, start, most),
-    }
+    read_told(text, word, component, start, most).0
 }
 
 /// Reads the digits of a component from `start` on, where the slice is enough: up to a greatest

@@ -1,7 +1,7 @@
 //! Laws: what is left after a [`TooLarge`](crate::TooLarge), the outcomes of numbers of any type,
 //! and of an integer by its iterator.
 
-ghost use Rattle.std.specs.Prelude.{◌≡◌, ℕ, ℤ, ◌-◌, ◌^◌, length, IsTrue};
+ghost use Rattle.std.specs.Prelude.{◌≡◌, ℕ, ℤ, ◌+◌, ◌-◌, ◌^◌, ◌<◌, List, ◌++◌, length, IsTrue};
 ghost use Rattle.lexical_format.specs.Word.{is_supported};
 ghost use Rattle.lexical_digits.specs.declared.skip.component.Component.TheVariants.{Integer};
 ghost use Rattle.lexical_digits.specs.declared.skip.component.Component.{Component};
@@ -9,10 +9,15 @@ ghost use Rattle.lexical_digits.specs.State.{State, IsState, rule, own, rule_of}
 ghost use Rattle.lexical_digits.specs.CallTable.{place_of, settled, taken};
 ghost use Rattle.digit_literals.specs.After.{ExceedsAt};
 ghost use Rattle.digit_literals.specs.Rest.{LeavesRest};
+ghost use Rattle.digit_literals.specs.First.{ReadsFirst};
+ghost use Rattle.digit_literals.specs.Significant.{IsOfFirstDigits};
+ghost use Rattle.digit_literals.specs.declared.first.FirstDigits.{FirstDigits};
 ghost use Rattle.digit_literals.specs.Integers.{IsIntegerFrom, HasNoDigitFrom, IsTooLargeFrom};
 ghost use Rattle.digit_literals.specs.Outcomes.{ReadsAll, FindsNone, PassesMost};
 ghost use Rattle.digit_literals.specs.Numbers.{IsNumberFrom, IsNumberFault, digits_from, most_from};
 ghost use Rattle.digit_literals.specs.declared.parse.ParseError.{ParseError};
+
+use super::first::FirstDigits;
 
 /// What is left after a [`TooLarge`](crate::TooLarge): the digits that lead are those before its
 /// position, and then those that lead from there on, of which there are some. With all of them the
@@ -22,6 +27,28 @@ pub fn too_large_leaves_the_rest()
     ensures { (k : Component) (s : State) (before most at : ℕ) → IsState s →
         ExceedsAt (rule k s) s.buffer s.cursor (own k s) before most at →
         LeavesRest k s before most at }
+{}
+
+/// Where `most` is a power of the radix less 1,
+/// [`read_first_digits`](crate::read_first_digits) reads the first significant digits of a
+/// component, as many as the power says.
+pub fn first_are_significant(radix: u32, digits: u32, most: u64)
+    requires some { 0 < digits }
+    requires power { most + 1 ≡ radix ^ digits }
+    ensures { (r before : ℕ) (read : FirstDigits) (all : List ℕ) → r ≡ radix → before ≡ 0 →
+        ReadsFirst r most before all read →
+        IsOfFirstDigits radix digits all read.value read.dropped }
+{}
+
+/// [`first_are_significant`] of a component after others, of which the first significant digits
+/// were read before: `read` is then of those of all.
+pub fn first_go_on(radix: u32, digits: u32, most: u64, before: FirstDigits, read: FirstDigits)
+    requires some { 0 < digits }
+    requires power { most + 1 ≡ radix ^ digits }
+    ensures { (r : ℕ) (others all : List ℕ) → r ≡ radix →
+        IsOfFirstDigits radix digits others before.value before.dropped →
+        ReadsFirst r most before.value all read →
+        IsOfFirstDigits radix digits (others ++ all) read.value (before.dropped + read.dropped) }
 {}
 
 /// From each start no text has two numbers of a type, nor two outcomes of

@@ -11,7 +11,7 @@ ghost use Rattle.digit_literals.specs.Outcomes.{IfEmpty, IfOverflow};
 ghost use Rattle.digit_literals.specs.Integers.{ReadsFrom, IsIntegerFrom, IsTooLargeFrom};
 
 use super::LiteralError;
-use super::integer::{integer_of, read_integer_from, read_text, stop_from};
+use super::integer::{integer_of, read_integer_from, read_told, stop_from};
 use super::slice::{ReadTo, read_slice};
 use lexical_digits::skip::{Component, Rule};
 use lexical_format::char_to_digit_const;
@@ -46,14 +46,14 @@ pub fn read_wide_from(
         let (value, end) = read_integer_from(text, word, start, most as u64)?;
         return Ok((u128::from(value), end));
     }
-    let read = read_text(text, word, Component::Integer, start, Some(u64::MAX));
+    let (read, is_empty) = read_told(text, word, Component::Integer, start, Some(u64::MAX));
     if read.is_too_large {
         return match read_beyond(text, word, start, read.end, read.value, most) {
             Ok(read) => Ok(read),
             Err(over) => Err(LiteralError::Overflow(over)),
         };
     }
-    let (value, end) = integer_of(read, read.count == 0)?;
+    let (value, end) = integer_of(read, is_empty)?;
     Ok((u128::from(value), end))
 }
 
@@ -197,7 +197,7 @@ fn add_wide(value: u128, radix: u32, digit: u32, most: u128) -> Option<u128>
 
 /// The value of the digits between two positions, or the position of the first with which it is
 /// above `most`.
-#[tactic(auto, using(crate::proofs::Worth::value_more, crate::proofs::Between::none_between, crate::proofs::OtherBytes::same_more))]
+#[tactic(auto, using(crate::proofs::ForCallers::value_more, crate::proofs::ForCallers::same_more, crate::proofs::Between::none_between))]
 fn value_between(
     text: &[u8],
     rule: Rule,

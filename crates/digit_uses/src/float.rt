@@ -11,7 +11,7 @@
 
 ghost use Rattle.std.specs.Prelude.{◌≡◌, true, ◌+◌, ◌-◌, ◌^◌, ◌<◌, ◌≤◌, length, take, IsTrue, IfOk, IfErr, OnOk, pos, ◌+ℤ◌, ◌-ℤ◌};
 ghost use Rattle.std.specs.Int.{saturate_signed, w64};
-ghost use Rattle.std.specs.Str.Parse.{digits_value};
+ghost use Rattle.std.specs.Str.Parse.{digits_value, digits_value_after};
 ghost use Rattle.lexical_format.specs.Word.{is_supported, mantissa_radix};
 ghost use Rattle.lexical_digits.specs.State.{rule_of};
 ghost use Rattle.lexical_digits.specs.declared.skip.component.Component.TheVariants.{Exponent};
@@ -81,7 +81,7 @@ const MOST: u64 = 9_999_999_999_999_999_999;
 
 /// [`read_first_digits_from`] in words of this reader.
 #[inline(always)]
-#[tactic(auto, unfolding(crate::specs::Float::digits_from, crate::specs::Float::digits_end))]
+#[tactic(auto, using(digit_literals::proofs::ForCallers::dropped), unfolding(crate::specs::Float::digits_from, crate::specs::Float::digits_end))]
 fn read_part(
     text: &[u8],
     word: u128,
@@ -95,6 +95,12 @@ fn read_part(
     requires before { before ≤ most }
     ensures part { ReadsFirst (rule_of word component).radix most before
         (digits_from word text.now component at) result.0 }
+    ensures whole { result.0.dropped ≡ 0
+        → result.0.value ≡ digits_value_after (rule_of word component).radix before
+        (digits_from word text.now component at) }
+    ensures over { 0 < result.0.dropped
+        → most < digits_value_after (rule_of word component).radix before
+        (digits_from word text.now component at) }
     ensures end { result.1 ≡ digits_end word text.now component at }
     ensures onward { at + result.0.count ≤ result.1 }
     ensures within { result.1 ≤ length text.now }

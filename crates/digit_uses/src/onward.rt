@@ -2,22 +2,24 @@
 //!
 //! Proof by hand: none.
 
-ghost use Rattle.std.specs.Prelude.{◌≡◌, ◌++◌, ◌+◌, ◌-◌, ◌^◌, IfOk, OnOk, IsTrue};
+ghost use Rattle.std.specs.Prelude.{◌≡◌, ℕ, List, ◌++◌, ◌+◌, ◌*◌, ◌-◌, ◌^◌, ◌<◌, ◌≤◌, length, IfSome, OnSome, IfOk, OnOk, IsTrue};
 ghost use Rattle.std.specs.Str.Parse.{digits_value};
 ghost use Rattle.lexical_format.specs.Digits.{is_digit_of_radix};
 ghost use Rattle.lexical_format.specs.Word.{is_supported};
 ghost use Rattle.lexical_digits.specs.State.{rule, rule_of};
 ghost use Rattle.lexical_digits.specs.CallTable.{zeros_of, past_zeros_of};
-ghost use Rattle.lexical_digits.specs.Stop.{after_leading, leading_digits_of, past_digits_of};
+ghost use Rattle.lexical_digits.specs.Stop.{after_leading, stop_of, leading_digits_of, past_digits_of};
 ghost use Rattle.lexical_digits.specs.declared.skip.component.Component.TheVariants.{Integer, Fraction};
 ghost use Rattle.digit_literals.specs.After.{IsDigits};
 ghost use Rattle.digit_literals.specs.Integers.{IsInteger, IsIntegerFrom};
 ghost use Rattle.digit_literals.specs.Outcomes.{digits};
+ghost use Rattle.digit_literals.specs.Significant.{IsOfFirstDigits};
 ghost use Rattle.digit_uses.specs.Bytes.{past_component, past_leading};
 
+use digit_literals::laws::{first_are_significant, first_go_on};
 use digit_literals::{
-    Digits, LiteralError, TooLarge, pass_zeros, read_digits_after, read_digits_of, read_integer,
-    read_integer_from,
+    Digits, FirstDigits, LiteralError, TooLarge, pass_digits, pass_zeros, read_digits_after,
+    read_digits_of, read_digits_up_to, read_first_digits, read_integer, read_integer_from,
 };
 use lexical_digits::iterator::{DigitsIter, Iter, IterBodies};
 use lexical_digits::skip::{Bytes, Component};
@@ -112,4 +114,103 @@ pub fn read_range(text: &[u8], word: u128) -> Result<Range, LiteralError>
     }
     let other = read_integer_from(text, word, end + 1, u64::MAX)?;
     Ok(((value, end), other))
+}
+
+/// The greatest value of 19 decimal digits.
+const MOST: u64 = 9_999_999_999_999_999_999;
+
+/// A value and the digits after it, as one number.
+fn join(value: u64, digits: Digits) -> Option<u128>
+    ensures { IfSome result (λ both. both ≡ value * 10 ^ digits.count + digits.value) }
+{
+    let scale = 10u128.checked_pow(u32::try_from(digits.count).ok()?)?;
+    u128::from(value)
+        .checked_mul(scale)?
+        .checked_add(u128::from(digits.value))
+}
+
+/// The value of up to 38 decimal digits: that of the first 19, and then that of the others.
+#[tactic(auto, using(digit_literals::proofs::ForCallers::goes_on))]
+pub fn read_wide(bytes: &mut Bytes, component: Component) -> Option<u128>
+    requires decimal { (rule component bytes.old.state).radix ≡ 10 }
+    ensures value { let s = bytes.old.state in
+        IfSome result (λ value. value ≡ digits_value 10 (leading_digits_of component s)) }
+    ensures state { OnSome result (bytes.new.state ≡ past_digits_of component bytes.old.state) }
+{
+    match read_digits_up_to(bytes, component, 0, MOST) {
+        Ok(read) => Some(u128::from(read.value)),
+        Err(error) => join(
+            error.value,
+            read_digits_up_to(bytes, component, 0, MOST).ok()?,
+        ),
+    }
+}
+
+/// How many digits lead, read up to a value and passed beyond.
+#[tactic(auto, using(digit_literals::proofs::ForCallers::goes_on))]
+pub fn count_beyond(bytes: &mut Bytes, component: Component, most: u64) -> usize
+    ensures count { result ≡ length (leading_digits_of component bytes.old.state) }
+    ensures state { bytes.new.state ≡ past_digits_of component bytes.old.state }
+{
+    match read_digits_up_to(bytes, component, 0, most) {
+        Ok(read) => read.count,
+        Err(error) => error.count + pass_digits(bytes, component),
+    }
+}
+
+/// Reads the first 19 significant digits of a component, and passes the byte after them if it is
+/// `mark`.
+fn first_up_to(bytes: &mut Bytes, component: Component, mark: u8) -> FirstDigits
+    requires decimal { (rule component bytes.old.state).radix ≡ 10 }
+    ensures first { let s = bytes.old.state in
+        IsOfFirstDigits 10 19 (leading_digits_of component s) result.value result.dropped }
+    ensures fits { result.value ≤ 9999999999999999999 }
+    ensures few { result.dropped ≤ length bytes.old.state.buffer }
+    ensures state { bytes.new.state ≡ past_component component mark bytes.old.state }
+    ensures word { bytes.new.state.word ≡ bytes.old.state.word }
+{
+    first_are_significant(10, 19, MOST);
+    let read = read_first_digits(bytes, component, 0, MOST);
+    if bytes.first_is_cased(mark) {
+        let at = bytes.cursor();
+        bytes.set_cursor(at + 1);
+    }
+    read
+}
+
+/// Reads a component after the first 19 significant digits of others: those of all as one number,
+/// and how many follow them.
+fn first_after(bytes: &mut Bytes, component: Component, before: FirstDigits) -> (u64, usize)
+    requires decimal { (rule component bytes.old.state).radix ≡ 10 }
+    requires fits { before.value ≤ 9999999999999999999 }
+    requires few { before.dropped < 2 ^ 63 }
+    ensures first { let s = bytes.old.state in (digits : List ℕ) →
+        IsOfFirstDigits 10 19 digits before.value before.dropped →
+        IsOfFirstDigits 10 19 (digits ++ leading_digits_of component s) result.0 result.1 }
+    ensures state { bytes.new.state ≡ past_digits_of component bytes.old.state }
+{
+    let read = read_first_digits(bytes, component, before.value, MOST);
+    first_go_on(10, 19, MOST, before, read);
+    (read.value, before.dropped + read.dropped)
+}
+
+/// The first 19 significant digits of two components as one number, where `mark` may be between
+/// them; how many digits follow them; and where the second ends.
+pub fn first_of_both(
+    bytes: &mut Bytes,
+    integer: Component,
+    mark: u8,
+    fraction: Component,
+) -> (u64, usize, usize)
+    requires decimal { (rule integer bytes.old.state).radix ≡ 10 }
+    requires both_decimal { (rule fraction bytes.old.state).radix ≡ 10 }
+    ensures first { let s = bytes.old.state in let t = past_component integer mark s in
+        IsOfFirstDigits 10 19 (leading_digits_of integer s ++ leading_digits_of fraction t)
+        result.0 result.1 }
+    ensures end { let t = past_component integer mark bytes.old.state in
+        result.2 ≡ stop_of fraction t }
+{
+    let read = first_up_to(bytes, integer, mark);
+    let (value, dropped) = first_after(bytes, fraction, read);
+    (value, dropped, bytes.cursor())
 }

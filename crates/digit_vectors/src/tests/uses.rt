@@ -13,7 +13,9 @@ use digit_uses::groups::{GroupsError, read_groups};
 use digit_uses::lexer::{Fault, Token, numbers};
 use digit_uses::literal::{LiteralFault, Suffix, parse_literal};
 use digit_uses::loops::{count_yielded, yields};
-use digit_uses::onward::{read_mantissa, read_number, read_past_zeros, read_range};
+use digit_uses::onward::{
+    count_beyond, first_of_both, read_mantissa, read_number, read_past_zeros, read_range, read_wide,
+};
 use digit_uses::rest::number_end;
 use digit_uses::validate::{is_integer, validate};
 use lexical_digits::iterator::Iter;
@@ -153,6 +155,29 @@ fn calls_that_go_on_from_another(rt: HostRuntime) {
     assert_eq!(rt; bytes.cursor(), 7);
     assert_eq!(rt; read_range(b"1_0-20x", WORD), Ok(((10, 3), (20, 6))));
     assert_eq!(rt; read_range(b"1_0", WORD), Err(LiteralError::Empty(3)));
+}
+
+#[test]
+fn more_digits_than_a_value_holds(rt: HostRuntime) {
+    let text = b"12_345678901234567890_12345x";
+    let mut bytes = bytes_of(&rt, text, WORD);
+    let wide = read_wide(&mut bytes, Component::Integer);
+    assert_eq!(rt; wide, Some(1234567890123456789012345));
+    assert_eq!(rt; bytes.cursor(), 27);
+    let mut bytes = bytes_of(&rt, text, WORD);
+    assert_eq!(rt; count_beyond(&mut bytes, Component::Integer, 999), 25);
+    assert_eq!(rt; bytes.cursor(), 27);
+    // 19 digits, and then 20 nines
+    let mut bytes = bytes_of(&rt, b"123456789012345678999999999999999999999", WORD);
+    assert_eq!(rt; read_wide(&mut bytes, Component::Integer), None);
+}
+
+#[test]
+fn the_first_digits_of_integer_and_fraction(rt: HostRuntime) {
+    // 0012 and 34567890123456789012: 19 from the 1 on, and then 012
+    let mut bytes = bytes_of(&rt, b"0_012.34567890123456789012_x", WORD);
+    let first = first_of_both(&mut bytes, Component::Integer, b'.', Component::Fraction);
+    assert_eq!(rt; first, (1234567890123456789, 3, 27));
 }
 
 #[test]

@@ -7,7 +7,8 @@ use Rattle.lexical_format.specs.Digits.{digit_of_radix}
 use Rattle.lexical_digits.specs.Stop.{after_leading}
 use Rattle.lexical_digits.proofs.Calls.Items.{iterate_last}
 use Rattle.digit_literals.specs.Outcomes.{digits}
-use Rattle.digit_literals.proofs.Worth.{digit_at, value_next}
+use Rattle.digit_literals.proofs.Worth.{digit_at}
+use Rattle.digit_literals.proofs.ForCallers.{value_next}
 use Rattle.digit_literals.proofs.reading.read_digits_after.Goals as goal
 
 -- one more of the digits that lead

@@ -1,5 +1,5 @@
 use Rattle.std.proofs.Common.{refl}
-use Rattle.digit_literals.proofs.OtherBytes.{is_integer}
+use Rattle.digit_literals.proofs.UpToStop.{is_integer}
 use Rattle.digit_literals.proofs.wide.read_beyond.Goals as goal
 
 pub returns-then-value-most-clause-ok : goal.returns-then-value-most-clause-ok

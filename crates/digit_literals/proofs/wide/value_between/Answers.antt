@@ -1,6 +1,5 @@
 use Rattle.std.proofs.Common.{arith, refl, sym, ◌∙◌}
-use Rattle.digit_literals.proofs.Worth.{value_more}
-use Rattle.digit_literals.proofs.OtherBytes.{same_more}
+use Rattle.digit_literals.proofs.ForCallers.{value_more, same_more}
 use Rattle.digit_literals.proofs.wide.value_between.Goals as goal
 use Rattle.digit_literals.proofs.wide.value_between.Goals.{in-Some+in-Some-add_wide, in_default}
 
