@@ -328,29 +328,56 @@ fn component_value<'a>(mut iter: impl Digits<'a>, radix: u32, before: u64) -> u6
 }
 
 /// The mantissa and the decimal exponent, which is that written less the digits of the fraction;
-/// and where the number ends. Nothing where `u64` does not hold one.
+/// and where the number ends: a sign, digits with a point before, among or after them, and an
+/// exponent after `e` or `E`. Nothing where there is none, or `u64` does not hold one.
 #[inline(always)]
 fn parts<B: Buffers>(text: &[u8], word: u128) -> Outcome {
-    let mut bytes = B::Bytes::over(text, word);
+    let start = usize::from(matches!(text.first(), Some(b'+' | b'-')));
+    let mut bytes = B::Bytes::over(&text[start..], word);
     match parts_of::<B>(&mut bytes, B::radix(word)) {
-        Some(value) => Outcome { value, count: bytes.integer().cursor() as u64, looks: 0 },
+        Some(value) => {
+            let end = start + bytes.integer().cursor();
+            Outcome { value, count: end as u64, looks: 0 }
+        }
         None => Outcome::default(),
     }
 }
 
 #[inline(always)]
 fn parts_of<B: Buffers>(bytes: &mut B::Bytes<'_>, radix: u32) -> Option<u64> {
-    let (integer, _) = part(bytes.integer(), radix, 0)?;
-    let (mantissa, places) = part(bytes.fraction(), radix, integer)?;
-    let (exponent, _) = value_after(&mut bytes.exponent(), radix, 0)?;
+    let (mut mantissa, digits) = value_after(&mut bytes.integer(), radix, 0)?;
+    let mut places = 0;
+    if pass_if(bytes.integer(), |byte| byte == b'.').is_some() {
+        (mantissa, places) = value_after(&mut bytes.fraction(), radix, mantissa)?;
+    }
+    if digits + places == 0 {
+        return None;
+    }
+    let exponent = match pass_if(bytes.fraction(), |byte| byte == b'e' || byte == b'E') {
+        Some(_) => exponent_of::<B>(bytes, radix)?,
+        None => 0,
+    };
     Some(float_of([0, mantissa, exponent.wrapping_sub(places as u64)]))
 }
 
-/// The value of a component that another one follows, and how many digits it has. The byte that
-/// ends it is passed.
+/// A sign and the digits of an exponent, if there is one.
 #[inline(always)]
-fn part<'a>(mut iter: impl Digits<'a>, radix: u32, before: u64) -> Option<(u64, usize)> {
-    let read = value_after(&mut iter, radix, before)?;
+fn exponent_of<B: Buffers>(bytes: &mut B::Bytes<'_>, radix: u32) -> Option<u64> {
+    let sign = pass_if(bytes.exponent(), |byte| byte == b'+' || byte == b'-');
+    match value_after(&mut bytes.exponent(), radix, 0)? {
+        (_, 0) => None,
+        (value, _) if sign == Some(b'-') => Some(value.wrapping_neg()),
+        (value, _) => Some(value),
+    }
+}
+
+/// Passes the byte that comes next, if it is wanted.
+#[inline(always)]
+fn pass_if<'a>(mut iter: impl Digits<'a>, is_wanted: impl Fn(u8) -> bool) -> Option<u8> {
+    let byte = *iter.peek()?;
+    if !is_wanted(byte) {
+        return None;
+    }
     iter.next();
-    Some(read)
+    Some(byte)
 }

@@ -102,17 +102,15 @@ pub fn read_first_digits_from(
     ensures end { result.1 ≤ length text.now }
 {
     let rule = Rule::of(word, component);
-    match decimals_from(text, rule, start, before, most) {
-        Some(read) => {
-            let all = FirstDigits {
-                value: read.value,
-                count: read.count,
-                dropped: 0,
-            };
-            (all, read.end)
-        }
-        None => read_first_fresh(text, word, component, start, before, most),
+    if let Some(read) = decimals_from(text, rule, start, before, most) {
+        let all = FirstDigits {
+            value: read.value,
+            count: read.count,
+            dropped: 0,
+        };
+        return (all, read.end);
     }
+    read_first_fresh(text, word, component, start, before, most)
 }
 
 /// [`read_first_digits_from`] by a `Bytes`, whatever separators are met and however many digits
