@@ -1,4 +1,5 @@
 pub mod Bytes
+pub mod Durations
 pub mod Float
 pub mod Groups
 pub mod Lexer

@@ -5,6 +5,7 @@ pub mod back;
 pub mod calling;
 pub mod calls;
 pub mod drained;
+pub mod durations;
 pub mod ends;
 pub mod figures;
 pub mod float;

@@ -7,6 +7,7 @@ use digit_script::{Answer, Call, Op, Part};
 use digit_uses::back::try_exponent;
 use digit_uses::calls::{make_calls, pass_number};
 use digit_uses::drained::{length_without_separators, without_separators};
+use digit_uses::durations::{Cause, Fault as DurationFault, parse_duration};
 use digit_uses::ends::{Parser, component_end, take_through};
 use digit_uses::figures::{Figures, read_figures};
 use digit_uses::groups::{GroupsError, read_groups};
@@ -380,4 +381,15 @@ fn a_text_that_is_no_integer_has_a_fault(rt: HostRuntime) {
     assert!(rt; is_supported(WORD));
     assert_eq!(rt; validate(b"1_0", WORD), Ok(()));
     assert_eq!(rt; validate(b"12__3", WORD), Err(2));
+}
+
+#[test]
+fn lengths_of_time(rt: HostRuntime) {
+    assert!(rt; parse_duration(b"") == Ok(0));
+    assert!(rt; parse_duration(b"1h30m") == Ok(5_400_000));
+    assert!(rt; parse_duration(b"1_500ms2s") == Ok(3500));
+    assert!(rt; parse_duration(b"1h3") == Err(DurationFault::NoPart(2, Cause::NoUnit(3))));
+    assert!(rt; parse_duration(b"1hx") == Err(DurationFault::NoPart(2, Cause::Empty(2))));
+    let answer = parse_duration(b"1s4294967296s");
+    assert!(rt; answer == Err(DurationFault::NoPart(2, Cause::TooLarge(11))));
 }
