@@ -1,13 +1,12 @@
 //! The digits, or the zeros, of one component of a number, read or passed over a `Bytes`. The next
 //! call goes on from the cursor.
 
-ghost use Rattle.std.specs.Prelude.{◌≡◌, ◌+◌, ◌*◌, ◌-◌, ◌^◌, ◌≤◌, min, false, None, length, filter, slice_range, pos, ◌≤ℤ◌, ◌+ℤ◌, IfSome, IfOk, IfErr, OnOk};
-ghost use Rattle.lexical_digits.specs.Separators.{is_digit};
+ghost use Rattle.std.specs.Prelude.{◌≡◌, ◌+◌, ◌*◌, ◌-◌, ◌^◌, ◌≤◌, min, false, None, length, pos, ◌≤ℤ◌, ◌+ℤ◌, IfSome, IfOk, IfErr, OnOk};
 ghost use Rattle.lexical_digits.specs.State.{rule, own};
 ghost use Rattle.lexical_digits.specs.CallTable.{zeros_of, past_zeros_of};
 ghost use Rattle.lexical_digits.specs.Looks.{owed, needs_run};
-ghost use Rattle.lexical_digits.specs.Stop.{stop_of, leading_digits_of, past_digits_of};
-ghost use Rattle.digit_literals.specs.After.{digits_to, past_digits_to, digits_read, IsDigits, IsReadTo, ExceedsAt, PassesAt};
+ghost use Rattle.lexical_digits.specs.Stop.{leading_digits_of, past_digits_of};
+ghost use Rattle.digit_literals.specs.After.{past_digits_to, digits_read, IsDigits, IsReadTo, ExceedsAt, PassesAt};
 ghost use Rattle.digit_literals.specs.Reads.{ReadsOn};
 
 use super::reading::{Digits, TooLarge};
@@ -18,14 +17,12 @@ use lexical_digits::skip::{Bytes, Component};
 
 /// Passes the digits of a component that lead from the cursor on, and answers how many there are.
 /// The cursor is then at the stop: the first byte that the component keeps and that is no digit, or
-/// else the end.
+/// else the end. By the law [`digits_end`](lexical_digits::stop::digits_end) the digits that lead
+/// are those of the buffer between the cursor and the stop.
 #[inline(always)]
 #[tactic(auto, using(crate::proofs::States::by_state))]
 pub fn pass_digits(bytes: &mut Bytes, component: Component) -> usize
     ensures digits { result ≡ length (leading_digits_of component bytes.old.state) }
-    ensures between { let s = bytes.old.state in
-        result ≡ length (filter (is_digit (rule component s))
-        (slice_range s.buffer s.cursor (stop_of component s))) }
     ensures within_buffer { result ≤ length bytes.old.state.buffer }
     ensures within { bytes.old.state.cursor + result ≤ bytes.new.state.cursor }
     ensures state { bytes.new.state ≡ past_digits_of component bytes.old.state }
@@ -58,8 +55,6 @@ pub fn read_digits_of(
     before: u64,
 ) -> Result<Digits, TooLarge>
     ensures ok { IfOk result (IsDigits component bytes.old.state before) }
-    ensures between { let s = bytes.old.state in
-        leading_digits_of component s ≡ digits_to component s (stop_of component s) }
     ensures passed { OnOk result (bytes.new.state ≡ past_digits_of component bytes.old.state) }
     ensures too_large { let s = bytes.old.state in
         IfErr result (λ error.
@@ -95,8 +90,6 @@ pub fn read_digits_up_to(
     requires { before ≤ most }
     ensures ok { IfOk result (IsDigits component bytes.old.state before) }
     ensures fits { IfOk result (λ read. read.value ≤ most) }
-    ensures between { let s = bytes.old.state in
-        leading_digits_of component s ≡ digits_to component s (stop_of component s) }
     ensures passed { OnOk result (bytes.new.state ≡ past_digits_of component bytes.old.state) }
     ensures too_large { let s = bytes.old.state in
         IfErr result (λ error.

@@ -5,8 +5,8 @@ ghost use Rattle.lexical_format.specs.Word.{is_supported};
 ghost use Rattle.lexical_digits.specs.State.{rule, rule_of};
 ghost use Rattle.lexical_digits.specs.Separators.{IsSupported};
 ghost use Rattle.lexical_digits.specs.Looks.{owed, needs_run};
-ghost use Rattle.lexical_digits.specs.Stop.{stop, stop_of, leading_digits_of, past_digits_of};
-ghost use Rattle.digit_literals.specs.After.{digits_between, digits_to};
+ghost use Rattle.lexical_digits.specs.Stop.{stop, leading_digits_of, past_digits_of};
+ghost use Rattle.digit_literals.specs.After.{digits_between};
 ghost use Rattle.digit_literals.specs.First.{ReadsFirst};
 ghost use Rattle.digit_literals.specs.Reads.{IsOffSlice, PassesAll};
 
@@ -49,8 +49,6 @@ pub fn read_first_digits(
     requires { before ≤ most }
     ensures first { let s = bytes.old.state in
         ReadsFirst (rule component s).radix most before (leading_digits_of component s) result }
-    ensures between { let s = bytes.old.state in
-        leading_digits_of component s ≡ digits_to component s (stop_of component s) }
     ensures within_buffer { result.count ≤ length bytes.old.state.buffer }
     ensures within { bytes.old.state.cursor + result.count ≤ bytes.new.state.cursor }
     ensures state { bytes.new.state ≡ past_digits_of component bytes.old.state }
