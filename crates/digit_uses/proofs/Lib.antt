@@ -1,2 +1,3 @@
 mod Floats
+mod Remainders
 mod Tokens

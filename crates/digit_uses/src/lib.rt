@@ -17,5 +17,6 @@ pub mod number;
 pub mod numbers;
 pub mod onward;
 pub mod readme;
+pub mod remainder;
 pub mod rest;
 pub mod validate;

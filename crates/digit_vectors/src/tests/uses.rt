@@ -17,6 +17,7 @@ use digit_uses::loops::{count_yielded, yields};
 use digit_uses::onward::{
     count_beyond, first_of_both, read_mantissa, read_number, read_past_zeros, read_range, read_wide,
 };
+use digit_uses::remainder::remainder;
 use digit_uses::rest::number_end;
 use digit_uses::validate::{is_integer, validate};
 use lexical_digits::iterator::Iter;
@@ -132,6 +133,23 @@ fn figures_without_the_zeros_before_them(rt: HostRuntime) {
             end: *end,
         };
         assert!(rt; answer == figures, "{text:?}: {answer:?}");
+    }
+}
+
+/// A text, a divisor, and the remainder of its integer.
+static REMAINDERS: [(&[u8], u32, u64); 4] = [
+    (b"1_000", 7, 6),
+    (b"3214_2829_1234_5698_7654_3216_1182", 97, 1),
+    (b"_5", 3, 0),
+    (b"12x9", 10, 2),
+];
+
+#[test]
+fn remainder_of_a_number_of_any_length(rt: HostRuntime) {
+    assert!(rt; is_supported(WORD));
+    for (text, by, rest) in &REMAINDERS {
+        let answer = remainder(text, WORD, *by);
+        assert!(rt; answer == *rest, "{text:?}: {answer}");
     }
 }
 
