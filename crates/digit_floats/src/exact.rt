@@ -53,8 +53,8 @@ pub fn signed<F: Float>(negative: bool, x: F) -> F
     if negative { x.negated() } else { x }
 }
 
-/// The float nearest to the digits, of which so many are places, times ten to a power, if one
-/// operation is enough.
+/// The float nearest to the digits, of which the last `places` follow the point, times ten to a
+/// power, if one operation is enough.
 #[inline(always)]
 pub fn round_exact<F: Float>(
     negative: bool,

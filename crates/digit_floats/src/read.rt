@@ -27,7 +27,7 @@ pub fn read_sign(text: &[u8], at: usize) -> (bool, usize)
     }
 }
 
-/// Whether a point stands at a position.
+/// Whether a point is at a position.
 #[inline]
 fn has_point(text: &[u8], at: usize) -> bool
     ensures answer { result ≡ stands is_point text.now at }
@@ -39,7 +39,7 @@ fn has_point(text: &[u8], at: usize) -> bool
     }
 }
 
-/// Whether the mark of an exponent stands at a position.
+/// Whether the mark of an exponent is at a position.
 #[inline]
 fn has_mark(text: &[u8], at: usize) -> bool
     ensures answer { result ≡ stands is_mark text.now at }

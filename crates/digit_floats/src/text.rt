@@ -110,8 +110,9 @@ struct Tens {
     down: u64,
 }
 
-/// The power of ten of a number of which so many digits are places, so many are cut, and one was
-/// written for these. Beyond 400 and -3,000 it makes no difference.
+/// The power of ten after the kept digits and the one that stands for the others: `places` digits
+/// of the number follow its point, and `cut` weren't kept. Beyond 400 and -3,000 it makes no
+/// difference.
 #[inline(always)]
 fn tens_of(places: u64, cut: u64, down: bool, power: u64) -> Tens
     requires places { places < 2 ^ 63 }
@@ -189,8 +190,8 @@ fn push_tens(bytes: &mut [u8], kept: Kept, tens: Tens) -> usize
     }
 }
 
-/// The float nearest to the number of the digits in two texts, of which so many are places, times
-/// ten to a power, of any length.
+/// The float nearest to a number of any length: the digits of two texts, of which the last `places`
+/// follow the point, times ten to a power.
 #[cold]
 #[inline(never)]
 pub fn round_digits<F: Float>(

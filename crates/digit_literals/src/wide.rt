@@ -124,8 +124,7 @@ fn ten_to(n: usize) -> Option<u64>
     })
 }
 
-/// What the digits before so many others are worth, for each 1 of their value, if that fits 64
-/// bits.
+/// The radix to the power of a count, if that fits 64 bits.
 #[inline(always)]
 fn scale_of(radix: u32, count: usize) -> Option<u64>
     ensures { IfSome result (λ scale. scale ≡ radix ^ count) }

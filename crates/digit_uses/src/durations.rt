@@ -60,7 +60,7 @@ fn unit_at(text: &[u8], at: usize) -> Option<(u64, usize)>
     }
 }
 
-/// What the part that begins here is worth, and where it ends.
+/// The value of the part that begins here, and where it ends.
 #[tactic(auto, unfolding(lexical_format::proofs::OnLiterals::lexical_on_literals))]
 fn read_part(text: &[u8], start: usize) -> Result<(u64, usize), Cause>
     requires { start ≤ length text.now }

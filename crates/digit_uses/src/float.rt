@@ -49,7 +49,7 @@ pub enum FloatError {
     NoExponent(usize),
 }
 
-/// Whether one of these bytes stands at a position.
+/// Whether one of these bytes is at a position.
 #[inline]
 fn has_one_of(text: &[u8], at: usize, wanted: &[u8]) -> bool
     ensures answer { result ≡ stands (one_of wanted.now) text.now at }

@@ -14,7 +14,8 @@ use digit_literals::stop_from;
 use lexical_digits::skip::{Component, Rule};
 use lexical_format::char_to_digit_const;
 
-/// The remainder of the integer that a text begins with, of any length: check digits are told by it.
+/// The remainder of the integer that a text begins with, of any length. A check digit follows from
+/// it.
 pub fn remainder(text: &[u8], word: u128, by: u32) -> u64
     requires supported { IsTrue (is_supported word) }
     requires some { 0 < by }
