@@ -2,10 +2,13 @@
 run measured, the kit, the version, and how many words the pages have."""
 import os
 import re
+import sys
 
-from sources import TOP, crates, files_below, libraries, read
+from sources import TOP, crates, difference, files_below, libraries, read
 
-CASES, PAGE_SOURCE, PICTURE = "bench/cases.txt", "bench/src/page.rs", "docs/speed.svg"
+sys.path.append(os.path.join(TOP, "bench"))
+import pages as speed  # noqa: E402
+
 MOST_WORDS = {"CALLING.md": 1900}
 NAMES = ("zero one two three four five six seven eight nine ten eleven twelve thirteen fourteen "
          "fifteen sixteen").split()
@@ -123,130 +126,15 @@ def calls(it):
                       if call not in words]
 
 
-def cells(line):
-    return [cell.strip() for cell in line.split("|")[1:-1]]
-
-
-# The columns of bench/cases.txt, by how many a row has: a case in instructions or in time, and a
-# kept run in either.
-CASE_CELLS, RUN_CELLS = {10: "Instructions", 12: "Nanoseconds"}, {9: "Instructions",
-                                                                  11: "Nanoseconds"}
-
-
 def measured(it):
-    """README, SPEED and the picture have what the benchmark's last run counted and measured: see
-    bench/src/page.rs."""
-    lines = read(CASES).split("\n")
-    all_cells = [row for row in map(cells, lines) if row]
-    rows = {(CASE_CELLS[len(row)], row[0]): row for row in all_cells if len(row) in CASE_CELLS}
-    runs = {(row[0], row[1]): row for row in all_cells if RUN_CELLS.get(len(row)) == "Instructions"}
-    source = " ".join(read(PAGE_SOURCE).split())
-    for line, m in it.find("docs/SPEED.md", r"^\d{4}-\d\d-\d\d, .*kit.*$"):
-        it.compare("docs/SPEED.md", line, f"the run of {CASES}", m[0], lines[0])
-    table = dict(re.findall(r'\( ?"([^"]+)", "(\w+: [^"]+)",? ?\)', source))
-    rows_of_speed(it, table, rows)
-    rows_of_std(it, re.findall(r'\( ?"(\w: [^"]+)", "([^"]+)",? ?\)', source), rows)
-    means(it, lines)
-    ratios_of_readme(it, re.findall(r'both\("([^"]+)"\)', source), rows)
-    kept_runs(it, runs)
-    picture(it, rows, runs)
+    """What pages say of the benchmark's last run is what bench/pages.py writes of it."""
+    for path, text in speed.pages().items():
+        it.count += 1
+        if read(path) != text:
+            it.faults.append(difference(path, text, "bench/pages.py"))
     for line, m in it.find("docs/SPEED.md", r"A `Bytes` takes (\d+) bytes"):
-        size = re.search(r"A `Bytes` takes (\d+) bytes", read(CASES))
+        size = re.search(r"A `Bytes` takes (\d+) bytes", read("bench/cases.txt"))
         it.compare("docs/SPEED.md", line, "the size of a `Bytes`", m[1], size and size[1])
-
-
-def rows_of_speed(it, table, rows):
-    """The rows of SPEED's tables; that of times is there if the last run measured times."""
-    shown, unit = {}, ""
-    for line, text in it.lines("docs/SPEED.md"):
-        unit = text.split()[0] if re.match(r"(Instructions|Nanoseconds) for each byte", text) \
-            else unit
-        if len(cells(text)) == 7:
-            shown[unit, cells(text)[0]] = line, cells(text)
-    for unit in CASE_CELLS.values():
-        if unit == "Nanoseconds" and not any(there == unit for there, _ in rows):
-            continue
-        for words, case in table.items():
-            if (unit, words) not in shown or (unit, case) not in rows:
-                it.faults.append(f"docs/SPEED.md:1: {unit}: no row \"{words}\", or no case "
-                                 f"\"{case}\"")
-                continue
-            line, row = shown[unit, words]
-            there = rows[unit, case]
-            it.compare("docs/SPEED.md", line, f"{unit} of \"{case}\"", row[1:],
-                       [there[1], there[7], there[9], there[2], there[8], there[5]])
-
-
-def rows_of_std(it, table, rows):
-    """The rows of SPEED that have std beside the library, by case."""
-    shown = {cells(text)[0]: (line, cells(text)) for line, text in it.lines("docs/SPEED.md")
-             if len(cells(text)) == 5}
-    for case, words in table:
-        if words not in shown or ("Instructions", case) not in rows:
-            it.faults.append(f"docs/SPEED.md:1: no row \"{words}\" beside std, or no case "
-                             f"\"{case}\"")
-            continue
-        line, row = shown[words]
-        there = rows["Instructions", case]
-        it.compare("docs/SPEED.md", line, f"\"{case}\" beside std", row[1:4],
-                   [there[2], there[1], there[6]])
-        is_near = abs(float(row[4]) - float(there[2]) / float(there[6])) < 0.0101
-        it.compare("docs/SPEED.md", line, f"the ratio of \"{case}\"", row[4],
-                   row[4] if is_near else "another")
-
-
-def means(it, lines):
-    page = [(line, text) for line, text in it.lines("docs/SPEED.md")
-            if text.startswith("Geometric mean")]
-    there = [text for text in lines if text.startswith("Geometric mean")]
-    it.compare("docs/SPEED.md", page[0][0] if page else 1, "the geometric means",
-               [text for _, text in page], there)
-
-
-def ratios_of_readme(it, cases, rows):
-    pairs = it.find("README.md", r"(\d+\.\d) \((\d+\.\d)\)")
-    it.compare("README.md", pairs[0][0] if pairs else 1, "the number of ratios", len(pairs),
-               len(cases))
-    ratio = {case: [float(row[n].split()[0]) for n in (8, 9)]
-             for (unit, case), row in rows.items()
-             if unit == "Instructions" and re.match(r"\w: ", case) and "–" not in row[8:]}
-    for (line, m), case in zip(pairs, cases):
-        is_near = case in ratio and all(abs(float(m[n + 1]) - there) < 0.0501
-                                        for n, there in enumerate(ratio[case]))
-        it.compare("README.md", line, f"the case \"{case}\"", m[0],
-                   m[0] if is_near else f"{ratio.get(case)}")
-    worst = max(ratio, key=lambda case: ratio[case][1], default="")
-    for line, m in it.find("README.md", r'worst row at run time is "([^"]+)": (\d+\.\d)'):
-        is_near = m[1] in ratio and abs(float(m[2]) - ratio[worst][1]) < 0.0501
-        it.compare("README.md", line, "the worst row", m[1], worst if is_near else "another")
-
-
-def kept_runs(it, runs):
-    def there(name, length, side):
-        return runs.get((name, length), [""] * 9)[side]
-    for page in ("README.md", "docs/SPEED.md"):
-        form = r"([\d.]+) instructions a byte at 100 separators and ([\d.]+) at 100,000"
-        for line, m in it.find(page, form):
-            it.compare(page, line, "a kept run", [m[1], m[2]],
-                       [there("g: IC, a kept run", length, 3) for length in ("100", "100000")])
-    for line, m in it.find("docs/SPEED.md", r"The original takes ([\d.]+) at 10,000"):
-        it.compare("docs/SPEED.md", line, "a kept run of the original", m[1],
-                   there("g: IC, a kept run", "10000", 6))
-    for line, m in it.find("README.md", r"it takes (\d+(?:\.\d+)?) and lexical-util (\d+\.\d+)"):
-        it.compare("README.md", line, "a kept run under leading", [m[1], m[2]],
-                   [there("g: LC, a kept run", "1000", side) for side in (3, 6)])
-
-
-def picture(it, rows, runs):
-    """Each mark of the picture has a title, with the number that it shows."""
-    columns = {"Library": 9, "Constant": 8}
-    for line, m in it.find(PICTURE, r"<title>(\w+: .+), (Library|Constant): ([\d.]+)</title>"):
-        row = rows.get(("Instructions", m[1]), [""] * 10)
-        it.compare(PICTURE, line, m[1], m[3], row[columns[m[2]]].split(" ")[0])
-    sides = {"Library": 3, "Floor": 4, "Fixed word": 5, "Original": 6, "Filter": 7}
-    for line, m in it.find(PICTURE, r"<title>([\w ]+), (\d+) separators: ([\d.]+)</title>"):
-        row = runs.get(("g: IC, a kept run", m[2]), [""] * 9)
-        it.compare(PICTURE, line, m[1], m[3], row[sides[m[1]]])
 
 
 def names(it):

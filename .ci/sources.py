@@ -21,6 +21,16 @@ def files_below(folder, ending):
     return [os.path.relpath(path, TOP) for path in found]
 
 
+def difference(path, text, script):
+    """The first line in which a file differs from what a script writes, and both forms of it."""
+    old = read(path) if os.path.exists(os.path.join(TOP, path)) else ""
+    pairs = zip(old.split("\n") + ["(the end)"], text.split("\n") + ["(the end)"])
+    line, (here, there) = next((n, pair) for n, pair in enumerate(pairs, 1) if len({*pair}) > 1)
+    start = max(0, len(os.path.commonprefix([here, there])) - 40)
+    return (f"{path}:{line}: `{here[start:start + 100].strip()}`, and by the sources "
+            f"`{there[start:start + 100].strip()}`: run {script}")
+
+
 def crates():
     """Each crate of crates.txt, with those that it depends on. The lower ones come first."""
     lines = (line.partition("#")[0].partition(":") for line in read("crates.txt").split("\n"))

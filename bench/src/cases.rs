@@ -17,12 +17,9 @@ use crate::work::Work::{
     Stopped, Sum, Zeros,
 };
 
-/// The greatest wanted ratio of the library, with its word at run time, to the floor.
-pub const TO_FLOOR: f64 = 1.1;
-
 /// What is done with one text.
-pub struct Case {
-    pub name: &'static str,
+struct Case {
+    name: &'static str,
     text: fn() -> Text,
     sides: Sides,
 }
@@ -30,11 +27,6 @@ pub struct Case {
 impl Case {
     fn new(name: &'static str, text: fn() -> Text, sides: Sides) -> Self {
         Case { name, text, sides }
-    }
-
-    /// The greatest wanted ratio of the library with a constant word to the original.
-    pub fn to_original(&self) -> f64 {
-        most_to_original(self.name)
     }
 
     fn run(&self, run: fn(&[Job])) {
@@ -45,21 +37,13 @@ impl Case {
     }
 }
 
-/// The greatest wanted ratio of the library with a constant word to the original, in a case.
-pub fn most_to_original(case: &str) -> f64 {
-    match case.split(':').next() {
-        Some("e") => 1.3,
-        _ => 1.1,
-    }
-}
-
 /// Runs the wanted cases: measures them, or runs them once.
 pub fn run_all(run: fn(&[Job]), is_wanted: impl Fn(&str) -> bool) {
     all().iter().filter(|case| is_wanted(case.name)).for_each(|case| case.run(run));
 }
 
 /// The cases, in the order of the table.
-pub fn all() -> Vec<Case> {
+fn all() -> Vec<Case> {
     let groups = [
         drains(),
         short_texts(),

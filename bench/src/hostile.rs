@@ -2,20 +2,20 @@
 
 use crate::library::{self, Format};
 use crate::measure::Job;
-use crate::medians::{self, Side};
+use crate::told::{self, Side};
 use crate::texts::{self, Text};
 use crate::word::{IC, LC};
 use crate::work::{Sides, Way, Work};
 
 /// How many separators there are.
-pub const LENGTHS: [usize; 4] = [100, 1_000, 10_000, 100_000];
+const LENGTHS: [usize; 4] = [100, 1_000, 10_000, 100_000];
 /// The longest run that the other calls are measured on: their time grows with the square.
 const LONGEST_SQUARE: usize = 10_000;
 /// The cases.
-pub const NAMES: [&str; 2] = ["g: IC, a kept run", "g: LC, a kept run"];
+const NAMES: [&str; 2] = ["g: IC, a kept run", "g: LC, a kept run"];
 
-/// What the medians call a case on a run of that length.
-pub fn name_at(name: &str, length: usize) -> String {
+/// What the tables call a case on a run of that length.
+fn name_at(name: &str, length: usize) -> String {
     format!("{name} of {length}")
 }
 
@@ -47,7 +47,7 @@ fn run_word(run: fn(&[Job]), name: &str, sides: &Sides, format: Format) {
     let texts = LENGTHS.map(|length| (name_at(name, length), texts::hostile(length)));
     for (case, text) in &texts {
         let drained = library::call(library::digit_bench_looks, &text.bytes, format);
-        medians::tell_looks(case, drained.looks as f64 / text.bytes.len() as f64);
+        told::looks(case, drained.looks as f64 / text.bytes.len() as f64);
     }
     let library = texts.iter().map(|(case, text)| job(case, text, (Side::Library, &sides.library)));
     run(&library.collect::<Vec<_>>());

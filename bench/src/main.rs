@@ -4,11 +4,7 @@
 //! - `bench measure WORD..` tells the medians of the cases whose name holds one of the words, or of
 //!   all;
 //! - `bench once WORD..` does the work of those cases once, on texts of an eighth of the size, for
-//!   `bench/count`;
-//! - `bench table` reads what such programs told and prints all of it as Markdown;
-//! - `bench page` reads the same and prints the rows of docs/SPEED.md;
-//! - `bench summary` reads the same and prints the sentences of README;
-//! - `bench plot` reads the same and prints a picture of it as SVG.
+//!   `bench/count`.
 
 mod agree;
 mod calls;
@@ -19,21 +15,16 @@ mod floor;
 mod hostile;
 mod library;
 mod measure;
-mod medians;
 mod numbers;
 #[cfg(feature = "original")]
 mod original;
-mod page;
 mod place;
-mod plot;
-mod svg;
-mod table;
 mod texts;
+mod told;
 mod word;
 mod work;
 
 use measure::Job;
-use medians::Medians;
 use std::sync::atomic::Ordering::Relaxed;
 
 fn main() {
@@ -44,17 +35,8 @@ fn main() {
             texts::SIZE.store(1 << 17, Relaxed);
             run(measure::run_once, &words[1..]);
         }
-        Some("table") => table::print(&medians()),
-        Some("page") => page::print(&medians()),
-        Some("summary") => page::print_summary(&medians()),
-        Some("plot") => print!("{}", plot::svg(&medians())),
-        _ => eprintln!("usage: bench measure|once [WORD..] | bench table | page | summary | plot"),
+        _ => eprintln!("usage: bench measure|once [WORD..]"),
     }
-}
-
-/// What programs told, from standard input.
-fn medians() -> Medians {
-    Medians::read(std::io::stdin().lock())
 }
 
 fn measure(words: &[String]) {
@@ -65,7 +47,7 @@ fn measure(words: &[String]) {
 
 /// Runs the cases whose name holds one of the words: measures them, or runs them once.
 fn run(run: fn(&[Job]), words: &[String]) {
-    medians::tell_program(library::digit_bench_size());
+    told::program(library::digit_bench_size());
     cases::run_all(run, is_one_of(words));
     hostile::run_all(run, is_one_of(words));
 }

@@ -1,7 +1,7 @@
 //! The clock.
 
 use crate::library::Outcome;
-use crate::medians::{self, Side};
+use crate::told::{self, Side};
 use crate::texts::Text;
 use crate::work::Way;
 use std::hint::black_box;
@@ -28,7 +28,7 @@ pub fn measure(jobs: &[Job]) {
     let repeats: Vec<u32> = jobs.iter().map(Job::repeats).collect();
     for _ in 0..ROUNDS {
         for (job, &repeats) in jobs.iter().zip(&repeats) {
-            medians::tell_time(job.case, job.side, job.median(repeats));
+            told::time(job.case, job.side, job.median(repeats));
         }
     }
 }

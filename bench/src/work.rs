@@ -5,7 +5,7 @@ use crate::filter::filtered;
 use crate::fixed::Fixed;
 use crate::floor::Floor;
 use crate::library::{self, Export, Format, ManyExport, Outcome};
-use crate::medians::Side;
+use crate::told::Side;
 use crate::numbers::{rust_literal, Type};
 #[cfg(feature = "original")]
 use crate::original::Original;

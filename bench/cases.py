@@ -1,0 +1,151 @@
+#!/usr/bin/env python3
+"""Prints the tables of all cases from what the benchmark's programs told and bench/count counted,
+which it reads from standard input: lines of fields with a tab between them (src/told.rs)."""
+import math
+import re
+import sys
+
+SIDES = ("Library", "Constant", "Floor", "Fixed word", "Original", "Filter")
+UNITS = {"Instructions": "Instructions for each byte:",
+         "Nanoseconds": "Nanoseconds for each byte, on this machine:"}
+TO_FLOOR = 1.1  # the greatest wanted ratio of the library to the floor
+# The greatest wanted ratio of a byte of a kept run to one of a run of so many separators
+FLAT, REFERENCE = 1.2, "1000"
+
+
+def target(case):
+    """The greatest wanted ratio of a constant word to the original."""
+    return 1.3 if case.startswith("e:") else 1.1
+
+
+class Told:
+    """What was told: `times` by case and side, and then by the pad of the program; `counts`, the
+    instructions, by case and side; the looks by case; the programs."""
+
+    def __init__(self, lines):
+        self.times, self.counts, self.looks, self.programs = {}, {}, {}, set()
+        for kind, *fields in (line.rstrip("\n").split("\t") for line in lines):
+            if kind == "time":
+                case, side, pad, nanoseconds = fields
+                pads = self.times.setdefault((case, side), {})
+                pads.setdefault(pad, []).append(float(nanoseconds))
+            elif kind == "count":
+                case, side, instructions = fields
+                self.counts[case, side] = float(instructions)
+            elif kind == "looks":
+                self.looks[fields[0]] = float(fields[1])
+            elif kind == "program":
+                self.programs.add(tuple(fields))
+            else:
+                sys.exit(f"no line of medians: {kind} {fields}")
+        self.keys = list(dict.fromkeys([*self.times, *self.counts]))
+        self.sides = [side for side in SIDES if any(side == other for _, other in self.keys)]
+        self.cases = [case for case in dict.fromkeys(case for case, _ in self.keys)
+                      if not case.startswith("g:")]
+
+    def check_places(self):
+        """Ends unless each pad moved the code of both sides to a place of its own."""
+        pads, library, rust, _ = map(set, zip(*self.programs))
+        if not len(pads) == len(library) == len(rust):
+            sys.exit(f"pads {pads}, offsets of the library {library}, of Rust {rust}")
+
+    def value(self, unit, case, side):
+        """What a byte takes; of times the least median of all placements counts."""
+        if unit == "Instructions":
+            return self.counts.get((case, side))
+        pads = self.times.get((case, side))
+        return pads and min(map(min, pads.values()))
+
+    def fixed_side(self, case):
+        """The side that has its word fixed: the original, if it was measured in a case."""
+        return "Original" if (case, "Original") in self.keys else "Fixed word"
+
+    def spreads(self, unit, case):
+        """How far the library's slowest placement lies above its fastest, and how far any side's
+        greatest median lies above the least of its placement."""
+        if unit == "Instructions":
+            return []
+        least = [min(medians) for medians in self.times[case, "Library"].values()]
+        spread = max(max(medians) / min(medians) for (other, _), pads in self.times.items()
+                     if other == case for medians in pads.values())
+        return [f"{100 * share - 100:.0f} %" for share in (max(least) / min(least), spread)]
+
+
+def printed(value):
+    if value is None:
+        return "–"
+    return f"{value:.0f}" if value >= 100 else f"{value:.2f}"
+
+
+def at_most(value, other, most):
+    """A ratio, and whether it is above what is wanted at most, as it is printed."""
+    if value is None or other is None:
+        return "–"
+    ratio = f"{value / other:.2f}"
+    return f"{ratio} over" if float(ratio) > most else ratio
+
+
+def case_rows(told, unit):
+    for case in told.cases:
+        values = {side: told.value(unit, case, side) for side in SIDES}
+        if values["Library"] is None:
+            continue
+        fixed = told.fixed_side(case)
+        yield [case, *(printed(values[side]) for side in told.sides),
+               at_most(values["Library"], values["Floor"], TO_FLOOR),
+               at_most(values["Constant"], values[fixed], target(case)),
+               at_most(values["Library"], values[fixed], math.inf), *told.spreads(unit, case)]
+
+
+def run_rows(told, unit):
+    """The rows of the runs that are kept."""
+    for case in dict.fromkeys(case for case, _ in told.keys if case.startswith("g:")):
+        name, length = re.fullmatch(r"(.*) of (\d+)", case).groups()
+        library = told.value(unit, case, "Library")
+        if library is not None:
+            yield [name, length, printed(told.looks.get(case)),
+                   *(printed(told.value(unit, case, side)) for side in told.sides
+                     if side != "Constant"),
+                   at_most(library, told.value(unit, f"{name} of {REFERENCE}", "Library"), FLAT),
+                   *told.spreads(unit, case)]
+
+
+def means(told):
+    """The geometric means of what the library takes to what the original takes."""
+    for unit, words in (("Instructions", "instructions"), ("Nanoseconds", "time")):
+        logs = {side: [math.log(value / other) for case in told.cases
+                       if (value := told.value(unit, case, side)) and
+                       (other := told.value(unit, case, told.fixed_side(case)))]
+                for side in ("Constant", "Library")}
+        if all(logs.values()):
+            constant, library = (math.exp(sum(it) / len(it)) for it in logs.values())
+            yield (f"Geometric mean of all rows to the original, by {words}: {constant:.2f} with a "
+                   f"constant word, {library:.2f} with a word at run time.\n")
+
+
+def table(words, head, rows):
+    """A table with a line above it, if it has rows."""
+    lines = [f"| {' | '.join(row)} |" for row in (head, *rows)]
+    return [f"{words}\n", lines[0], "|" + "---|" * len(head), *lines[1:], ""] if lines[1:] else []
+
+
+def main():
+    sys.stdout.reconfigure(encoding="utf8")
+    told = Told(sys.stdin)
+    told.check_places()
+    lines, spread = [], {"Instructions": [], "Nanoseconds": ["Apart", "Spread"]}
+    for unit, words in UNITS.items():
+        head = ["Case", *told.sides, "Library / floor", "Constant / fixed", "Library / fixed"]
+        lines += table(words, head + spread[unit], case_rows(told, unit))
+    lines += means(told)
+    for unit, words in UNITS.items():
+        sides = [side for side in told.sides if side != "Constant"]
+        head = ["Case", "Separators", "Looks", *sides, "To a run of 1,000"]
+        lines += table(words, head + spread[unit], run_rows(told, unit))
+    for size in {program[-1] for program in told.programs}:
+        lines.append(f"A `Bytes` takes {size} bytes. No export takes an allocator.")
+    print("\n".join(lines))
+
+
+if __name__ == "__main__":
+    main()

@@ -1,0 +1,220 @@
+#!/usr/bin/env python3
+"""Writes what pages say of the benchmark's last run, by bench/cases.txt: the tables of docs/SPEED.md,
+the sentences of README.md, and the picture docs/speed.svg. `.ci/pages` compares them."""
+import os
+import sys
+
+sys.dont_write_bytecode = True
+TOP = os.path.normpath(os.path.join(os.path.dirname(os.path.abspath(__file__)), ".."))
+CASES = "bench/cases.txt"
+from cases import UNITS, table, target  # noqa: E402
+from picture import svg  # noqa: E402
+
+# The rows of SPEED, with the cases that they show.
+ROWS = {
+    "Digits, no separators allowed": "a: no flags, digits, number",
+    "Digits, separators allowed": "b: I, digits, number",
+    "Numbers of 8 to 20 bytes, grouped by thousands": "f: I, short grouped numbers",
+    "The same in radix 16": "f: I, radix 16, short grouped numbers",
+    "Numbers of 1 to 4 digits, separators allowed": "f: I, 1 to 4 digits",
+    "The same up to a comma, by `peek`, `is_digit` and `next`": "n: I, 1 to 4 digits to a comma",
+    "Grouped numbers up to a comma, by `peek`, `is_digit` and `next`":
+        "n: I, grouped numbers to a comma",
+    "Grouped integers, by `read_integer`": "j: I, grouped literals",
+    "Integers of 1 to 4 digits, by `read_integer`": "j: I, 1 to 4 digits",
+    "Lines with one grouped integer each, by `read_integer_from`": "t: I, grouped, lines",
+    "Grouped digits up to a comma, by `pass_digits`": "o: I, grouped, pass_digits",
+    "Grouped zeros, by `pass_zeros`": "o: I, grouped, pass_zeros",
+    "Integer, fraction and exponent, grouped": "l: I, three grouped components",
+    "The same, by `read_digits_of`": "l: I, grouped, by read_digits_of",
+    "The same, as mantissa and exponent": "s: I, grouped, mantissa and exponent",
+    "Numbers of 8 or 9 digits, grouped, by `parse_number::<u32>`": "u: I, grouped, u32",
+    "Numbers of 20 to 39 digits, grouped, by `parse_number::<u128>`":
+        "u: I, grouped, 20 to 39 digits, u128",
+    "Floats of 8 to 14 digits, grouped, by `parse_float`": "x: I, grouped, 8 to 14 digits, a point",
+    "Runs of 16 separators, all dropped": "e: ILTC, runs of 16, number",
+    "Letters, by `peek` and `next`": "k: I, other bytes, peeked",
+}
+# The rows beside std, with the cases that they show.
+STD_ROWS = {
+    "`u64`, 1 to 4 digits": "p: no flags, 1 to 4 digits, parse_integer",
+    "`u64`, 8 to 20 digits": "p: no flags, parse_integer",
+    "`u64`, 8 to 20 digits, grouped": "p: I, grouped, parse_integer",
+    "`i32`, 1 to 4 digits": "u: no flags, 1 to 4 digits, i32",
+    "`i32`, 8 or 9 digits": "u: no flags, i32",
+    "`i32`, 8 or 9 digits, grouped": "u: I, grouped, i32",
+    "`u128`, 8 to 20 digits": "u: no flags, u128",
+    "`u128`, 20 to 39 digits": "u: no flags, 20 to 39 digits, u128",
+    "`u128`, 20 to 39 digits, grouped": "u: I, grouped, 20 to 39 digits, u128",
+    "Literals of Rust with a prefix, by `read_literal`": "w: literals of Rust",
+    "Literals of Rust with a prefix, grouped": "w: grouped literals of Rust",
+    "`f64`, integers of 1 to 4 digits": "x: no flags, integers of 1 to 4 digits",
+    "`f64`, 1 to 4 digits before a point and after it": "x: no flags, 1 to 4 digits, a point",
+    "`f64`, 8 to 14 digits with a point": "x: no flags, 8 to 14 digits, a point",
+    "`f64`, 8 to 14 digits with a point, grouped": "x: I, grouped, 8 to 14 digits, a point",
+    "`f64`, 8 to 20 digits with a point": "x: no flags, 8 to 20 digits, a point",
+    "`f64`, 18 to 40 digits": "x: no flags, 18 to 40 digits",
+    "`f64` in [0, 1), 17 digits": "x: no flags, in [0, 1) with 17 digits",
+}
+
+
+def read(path):
+    with open(os.path.join(TOP, path), encoding="utf8", newline="\n") as file:
+        return file.read()
+
+
+class Cases:
+    """The tables of bench/cases.txt: `rows` has for each unit and case its cells by their columns,
+    `runs` for each unit, name and length those of a kept run. `machine` and `means` are lines."""
+
+    def __init__(self):
+        self.rows, self.runs = ({unit: {} for unit in UNITS} for _ in range(2))
+        self.machine, *lines = read(CASES).split("\n")
+        self.means, head, unit = [], [], ""
+        for line in lines:
+            cells = [cell.strip() for cell in line.split("|")[1:-1]]
+            if line.startswith(tuple(UNITS)):
+                unit = line.split(" ")[0]
+            elif line.startswith("Geometric mean"):
+                self.means.append(line)
+            elif line.startswith("| Case |"):
+                head = cells
+            elif line.startswith("| g: "):
+                self.runs[unit][cells[0], int(cells[1])] = dict(zip(head, cells))
+            elif line.startswith("| "):
+                self.rows[unit][cells[0]] = dict(zip(head, cells))
+
+    def row(self, case, unit="Instructions"):
+        if case not in self.rows[unit]:
+            raise ValueError(f"{CASES}: no case \"{case}\" in {unit}")
+        return self.rows[unit][case]
+
+    def fixed_side(self, case):
+        """The side that has its word fixed: the original, if it was measured in a case."""
+        return "Fixed word" if self.row(case).get("Original", "–") == "–" else "Original"
+
+    def ratio(self, case, side, other):
+        """The instructions of a side to those of another, or None."""
+        values = [self.row(case).get(it, "–") for it in (side, other)]
+        return None if "–" in values else float(values[0]) / float(values[1])
+
+    def to_fixed(self, case, side):
+        return self.ratio(case, side, self.fixed_side(case))
+
+    def run(self, name, length, side):
+        return self.runs["Instructions"][f"g: {name}, a kept run", length].get(side, "–")
+
+
+# ---- docs/SPEED.md
+
+def speed_rows(cases, unit):
+    for words, case in ROWS.items():
+        row = cases.row(case, unit)
+        yield [words, *(row.get(column, "–") for column in (
+            "Library", "Library / floor", "Library / fixed", "Constant", "Constant / fixed",
+            cases.fixed_side(case)))]
+
+
+def std_rows(cases):
+    for words, case in STD_ROWS.items():
+        ratio = cases.ratio(case, "Constant", "Filter")
+        sides = (cases.row(case)[side] for side in ("Constant", "Library", "Filter"))
+        yield [words, *sides, f"{ratio:.2f}"]
+
+
+def asked(cases, flags):
+    """What it costs to ask the looks after each number."""
+    case = f"f: {flags}, 1 to 4 digits"
+    return f"{cases.row(case)['Constant']} to {cases.row(f'{case}, looks asked')['Constant']}"
+
+
+def speed(cases):
+    """What docs/SPEED.md has between its comments."""
+    head = ("What is read", "Library", "to the floor", "to the original", "Constant word",
+            "to the original", "Original")
+    lines = [f"{cases.machine}\n"]
+    for unit in UNITS:
+        lines += table(UNITS[unit], head, speed_rows(cases, unit) if cases.rows[unit] else [])
+    lines += [f"{mean}\n" for mean in cases.means]
+    lines += table("Beside std's `parse`, or `from_str_radix`, which reads the text without its "
+                   "separators; instructions for each byte of the text with them:",
+                   ("What is parsed", "Constant word", "Library", "std", "Constant word / std"),
+                   std_rows(cases))
+    return "\n".join(lines) + f"""
+To ask `looks` after each number of 1 to 4 digits raises the instructions for each byte from \
+{asked(cases, "no flags")} without flags and from {asked(cases, "I")} with separators allowed \
+(constant word).
+
+A run of separators that is kept, as hostile text may have it, takes \
+{cases.run("IC", 100, "Library")} instructions a byte at 100 separators and \
+{cases.run("IC", 100000, "Library")} at 100,000 (word IC). The original takes \
+{cases.run("IC", 10000, "Original")} at 10,000, and that grows with the run."""
+
+
+# ---- README.md
+
+def both(cases, case):
+    """The ratios of a constant word and of one at run time."""
+    constant, library = (cases.to_fixed(case, side) for side in ("Constant", "Library"))
+    return f"{constant:.1f} ({library:.1f})"
+
+
+def beside_std(cases, letter):
+    """The least and the greatest ratio to std of the cases with a letter, and what has that."""
+    ratios = {words: cases.ratio(case, "Constant", "Filter") for words, case in STD_ROWS.items()
+              if case.startswith(letter)}
+    worst = max(ratios, key=ratios.get)
+    return f"{min(ratios.values()):.1f} to {ratios[worst]:.1f}", worst
+
+
+def summary(cases):
+    """What README.md has between its comments."""
+    numbers, worst_number = beside_std(cases, "u:")
+    floats, worst_float = beside_std(cases, "x:")
+    ratios = {case: ratio for case in cases.rows["Instructions"]
+              if (ratio := cases.to_fixed(case, "Library"))}
+    worst = max(ratios, key=ratios.get)
+    return f"""\
+Beside lexical-util, which knows its word when it is compiled, a constant word takes \
+{both(cases, "b: I, digits, number")} times as many instructions on digits, \
+{both(cases, "f: I, short grouped numbers")} on grouped numbers of 8 to 20 bytes and \
+{both(cases, "f: I, 1 to 4 digits")} on numbers of 1 to 4 digits; in parentheses a word that is \
+known at run time.
+`pass_digits` takes {both(cases, "o: I, grouped, pass_digits")} on grouped numbers, \
+`read_digits_of` {both(cases, "l: I, grouped, by read_digits_of")}, `read_integer` \
+{both(cases, "j: I, 1 to 4 digits")} on numbers of 1 to 4 digits, and lines with one integer each \
+{both(cases, "t: I, grouped, lines")}. More are {both(cases, "n: I, grouped numbers to a comma")} on \
+grouped numbers that are peeked, {both(cases, "e: ILTC, runs of 16, number")} on runs of 16 dropped \
+separators and {both(cases, "k: I, other bytes, peeked")} on letters that are peeked. The worst row \
+at run time is "{worst}": {ratios[worst]:.1f} times the instructions.
+Beside std's `parse`, which reads the text without its separators, `parse_number` takes {numbers} \
+times as many instructions with a constant word, most on {worst_number}.
+`parse_float` takes {floats} times as many as std's, most on {worst_float}.
+A kept run costs {cases.run("IC", 100, "Library")} instructions a byte at 100 separators and \
+{cases.run("IC", 100000, "Library")} at 100,000, where lexical-util's work grows with the square \
+under internal and consecutive; under leading and consecutive it takes \
+{cases.run("LC", 1000, "Library")} and lexical-util {cases.run("LC", 1000, "Original")}."""
+
+
+# ---- all three
+
+def between(path, name, text):
+    """A page with a text between the comment that begins so and the one that ends it."""
+    before, start, rest = read(path).partition(f"<!-- {name}")
+    comment, newline, rest = rest.partition("\n")
+    end = rest.index(f"<!-- end of {name} -->")
+    return f"{before}{start}{comment}{newline}\n{text}\n\n{rest[end:]}"
+
+
+def pages():
+    """The pages by their paths, as bench/cases.txt has them."""
+    cases = Cases()
+    return {"docs/SPEED.md": between("docs/SPEED.md", "table", speed(cases)),
+            "README.md": between("README.md", "speed", summary(cases)),
+            "docs/speed.svg": svg(cases)}
+
+
+if __name__ == "__main__":
+    for path, text in pages().items():
+        with open(os.path.join(TOP, path), "w", encoding="utf8") as file:
+            file.write(text)
