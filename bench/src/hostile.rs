@@ -46,7 +46,7 @@ pub fn run_all(run: fn(&[Job]), is_wanted: impl Fn(&str) -> bool) {
 fn run_word(run: fn(&[Job]), name: &str, sides: &Sides, format: Format) {
     let texts = LENGTHS.map(|length| (name_at(name, length), texts::hostile(length)));
     for (case, text) in &texts {
-        let drained = library::call(library::digit_bench_looks, &text.bytes, format);
+        let drained = library::call(library::digit_bench_looks, &text.bytes, &[], format);
         told::looks(case, drained.looks as f64 / text.bytes.len() as f64);
     }
     let library = texts.iter().map(|(case, text)| job(case, text, (Side::Library, &sides.library)));

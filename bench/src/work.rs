@@ -4,7 +4,7 @@ use crate::calls::drained;
 use crate::filter::filtered;
 use crate::fixed::Fixed;
 use crate::floor::Floor;
-use crate::library::{self, Export, Format, ManyExport, Outcome};
+use crate::library::{self, Export, Format, Outcome};
 use crate::told::Side;
 use crate::numbers::{rust_literal, Type};
 #[cfg(feature = "original")]
@@ -168,35 +168,36 @@ impl Sides {
 
 /// The library's work by the iterators that drop separators.
 fn skipping(work: Work, format: Format) -> Way {
-    match work {
-        Work::Sum => exported(library::digit_bench_sum, format),
-        Work::Number => exported(library::digit_bench_number, format),
-        Work::Peeked => exported(library::digit_bench_peeked, format),
-        Work::Handed => exported(library::digit_bench_handed, format),
-        Work::Eights => exported(library::digit_bench_eights, format),
-        Work::Numbers => exported_many(library::digit_bench_numbers, format),
-        Work::Asked => exported_many(library::digit_bench_asked, format),
-        Work::Stopped => exported_many(library::digit_bench_stopped, format),
-        Work::Literals => exported_many(library::digit_bench_literals, format),
-        Work::Parsed => exported_many(library::digit_bench_parsed, format),
-        Work::Signed => exported_many(library::digit_bench_signed, format),
-        Work::Counted => exported_many(library::digit_bench_counted, format),
-        Work::Cleared => exported(library::digit_bench_cleared, format),
-        Work::Digits => exported_many(library::digit_bench_digits, format),
-        Work::Zeros => exported_many(library::digit_bench_zeros, format),
-        Work::Floats => exported_many(library::digit_bench_floats, format),
-        Work::FloatsOf => exported_many(library::digit_bench_floats_of, format),
-        Work::Mantissas => exported_many(library::digit_bench_mantissas, format),
-        Work::Lines => exported(library::digit_bench_lines, format),
-        Work::Parts => exported_many(library::digit_bench_parts, format),
-        Work::NumberOf(of) => exported_many(parsed_export(of), format),
-        Work::NumberFrom(of) => exported_many(read_export(of), format),
+    let export = match work {
+        Work::Sum => library::digit_bench_sum,
+        Work::Number => library::digit_bench_number,
+        Work::Peeked => library::digit_bench_peeked,
+        Work::Handed => library::digit_bench_handed,
+        Work::Eights => library::digit_bench_eights,
+        Work::Numbers => library::digit_bench_numbers,
+        Work::Asked => library::digit_bench_asked,
+        Work::Stopped => library::digit_bench_stopped,
+        Work::Literals => library::digit_bench_literals,
+        Work::Parsed => library::digit_bench_parsed,
+        Work::Signed => library::digit_bench_signed,
+        Work::Counted => library::digit_bench_counted,
+        Work::Cleared => library::digit_bench_cleared,
+        Work::Digits => library::digit_bench_digits,
+        Work::Zeros => library::digit_bench_zeros,
+        Work::Floats => library::digit_bench_floats,
+        Work::FloatsOf => library::digit_bench_floats_of,
+        Work::Mantissas => library::digit_bench_mantissas,
+        Work::Lines => library::digit_bench_lines,
+        Work::Parts => library::digit_bench_parts,
+        Work::NumberOf(of) => parsed_export(of),
+        Work::NumberFrom(of) => read_export(of),
         // the language has the number 0
         Work::RustLiterals => {
-            exported_many(library::digit_bench_languages, Format { word: 0, ..format })
+            return exported(library::digit_bench_languages, Format { word: 0, ..format });
         }
-        Work::Nearest => exported_many(library::digit_bench_nearest, format),
-    }
+        Work::Nearest => library::digit_bench_nearest,
+    };
+    exported(export, format)
 }
 
 /// Whether the library has code of its own for the word as a constant, or for the language.
@@ -204,7 +205,7 @@ fn has_constant(word: u128, work: Work) -> bool {
     is_constant(word) || matches!(work, Work::RustLiterals)
 }
 
-fn parsed_export(of: Type) -> ManyExport {
+fn parsed_export(of: Type) -> Export {
     match of {
         Type::U8 => library::digit_bench_parsed_u8,
         Type::U16 => library::digit_bench_parsed_u16,
@@ -216,7 +217,7 @@ fn parsed_export(of: Type) -> ManyExport {
     }
 }
 
-fn read_export(of: Type) -> ManyExport {
+fn read_export(of: Type) -> Export {
     match of {
         Type::U32 => library::digit_bench_read_u32,
         Type::U64 => library::digit_bench_read_u64,
@@ -234,11 +235,7 @@ fn rust_literals() -> Way {
 }
 
 fn exported(export: Export, format: Format) -> Way {
-    Box::new(move |text| library::call(export, &text.bytes, format))
-}
-
-fn exported_many(export: ManyExport, format: Format) -> Way {
-    Box::new(move |text| library::call_many(export, &text.bytes, &text.lengths, format))
+    Box::new(move |text| library::call(export, &text.bytes, &text.lengths, format))
 }
 
 #[cfg(feature = "original")]

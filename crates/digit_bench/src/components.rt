@@ -2,7 +2,7 @@
 //! iterator of its own, or by the calls that name the component.
 
 use super::format::Format;
-use super::work::{Work, run_each};
+use super::work::{Task, Work, run_each};
 use super::{Outcome, loops};
 use digit_literals::read_digits_of;
 use digit_uses::float::read_float;
@@ -14,11 +14,10 @@ use lexical_format::NumberFormat;
 #[inline(always)]
 fn read(integer: u64, fraction: u64, exponent: u64, bytes: &Bytes) -> Outcome {
     let mantissa = integer.wrapping_mul(31).wrapping_add(fraction);
-    Outcome {
-        value: mantissa.wrapping_mul(31).wrapping_add(exponent),
-        count: bytes.current_count() as u64,
-        looks: 0,
-    }
+    Outcome::of(
+        mantissa.wrapping_mul(31).wrapping_add(exponent),
+        bytes.current_count() as u64,
+    )
 }
 
 /// Reads the components by an iterator each. The byte that ends a component is taken too.
@@ -114,49 +113,21 @@ impl Work for Parts {
 }
 
 #[unsafe(no_mangle)]
-pub extern "C" fn digit_bench_parts(
-    text: &[u8],
-    lengths: &[u8],
-    low: u64,
-    high: u64,
-    is_constant: u32,
-    outcome: &mut Outcome,
-) {
-    *outcome = run_each::<Parts>(text, lengths, low, high, is_constant);
+pub extern "C" fn digit_bench_parts(task: &Task, outcome: &mut Outcome) {
+    *outcome = run_each::<Parts>(task);
 }
 
 #[unsafe(no_mangle)]
-pub extern "C" fn digit_bench_floats(
-    text: &[u8],
-    lengths: &[u8],
-    low: u64,
-    high: u64,
-    is_constant: u32,
-    outcome: &mut Outcome,
-) {
-    *outcome = run_each::<Floats>(text, lengths, low, high, is_constant);
+pub extern "C" fn digit_bench_floats(task: &Task, outcome: &mut Outcome) {
+    *outcome = run_each::<Floats>(task);
 }
 
 #[unsafe(no_mangle)]
-pub extern "C" fn digit_bench_floats_of(
-    text: &[u8],
-    lengths: &[u8],
-    low: u64,
-    high: u64,
-    is_constant: u32,
-    outcome: &mut Outcome,
-) {
-    *outcome = run_each::<FloatsOf>(text, lengths, low, high, is_constant);
+pub extern "C" fn digit_bench_floats_of(task: &Task, outcome: &mut Outcome) {
+    *outcome = run_each::<FloatsOf>(task);
 }
 
 #[unsafe(no_mangle)]
-pub extern "C" fn digit_bench_mantissas(
-    text: &[u8],
-    lengths: &[u8],
-    low: u64,
-    high: u64,
-    is_constant: u32,
-    outcome: &mut Outcome,
-) {
-    *outcome = run_each::<Mantissas>(text, lengths, low, high, is_constant);
+pub extern "C" fn digit_bench_mantissas(task: &Task, outcome: &mut Outcome) {
+    *outcome = run_each::<Mantissas>(task);
 }

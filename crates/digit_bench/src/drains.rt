@@ -1,7 +1,7 @@
 //! Drains of the integer by `lexical_digits`.
 
 use super::format::Format;
-use super::work::{Work, run, run_each};
+use super::work::{Task, Work, run, run_each};
 use super::{Outcome, loops};
 use lexical_digits::iterator::{Iter, IterBodies};
 use lexical_digits::skip::{Bytes, Component};
@@ -9,11 +9,7 @@ use lexical_digits::skip::{Bytes, Component};
 /// What a drain of the integer came to. The looks aren't asked.
 #[inline(always)]
 pub fn drained(value: u64, bytes: &Bytes) -> Outcome {
-    Outcome {
-        value,
-        count: bytes.current_count_of(Component::Integer) as u64,
-        looks: 0,
-    }
+    Outcome::of(value, bytes.current_count_of(Component::Integer) as u64)
 }
 
 /// The same, and the looks that were counted.
@@ -166,125 +162,58 @@ impl Work for Cleared {
             total = total.wrapping_add(number);
             bytes.clear_counts();
         }
-        Outcome {
-            value: total,
-            count: bytes.cursor() as u64,
-            looks: 0,
-        }
+        Outcome::of(total, bytes.cursor() as u64)
     }
 }
 
 #[unsafe(no_mangle)]
-pub extern "C" fn digit_bench_sum(
-    text: &[u8],
-    low: u64,
-    high: u64,
-    is_constant: u32,
-    outcome: &mut Outcome,
-) {
-    *outcome = run::<Sum>(text, low, high, is_constant);
+pub extern "C" fn digit_bench_sum(task: &Task, outcome: &mut Outcome) {
+    *outcome = run::<Sum>(task);
 }
 
 #[unsafe(no_mangle)]
-pub extern "C" fn digit_bench_number(
-    text: &[u8],
-    low: u64,
-    high: u64,
-    is_constant: u32,
-    outcome: &mut Outcome,
-) {
-    *outcome = run::<Number>(text, low, high, is_constant);
+pub extern "C" fn digit_bench_number(task: &Task, outcome: &mut Outcome) {
+    *outcome = run::<Number>(task);
 }
 
 #[unsafe(no_mangle)]
-pub extern "C" fn digit_bench_looks(
-    text: &[u8],
-    low: u64,
-    high: u64,
-    is_constant: u32,
-    outcome: &mut Outcome,
-) {
-    *outcome = run::<Looks>(text, low, high, is_constant);
+pub extern "C" fn digit_bench_looks(task: &Task, outcome: &mut Outcome) {
+    *outcome = run::<Looks>(task);
 }
 
 #[unsafe(no_mangle)]
-pub extern "C" fn digit_bench_peeked(
-    text: &[u8],
-    low: u64,
-    high: u64,
-    is_constant: u32,
-    outcome: &mut Outcome,
-) {
-    *outcome = run::<Peeked>(text, low, high, is_constant);
+pub extern "C" fn digit_bench_peeked(task: &Task, outcome: &mut Outcome) {
+    *outcome = run::<Peeked>(task);
 }
 
 #[unsafe(no_mangle)]
-pub extern "C" fn digit_bench_handed(
-    text: &[u8],
-    low: u64,
-    high: u64,
-    is_constant: u32,
-    outcome: &mut Outcome,
-) {
-    *outcome = run::<Handed>(text, low, high, is_constant);
+pub extern "C" fn digit_bench_handed(task: &Task, outcome: &mut Outcome) {
+    *outcome = run::<Handed>(task);
 }
 
 #[unsafe(no_mangle)]
-pub extern "C" fn digit_bench_eights(
-    text: &[u8],
-    low: u64,
-    high: u64,
-    is_constant: u32,
-    outcome: &mut Outcome,
-) {
-    *outcome = run::<Eights>(text, low, high, is_constant);
+pub extern "C" fn digit_bench_eights(task: &Task, outcome: &mut Outcome) {
+    *outcome = run::<Eights>(task);
 }
 
 #[unsafe(no_mangle)]
-pub extern "C" fn digit_bench_cleared(
-    text: &[u8],
-    low: u64,
-    high: u64,
-    is_constant: u32,
-    outcome: &mut Outcome,
-) {
-    *outcome = run::<Cleared>(text, low, high, is_constant);
+pub extern "C" fn digit_bench_cleared(task: &Task, outcome: &mut Outcome) {
+    *outcome = run::<Cleared>(task);
 }
 
 #[unsafe(no_mangle)]
-pub extern "C" fn digit_bench_numbers(
-    text: &[u8],
-    lengths: &[u8],
-    low: u64,
-    high: u64,
-    is_constant: u32,
-    outcome: &mut Outcome,
-) {
-    *outcome = run_each::<Numbers>(text, lengths, low, high, is_constant);
+pub extern "C" fn digit_bench_numbers(task: &Task, outcome: &mut Outcome) {
+    *outcome = run_each::<Numbers>(task);
 }
 
 #[unsafe(no_mangle)]
-pub extern "C" fn digit_bench_asked(
-    text: &[u8],
-    lengths: &[u8],
-    low: u64,
-    high: u64,
-    is_constant: u32,
-    outcome: &mut Outcome,
-) {
-    *outcome = run_each::<Asked>(text, lengths, low, high, is_constant);
+pub extern "C" fn digit_bench_asked(task: &Task, outcome: &mut Outcome) {
+    *outcome = run_each::<Asked>(task);
 }
 
 #[unsafe(no_mangle)]
-pub extern "C" fn digit_bench_stopped(
-    text: &[u8],
-    lengths: &[u8],
-    low: u64,
-    high: u64,
-    is_constant: u32,
-    outcome: &mut Outcome,
-) {
-    *outcome = run_each::<Stopped>(text, lengths, low, high, is_constant);
+pub extern "C" fn digit_bench_stopped(task: &Task, outcome: &mut Outcome) {
+    *outcome = run_each::<Stopped>(task);
 }
 
 /// How many bytes of memory a `Bytes` takes.

@@ -3,6 +3,7 @@
 ghost use Rattle.digit_languages.specs.Words.{IsLanguage};
 
 use super::Outcome;
+use super::work::Task;
 use digit_languages::{Language, is_language, languages, read_literal};
 
 /// Languages that are chosen at run time.
@@ -24,11 +25,10 @@ fn literal(text: &[u8], language: Language) -> Outcome
     requires { IsLanguage language }
 {
     match read_literal(text, 0, language, u64::MAX as u128) {
-        Ok(literal) => Outcome {
-            value: (literal.value & 0xffff_ffff_ffff_ffff) as u64,
-            count: literal.end as u64,
-            looks: 0,
-        },
+        Ok(literal) => {
+            let value = (literal.value & 0xffff_ffff_ffff_ffff) as u64;
+            Outcome::of(value, literal.end as u64)
+        }
         Err(_) => Outcome::nothing(),
     }
 }
@@ -52,21 +52,14 @@ fn each(text: &[u8], lengths: &[u8], language: Language) -> Outcome
 
 /// Reads literals of Rust. Where `is_constant` is 0, the language is the one with the number `low`.
 #[unsafe(no_mangle)]
-pub extern "C" fn digit_bench_languages(
-    text: &[u8],
-    lengths: &[u8],
-    low: u64,
-    _high: u64,
-    is_constant: u32,
-    outcome: &mut Outcome,
-) {
-    if is_constant != 0 {
-        *outcome = each(text, lengths, rust());
+pub extern "C" fn digit_bench_languages(task: &Task, outcome: &mut Outcome) {
+    if task.is_constant != 0 {
+        *outcome = each(task.text, task.lengths, rust());
         return;
     }
-    let language = LANGUAGES[low as usize & 1];
+    let language = LANGUAGES[task.low as usize & 1];
     *outcome = if is_language(language) {
-        each(text, lengths, language)
+        each(task.text, task.lengths, language)
     } else {
         Outcome::nothing()
     };

@@ -26,14 +26,20 @@ pub struct Outcome {
 }
 
 impl Outcome {
+    /// Of work that asks no looks.
+    #[inline(always)]
+    fn of(value: u64, count: u64) -> Outcome {
+        Outcome {
+            value,
+            count,
+            looks: 0,
+        }
+    }
+
     /// Of no work.
     #[inline(always)]
     fn nothing() -> Outcome {
-        Outcome {
-            value: 0,
-            count: 0,
-            looks: 0,
-        }
+        Outcome::of(0, 0)
     }
 
     /// Of this work and another.

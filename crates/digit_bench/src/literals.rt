@@ -3,7 +3,7 @@
 use super::Outcome;
 use super::drains::drained;
 use super::format::Format;
-use super::work::{Work, run, run_each};
+use super::work::{Task, Work, run, run_each};
 use digit_literals::{
     count_digits, parse_integer, parse_signed, pass_digits, pass_zeros, read_integer,
     read_integer_from,
@@ -17,11 +17,7 @@ impl Work for Literals {
     #[inline(always)]
     fn on<F: Format>(text: &[u8], format: F) -> Outcome {
         match read_integer(text, format.word()) {
-            Ok((value, end)) => Outcome {
-                value,
-                count: end as u64,
-                looks: 0,
-            },
+            Ok((value, end)) => Outcome::of(value, end as u64),
             Err(_) => Outcome::nothing(),
         }
     }
@@ -50,21 +46,13 @@ fn lines_sum<F: Format>(text: &[u8], format: F) -> Outcome {
         total = total.wrapping_add(value);
         start = end + 1;
     }
-    Outcome {
-        value: total,
-        count: start as u64,
-        looks: 0,
-    }
+    Outcome::of(total, start as u64)
 }
 
 /// What a text came to as a whole: a value, or nothing.
 #[inline(always)]
 fn whole(value: u64) -> Outcome {
-    Outcome {
-        value,
-        count: 0,
-        looks: 0,
-    }
+    Outcome::of(value, 0)
 }
 
 /// Parses a text by `parse_integer`.
@@ -131,84 +119,36 @@ impl Work for Zeros {
 }
 
 #[unsafe(no_mangle)]
-pub extern "C" fn digit_bench_literals(
-    text: &[u8],
-    lengths: &[u8],
-    low: u64,
-    high: u64,
-    is_constant: u32,
-    outcome: &mut Outcome,
-) {
-    *outcome = run_each::<Literals>(text, lengths, low, high, is_constant);
+pub extern "C" fn digit_bench_literals(task: &Task, outcome: &mut Outcome) {
+    *outcome = run_each::<Literals>(task);
 }
 
 #[unsafe(no_mangle)]
-pub extern "C" fn digit_bench_lines(
-    text: &[u8],
-    low: u64,
-    high: u64,
-    is_constant: u32,
-    outcome: &mut Outcome,
-) {
-    *outcome = run::<Lines>(text, low, high, is_constant);
+pub extern "C" fn digit_bench_lines(task: &Task, outcome: &mut Outcome) {
+    *outcome = run::<Lines>(task);
 }
 
 #[unsafe(no_mangle)]
-pub extern "C" fn digit_bench_digits(
-    text: &[u8],
-    lengths: &[u8],
-    low: u64,
-    high: u64,
-    is_constant: u32,
-    outcome: &mut Outcome,
-) {
-    *outcome = run_each::<Digits>(text, lengths, low, high, is_constant);
+pub extern "C" fn digit_bench_digits(task: &Task, outcome: &mut Outcome) {
+    *outcome = run_each::<Digits>(task);
 }
 
 #[unsafe(no_mangle)]
-pub extern "C" fn digit_bench_zeros(
-    text: &[u8],
-    lengths: &[u8],
-    low: u64,
-    high: u64,
-    is_constant: u32,
-    outcome: &mut Outcome,
-) {
-    *outcome = run_each::<Zeros>(text, lengths, low, high, is_constant);
+pub extern "C" fn digit_bench_zeros(task: &Task, outcome: &mut Outcome) {
+    *outcome = run_each::<Zeros>(task);
 }
 
 #[unsafe(no_mangle)]
-pub extern "C" fn digit_bench_parsed(
-    text: &[u8],
-    lengths: &[u8],
-    low: u64,
-    high: u64,
-    is_constant: u32,
-    outcome: &mut Outcome,
-) {
-    *outcome = run_each::<Parsed>(text, lengths, low, high, is_constant);
+pub extern "C" fn digit_bench_parsed(task: &Task, outcome: &mut Outcome) {
+    *outcome = run_each::<Parsed>(task);
 }
 
 #[unsafe(no_mangle)]
-pub extern "C" fn digit_bench_signed(
-    text: &[u8],
-    lengths: &[u8],
-    low: u64,
-    high: u64,
-    is_constant: u32,
-    outcome: &mut Outcome,
-) {
-    *outcome = run_each::<Signed>(text, lengths, low, high, is_constant);
+pub extern "C" fn digit_bench_signed(task: &Task, outcome: &mut Outcome) {
+    *outcome = run_each::<Signed>(task);
 }
 
 #[unsafe(no_mangle)]
-pub extern "C" fn digit_bench_counted(
-    text: &[u8],
-    lengths: &[u8],
-    low: u64,
-    high: u64,
-    is_constant: u32,
-    outcome: &mut Outcome,
-) {
-    *outcome = run_each::<Counted>(text, lengths, low, high, is_constant);
+pub extern "C" fn digit_bench_counted(task: &Task, outcome: &mut Outcome) {
+    *outcome = run_each::<Counted>(task);
 }

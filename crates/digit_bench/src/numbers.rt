@@ -1,11 +1,8 @@
 //! Numbers of each integer type by `digit_literals`, and floats by `digit_floats`.
 
-ghost use Rattle.std.specs.Prelude.{IsTrue};
-ghost use Rattle.lexical_format.specs.Word.{is_supported};
-
 use super::Outcome;
 use super::format::Format;
-use super::work::{Work, run_each};
+use super::work::{Task, Work, run_each};
 use digit_floats::parse_float;
 use digit_literals::{Number, parse_number, read_number};
 use lexical_format::NumberFormat;
@@ -66,134 +63,30 @@ impl Told for i64 {
     }
 }
 
-/// Parses a text as a number; nothing where it is none.
-#[inline(always)]
-fn parsed<T: Told>(text: &[u8], word: u128) -> Outcome
-    requires { IsTrue (is_supported word) }
-{
-    match parse_number::<T>(text, word) {
-        Ok(number) => Outcome {
-            value: number.told(),
-            count: 0,
-            looks: 0,
-        },
-        Err(_) => Outcome::nothing(),
-    }
-}
+/// Parses a text as a number of a type. The outcome is nothing if it is none.
+struct Parsed<T>(T);
 
-/// Reads the number that a text begins with. The count is where it ends; nothing where there is
-/// none.
-#[inline(always)]
-fn read<T: Told>(text: &[u8], word: u128) -> Outcome
-    requires { IsTrue (is_supported word) }
-{
-    match read_number::<T>(text, word) {
-        Ok((number, end)) => Outcome {
-            value: number.told(),
-            count: end as u64,
-            looks: 0,
-        },
-        Err(_) => Outcome::nothing(),
-    }
-}
-
-/// Parses a text as a `u8`.
-struct ParsedU8;
-
-impl Work for ParsedU8 {
+impl<T: Told> Work for Parsed<T> {
     #[inline(always)]
     fn on<F: Format>(text: &[u8], format: F) -> Outcome {
-        parsed::<u8>(text, format.word())
+        match parse_number::<T>(text, format.word()) {
+            Ok(number) => Outcome::of(number.told(), 0),
+            Err(_) => Outcome::nothing(),
+        }
     }
 }
 
-/// Parses a text as a `u16`.
-struct ParsedU16;
+/// Reads the number of a type that a text begins with. The count is where it ends; nothing if
+/// there is none.
+struct Read<T>(T);
 
-impl Work for ParsedU16 {
+impl<T: Told> Work for Read<T> {
     #[inline(always)]
     fn on<F: Format>(text: &[u8], format: F) -> Outcome {
-        parsed::<u16>(text, format.word())
-    }
-}
-
-/// Parses a text as a `u32`.
-struct ParsedU32;
-
-impl Work for ParsedU32 {
-    #[inline(always)]
-    fn on<F: Format>(text: &[u8], format: F) -> Outcome {
-        parsed::<u32>(text, format.word())
-    }
-}
-
-/// Parses a text as a `i32`.
-struct ParsedI32;
-
-impl Work for ParsedI32 {
-    #[inline(always)]
-    fn on<F: Format>(text: &[u8], format: F) -> Outcome {
-        parsed::<i32>(text, format.word())
-    }
-}
-
-/// Parses a text as a `i64`.
-struct ParsedI64;
-
-impl Work for ParsedI64 {
-    #[inline(always)]
-    fn on<F: Format>(text: &[u8], format: F) -> Outcome {
-        parsed::<i64>(text, format.word())
-    }
-}
-
-/// Parses a text as a `u128`.
-struct ParsedU128;
-
-impl Work for ParsedU128 {
-    #[inline(always)]
-    fn on<F: Format>(text: &[u8], format: F) -> Outcome {
-        parsed::<u128>(text, format.word())
-    }
-}
-
-/// Reads a `u32`.
-struct ReadU32;
-
-impl Work for ReadU32 {
-    #[inline(always)]
-    fn on<F: Format>(text: &[u8], format: F) -> Outcome {
-        read::<u32>(text, format.word())
-    }
-}
-
-/// Reads a `u64`.
-struct ReadU64;
-
-impl Work for ReadU64 {
-    #[inline(always)]
-    fn on<F: Format>(text: &[u8], format: F) -> Outcome {
-        read::<u64>(text, format.word())
-    }
-}
-
-/// Reads a `i64`.
-struct ReadI64;
-
-impl Work for ReadI64 {
-    #[inline(always)]
-    fn on<F: Format>(text: &[u8], format: F) -> Outcome {
-        read::<i64>(text, format.word())
-    }
-}
-
-/// Reads a `u128`.
-struct ReadU128;
-
-impl Work for ReadU128 {
-    #[inline(always)]
-    fn on<F: Format>(text: &[u8], format: F) -> Outcome {
-        read::<u128>(text, format.word())
+        match read_number::<T>(text, format.word()) {
+            Ok((number, end)) => Outcome::of(number.told(), end as u64),
+            Err(_) => Outcome::nothing(),
+        }
     }
 }
 
@@ -210,144 +103,63 @@ impl Work for Nearest {
             return Outcome::nothing();
         }
         match parse_float::<f64>(text, word) {
-            Ok(float) => Outcome {
-                value: float.to_bits(),
-                count: 0,
-                looks: 0,
-            },
+            Ok(float) => Outcome::of(float.to_bits(), 0),
             Err(_) => Outcome::nothing(),
         }
     }
 }
 
 #[unsafe(no_mangle)]
-pub extern "C" fn digit_bench_parsed_u8(
-    text: &[u8],
-    lengths: &[u8],
-    low: u64,
-    high: u64,
-    is_constant: u32,
-    outcome: &mut Outcome,
-) {
-    *outcome = run_each::<ParsedU8>(text, lengths, low, high, is_constant);
+pub extern "C" fn digit_bench_parsed_u8(task: &Task, outcome: &mut Outcome) {
+    *outcome = run_each::<Parsed<u8>>(task);
 }
 
 #[unsafe(no_mangle)]
-pub extern "C" fn digit_bench_parsed_u16(
-    text: &[u8],
-    lengths: &[u8],
-    low: u64,
-    high: u64,
-    is_constant: u32,
-    outcome: &mut Outcome,
-) {
-    *outcome = run_each::<ParsedU16>(text, lengths, low, high, is_constant);
+pub extern "C" fn digit_bench_parsed_u16(task: &Task, outcome: &mut Outcome) {
+    *outcome = run_each::<Parsed<u16>>(task);
 }
 
 #[unsafe(no_mangle)]
-pub extern "C" fn digit_bench_parsed_u32(
-    text: &[u8],
-    lengths: &[u8],
-    low: u64,
-    high: u64,
-    is_constant: u32,
-    outcome: &mut Outcome,
-) {
-    *outcome = run_each::<ParsedU32>(text, lengths, low, high, is_constant);
+pub extern "C" fn digit_bench_parsed_u32(task: &Task, outcome: &mut Outcome) {
+    *outcome = run_each::<Parsed<u32>>(task);
 }
 
 #[unsafe(no_mangle)]
-pub extern "C" fn digit_bench_parsed_i32(
-    text: &[u8],
-    lengths: &[u8],
-    low: u64,
-    high: u64,
-    is_constant: u32,
-    outcome: &mut Outcome,
-) {
-    *outcome = run_each::<ParsedI32>(text, lengths, low, high, is_constant);
+pub extern "C" fn digit_bench_parsed_i32(task: &Task, outcome: &mut Outcome) {
+    *outcome = run_each::<Parsed<i32>>(task);
 }
 
 #[unsafe(no_mangle)]
-pub extern "C" fn digit_bench_parsed_i64(
-    text: &[u8],
-    lengths: &[u8],
-    low: u64,
-    high: u64,
-    is_constant: u32,
-    outcome: &mut Outcome,
-) {
-    *outcome = run_each::<ParsedI64>(text, lengths, low, high, is_constant);
+pub extern "C" fn digit_bench_parsed_i64(task: &Task, outcome: &mut Outcome) {
+    *outcome = run_each::<Parsed<i64>>(task);
 }
 
 #[unsafe(no_mangle)]
-pub extern "C" fn digit_bench_parsed_u128(
-    text: &[u8],
-    lengths: &[u8],
-    low: u64,
-    high: u64,
-    is_constant: u32,
-    outcome: &mut Outcome,
-) {
-    *outcome = run_each::<ParsedU128>(text, lengths, low, high, is_constant);
+pub extern "C" fn digit_bench_parsed_u128(task: &Task, outcome: &mut Outcome) {
+    *outcome = run_each::<Parsed<u128>>(task);
 }
 
 #[unsafe(no_mangle)]
-pub extern "C" fn digit_bench_read_u32(
-    text: &[u8],
-    lengths: &[u8],
-    low: u64,
-    high: u64,
-    is_constant: u32,
-    outcome: &mut Outcome,
-) {
-    *outcome = run_each::<ReadU32>(text, lengths, low, high, is_constant);
+pub extern "C" fn digit_bench_read_u32(task: &Task, outcome: &mut Outcome) {
+    *outcome = run_each::<Read<u32>>(task);
 }
 
 #[unsafe(no_mangle)]
-pub extern "C" fn digit_bench_read_u64(
-    text: &[u8],
-    lengths: &[u8],
-    low: u64,
-    high: u64,
-    is_constant: u32,
-    outcome: &mut Outcome,
-) {
-    *outcome = run_each::<ReadU64>(text, lengths, low, high, is_constant);
+pub extern "C" fn digit_bench_read_u64(task: &Task, outcome: &mut Outcome) {
+    *outcome = run_each::<Read<u64>>(task);
 }
 
 #[unsafe(no_mangle)]
-pub extern "C" fn digit_bench_read_i64(
-    text: &[u8],
-    lengths: &[u8],
-    low: u64,
-    high: u64,
-    is_constant: u32,
-    outcome: &mut Outcome,
-) {
-    *outcome = run_each::<ReadI64>(text, lengths, low, high, is_constant);
+pub extern "C" fn digit_bench_read_i64(task: &Task, outcome: &mut Outcome) {
+    *outcome = run_each::<Read<i64>>(task);
 }
 
 #[unsafe(no_mangle)]
-pub extern "C" fn digit_bench_read_u128(
-    text: &[u8],
-    lengths: &[u8],
-    low: u64,
-    high: u64,
-    is_constant: u32,
-    outcome: &mut Outcome,
-) {
-    *outcome = run_each::<ReadU128>(text, lengths, low, high, is_constant);
+pub extern "C" fn digit_bench_read_u128(task: &Task, outcome: &mut Outcome) {
+    *outcome = run_each::<Read<u128>>(task);
 }
 
 #[unsafe(no_mangle)]
-pub extern "C" fn digit_bench_nearest(
-    text: &[u8],
-    lengths: &[u8],
-    low: u64,
-    high: u64,
-    is_constant: u32,
-    outcome: &mut Outcome,
-) {
-    *outcome = run_each::<Nearest>(text, lengths, low, high, is_constant);
+pub extern "C" fn digit_bench_nearest(task: &Task, outcome: &mut Outcome) {
+    *outcome = run_each::<Nearest>(task);
 }

@@ -1,7 +1,7 @@
 //! Drains by `lexical_plain`, which drops nothing. No looks are counted.
 
 use super::format::Format;
-use super::work::{Work, run};
+use super::work::{Task, Work, run};
 use super::{Outcome, loops};
 use lexical_digits::iterator::Iter;
 use lexical_plain::noskip::Bytes;
@@ -9,11 +9,7 @@ use lexical_plain::noskip::Bytes;
 /// What a drain came to.
 #[inline(always)]
 fn drained(value: u64, bytes: &Bytes) -> Outcome {
-    Outcome {
-        value,
-        count: bytes.current_count() as u64,
-        looks: 0,
-    }
+    Outcome::of(value, bytes.current_count() as u64)
 }
 
 /// Sums the bytes, by `next`.
@@ -53,34 +49,16 @@ impl Work for Peeked {
 }
 
 #[unsafe(no_mangle)]
-pub extern "C" fn digit_bench_plain_sum(
-    text: &[u8],
-    low: u64,
-    high: u64,
-    is_constant: u32,
-    outcome: &mut Outcome,
-) {
-    *outcome = run::<Sum>(text, low, high, is_constant);
+pub extern "C" fn digit_bench_plain_sum(task: &Task, outcome: &mut Outcome) {
+    *outcome = run::<Sum>(task);
 }
 
 #[unsafe(no_mangle)]
-pub extern "C" fn digit_bench_plain_number(
-    text: &[u8],
-    low: u64,
-    high: u64,
-    is_constant: u32,
-    outcome: &mut Outcome,
-) {
-    *outcome = run::<Number>(text, low, high, is_constant);
+pub extern "C" fn digit_bench_plain_number(task: &Task, outcome: &mut Outcome) {
+    *outcome = run::<Number>(task);
 }
 
 #[unsafe(no_mangle)]
-pub extern "C" fn digit_bench_plain_peeked(
-    text: &[u8],
-    low: u64,
-    high: u64,
-    is_constant: u32,
-    outcome: &mut Outcome,
-) {
-    *outcome = run::<Peeked>(text, low, high, is_constant);
+pub extern "C" fn digit_bench_plain_peeked(task: &Task, outcome: &mut Outcome) {
+    *outcome = run::<Peeked>(task);
 }

@@ -13,10 +13,28 @@ pub trait Work {
     fn on<F: Format>(text: &[u8], format: F) -> Outcome;
 }
 
-/// The format word of its two halves.
-#[inline(always)]
-fn word_of(low: u64, high: u64) -> u128 {
-    ((high as u128) << 64) | (low as u128)
+/// What a piece of work is asked to do.
+#[repr(C)]
+pub struct Task<'a> {
+    /// The text, or many that follow one another.
+    pub text: &'a [u8],
+    /// The lengths of many texts.
+    pub lengths: &'a [u8],
+    /// The lower half of the format word.
+    pub low: u64,
+    /// Its upper half.
+    pub high: u64,
+    /// If this is not 0, the work runs by code of its own for the word, as if a caller writes a
+    /// constant. There is such code for the words of the cases.
+    pub is_constant: u32,
+}
+
+impl Task<'_> {
+    /// The format word.
+    #[inline(always)]
+    fn word(&self) -> u128 {
+        ((self.high as u128) << 64) | (self.low as u128)
+    }
 }
 
 /// The work on each of many texts, which follow one another and have these lengths. Stops
@@ -44,17 +62,12 @@ fn once_or_each<W: Work, F: Format>(text: &[u8], lengths: Option<&[u8]>, format:
     }
 }
 
-/// The work under a word that comes as its two halves.
+/// The work under the word of a task.
 #[inline(always)]
-fn run_all<W: Work>(
-    text: &[u8],
-    lengths: Option<&[u8]>,
-    low: u64,
-    high: u64,
-    is_constant: u32,
-) -> Outcome {
-    let word = word_of(low, high);
-    if is_constant == 0 {
+fn run_all<W: Work>(task: &Task, lengths: Option<&[u8]>) -> Outcome {
+    let text = task.text;
+    let word = task.word();
+    if task.is_constant == 0 {
         if is_supported(word) {
             once_or_each::<W, AtRunTime>(text, lengths, AtRunTime { word })
         } else {
@@ -77,21 +90,14 @@ fn run_all<W: Work>(
     }
 }
 
-/// The work on a text. Where `is_constant` is not 0, it runs by code of its own for the word, as
-/// where a caller writes a constant; that serves the words of the cases.
+/// The work on a text.
 #[inline(always)]
-pub fn run<W: Work>(text: &[u8], low: u64, high: u64, is_constant: u32) -> Outcome {
-    run_all::<W>(text, None, low, high, is_constant)
+pub fn run<W: Work>(task: &Task) -> Outcome {
+    run_all::<W>(task, None)
 }
 
-/// The same on each of many texts.
+/// The work on each of many texts.
 #[inline(always)]
-pub fn run_each<W: Work>(
-    text: &[u8],
-    lengths: &[u8],
-    low: u64,
-    high: u64,
-    is_constant: u32,
-) -> Outcome {
-    run_all::<W>(text, Some(lengths), low, high, is_constant)
+pub fn run_each<W: Work>(task: &Task) -> Outcome {
+    run_all::<W>(task, Some(task.lengths))
 }
