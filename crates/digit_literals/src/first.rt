@@ -108,7 +108,16 @@ pub fn read_first_digits_from(
         };
         return (all, read.end);
     }
-    read_first_fresh(text, word, component, start, before, most)
+    let first = read_first_fresh(text, word, component, start, before, most);
+    (first.digits, first.end)
+}
+
+/// The first digits of a component, and where its digits end. A struct, and no tuple: the place of
+/// the answer isn't set to 0 before the call.
+#[derive(Clone, Copy)]
+struct FirstRead {
+    digits: FirstDigits,
+    end: usize,
 }
 
 /// [`read_first_digits_from`] by a `Bytes`, whatever separators are met and however many digits
@@ -122,21 +131,24 @@ fn read_first_fresh(
     start: usize,
     before: u64,
     most: u64,
-) -> (FirstDigits, usize)
+) -> FirstRead
     requires supported { IsTrue (is_supported word) }
     requires within { start ≤ length text.now }
     requires fits { before ≤ most }
     ensures first { let r = rule_of word component in
         let digits = digits_between r text.now start (stop r text.now start 0) in
-        ReadsFirst r.radix most before digits result.0 }
-    ensures stops { result.1 ≡ stop (rule_of word component) text.now start 0 }
-    ensures onward { start + result.0.count ≤ result.1 }
-    ensures end { result.1 ≤ length text.now }
+        ReadsFirst r.radix most before digits result.digits }
+    ensures stops { result.end ≡ stop (rule_of word component) text.now start 0 }
+    ensures onward { start + result.digits.count ≤ result.end }
+    ensures end { result.end ≤ length text.now }
 {
     let mut bytes = Bytes::new(text, word);
     bytes.set_cursor(start);
-    let read = read_first_digits(&mut bytes, component, before, most);
-    (read, bytes.cursor())
+    let digits = read_first_digits(&mut bytes, component, before, most);
+    FirstRead {
+        digits,
+        end: bytes.cursor(),
+    }
 }
 
 /// Reads the digits of a rule with radix 10 from `start` on, where the slice is enough and no digit

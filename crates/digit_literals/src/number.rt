@@ -5,7 +5,7 @@ ghost use Rattle.lexical_format.specs.Word.{is_supported};
 ghost use Rattle.lexical_digits.specs.declared.skip.component.Component.TheVariants.{Integer};
 ghost use Rattle.lexical_digits.specs.State.{rule_of};
 ghost use Rattle.digit_literals.specs.Outcomes.{IfEmpty, IfOverflow};
-ghost use Rattle.digit_literals.specs.Numbers.{IsNumberFrom, ReadsNumber, IsNumberFault, digits_from, is_negative_from, stands};
+ghost use Rattle.digit_literals.specs.Numbers.{IsNumberFrom, ReadsNumber, IsNumberFault, digits_from, is_negative_from};
 ghost use Rattle.digit_literals.specs.Whole.{signed, position};
 
 use super::wide::read_wide_from;
@@ -260,38 +260,25 @@ impl Number for isize {
     }
 }
 
-/// Whether a byte is at a position.
-#[inline(always)]
-fn stands(text: &[u8], at: usize, byte: u8) -> bool
-    ensures { result ≡ stands text.now at byte }
-{
-    match text.get(at) {
-        Some(there) => *there == byte,
-        None => false,
-    }
-}
-
-/// Whether a number at a position is negative.
-#[inline(always)]
-fn is_negative_from<T: Number>(text: &[u8], start: usize) -> bool
-    ensures { result ≡ is_negative_from T.LEAST text.now start }
-{
-    T::LEAST > 0 && stands(text, start, b'-')
-}
-
-/// Where the digits of a number begin.
+/// Whether a number at a position is negative, and where its digits begin.
 #[inline(always)]
 #[tactic(auto, using(std::proofs::lemmas::Option::gets))]
-fn digits_from<T: Number>(text: &[u8], start: usize) -> usize
+fn read_sign<T: Number>(text: &[u8], start: usize) -> (bool, usize)
     requires { start ≤ length text.now }
-    ensures begins { result ≡ digits_from T.LEAST text.now start }
-    ensures onward { start ≤ result }
-    ensures within { result ≤ length text.now }
+    ensures negative { result.0 ≡ is_negative_from T.LEAST text.now start }
+    ensures begins { result.1 ≡ digits_from T.LEAST text.now start }
+    ensures onward { start ≤ result.1 }
+    ensures within { result.1 ≤ length text.now }
 {
-    if T::LEAST > 0 && (stands(text, start, b'-') || stands(text, start, b'+')) {
-        start + 1
-    } else {
-        start
+    if T::LEAST == 0 {
+        return (false, start);
+    }
+    match text.get(start) {
+        // both signs are below the digits: most numbers are told by one compare
+        Some(byte) if *byte >= b'0' => (false, start),
+        Some(b'-') => (true, start + 1),
+        Some(b'+') => (false, start + 1),
+        _ => (false, start),
     }
 }
 
@@ -323,9 +310,9 @@ pub fn read_number_from<T: Number>(
     ensures overflow_at { let n = length text.now in
         IfOverflow result (λ at. (start ≤ at) × (at < n)) }
 {
-    let is_negative = is_negative_from::<T>(text, start);
+    let (is_negative, begin) = read_sign::<T>(text, start);
     let most = if is_negative { T::LEAST } else { T::MOST };
-    let (magnitude, end) = read_wide_from(text, word, digits_from::<T>(text, start), most)?;
+    let (magnitude, end) = read_wide_from(text, word, begin, most)?;
     Ok((T::of_magnitude(is_negative, magnitude), end))
 }
 

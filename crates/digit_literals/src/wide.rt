@@ -1,6 +1,6 @@
 //! Integers that may have more than 64 bits.
 
-ghost use Rattle.std.specs.Prelude.{◌≡◌, ◌+◌, ◌-◌, ◌*◌, ◌^◌, ◌<◌, ◌≤◌, length, IfOk, IfErr, IfSome, IsTrue, SomeIff};
+ghost use Rattle.std.specs.Prelude.{◌≡◌, ◌+◌, ◌-◌, ◌*◌, ◌^◌, ◌<◌, ◌≤◌, length, true, false, IfOk, IfErr, IfSome, IsTrue, SomeIff};
 ghost use Rattle.std.specs.Str.Parse.{digits_value};
 ghost use Rattle.lexical_format.specs.Word.{is_supported};
 ghost use Rattle.lexical_digits.specs.declared.skip.component.Component.TheVariants.{Integer};
@@ -48,50 +48,69 @@ pub fn read_wide_from(
     }
     let (read, is_empty) = read_told(text, word, Component::Integer, start, Some(u64::MAX));
     if read.is_too_large {
-        return match read_beyond(text, word, start, read.end, read.value, most) {
-            Ok(read) => Ok(read),
-            Err(over) => Err(LiteralError::Overflow(over)),
-        };
+        let wide = read_beyond(text, word, start, read.end, read.value, most);
+        if wide.is_too_large {
+            return Err(LiteralError::Overflow(wide.end));
+        }
+        return Ok((wide.value, wide.end));
     }
     let (value, end) = integer_of(read, is_empty)?;
     Ok((u128::from(value), end))
 }
 
+/// An integer of more than 64 bits. A struct, and no `Result`: the place of its answer isn't set to
+/// 0 before the call.
+#[derive(Clone, Copy)]
+struct Wide {
+    /// The value, if it isn't too large.
+    value: u128,
+    /// Where the integer ends, or the first digit with which it is too large.
+    end: usize,
+    /// Whether the value is above the greatest.
+    is_too_large: bool,
+}
+
 /// [`read_wide_from`], where with the digit at `at` the value is above `u64::MAX`, and `before` is
-/// the value of the digits before it. `Err` holds the first digit with which it is above `most`.
+/// the value of the digits before it.
 #[cold]
 #[inline(never)]
 #[tactic(auto, using(crate::proofs::Onward::bounds))]
-fn read_beyond(
-    text: &[u8],
-    word: u128,
-    start: usize,
-    at: usize,
-    before: u64,
-    most: u128,
-) -> Result<(u128, usize), usize>
+fn read_beyond(text: &[u8], word: u128, start: usize, at: usize, before: u64, most: u128) -> Wide
     requires supported { IsTrue (is_supported word) }
     requires within { start ≤ length text.now }
     requires beyond { IsTooLargeFrom (rule_of word Integer) text.now start (2 ^ 64 - 1) at }
     requires before { let r = rule_of word Integer in
         before ≡ digits_value r.radix (digits_between r text.now start at) }
-    ensures ok { let r = rule_of word Integer in
-        IfOk result (λ read. IsIntegerFrom r text.now start most read.0 read.1) }
-    ensures overflow { let r = rule_of word Integer in
-        IfErr result (λ over. IsTooLargeFrom r text.now start most over) }
-    ensures end { let n = length text.now in
-        IfOk result (λ read. (start ≤ read.1) × (read.1 ≤ n)) }
-    ensures overflow_at { let n = length text.now in
-        IfErr result (λ over. (start ≤ over) × (over < n)) }
+    ensures ok { let r = rule_of word Integer in result.is_too_large ≡ false →
+        IsIntegerFrom r text.now start most result.value result.end }
+    ensures overflow { let r = rule_of word Integer in result.is_too_large ≡ true →
+        IsTooLargeFrom r text.now start most result.end }
+    ensures end { (start ≤ result.end) × (result.end ≤ length text.now) }
+    ensures overflow_at { result.is_too_large ≡ true → result.end < length text.now }
 {
     if let Some((value, end)) = read_pieces(text, word, start, at, before) {
         if value <= most {
-            return Ok((value, end));
+            return Wide {
+                value,
+                end,
+                is_too_large: false,
+            };
         }
     }
     let end = stop_from(text, word, Component::Integer, start);
     let rule = Rule::of(word, Component::Integer);
-    Ok((value_between(text, rule, start, end, most)?, end))
+    match value_between(text, rule, start, end, most) {
+        Ok(value) => Wide {
+            value,
+            end,
+            is_too_large: false,
+        },
+        Err(over) => Wide {
+            value: 0,
+            end: over,
+            is_too_large: true,
+        },
+    }
 }
 
 /// 10 to the power of `n`, if that fits 64 bits.
