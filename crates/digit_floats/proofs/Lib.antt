@@ -6,6 +6,7 @@ mod Huge
 mod Kept
 mod Numbers
 mod Outcomes
+mod Plain
 mod Signs
 mod Tens
 mod Written

@@ -1,5 +1,5 @@
 -- Which byte stands at a position.
-use Rattle.std.specs.Prelude.{ℕ, Bool, ◌==◌, ◌||◌, List, slice_get}
+use Rattle.std.specs.Prelude.{◌≡◌, ℕ, ◌<◌, ◌≤◌, Bool, ◌==◌, ◌||◌, List, [], ◌∷◌, ◌++◌, length, slice_get}
 use Rattle.lexical_digits.specs.Cursor.{holds_of}
 
 -- whether a byte stands at a position that passes
@@ -21,3 +21,8 @@ is_sign byte = byte == 43 || byte == 45
 -- `-`
 abbrev pub is_minus : ℕ → Bool
 is_minus byte = byte == 45
+
+-- a text is another, a point and a third, or only the other
+pub record IsPointed (text whole fraction : List ℕ) : Type 0 where
+  pub point : length whole < length text → text ≡ whole ++ 46 ∷ fraction
+  pub none : length text ≤ length whole → (text ≡ whole) × (fraction ≡ [])

@@ -173,11 +173,12 @@ pub fn read_float_from<F: Float>(
     }
     let x = round_digits::<F>(
         negative,
+        &text[at..mantissa.end],
         &text[at..mantissa.whole_end],
         &text[mantissa.fraction_start..mantissa.end],
+        mantissa.digits,
         places,
-        power.negative,
-        power.value,
+        power,
     );
     Ok((x, power.end))
 }

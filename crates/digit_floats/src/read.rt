@@ -6,7 +6,7 @@ ghost use Rattle.std.specs.Str.Parse.{digits_value, digits_value_after};
 ghost use Rattle.lexical_format.specs.Word.{is_supported};
 ghost use Rattle.lexical_digits.specs.State.{rule_of};
 ghost use Rattle.lexical_digits.specs.declared.skip.component.Component.TheVariants.{Integer};
-ghost use Rattle.digit_floats.specs.Bytes.{stands, is_minus, is_point, is_mark};
+ghost use Rattle.digit_floats.specs.Bytes.{stands, is_minus, is_point, is_mark, IsPointed};
 ghost use Rattle.digit_floats.specs.Float.{IsDecimal, past_sign, digits_from, digits_end, fraction_digits, mantissa_end, exponent_digits, exponent_end, exponent_negative};
 
 use digit_literals::{FirstDigits, read_first_digits_from};
@@ -107,7 +107,7 @@ pub struct Mantissa {
 
 /// Reads integer and fraction from a position on.
 #[inline(always)]
-#[tactic(auto, using(digit_literals::proofs::ForCallers::value_of_both), unfolding(crate::specs::Float::mantissas))]
+#[tactic(auto, using(digit_literals::proofs::ForCallers::value_of_both, crate::proofs::Plain::point_before, crate::proofs::Plain::no_point), unfolding(crate::specs::Float::mantissas))]
 pub fn read_mantissa(text: &[u8], word: u128, at: usize) -> Mantissa
     requires supported { IsTrue (is_supported word) }
     requires decimal { IsDecimal word }
@@ -125,6 +125,9 @@ pub fn read_mantissa(text: &[u8], word: u128, at: usize) -> Mantissa
         ≡ digits_from word text.now Integer at }
     ensures fraction_bytes { filter is_ascii_digit (slice_range text.now result.fraction_start result.end)
         ≡ fraction_digits word text.now (digits_end word text.now Integer at) }
+    ensures pointed { IsPointed (slice_range text.now at result.end)
+        (slice_range text.now at result.whole_end)
+        (slice_range text.now result.fraction_start result.end) }
     ensures end { result.end ≡ mantissa_end word text.now at }
     ensures onward { (at ≤ result.whole_end) × (result.whole_end ≤ result.fraction_start)
         × (result.fraction_start ≤ result.end) }

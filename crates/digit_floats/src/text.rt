@@ -1,15 +1,17 @@
 // The digits of a float, written as a text without separators: the first significant ones, one
 // digit for the others, and a power of ten.
 
-ghost use Rattle.std.specs.Prelude.{◌≡◌, ◌≤◌, ◌<◌, ◌+◌, ◌-◌, ◌*◌, ◌^◌, ◌++◌, [], ◌∷◌, ℕ, min, true, false, if◌then◌else◌, nat_lt, take, filter, length};
+ghost use Rattle.std.specs.Prelude.{◌≡◌, ◌≤◌, ◌<◌, ◌+◌, ◌-◌, ◌*◌, ◌^◌, ◌++◌, [], ◌∷◌, ℕ, min, true, false, if◌then◌else◌, take, filter, length, IfSome};
 ghost use Rattle.std.specs.Char.{is_ascii_digit, digit_value};
 ghost use Rattle.std.specs.Float.Ieee.{round};
 ghost use Rattle.std.specs.Float.Numeral.{text_of};
 ghost use Rattle.std.specs.Str.Parse.{digits_value, digits_value_after};
-ghost use Rattle.digit_floats.specs.Cut.{room, IsKept, last_digit, four_digits, cut_parts};
+ghost use Rattle.digit_floats.specs.Cut.{room, IsKept, four_digits, cut_parts};
+ghost use Rattle.digit_floats.specs.Bytes.{IsPointed};
 
 use super::Float;
 use super::exact::signed;
+use super::read::Power;
 use std::str::from_utf8;
 
 /// How many digits are kept. The middle between two floats has at most 1,075 places after the
@@ -190,29 +192,78 @@ fn push_tens(bytes: &mut [u8], kept: Kept, tens: Tens) -> usize
     }
 }
 
-/// The float nearest to a number of any length: the digits of two texts, of which the last `places`
-/// follow the point, times ten to a power.
-#[cold]
-#[inline(never)]
-pub fn round_digits<F: Float>(
+/// [`round_digits`] by a text that is written: the digits that are kept, and a power of ten.
+fn round_kept<F: Float>(
     negative: bool,
     whole: &[u8],
     fraction: &[u8],
     places: u64,
-    down: bool,
-    power: u64,
+    power: Power,
 ) -> F
     requires places { places < 2 ^ 63 }
     requires few { length whole.now + length fraction.now < 2 ^ 63 }
-    ensures { (n : ℕ) → power ≡ min n (2 ^ 64 - 1) → F.value result ≡ round F.format negative
+    ensures { (n : ℕ) → power.value ≡ min n (2 ^ 64 - 1) → F.value result ≡ round F.format negative
         (digits_value 10 (filter is_ascii_digit whole.now ++ filter is_ascii_digit fraction.now)
-        * 10 ^ (if down then 0 else n)) (10 ^ (places + (if down then n else 0))) }
+        * 10 ^ (if power.negative then 0 else n)) (10 ^ (places + (if power.negative then n else 0))) }
 {
     let mut bytes = [0u8; ROOM + 7];
     let kept = keep_both(&mut bytes, whole, fraction);
-    let tens = tens_of(places, kept.cut as u64, down, power);
+    let tens = tens_of(places, kept.cut as u64, power.negative, power.value);
     let n = push_tens(&mut bytes, kept, tens);
     let text = from_utf8(&bytes[..n]).unwrap();
     let x = F::of_text(text).unwrap();
     signed(negative, x)
+}
+
+/// The float nearest to the number that digits write, with a point among them or without, as std
+/// reads it; nothing if there are other bytes, or no digit before the point.
+#[inline(always)]
+#[tactic(auto, using(crate::proofs::Plain::reads_digits))]
+fn round_plain<F: Float>(number: &[u8], whole: &[u8], fraction: &[u8], digits: usize) -> Option<F>
+    requires pointed { IsPointed number.now whole.now fraction.now }
+    requires digits { digits ≡ length (filter is_ascii_digit whole.now)
+        + length (filter is_ascii_digit fraction.now) }
+    requires few { length whole.now + length fraction.now < 2 ^ 63 }
+    ensures { IfSome result (λ x. F.value x ≡ round F.format false
+        (digits_value 10 (filter is_ascii_digit whole.now ++ filter is_ascii_digit fraction.now))
+        (10 ^ length (filter is_ascii_digit fraction.now))) }
+{
+    if whole.is_empty() || digits < whole.len() + fraction.len() {
+        return None;
+    }
+    match from_utf8(number) {
+        Ok(text) => F::of_text(text),
+        Err(_) => None,
+    }
+}
+
+/// The float nearest to a number of any length: the digits of two texts, of which the last `places`
+/// follow the point, times ten to a power. `number` is both texts, with the point.
+#[cold]
+#[inline(never)]
+pub fn round_digits<F: Float>(
+    negative: bool,
+    number: &[u8],
+    whole: &[u8],
+    fraction: &[u8],
+    digits: usize,
+    places: u64,
+    power: Power,
+) -> F
+    requires pointed { IsPointed number.now whole.now fraction.now }
+    requires digits { digits ≡ length (filter is_ascii_digit whole.now)
+        + length (filter is_ascii_digit fraction.now) }
+    requires places { places ≡ length (filter is_ascii_digit fraction.now) }
+    requires few_places { places < 2 ^ 63 }
+    requires few { length whole.now + length fraction.now < 2 ^ 63 }
+    ensures { (n : ℕ) → power.value ≡ min n (2 ^ 64 - 1) → F.value result ≡ round F.format negative
+        (digits_value 10 (filter is_ascii_digit whole.now ++ filter is_ascii_digit fraction.now)
+        * 10 ^ (if power.negative then 0 else n)) (10 ^ (places + (if power.negative then n else 0))) }
+{
+    if power.value == 0 {
+        if let Some(x) = round_plain(number, whole, fraction, digits) {
+            return signed(negative, x);
+        }
+    }
+    round_kept(negative, whole, fraction, places, power)
 }
