@@ -100,16 +100,16 @@ def bound(it):
             it.compare(page, line, "the bound on looks", here.groups(), m and m.groups())
 
 
-CALLS = "crates/lexical_digits/specs/CallTable.antt"
-# Where each call of the table is named too, by `Op` or by `Call`.
-CALL_FILES = ("crates/lexical_plain/specs/Plain.antt", "crates/digit_script/specs/Script.antt",
-              "crates/digit_script/src/lib.rt", "crates/digit_script/src/dispatch.rt")
+CALLS = "crates/lexical_digits/src/ops.rt"
+# Where each call is named too.
+CALL_FILES = ("crates/lexical_digits/specs/CallTable.antt",
+              "crates/lexical_plain/specs/Plain.antt", "crates/digit_script/src/dispatch.rt")
 
 
 def calls(it):
-    """Each call of the traits is in the call table, and each of the table is where it has to be."""
-    table = re.search(r"pub data Call .*?\n\n", read(CALLS), re.S)
-    named = re.findall(r"^  (\w+) :", table[0], re.M) if table else []
+    """Each call of the traits is an `Op`, and each of these is where it has to be."""
+    ops = re.search(r"pub enum Op .*?\n}\n", read(CALLS), re.S)
+    named = re.findall(r"^    (\w+)[(,]", ops[0], re.M) if ops else []
     for path in ("crates/lexical_digits/src/iterator.rt",
                  "crates/lexical_digits/src/iterator/bodies.rt"):
         for name in sorted(set(re.findall(r"^    fn (\w+)", read(path), re.M))):

@@ -2,10 +2,10 @@
 use Rattle.std.proofs.Common.{◌≡◌, true, arith}
 use Rattle.std.specs.Cmp.{first_so, second_so}
 use Rattle.digit_script.specs.declared.Part.{Part}
-use Rattle.digit_script.specs.declared.Op.{Op}
+use Rattle.lexical_digits.specs.declared.ops.Op.{Op}
 use Rattle.digit_script.specs.declared.Call.{Call}
 use Rattle.digit_script.specs.contracts.PartPartialEq.TheImpl as part
-use Rattle.digit_script.specs.contracts.OpPartialEq.TheImpl as op
+use Rattle.lexical_digits.specs.contracts.ops.OpPartialEq.TheImpl as op
 use Rattle.digit_script.specs.contracts.CallPartialEq.TheImpl as call
 use Rattle.digit_script.proofs.Equality.{equal_is_same}
 

@@ -9,9 +9,9 @@ use denote.Struct.Field.{Field}
 use denote.Struct.Values.{Values}
 use denote.Enum.Declared.{Choice, values_one}
 use denote.Enum.Compared.{Each, by}
-use Rattle.digit_script.specs.declared.Op.{Op}
-use Rattle.digit_script.specs.contracts.Op.{enum}
-use Rattle.digit_script.specs.contracts.OpPartialEq.TheImpl as derived
+use Rattle.lexical_digits.specs.declared.ops.Op.{Op}
+use Rattle.lexical_digits.specs.contracts.ops.Op.{enum}
+use Rattle.lexical_digits.specs.contracts.ops.OpPartialEq.TheImpl as derived
 
 -- ---- of any enum
 

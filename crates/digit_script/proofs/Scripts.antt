@@ -8,49 +8,50 @@ use Rattle.lexical_digits.specs.Separators.{is_digit, is_separator}
 use Rattle.lexical_digits.specs.Cursor.{zeros, after_zeros}
 use Rattle.lexical_digits.specs.State.{State, IsState, with_cursor, is_contiguous, current_count, rule, cut_end}
 use Rattle.lexical_digits.specs.Laws.Table.{taken_buffer, with_own_buffer}
-use Rattle.lexical_digits.specs.CallTable.{Part, Call, OnBytes, Refused, after_view, row, row_of, run_of, shared_row, contiguous_on, count_on, place_of, settled, counted, taken, zeros_of, past_zeros_of}
+use Rattle.lexical_digits.specs.CallTable.{Part, OnBytes, after_view, row, row_of, run_of, shared_row, contiguous_on, count_on, place_of, settled, counted, taken, zeros_of, past_zeros_of}
+use Rattle.lexical_digits.specs.declared.ops.Op.{Op}
+use Rattle.lexical_digits.specs.declared.ops.Answer.{Answer}
+use Rattle.lexical_digits.specs.declared.ops.Answer.TheVariants.{Refused}
 use Rattle.lexical_digits.specs.Looks.{Held, owed}
 use Rattle.lexical_digits.proofs.Looks.Owed.{looks_within}
 use Rattle.lexical_digits.proofs.Calls.ItemsOfComponents.{zeros_are, after_zeros_are}
 use Rattle.digit_script.specs.declared.Call as script
-use Rattle.digit_script.specs.declared.Answer.{Answer}
-use Rattle.digit_script.specs.declared.Answer.TheVariants as answer
-use Rattle.digit_script.specs.Script.{asks, moves, answer_of, part_of, call_of, script_of, reads, set_backs, Shows, IsOn, Obeys, Makes, reads_of, set_backs_of}
+use Rattle.digit_script.specs.Script.{asks, moves, part_of, script_of, reads, set_backs, Shows, IsOn, Obeys, Makes, reads_of, set_backs_of}
 
 -- what every part has, the iterators have from the rows of every part
-asked_row : (part : Part) (call : Call) (s : State) → asks call ≡ true
+asked_row : (part : Part) (call : Op) (s : State) → asks call ≡ true
     → row_of part call s ≡ shared_row part call s
 asked_row part call s e = grind arith
 
-asked_same : (part : Part) (call : Call) (s : State) → asks call ≡ true
+asked_same : (part : Part) (call : Op) (s : State) → asks call ≡ true
     → (shared_row part call s).state ≡ s
 asked_same part call s e = grind arith
 
 -- a call that asks leaves what it finds
-pub asked : (part : Part) (call : Call) (s : State) (owing : ℤ) (result : Answer) →
-    asks call ≡ true → result ≡ answer_of (shared_row part call s).answer →
+pub asked : (part : Part) (call : Op) (s : State) (owing : ℤ) (result : Answer) →
+    asks call ≡ true → result ≡ (shared_row part call s).answer →
     Obeys part call s s owing owing result
 asked part call s owing result e h = record {
-  answers = h ∙ ap (λ r. answer_of r.answer) (sym (asked_row part call s e));
+  answers = h ∙ ap (λ r. r.answer) (sym (asked_row part call s e));
   leaves = sym (asked_same part call s e) ∙ ap (λ r. r.state) (sym (asked_row part call s e));
   owes = omega (arith, ints);
 }
 
-refused_row : (call : Call) (s : State) → asks call ≡ false → moves call ≡ false
+refused_row : (call : Op) (s : State) → asks call ≡ false → moves call ≡ false
     → shared_row OnBytes call s ≡ row Refused s
 refused_row call s e h = grind arith
 
 -- a `Bytes` has no other calls but the moves
-pub asked_or_refused : (call : Call) (a : Held) (result : Answer) → moves call ≡ false
-    → (asks call ≡ true → result ≡ answer_of (shared_row OnBytes call a.state).answer)
-    → (asks call ≡ false → result ≡ answer.Refused)
+pub asked_or_refused : (call : Op) (a : Held) (result : Answer) → moves call ≡ false
+    → (asks call ≡ true → result ≡ (shared_row OnBytes call a.state).answer)
+    → (asks call ≡ false → result ≡ Refused)
     → Makes OnBytes call a a result
 asked_or_refused call a result h if_asked if_not = here (asks call) refl
   where
     here : (b : Bool) → asks call ≡ b → Makes OnBytes call a a result
     here true e = asked OnBytes call a.state (owed a) result e (if_asked e)
     here false e = record {
-      answers = if_not e ∙ ap (λ r. answer_of r.answer) (sym (refused_row call a.state e h));
+      answers = if_not e ∙ ap (λ r. r.answer) (sym (refused_row call a.state e h));
       leaves = ap (λ r. r.state) (sym (refused_row call a.state e h));
       owes = omega (arith, ints);
     }
@@ -77,16 +78,16 @@ view_buffer k s n = here (is_contiguous k s.word)
     here true = refl
     here false = refl
 
-row_buffer : (part : Part) (call : Call) (s : State) → (row_of part call s).state.buffer ≡ s.buffer
+row_buffer : (part : Part) (call : Op) (s : State) → (row_of part call s).state.buffer ≡ s.buffer
 row_buffer part call s = grind (arith, taken_buffer, with_own_buffer, view_buffer)
 
 -- In the middle of a list: the answers so far, followed by those of the rest of the calls, are all
 -- the answers; what is owed now and what the rest may add is at most what was owed and what all the
 -- calls may add.
-pub record Continues (first : Held) (all : List (Part × Call)) (now : Held)
-    (left : List (Part × Call)) (made : List Answer) : Type 0 where
-  pub answers : made ++ map answer_of (run_of now.state left).answers
-      ≡ map answer_of (run_of first.state all).answers
+pub record Continues (first : Held) (all : List (Part × Op)) (now : Held)
+    (left : List (Part × Op)) (made : List Answer) : Type 0 where
+  pub answers : made ++ (run_of now.state left).answers
+      ≡ (run_of first.state all).answers
   pub state : (run_of now.state left).state ≡ (run_of first.state all).state
   pub buffer : now.state.buffer ≡ first.state.buffer
   pub owes : (owed now +ℤ pos
@@ -95,7 +96,7 @@ pub record Continues (first : Held) (all : List (Part × Call)) (now : Held)
       (4 * reads_of first.state all + 3 *
       (length first.state.buffer * set_backs_of first.state all)))
 
-one_more : (first a b : Held) (all rest : List (Part × Call)) (call : Part × Call)
+one_more : (first a b : Held) (all rest : List (Part × Op)) (call : Part × Op)
     (made : List Answer) (answer : Answer)
     → Continues first all a (call ∷ rest) made → Makes call.0 call.1 a b answer
     → Continues first all b rest (made ++ answer ∷ [])
@@ -124,7 +125,7 @@ one_more first a b all rest call made answer so_far makes =
 
 next_left : (calls : List script.Call) (i : ℕ) (d : script.Call) → i < length calls
     → script_of (drop i calls)
-    ≡ (part_of (get_or calls i d).part, call_of (get_or calls i d).op) ∷ script_of
+    ≡ (part_of (get_or calls i d).part, (get_or calls i d).op) ∷ script_of
     (drop (i + 1) calls)
 next_left calls i d h = rw (add-one, drop-cons calls i d h) refl
 
@@ -132,15 +133,15 @@ next_left calls i d h = rw (add-one, drop-cons calls i d h) refl
 pub continues : (first a b : Held) (calls : List script.Call) (i : ℕ) (d : script.Call)
     (made : List Answer) (answer : Answer) → i < length calls
     → Continues first (script_of calls) a (script_of (drop i calls)) made
-    → Makes (part_of (get_or calls i d).part) (call_of (get_or calls i d).op) a b answer
+    → Makes (part_of (get_or calls i d).part) (get_or calls i d).op a b answer
     → Continues first (script_of calls) b (script_of (drop (i + 1) calls)) (made ++ answer ∷ [])
 continues first a b calls i d made answer h so_far makes =
     one_more first a b (script_of calls) (script_of (drop (i + 1) calls))
-    (part_of (get_or calls i d).part, call_of (get_or calls i d).op) made answer
+    (part_of (get_or calls i d).part, (get_or calls i d).op) made answer
     (rw (next_left calls i d h) at so_far) makes
 
 -- after the last call
-pub looks_at_most : (first now : Held) (all left : List (Part × Call)) (made : List Answer)
+pub looks_at_most : (first now : Held) (all left : List (Part × Op)) (made : List Answer)
     → Continues first all now left made
     → now.looks ≤ first.looks + 4 * reads_of first.state all + 3 *
     (length first.state.buffer * (set_backs_of first.state all + 1))
@@ -156,7 +157,7 @@ looks_at_most first now all left made so_far =
       both,
     )
 
-pub owes_at_most : (first now : Held) (all : List (Part × Call)) (made : List Answer)
+pub owes_at_most : (first now : Held) (all : List (Part × Op)) (made : List Answer)
     → Continues first all now [] made
     → owed now ≤ℤ (owed first +ℤ pos (4 * reads_of first.state all + 3 *
     (length first.state.buffer * set_backs_of first.state all)))

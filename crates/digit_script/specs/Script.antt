@@ -10,18 +10,17 @@ use Rattle.lexical_digits.specs.State.{State, with_cursor, rule}
 use Rattle.lexical_digits.specs.Cursor.{holds_of}
 use Rattle.lexical_digits.specs.CallTable as table
 use Rattle.lexical_digits.specs.CallTable.{OnBytes, On, row_of, run_of, place_of, past_place, zeros_of, contiguous_on, count_on}
+use Rattle.lexical_digits.specs.declared.ops.Op.{Op}
+use Rattle.lexical_digits.specs.declared.ops.Answer.{Answer}
+use Rattle.lexical_digits.specs.declared.ops.Op.TheVariants as op
 use Rattle.lexical_digits.specs.Looks.{Held, owed}
 use Rattle.digit_script.specs.declared.Part.{Part}
 use Rattle.digit_script.specs.declared.Part.TheVariants.{Bytes, Integer, Fraction, Exponent, Special}
-use Rattle.digit_script.specs.declared.Op.{Op}
-use Rattle.digit_script.specs.declared.Op.TheVariants.{AsSlice, GetBuffer, BufferLength, IsBufferEmpty, Cursor, SetCursor, CurrentCount, IsContiguous, First, FirstIsCased, FirstIsUncased, FirstIs, StepBy, Step, PeekU32, PeekU64, IsConsumed, IncrementCount, Peek, TryRead, Next, PeekIsCased, PeekIsUncased, PeekIs, ReadIfEqual, ReadIfNever, ReadIfValueCased, ReadIfValueUncased, ReadIfValue, SkipZeros, IsDigit, IsSign, IsDigitSeparator, TakeN}
 use Rattle.digit_script.specs.declared.Call.{Call}
-use Rattle.digit_script.specs.declared.Answer.{Answer}
-use Rattle.digit_script.specs.declared.Answer.TheVariants.{Span, Count, Flag, Done, Byte, Four, Eight, View, Refused}
 
 -- ---- calls and answers
 
--- a part, a call and an answer of a list in the form of the call table
+-- a part in the form of the call table
 abbrev pub part_of : Part → table.Part
 part_of Bytes = OnBytes
 part_of Integer = On component.Integer
@@ -29,56 +28,9 @@ part_of Fraction = On component.Fraction
 part_of Exponent = On component.Exponent
 part_of Special = On component.Special
 
-abbrev pub call_of : Op → table.Call
-call_of AsSlice = table.AsSlice
-call_of GetBuffer = table.GetBuffer
-call_of BufferLength = table.BufferLength
-call_of IsBufferEmpty = table.IsBufferEmpty
-call_of Cursor = table.Cursor
-call_of (SetCursor i) = table.SetCursor i
-call_of CurrentCount = table.CurrentCount
-call_of IsContiguous = table.IsContiguous
-call_of First = table.First
-call_of (FirstIsCased v) = table.FirstIsCased v
-call_of (FirstIsUncased v) = table.FirstIsUncased v
-call_of (FirstIs v is_cased) = table.FirstIs v is_cased
-call_of (StepBy n) = table.StepBy n
-call_of Step = table.Step
-call_of PeekU32 = table.PeekU32
-call_of PeekU64 = table.PeekU64
-call_of IsConsumed = table.IsConsumed
-call_of IncrementCount = table.IncrementCount
-call_of Peek = table.Peek
-call_of TryRead = table.TryRead
-call_of Next = table.Next
-call_of (PeekIsCased v) = table.PeekIsCased v
-call_of (PeekIsUncased v) = table.PeekIsUncased v
-call_of (PeekIs v is_cased) = table.PeekIs v is_cased
-call_of (ReadIfEqual v) = table.ReadIfEqual v
-call_of ReadIfNever = table.ReadIfNever
-call_of (ReadIfValueCased v) = table.ReadIfValueCased v
-call_of (ReadIfValueUncased v) = table.ReadIfValueUncased v
-call_of (ReadIfValue v is_cased) = table.ReadIfValue v is_cased
-call_of SkipZeros = table.SkipZeros
-call_of (IsDigit v) = table.IsDigit v
-call_of (IsSign v) = table.IsSign v
-call_of (IsDigitSeparator v) = table.IsDigitSeparator v
-call_of (TakeN n) = table.TakeN n
-
-abbrev pub answer_of : table.Answer → Answer
-answer_of (table.Span from to) = Span from to
-answer_of (table.Count n) = Count n
-answer_of (table.Flag b) = Flag b
-answer_of table.Done = Done
-answer_of (table.Byte byte) = Byte byte
-answer_of (table.Four number) = Four number
-answer_of (table.Eight number) = Eight number
-answer_of (table.View view) = View view
-answer_of table.Refused = Refused
-
 -- a list of calls of the call table
-abbrev pub script_of : List Call → List (table.Part × table.Call)
-script_of calls = map (λ call. (part_of call.part, call_of call.op)) calls
+abbrev pub script_of : List Call → List (table.Part × Op)
+script_of calls = map (λ call. (part_of call.part, call.op)) calls
 
 -- ---- calls that every part has
 
@@ -91,37 +43,37 @@ pub record Shows (part : table.Part) (s : State) (buffer : List ℕ) (cursor cou
   pub same_contiguous : contiguous_on part s ≡ contiguous
 
 -- the calls that every part has and that change nothing
-abbrev pub asks : table.Call → Bool
-asks table.AsSlice = true
-asks table.GetBuffer = true
-asks table.BufferLength = true
-asks table.IsBufferEmpty = true
-asks table.Cursor = true
-asks table.CurrentCount = true
-asks table.IsContiguous = true
-asks table.First = true
-asks (table.FirstIsCased v) = true
-asks (table.FirstIsUncased v) = true
-asks (table.FirstIs v is_cased) = true
-asks table.PeekU32 = true
-asks table.PeekU64 = true
+abbrev pub asks : Op → Bool
+asks op.AsSlice = true
+asks op.GetBuffer = true
+asks op.BufferLength = true
+asks op.IsBufferEmpty = true
+asks op.Cursor = true
+asks op.CurrentCount = true
+asks op.IsContiguous = true
+asks op.First = true
+asks (op.FirstIsCased v) = true
+asks (op.FirstIsUncased v) = true
+asks (op.FirstIs v is_cased) = true
+asks op.PeekU32 = true
+asks op.PeekU64 = true
 asks call = false
 
 -- the calls that move the cursor without reading
-abbrev pub moves : table.Call → Bool
-moves (table.SetCursor i) = true
-moves (table.StepBy n) = true
-moves table.Step = true
+abbrev pub moves : Op → Bool
+moves (op.SetCursor i) = true
+moves (op.StepBy n) = true
+moves op.Step = true
 moves call = false
 
 -- the calls that are made on the iterator of a component: those that its traits lack, and those of
 -- which a trait says less than the table
-abbrev pub goes_by_part : table.Call → Bool
-goes_by_part (table.SetCursor i) = true
-goes_by_part table.SkipZeros = true
-goes_by_part (table.IsSign v) = true
-goes_by_part (table.IsDigitSeparator v) = true
-goes_by_part (table.TakeN n) = true
+abbrev pub goes_by_part : Op → Bool
+goes_by_part (op.SetCursor i) = true
+goes_by_part op.SkipZeros = true
+goes_by_part (op.IsSign v) = true
+goes_by_part (op.IsDigitSeparator v) = true
+goes_by_part (op.TakeN n) = true
 goes_by_part call = false
 
 -- m is a meaning of the iterator of component k, and `state` gives the state of each meaning: the
@@ -144,34 +96,34 @@ pub record IsOn {M : Type 0} (k : Component) (state : M → State)
 -- ---- what a list of calls may cost
 
 -- how many reads a call makes: one for each leading zero, and one for what ends them
-abbrev pub reads : table.Part → table.Call → State → ℕ
-reads (On k) table.IsConsumed s = 1
-reads (On k) table.Peek s = 1
-reads (On k) table.TryRead s = 1
-reads (On k) table.Next s = 1
-reads (On k) (table.PeekIsCased v) s = 1
-reads (On k) (table.PeekIsUncased v) s = 1
-reads (On k) (table.PeekIs v is_cased) s = 1
-reads (On k) (table.ReadIfEqual v) s = 1
-reads (On k) table.ReadIfNever s = 1
-reads (On k) (table.ReadIfValueCased v) s = 1
-reads (On k) (table.ReadIfValueUncased v) s = 1
-reads (On k) (table.ReadIfValue v is_cased) s = 1
-reads (On k) table.SkipZeros s = zeros_of k s + 1
+abbrev pub reads : table.Part → Op → State → ℕ
+reads (On k) op.IsConsumed s = 1
+reads (On k) op.Peek s = 1
+reads (On k) op.TryRead s = 1
+reads (On k) op.Next s = 1
+reads (On k) (op.PeekIsCased v) s = 1
+reads (On k) (op.PeekIsUncased v) s = 1
+reads (On k) (op.PeekIs v is_cased) s = 1
+reads (On k) (op.ReadIfEqual v) s = 1
+reads (On k) op.ReadIfNever s = 1
+reads (On k) (op.ReadIfValueCased v) s = 1
+reads (On k) (op.ReadIfValueUncased v) s = 1
+reads (On k) (op.ReadIfValue v is_cased) s = 1
+reads (On k) op.SkipZeros s = zeros_of k s + 1
 reads part call s = 0
 
 -- how often a call moves the cursor back
-abbrev pub set_backs : table.Call → State → ℕ
-set_backs (table.SetCursor i) s = if nat_lt i s.cursor then 1 else 0
+abbrev pub set_backs : Op → State → ℕ
+set_backs (op.SetCursor i) s = if nat_lt i s.cursor then 1 else 0
 set_backs call s = 0
 
 -- over a list, each call at the state that the calls before it left
-abbrev pub reads_of : State → List (table.Part × table.Call) → ℕ
+abbrev pub reads_of : State → List (table.Part × Op) → ℕ
 reads_of s [] = 0
 reads_of s (call ∷ calls) = reads call.0 call.1 s + reads_of (row_of call.0 call.1 s).state calls
 
 -- how many calls of a list set the cursor to a lesser position
-abbrev pub set_backs_of : State → List (table.Part × table.Call) → ℕ
+abbrev pub set_backs_of : State → List (table.Part × Op) → ℕ
 set_backs_of s [] = 0
 set_backs_of s (call ∷ calls) =
     set_backs call.1 s + set_backs_of (row_of call.0 call.1 s).state calls
@@ -179,18 +131,18 @@ set_backs_of s (call ∷ calls) =
 -- ---- one call
 
 -- what a call may add to what is owed
-abbrev pub cost : table.Part → table.Call → State → ℕ
+abbrev pub cost : table.Part → Op → State → ℕ
 cost part call s = 4 * reads part call s + 3 * (length s.buffer * set_backs call s)
 
 -- A call from state s to state t, where `before` is owed before it and `after` after it: it answers
 -- and leaves what the call table says, and adds at most `cost` to what is owed.
-pub record Obeys (part : table.Part) (call : table.Call) (s t : State) (before after : ℤ)
+pub record Obeys (part : table.Part) (call : Op) (s t : State) (before after : ℤ)
     (result : Answer) : Type 0 where
-  pub answers : result ≡ answer_of (row_of part call s).answer
+  pub answers : result ≡ (row_of part call s).answer
   pub leaves : t ≡ (row_of part call s).state
   pub owes : after ≤ℤ (before +ℤ pos (cost part call s))
 
-abbrev pub Makes : table.Part → table.Call → (a b : Held) → Answer → Type 0
+abbrev pub Makes : table.Part → Op → (a b : Held) → Answer → Type 0
 Makes part call a b result = Obeys part call a.state b.state (owed a) (owed b) result
 
 -- ---- a list of calls
@@ -199,9 +151,9 @@ Makes part call a b result = Obeys part call a.state b.state (owed a) (owed b) r
 -- those of the call table. k reads and m moves back of the cursor over n bytes add at most
 -- 4k + 3n(m + 1) looks, and 4k + 3nm to what is owed, so that several lists add up. Without memory
 -- nothing changes.
-pub record RunsCalls {Z : Type 0} (a b : Held) (calls : List (table.Part × table.Call))
+pub record RunsCalls {Z : Type 0} (a b : Held) (calls : List (table.Part × Op))
     (result : Result (Vec Answer Z) AllocError) : Type 0 where
-  pub answers : IfOk result (λ made. made.items ≡ map answer_of (run_of a.state calls).answers)
+  pub answers : IfOk result (λ made. made.items ≡ (run_of a.state calls).answers)
   pub state : OnOk result (b.state ≡ (run_of a.state calls).state)
   pub looks : b.looks ≤ a.looks + 4 * reads_of a.state calls
       + 3 * (length a.state.buffer * (set_backs_of a.state calls + 1))

@@ -12,7 +12,7 @@ ghost use Rattle.lexical_digits.specs.Cursor.{CanStep, can_step, holds_of};
 ghost use Rattle.lexical_digits.specs.CallTable as table;
 ghost use Rattle.lexical_digits.specs.CallTable.{shared_row, row_of, first, view_answer, zeros_of, past_zeros_of};
 ghost use Rattle.lexical_digits.specs.Looks.{owed};
-ghost use Rattle.digit_script.specs.Script.{part_of, call_of, answer_of, Shows, IsOn, asks, goes_by_part, Obeys, Makes};
+ghost use Rattle.digit_script.specs.Script.{part_of, Shows, IsOn, asks, goes_by_part, Obeys, Makes};
 
 use super::{Answer, Call, Op, Part};
 use lexical_digits::iterator::{DigitsBodies, DigitsIter, Iter, IterBodies};
@@ -26,8 +26,8 @@ use lexical_digits::skip::{
 fn ask<'a, I: Iter<'a>>(iter: &I, op: Op) -> Answer
     ensures asked { let m = I.meaning iter.now in (part : table.Part) (s : State) →
         Shows part s (I.buffer m) (I.cursor m) (I.current_count m) (I.contiguous m) →
-        asks (call_of op) ≡ true → result ≡ answer_of (shared_row part (call_of op) s).answer }
-    ensures refused { asks (call_of op) ≡ false → result ≡ Answer.Refused }
+        asks op ≡ true → result ≡ (shared_row part op s).answer }
+    ensures refused { asks op ≡ false → result ≡ Answer.Refused }
 {
     match op {
         Op::AsSlice => {
@@ -83,7 +83,7 @@ fn may_step<'a, I: Iter<'a>>(iter: &I, count: usize, at_separator: bool) -> bool
 
 /// Makes a call on a `Bytes` itself.
 fn on_bytes(bytes: &mut Bytes, op: Op) -> Answer
-    ensures { Makes table.OnBytes (call_of op) bytes.old bytes.new result }
+    ensures { Makes table.OnBytes op bytes.old bytes.new result }
 {
     let at_separator = is_at_separator(bytes);
     match op {
@@ -109,11 +109,11 @@ fn on_bytes(bytes: &mut Bytes, op: Op) -> Answer
 fn read<'a, I: DigitsIter<'a>>(iter: &mut I, op: Op, at_separator: bool) -> Answer
     requires at_separator { let m = I.meaning iter.old in
         at_separator ≡ holds_of (I.separates m) (slice_get (I.buffer m) (I.cursor m)) }
-    requires by_traits { goes_by_part (call_of op) ≡ false }
+    requires by_traits { goes_by_part op ≡ false }
     ensures makes { let m = I.meaning iter.old in (k : Component) (state : I.Meaning → State) →
         IsOn k state I.buffer I.cursor I.current_count I.contiguous I.separates I.moved
         I.place I.digit I.settled I.counted I.taken m →
-        Obeys (table.On k) (call_of op) (state m) (state (I.meaning iter.new))
+        Obeys (table.On k) op (state m) (state (I.meaning iter.new))
         (I.owed iter.old) (I.owed iter.new) result }
     ensures keeps_loan { I.loan iter.new ≡ I.loan iter.old }
 {
@@ -150,8 +150,8 @@ fn read<'a, I: DigitsIter<'a>>(iter: &mut I, op: Op, at_separator: bool) -> Answ
 
 /// Makes a call that every iterator has by its traits on the iterator of a component.
 fn read_on(bytes: &mut Bytes, component: Component, op: Op) -> Answer
-    requires { goes_by_part (call_of op) ≡ false }
-    ensures { Makes (table.On component) (call_of op) bytes.old bytes.new result }
+    requires { goes_by_part op ≡ false }
+    ensures { Makes (table.On component) op bytes.old bytes.new result }
 {
     let at_separator = is_at_separator(bytes);
     match component {
@@ -183,7 +183,7 @@ fn move_to(bytes: &mut Bytes, component: Component, index: usize)
 
 /// Sets the cursor by the iterator of a component. Refuses a position after the end.
 fn set_cursor(bytes: &mut Bytes, component: Component, index: usize) -> Answer
-    ensures { Makes (table.On component) (table.SetCursor index) bytes.old bytes.new result }
+    ensures { Makes (table.On component) (Op.SetCursor index) bytes.old bytes.new result }
 {
     if index > bytes.buffer_length() {
         return Answer::Refused;
@@ -204,14 +204,14 @@ fn pass_zeros(bytes: &mut Bytes, component: Component) -> usize
 
 /// Asks the iterator of a component whether a byte is a sign.
 fn is_sign(bytes: &mut Bytes, component: Component, value: u8) -> Answer
-    ensures { Makes (table.On component) (table.IsSign value) bytes.old bytes.new result }
+    ensures { Makes (table.On component) (Op.IsSign value) bytes.old bytes.new result }
 {
     on_iterator!(bytes, component, iter => Answer::Flag(iter.is_sign(value)))
 }
 
 /// Asks the iterator of a component whether a byte is a separator.
 fn is_digit_separator(bytes: &mut Bytes, component: Component, value: u8) -> Answer
-    ensures { Makes (table.On component) (table.IsDigitSeparator value) bytes.old bytes.new result }
+    ensures { Makes (table.On component) (Op.IsDigitSeparator value) bytes.old bytes.new result }
 {
     on_iterator!(bytes, component, iter => Answer::Flag(iter.is_digit_separator(value)))
 }
@@ -228,9 +228,9 @@ fn answer_view(view: Option<Bytes>) -> Answer
 
 /// Takes a view from the iterator of a component. The special iterator gives none.
 fn take_n(bytes: &mut Bytes, component: Component, n: usize) -> Answer
-    ensures answers { let row = row_of (table.On component) (table.TakeN n) bytes.old.state in
-        result ≡ answer_of row.answer }
-    ensures state { let row = row_of (table.On component) (table.TakeN n) bytes.old.state in
+    ensures answers { let row = row_of (table.On component) (Op.TakeN n) bytes.old.state in
+        result ≡ row.answer }
+    ensures state { let row = row_of (table.On component) (Op.TakeN n) bytes.old.state in
         bytes.new.state ≡ row.state }
     ensures owes { owed bytes.new ≤ℤ owed bytes.old }
 {
@@ -244,7 +244,7 @@ fn take_n(bytes: &mut Bytes, component: Component, n: usize) -> Answer
 
 /// Makes a call on the iterator of a component.
 fn on_component(bytes: &mut Bytes, component: Component, op: Op) -> Answer
-    ensures { Makes (table.On component) (call_of op) bytes.old bytes.new result }
+    ensures { Makes (table.On component) op bytes.old bytes.new result }
 {
     match op {
         Op::SetCursor(index) => set_cursor(bytes, component, index),
@@ -258,7 +258,7 @@ fn on_component(bytes: &mut Bytes, component: Component, op: Op) -> Answer
 
 /// Makes a call on the part that it names.
 pub fn make(bytes: &mut Bytes, call: Call) -> Answer
-    ensures { Makes (part_of call.part) (call_of call.op) bytes.old bytes.new result }
+    ensures { Makes (part_of call.part) call.op bytes.old bytes.new result }
 {
     match call.part {
         Part::Bytes => on_bytes(bytes, call.op),

@@ -6,7 +6,7 @@
 ghost use Rattle.std.specs.Prelude.{◌≡◌, ◌+◌, ◌*◌, ◌≤◌, pos, ◌≤ℤ◌, ◌+ℤ◌, length, map, IfOk, OnOk, OnErr};
 ghost use Rattle.lexical_digits.specs.CallTable.{run_of};
 ghost use Rattle.lexical_digits.specs.Looks.{owed};
-ghost use Rattle.digit_script.specs.Script.{script_of, answer_of, reads_of, set_backs_of};
+ghost use Rattle.digit_script.specs.Script.{script_of, reads_of, set_backs_of};
 ghost use Rattle.lexical_digits.specs.declared.skip.component.Component.TheVariants.{Integer, Fraction, Exponent};
 ghost use Rattle.digit_uses.specs.Bytes.{past_component};
 
@@ -25,7 +25,7 @@ pub fn make_calls(
     calls: &[Call],
 ) -> Result<Vec<Answer>, AllocError>
     ensures answers { let script = script_of calls.now in IfOk result (λ answers.
-        answers.items ≡ map answer_of (run_of bytes.old.state script).answers) }
+        answers.items ≡ (run_of bytes.old.state script).answers) }
     ensures state { let script = script_of calls.now in
         OnOk result (bytes.new.state ≡ (run_of bytes.old.state script).state) }
     ensures memory { OnErr result (bytes.new ≡ bytes.old) }

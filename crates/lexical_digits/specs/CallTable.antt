@@ -6,6 +6,10 @@ use Rattle.std.specs.Iterator.{YieldsFirstRef}
 use Rattle.lexical_format.specs.Word.{separator}
 use Rattle.lexical_digits.specs.declared.skip.component.Component.{Component}
 use Rattle.lexical_digits.specs.declared.skip.component.Component.TheVariants.{Integer, Fraction, Exponent, Special}
+pub use Rattle.lexical_digits.specs.declared.ops.Op.{Op}
+pub use Rattle.lexical_digits.specs.declared.ops.Op.TheVariants.{AsSlice, GetBuffer, BufferLength, Cursor, CurrentCount, IsBufferEmpty, IsContiguous, SetCursor, StepBy, Step, First, FirstIsCased, FirstIsUncased, FirstIs, PeekU32, PeekU64, IsConsumed, IncrementCount, Peek, TryRead, Next, PeekIsCased, PeekIsUncased, PeekIs, ReadIfEqual, ReadIfNever, ReadIfValueCased, ReadIfValueUncased, ReadIfValue, SkipZeros, IsDigit, IsSign, IsDigitSeparator, TakeN}
+pub use Rattle.lexical_digits.specs.declared.ops.Answer.{Answer}
+pub use Rattle.lexical_digits.specs.declared.ops.Answer.TheVariants.{Span, Count, Flag, Done, Byte, Four, Eight, View, Refused}
 use Rattle.lexical_digits.specs.Separators.{is_digit, is_separator, place, drain, zeros, past_zeros}
 use Rattle.lexical_digits.specs.State.{State, with_cursor, rule, own, with_own, has_no_separator, is_contiguous, counts, saturating, count_after, count_of_all, current_count, cut_end, cut}
 use Rattle.lexical_digits.specs.Cursor.{can_step, holds_of, byte_if, is_value, next_number}
@@ -100,54 +104,6 @@ pub data Part : Type 0 where
   OnBytes : Part
   On : Component → Part
 
-pub data Call : Type 0 where
-  AsSlice : Call
-  GetBuffer : Call
-  BufferLength : Call
-  IsBufferEmpty : Call
-  Cursor : Call
-  SetCursor : ℕ → Call
-  CurrentCount : Call
-  IsContiguous : Call
-  First : Call
-  FirstIsCased : ℕ → Call
-  FirstIsUncased : ℕ → Call
-  FirstIs : ℕ → Bool → Call
-  StepBy : ℕ → Call
-  Step : Call
-  PeekU32 : Call
-  PeekU64 : Call
-  IsConsumed : Call
-  IncrementCount : Call
-  Peek : Call
-  TryRead : Call
-  Next : Call
-  PeekIsCased : ℕ → Call
-  PeekIsUncased : ℕ → Call
-  PeekIs : ℕ → Bool → Call
-  ReadIfEqual : ℕ → Call
-  ReadIfNever : Call
-  ReadIfValueCased : ℕ → Call
-  ReadIfValueUncased : ℕ → Call
-  ReadIfValue : ℕ → Bool → Call
-  SkipZeros : Call
-  IsDigit : ℕ → Call
-  IsSign : ℕ → Call
-  IsDigitSeparator : ℕ → Call
-  TakeN : ℕ → Call
-
--- `Span` has both ends in the buffer, and `View` the length and cursor of a view
-pub data Answer : Type 0 where
-  Span : ℕ → ℕ → Answer
-  Count : ℕ → Answer
-  Flag : Bool → Answer
-  Done : Answer
-  Byte : Option ℕ → Answer
-  Four : Option ℕ → Answer
-  Eight : Option ℕ → Answer
-  View : Option (ℕ × ℕ) → Answer
-  Refused : Answer
-
 -- an answer, and the state left
 pub record Row : Type 0 where
   pub answer : Answer
@@ -200,7 +156,7 @@ view_row Fraction n s = row (View (view_answer (view Fraction s n))) (after_view
 view_row Exponent n s = row (View (view_answer (view Exponent s n))) (after_view Exponent s n)
 
 -- the calls that every part has
-abbrev pub shared_row : Part → Call → State → Row
+abbrev pub shared_row : Part → Op → State → Row
 shared_row part AsSlice s = row (Span s.cursor (length s.buffer)) s
 shared_row part GetBuffer s = row (Span 0 (length s.buffer)) s
 shared_row part BufferLength s = row (Count (length s.buffer)) s
@@ -222,7 +178,7 @@ shared_row part PeekU64 s =
 shared_row part call s = row Refused s
 
 -- the whole table: some calls are only on iterators
-abbrev pub row_of : Part → Call → State → Row
+abbrev pub row_of : Part → Op → State → Row
 row_of (On k) IsConsumed s = row (Flag (is_none (byte_at_place k s))) (settled k s)
 row_of (On k) IncrementCount s = row Done (counted k s)
 row_of (On k) Peek s = row (Byte (byte_at_place k s)) (settled k s)
@@ -257,7 +213,7 @@ pub record Ran : Type 0 where
   pub state : State
 
 -- the answers and the state of a list of calls, in their order
-abbrev pub run_of : State → List (Part × Call) → Ran
+abbrev pub run_of : State → List (Part × Op) → Ran
 run_of s [] = record { answers = []; state = s }
 run_of s (call ∷ calls) =
     let first = row_of call.0 call.1 s in

@@ -12,7 +12,7 @@ ghost use Rattle.lexical_digits.specs.Looks.{Held, owed};
 ghost use Rattle.lexical_digits.specs.Stop.{leading_digits_of, past_digits_of, stop_of};
 ghost use Rattle.lexical_digits.specs.Iterators.{items_in, after_items_in, zeros_in, after_zeros_in};
 ghost use Rattle.lexical_digits.specs.Cursor.{ReadsIf, items, after_items, at_zero, past_zero, zeros, after_zeros};
-ghost use Rattle.lexical_digits.specs.CallTable.{Part, Call};
+ghost use Rattle.lexical_digits.specs.CallTable.{Part, Op};
 ghost use Rattle.lexical_digits.specs.MantissaRadix.{mantissa_is_supported, mantissa_rule_of, with_one_radix, with_word, ran_with};
 ghost use Rattle.std.specs.Prelude.{List};
 ghost use Rattle.lexical_digits.specs.declared.skip.component.Component.{Component};
@@ -331,7 +331,7 @@ pub fn equal_radixes(buffer: &[u8], word: u128)
     ensures rules { exponent_radix word ≡ mantissa_radix word → (k : Component) →
         rule_of word k ≡ mantissa_rule_of word k }
     ensures runs { exponent_radix word ≡ mantissa_radix word → (s : State) →
-        s.buffer ≡ buffer.now → s.word ≡ word → (calls : List (Part × Call)) →
+        s.buffer ≡ buffer.now → s.word ≡ word → (calls : List (Part × Op)) →
         run_of (with_word s (with_one_radix word)) calls ≡
         ran_with (run_of s calls) (with_one_radix word) }
 {}

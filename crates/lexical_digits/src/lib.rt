@@ -7,6 +7,7 @@
 
 pub mod iterator;
 pub mod laws;
+pub mod ops;
 pub mod skip;
 pub mod stop;
 pub mod texts;

@@ -12,7 +12,11 @@ use Rattle.lexical_digits.specs.Separators.{GrantsNone}
 use Rattle.lexical_digits.specs.Separators as separators
 use Rattle.lexical_digits.specs.State.{State, own, with_own, rule, rule_of, is_contiguous, has_no_separator, count_of_all, current_count}
 use Rattle.lexical_digits.specs.State as state
-use Rattle.lexical_digits.specs.CallTable.{place_of, byte_at_place, settled, past_place, counted, Part, OnBytes, On, Call, Answer, Span, Count, Flag, Done, Byte, Four, Eight, View, Refused, AsSlice, GetBuffer, BufferLength, IsBufferEmpty, Cursor, SetCursor, CurrentCount, IsContiguous, First, FirstIsCased, FirstIsUncased, FirstIs, StepBy, Step, PeekU32, PeekU64, IsConsumed, IncrementCount, Peek, TryRead, Next, PeekIsCased, PeekIsUncased, PeekIs, ReadIfEqual, ReadIfNever, ReadIfValueCased, ReadIfValueUncased, ReadIfValue, SkipZeros, IsDigit, IsSign, IsDigitSeparator, TakeN, contiguous_on, count_on}
+use Rattle.lexical_digits.specs.CallTable.{place_of, byte_at_place, settled, past_place, counted, Part, OnBytes, On, contiguous_on, count_on}
+use Rattle.lexical_digits.specs.declared.ops.Op.{Op}
+use Rattle.lexical_digits.specs.declared.ops.Answer.{Answer}
+use Rattle.lexical_digits.specs.declared.ops.Op.TheVariants.{AsSlice, GetBuffer, BufferLength, IsBufferEmpty, Cursor, SetCursor, CurrentCount, IsContiguous, First, FirstIsCased, FirstIsUncased, FirstIs, StepBy, Step, PeekU32, PeekU64, IsConsumed, IncrementCount, Peek, TryRead, Next, PeekIsCased, PeekIsUncased, PeekIs, ReadIfEqual, ReadIfNever, ReadIfValueCased, ReadIfValueUncased, ReadIfValue, SkipZeros, IsDigit, IsSign, IsDigitSeparator, TakeN}
+use Rattle.lexical_digits.specs.declared.ops.Answer.TheVariants.{Span, Count, Flag, Done, Byte, Four, Eight, View, Refused}
 use Rattle.lexical_digits.specs.CallTable as skip
 use Rattle.lexical_digits.specs.Laws.Table.{place_contiguous, contiguous_grants}
 use Rattle.lexical_plain.specs.Plain.{Plain, with_cursor, rest, is_digit, taken, zeros, Row, within, row_of, Ran, run_of, start, is_on_both, both_have, without_counts, IsPlainWord}
@@ -29,16 +33,16 @@ zeros_fit : (p : Plain) → zeros p ≤ length p.buffer - p.cursor
 zeros_fit p =
     rw (← length-drop p.cursor p.buffer) (prefix_len-le-length (λ byte. nat_eq byte 48) (rest p))
 
-row_word : (part : Part) (call : Call) (p : Plain) → (row_of part call p).state.word ≡ p.word
+row_word : (part : Part) (call : Op) (p : Plain) → (row_of part call p).state.word ≡ p.word
 unfolding taken
 row_word part call p = grind arith
 
-row_within : (part : Part) (call : Call) (p : Plain) → p.cursor ≤ length p.buffer
+row_within : (part : Part) (call : Op) (p : Plain) → p.cursor ≤ length p.buffer
     → (row_of part call p).state.cursor ≤ length (row_of part call p).state.buffer
 unfolding taken
 row_within part call p l = grind (arith, nat_tests, gets, zeros_fit p)
 
-stays : (part : Part) (call : Call) (p : Plain) → IsUngranted p
+stays : (part : Part) (call : Op) (p : Plain) → IsUngranted p
     → IsUngranted (row_of part call p).state
 stays part call p u = record {
   plain_word = rw (row_word part call p) u.plain_word;
@@ -103,7 +107,7 @@ module _ (s : State) (ungranted : IsUngranted (without_counts s)) where
 
   -- ---- every call
 
-  answers_same : (part : Part) (call : Call) → is_on_both part call ≡ true
+  answers_same : (part : Part) (call : Op) → is_on_both part call ≡ true
       → (skip.row_of part call s).answer ≡ (row_of part call plain).answer
   unfolding skip.view
   answers_same OnBytes call h = grind (arith, and-true, no_byte)
@@ -113,13 +117,13 @@ module _ (s : State) (ungranted : IsUngranted (without_counts s)) where
   answers_same (On k) CurrentCount h = rw (nothing k, no_byte) refl
   answers_same (On k) call h = grind (arith, nothing k, place_same k, zeros_same k, digit_same k)
 
-  states_same : (part : Part) (call : Call) → is_on_both part call ≡ true
+  states_same : (part : Part) (call : Op) → is_on_both part call ≡ true
       → without_counts (skip.row_of part call s).state ≡ (row_of part call plain).state
   unfolding skip.after_view
   states_same part call h =
       grind (arith, and-true, no_byte, nothing, place_same, past_same, taken_same)
 
-  agree : (part : Part) (call : Call) → is_on_both part call ≡ true
+  agree : (part : Part) (call : Op) → is_on_both part call ≡ true
       → Agree (skip.row_of part call s) (row_of part call plain)
   agree part call h =
       record { answer = answers_same part call h; state = states_same part call h }
@@ -130,7 +134,7 @@ pub record AgreeInAll (a : skip.Ran) (b : Ran) : Type 0 where
   pub answers : a.answers ≡ b.answers
   pub state : without_counts a.state ≡ b.state
 
-runs_agree : (calls : List (Part × Call)) (s : State) → IsUngranted (without_counts s)
+runs_agree : (calls : List (Part × Op)) (s : State) → IsUngranted (without_counts s)
     → AllPass both_have calls → AgreeInAll (skip.run_of s calls) (run_of (without_counts s) calls)
 runs_agree [] s u all = record { answers = refl; state = refl }
 runs_agree (call ∷ calls) s u all =
@@ -151,7 +155,7 @@ runs_agree (call ∷ calls) s u all =
     }
 
 pub fresh_agree : (buffer : List ℕ) (word : ℕ) → IsPlainWord word
-    → (calls : List (Part × Call)) → AllPass both_have calls
+    → (calls : List (Part × Op)) → AllPass both_have calls
     → AgreeInAll (skip.run_of (state.start buffer word) calls) (run_of (start buffer word) calls)
 fresh_agree buffer word is calls all =
     runs_agree calls (state.start buffer word)

@@ -11,7 +11,11 @@ use Rattle.lexical_digits.specs.declared.skip.component.Component.{Component}
 use Rattle.lexical_digits.specs.declared.skip.component.Component.TheVariants.{Special}
 use Rattle.lexical_digits.specs.State.{State}
 use Rattle.lexical_digits.specs.Cursor.{holds_of, byte_if, is_value, next_number}
-use Rattle.lexical_digits.specs.CallTable.{Part, On, Call, Answer, Span, Count, Flag, Done, Byte, Four, Eight, View, Refused, AsSlice, GetBuffer, BufferLength, IsBufferEmpty, Cursor, SetCursor, CurrentCount, IsContiguous, First, FirstIsCased, FirstIsUncased, FirstIs, StepBy, Step, PeekU32, PeekU64, IsConsumed, IncrementCount, Peek, TryRead, Next, PeekIsCased, PeekIsUncased, PeekIs, ReadIfEqual, ReadIfNever, ReadIfValueCased, ReadIfValueUncased, ReadIfValue, SkipZeros, IsDigit, IsSign, IsDigitSeparator, TakeN}
+use Rattle.lexical_digits.specs.CallTable.{Part, On}
+use Rattle.lexical_digits.specs.declared.ops.Op.{Op}
+use Rattle.lexical_digits.specs.declared.ops.Answer.{Answer}
+use Rattle.lexical_digits.specs.declared.ops.Op.TheVariants.{AsSlice, GetBuffer, BufferLength, IsBufferEmpty, Cursor, SetCursor, CurrentCount, IsContiguous, First, FirstIsCased, FirstIsUncased, FirstIs, StepBy, Step, PeekU32, PeekU64, IsConsumed, IncrementCount, Peek, TryRead, Next, PeekIsCased, PeekIsUncased, PeekIs, ReadIfEqual, ReadIfNever, ReadIfValueCased, ReadIfValueUncased, ReadIfValue, SkipZeros, IsDigit, IsSign, IsDigitSeparator, TakeN}
+use Rattle.lexical_digits.specs.declared.ops.Answer.TheVariants.{Span, Count, Flag, Done, Byte, Four, Eight, View, Refused}
 
 -- ---- the state
 
@@ -120,7 +124,7 @@ abbrev pub view_answer : Plain → Answer
 view_answer s = View (Some (length s.buffer, s.cursor))
 
 -- the calls that every part has
-abbrev pub shared_row : Call → Plain → Row
+abbrev pub shared_row : Op → Plain → Row
 shared_row AsSlice s = row (Span s.cursor (length s.buffer)) s
 shared_row GetBuffer s = row (Span 0 (length s.buffer)) s
 shared_row BufferLength s = row (Count (length s.buffer)) s
@@ -141,7 +145,7 @@ shared_row call s = row Refused s
 
 -- The whole table. Some calls are only on iterators; the four components have one iterator type,
 -- with the same rows.
-abbrev pub row_of : Part → Call → Plain → Row
+abbrev pub row_of : Part → Op → Plain → Row
 row_of (On k) IsConsumed s = row (Flag (is_none (first s))) s
 row_of (On k) IncrementCount s = row Done s
 row_of (On k) Peek s = row (Byte (first s)) s
@@ -161,19 +165,19 @@ row_of (On k) (TakeN n) s = row (view_answer (view s n)) (with_cursor s (cut_end
 row_of part call s = shared_row call s
 
 -- a call on a part, from s to t, is answered by its row
-pub record Makes (part : Part) (call : Call) (s t : Plain) (answer : Answer) : Type 0 where
+pub record Makes (part : Part) (call : Op) (s t : Plain) (answer : Answer) : Type 0 where
   pub answers : answer ≡ (row_of part call s).answer
   pub leaves : t ≡ (row_of part call s).state
 
 -- the same on the iterator of each component
-abbrev pub MakesOnDigits : Call → Plain → Plain → Answer → Type 0
+abbrev pub MakesOnDigits : Op → Plain → Plain → Answer → Type 0
 MakesOnDigits call s t answer = (k : Component) → Makes (On k) call s t answer
 
 -- a call that leaves its state
-abbrev pub Answers : Part → Call → Plain → Answer → Type 0
+abbrev pub Answers : Part → Op → Plain → Answer → Type 0
 Answers part call s answer = Makes part call s s answer
 
-abbrev pub AnswersOnDigits : Call → Plain → Answer → Type 0
+abbrev pub AnswersOnDigits : Op → Plain → Answer → Type 0
 AnswersOnDigits call s answer = MakesOnDigits call s s answer
 
 -- a list of calls: each answer, and the state at the end
@@ -181,7 +185,7 @@ pub record Ran : Type 0 where
   pub answers : List Answer
   pub state : Plain
 
-abbrev pub run_of : Plain → List (Part × Call) → Ran
+abbrev pub run_of : Plain → List (Part × Op) → Ran
 run_of s [] = record { answers = []; state = s }
 run_of s (call ∷ calls) =
     let first = row_of call.0 call.1 s in
@@ -192,13 +196,13 @@ run_of s (call ∷ calls) =
 
 -- the calls that a part has both here and in `skip`: here no iterator has `is_sign` and
 -- `is_digit_separator`, and there the special iterator has no `take_n`
-abbrev pub is_on_both : Part → Call → Bool
+abbrev pub is_on_both : Part → Op → Bool
 is_on_both (On k) (IsSign v) = false
 is_on_both (On k) (IsDigitSeparator v) = false
 is_on_both (On Special) (TakeN n) = false
 is_on_both part call = true
 
-abbrev pub both_have : Part × Call → Bool
+abbrev pub both_have : Part × Op → Bool
 both_have call = is_on_both call.0 call.1
 
 -- the words for which `skip` answers the same: no separator, no flag, equal radixes

@@ -2,7 +2,8 @@
 
 ghost use Rattle.std.specs.Prelude.{◌≡◌, ◌+◌, List};
 ghost use Rattle.std.specs.List.{AllPass};
-ghost use Rattle.lexical_digits.specs.CallTable.{Part, Call};
+ghost use Rattle.lexical_digits.specs.CallTable.{Part};
+ghost use Rattle.lexical_digits.specs.declared.ops.Op.{Op};
 ghost use Rattle.lexical_digits.specs.Cursor.{items};
 ghost use Rattle.lexical_digits.specs.CallTable as skip;
 ghost use Rattle.lexical_digits.specs.State as skip_state;
@@ -19,10 +20,10 @@ use lexical_digits::iterator::DigitsBodies;
 /// in any order: both give the same answers, and their cursors end at the same position.
 #[tactic(auto, using(crate::proofs::AgreesWithSkip::fresh_agree))]
 pub fn plain_agrees(buffer: &[u8], word: u128)
-    ensures answers { IsPlainWord word → (calls : List (Part × Call)) → AllPass both_have calls →
+    ensures answers { IsPlainWord word → (calls : List (Part × Op)) → AllPass both_have calls →
         (skip.run_of (skip_state.start buffer.now word) calls).answers ≡
         (run_of (start buffer.now word) calls).answers }
-    ensures states { IsPlainWord word → (calls : List (Part × Call)) → AllPass both_have calls →
+    ensures states { IsPlainWord word → (calls : List (Part × Op)) → AllPass both_have calls →
         without_counts (skip.run_of (skip_state.start buffer.now word) calls).state ≡
         (run_of (start buffer.now word) calls).state }
 {}

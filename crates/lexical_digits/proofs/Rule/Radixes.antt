@@ -3,7 +3,7 @@ use Rattle.std.proofs.Common.{◌≡◌, ℕ, ◌+◌, ◌/◌, ◌%◌, ◌^◌
 use Rattle.std.proofs.Math.Pow.{mod-mod-pow}
 use Rattle.std.proofs.Math.Nat.{mod-lt}
 use Rattle.std.proofs.lemmas.Nat.{mod-pow-add, shr_high, pow_pos}
-use Rattle.lexical_digits.specs.Laws.Terms.{separator, mantissa_radix, exponent_radix, is_supported, Rule, Component, Integer, Fraction, Exponent, Special, State, rule_of, with_own, Part, OnBytes, On, Call, row_of, view, after_view, taken, place_of, run_of}
+use Rattle.lexical_digits.specs.Laws.Terms.{separator, mantissa_radix, exponent_radix, is_supported, Rule, Component, Integer, Fraction, Exponent, Special, State, rule_of, with_own, Part, OnBytes, On, Op, row_of, view, after_view, taken, place_of, run_of}
 use Rattle.lexical_digits.specs.MantissaRadix.{mantissa_rule_of, mantissa_is_supported, with_one_radix, with_word, ran_with}
 use Rattle.lexical_digits.specs.Laws.Table.{with_own_word, taken_word}
 
@@ -57,7 +57,7 @@ module _ (word : ℕ) (s : State) (rules : (k : Component) → rule_of word k �
   unfolding taken
   taken_with k = grind (arith, place_with k, with_own_with k, rules k)
 
-  row_with : (part : Part) (call : Call) → row_of part call (with_word s word)
+  row_with : (part : Part) (call : Op) → row_of part call (with_word s word)
       ≡ record (row_of part call s) { state = with_word (row_of part call s).state word }
   unfolding view after_view
   row_with OnBytes call = grind (arith, separators)
@@ -67,12 +67,12 @@ module _ (word : ℕ) (s : State) (rules : (k : Component) → rule_of word k �
       grind (arith, place_with k, rules k, separators)
 
 -- no row changes the word
-row_word : (part : Part) (call : Call) (s : State) → (row_of part call s).state.word ≡ s.word
+row_word : (part : Part) (call : Op) (s : State) → (row_of part call s).state.word ≡ s.word
 unfolding after_view
 row_word part call s = grind (arith, with_own_word, taken_word)
 
 run_with : (word : ℕ) (s : State) → ((k : Component) → rule_of word k ≡ rule_of s.word k)
-    → (calls : List (Part × Call))
+    → (calls : List (Part × Op))
     → run_of (with_word s word) calls ≡ ran_with (run_of s calls) word
 run_with word s rules [] = refl
 run_with word s rules (call ∷ calls) =
@@ -82,7 +82,7 @@ run_with word s rules (call ∷ calls) =
     rw (row_with word s rules call.0 call.1, rest) refl
 
 pub run_same : (word : ℕ) → exponent_radix word ≡ mantissa_radix word → (s : State) → s.word ≡ word
-    → (calls : List (Part × Call)) → run_of (with_word s (with_one_radix word)) calls
+    → (calls : List (Part × Op)) → run_of (with_word s (with_one_radix word)) calls
     ≡ ran_with (run_of s calls) (with_one_radix word)
 run_same word e s is = run_with (with_one_radix word) s
     (λ k. rule_with_one word k ∙ sym (rule_same word e k) ∙ ap (λ (w : ℕ). rule_of w k) (sym is))

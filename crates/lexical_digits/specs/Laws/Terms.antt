@@ -38,7 +38,7 @@ unfoldable pub use Rattle.lexical_digits.specs.CallTable.{place_of, taken, after
 unfoldable pub use Rattle.lexical_digits.specs.CallTable.{after_view}
 pub use Rattle.lexical_digits.specs.CallTable.{drain_of, byte_at_place, settled, past_place}
 pub use Rattle.lexical_digits.specs.CallTable.{counted, counted_by, zeros_of, past_zeros_of}
-pub use Rattle.lexical_digits.specs.CallTable.{ChangesOwn, run_of, On, Call, Peek, Next}
+pub use Rattle.lexical_digits.specs.CallTable.{ChangesOwn, run_of, On, Op, Peek, Next}
 pub use Rattle.lexical_digits.specs.CallTable.{IncrementCount, TryRead, SkipZeros, Takes, own_after}
 pub use Rattle.lexical_digits.specs.CallTable.{Part, OnBytes, TakeN, row_of}
 unfoldable pub use Rattle.lexical_digits.specs.Cursor.{after_zeros, items, after_items, walk}

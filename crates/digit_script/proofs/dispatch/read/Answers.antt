@@ -1,13 +1,13 @@
 use Rattle.std.proofs.Common.{refl, arith, ◌≡◌, true}
 use Rattle.lexical_digits.specs.CallTable.{On}
-use Rattle.digit_script.specs.Script.{asks, call_of}
+use Rattle.digit_script.specs.Script.{asks}
 use Rattle.digit_script.proofs.Scripts.{asked}
 use Rattle.digit_script.proofs.dispatch.read.Goals as goal
 
 -- what is left are the calls that ask
 pub returns-in_default : goal.returns-in_default
 returns-in_default g c =
-    let call = call_of c.args.op in
+    let call = c.args.op in
     let named : asks call ≡ true = grind (arith) in
     record {
       makes = λ k state on.

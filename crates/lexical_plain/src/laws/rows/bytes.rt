@@ -1,7 +1,8 @@
 //! The calls on a `Bytes`.
 
 ghost use Rattle.std.specs.Prelude.{◌≡◌, ◌+◌, ◌≤◌, length};
-ghost use Rattle.lexical_digits.specs.CallTable.{OnBytes, Span, Count, Flag, Done, Byte, Four, Eight};
+ghost use Rattle.lexical_digits.specs.CallTable.{OnBytes};
+ghost use Rattle.lexical_digits.specs.declared.ops.Answer.TheVariants.{Span, Count, Flag, Done, Byte, Four, Eight};
 ghost use Rattle.lexical_digits.specs.CallTable as call;
 ghost use Rattle.lexical_plain.specs.Plain.{rest, Makes, Answers};
 

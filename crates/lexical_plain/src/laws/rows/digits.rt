@@ -1,7 +1,7 @@
 //! The calls on the iterator of any component.
 
 ghost use Rattle.std.specs.Prelude.{◌≡◌, ◌+◌, ◌≤◌, length};
-ghost use Rattle.lexical_digits.specs.CallTable.{Span, Count, Flag, Done, Byte, Four, Eight, View};
+ghost use Rattle.lexical_digits.specs.declared.ops.Answer.TheVariants.{Span, Count, Flag, Done, Byte, Four, Eight, View};
 ghost use Rattle.lexical_digits.specs.CallTable as call;
 ghost use Rattle.lexical_plain.specs.Plain.{rest, MakesOnDigits, AnswersOnDigits};
 
