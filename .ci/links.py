@@ -4,7 +4,7 @@ a crate's. No page names a host of a package registry."""
 import os
 import re
 
-from sources import TOP, files_below, read
+from sources import TOP, files_below, read, slug_of
 
 # `](target)`, also with a title, and `, "heading"` after it; `[name]: target`; `<a href="target">`
 LINKS = re.compile(r'\]\(([^)\s]+)(?: "[^"]*")?\)(?:, "([^"]+)")?|^\[[^\]]+\]:\s+(\S+)|'
@@ -21,7 +21,7 @@ def slugs_of(text):
     """The anchors that a page has: of its headings, and those that it writes."""
     found, counts = set(re.findall(r'<a id="([^"]+)">', text)), {}
     for heading in re.findall(r"^#+ (.*)$", text, re.M):
-        slug = re.sub(r"[^\w\- ]", "", heading.lower()).replace(" ", "-")
+        slug = slug_of(heading)
         count = counts[slug] = counts.get(slug, -1) + 1
         found.add(f"{slug}-{count}" if count else slug)
     return found

@@ -46,6 +46,11 @@ def libraries():
     return [name for name in crates() if name not in INNER]
 
 
+def slug_of(heading):
+    """The anchor that a Markdown page gives to a heading."""
+    return re.sub(r"[^\w\- ]", "", heading.lower()).replace(" ", "-")
+
+
 def dedent(text):
     """Without the indentation of its least indented line; the first line has none already."""
     first, *lines = text.rstrip().split("\n")

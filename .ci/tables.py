@@ -46,27 +46,13 @@ def constants(*paths):
     return known
 
 
-class Value(ast.NodeVisitor):
-    """A row of a static as a value: numbers, texts as bytes, tuples and lists."""
-
-    def __init__(self, known):
-        self.known = known
-
-    def of(self, node):
-        if isinstance(node, ast.Constant):
-            value = node.value
-            return value.encode() if isinstance(value, str) else value
-        if isinstance(node, (ast.Tuple, ast.List)):
-            return tuple(self.of(part) for part in node.elts)
-        if isinstance(node, ast.Name) and node.id in self.known:
-            return self.known[node.id]
-        if isinstance(node, ast.BinOp):
-            left, right = self.of(node.left), self.of(node.right)
-            if isinstance(node.op, ast.BitOr):
-                return left | right
-            if isinstance(node.op, ast.LShift):
-                return left << right
-        raise ValueError(ast.dump(node)[:60])
+def value_of(node, known):
+    """A row of a static: numbers, texts as bytes, and tuples, also of what Rust has as an array."""
+    if isinstance(node, (ast.Tuple, ast.List)):
+        return tuple(value_of(part, known) for part in node.elts)
+    code = compile(ast.Expression(node), "<row>", "eval")
+    value = eval(code, {"__builtins__": {}}, known)
+    return value.encode() if isinstance(value, str) else value
 
 
 def statics(path, known):
@@ -75,15 +61,11 @@ def statics(path, known):
     for m in re.finditer(r"static (\w+): \[[^=]*= \[\n?(.*?)\];\n", text, re.S):
         body = re.sub(r"//[^\n]*", "", m[2])
         first = text.count("\n", 0, m.start(2)) + 1
-        rows = []
         try:
             tree = ast.parse(f"[\n{body}\n]", mode="eval").body
-            for node in tree.elts:
-                rows.append((Value(known).of(node), first + node.lineno - 2))
-        except (SyntaxError, ValueError) as error:
+            found[m[1]] = [(value_of(node, known), first + node.lineno - 2) for node in tree.elts]
+        except (SyntaxError, NameError, TypeError) as error:
             found[m[1]] = str(error)
-            continue
-        found[m[1]] = rows
     return found
 
 

@@ -3,11 +3,8 @@
 use crate::measure::Job;
 use crate::numbers::Type::{I32, I64, U128, U16, U32, U64, U8};
 use crate::texts::{
-    decimals, digits, each_third, exact_decimals, exact_literals, floats, fractions, hex_digits,
-    hex_numbers, lines, literals, long_decimals, middle_literals, middle_signed_literals, numbers,
-    others, runs, rust_literals, shortest_decimals, shortest_floats, shortest_lines,
-    shortest_literals, shortest_numbers, shortest_signed_literals, shortest_stopped_numbers,
-    signed_literals, stopped_numbers, tiny_literals, wide_literals, zeros, Text,
+    decimals, digits, each_third, floats, fractions, hex_digits, hex_numbers, lines, literals,
+    numbers, others, runs, rust_literals, signed, stopped, zeros, Text,
 };
 use crate::word::{I, IC, ILTC, I_16, I_IN_ALL, NONE, RUST};
 use crate::work::Sides;
@@ -25,16 +22,19 @@ struct Case {
 }
 
 impl Case {
-    fn new(name: &'static str, text: fn() -> Text, sides: Sides) -> Self {
-        Case { name, text, sides }
-    }
-
     fn run(&self, run: fn(&[Job])) {
         let text = &(self.text)();
         self.sides.check(self.name, text);
         let job = |(side, way)| Job { case: self.name, side, text, way };
         run(&self.sides.named().map(job).collect::<Vec<_>>());
     }
+}
+
+/// Cases: the name of each, its text, and the sides of its work.
+macro_rules! cases {
+    ($($name:literal: $text:expr, $kind:ident $(::<$word:ident>)? ($work:expr);)*) => {
+        vec![$(Case { name: $name, text: || $text, sides: Sides::$kind$(::<$word>)?($work) }),*]
+    };
 }
 
 /// Runs the wanted cases: measures them, or runs them once.
@@ -52,6 +52,7 @@ fn all() -> Vec<Case> {
         other_texts(),
         shortest_components(),
         number_texts(),
+        leading_numbers(),
         float_texts(),
     ];
     groups.into_iter().flatten().collect()
@@ -59,255 +60,192 @@ fn all() -> Vec<Case> {
 
 /// Long texts, by `next`.
 fn drains() -> Vec<Case> {
-    let [runs_16, runs_1000]: [fn() -> Text; 2] = [|| runs(16), || runs(1000)];
-    vec![
-        Case::new("a: no flags, digits, sum", digits, Sides::skip::<NONE>(Sum)),
-        Case::new("a: no flags, digits, number", digits, Sides::skip::<NONE>(Number)),
-        Case::new("a: plain cursor, sum", digits, Sides::plain(Sum)),
-        Case::new("a: plain cursor, number", digits, Sides::plain(Number)),
-        Case::new("b: I, digits, sum", digits, Sides::skip::<I>(Sum)),
-        Case::new("b: I, digits, number", digits, Sides::skip::<I>(Number)),
-        Case::new("b: I, radix 16, digits, number", hex_digits, Sides::skip::<I_16>(Number)),
-        Case::new("c: I, each third, sum", each_third, Sides::skip::<I>(Sum)),
-        Case::new("c: I, each third, number", each_third, Sides::skip::<I>(Number)),
-        Case::new("d: IC, each third, sum", each_third, Sides::skip::<IC>(Sum)),
-        Case::new("d: IC, each third, number", each_third, Sides::skip::<IC>(Number)),
-        Case::new("e: ILTC, runs of 16, number", runs_16, Sides::skip::<ILTC>(Number)),
-        Case::new("e: ILTC, runs of 1,000, number", runs_1000, Sides::skip::<ILTC>(Number)),
-    ]
+    cases! {
+        "a: no flags, digits, sum": digits(), skip::<NONE>(Sum);
+        "a: no flags, digits, number": digits(), skip::<NONE>(Number);
+        "a: plain cursor, sum": digits(), plain(Sum);
+        "a: plain cursor, number": digits(), plain(Number);
+        "b: I, digits, sum": digits(), skip::<I>(Sum);
+        "b: I, digits, number": digits(), skip::<I>(Number);
+        "b: I, radix 16, digits, number": hex_digits(), skip::<I_16>(Number);
+        "c: I, each third, sum": each_third(), skip::<I>(Sum);
+        "c: I, each third, number": each_third(), skip::<I>(Number);
+        "d: IC, each third, sum": each_third(), skip::<IC>(Sum);
+        "d: IC, each third, number": each_third(), skip::<IC>(Number);
+        "e: ILTC, runs of 16, number": runs(16), skip::<ILTC>(Number);
+        "e: ILTC, runs of 1,000, number": runs(1000), skip::<ILTC>(Number);
+    }
 }
 
 /// Many short texts.
 fn short_texts() -> Vec<Case> {
-    let [plain, grouped]: [fn() -> Text; 2] = [|| numbers(false), || numbers(true)];
-    let [stopped, grouped_stopped]: [fn() -> Text; 2] =
-        [|| stopped_numbers(false), || stopped_numbers(true)];
-    let grouped_hex = || hex_numbers(true);
-    vec![
-        Case::new("f: no flags, short numbers", plain, Sides::skip::<NONE>(Numbers)),
-        Case::new("f: I, short numbers", plain, Sides::skip::<I>(Numbers)),
-        Case::new("f: I, short grouped numbers", grouped, Sides::skip::<I>(Numbers)),
-        Case::new(
-            "f: I, radix 16, short grouped numbers",
-            grouped_hex,
-            Sides::skip::<I_16>(Numbers),
-        ),
-        Case::new("f: no flags, 1 to 4 digits", shortest_numbers, Sides::skip::<NONE>(Numbers)),
-        Case::new("f: I, 1 to 4 digits", shortest_numbers, Sides::skip::<I>(Numbers)),
-        Case::new(
-            "f: no flags, 1 to 4 digits, looks asked",
-            shortest_numbers,
-            Sides::skip::<NONE>(Asked),
-        ),
-        Case::new("f: I, 1 to 4 digits, looks asked", shortest_numbers, Sides::skip::<I>(Asked)),
-        Case::new("n: no flags, numbers to a comma", stopped, Sides::skip::<NONE>(Stopped)),
-        Case::new("n: I, numbers to a comma", stopped, Sides::skip::<I>(Stopped)),
-        Case::new("n: I, grouped numbers to a comma", grouped_stopped, Sides::skip::<I>(Stopped)),
-        Case::new(
-            "n: no flags, 1 to 4 digits to a comma",
-            shortest_stopped_numbers,
-            Sides::skip::<NONE>(Stopped),
-        ),
-        Case::new(
-            "n: I, 1 to 4 digits to a comma",
-            shortest_stopped_numbers,
-            Sides::skip::<I>(Stopped),
-        ),
-    ]
+    cases! {
+        "f: no flags, short numbers": numbers(8..=20, false), skip::<NONE>(Numbers);
+        "f: I, short numbers": numbers(8..=20, false), skip::<I>(Numbers);
+        "f: I, short grouped numbers": numbers(8..=20, true), skip::<I>(Numbers);
+        "f: I, radix 16, short grouped numbers": hex_numbers(8..=20, true), skip::<I_16>(Numbers);
+        "f: no flags, 1 to 4 digits": numbers(1..=4, false), skip::<NONE>(Numbers);
+        "f: I, 1 to 4 digits": numbers(1..=4, false), skip::<I>(Numbers);
+        "f: no flags, 1 to 4 digits, looks asked": numbers(1..=4, false), skip::<NONE>(Asked);
+        "f: I, 1 to 4 digits, looks asked": numbers(1..=4, false), skip::<I>(Asked);
+        "n: no flags, numbers to a comma": stopped(8..=20, false), skip::<NONE>(Stopped);
+        "n: I, numbers to a comma": stopped(8..=20, false), skip::<I>(Stopped);
+        "n: I, grouped numbers to a comma": stopped(8..=20, true), skip::<I>(Stopped);
+        "n: no flags, 1 to 4 digits to a comma": stopped(1..=4, false), skip::<NONE>(Stopped);
+        "n: I, 1 to 4 digits to a comma": stopped(1..=4, false), skip::<I>(Stopped);
+    }
 }
 
 /// Long texts, by `peek` and `next`, where the `Bytes` is handed in, and eight bytes at a time.
 fn other_calls() -> Vec<Case> {
-    vec![
-        Case::new("h: no flags, digits, peeked", digits, Sides::skip::<NONE>(Peeked)),
-        Case::new("h: plain cursor, peeked", digits, Sides::plain(Peeked)),
-        Case::new("h: I, digits, peeked", digits, Sides::skip::<I>(Peeked)),
-        Case::new("h: I, each third, peeked", each_third, Sides::skip::<I>(Peeked)),
-        Case::new("i: no flags, digits, handed in", digits, Sides::skip::<NONE>(Handed)),
-        Case::new("i: I, digits, handed in", digits, Sides::skip::<I>(Handed)),
-        Case::new("i: I, each third, handed in", each_third, Sides::skip::<I>(Handed)),
-        Case::new("r: no flags, digits, eight at a time", digits, Sides::skip::<NONE>(Eights)),
-    ]
+    cases! {
+        "h: no flags, digits, peeked": digits(), skip::<NONE>(Peeked);
+        "h: plain cursor, peeked": digits(), plain(Peeked);
+        "h: I, digits, peeked": digits(), skip::<I>(Peeked);
+        "h: I, each third, peeked": each_third(), skip::<I>(Peeked);
+        "i: no flags, digits, handed in": digits(), skip::<NONE>(Handed);
+        "i: I, digits, handed in": digits(), skip::<I>(Handed);
+        "i: I, each third, handed in": each_third(), skip::<I>(Handed);
+        "r: no flags, digits, eight at a time": digits(), skip::<NONE>(Eights);
+    }
 }
 
 /// Integer literals, digits and zeros, by `digit_literals`.
 fn literal_texts() -> Vec<Case> {
-    let [plain, grouped]: [fn() -> Text; 2] = [|| literals(false), || literals(true)];
-    let [stopped, grouped_stopped]: [fn() -> Text; 2] =
-        [|| stopped_numbers(false), || stopped_numbers(true)];
-    let [signed, grouped_signed]: [fn() -> Text; 2] =
-        [|| signed_literals(false), || signed_literals(true)];
-    let grouped_zeros = || zeros(true);
-    let [lines, grouped_lines]: [fn() -> Text; 2] = [|| lines(false), || lines(true)];
-    vec![
-        Case::new("j: no flags, literals", plain, Sides::skip::<NONE>(Literals)),
-        Case::new("j: I, literals", plain, Sides::skip::<I>(Literals)),
-        Case::new("j: I, grouped literals", grouped, Sides::skip::<I>(Literals)),
-        Case::new("j: no flags, 1 to 4 digits", shortest_literals, Sides::skip::<NONE>(Literals)),
-        Case::new("j: I, 1 to 4 digits", shortest_literals, Sides::skip::<I>(Literals)),
-        Case::new("p: no flags, parse_integer", plain, Sides::skip::<NONE>(Parsed)),
-        Case::new("p: I, grouped, parse_integer", grouped, Sides::skip::<I>(Parsed)),
-        Case::new(
-            "p: no flags, 1 to 4 digits, parse_integer",
-            shortest_literals,
-            Sides::skip::<NONE>(Parsed),
-        ),
-        Case::new(
-            "p: I, 1 to 4 digits, parse_integer",
-            shortest_literals,
-            Sides::skip::<I>(Parsed),
-        ),
-        Case::new("p: no flags, parse_signed", signed, Sides::skip::<NONE>(Signed)),
-        Case::new("p: I, grouped, parse_signed", grouped_signed, Sides::skip::<I>(Signed)),
-        Case::new("p: I, grouped, count_digits", grouped, Sides::skip::<I>(Counted)),
-        Case::new("t: no flags, lines", lines, Sides::skip::<NONE>(Lines)),
-        Case::new("t: I, grouped, lines", grouped_lines, Sides::skip::<I>(Lines)),
-        Case::new("t: no flags, 1 to 4 digits", shortest_lines, Sides::skip::<NONE>(Lines)),
-        Case::new("t: I, 1 to 4 digits", shortest_lines, Sides::skip::<I>(Lines)),
-        Case::new("q: no flags, clear_counts", stopped, Sides::skip::<NONE>(Cleared)),
-        Case::new("q: I, grouped, clear_counts", grouped_stopped, Sides::skip::<I>(Cleared)),
-        Case::new("o: no flags, pass_digits", stopped, Sides::skip::<NONE>(Digits)),
-        Case::new("o: I, grouped, pass_digits", grouped_stopped, Sides::skip::<I>(Digits)),
-        Case::new(
-            "o: no flags, 1 to 4 digits, pass_digits",
-            shortest_stopped_numbers,
-            Sides::skip::<NONE>(Digits),
-        ),
-        Case::new(
-            "o: I, 1 to 4 digits, pass_digits",
-            shortest_stopped_numbers,
-            Sides::skip::<I>(Digits),
-        ),
-        Case::new("o: I, grouped, pass_zeros", grouped_zeros, Sides::skip::<I>(Zeros)),
-    ]
+    cases! {
+        "j: no flags, literals": literals(8..=20, false), skip::<NONE>(Literals);
+        "j: I, literals": literals(8..=20, false), skip::<I>(Literals);
+        "j: I, grouped literals": literals(8..=20, true), skip::<I>(Literals);
+        "j: no flags, 1 to 4 digits": literals(1..=4, false), skip::<NONE>(Literals);
+        "j: I, 1 to 4 digits": literals(1..=4, false), skip::<I>(Literals);
+        "p: no flags, parse_integer": literals(8..=20, false), skip::<NONE>(Parsed);
+        "p: I, grouped, parse_integer": literals(8..=20, true), skip::<I>(Parsed);
+        "p: no flags, 1 to 4 digits, parse_integer": literals(1..=4, false), skip::<NONE>(Parsed);
+        "p: I, 1 to 4 digits, parse_integer": literals(1..=4, false), skip::<I>(Parsed);
+        "p: no flags, parse_signed": signed(8..=20, false), skip::<NONE>(Signed);
+        "p: I, grouped, parse_signed": signed(8..=20, true), skip::<I>(Signed);
+        "p: I, grouped, count_digits": literals(8..=20, true), skip::<I>(Counted);
+        "t: no flags, lines": lines(8..=18, false), skip::<NONE>(Lines);
+        "t: I, grouped, lines": lines(8..=18, true), skip::<I>(Lines);
+        "t: no flags, 1 to 4 digits": lines(1..=4, false), skip::<NONE>(Lines);
+        "t: I, 1 to 4 digits": lines(1..=4, false), skip::<I>(Lines);
+        "q: no flags, clear_counts": stopped(8..=20, false), skip::<NONE>(Cleared);
+        "q: I, grouped, clear_counts": stopped(8..=20, true), skip::<I>(Cleared);
+        "o: no flags, pass_digits": stopped(8..=20, false), skip::<NONE>(Digits);
+        "o: I, grouped, pass_digits": stopped(8..=20, true), skip::<I>(Digits);
+        "o: no flags, 1 to 4 digits, pass_digits": stopped(1..=4, false), skip::<NONE>(Digits);
+        "o: I, 1 to 4 digits, pass_digits": stopped(1..=4, false), skip::<I>(Digits);
+        "o: I, grouped, pass_zeros": zeros(8..=20, true), skip::<I>(Zeros);
+    }
 }
 
 /// Bytes that are neither digits nor separators, and numbers of three components.
 fn other_texts() -> Vec<Case> {
-    let [plain, grouped]: [fn() -> Text; 2] = [|| floats(false), || floats(true)];
-    vec![
-        Case::new("k: no flags, other bytes, number", others, Sides::skip::<NONE>(Number)),
-        Case::new("k: I, other bytes, sum", others, Sides::skip::<I>(Sum)),
-        Case::new("k: I, other bytes, number", others, Sides::skip::<I>(Number)),
-        Case::new("k: I, other bytes, peeked", others, Sides::skip::<I>(Peeked)),
-        Case::new("l: no flags, three components", plain, Sides::skip::<NONE>(Floats)),
-        Case::new("l: I, three grouped components", grouped, Sides::skip::<I_IN_ALL>(Floats)),
-        Case::new("l: no flags, by next_of", plain, Sides::skip::<NONE>(FloatsOf)),
-        Case::new("l: I, grouped, by next_of", grouped, Sides::skip::<I_IN_ALL>(FloatsOf)),
-        Case::new("l: no flags, by read_digits_of", plain, Sides::skip::<NONE>(Mantissas)),
-        Case::new("l: I, grouped, by read_digits_of", grouped, Sides::skip::<I_IN_ALL>(Mantissas)),
-        Case::new("s: no flags, mantissa and exponent", plain, Sides::skip::<NONE>(Parts)),
-        Case::new("s: I, grouped, mantissa and exponent", grouped, Sides::skip::<I_IN_ALL>(Parts)),
-    ]
+    cases! {
+        "k: no flags, other bytes, number": others(), skip::<NONE>(Number);
+        "k: I, other bytes, sum": others(), skip::<I>(Sum);
+        "k: I, other bytes, number": others(), skip::<I>(Number);
+        "k: I, other bytes, peeked": others(), skip::<I>(Peeked);
+        "l: no flags, three components": floats(4..=9, 2, false), skip::<NONE>(Floats);
+        "l: I, three grouped components": floats(4..=9, 2, true), skip::<I_IN_ALL>(Floats);
+        "l: no flags, by next_of": floats(4..=9, 2, false), skip::<NONE>(FloatsOf);
+        "l: I, grouped, by next_of": floats(4..=9, 2, true), skip::<I_IN_ALL>(FloatsOf);
+        "l: no flags, by read_digits_of": floats(4..=9, 2, false), skip::<NONE>(Mantissas);
+        "l: I, grouped, by read_digits_of": floats(4..=9, 2, true), skip::<I_IN_ALL>(Mantissas);
+        "s: no flags, mantissa and exponent": floats(4..=9, 2, false), skip::<NONE>(Parts);
+        "s: I, grouped, mantissa and exponent": floats(4..=9, 2, true), skip::<I_IN_ALL>(Parts);
+    }
 }
 
 /// Numbers of three components, of 1 to 4 digits each.
 fn shortest_components() -> Vec<Case> {
-    let text: fn() -> Text = shortest_floats;
-    vec![
-        Case::new("l: no flags, 1 to 4 digits", text, Sides::skip::<NONE>(Floats)),
-        Case::new("l: I, 1 to 4 digits", text, Sides::skip::<I_IN_ALL>(Floats)),
-        Case::new("l: no flags, 1 to 4 digits, by next_of", text, Sides::skip::<NONE>(FloatsOf)),
-        Case::new("l: I, 1 to 4 digits, by next_of", text, Sides::skip::<I_IN_ALL>(FloatsOf)),
-        Case::new(
-            "l: no flags, 1 to 4 digits, read_digits_of",
-            text,
-            Sides::skip::<NONE>(Mantissas),
-        ),
-        Case::new("l: I, 1 to 4 digits, read_digits_of", text, Sides::skip::<I_IN_ALL>(Mantissas)),
-        Case::new("s: no flags, 1 to 4 digits", text, Sides::skip::<NONE>(Parts)),
-        Case::new("s: I, 1 to 4 digits", text, Sides::skip::<I_IN_ALL>(Parts)),
-    ]
+    cases! {
+        "l: no flags, 1 to 4 digits": floats(1..=4, 1, false), skip::<NONE>(Floats);
+        "l: I, 1 to 4 digits": floats(1..=4, 1, false), skip::<I_IN_ALL>(Floats);
+        "l: no flags, 1 to 4 digits, by next_of": floats(1..=4, 1, false), skip::<NONE>(FloatsOf);
+        "l: I, 1 to 4 digits, by next_of": floats(1..=4, 1, false), skip::<I_IN_ALL>(FloatsOf);
+        "l: no flags, 1 to 4 digits, read_digits_of":
+            floats(1..=4, 1, false), skip::<NONE>(Mantissas);
+        "l: I, 1 to 4 digits, read_digits_of": floats(1..=4, 1, false), skip::<I_IN_ALL>(Mantissas);
+        "s: no flags, 1 to 4 digits": floats(1..=4, 1, false), skip::<NONE>(Parts);
+        "s: I, 1 to 4 digits": floats(1..=4, 1, false), skip::<I_IN_ALL>(Parts);
+    }
 }
 
-/// Numbers of other types than those of p, and literals of Rust.
+/// Numbers of other types than those of p.
 fn number_texts() -> Vec<Case> {
-    let tiny: fn() -> Text = tiny_literals;
-    let short: fn() -> Text = shortest_literals;
-    let signed: fn() -> Text = shortest_signed_literals;
-    let [plain, grouped]: [fn() -> Text; 2] = [|| literals(false), || literals(true)];
-    let [middle, grouped_middle]: [fn() -> Text; 2] =
-        [|| middle_literals(false), || middle_literals(true)];
-    let [middle_signed, grouped_signed]: [fn() -> Text; 2] =
-        [|| middle_signed_literals(false), || middle_signed_literals(true)];
-    let [wide, grouped_wide]: [fn() -> Text; 2] = [|| wide_literals(false), || wide_literals(true)];
-    let [rust, grouped_rust]: [fn() -> Text; 2] = [|| rust_literals(false), || rust_literals(true)];
-    let none = |name, text, of| Case::new(name, text, Sides::skip::<NONE>(NumberOf(of)));
-    let internal = |name, text, of| Case::new(name, text, Sides::skip::<I>(NumberOf(of)));
-    let read_none = |name, text, of| Case::new(name, text, Sides::skip::<NONE>(NumberFrom(of)));
-    let read = |name, text, of| Case::new(name, text, Sides::skip::<I>(NumberFrom(of)));
-    vec![
-        none("u: no flags, 1 or 2 digits, u8", tiny, U8),
-        internal("u: I, 1 or 2 digits, u8", tiny, U8),
-        none("u: no flags, 1 to 4 digits, u16", short, U16),
-        internal("u: I, 1 to 4 digits, u16", short, U16),
-        none("u: no flags, u32", middle, U32),
-        internal("u: I, grouped, u32", grouped_middle, U32),
-        none("u: no flags, 1 to 4 digits, u32", short, U32),
-        internal("u: I, 1 to 4 digits, u32", short, U32),
-        none("u: no flags, i32", middle_signed, I32),
-        internal("u: I, grouped, i32", grouped_signed, I32),
-        none("u: no flags, 1 to 4 digits, i32", signed, I32),
-        internal("u: I, 1 to 4 digits, i32", signed, I32),
-        none("u: no flags, 1 to 4 digits, i64", signed, I64),
-        internal("u: I, 1 to 4 digits, i64", signed, I64),
-        none("u: no flags, u128", plain, U128),
-        internal("u: I, grouped, u128", grouped, U128),
-        none("u: no flags, 1 to 4 digits, u128", short, U128),
-        internal("u: I, 1 to 4 digits, u128", short, U128),
-        none("u: no flags, 20 to 39 digits, u128", wide, U128),
-        internal("u: I, grouped, 20 to 39 digits, u128", grouped_wide, U128),
-        read_none("v: no flags, u64", plain, U64),
-        read("v: I, grouped, u64", grouped, U64),
-        read_none("v: no flags, 1 to 4 digits, u64", short, U64),
-        read("v: I, 1 to 4 digits, u64", short, U64),
-        read_none("v: no flags, 1 to 4 digits, u32", short, U32),
-        read("v: I, 1 to 4 digits, u32", short, U32),
-        read_none("v: no flags, i64", plain, I64),
-        read("v: I, grouped, i64", grouped, I64),
-        read_none("v: no flags, 1 to 4 digits, i64", short, I64),
-        read("v: I, 1 to 4 digits, i64", short, I64),
-        read_none("v: no flags, u128", plain, U128),
-        read("v: I, grouped, u128", grouped, U128),
-        read_none("v: no flags, 1 to 4 digits, u128", short, U128),
-        read("v: I, 1 to 4 digits, u128", short, U128),
-        Case::new("w: literals of Rust", rust, Sides::skip::<RUST>(RustLiterals)),
-        Case::new("w: grouped literals of Rust", grouped_rust, Sides::skip::<RUST>(RustLiterals)),
-    ]
+    cases! {
+        "u: no flags, 1 or 2 digits, u8": literals(1..=2, false), skip::<NONE>(NumberOf(U8));
+        "u: I, 1 or 2 digits, u8": literals(1..=2, false), skip::<I>(NumberOf(U8));
+        "u: no flags, 1 to 4 digits, u16": literals(1..=4, false), skip::<NONE>(NumberOf(U16));
+        "u: I, 1 to 4 digits, u16": literals(1..=4, false), skip::<I>(NumberOf(U16));
+        "u: no flags, u32": literals(8..=9, false), skip::<NONE>(NumberOf(U32));
+        "u: I, grouped, u32": literals(8..=9, true), skip::<I>(NumberOf(U32));
+        "u: no flags, 1 to 4 digits, u32": literals(1..=4, false), skip::<NONE>(NumberOf(U32));
+        "u: I, 1 to 4 digits, u32": literals(1..=4, false), skip::<I>(NumberOf(U32));
+        "u: no flags, i32": signed(8..=9, false), skip::<NONE>(NumberOf(I32));
+        "u: I, grouped, i32": signed(8..=9, true), skip::<I>(NumberOf(I32));
+        "u: no flags, 1 to 4 digits, i32": signed(1..=4, false), skip::<NONE>(NumberOf(I32));
+        "u: I, 1 to 4 digits, i32": signed(1..=4, false), skip::<I>(NumberOf(I32));
+        "u: no flags, 1 to 4 digits, i64": signed(1..=4, false), skip::<NONE>(NumberOf(I64));
+        "u: I, 1 to 4 digits, i64": signed(1..=4, false), skip::<I>(NumberOf(I64));
+        "u: no flags, u128": literals(8..=20, false), skip::<NONE>(NumberOf(U128));
+        "u: I, grouped, u128": literals(8..=20, true), skip::<I>(NumberOf(U128));
+        "u: no flags, 1 to 4 digits, u128": literals(1..=4, false), skip::<NONE>(NumberOf(U128));
+        "u: I, 1 to 4 digits, u128": literals(1..=4, false), skip::<I>(NumberOf(U128));
+        "u: no flags, 20 to 39 digits, u128":
+            literals(20..=39, false), skip::<NONE>(NumberOf(U128));
+        "u: I, grouped, 20 to 39 digits, u128": literals(20..=39, true), skip::<I>(NumberOf(U128));
+    }
+}
+
+/// Numbers that a text begins with, and literals of Rust.
+fn leading_numbers() -> Vec<Case> {
+    cases! {
+        "v: no flags, u64": literals(8..=20, false), skip::<NONE>(NumberFrom(U64));
+        "v: I, grouped, u64": literals(8..=20, true), skip::<I>(NumberFrom(U64));
+        "v: no flags, 1 to 4 digits, u64": literals(1..=4, false), skip::<NONE>(NumberFrom(U64));
+        "v: I, 1 to 4 digits, u64": literals(1..=4, false), skip::<I>(NumberFrom(U64));
+        "v: no flags, 1 to 4 digits, u32": literals(1..=4, false), skip::<NONE>(NumberFrom(U32));
+        "v: I, 1 to 4 digits, u32": literals(1..=4, false), skip::<I>(NumberFrom(U32));
+        "v: no flags, i64": literals(8..=20, false), skip::<NONE>(NumberFrom(I64));
+        "v: I, grouped, i64": literals(8..=20, true), skip::<I>(NumberFrom(I64));
+        "v: no flags, 1 to 4 digits, i64": literals(1..=4, false), skip::<NONE>(NumberFrom(I64));
+        "v: I, 1 to 4 digits, i64": literals(1..=4, false), skip::<I>(NumberFrom(I64));
+        "v: no flags, u128": literals(8..=20, false), skip::<NONE>(NumberFrom(U128));
+        "v: I, grouped, u128": literals(8..=20, true), skip::<I>(NumberFrom(U128));
+        "v: no flags, 1 to 4 digits, u128": literals(1..=4, false), skip::<NONE>(NumberFrom(U128));
+        "v: I, 1 to 4 digits, u128": literals(1..=4, false), skip::<I>(NumberFrom(U128));
+        "w: literals of Rust": rust_literals(false), skip::<RUST>(RustLiterals);
+        "w: grouped literals of Rust": rust_literals(true), skip::<RUST>(RustLiterals);
+    }
 }
 
 /// Floats.
 fn float_texts() -> Vec<Case> {
-    let [plain, grouped]: [fn() -> Text; 2] = [|| literals(false), || literals(true)];
-    let [exact, grouped_exact]: [fn() -> Text; 2] =
-        [|| exact_literals(false), || exact_literals(true)];
-    let [exact_points, grouped_exact_points]: [fn() -> Text; 2] =
-        [|| exact_decimals(false), || exact_decimals(true)];
-    let [points, grouped_points]: [fn() -> Text; 2] = [|| decimals(false), || decimals(true)];
-    let [powers, grouped_powers]: [fn() -> Text; 2] = [|| floats(false), || floats(true)];
-    let [long, grouped_long]: [fn() -> Text; 2] = [|| long_decimals(false), || long_decimals(true)];
-    let none = |name, text| Case::new(name, text, Sides::skip::<NONE>(Nearest));
-    let internal = |name, text| Case::new(name, text, Sides::skip::<I_IN_ALL>(Nearest));
-    vec![
-        none("x: no flags, integers of 1 to 4 digits", shortest_literals),
-        internal("x: I, integers of 1 to 4 digits", shortest_literals),
-        none("x: no flags, integers of 8 to 15 digits", exact),
-        internal("x: I, grouped integers of 8 to 15 digits", grouped_exact),
-        none("x: no flags, integers of 8 to 20 digits", plain),
-        internal("x: I, grouped integers of 8 to 20 digits", grouped),
-        none("x: no flags, 1 to 4 digits, a point", shortest_decimals),
-        internal("x: I, 1 to 4 digits, a point", shortest_decimals),
-        none("x: no flags, 8 to 14 digits, a point", exact_points),
-        internal("x: I, grouped, 8 to 14 digits, a point", grouped_exact_points),
-        none("x: no flags, 8 to 20 digits, a point", points),
-        internal("x: I, grouped, 8 to 20 digits, a point", grouped_points),
-        none("x: no flags, 1 to 4 digits, an exponent", shortest_floats),
-        internal("x: I, 1 to 4 digits, an exponent", shortest_floats),
-        none("x: no flags, 8 to 18 digits, an exponent", powers),
-        internal("x: I, grouped, 8 to 18 digits, an exponent", grouped_powers),
-        none("x: no flags, 18 to 40 digits", long),
-        internal("x: I, grouped, 18 to 40 digits", grouped_long),
-        none("x: no flags, in [0, 1) with 17 digits", fractions),
-        internal("x: I, in [0, 1) with 17 digits", fractions),
-    ]
+    cases! {
+        "x: no flags, integers of 1 to 4 digits": literals(1..=4, false), skip::<NONE>(Nearest);
+        "x: I, integers of 1 to 4 digits": literals(1..=4, false), skip::<I_IN_ALL>(Nearest);
+        "x: no flags, integers of 8 to 15 digits": literals(8..=15, false), skip::<NONE>(Nearest);
+        "x: I, grouped integers of 8 to 15 digits":
+            literals(8..=15, true), skip::<I_IN_ALL>(Nearest);
+        "x: no flags, integers of 8 to 20 digits": literals(8..=20, false), skip::<NONE>(Nearest);
+        "x: I, grouped integers of 8 to 20 digits":
+            literals(8..=20, true), skip::<I_IN_ALL>(Nearest);
+        "x: no flags, 1 to 4 digits, a point": decimals(1..=4, false), skip::<NONE>(Nearest);
+        "x: I, 1 to 4 digits, a point": decimals(1..=4, false), skip::<I_IN_ALL>(Nearest);
+        "x: no flags, 8 to 14 digits, a point": decimals(4..=7, false), skip::<NONE>(Nearest);
+        "x: I, grouped, 8 to 14 digits, a point": decimals(4..=7, true), skip::<I_IN_ALL>(Nearest);
+        "x: no flags, 8 to 20 digits, a point": decimals(4..=10, false), skip::<NONE>(Nearest);
+        "x: I, grouped, 8 to 20 digits, a point": decimals(4..=10, true), skip::<I_IN_ALL>(Nearest);
+        "x: no flags, 1 to 4 digits, an exponent": floats(1..=4, 1, false), skip::<NONE>(Nearest);
+        "x: I, 1 to 4 digits, an exponent": floats(1..=4, 1, false), skip::<I_IN_ALL>(Nearest);
+        "x: no flags, 8 to 18 digits, an exponent": floats(4..=9, 2, false), skip::<NONE>(Nearest);
+        "x: I, grouped, 8 to 18 digits, an exponent":
+            floats(4..=9, 2, true), skip::<I_IN_ALL>(Nearest);
+        "x: no flags, 18 to 40 digits": decimals(9..=20, false), skip::<NONE>(Nearest);
+        "x: I, grouped, 18 to 40 digits": decimals(9..=20, true), skip::<I_IN_ALL>(Nearest);
+        "x: no flags, in [0, 1) with 17 digits": fractions(), skip::<NONE>(Nearest);
+        "x: I, in [0, 1) with 17 digits": fractions(), skip::<I_IN_ALL>(Nearest);
+    }
 }

@@ -2,7 +2,7 @@
 //! cursor, no call for each byte, and no count.
 
 use crate::library::Outcome;
-use crate::numbers::{self, for_type};
+use crate::numbers::{self, for_type, of_value};
 use crate::texts::Text;
 use crate::word::{Class, Rule};
 use crate::work::{each, float_of, with_digit, with_eight, Way, Work};
@@ -22,10 +22,11 @@ pub fn filtered<const WORD: u128>(work: Work) -> Option<Way> {
         Work::Numbers | Work::Asked => {
             Some(Box::new(|text| each(text, |text| of_value(number::<WORD>(text)))))
         }
-        Work::Literals => Some(Box::new(|text| each_parsed(text, Rule::<WORD>::RADIX))),
         Work::Floats | Work::FloatsOf => Some(Box::new(|text| each(text, float::<WORD>))),
-        Work::Parsed | Work::Lines => Some(Box::new(|text| each_parsed(text, Rule::<WORD>::RADIX))),
-        Work::Signed => Some(Box::new(each_signed)),
+        Work::Literals | Work::Parsed | Work::Lines => {
+            Some(Box::new(|text| each_parsed(text, Rule::<WORD>::RADIX)))
+        }
+        Work::Signed => Some(Box::new(numbers::each_parsed::<i64>)),
         Work::Counted => Some(Box::new(|text| each(text, counted::<WORD>))),
         Work::Cleared => Some(Box::new(|text| of_value(sum_of_numbers::<WORD>(&text.bytes)))),
         Work::Parts => Some(Box::new(each_float)),
@@ -49,18 +50,6 @@ fn each_parsed(text: &Text, radix: u32) -> Outcome {
             _ => u64::from_str_radix(first, radix),
         };
         total = total.wrapping_add(value.unwrap_or(0));
-        rest = others;
-    }
-    of_value(total)
-}
-
-/// The same with a sign, in radix 10.
-fn each_signed(text: &Text) -> Outcome {
-    let mut total = 0u64;
-    let mut rest = &text.digits[..];
-    for &length in &text.digit_lengths {
-        let (first, others) = rest.split_at(length.into());
-        total = total.wrapping_add(first.parse::<i64>().unwrap_or(0) as u64);
         rest = others;
     }
     of_value(total)
@@ -117,10 +106,6 @@ fn float<const WORD: u128>(text: &[u8]) -> Outcome {
         *value = number::<WORD>(component);
     }
     of_value(float_of(numbers))
-}
-
-fn of_value(value: u64) -> Outcome {
-    Outcome { value, ..Outcome::default() }
 }
 
 /// Hands each kept byte to `keep`.

@@ -2,8 +2,8 @@
 
 use crate::library::{self, Format};
 use crate::measure::Job;
-use crate::told::{self, Side};
 use crate::texts::{self, Text};
+use crate::told::{self, Side};
 use crate::word::{IC, LC};
 use crate::work::{Sides, Way, Work};
 

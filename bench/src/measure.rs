@@ -1,8 +1,8 @@
 //! The clock.
 
 use crate::library::Outcome;
-use crate::told::{self, Side};
 use crate::texts::Text;
+use crate::told::{self, Side};
 use crate::work::Way;
 use std::hint::black_box;
 use std::time::{Duration, Instant};

@@ -217,6 +217,7 @@ fn each_digits(text: &Text, value: impl Fn(&str) -> u64) -> Outcome {
     of_value(total)
 }
 
-fn of_value(value: u64) -> Outcome {
+/// What came to a value, without counts.
+pub fn of_value(value: u64) -> Outcome {
     Outcome { value, ..Outcome::default() }
 }

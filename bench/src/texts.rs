@@ -107,39 +107,24 @@ pub fn runs(length: usize) -> Text {
     text_of(|at, random| if at / length % 2 == 1 { b'_' } else { random.digit() })
 }
 
-/// How many bytes or digits the numbers have that are called short.
-const SHORT: RangeInclusive<u64> = 8..=20;
-/// How many digits the shortest numbers have.
-const SHORTEST: RangeInclusive<u64> = 1..=4;
-
-/// Numbers of 8 to 20 bytes; grouped by threes where `grouped` says so.
-pub fn numbers(grouped: bool) -> Text {
-    numbers_of(SHORT, grouped, Random::digit, None)
+/// Numbers of so many bytes; grouped by threes where `grouped` says so.
+pub fn numbers(lengths: RangeInclusive<u64>, grouped: bool) -> Text {
+    numbers_of(lengths, grouped, Random::digit, None)
 }
 
-/// Numbers of 1 to 4 digits.
-pub fn shortest_numbers() -> Text {
-    numbers_of(SHORTEST, false, Random::digit, None)
-}
-
-/// The same, each with a comma after it.
-pub fn shortest_stopped_numbers() -> Text {
-    numbers_of(SHORTEST, false, Random::digit, Some(b','))
-}
-
-/// Numbers of 8 to 20 bytes in radix 16; grouped likewise.
-pub fn hex_numbers(grouped: bool) -> Text {
-    numbers_of(SHORT, grouped, Random::hex_digit, None)
+/// The same in radix 16.
+pub fn hex_numbers(lengths: RangeInclusive<u64>, grouped: bool) -> Text {
+    numbers_of(lengths, grouped, Random::hex_digit, None)
 }
 
 /// The same in radix 10, each with a comma after it.
-pub fn stopped_numbers(grouped: bool) -> Text {
-    numbers_of(SHORT, grouped, Random::digit, Some(b','))
+pub fn stopped(lengths: RangeInclusive<u64>, grouped: bool) -> Text {
+    numbers_of(lengths, grouped, Random::digit, Some(b','))
 }
 
-/// Numbers of 8 to 20 zeros and a 7 after each.
-pub fn zeros(grouped: bool) -> Text {
-    numbers_of(SHORT, grouped, |_| b'0', Some(b'7'))
+/// The same of zeros, each with a 7 after it.
+pub fn zeros(lengths: RangeInclusive<u64>, grouped: bool) -> Text {
+    numbers_of(lengths, grouped, |_| b'0', Some(b'7'))
 }
 
 /// Numbers of so many bytes, with the byte `end` after each.
@@ -163,50 +148,20 @@ fn numbers_of(
     text
 }
 
-/// Numbers of 8 to 20 digits, some above `u64::MAX`, and the same digits
-/// without separators; grouped by threes where `grouped` says so.
-pub fn literals(grouped: bool) -> Text {
-    literals_of(SHORT, grouped, |_| None, None)
+/// Numbers of so many digits, and the same digits without separators; grouped by threes where
+/// `grouped` says so.
+pub fn literals(lengths: RangeInclusive<u64>, grouped: bool) -> Text {
+    literals_of(lengths, grouped, |_| None, None)
 }
 
-/// Numbers of 1 to 4 digits.
-pub fn shortest_literals() -> Text {
-    literals_of(SHORTEST, false, |_| None, None)
+/// The same with a sign before two of three.
+pub fn signed(lengths: RangeInclusive<u64>, grouped: bool) -> Text {
+    literals_of(lengths, grouped, Random::sign, None)
 }
 
-/// The same, each on a line of its own.
-pub fn shortest_lines() -> Text {
-    literals_of(SHORTEST, false, |_| None, Some(b'\n'))
-}
-
-/// Numbers of 1 or 2 digits, which a `u8` holds.
-pub fn tiny_literals() -> Text {
-    literals_of(1..=2, false, |_| None, None)
-}
-
-/// Numbers of 8 or 9 digits, which 32 bits hold; grouped likewise.
-pub fn middle_literals(grouped: bool) -> Text {
-    literals_of(8..=9, grouped, |_| None, None)
-}
-
-/// Numbers of 8 to 15 digits, which an `f64` holds; grouped likewise.
-pub fn exact_literals(grouped: bool) -> Text {
-    literals_of(8..=15, grouped, |_| None, None)
-}
-
-/// Numbers of 20 to 39 digits, some above `u128::MAX`; grouped likewise.
-pub fn wide_literals(grouped: bool) -> Text {
-    literals_of(20..=39, grouped, |_| None, None)
-}
-
-/// Numbers of 1 to 4 digits, with a sign before two of three.
-pub fn shortest_signed_literals() -> Text {
-    literals_of(SHORTEST, false, Random::sign, None)
-}
-
-/// The same of 8 or 9 digits; grouped likewise.
-pub fn middle_signed_literals(grouped: bool) -> Text {
-    literals_of(8..=9, grouped, Random::sign, None)
+/// The same without signs, each on a line of its own.
+pub fn lines(lengths: RangeInclusive<u64>, grouped: bool) -> Text {
+    literals_of(lengths, grouped, |_| None, Some(b'\n'))
 }
 
 /// Literals of Rust: of each radix as many, of 4 to 16 digits; grouped by threes where `grouped`
@@ -228,16 +183,6 @@ pub fn rust_literals(grouped: bool) -> Text {
             bytes.push(digits[random.below(digits.len() as u64) as usize]);
         }
     })
-}
-
-/// Literals as `literals` makes, with a sign before two of three.
-pub fn signed_literals(grouped: bool) -> Text {
-    literals_of(SHORT, grouped, Random::sign, None)
-}
-
-/// The same without signs, of 8 to 18 digits, each on a line of its own.
-pub fn lines(grouped: bool) -> Text {
-    literals_of(8..=18, grouped, |_| None, Some(b'\n'))
 }
 
 fn literals_of(
@@ -274,44 +219,20 @@ pub fn others() -> Text {
     text_of(|_, random| random.letter())
 }
 
-/// Numbers of an integer and a fraction of 4 to 9 digits each and an exponent of two, as
-/// `1234.56789e12`, and the same without separators; with separators, as in
-/// `123_456.789_012e1_0`, where `grouped` says so.
-pub fn floats(grouped: bool) -> Text {
-    floats_of(4..=9, 2..=2, grouped)
-}
-
-/// Numbers with 1 to 4 digits in the integer and in the fraction, and 1 in the exponent.
-pub fn shortest_floats() -> Text {
-    floats_of(SHORTEST, 1..=1, false)
-}
-
-fn floats_of(digits: RangeInclusive<u64>, exponent: RangeInclusive<u64>, grouped: bool) -> Text {
+/// Numbers of an integer, a fraction and an exponent of so many digits each, as `1234.56789e12`, and
+/// the same without separators; with separators, as in `123_456.789_012e1_0`, where `grouped` says
+/// so.
+pub fn floats(digits: RangeInclusive<u64>, exponent: u64, grouped: bool) -> Text {
     numbers_by(|random, bytes| {
         random.push_decimal(bytes, digits.clone(), grouped);
         bytes.push(b'e');
-        random.push_component(bytes, exponent.clone(), grouped.then_some(1));
+        random.push_component(bytes, exponent..=exponent, grouped.then_some(1));
     })
 }
 
-/// Numbers of an integer and a fraction, each of 1 to 4 digits: `12.345`.
-pub fn shortest_decimals() -> Text {
-    numbers_by(|random, bytes| random.push_decimal(bytes, SHORTEST, false))
-}
-
-/// The same of 4 to 10 digits each; grouped by threes where `grouped` says so.
-pub fn decimals(grouped: bool) -> Text {
-    numbers_by(|random, bytes| random.push_decimal(bytes, 4..=10, grouped))
-}
-
-/// The same of 4 to 7 digits each.
-pub fn exact_decimals(grouped: bool) -> Text {
-    numbers_by(|random, bytes| random.push_decimal(bytes, 4..=7, grouped))
-}
-
-/// The same of 9 to 20 digits each.
-pub fn long_decimals(grouped: bool) -> Text {
-    numbers_by(|random, bytes| random.push_decimal(bytes, 9..=20, grouped))
+/// Numbers of an integer and a fraction of so many digits each; grouped by threes likewise.
+pub fn decimals(digits: RangeInclusive<u64>, grouped: bool) -> Text {
+    numbers_by(|random, bytes| random.push_decimal(bytes, digits.clone(), grouped))
 }
 
 /// Numbers of 17 digits after `0.`.

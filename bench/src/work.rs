@@ -5,11 +5,11 @@ use crate::filter::filtered;
 use crate::fixed::Fixed;
 use crate::floor::Floor;
 use crate::library::{self, Export, Format, Outcome};
-use crate::told::Side;
 use crate::numbers::{rust_literal, Type};
 #[cfg(feature = "original")]
 use crate::original::Original;
 use crate::texts::Text;
+use crate::told::Side;
 use crate::word::{is_constant, NONE, RUST, RUST_16, RUST_2, RUST_8};
 
 /// What is done with a text.
