@@ -1,6 +1,7 @@
 #!/usr/bin/env python3
-"""Writes what pages say of the benchmark's last run, by bench/cases.txt: the tables of docs/SPEED.md,
-the sentences of README.md, and the picture docs/speed.svg. `.ci/pages` compares them."""
+"""Writes what pages say of the benchmark's last run, by bench/cases.txt: the tables of
+docs/SPEED.md, the sentences of README.md, and the picture docs/speed.svg. `.ci/pages` compares
+them."""
 import os
 import sys
 
@@ -183,10 +184,10 @@ known at run time.
 `pass_digits` takes {both(cases, "o: I, grouped, pass_digits")} on grouped numbers, \
 `read_digits_of` {both(cases, "l: I, grouped, by read_digits_of")}, `read_integer` \
 {both(cases, "j: I, 1 to 4 digits")} on numbers of 1 to 4 digits, and lines with one integer each \
-{both(cases, "t: I, grouped, lines")}. More are {both(cases, "n: I, grouped numbers to a comma")} on \
-grouped numbers that are peeked, {both(cases, "e: ILTC, runs of 16, number")} on runs of 16 dropped \
-separators and {both(cases, "k: I, other bytes, peeked")} on letters that are peeked. The worst row \
-at run time is "{worst}": {ratios[worst]:.1f} times the instructions.
+{both(cases, "t: I, grouped, lines")}. More are \
+{both(cases, "n: I, grouped numbers to a comma")} on grouped numbers that are peeked, \
+{both(cases, "e: ILTC, runs of 16, number")} on runs of 16 dropped separators and \
+{both(cases, "k: I, other bytes, peeked")} on letters that are peeked. The worst row at run time is "{worst}": {ratios[worst]:.1f} times the instructions.
 Beside std's `parse`, which reads the text without its separators, `parse_number` takes {numbers} \
 times as many instructions with a constant word, most on {worst_number}.
 `parse_float` takes {floats} times as many as std's, most on {worst_float}.

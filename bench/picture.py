@@ -44,7 +44,8 @@ def line(x, y, to_x, to_y, colour=GRID, width=1):
 
 
 def text(x, y, words, anchor="start", colour=INK, more='font-size="13"'):
-    return f'<text x="{x:.1f}" y="{y:.1f}" text-anchor="{anchor}" {more} fill="{colour}">{words}</text>'
+    return (f'<text x="{x:.1f}" y="{y:.1f}" text-anchor="{anchor}" {more} '
+            f'fill="{colour}">{words}</text>')
 
 
 def head(y, words):
@@ -145,7 +146,8 @@ def run_axes(across, up):
         yield text(across.start - 10, y + 4.5, f"{count:,}", "end")
     yield line(across.start, up.start, across.end, up.start, AXIS, 1.5)
     yield line(across.start, up.start, across.start, up.end, AXIS, 1.5)
-    yield text((across.start + across.end) / 2, up.start + 46, "separators in the run", "middle", SOFT)
+    middle = (across.start + across.end) / 2
+    yield text(middle, up.start + 46, "separators in the run", "middle", SOFT)
     x, y = across.start - 70, (up.start + up.end) / 2
     turned = f'font-size="13" transform="rotate(-90 {x:.1f} {y:.1f})"'
     yield text(x, y, "instructions for each byte", "middle", SOFT, turned)

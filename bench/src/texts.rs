@@ -219,9 +219,9 @@ pub fn others() -> Text {
     text_of(|_, random| random.letter())
 }
 
-/// Numbers of an integer, a fraction and an exponent of so many digits each, as `1234.56789e12`, and
-/// the same without separators; with separators, as in `123_456.789_012e1_0`, where `grouped` says
-/// so.
+/// Numbers of an integer, a fraction and an exponent of so many digits each, as `1234.56789e12`,
+/// and the same without separators; with separators, as in `123_456.789_012e1_0`, where `grouped`
+/// says so.
 pub fn floats(digits: RangeInclusive<u64>, exponent: u64, grouped: bool) -> Text {
     numbers_by(|random, bytes| {
         random.push_decimal(bytes, digits.clone(), grouped);
