@@ -3,7 +3,7 @@
 ghost use Rattle.std.specs.Prelude.{◌≡◌, ◌+◌, ◌≤◌, length};
 ghost use Rattle.lexical_digits.specs.CallTable.{OnBytes};
 ghost use Rattle.lexical_digits.specs.declared.ops.Answer.TheVariants.{Span, Count, Flag, Done, Byte, Four, Eight};
-ghost use Rattle.lexical_digits.specs.CallTable as call;
+ghost use Rattle.lexical_digits.specs.declared.ops.Op.TheVariants as call;
 ghost use Rattle.lexical_plain.specs.Plain.{rest, Makes, Answers};
 
 use crate::noskip::Bytes;

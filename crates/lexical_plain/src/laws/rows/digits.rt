@@ -2,7 +2,7 @@
 
 ghost use Rattle.std.specs.Prelude.{◌≡◌, ◌+◌, ◌≤◌, length};
 ghost use Rattle.lexical_digits.specs.declared.ops.Answer.TheVariants.{Span, Count, Flag, Done, Byte, Four, Eight, View};
-ghost use Rattle.lexical_digits.specs.CallTable as call;
+ghost use Rattle.lexical_digits.specs.declared.ops.Op.TheVariants as call;
 ghost use Rattle.lexical_plain.specs.Plain.{rest, MakesOnDigits, AnswersOnDigits};
 
 use crate::noskip::{Bytes, DigitsIterator};
