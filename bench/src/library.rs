@@ -65,8 +65,11 @@ exports! {
     digit_bench_parsed_i32
     digit_bench_parsed_i64
     digit_bench_parsed_u128
+    digit_bench_read_u8
+    digit_bench_read_u16
     digit_bench_read_u32
     digit_bench_read_u64
+    digit_bench_read_i32
     digit_bench_read_i64
     digit_bench_read_u128
     digit_bench_languages

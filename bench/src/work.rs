@@ -219,11 +219,13 @@ fn parsed_export(of: Type) -> Export {
 
 fn read_export(of: Type) -> Export {
     match of {
+        Type::U8 => library::digit_bench_read_u8,
+        Type::U16 => library::digit_bench_read_u16,
         Type::U32 => library::digit_bench_read_u32,
         Type::U64 => library::digit_bench_read_u64,
+        Type::I32 => library::digit_bench_read_i32,
         Type::I64 => library::digit_bench_read_i64,
         Type::U128 => library::digit_bench_read_u128,
-        Type::U8 | Type::U16 | Type::I32 => unreachable!("no case reads such a number"),
     }
 }
 

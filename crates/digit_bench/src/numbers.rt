@@ -140,6 +140,21 @@ pub extern "C" fn digit_bench_parsed_u128(task: &Task, outcome: &mut Outcome) {
 }
 
 #[unsafe(no_mangle)]
+pub extern "C" fn digit_bench_read_u8(task: &Task, outcome: &mut Outcome) {
+    *outcome = run_each::<Read<u8>>(task);
+}
+
+#[unsafe(no_mangle)]
+pub extern "C" fn digit_bench_read_u16(task: &Task, outcome: &mut Outcome) {
+    *outcome = run_each::<Read<u16>>(task);
+}
+
+#[unsafe(no_mangle)]
+pub extern "C" fn digit_bench_read_i32(task: &Task, outcome: &mut Outcome) {
+    *outcome = run_each::<Read<i32>>(task);
+}
+
+#[unsafe(no_mangle)]
 pub extern "C" fn digit_bench_read_u32(task: &Task, outcome: &mut Outcome) {
     *outcome = run_each::<Read<u32>>(task);
 }
