@@ -226,7 +226,8 @@ fn leading_numbers() -> Vec<Case> {
         "v: I, grouped, i64": literals(8..=20, true), skip::<I>(NumberFrom(I64));
         "v: no flags, 1 to 4 digits, i64": literals(1..=4, false), skip::<NONE>(NumberFrom(I64));
         "v: I, 1 to 4 digits, i64": literals(1..=4, false), skip::<I>(NumberFrom(I64));
-        "v: no flags, signs, 1 to 4 digits, i64": signed(1..=4, false), skip::<NONE>(NumberFrom(I64));
+        "v: no flags, signs, 1 to 4 digits, i64":
+            signed(1..=4, false), skip::<NONE>(NumberFrom(I64));
         "v: I, signs, 1 to 4 digits, i64": signed(1..=4, false), skip::<I>(NumberFrom(I64));
         "v: no flags, u128": literals(8..=20, false), skip::<NONE>(NumberFrom(U128));
         "v: I, grouped, u128": literals(8..=20, true), skip::<I>(NumberFrom(U128));
