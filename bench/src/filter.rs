@@ -23,9 +23,7 @@ pub fn filtered<const WORD: u128>(work: Work) -> Option<Way> {
             Some(Box::new(|text| each(text, |text| of_value(number::<WORD>(text)))))
         }
         Work::Floats | Work::FloatsOf => Some(Box::new(|text| each(text, float::<WORD>))),
-        Work::Literals | Work::Parsed | Work::Lines => {
-            Some(Box::new(|text| each_parsed(text, Rule::<WORD>::RADIX)))
-        }
+        Work::Literals | Work::Parsed | Work::Lines => Some(Box::new(numbers::each_parsed::<u64>)),
         Work::Signed => Some(Box::new(numbers::each_parsed::<i64>)),
         Work::Counted => Some(Box::new(|text| each(text, counted::<WORD>))),
         Work::Cleared => Some(Box::new(|text| of_value(sum_of_numbers::<WORD>(&text.bytes)))),
@@ -37,22 +35,6 @@ pub fn filtered<const WORD: u128>(work: Work) -> Option<Way> {
         Work::Nearest => Some(Box::new(numbers::each_nearest)),
         Work::Stopped | Work::Digits | Work::Zeros | Work::Mantissas => None,
     }
-}
-
-/// The value of each number by its digits without separators, added up where `u64` holds it.
-fn each_parsed(text: &Text, radix: u32) -> Outcome {
-    let mut total = 0u64;
-    let mut rest = &text.digits[..];
-    for &length in &text.digit_lengths {
-        let (first, others) = rest.split_at(length.into());
-        let value = match radix {
-            10 => first.parse::<u64>(),
-            _ => u64::from_str_radix(first, radix),
-        };
-        total = total.wrapping_add(value.unwrap_or(0));
-        rest = others;
-    }
-    of_value(total)
 }
 
 /// Each number as an `f64`, added up. The sum is no value that the other sides have.
