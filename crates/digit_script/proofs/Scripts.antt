@@ -1,5 +1,5 @@
 -- Rows of the call table, as the script makes them.
-use Rattle.std.proofs.Common.{Bool, false, cond, subst, [], ◌++◌, ◌≤◌, append_assoc, ◌≡◌, ℕ, ◌+◌, ◌*◌, true, refl, arith, ap, sym, ℤ, pos, ◌≤ℤ◌, ◌+ℤ◌, length, ◌∙◌, ◌<◌, List, ◌∷◌, map, drop, get_or, add-one, drop-cons}
+use Rattle.std.proofs.Common.{Bool, false, cond, subst, [], ◌++◌, ◌≤◌, append_assoc, ◌≡◌, ℕ, ◌+◌, ◌*◌, true, refl, arith, ap, sym, ℤ, pos, ◌≤ℤ◌, ◌+ℤ◌, length, ◌∙◌, ◌<◌, List, ◌∷◌, drop, get_or, add-one, drop-cons}
 use Rattle.std.proofs.Math.Nat.{mul-add}
 use Rattle.std.proofs.lemmas.Int.{ints}
 use Rattle.lexical_digits.specs.declared.skip.component.Component.{Component}

@@ -15,8 +15,7 @@ use Rattle.lexical_digits.specs.State as state
 use Rattle.lexical_digits.specs.CallTable.{place_of, byte_at_place, settled, past_place, counted, Part, OnBytes, On, contiguous_on, count_on}
 use Rattle.lexical_digits.specs.declared.ops.Op.{Op}
 use Rattle.lexical_digits.specs.declared.ops.Answer.{Answer}
-use Rattle.lexical_digits.specs.declared.ops.Op.TheVariants.{AsSlice, GetBuffer, BufferLength, IsBufferEmpty, Cursor, SetCursor, CurrentCount, IsContiguous, First, FirstIsCased, FirstIsUncased, FirstIs, StepBy, Step, PeekU32, PeekU64, IsConsumed, IncrementCount, Peek, TryRead, Next, PeekIsCased, PeekIsUncased, PeekIs, ReadIfEqual, ReadIfNever, ReadIfValueCased, ReadIfValueUncased, ReadIfValue, SkipZeros, IsDigit, IsSign, IsDigitSeparator, TakeN}
-use Rattle.lexical_digits.specs.declared.ops.Answer.TheVariants.{Span, Count, Flag, Done, Byte, Four, Eight, View, Refused}
+use Rattle.lexical_digits.specs.declared.ops.Op.TheVariants.{CurrentCount, StepBy, Step, TakeN}
 use Rattle.lexical_digits.specs.CallTable as skip
 use Rattle.lexical_digits.specs.Laws.Table.{place_contiguous, contiguous_grants}
 use Rattle.lexical_plain.specs.Plain.{Plain, with_cursor, rest, is_digit, taken, zeros, Row, within, row_of, Ran, run_of, start, is_on_both, both_have, without_counts, IsPlainWord}

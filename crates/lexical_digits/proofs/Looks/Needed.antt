@@ -1,6 +1,6 @@
 -- After a read no run has to be looked for where it arrived.
-use Rattle.std.proofs.Common.{◌≡◌, ℕ, ◌+◌, ◌-◌, ◌≤◌, Bool, true, false, length, refl, sym, ◌∙◌, arith}
-use Rattle.lexical_digits.specs.Laws.Terms.{Component, Rule, separator, State, rule, own, is_kept, holds_separator, place_of, place, settled, separator_at, Held, Costs, needs_run, nat_tests, cases_lt}
+use Rattle.std.proofs.Common.{◌≡◌, ◌-◌, true, false, length, sym, ◌∙◌, arith}
+use Rattle.lexical_digits.specs.Laws.Terms.{Component, Rule, separator, State, rule, own, is_kept, place_of, settled, separator_at, Held, Costs, needs_run, cases_lt}
 use Rattle.lexical_digits.specs.Laws.Kept.{place_kept, place_end}
 use Rattle.lexical_digits.proofs.Rule.Runs.{place_past_run}
 use Rattle.lexical_digits.proofs.Rule.Supported.{supported_rule}
