@@ -28,10 +28,10 @@ pub record GoesOn (k : Component) (before : ℕ) (most : Option ℕ) (a b : Held
       → Passes k value most b c read → Passes k before most a c (record read { count = total })
 
 -- what follows of a value, if there is one
-both : {X : Type 0} (N : Type 0) (o : Option X) {P Q R : X → Type 0}
+if_some_and : {X : Type 0} (N : Type 0) (o : Option X) {P Q R : X → Type 0}
     → IfSome o P → MatchOption o N Q → ((x : X) → P x → Q x → R x) → MatchOption o N R
-both N None p q f = q
-both N (Some x) p q f = f x p q
+if_some_and N None p q f = q
+if_some_and N (Some x) p q f = f x p q
 
 module _ (k : Component) (before : ℕ) (most : Option ℕ) (a b c : Held) (radix value count : ℕ)
     (so : GoesOn k before most a b radix value count) (peeks : Costs k b c)
@@ -80,9 +80,9 @@ module _ (k : Component) (before : ℕ) (most : Option ℕ) (a b c : Held) (radi
       passes false end on (λ _. (none_there k s other).stop) (λ f. cc)
 
   module _ (d : ℕ) (found : peeked ≡ Some d) where
-    there : Digit k s
+    is_digit_next : Digit k s
     unfolding is_digit
-    there = digit_there k s (rw so.same at (digit_at radix s.buffer (place_of k s) d found).is)
+    is_digit_next = digit_there k s (rw so.same at (digit_at radix s.buffer (place_of k s) d found).is)
 
     is : digit_value (slice_index s.buffer (place_of k s)) ≡ d
     is = value_is radix _ d (digit_at radix s.buffer (place_of k s) d found).value
@@ -95,12 +95,12 @@ module _ (k : Component) (before : ℕ) (most : Option ℕ) (a b c : Held) (radi
         → MatchOption most ⊥ (λ m. m < value * radix + d) → Passes k before most a c
         (record { value = value; count = count; end = end; is_too_large = true })
     stops_before end on over =
-        let nth = nth_digit 0 k s b.holds (omega (arith, ap length there.leading)) in
-        passes true end on (λ f. cc) (λ _. both _ most so.fits over (λ m fits over. record {
+        let nth = nth_digit 0 k s b.holds (omega (arith, ap length is_digit_next.leading)) in
+        passes true end on (λ f. cc) (λ _. if_some_and _ most so.fits over (λ m fits over. record {
           onward = nth.onward;
           before_stop = nth.before_stop;
           fits = rw (none_before k s b.holds) fits;
-          passes = rw (nth.upto, there.leading, is, ← so.same) over;
+          passes = rw (nth.upto, is_digit_next.leading, is, ← so.same) over;
         }))
 
     -- the value up to a position after the digit
@@ -108,7 +108,7 @@ module _ (k : Component) (before : ℕ) (most : Option ℕ) (a b c : Held) (radi
         → digits_value_after (rule k s).radix value (digits_to k s end)
         ≡ digits_value_after (rule k (taken k s)).radix more (digits_to k (taken k s) end)
     value_to end more l e =
-        rw (digits_upto k s b.holds there end l, taken_word k s, e, so.same, ← is) refl
+        rw (digits_upto k s b.holds is_digit_next end l, taken_word k s, e, so.same, ← is) refl
 
     pub one_read : (more : ℕ) (e : Held) → IfSome most (IsMore radix value d more) → Costs k c e
         → e.state ≡ taken k c.state → GoesOn k before most a e radix more (count + 1)
@@ -121,32 +121,32 @@ module _ (k : Component) (before : ℕ) (most : Option ℕ) (a b c : Held) (radi
         record {
           same = rw (past e.state takes) (so.same ∙ rw (taken_word k s) refl);
           fits = IfSome_then most is_more (λ _ h. h.fits);
-          below = rw (past e.state takes) (omega (arith, so.below, there.on, from));
+          below = rw (past e.state takes) (omega (arith, so.below, is_digit_next.on, from));
           all = λ f read total same h.
               let reads = rw (past e.state takes) at h.reads in
-              let on : place_of k s < read.end = omega (arith, reads.onward, there.on) in
-              let upto = digits_upto k s b.holds there read.end on in
+              let on : place_of k s < read.end = omega (arith, reads.onward, is_digit_next.on) in
+              let upto = digits_upto k s b.holds is_digit_next read.end on in
               so.all f (record read { count = read.count + 1 }) total (omega (arith, same))
               (record {
                 reads = record {
                   onward = omega (arith, on, from);
                   within = rw (taken_buffer k s) at reads.within;
                   digits = omega (arith, reads.digits, ap length upto);
-                  worth = both _ most is_more reads.worth
+                  worth = if_some_and _ most is_more reads.worth
                       (λ m g w. grind (arith, w, value_to read.end more on g.is));
-                  stops = λ e. reads.stops e ∙ sym there.stop;
-                  exceeds = λ e. both _ most is_more (reads.exceeds e) (λ m g x.
+                  stops = λ e. reads.stops e ∙ sym is_digit_next.stop;
+                  exceeds = λ e. if_some_and _ most is_more (reads.exceeds e) (λ m g x.
                       let to = value_to read.end more on g.is in
                       let past = value_to (read.end + 1) more (omega (arith, on)) g.is in
-                      grind (arith, from, there.stop));
+                      grind (arith, from, is_digit_next.stop));
                 };
-                state = h.state ∙ rw (past e.state takes, upto) (one_counted k s there _ read.end);
+                state = h.state ∙ rw (past e.state takes, upto) (one_counted k s is_digit_next _ read.end);
                 remembers = h.remembers;
                 owes = omega (arith, ints, h.owes, peeks.owes, pays.owes);
                 at_least = omega (arith, h.at_least, one, two);
               });
         }
 
-    pub falls : (t : State) → t ≡ taken k c.state
+    pub fewer_left : (t : State) → t ≡ taken k c.state
         → length (leading_digits_of k t) < length (leading_digits_of k s)
-    falls t takes = rw (past t takes, there.leading) (omega arith)
+    fewer_left t takes = rw (past t takes, is_digit_next.leading) (omega arith)

@@ -3,7 +3,7 @@ use Rattle.std.proofs.Common.{◌≡◌, ℕ, ◌+◌, ◌-◌, ◌<◌, ◌≤�
 use Rattle.std.specs.Str.Parse.{digits_value_after}
 use Rattle.std.proofs.lemmas.List.{take_all}
 use Rattle.lexical_digits.specs.declared.skip.component.Component.{Component}
-use Rattle.lexical_digits.specs.Laws.Terms.{ints, State, IsState, rule, own, stop_of, leading_digits_of}
+use Rattle.lexical_digits.specs.Laws.Terms.{ints, State, IsState, rule, own, leading_digits_of}
 use Rattle.lexical_digits.proofs.Calls.Stops.{leading_between}
 use Rattle.lexical_digits.proofs.Rule.Supported.{supported_rule}
 use Rattle.digit_literals.specs.declared.first.FirstDigits.{FirstDigits}

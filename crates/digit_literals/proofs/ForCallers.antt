@@ -26,7 +26,7 @@ use Rattle.digit_literals.specs.First.{ReadsFirst}
 use Rattle.digit_literals.specs.Significant.{IsOfFirstDigits}
 use Rattle.digit_literals.specs.declared.first.FirstDigits.{FirstDigits}
 use Rattle.digit_literals.proofs.Rest.{leaves_rest}
-use Rattle.digit_literals.proofs.Significant.{Reads, alone, first, grows}
+use Rattle.digit_literals.proofs.Significant.{Reads, after_none, after_some, value_grows}
 use Rattle.digit_literals.proofs.Between.{fewer, more_between, no_more}
 
 -- ---- where digits end
@@ -210,9 +210,9 @@ module _ (radix most before : ℕ) (digits : List ℕ) (read : FirstDigits)
   by_power (suc p) some power =
       let n : ℕ = read.count - read.dropped in
       let so : Reads radix (suc p) before n digits = grind (arith, add-one, reads) in (
-        λ none. grind (arith, reads, alone radix p n digits reads.some),
+        λ none. grind (arith, reads, after_none radix p n digits reads.some),
         λ more others of. grind
-            (arith, reads, first radix p n before more others digits reads.some of so),
+            (arith, reads, after_some radix p n before more others digits reads.some of so),
       )
 
   module _ (given n : ℕ) (same : radix ≡ given) (some : 0 < n) (power : most + 1 ≡ given ^ n) where
@@ -229,7 +229,7 @@ module _ (radix most before : ℕ) (digits : List ℕ) (read : FirstDigits)
 -- all digits are worth no less than the first of them
 pub first_no_more : (radix before n : ℕ) (digits : List ℕ) → 1 ≤ radix
     → digits_value_after radix before (take n digits) ≤ digits_value_after radix before digits
-first_no_more radix before n digits = grows radix n digits before
+first_no_more radix before n digits = value_grows radix n digits before
 
 -- the value of all digits, whether some were dropped or none; to be named in an attribute
 pub ruleset dropped = (none_dropped, first_no_more)

@@ -12,7 +12,7 @@ use Rattle.lexical_digits.proofs.Calls.Rest.{leading_settled, stop_settled}
 use Rattle.digit_literals.specs.Rest.{LeavesRest}
 use Rattle.digit_literals.specs.After.{digits_to, past_digits_to, ExceedsAt}
 use Rattle.digit_literals.proofs.Between.{more_between, fewer_between}
-use Rattle.digit_literals.proofs.Significant.{grows}
+use Rattle.digit_literals.proofs.Significant.{value_grows}
 
 -- what is left after n digits and a `peek`
 left_after : (n : ℕ) (k : Component) (s : State) → IsState s → n ≤ length (leading_digits_of k s)
@@ -53,4 +53,4 @@ module _ (k : Component) (s : State) (before most at : ℕ) (v : IsState s)
       cc (nth_leaves n k s v leads, place_is) in
       let left = rw same at (left_after n k s v (omega (arith, leads))) in
       let one = (supported_rule s.word k v.word).low in
-      grind (arith, nth, leads, take-append-drop {A = ℕ} n, length-drop {A = ℕ}, grows)
+      grind (arith, nth, leads, take-append-drop {A = ℕ} n, length-drop {A = ℕ}, value_grows)

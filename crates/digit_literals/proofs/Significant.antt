@@ -8,24 +8,24 @@ use Rattle.lexical_digits.specs.Laws.Terms.{nat_tests}
 use Rattle.digit_literals.specs.Significant.{significant, IsOfFirstDigits}
 
 -- more digits are worth no less
-pub grows : (radix i : ℕ) (ds : List ℕ) (v : ℕ) → 1 ≤ radix
+pub value_grows : (radix i : ℕ) (ds : List ℕ) (v : ℕ) → 1 ≤ radix
     → digits_value_after radix v (take i ds) ≤ digits_value_after radix v ds
-grows radix zero [] v one = omega arith
-grows radix zero (d ∷ ds) v one =
-    grind (arith, mul-le-mul_left v one, grows radix zero ds (v * radix + digit_value d) one)
-grows radix (suc i) [] v one = omega arith
-grows radix (suc i) (d ∷ ds) v one = grows radix i ds (v * radix + digit_value d) one
+value_grows radix zero [] v one = omega arith
+value_grows radix zero (d ∷ ds) v one =
+    grind (arith, mul-le-mul_left v one, value_grows radix zero ds (v * radix + digit_value d) one)
+value_grows radix (suc i) [] v one = omega arith
+value_grows radix (suc i) (d ∷ ds) v one = value_grows radix i ds (v * radix + digit_value d) one
 
 -- n digits after a value of a digits and one more
-worth : (radix n a v : ℕ) (ds : List ℕ) → AllDigits radix ds → n ≤ length ds → radix ^ a ≤ v
+between_powers : (radix n a v : ℕ) (ds : List ℕ) → AllDigits radix ds → n ≤ length ds → radix ^ a ≤ v
     → v < radix ^ suc a → (radix ^ (a + n) ≤ digits_value_after radix v (take n ds))
     × (digits_value_after radix v (take n ds) < radix ^ suc (a + n))
-worth radix zero a v ds all l low high = grind arith
-worth radix (suc n) a v [] all l low high = absurd (omega arith)
-worth radix (suc n) a v (d ∷ ds) all l low high =
+between_powers radix zero a v ds all l low high = grind arith
+between_powers radix (suc n) a v [] all l low high = absurd (omega arith)
+between_powers radix (suc n) a v (d ∷ ds) all l low high =
     let least = mul-le-mul_right radix low in
     let most = mul-le-mul_right radix high in
-    grind (arith, worth radix n (suc a) (v * radix + digit_value d) ds all.1, pow-suc radix)
+    grind (arith, between_powers radix n (suc a) (v * radix + digit_value d) ds all.1, pow-suc radix)
 
 -- where the first n of two lists stand
 value_of_take : (radix n v : ℕ) (ds es : List ℕ) → digits_value_after radix v (take n (ds ++ es))
@@ -59,40 +59,40 @@ of_one_more d ds = grind (arith, one-add)
 ruleset heads = (of_none, of_one_more)
 
 -- after others, the first of which is no zero
-led : (radix p k d v more : ℕ) (os ds : List ℕ) → 1 ≤ radix → eqb d 48 ≡ false
+after_significant : (radix p k d v more : ℕ) (os ds : List ℕ) → 1 ≤ radix → eqb d 48 ≡ false
     → IsOfFirstDigits radix (suc p) (d ∷ os) v more → Reads radix (suc p) v k ds
     → IsOfFirstDigits radix (suc p) (d ∷ os ++ ds) (digits_value_after radix v (take k ds))
     (more + (length ds - k))
-led radix p k d v more os ds one e of so =
+after_significant radix p k d v more os ds one e of so =
     let some : 1 ≤ digit_value d = grind (arith, nat_tests) in
     let is = rw (of_one_more d os, e) at of.is in
     let a : ℕ = min p (length os) in
-    let from = worth radix a 0 (0 * radix + digit_value d) os of.digits_all.1 (omega arith)
+    let from = between_powers radix a 0 (0 * radix + digit_value d) os of.digits_all.1 (omega arith)
     (grind (arith, pow-zero)) (grind (arith, pow-zero, pow-suc)) in
     let few : suc p ≤ a + k → radix ^ suc p ≤ radix ^ (a + k) = pow-le-pow_right one in
     let many : suc (a + suc k) ≤ suc p → radix ^ suc (a + suc k) ≤ radix ^ suc p =
     pow-le-pow_right one in
     let next : k ≡ min (p - length os) (length ds) = grind
-    (arith, take_min p os, worth radix k a v ds so.all, worth radix (suc k) a v ds so.all) in
+    (arith, take_min p os, between_powers radix k a v ds so.all, between_powers radix (suc k) a v ds so.all) in
     grind (arith, heads, all_both, value_of_take, length-append os ds, take_min (p - length os) ds)
 
 -- after none
-pub alone : (radix p k : ℕ) (ds : List ℕ) → 1 ≤ radix → Reads radix (suc p) 0 k ds
+pub after_none : (radix p k : ℕ) (ds : List ℕ) → 1 ≤ radix → Reads radix (suc p) 0 k ds
     → IsOfFirstDigits radix (suc p) ds (digits_value radix (take k ds)) (length ds - k)
-alone radix p k [] one so = grind (arith, heads, take_all {A = ℕ} k [])
-alone radix p zero (d ∷ ds) one so =
+after_none radix p k [] one so = grind (arith, heads, take_all {A = ℕ} k [])
+after_none radix p zero (d ∷ ds) one so =
     grind (arith, mul-le-mul_right radix (one-le-pow p radix one), pow-suc radix p)
-alone radix p (suc k) (d ∷ ds) one so =
+after_none radix p (suc k) (d ∷ ds) one so =
     let v : ℕ = 0 * radix + digit_value d in
     let rest : Reads radix (suc p) v k ds = grind arith in
     let rest_of_one = take_all {A = ℕ} p [] in
-    grind (arith, heads, nat_tests, alone radix p k ds one, led radix p k d v 0 [] ds one)
+    grind (arith, heads, nat_tests, after_none radix p k ds one, after_significant radix p k d v 0 [] ds one)
 
 -- after others, of which the first significant digits were read
-pub first : (radix p k v more : ℕ) (os ds : List ℕ) → 1 ≤ radix
+pub after_some : (radix p k v more : ℕ) (os ds : List ℕ) → 1 ≤ radix
     → IsOfFirstDigits radix (suc p) os v more → Reads radix (suc p) v k ds
     → IsOfFirstDigits radix (suc p) (os ++ ds) (digits_value_after radix v (take k ds))
     (more + (length ds - k))
-first radix p k v more [] ds one of so = grind (arith, heads, alone radix p k ds one)
-first radix p k v more (o ∷ os) ds one of so =
-    grind (arith, heads, first radix p k v more os ds one, led radix p k o v more os ds one)
+after_some radix p k v more [] ds one of so = grind (arith, heads, after_none radix p k ds one)
+after_some radix p k v more (o ∷ os) ds one of so =
+    grind (arith, heads, after_some radix p k v more os ds one, after_significant radix p k o v more os ds one)

@@ -9,13 +9,13 @@ use Rattle.digit_literals.specs.After.{digits_between}
 use Rattle.digit_literals.specs.Integers.{IsIntegerFrom, HasNoDigitFrom, IsTooLargeFrom}
 use Rattle.digit_literals.specs.Whole.{IsFaultFrom}
 use Rattle.digit_literals.specs.declared.parse.ParseError.{ParseError}
-use Rattle.digit_literals.proofs.Significant.{grows}
+use Rattle.digit_literals.proofs.Significant.{value_grows}
 
 -- the digits of more bytes are worth no less
 rises : (radix : ℕ) (p : ℕ → Bool) (m n : ℕ) (ys : List ℕ) (v : ℕ) → 1 ≤ radix → m ≤ n
     → digits_value_after radix v (filter p (take m ys))
     ≤ digits_value_after radix v (filter p (take n ys))
-rises radix p zero n ys v one l = grows radix 0 (filter p (take n ys)) v one
+rises radix p zero n ys v one l = value_grows radix 0 (filter p (take n ys)) v one
 rises radix p (suc m) zero ys v one l = absurd (omega arith)
 rises radix p (suc m) (suc n) [] v one l = omega arith
 rises radix p (suc m) (suc n) (y ∷ ys) v one l = grind (arith, rises radix p m n ys)

@@ -1,7 +1,8 @@
 -- Of functions that no caller sees: digits that were read from a start on, up to where they end, or
 -- up to the first with which their value is too large. No public clause uses these words.
-use Rattle.std.specs.Prelude.{◌≡◌, ℕ, ◌+◌, ◌-◌, ◌*◌, ◌^◌, ◌≤◌, min, Bool, true, false, if◌then◌else◌, List, length, Option, IfSome, MatchOption, Result, Ok, Err, pos, ◌≤ℤ◌, ◌+ℤ◌}
+use Rattle.std.specs.Prelude.{◌≡◌, ℕ, ◌+◌, ◌-◌, ◌*◌, ◌^◌, ◌≤◌, ◌<◌, min, slice_index, Some, Bool, true, false, if◌then◌else◌, List, length, Option, IfSome, MatchOption, Result, Ok, Err, pos, ◌≤ℤ◌, ◌+ℤ◌}
 use Rattle.std.specs.Str.Parse.{digits_value_after}
+use Rattle.lexical_format.specs.Digits.{digit_of_radix}
 use Rattle.lexical_digits.specs.declared.skip.rule.Rule.{Rule}
 use Rattle.lexical_digits.specs.declared.skip.component.Component.{Component}
 use Rattle.lexical_digits.specs.Separators.{zeros, past_zeros}
@@ -25,6 +26,14 @@ pub record IsWorth (radix before : ℕ) (digits : List ℕ) (value most : ℕ) :
 pub record IsMore (radix value digit more most : ℕ) : Type 0 where
   pub is : more ≡ value * radix + digit
   pub fits : more ≤ most
+
+-- the first digit, with which the value is at most the greatest, if one is asked for
+pub record IsFirst (rule : Rule) (text : List ℕ) (start before : ℕ) (most : Option ℕ) (digit : ℕ)
+    : Type 0 where
+  pub within : start < length text
+  pub is : digit_of_radix rule.radix (slice_index text start) ≡ Some digit
+  pub fits : MatchOption most (before * rule.radix + digit < 2 ^ 64)
+      (λ m. before * rule.radix + digit ≤ m)
 
 module _ (rule : Rule) (text : List ℕ) (start before : ℕ) (most : Option ℕ) (read : ReadTo) where
   -- The digits from the start up to an end were read, where so many were counted before. The end is

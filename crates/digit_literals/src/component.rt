@@ -10,7 +10,7 @@ ghost use Rattle.digit_literals.specs.After.{past_digits_to, digits_read, IsDigi
 ghost use Rattle.digit_literals.specs.Reads.{ReadsOn};
 
 use super::reading::{Digits, TooLarge};
-use super::slice::{read_counted, read_slice};
+use super::slice::{first_digit, read_counted, read_slice};
 use super::zeros::{pass_counted, read_zeros};
 use lexical_digits::iterator::Iter;
 use lexical_digits::skip::{Bytes, Component};
@@ -124,7 +124,9 @@ fn read_on(
 {
     let rule = bytes.rule(component);
     let text = bytes.get_buffer();
-    if let Some(read) = read_slice(text, rule, bytes.cursor(), before, most) {
+    let at = bytes.cursor();
+    let first = most.and_then(|most| first_digit(text, rule, at, before, u128::from(most)));
+    if let Some(read) = read_slice(text, rule, at, before, first, most) {
         bytes.pass_read(component, read.end, read.count);
         return read.outcome();
     }

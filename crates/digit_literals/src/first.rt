@@ -12,7 +12,7 @@ ghost use Rattle.digit_literals.specs.Reads.{IsOffSlice, PassesAll};
 
 use super::component::{pass_digits, read_digits_up_to};
 use super::reading::Digits;
-use super::slice::{ReadTo, read_radix};
+use super::slice::{ReadTo, first_digit, read_radix};
 use lexical_digits::iterator::Iter;
 use lexical_digits::skip::{Bytes, Component, Rule};
 
@@ -164,7 +164,8 @@ fn decimals_from(text: &[u8], rule: Rule, start: usize, before: u64, most: u64) 
     if rule.radix != 10 {
         return None;
     }
-    let read = read_radix(text, rule, 10, start, before, Some(most))?;
+    let first = first_digit(text, rule, start, before, u128::from(most));
+    let read = read_radix(text, rule, 10, start, before, first, Some(most))?;
     if read.is_too_large { None } else { Some(read) }
 }
 

@@ -1,7 +1,7 @@
 //! The integer that a text begins with, how many digits it has, and where the digits of a component
 //! end. No `Bytes` is made where the slice is enough.
 
-ghost use Rattle.std.specs.Prelude.{◌≡◌, ◌==◌, ◌-◌, ◌<◌, ◌≤◌, None, length, filter, IfSome, IfOk, IfErr, IsTrue};
+ghost use Rattle.std.specs.Prelude.{◌≡◌, ◌==◌, ◌-◌, ◌<◌, ◌≤◌, None, Some, length, filter, IfSome, IfOk, IfErr, IsTrue};
 ghost use Rattle.lexical_format.specs.Word.{is_supported};
 ghost use Rattle.lexical_digits.specs.declared.skip.component.Component.TheVariants.{Integer};
 ghost use Rattle.lexical_digits.specs.Separators.{is_digit};
@@ -9,7 +9,7 @@ ghost use Rattle.lexical_digits.specs.State.{rule_of};
 ghost use Rattle.lexical_digits.specs.Stop.{stop};
 ghost use Rattle.digit_literals.specs.Outcomes.{IfEmpty, IfOverflow};
 ghost use Rattle.digit_literals.specs.Integers.{IsInteger, HasNoDigit, IsTooLarge, ReadsFrom};
-ghost use Rattle.digit_literals.specs.Reads.{ReadsTo, integer_of};
+ghost use Rattle.digit_literals.specs.Reads.{ReadsTo, IsFirst, integer_of};
 
 use super::LiteralError;
 use super::slice::{ReadTo, read_counted, read_slice};
@@ -52,7 +52,6 @@ pub fn read_integer(text: &[u8], word: u128) -> Result<(u64, usize), LiteralErro
 /// `0x1_f` with internal `_` and radix 16, from 2: Ok((31, 5)); up to 9: Err(Overflow(4))
 /// ```
 #[inline(always)]
-#[tactic(auto, using(crate::proofs::ForCallers::stops))]
 pub fn read_integer_from(
     text: &[u8],
     word: u128,
@@ -69,7 +68,32 @@ pub fn read_integer_from(
     ensures overflow_at { let n = length text.now in
         IfOverflow result (λ at. (start ≤ at) × (at < n)) }
 {
-    match read_ahead(text, word, Component::Integer, start, Some(most)) {
+    read_integer_on(text, word, start, None, most)
+}
+
+/// [`read_integer_from`], where the digit at `start` may be known.
+#[inline(always)]
+#[tactic(auto, using(crate::proofs::ForCallers::stops))]
+pub(super) fn read_integer_on(
+    text: &[u8],
+    word: u128,
+    start: usize,
+    first: Option<u32>,
+    most: u64,
+) -> Result<(u64, usize), LiteralError>
+    requires supported { IsTrue (is_supported word) }
+    requires within { start ≤ length text.now }
+    requires first { let r = rule_of word Integer in
+        IfSome first (IsFirst r text.now start 0 (Some most)) }
+    ensures reads { ReadsFrom (rule_of word Integer) text.now start most result }
+    ensures end { let n = length text.now in
+        IfOk result (λ read. (start ≤ read.1) × (read.1 ≤ n)) }
+    ensures empty_at { let n = length text.now in
+        IfEmpty result (λ at. (start ≤ at) × (at ≤ n)) }
+    ensures overflow_at { let n = length text.now in
+        IfOverflow result (λ at. (start ≤ at) × (at < n)) }
+{
+    match read_ahead(text, word, Component::Integer, start, first, Some(most)) {
         Some(read) => integer_of(read, read.end == start),
         None => {
             let read = read_fresh(text, word, Component::Integer, start, Some(most));
@@ -139,21 +163,24 @@ pub fn stop_from(text: &[u8], word: u128, component: Component, start: usize) ->
 }
 
 /// The digits of a component that lead from `start` on, and whether there are none: up to a greatest
-/// value if one is asked for.
+/// value if one is asked for. The digit at `start` may be known.
 #[inline(always)]
 pub(super) fn read_told(
     text: &[u8],
     word: u128,
     component: Component,
     start: usize,
+    first: Option<u32>,
     most: Option<u64>,
 ) -> (ReadTo, bool)
     requires supported { IsTrue (is_supported word) }
     requires within { start ≤ length text.now }
+    requires first { let r = rule_of word component in
+        IfSome first (IsFirst r text.now start 0 most) }
     ensures reads { ReadsTo (rule_of word component) text.now start 0 most result.0 0 }
     ensures empty { result.1 ≡ (result.0.count == 0) }
 {
-    match read_ahead(text, word, component, start, most) {
+    match read_ahead(text, word, component, start, first, most) {
         Some(read) => (read, read.end == start),
         None => {
             let read = read_fresh(text, word, component, start, most);
@@ -175,26 +202,30 @@ pub(super) fn read_text(
     requires within { start ≤ length text.now }
     ensures { ReadsTo (rule_of word component) text.now start 0 most result 0 }
 {
-    read_told(text, word, component, start, most).0
+    read_told(text, word, component, start, None, most).0
 }
 
 /// Reads the digits of a component from `start` on, where the slice is enough: up to a greatest
-/// value if one is asked for. There is no digit exactly if no byte was passed.
+/// value if one is asked for. There is no digit exactly if no byte was passed. The digit at `start`
+/// may be known.
 #[inline(always)]
 fn read_ahead(
     text: &[u8],
     word: u128,
     component: Component,
     start: usize,
+    first: Option<u32>,
     most: Option<u64>,
 ) -> Option<ReadTo>
     requires supported { IsTrue (is_supported word) }
     requires within { start ≤ length text.now }
+    requires first { let r = rule_of word component in
+        IfSome first (IsFirst r text.now start 0 most) }
     ensures reads { let r = rule_of word component in
         IfSome result (λ read. ReadsTo r text.now start 0 most read 0) }
     ensures empty { IfSome result (λ read. (read.end == start) ≡ (read.count == 0)) }
 {
-    read_slice(text, Rule::of(word, component), start, 0, most)
+    read_slice(text, Rule::of(word, component), start, 0, first, most)
 }
 
 /// Reads the digits of a component from `start` on by a `Bytes`, whatever separators are met: up to

@@ -1,15 +1,18 @@
 //! Numbers of any integer type.
 
-ghost use Rattle.std.specs.Prelude.{◌≡◌, ℕ, ℤ, ◌+◌, ◌^◌, ◌-◌, ◌<◌, ◌≤◌, pos, if◌then◌else◌, length, IfOk, IfErr, IsTrue};
+ghost use Rattle.std.specs.Prelude.{◌≡◌, ℕ, ℤ, ◌+◌, ◌^◌, ◌-◌, ◌<◌, ◌≤◌, pos, if◌then◌else◌, Some, length, false, IfSome, IfOk, IfErr, IsTrue};
 ghost use Rattle.lexical_format.specs.Word.{is_supported};
 ghost use Rattle.lexical_digits.specs.declared.skip.component.Component.TheVariants.{Integer};
 ghost use Rattle.lexical_digits.specs.State.{rule_of};
 ghost use Rattle.digit_literals.specs.Outcomes.{IfEmpty, IfOverflow};
 ghost use Rattle.digit_literals.specs.Numbers.{IsNumberFrom, ReadsNumber, IsNumberFault, digits_from, is_negative_from};
+ghost use Rattle.digit_literals.specs.Reads.{IsFirst};
 ghost use Rattle.digit_literals.specs.Whole.{signed, position};
 
-use super::wide::read_wide_from;
+use super::slice::first_digit;
+use super::wide::read_wide_on;
 use super::{LiteralError, ParseError};
+use lexical_digits::skip::{Component, Rule};
 
 /// A type of integers: `u8` to `u128`, `i8` to `i128`, `usize` and `isize`.
 pub trait Number: Copy {
@@ -260,26 +263,52 @@ impl Number for isize {
     }
 }
 
-/// Whether a number at a position is negative, and where its digits begin.
+/// What a number begins with.
+#[derive(Clone, Copy)]
+struct Head {
+    /// Whether it has a `-`.
+    is_negative: bool,
+    /// Where its digits begin.
+    begin: usize,
+    /// The digit there, if it was tested.
+    first: Option<u32>,
+}
+
+/// What a number begins with at a position.
 #[inline(always)]
 #[tactic(auto, using(std::proofs::lemmas::Option::gets))]
-fn read_sign<T: Number>(text: &[u8], start: usize) -> (bool, usize)
+fn read_head<T: Number>(text: &[u8], word: u128, start: usize) -> Head
     requires { start ≤ length text.now }
-    ensures negative { result.0 ≡ is_negative_from T.LEAST text.now start }
-    ensures begins { result.1 ≡ digits_from T.LEAST text.now start }
-    ensures onward { start ≤ result.1 }
-    ensures within { result.1 ≤ length text.now }
+    ensures negative { result.is_negative ≡ is_negative_from T.LEAST text.now start }
+    ensures begins { result.begin ≡ digits_from T.LEAST text.now start }
+    ensures first { let r = rule_of word Integer in
+        IfSome result.first (IsFirst r text.now result.begin 0 (Some T.MOST)) }
+    ensures positive { IfSome result.first (λ _. result.is_negative ≡ false) }
+    ensures onward { start ≤ result.begin }
+    ensures within { result.begin ≤ length text.now }
 {
+    let mut head = Head {
+        is_negative: false,
+        begin: start,
+        first: None,
+    };
     if T::LEAST == 0 {
-        return (false, start);
+        return head;
+    }
+    let rule = Rule::of(word, Component::Integer);
+    head.first = first_digit(text, rule, start, 0, T::MOST);
+    if head.first.is_some() {
+        return head;
     }
     match text.get(start) {
-        // both signs are below the digits: most numbers are told by one compare
-        Some(byte) if *byte >= b'0' => (false, start),
-        Some(b'-') => (true, start + 1),
-        Some(b'+') => (false, start + 1),
-        _ => (false, start),
+        Some(b'-') => {
+            head.is_negative = true;
+            head.begin = start + 1;
+        }
+        Some(b'+') => head.begin = start + 1,
+        _ => {}
     }
+    head
 }
 
 /// The number of a type that begins at `start`, and where it ends: an optional `+` or `-` if the
@@ -310,10 +339,10 @@ pub fn read_number_from<T: Number>(
     ensures overflow_at { let n = length text.now in
         IfOverflow result (λ at. (start ≤ at) × (at < n)) }
 {
-    let (is_negative, begin) = read_sign::<T>(text, start);
-    let most = if is_negative { T::LEAST } else { T::MOST };
-    let (magnitude, end) = read_wide_from(text, word, begin, most)?;
-    Ok((T::of_magnitude(is_negative, magnitude), end))
+    let head = read_head::<T>(text, word, start);
+    let most = if head.is_negative { T::LEAST } else { T::MOST };
+    let (magnitude, end) = read_wide_on(text, word, head.begin, head.first, most)?;
+    Ok((T::of_magnitude(head.is_negative, magnitude), end))
 }
 
 /// The number of a type that a text is from `start` on to its end. Otherwise the first fault; its

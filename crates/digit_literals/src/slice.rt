@@ -1,12 +1,13 @@
 //! Digits that are read off a slice. Where another separator than a lone one between two digits is
 //! met, a `Bytes` reads them.
 
-ghost use Rattle.std.specs.Prelude.{◌≡◌, ◌*◌, ◌+◌, ◌<◌, ◌≤◌, length, slice_index, true, option_and_then, IfSome, MatchOption};
+ghost use Rattle.std.specs.Prelude.{◌≡◌, ◌*◌, ◌+◌, ◌<◌, ◌≤◌, length, slice_index, true, false, Some, option_and_then, IfSome, MatchOption};
 ghost use Rattle.lexical_format.specs.Digits.{digit_of_radix};
 ghost use Rattle.lexical_digits.specs.Separators.{is_digit, IsSupported};
 ghost use Rattle.lexical_digits.specs.CallTable.{byte_at_place, settled};
 ghost use Rattle.lexical_digits.specs.Looks.{Costs};
-ghost use Rattle.digit_literals.specs.Reads.{IsMore, IsOffSlice, Passes, outcome};
+ghost use Rattle.digit_literals.specs.Numbers.{stands};
+ghost use Rattle.digit_literals.specs.Reads.{IsMore, IsFirst, IsOffSlice, Passes, outcome};
 
 use super::reading::{Digits, TooLarge, add_digit};
 use lexical_digits::iterator::Iter;
@@ -73,27 +74,56 @@ pub(super) fn is_inner(text: &[u8], rule: Rule, radix: u32, at: usize) -> bool
     rule.internal && at + 1 < text.len() && char_is_digit_const(text[at + 1], radix)
 }
 
+/// The decimal digit at a position, if one is there, the radix has it, and it is at most `most`. It
+/// is no sign, and no value is before it.
+#[inline(always)]
+#[tactic(auto, using(std::proofs::lemmas::Option::gets), unfolding(lexical_format::specs::Digits::digit_value))]
+pub(super) fn first_digit(
+    text: &[u8],
+    rule: Rule,
+    at: usize,
+    before: u64,
+    most: u128,
+) -> Option<u32>
+    ensures is { IfSome result (IsFirst rule text.now at before (Some most)) }
+    ensures minus { IfSome result (λ _. stands text.now at 45 ≡ false) }
+    ensures plus { IfSome result (λ _. stands text.now at 43 ≡ false) }
+{
+    if before > 0 {
+        return None;
+    }
+    let digit = u32::from(text.get(at)?.wrapping_sub(b'0'));
+    if digit < 10 && digit < rule.radix && u128::from(digit) <= most {
+        Some(digit)
+    } else {
+        None
+    }
+}
+
 /// Reads the digits of a rule from `start` on, after the value `before`, up to where they end, or
 /// up to the first with which the value is above `most`. `None` where a separator is met that isn't
-/// a lone one between two digits. Without `most` no value is asked for.
+/// a lone one between two digits. Without `most` no value is asked for. The digit at `start` may be
+/// known: it isn't tested again.
 #[inline(always)]
 pub(super) fn read_slice(
     text: &[u8],
     rule: Rule,
     start: usize,
     before: u64,
+    first: Option<u32>,
     most: Option<u64>,
 ) -> Option<ReadTo>
     requires supported { IsSupported rule }
     requires within { start ≤ length text.now }
     requires fits { IfSome most (λ m. before ≤ m) }
+    requires first { IfSome first (IsFirst rule text.now start before most) }
     ensures { IfSome result (IsOffSlice rule text.now start before most) }
 {
     // A compiler makes code of its own for a radix that is written out.
     if rule.radix == 10 {
-        read_radix(text, rule, 10, start, before, most)
+        read_radix(text, rule, 10, start, before, first, most)
     } else {
-        read_radix(text, rule, rule.radix, start, before, most)
+        read_radix(text, rule, rule.radix, start, before, first, most)
     }
 }
 
@@ -106,17 +136,22 @@ pub(super) fn read_radix(
     radix: u32,
     start: usize,
     before: u64,
+    first: Option<u32>,
     most: Option<u64>,
 ) -> Option<ReadTo>
     requires supported { IsSupported rule }
     requires radix { radix ≡ rule.radix }
     requires within { start ≤ length text.now }
     requires fits { IfSome most (λ m. before ≤ m) }
+    requires first { IfSome first (IsFirst rule text.now start before most) }
     ensures { IfSome result (IsOffSlice rule text.now start before most) }
 {
-    let mut value = before;
+    let (from, mut value) = match first {
+        Some(digit) => (start + 1, before * u64::from(radix) + u64::from(digit)),
+        None => (start, before),
+    };
     let mut separators = 0;
-    for at in start..text.len() {
+    for at in from..text.len() {
         let byte = text[at];
         if let Some(digit) = char_to_digit_const(byte, radix) {
             let Some(more) = add_if(value, radix, digit, most) else {

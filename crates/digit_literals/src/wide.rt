@@ -1,6 +1,6 @@
 //! Integers that may have more than 64 bits.
 
-ghost use Rattle.std.specs.Prelude.{◌≡◌, ◌+◌, ◌-◌, ◌*◌, ◌^◌, ◌<◌, ◌≤◌, length, true, false, IfOk, IfErr, IfSome, IsTrue, SomeIff};
+ghost use Rattle.std.specs.Prelude.{◌≡◌, ◌+◌, ◌-◌, ◌*◌, ◌^◌, ◌<◌, ◌≤◌, Some, length, true, false, IfOk, IfErr, IfSome, IsTrue, SomeIff};
 ghost use Rattle.std.specs.Str.Parse.{digits_value};
 ghost use Rattle.lexical_format.specs.Word.{is_supported};
 ghost use Rattle.lexical_digits.specs.declared.skip.component.Component.TheVariants.{Integer};
@@ -9,9 +9,10 @@ ghost use Rattle.lexical_digits.specs.Stop.{stop};
 ghost use Rattle.digit_literals.specs.After.{digits_between};
 ghost use Rattle.digit_literals.specs.Outcomes.{IfEmpty, IfOverflow};
 ghost use Rattle.digit_literals.specs.Integers.{ReadsFrom, IsIntegerFrom, IsTooLargeFrom};
+ghost use Rattle.digit_literals.specs.Reads.{IsFirst};
 
 use super::LiteralError;
-use super::integer::{integer_of, read_integer_from, read_told, stop_from};
+use super::integer::{integer_of, read_integer_on, read_told, stop_from};
 use super::slice::{ReadTo, read_slice};
 use lexical_digits::skip::{Component, Rule};
 use lexical_format::char_to_digit_const;
@@ -42,11 +43,35 @@ pub fn read_wide_from(
     ensures overflow_at { let n = length text.now in
         IfOverflow result (λ at. (start ≤ at) × (at < n)) }
 {
+    read_wide_on(text, word, start, None, most)
+}
+
+/// [`read_wide_from`], where the digit at `start` may be known.
+#[inline(always)]
+pub(super) fn read_wide_on(
+    text: &[u8],
+    word: u128,
+    start: usize,
+    first: Option<u32>,
+    most: u128,
+) -> Result<(u128, usize), LiteralError>
+    requires supported { IsTrue (is_supported word) }
+    requires within { start ≤ length text.now }
+    requires first { let r = rule_of word Integer in
+        IfSome first (IsFirst r text.now start 0 (Some most)) }
+    ensures reads { ReadsFrom (rule_of word Integer) text.now start most result }
+    ensures end { let n = length text.now in
+        IfOk result (λ read. (start ≤ read.1) × (read.1 ≤ n)) }
+    ensures empty_at { let n = length text.now in
+        IfEmpty result (λ at. (start ≤ at) × (at ≤ n)) }
+    ensures overflow_at { let n = length text.now in
+        IfOverflow result (λ at. (start ≤ at) × (at < n)) }
+{
     if most <= u128::from(u64::MAX) {
-        let (value, end) = read_integer_from(text, word, start, most as u64)?;
+        let (value, end) = read_integer_on(text, word, start, first, most as u64)?;
         return Ok((u128::from(value), end));
     }
-    let (read, is_empty) = read_told(text, word, Component::Integer, start, Some(u64::MAX));
+    let (read, is_empty) = read_told(text, word, Component::Integer, start, first, Some(u64::MAX));
     if read.is_too_large {
         let wide = read_beyond(text, word, start, read.end, read.value, most);
         if wide.is_too_large {
@@ -189,7 +214,7 @@ fn read_pieces(
     let mut value = u128::from(before);
     let mut at = from;
     while at < text.len() {
-        let read = read_slice(text, rule, at, 0, Some(u64::MAX))?;
+        let read = read_slice(text, rule, at, 0, None, Some(u64::MAX))?;
         value = join(value, rule.radix, read)?;
         if !read.is_too_large {
             return Some((value, read.end));

@@ -10,7 +10,7 @@ pass_read-requires-clause-within c = let reads = c.in-Some.ensures.reads 0 in gr
 
 pub returns-in-Some : goal.returns-in-Some
 returns-in-Some c =
-    let off = rw (c.rule-rule.ensures.value, c.get_buffer-text.ensures, c.cursor.ensures.value)
+    let off = rw (c.rule-rule.ensures.value, c.get_buffer-text.ensures, c.cursor-at.ensures.value)
     at c.in-Some.ensures in
     let reads = off.reads (own c.args.component c.args.bytes.now.state) in
     record { read = c.in-Some.read; passes = grind (arith, ints, none_needed); is = c.outcome.ensures }

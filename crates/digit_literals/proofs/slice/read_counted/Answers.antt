@@ -1,5 +1,5 @@
 use Rattle.std.proofs.Common.{◌≡◌, rules, arith}
-use Rattle.digit_literals.proofs.Counted.{one_read, falls, stops_before, ends_there}
+use Rattle.digit_literals.proofs.Counted.{one_read, fewer_left, stops_before, ends_there}
 use Rattle.digit_literals.proofs.slice.read_counted.Goals as goal
 
 pub loop-digit-init : goal.loop-digit-init
@@ -20,7 +20,7 @@ loop-digit-preserved c =
 pub loop-digit-smaller : goal.loop-digit-smaller
 loop-digit-smaller c =
     let peeked = c.peek_digit_of.ensures in
-    falls _ _ _ _ _ _ _ _ _ c.loop-digit.invariant peeked.costs peeked.settles c.in-Some.digit
+    fewer_left _ _ _ _ _ _ _ _ _ c.loop-digit.invariant peeked.costs peeked.settles c.in-Some.digit
     (search rules) _ c.next_of.ensures.takes.takes
 
 pub returns-in_default-add_if : goal.returns-in_default-add_if
