@@ -36,10 +36,10 @@ ascii_then [] rest h a = a
 ascii_then (d ∷ ds) rest h a =
     let r = digit_from_value d h.0 in IsAscii-cons d _ (omega arith) (ascii_then ds rest h.1 a)
 
-alone : (ds : List ℕ) → AllDigits 10 ds → IsAscii ds
-alone [] h = IsAscii-nil
-alone (d ∷ ds) h =
-    let r = digit_from_value d h.0 in IsAscii-cons d _ (omega arith) (alone ds h.1)
+ascii_digits : (ds : List ℕ) → AllDigits 10 ds → IsAscii ds
+ascii_digits [] h = IsAscii-nil
+ascii_digits (d ∷ ds) h =
+    let r = digit_from_value d h.0 in IsAscii-cons d _ (omega arith) (ascii_digits ds h.1)
 
 signed : (negative : Bool) (rest : List ℕ) → IsAscii rest → IsAscii (sign_text negative ++ rest)
 signed true rest a = IsAscii-cons 45 rest (omega arith) a
@@ -107,7 +107,7 @@ module _ (digits : List ℕ) (more : Bool) (up down : ℕ) (all : AllDigits 10 d
       (ascii_then (digits ++ (48 + last_digit more) ∷ []) _ well.whole_digits
       (IsAscii-cons 101 _ (omega arith)
       (signed (nat_lt 0 down) _
-      (alone (four_digits (if nat_lt 0 down then down else up)) well.exponent_digits))))
+      (ascii_digits (four_digits (if nat_lt 0 down then down else up)) well.exponent_digits))))
 
   whole_value : digits_value 10 ((digits ++ (48 + last_digit more) ∷ []) ++ [])
       ≡ digits_value 10 digits * 10 + last_digit more

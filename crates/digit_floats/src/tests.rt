@@ -124,6 +124,10 @@ fn a_float_is_read_from_a_start_on(rt: HostRuntime) {
     assert!(&rt; read == Ok((-1.05e11, 10)), "{read:?}");
     let part = parse_float_from::<f64>(b"x=2_5e-1", PYTHON_LITERAL, 2);
     assert!(&rt; part == Ok(2.5), "{part:?}");
+    let long = read_float::<f64>(b"-12345678901234567890.5, 1", PYTHON_LITERAL);
+    assert!(&rt; long == Ok((-12345678901234567890.5, 23)), "{long:?}");
+    let long = parse_float_from::<f64>(b"x=0.12345678901234567890123", PYTHON_LITERAL, 2);
+    assert!(&rt; long == Ok(0.12345678901234568), "{long:?}");
 }
 
 /// A text, then a byte so many times, then another text.
@@ -146,7 +150,7 @@ fn padded(
 /// Long numbers; their bits follow from the row's words.
 #[test]
 fn a_number_of_any_length_is_read(rt: HostRuntime) -> Result<(), AllocError> {
-    let rows: [(&[u8], u8, usize, &[u8], u64); 14] = [
+    let rows: [(&[u8], u8, usize, &[u8], u64); 19] = [
         // 2^53 + 1, in the middle: to the even one, and above it with a digit at the end
         (b"9007199254740993.", b'0', 770, b"", 0x4340000000000000),
         (b"9007199254740993.", b'0', 770, b"1", 0x4340000000000001),
@@ -160,6 +164,24 @@ fn a_number_of_any_length_is_read(rt: HostRuntime) -> Result<(), AllocError> {
             0x4340000000000001,
         ),
         (b"9007199254740992.", b'9', 100_000, b"", 0x4340000000000000),
+        // the same with a separator or an exponent
+        (b"9_007199254740993.", b'0', 2_000, b"", 0x4340000000000000),
+        (b"9_007199254740993.", b'0', 2_000, b"1", 0x4340000000000001),
+        (
+            b"9_007199254740992.",
+            b'9',
+            100_000,
+            b"",
+            0x4340000000000000,
+        ),
+        (
+            b"9007199254740993",
+            b'0',
+            100_000,
+            b"1e-100001",
+            0x4340000000000001,
+        ),
+        (b"0.", b'3', 2_000, b"e1", 0x400aaaaaaaaaaaab),
         // 1 / 3 and 1, with the point far from the first digit
         (b"0.", b'3', 2_000, b"", 0x3fd5555555555555),
         (b"0.", b'0', 100_000, b"1e100001", 0x3ff0000000000000),
