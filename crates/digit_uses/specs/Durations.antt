@@ -1,5 +1,5 @@
 -- A length of time in parts, as `1h30m`: each an integer and a unit.
-use Rattle.std.specs.Prelude.{◌≡◌, ℕ, ◌+◌, ◌-◌, ◌*◌, ◌^◌, ◌<◌, if◌then◌else◌, List, length, Option, Some, None}
+use Rattle.std.specs.Prelude.{◌≡◌, ℕ, ◌+◌, ◌-◌, ◌*◌, ◌^◌, ◌<◌, if◌then◌else◌, List, Option, Some, None}
 use Rattle.lexical_digits.specs.State.{rule_of}
 use Rattle.lexical_digits.specs.Stop.{stop}
 use Rattle.lexical_digits.specs.declared.skip.component.Component.TheVariants.{Integer}

@@ -7,10 +7,8 @@ use Rattle.lexical_digits.specs.declared.skip.component.Component.TheVariants.{I
 use Rattle.digit_floats.specs.Bytes.{stands, is_point, is_mark}
 use Rattle.digit_floats.specs.Float as floats
 use Rattle.digit_floats.specs.Float.{past_sign, float_at, float_end}
-use Rattle.digit_floats.specs.declared.FloatError.{FloatError}
 use Rattle.digit_languages.specs.declared.language.Language.{Language}
 use Rattle.digit_languages.specs.Literals.{HasDigits, is_refused, IsNoLiteral}
-use Rattle.digit_languages.specs.declared.literal.LanguageError.{LanguageError}
 use Rattle.digit_uses.specs.declared.number.Number.{Number}
 use Rattle.digit_uses.specs.declared.number.Number.TheVariants as variants
 use Rattle.digit_uses.specs.declared.number.NumberError.{NumberError}

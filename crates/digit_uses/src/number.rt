@@ -9,7 +9,7 @@ ghost use Rattle.digit_floats.specs.Bytes.{stands, is_point, is_mark};
 ghost use Rattle.digit_floats.specs.Float.{IsDecimal};
 ghost use Rattle.digit_languages.specs.Words.{IsLanguage};
 ghost use Rattle.digit_languages.specs.declared.languages.TheConstants.{CXX14, PYTHON};
-ghost use Rattle.digit_uses.specs.Number.{is_float, IsNumber, IsFault};
+ghost use Rattle.digit_uses.specs.Number.{IsNumber, IsFault};
 
 use digit_floats::{FloatError, read_float_from};
 use digit_languages::languages::{CXX14, PYTHON};

@@ -11,10 +11,10 @@ use Rattle.lexical_digits.proofs.Rule.Runs.{place_next, place_run}
 use Rattle.lexical_digits.proofs.Fields.AtTheCursor.{digit_apart, direct_counts, stepped}
 use Rattle.lexical_digits.proofs.Calls.NextTakesFirst.{takes_some}
 
-there : (separator : ℕ) (buffer : List ℕ) (q byte : ℕ) → Some byte ≡ slice_get buffer q
+separator_at_byte : (separator : ℕ) (buffer : List ℕ) (q byte : ℕ) → Some byte ≡ slice_get buffer q
     → separator_at separator buffer q ≡ is_separator separator byte
 unfolding separator_at
-there separator buffer q byte e = rw (sym e) refl
+separator_at_byte separator buffer q byte e = rw (sym e) refl
 
 -- a lone separator after counted digits and before a digit is dropped
 place_inner : (rule : Rule) (buffer : List ℕ) (q digit count : ℕ) → IsSupported rule
@@ -71,7 +71,7 @@ module _ (b : Inside) (k : Component) (reader : b.tally.reader ≡ k) (byte : �
       → FollowsDigit k (state_of b.slc.now b.format b.tally)
   follows_by is = record {
     here = rw (sym (separator_of k b.format))
-        (there (rule_of b.format k).separator b.slc.now b.tally.index byte at
+        (separator_at_byte (rule_of b.format k).separator b.slc.now b.tally.index byte at
         ∙ (inner_by is).separates);
     counted = counted_since b.slc.now b.format b.tally k reader (counts_by b k reader)
         (inner_by is).counting is.since;
@@ -86,7 +86,7 @@ module _ (b : Inside) (k : Component) (reader : b.tally.reader ≡ k) (byte : �
       let direct = direct_by b k reader digit true is.fits is.direct in
       let is_next = rw (inner_by is.here).internal at direct in
       let supported = supported_rule b.format k b.holds.word in
-      let apart = there r.separator b.slc.now (b.tally.index + 1) digit (sym is.next)
+      let apart = separator_at_byte r.separator b.slc.now (b.tally.index + 1) digit (sym is.next)
       ∙ digit_apart r digit supported is_next in
       let own_count = own k (state_of b.slc.now b.format b.tally) in
       record {
