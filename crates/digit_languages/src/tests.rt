@@ -4,6 +4,12 @@ use digit_literals::{Number, ParseError, parse_number};
 use lexical_format::words::PYTHON_LITERAL;
 use std::process::Abort;
 
+/// The number that a text is, with `_` between two digits.
+#[tactic(auto, unfolding(lexical_format::proofs::OnLiterals::lexical_on_literals))]
+fn parse<T: Number>(text: &[u8]) -> Result<T, ParseError> {
+    parse_number::<T>(text, PYTHON_LITERAL)
+}
+
 #[test]
 fn u8_bounds(rt: HostRuntime) {
     let rows: [(&[u8], Result<u8, ParseError>); 8] = [
@@ -17,13 +23,8 @@ fn u8_bounds(rt: HostRuntime) {
         (b"+1", Err(ParseError::Invalid(0))),
     ];
     for (text, answer) in rows {
-        assert!(&rt; parse_u8(text) == answer, "{}", text.len());
+        assert!(&rt; parse::<u8>(text) == answer, "{}", text.len());
     }
-}
-
-#[tactic(auto, unfolding(lexical_format::proofs::OnLiterals::lexical_on_literals))]
-fn parse_u8(text: &[u8]) -> Result<u8, ParseError> {
-    parse_number::<u8>(text, PYTHON_LITERAL)
 }
 
 #[test]
@@ -39,13 +40,8 @@ fn u16_bounds(rt: HostRuntime) {
         (b"+1", Err(ParseError::Invalid(0))),
     ];
     for (text, answer) in rows {
-        assert!(&rt; parse_u16(text) == answer, "{}", text.len());
+        assert!(&rt; parse::<u16>(text) == answer, "{}", text.len());
     }
-}
-
-#[tactic(auto, unfolding(lexical_format::proofs::OnLiterals::lexical_on_literals))]
-fn parse_u16(text: &[u8]) -> Result<u16, ParseError> {
-    parse_number::<u16>(text, PYTHON_LITERAL)
 }
 
 #[test]
@@ -61,13 +57,8 @@ fn u32_bounds(rt: HostRuntime) {
         (b"+1", Err(ParseError::Invalid(0))),
     ];
     for (text, answer) in rows {
-        assert!(&rt; parse_u32(text) == answer, "{}", text.len());
+        assert!(&rt; parse::<u32>(text) == answer, "{}", text.len());
     }
-}
-
-#[tactic(auto, unfolding(lexical_format::proofs::OnLiterals::lexical_on_literals))]
-fn parse_u32(text: &[u8]) -> Result<u32, ParseError> {
-    parse_number::<u32>(text, PYTHON_LITERAL)
 }
 
 #[test]
@@ -83,13 +74,8 @@ fn u64_bounds(rt: HostRuntime) {
         (b"+1", Err(ParseError::Invalid(0))),
     ];
     for (text, answer) in rows {
-        assert!(&rt; parse_u64(text) == answer, "{}", text.len());
+        assert!(&rt; parse::<u64>(text) == answer, "{}", text.len());
     }
-}
-
-#[tactic(auto, unfolding(lexical_format::proofs::OnLiterals::lexical_on_literals))]
-fn parse_u64(text: &[u8]) -> Result<u64, ParseError> {
-    parse_number::<u64>(text, PYTHON_LITERAL)
 }
 
 #[test]
@@ -117,13 +103,8 @@ fn u128_bounds(rt: HostRuntime) {
         (b"+1", Err(ParseError::Invalid(0))),
     ];
     for (text, answer) in rows {
-        assert!(&rt; parse_u128(text) == answer, "{}", text.len());
+        assert!(&rt; parse::<u128>(text) == answer, "{}", text.len());
     }
-}
-
-#[tactic(auto, unfolding(lexical_format::proofs::OnLiterals::lexical_on_literals))]
-fn parse_u128(text: &[u8]) -> Result<u128, ParseError> {
-    parse_number::<u128>(text, PYTHON_LITERAL)
 }
 
 #[test]
@@ -139,13 +120,8 @@ fn usize_bounds(rt: HostRuntime) {
         (b"+1", Err(ParseError::Invalid(0))),
     ];
     for (text, answer) in rows {
-        assert!(&rt; parse_usize(text) == answer, "{}", text.len());
+        assert!(&rt; parse::<usize>(text) == answer, "{}", text.len());
     }
-}
-
-#[tactic(auto, unfolding(lexical_format::proofs::OnLiterals::lexical_on_literals))]
-fn parse_usize(text: &[u8]) -> Result<usize, ParseError> {
-    parse_number::<usize>(text, PYTHON_LITERAL)
 }
 
 #[test]
@@ -165,13 +141,8 @@ fn i8_bounds(rt: HostRuntime) {
         (b"-0", Ok(0)),
     ];
     for (text, answer) in rows {
-        assert!(&rt; parse_i8(text) == answer, "{}", text.len());
+        assert!(&rt; parse::<i8>(text) == answer, "{}", text.len());
     }
-}
-
-#[tactic(auto, unfolding(lexical_format::proofs::OnLiterals::lexical_on_literals))]
-fn parse_i8(text: &[u8]) -> Result<i8, ParseError> {
-    parse_number::<i8>(text, PYTHON_LITERAL)
 }
 
 #[test]
@@ -191,13 +162,8 @@ fn i16_bounds(rt: HostRuntime) {
         (b"-0", Ok(0)),
     ];
     for (text, answer) in rows {
-        assert!(&rt; parse_i16(text) == answer, "{}", text.len());
+        assert!(&rt; parse::<i16>(text) == answer, "{}", text.len());
     }
-}
-
-#[tactic(auto, unfolding(lexical_format::proofs::OnLiterals::lexical_on_literals))]
-fn parse_i16(text: &[u8]) -> Result<i16, ParseError> {
-    parse_number::<i16>(text, PYTHON_LITERAL)
 }
 
 #[test]
@@ -217,13 +183,8 @@ fn i32_bounds(rt: HostRuntime) {
         (b"-0", Ok(0)),
     ];
     for (text, answer) in rows {
-        assert!(&rt; parse_i32(text) == answer, "{}", text.len());
+        assert!(&rt; parse::<i32>(text) == answer, "{}", text.len());
     }
-}
-
-#[tactic(auto, unfolding(lexical_format::proofs::OnLiterals::lexical_on_literals))]
-fn parse_i32(text: &[u8]) -> Result<i32, ParseError> {
-    parse_number::<i32>(text, PYTHON_LITERAL)
 }
 
 #[test]
@@ -243,13 +204,8 @@ fn i64_bounds(rt: HostRuntime) {
         (b"-0", Ok(0)),
     ];
     for (text, answer) in rows {
-        assert!(&rt; parse_i64(text) == answer, "{}", text.len());
+        assert!(&rt; parse::<i64>(text) == answer, "{}", text.len());
     }
-}
-
-#[tactic(auto, unfolding(lexical_format::proofs::OnLiterals::lexical_on_literals))]
-fn parse_i64(text: &[u8]) -> Result<i64, ParseError> {
-    parse_number::<i64>(text, PYTHON_LITERAL)
 }
 
 #[test]
@@ -287,13 +243,8 @@ fn i128_bounds(rt: HostRuntime) {
         (b"-0", Ok(0)),
     ];
     for (text, answer) in rows {
-        assert!(&rt; parse_i128(text) == answer, "{}", text.len());
+        assert!(&rt; parse::<i128>(text) == answer, "{}", text.len());
     }
-}
-
-#[tactic(auto, unfolding(lexical_format::proofs::OnLiterals::lexical_on_literals))]
-fn parse_i128(text: &[u8]) -> Result<i128, ParseError> {
-    parse_number::<i128>(text, PYTHON_LITERAL)
 }
 
 #[test]
@@ -313,11 +264,6 @@ fn isize_bounds(rt: HostRuntime) {
         (b"-0", Ok(0)),
     ];
     for (text, answer) in rows {
-        assert!(&rt; parse_isize(text) == answer, "{}", text.len());
+        assert!(&rt; parse::<isize>(text) == answer, "{}", text.len());
     }
-}
-
-#[tactic(auto, unfolding(lexical_format::proofs::OnLiterals::lexical_on_literals))]
-fn parse_isize(text: &[u8]) -> Result<isize, ParseError> {
-    parse_number::<isize>(text, PYTHON_LITERAL)
 }
