@@ -92,6 +92,8 @@ impl Work for Mantissas {
 struct Parts;
 
 impl Work for Parts {
+    const IS_APART: bool = true;
+
     #[inline(always)]
     fn on<F: Format>(text: &[u8], format: F) -> Outcome {
         let word = format.word();

@@ -9,6 +9,10 @@ use lexical_format::is_supported;
 
 /// What is done with a text. There is code of its own for each kind of word.
 pub trait Work {
+    /// Whether the loop over many texts is a function of its own for each kind of word, which then
+    /// has all registers.
+    const IS_APART: bool = false;
+
     /// Does it.
     fn on<F: Format>(text: &[u8], format: F) -> Outcome;
 }
@@ -53,11 +57,18 @@ fn each<W: Work, F: Format>(text: &[u8], lengths: &[u8], format: F) -> Outcome {
     total
 }
 
+/// [`each`] in a function of its own.
+#[inline(never)]
+fn each_apart<W: Work, F: Format>(text: &[u8], lengths: &[u8], format: F) -> Outcome {
+    each::<W, F>(text, lengths, format)
+}
+
 /// The work on a text, or, where there are lengths, on each of many.
 #[inline(always)]
 fn once_or_each<W: Work, F: Format>(text: &[u8], lengths: Option<&[u8]>, format: F) -> Outcome {
     match lengths {
         None => W::on(text, format),
+        Some(lengths) if W::IS_APART => each_apart::<W, F>(text, lengths, format),
         Some(lengths) => each::<W, F>(text, lengths, format),
     }
 }
