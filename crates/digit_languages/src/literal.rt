@@ -148,32 +148,22 @@ pub fn read_literal(
     ensures at { let n = length text.now in
         IfErr result (λ error. (start ≤ position error) × (position error ≤ n)) }
 {
-    if let Some(word) = prefix_word(language, text, start) {
-        let digits = start + 2;
-        return match read_wide_from(text, word, digits, most) {
-            Ok((value, end)) => Ok(Literal {
+    let prefix = prefix_word(language, text, start);
+    let (word, digits) = match prefix {
+        Some(word) => (word, start + 2),
+        None => (plain_word(language, text, start), start),
+    };
+    match read_wide_from(text, word, digits, most) {
+        Ok((value, end)) => {
+            if prefix.is_none() && refuses(language, text, start, value, end) {
+                return Err(LanguageError::Zero(start));
+            }
+            Ok(Literal {
                 value,
                 word,
                 digits,
                 end,
-            }),
-            Err(LiteralError::Empty(at)) => Err(LanguageError::Empty(at)),
-            Err(LiteralError::Overflow(at)) => Err(LanguageError::Overflow(at)),
-        };
-    }
-    let word = plain_word(language, text, start);
-    match read_wide_from(text, word, start, most) {
-        Ok((value, end)) => {
-            if refuses(language, text, start, value, end) {
-                Err(LanguageError::Zero(start))
-            } else {
-                Ok(Literal {
-                    value,
-                    word,
-                    digits: start,
-                    end,
-                })
-            }
+            })
         }
         Err(LiteralError::Empty(at)) => Err(LanguageError::Empty(at)),
         Err(LiteralError::Overflow(at)) => Err(LanguageError::Overflow(at)),
