@@ -3,7 +3,7 @@
 //!
 //! Proof by hand: 16 lines, two answers, which add up what is owed.
 
-ghost use Rattle.std.specs.Prelude.{◌≡◌, ◌+◌, ◌*◌, ◌≤◌, pos, ◌≤ℤ◌, ◌+ℤ◌, length, map, IfOk, OnOk, OnErr};
+ghost use Rattle.std.specs.Prelude.{◌≡◌, ◌+◌, ◌*◌, ◌≤◌, pos, ◌≤ℤ◌, ◌+ℤ◌, length, IfOk, OnOk, OnErr};
 ghost use Rattle.lexical_digits.specs.CallTable.{run_of};
 ghost use Rattle.lexical_digits.specs.Looks.{owed};
 ghost use Rattle.digit_script.specs.Script.{script_of, reads_of, set_backs_of};
