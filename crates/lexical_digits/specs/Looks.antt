@@ -80,19 +80,17 @@ pub record LooksBetween (old low high new : ℕ) : Type 0 where
 abbrev pub one_if : Bool → ℕ
 one_if answered = if answered then 1 else 0
 
--- the run and the looks that a read at a position leaves, where it is told whether a byte was
--- answered, and how many looks it takes at most beside three for each separator of a run that it
--- scans
-pub record Finds (most : ℕ) (rule : Rule) (buffer : List ℕ) (at : ℕ) (run : Option Run) (looks : ℕ)
-    (answered : Bool) (left : Option Run) (seen : ℕ) : Type 0 where
+-- the run that a decision at a position leaves, and the looks that it takes: at most so many beside
+-- three for each separator of a run that it scans
+pub record Finds (most : ℕ) (rule : Rule) (buffer : List ℕ) (at : ℕ) (run left : Option Run)
+    (looks : ℕ) : Type 0 where
   pub is_run : IsRunOrNone rule.separator buffer left
   pub unscanned_run : scans rule buffer at run ≡ false → left ≡ run
-  pub unscanned_looks : scans rule buffer at run ≡ false
-      → LooksBetween looks (one_if answered) most seen
+  pub unscanned_looks : scans rule buffer at run ≡ false → looks ≤ most
   pub scanned_run : scans rule buffer at run ≡ true → run_holds left at ≡ true
   pub scanned_looks : scans rule buffer at run ≡ true
-      → LooksBetween looks (one_if answered + run_length left) (most + 3 * run_length left) seen
-  pub without_separator : separator_at rule.separator buffer at ≡ false → seen ≤ looks + 2
+      → LooksBetween 0 (run_length left) (most + 3 * run_length left) looks
+  pub without_separator : separator_at rule.separator buffer at ≡ false → looks ≤ 1
 
 -- ---- what is owed
 
@@ -155,6 +153,20 @@ pub record Costs (k : Component) (a b : Held) : Type 0 where
   pub without_separator :
       separator_at (separator a.state.word) a.state.buffer a.state.cursor ≡ false
       → b.looks ≤ a.looks + 2
+
+-- a look from a to b at the byte at the cursor, if there is one
+pub record LooksHere (a b : Held) (answer : Option ℕ) : Type 0 where
+  pub byte : answer ≡ slice_get a.state.buffer a.state.cursor
+  pub state : b.state ≡ a.state
+  pub run : b.run ≡ a.run
+  pub looks : let n = one_if (is_some answer) in LooksBetween a.looks n n b.looks
+
+-- A way from a to b at the place of a component. With the look at the byte there it is a read.
+pub record SettlesOf (k : Component) (a b : Held) : Type 0 where
+  pub settles : b.state ≡ settled k a.state
+  pub costs : (c : Held) → c.state ≡ b.state → c.run ≡ b.run
+      → (let n = one_if (is_some (byte_at_place k a.state)) in LooksBetween b.looks n n c.looks)
+      → Costs k a c
 
 -- A read from a to b that leaves the byte where it is: it answers the byte at the place, where the
 -- cursor then stands.

@@ -1,6 +1,6 @@
 -- Reading where the cursor stands: nothing is passed over there, and nothing scanned.
 use Rattle.std.proofs.Common.{◌≡◌, ℕ, ◌+◌, ◌<◌, ◌≤◌, ◌≤ℤ◌, ◌&&◌, Bool, true, false, cond, Option, Some, None, [], refl, sym, ap, ◌∙◌, arith, slice_get, Bor, length}
-use Rattle.lexical_digits.specs.Laws.Terms.{Component, Integer, Fraction, Exponent, Special, Rule, separator, is_digit, is_separator, IsSupported, State, with_cursor, rule, is_contiguous, own, with_own, counts, count_after, saturating, is_direct, has_no_flags, place_of, counted, separator_at, scans, Held, Costs, PeeksOf, NextsOf, NoLooks, owed, not-true, or_parts, and_parts, and_left, nat_tests, slice_get_within}
+use Rattle.lexical_digits.specs.Laws.Terms.{Component, Integer, Fraction, Exponent, Special, Rule, separator, is_digit, is_separator, IsSupported, State, with_cursor, rule, is_contiguous, own, with_own, counts, count_after, saturating, is_direct, has_no_flags, place_of, counted, separator_at, scans, Held, Costs, PeeksOf, NextsOf, NoLooks, SettlesOf, LooksHere, byte_at_place, owed, not-true, or_parts, and_parts, and_left, nat_tests, slice_get_within}
 use Rattle.lexical_digits.specs.Laws.Table.{place_contiguous}
 use Rattle.lexical_digits.proofs.Rule.Supported.{supported_rule}
 use Rattle.lexical_digits.proofs.Rule.Runs.{separator_no_digit}
@@ -103,14 +103,21 @@ pub peeks_end : (k : Component) (a : Held) (answer : Option ℕ)
 peeks_end k a answer none e = let here = (here_end k a none).place in
     record { byte = rw (here, none) e; settles = rw here refl; costs = costs_end k a none }
 
-pub peeks_at : (k : Component) (a b : Held) (byte : ℕ) → IsHere k a
-    → Some byte ≡ slice_get a.state.buffer a.state.cursor
-    → b.state ≡ a.state → b.run ≡ a.run → b.looks ≡ saturating a.looks 1 → PeeksOf k a b (Some byte)
-peeks_at k a b byte here at state run looks = record {
-  byte = rw here.place at;
-  settles = rw here.place state;
-  costs = costs_on k a b 1 here run (grind arith) looks (omega arith) (omega arith);
+-- the cursor is at the place: only the look at the byte is left
+pub settles_here : (k : Component) (a : Held) → IsHere k a → SettlesOf k a a
+settles_here k a here = record {
+  settles = rw here.place refl;
+  costs = λ c state run more. costs_unscanned k a c run (omega (arith, ap (λ (s : State). s.cursor) state)) more.at_least (grind (arith, nat_tests, more.at_most)) (λ _. grind (arith, nat_tests, more.at_most)) (and_left _ _ here.unscanned);
 }
+
+pub peeks_settled : (k : Component) (a m b : Held) (answer : Option ℕ) → SettlesOf k a m
+    → LooksHere m b answer → PeeksOf k a b answer
+peeks_settled k a m b answer way look =
+    let byte : answer ≡ byte_at_place k a.state = rw way.settles at look.byte in record {
+      byte = byte;
+      settles = look.state ∙ way.settles;
+      costs = way.costs b look.state look.run (rw byte at look.looks);
+    }
 
 -- ---- a read that takes the byte
 
@@ -155,12 +162,16 @@ module _ (k : Component) (a m : Held) (item : Bor ℕ) (peeks : PeeksOf k a m (S
   }
 
 -- and found none
-pub ruleset finds_none = (takes_none, costs_then)
+pub nexts_none : (k : Component) (a b : Held) → PeeksOf k a b None → NextsOf k a b None
+nexts_none k a b peeks = record {
+  takes = takes_none k a.state b.state a.holds peeks.byte peeks.settles;
+  costs = peeks.costs;
+}
 
 -- ---- a read from m, before which only the reader changed
 
 module _ (k : Component) (a m b : Held) (same : m.state ≡ a.state) (no_looks : NoLooks a m) where
-  costs_switched : Costs k m b → Costs k a b
+  pub costs_switched : Costs k m b → Costs k a b
   costs_switched costs = record {
     owes = rw (← same, ← no_looks.run, ← no_looks.looks) costs.owes;
     at_least = rw (← same, ← no_looks.run, ← no_looks.looks) costs.at_least;
@@ -171,10 +182,15 @@ module _ (k : Component) (a m b : Held) (same : m.state ≡ a.state) (no_looks :
     without_separator = rw (← same, ← no_looks.looks) costs.without_separator;
   }
 
-  pub peeks_switched : (answer : Option ℕ) → PeeksOf k m b answer → PeeksOf k a b answer
-  peeks_switched answer peeks = grind (arith, peeks, same, costs_switched)
-
   pub nexts_switched : (result : Option (Bor ℕ)) → NextsOf k m b result → NextsOf k a b result
   nexts_switched result nexts = grind (arith, nexts, same, costs_switched)
 
-pub ruleset after_switch = (peeks_switched, nexts_switched)
+pub settles_switched : (k : Component) (a m b : Held) → m.state ≡ a.state → NoLooks a m
+    → SettlesOf k m b → SettlesOf k a b
+settles_switched k a m b same no_looks way = record {
+  settles = rw same at way.settles;
+  costs = λ c state run more.
+      costs_switched k a m c same no_looks (way.costs c state run (rw (sym same) at more));
+}
+
+pub ruleset after_switch = (nexts_switched)

@@ -8,6 +8,13 @@ use Rattle.lexical_digits.proofs.Looks.Owed.{separator_of}
 pub lower_by_or : (byte : ℕ) → bit_or byte 32 ≡ lower byte
 lower_by_or byte = omega (arith, or_add_and byte 32, and_pow byte 5)
 
+-- the figures and the letters that are digits
+pub digit_by : (rule : Rule) (byte : ℕ) → byte < 256
+    → (ltb ((byte + 208) % 256) (min rule.radix 10)
+    || ltb ((lower byte + 159) % 256) (min rule.radix 36 - 10)) ≡ is_digit rule byte
+unfolding is_digit digit_value
+digit_by rule byte fits = grind (arith, nat_tests)
+
 digit_test : (rule : Rule) (byte last letters : ℕ) → byte < 256 → 2 ≤ rule.radix
     → rule.radix ≤ 36 → last + 1 ≡ min rule.radix 10 → letters ≡ rule.radix - 10
     → (leb ((byte + 208) % 256) last || ltb ((lower byte + 159) % 256) letters)
@@ -20,6 +27,12 @@ direct_test : (rule : Rule) (s : Shortcuts) (byte : ℕ) → byte < 256 → IsSu
 direct_test rule s byte fits supported are =
     let figures = digit_test rule byte s.last_figure s.letters fits supported.low supported.high in
     grind (arith, nat_tests, are)
+
+-- another byte is no separator
+pub not_separator : (separator byte : ℕ) → (byte ≡ separator → ⊥)
+    → is_separator separator byte ≡ false
+unfolding is_separator
+not_separator separator byte other = grind (arith, nat_tests)
 
 -- what is decoded is that of the component that reads
 module _ (b : Inside) (k : Component) (reader : b.tally.reader ≡ k) where

@@ -1,6 +1,6 @@
 -- A lone separator between a counted digit and a digit, which is passed over in place.
 use Rattle.std.proofs.Common.{◌||◌, not, ltb, ◌≡◌, ℕ, ◌+◌, ◌<◌, ◌≤◌, Bool, true, false, Some, List, length, refl, sym, ap, ◌∙◌, arith, slice_get, Bor}
-use Rattle.lexical_digits.specs.Laws.Terms.{separator, Component, Rule, Inside, Tally, class, is_digit, is_separator, right_side, place, is_kept, holds_separator, IsSupported, State, with_cursor, rule, rule_of, own, counts, saturating, place_of, separator_at, Held, PeeksOf, NextsOf, passed_by, state_of, is_direct, IsInner, IsInnerAt, IsInnerDigit, FollowsDigit, false≢true, and_right, or_from, not_from_true, lt-ltb, nat_tests, slice_get_within}
+use Rattle.lexical_digits.specs.Laws.Terms.{separator, Component, Rule, Inside, Tally, class, is_digit, is_separator, right_side, place, is_kept, holds_separator, IsSupported, State, with_cursor, rule, rule_of, own, counts, saturating, place_of, separator_at, Held, SettlesOf, NextsOf, passed_by, state_of, is_direct, IsInner, IsInnerAt, IsInnerDigit, FollowsDigit, false≢true, and_right, or_from, not_from_true, lt-ltb, nat_tests, slice_get_within}
 use Rattle.lexical_digits.proofs.Rule.Supported.{supported_rule}
 use Rattle.lexical_digits.proofs.Fields.DirectBytes.{rule_by, counts_by, direct_by}
 use Rattle.lexical_digits.proofs.Fields.CarriedByCursor.{counted_since}
@@ -100,16 +100,16 @@ module _ (b : Inside) (k : Component) (reader : b.tally.reader ≡ k) (byte : �
             (not_from_true _ (lt-ltb 0 own_count follows.counted));
       }
 
-pub peeks_over : (k : Component) (a b : Held) (digit : ℕ) → PassesOver k a.state digit
+pub settles_over : (k : Component) (a b : Held) (digit : ℕ) → PassesOver k a.state digit
     → b.state ≡ with_cursor a.state (a.state.cursor + 1) → b.run ≡ a.run
-    → b.looks ≡ saturating a.looks 2 → PeeksOf k a b (Some digit)
-peeks_over k a b digit over state run looks = record {
-  byte = rw over.place (sym over.next);
+    → b.looks ≡ saturating a.looks 2 → SettlesOf k a b
+settles_over k a b digit over state run looks = record {
   settles = rw over.place state;
-  costs = let at = ap (λ (s : State). s.cursor) state in
-      costs_unscanned k a b run (omega (arith, at)) (grind (arith, nat_tests))
-      (omega (arith, looks)) (λ e. absurd (false≢true (sym e ∙ over.follows.here)))
-      (and_right _ _ over.free);
+  costs = λ c same_state same_run more.
+      let at = ap (λ (s : State). s.cursor) (same_state ∙ state) in
+      costs_unscanned k a c (same_run ∙ run) (omega (arith, at))
+      (grind (arith, nat_tests, more.at_least, looks)) (grind (arith, nat_tests, more.at_most, looks))
+      (λ e. absurd (false≢true (sym e ∙ over.follows.here))) (and_right _ _ over.free);
 }
 
 -- the separator is passed, which leaves m and the tally r; and then the digit

@@ -1,7 +1,7 @@
 -- What a read owes: a run that it scans lies behind what was scanned before.
 use Rattle.std.proofs.Common.{◌&&◌, ap, ◌≡◌, ℕ, ◌+◌, ◌-◌, ◌^◌, ◌≤◌, min, Bool, true, false, not, ltb, Option, Some, None, List, length, refl, sym, ◌∙◌, arith, pos, ◌≤ℤ◌, ◌+ℤ◌, ◌*◌, is_some, slice_get}
 use Rattle.std.proofs.Math.Bool.{and-not_self}
-use Rattle.lexical_digits.specs.Laws.Terms.{Component, separator, State, rule, rule_of, own, saturating, place_of, byte_at_place, settled, separator_at, IsRunOrNone, run_holds, run_length, scans, Finds, one_if, far, owed_by, Held, owed, Costs, NoLooks, Remembers, has_scanned, needs_run, FollowsDigit, not-true, false≢true, and_left, and_parts, nat_tests, ints, slice_get_cases}
+use Rattle.lexical_digits.specs.Laws.Terms.{Component, separator, State, rule, rule_of, own, saturating, byte_at_place, settled, separator_at, IsRunOrNone, run_holds, run_length, scans, Finds, one_if, far, owed_by, Held, owed, Costs, NoLooks, Remembers, has_scanned, needs_run, FollowsDigit, SettlesOf, LooksBetween, not-true, false≢true, and_left, and_parts, nat_tests, ints, slice_get_cases}
 use Rattle.lexical_digits.specs.declared.skip.decision.Run.{Run}
 use Rattle.lexical_digits.specs.Laws.Table.{place_from}
 
@@ -76,47 +76,66 @@ costs_unscanned k a b run l least most other free = record {
     none = rw run (and-not_self (run_holds a.run a.state.cursor))
 
 -- a read that arrives at its place, by a decision asked after a look at the next byte or none
-pub arrives : (k : Component) (a b : Held) (saw_next : Bool)
+pub arrives : (k : Component) (a b : Held) (saw_next : Bool) (seen : ℕ)
     → (saw_next ≡ true → FollowsDigit k a.state) → b.state ≡ settled k a.state
-    → Finds (3 + one_if (not (ltb 0 (own k a.state)))) (rule k a.state) a.state.buffer
-    a.state.cursor a.run (saturating a.looks (one_if saw_next))
-    (ltb (place_of k a.state) (length a.state.buffer)) b.run b.looks
-    → Costs k a b
-arrives k a b saw_next follows e saw =
-    here (scans (rule k a.state) a.state.buffer a.state.cursor a.run) refl
+    → Finds (2 + one_if (not (ltb 0 (own k a.state)))) (rule k a.state) a.state.buffer
+    a.state.cursor a.run b.run seen
+    → b.looks ≡ saturating a.looks (saturating seen (one_if saw_next))
+    → SettlesOf k a b
+arrives k a b saw_next seen follows e saw looks = record {
+  settles = e;
+  costs = λ c state run more.
+      here c state run more (scans (rule k a.state) a.state.buffer a.state.cursor a.run) refl;
+}
   where
+    answered : ℕ
+    answered = one_if (is_some (byte_at_place k a.state))
+
     one : one_if saw_next + one_if (not (ltb 0 (own k a.state))) ≤ 1
     one = grind (arith, nat_tests, follows)
 
-    other : separator_at (separator a.state.word) a.state.buffer a.state.cursor ≡ false
-        → b.looks ≤ a.looks + 2
-    other f = grind (arith, saw.without_separator, follows, separator_of k a.state.word)
+    few : answered ≤ 1
+    few = grind (arith, nat_tests)
 
-    onward : a.state.cursor ≤ b.state.cursor
-    onward = omega (arith, ap (λ (s : State). s.cursor) e, place_from k a.state a.holds.within)
+    other : (c : Held) → LooksBetween b.looks answered answered c.looks
+        → separator_at (separator a.state.word) a.state.buffer a.state.cursor ≡ false
+        → c.looks ≤ a.looks + 2
+    other c more f =
+        let none : one_if saw_next ≡ 0 = grind (arith, follows, f) in
+        let found : seen ≤ 1 = saw.without_separator (rw separator_of f) in
+        omega (arith, more.at_most, looks, few, none, found)
 
-    here : (t : Bool) → scans (rule k a.state) a.state.buffer a.state.cursor a.run ≡ t → Costs k a b
-    here false free =
-        let looks = saw.unscanned_looks free in
-        costs_unscanned k a b (saw.unscanned_run free) onward
-        (rw answered_by (omega (arith, looks.at_least))) (omega (arith, looks.at_most, one)) other
+    onward : (c : Held) → c.state ≡ b.state → a.state.cursor ≤ c.state.cursor
+    onward c state = omega (arith, ap (λ (s : State). s.cursor) (state ∙ e), place_from k a.state a.holds.within)
+
+    here : (c : Held) → c.state ≡ b.state → c.run ≡ b.run
+        → LooksBetween b.looks answered answered c.looks
+        → (t : Bool) → scans (rule k a.state) a.state.buffer a.state.cursor a.run ≡ t → Costs k a c
+    here c state run more false free =
+        costs_unscanned k a c (run ∙ saw.unscanned_run free) (onward c state)
+        (omega (arith, more.at_least, looks))
+        (omega (arith, more.at_most, looks, saw.unscanned_looks free, one, few)) (other c more)
         (and_left _ _ free)
-    here true some =
-        let looks = saw.scanned_looks some in
+    here c state run more true some =
+        let found = saw.scanned_looks some in
         let separates = separator_at (rule k a.state).separator a.state.buffer a.state.cursor in
         let no : run_holds a.run a.state.cursor ≡ false =
         not-true _ (and_parts ((rule k a.state).consecutive && separates) _ some).1 in
-        let has : has_scanned a b ≡ true = rw (saw.scanned_run some, no) refl in
-        let rises = far_scanned (rule k a.state).separator a.state.buffer a.run b.run a.state.cursor
-        b.state.cursor (rw separator_of a.remembers) saw.is_run no (saw.scanned_run some) onward in
+        let holds : run_holds c.run a.state.cursor ≡ true = rw run (saw.scanned_run some) in
+        let has : has_scanned a c ≡ true = rw (holds, no) refl in
+        let is_run = rw (sym run) at saw.is_run in
+        let rises = far_scanned (rule k a.state).separator a.state.buffer a.run c.run a.state.cursor
+        c.state.cursor (rw separator_of a.remembers) is_run no holds (onward c state) in
+        let low = rw (sym run) at found.at_least in
+        let high = rw (sym run) at found.at_most in
         record {
-          owes = omega (arith, ints, looks.at_most, rises, one);
-          at_least = rw (has, answered_by) (omega (arith, looks.at_least));
-          at_most = rw has (omega (arith, looks.at_most, one));
+          owes = omega (arith, ints, more.at_most, looks, high, rises, one, few);
+          at_least = rw has (omega (arith, more.at_least, looks, low));
+          at_most = rw has (omega (arith, more.at_most, looks, high, one, few));
           unscanned = λ f. absurd (false≢true (sym f ∙ has));
           needed = λ _. has;
           allowed = λ _. some;
-          without_separator = other;
+          without_separator = other c more;
         }
 
 -- a step after a read costs nothing

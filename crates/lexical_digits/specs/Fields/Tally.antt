@@ -1,5 +1,5 @@
 -- What a `Tally` stands for: the state that its cursor carries, and the looks.
-use Rattle.std.specs.Prelude.{◌≡◌, ⊤, ℕ, ◌-◌, ◌*◌, Bool, true, false, ◌&&◌, if◌then◌else◌, List}
+use Rattle.std.specs.Prelude.{◌≡◌, ⊤, ℕ, ◌-◌, ◌*◌, ◌^◌, Bool, true, false, ◌&&◌, if◌then◌else◌, List}
 use Rattle.lexical_digits.specs.declared.skip.component.Component.{Component}
 use Rattle.lexical_digits.specs.declared.skip.component.Component.TheVariants.{Integer, Fraction, Exponent, Special}
 use Rattle.lexical_digits.specs.declared.skip.bytes.tally.Tally.{Tally}
@@ -41,9 +41,9 @@ count_of Fraction t = fraction_of t
 count_of Exponent t = exponent_of t
 count_of Special t = integer_of t
 
--- each byte from `looked_from` on took two looks
+-- the looks of which `looks_left` are left, and two for each byte from `looked_from` on
 unfoldable pub looks_of : Tally → ℕ
-looks_of t = saturating t.looks (2 * (t.index - t.looked_from))
+looks_of t = saturating (2 ^ 64 - 1 - t.looks_left) (2 * (t.index - t.looked_from))
 
 -- the four, to be named in an attribute
 unfoldable pub all_of : ⊤

@@ -50,7 +50,7 @@ pub use Rattle.lexical_digits.specs.Texts.{IsInternalAlone, IsInternalInRuns, is
 pub use Rattle.lexical_digits.specs.Texts.{is_digit_or_separator, IsFirstFault, holds_digit}
 pub use Rattle.lexical_digits.specs.Texts.{digit_before, AllDigitsOrSeparators, AllDigitsOrBetween}
 pub use Rattle.lexical_digits.specs.Texts.{IsFromDigitToDigit}
-pub use Rattle.lexical_digits.specs.Looks.{Held, PeeksOf, NextsOf, slice_before, Costs, Finds}
+pub use Rattle.lexical_digits.specs.Looks.{Held, PeeksOf, NextsOf, SettlesOf, LooksHere, slice_before, Costs, Finds}
 pub use Rattle.lexical_digits.specs.Looks.{IsRun, IsRunOrNone, IsSpan, LooksBetween, Remembers}
 pub use Rattle.lexical_digits.specs.Looks.{NoLooks, far, has_scanned, needs_run, one_if, owed}
 pub use Rattle.lexical_digits.specs.Looks.{owed_by, run_holds, run_length, scans}

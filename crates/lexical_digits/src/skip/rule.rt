@@ -9,7 +9,7 @@ ghost use Rattle.lexical_digits.specs.Separators.{class, is_digit, is_separator,
 ghost use Rattle.lexical_digits.specs.State.{radix_of, rule_at, special_rule, rule_of, is_special};
 
 use super::component::Component;
-use lexical_format::{NumberFormat, char_is_digit_const};
+use lexical_format::NumberFormat;
 
 /// The bytes that are a component's digits and separators, and the separators that it drops.
 ///
@@ -113,12 +113,13 @@ impl Rule {
     }
 
     /// Whether a byte is a digit of the radix.
-    #[tactic(auto, unfolding(crate::specs::Separators::is_digit))]
     #[inline(always)]
     pub fn is_digit(self, byte: u8) -> bool
         ensures { result ≡ is_digit self byte }
     {
-        char_is_digit_const(byte, self.radix)
+        let figures = self.radix.min(10) as u8;
+        let letters = self.radix.min(36).saturating_sub(10) as u8;
+        byte.wrapping_sub(b'0') < figures || (byte | 0x20).wrapping_sub(b'a') < letters
     }
 
     /// Whether a byte is the separator. A separator of zero means that no byte is one.

@@ -21,7 +21,7 @@
 ghost use Rattle.std.specs.Prelude.{◌≡◌, ℕ, ◌+◌, ◌<◌, ◌≤◌, length, Some, option_copied, nat_lt, not, true, IfSome, slice_get};
 ghost use Rattle.lexical_digits.specs.Separators.{place, IsSupported};
 ghost use Rattle.lexical_digits.specs.State.{rule_of};
-ghost use Rattle.lexical_digits.specs.Looks.{IsRunOrNone, Finds, PeeksOf, NextsOf, NoLooks, one_if};
+ghost use Rattle.lexical_digits.specs.Looks.{IsRunOrNone, Finds, PeeksOf, NextsOf, SettlesOf, LooksHere, NoLooks, one_if};
 ghost use Rattle.lexical_digits.specs.Fields.Bytes.{IsInnerAt, IsInnerDigit, FollowsDigit, has_no_flags};
 
 use super::Bytes;
@@ -30,7 +30,7 @@ use crate::skip::component::Component;
 use crate::skip::decision::{ByteSource, Run, SliceSource, decide};
 use crate::skip::rule::{Rule, Shortcuts};
 
-/// The place to which a read goes, the run that it leaves, and all looks so far.
+/// The place that a decision found, the run that it leaves, and the looks that it took.
 #[derive(Clone, Copy)]
 struct Found {
     place: usize,
@@ -38,23 +38,21 @@ struct Found {
     looks: u64,
 }
 
-/// The place from a position on, by the decision. The source counts each look: those of the
-/// decision, and one at the byte of the place.
+/// The place from a position on, by the decision. The source counts each look; the look at the byte
+/// of the place is left to the caller.
 #[cold]
 #[inline(never)]
-fn find(mut src: SliceSource<'_>, rule: Rule, at: usize, counted: bool, run: Option<Run>) -> Found
+fn find(slc: &[u8], rule: Rule, at: usize, counted: bool, run: Option<Run>) -> Found
     requires supported { IsSupported rule }
-    requires within { at ≤ length src.content }
-    requires remembered { IsRunOrNone rule.separator src.content run }
+    requires within { at ≤ length slc.now }
+    requires remembered { IsRunOrNone rule.separator slc.now run }
     ensures place { (count : ℕ) → counted ≡ nat_lt 0 count
-        → result.place ≡ place rule src.entry.content at count }
-    ensures finds { Finds (3 + one_if (not counted)) rule src.entry.content at run src.entry.looks
-        (nat_lt result.place (length src.entry.content)) result.run result.looks }
+        → result.place ≡ place rule slc.now at count }
+    ensures finds { let most = 2 + one_if (not counted) in
+        Finds most rule slc.now at run result.run result.looks }
 {
+    let mut src = SliceSource::new(slc);
     let sight = decide(&mut src, rule, at, counted, run);
-    if sight.place < src.length() {
-        src.at(sight.place);
-    }
     Found {
         place: sight.place,
         run: sight.run,
@@ -97,55 +95,52 @@ impl<'a> Bytes<'a> {
     /// The next byte that a component keeps. The cursor moves to that byte. This is `peek` of the
     /// component's iterator.
     #[inline(always)]
-    #[tactic(auto, using(crate::proofs::Fields::AtTheCursor::after_switch))]
     pub fn peek_of(&mut self, component: Component) -> Option<&'a u8>
         ensures { PeeksOf component self.old self.new (option_copied result) }
     {
         if self.has_no_flags {
-            return self.peek_unflagged(component);
-        }
-        self.read_as(component);
-        self.peek_flagged(component)
-    }
-
-    /// What `peek_of` answers. It is for the iterators, whose component reads from where they are
-    /// made: one that doesn't read yet asks the decision, even at a digit.
-    #[inline(always)]
-    pub(crate) fn peek_by(&mut self, component: Component) -> Option<&'a u8>
-        ensures { PeeksOf component self.old self.new (option_copied result) }
-    {
-        if self.has_no_flags {
-            return self.peek_unflagged(component);
-        }
-        self.peek_flagged(component)
-    }
-
-    /// The next byte that a component keeps, where any component may have a flag. The cursor moves
-    /// to that byte.
-    #[inline(always)]
-    fn peek_flagged(&mut self, component: Component) -> Option<&'a u8>
-        ensures { PeeksOf component self.old self.new (option_copied result) }
-    {
-        if !self.tally.is_reader(component) {
-            let rule = self.switch_reader(component);
-            return self.peek_decided(component, rule, false);
+            return self.look();
         }
         let byte = byte_at(self.slc, self.tally.index)?;
-        if !self.rule.is_separator(*byte) {
-            self.tally.look();
-            return Some(byte);
+        self.settle(component, *byte);
+        self.look()
+    }
+
+    /// Moves the cursor from a byte to the place of a component. The look at the byte there is left
+    /// to the caller.
+    #[inline(always)]
+    fn settle(&mut self, component: Component, byte: u8)
+        requires { Some byte ≡ slice_get self.old.state.buffer self.old.state.cursor }
+        ensures { SettlesOf component self.old self.new }
+    {
+        if byte != self.rule.separator {
+            return;
         }
-        if self.shortcuts.is_direct(*byte) {
-            self.tally.look();
-            return Some(byte);
+        if !self.tally.is_reader(component) {
+            let rule = self.switch_reader(component);
+            self.settle_decided(component, rule, false);
+            return;
         }
-        let (next, saw_next) = inner_digit(self.slc, self.tally, self.shortcuts, *byte);
-        if let Some(next) = next {
+        let (next, saw_next) = inner_digit(self.slc, self.tally, self.shortcuts, byte);
+        if let Some(_) = next {
             self.tally.pass_other();
-            return Some(next);
+            return;
+        }
+        if self.shortcuts.is_direct(byte) {
+            return;
         }
         let rule = self.rule;
-        self.peek_decided(component, rule, saw_next)
+        self.settle_decided(component, rule, saw_next);
+    }
+
+    /// The byte at the cursor, by one look.
+    #[inline(always)]
+    fn look(&mut self) -> Option<&'a u8>
+        ensures { LooksHere self.old self.new (option_copied result) }
+    {
+        let byte = byte_at(self.slc, self.tally.index)?;
+        self.tally.look(1);
+        Some(byte)
     }
 
     /// The next byte that a component keeps. The cursor moves past that byte, and the component
@@ -160,18 +155,6 @@ impl<'a> Bytes<'a> {
             return self.next_unflagged(component);
         }
         self.read_as(component);
-        self.next_flagged(component)
-    }
-
-    /// What `next_of` answers. It is for the iterators, whose component reads from where they are
-    /// made: one that doesn't read yet asks the decision, even at a digit.
-    #[inline(always)]
-    pub(crate) fn next_by(&mut self, component: Component) -> Option<&'a u8>
-        ensures { NextsOf component self.old self.new result }
-    {
-        if self.has_no_flags {
-            return self.next_unflagged(component);
-        }
         self.next_flagged(component)
     }
 
@@ -205,17 +188,6 @@ impl<'a> Bytes<'a> {
         }
         let rule = self.rule;
         self.next_decided(component, rule, saw_next)
-    }
-
-    /// The byte at the cursor, which is the place where no component has a flag.
-    #[inline(always)]
-    fn peek_unflagged(&mut self, component: Component) -> Option<&'a u8>
-        requires { has_no_flags self.old.state.word ≡ true }
-        ensures { PeeksOf component self.old self.new (option_copied result) }
-    {
-        let byte = byte_at(self.slc, self.tally.index)?;
-        self.tally.look();
-        Some(byte)
     }
 
     /// The byte at the cursor, which is passed, where no component has a flag.
@@ -256,37 +228,32 @@ impl<'a> Bytes<'a> {
         rule
     }
 
-    /// The byte at the place, by the decision. The cursor moves to that byte. `saw_next` says that
-    /// the byte after the cursor was looked at before.
+    /// Moves the cursor to the place of a component, by the decision. The look at the byte there is
+    /// left to the caller. `saw_next` says that the byte after the cursor was looked at before.
     #[inline(always)]
-    fn peek_decided(&mut self, component: Component, rule: Rule, saw_next: bool) -> Option<&'a u8>
+    fn settle_decided(&mut self, component: Component, rule: Rule, saw_next: bool)
         requires rule { rule ≡ rule_of self.old.state.word component }
         requires saw_next { saw_next ≡ true → FollowsDigit component self.old.state }
-        ensures { PeeksOf component self.old self.new (option_copied result) }
+        ensures { SettlesOf component self.old self.new }
     {
-        let looks = self.tally.looks().saturating_add(saw_next as u64);
         let counted = 0 < self.tally.count(component);
-        let src = SliceSource {
-            slc: self.slc,
-            looks,
-        };
-        let found = find(src, rule, self.tally.index, counted, self.run);
-        self.tally.move_found(found.place, found.looks);
+        let found = find(self.slc, rule, self.tally.index, counted, self.run);
+        let looks = found.looks.saturating_add(saw_next as u64);
+        self.tally.move_found(found.place, looks);
         self.run = found.run;
-        byte_at(self.slc, found.place)
     }
 
     /// The byte at the place, by the decision. The cursor moves past that byte, and the component
     /// counts it if it is a digit. `saw_next` says that the byte after the cursor was looked at
     /// before.
-    #[tactic(auto, using(crate::proofs::Fields::AtTheCursor::finds_none))]
     #[inline(always)]
     fn next_decided(&mut self, component: Component, rule: Rule, saw_next: bool) -> Option<&'a u8>
         requires rule { rule ≡ rule_of self.old.state.word component }
         requires saw_next { saw_next ≡ true → FollowsDigit component self.old.state }
         ensures { NextsOf component self.old self.new result }
     {
-        let byte = self.peek_decided(component, rule, saw_next)?;
+        self.settle_decided(component, rule, saw_next);
+        let byte = self.look()?;
         let is_counted = rule.counts_byte(component, *byte);
         self.tally.pass_seen(component, is_counted);
         Some(byte)

@@ -20,8 +20,9 @@ pub(super) struct Tally {
     pub(super) counted_from: usize,
     /// The bytes from here to the cursor took two looks each.
     pub(super) looked_from: usize,
-    /// The other looks, stopping at `u64::MAX`.
-    pub(super) looks: u64,
+    /// How many looks can still be counted, without those. It is `u64::MAX` less the other looks,
+    /// since a processor stops at zero in fewer steps than at the greatest number.
+    pub(super) looks_left: u64,
     /// The integer's count, without the bytes from `counted_from` on; the same of the next two.
     pub(super) integer: usize,
     pub(super) fraction: usize,
@@ -52,7 +53,7 @@ impl Tally {
             index,
             counted_from: index,
             looked_from: index,
-            looks: 0,
+            looks_left: u64::MAX,
             integer: 0,
             fraction: 0,
             exponent: 0,
@@ -97,7 +98,7 @@ impl Tally {
         ensures { result ≡ looks_of self }
     {
         let since = (self.index - self.looked_from) as u64;
-        self.looks.saturating_add(since).saturating_add(since)
+        u64::MAX - self.looks_left.saturating_sub(since).saturating_sub(since)
     }
 
     /// Makes a component the reader, from the cursor on, and stores the counts. Counts no digit and
@@ -139,7 +140,7 @@ impl Tally {
         ensures { Leaves self.old self.new (λ s. with_cursor s index) index (looks_of self.old) }
     {
         if index < self.index {
-            self.move_found(index, self.looks());
+            self.move_found(index, 0);
         } else {
             self.move_onward(index);
         }
@@ -157,17 +158,18 @@ impl Tally {
         self.looked_from += bytes;
     }
 
-    /// Moves the cursor to a place that was found, where `looks` are all looks so far. Counts no
-    /// digit.
+    /// Moves the cursor to a place that was found by that many looks. Counts no digit.
     #[inline(always)]
     pub(super) fn move_found(&mut self, place: usize, looks: u64)
-        ensures { Leaves self.old self.new (λ s. with_cursor s place) place looks }
+        ensures { let looks = saturating (looks_of self.old) looks in
+            Leaves self.old self.new (λ s. with_cursor s place) place looks }
     {
+        let looks_left = u64::MAX - self.looks();
         *self = Tally {
             index: place,
             counted_from: place,
             looked_from: place,
-            looks,
+            looks_left: looks_left.saturating_sub(looks),
             integer: self.count(Component::Integer),
             fraction: self.count(Component::Fraction),
             exponent: self.count(Component::Exponent),
@@ -201,13 +203,13 @@ impl Tally {
         self.exponent = 0;
     }
 
-    /// Counts one look. The cursor stays.
+    /// Counts that many looks. The cursor stays.
     #[inline(always)]
-    pub(super) fn look(&mut self)
-        ensures { let looks = saturating (looks_of self.old) 1 in
+    pub(super) fn look(&mut self, times: u64)
+        ensures { let looks = saturating (looks_of self.old) times in
             Leaves self.old self.new (λ s. s) self.old.index looks }
     {
-        self.looks = self.looks.saturating_add(1);
+        self.looks_left = self.looks_left.saturating_sub(times);
     }
 
     /// Passes one byte: counts two looks, and a digit if the reader counts.

@@ -148,7 +148,7 @@ impl<'a: 'b, 'b> Iterator for ExponentDigitsIterator<'a, 'b> {
 
     #[inline(always)]
     fn next(&mut self) -> Option<&'a u8> {
-        self.byte.next_by(Component::Exponent)
+        self.byte.next_of(Component::Exponent)
     }
 
     /// The size hint of lexical-util's iterators: `(0, None)`.
@@ -189,7 +189,7 @@ impl<'a: 'b, 'b> DigitsIter<'a> for ExponentDigitsIterator<'a, 'b> {
     fn peek(&mut self) -> Option<&'a u8>
         ensures { Peeks Exponent self.old.byte self.new.byte result }
     {
-        self.byte.peek_by(Component::Exponent)
+        self.byte.peek_of(Component::Exponent)
     }
 
     #[inline(always)]

@@ -148,7 +148,7 @@ impl<'a: 'b, 'b> Iterator for FractionDigitsIterator<'a, 'b> {
 
     #[inline(always)]
     fn next(&mut self) -> Option<&'a u8> {
-        self.byte.next_by(Component::Fraction)
+        self.byte.next_of(Component::Fraction)
     }
 
     /// The size hint of lexical-util's iterators: `(0, None)`.
@@ -189,7 +189,7 @@ impl<'a: 'b, 'b> DigitsIter<'a> for FractionDigitsIterator<'a, 'b> {
     fn peek(&mut self) -> Option<&'a u8>
         ensures { Peeks Fraction self.old.byte self.new.byte result }
     {
-        self.byte.peek_by(Component::Fraction)
+        self.byte.peek_of(Component::Fraction)
     }
 
     #[inline(always)]

@@ -148,7 +148,7 @@ impl<'a: 'b, 'b> Iterator for IntegerDigitsIterator<'a, 'b> {
 
     #[inline(always)]
     fn next(&mut self) -> Option<&'a u8> {
-        self.byte.next_by(Component::Integer)
+        self.byte.next_of(Component::Integer)
     }
 
     /// The size hint of lexical-util's iterators: `(0, None)`.
@@ -189,7 +189,7 @@ impl<'a: 'b, 'b> DigitsIter<'a> for IntegerDigitsIterator<'a, 'b> {
     fn peek(&mut self) -> Option<&'a u8>
         ensures { Peeks Integer self.old.byte self.new.byte result }
     {
-        self.byte.peek_by(Component::Integer)
+        self.byte.peek_of(Component::Integer)
     }
 
     #[inline(always)]

@@ -127,7 +127,7 @@ impl<'a: 'b, 'b> Iterator for SpecialDigitsIterator<'a, 'b> {
 
     #[inline(always)]
     fn next(&mut self) -> Option<&'a u8> {
-        self.byte.next_by(Component::Special)
+        self.byte.next_of(Component::Special)
     }
 
     /// The size hint of lexical-util's iterators: `(0, None)`.
@@ -168,7 +168,7 @@ impl<'a: 'b, 'b> DigitsIter<'a> for SpecialDigitsIterator<'a, 'b> {
     fn peek(&mut self) -> Option<&'a u8>
         ensures { Peeks Special self.old.byte self.new.byte result }
     {
-        self.byte.peek_by(Component::Special)
+        self.byte.peek_of(Component::Special)
     }
 
     #[inline(always)]

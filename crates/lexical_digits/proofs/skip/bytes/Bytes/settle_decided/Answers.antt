@@ -1,10 +1,10 @@
-use Rattle.std.proofs.Common.{◌≡◌, sym, refl, ◌∙◌, ap, rules, min, ◌+◌, ◌-◌, ◌^◌, ◌≤◌, length, slice_get}
-use Rattle.lexical_digits.specs.Laws.Terms.{with_cursor, one_if, place_of, state_of, held_of}
+use Rattle.std.proofs.Common.{◌≡◌, sym, refl, ◌∙◌, ap, rules, ◌≤◌, length}
+use Rattle.lexical_digits.specs.Laws.Terms.{with_cursor, one_if, place_of, state_of, held_of, saturating}
 use Rattle.lexical_digits.specs.Laws.Table.{place_to}
 use Rattle.lexical_digits.proofs.Rule.Supported.{supported_by}
 use Rattle.lexical_digits.proofs.Looks.Owed.{arrives, separator_of}
 use Rattle.lexical_digits.proofs.Fields.CarriedByCursor.{own_counted, state_moved, carried, remembered}
-use Rattle.lexical_digits.proofs.skip.bytes.Bytes.peek_decided.Goals as goal
+use Rattle.lexical_digits.proofs.skip.bytes.Bytes.settle_decided.Goals as goal
 
 pub find-found-requires-clause-supported : goal.find-found-requires-clause-supported
 find-found-requires-clause-supported c =
@@ -35,14 +35,11 @@ returns c =
     let rule_is = rw (sym c.self.view_is) at c.requires.rule in
     let follows = rw (sym c.self.view_is) at c.requires.saw_next in
     let own_is = c.count-counted.ensures ∙ sym (own_counted k b.slc.now b.format b.tally) in
+    let found = rw (rule_is, own_is) at c.find-found.ensures in
+    let left = c.move_found.ensures.state b.slc.now b.format
+    ∙ ap (with_cursor a.state) (found.place _ refl) in
     let looks : c.saturating_add-looks.result
-    ≡ min (a.looks + one_if c.args.saw_next) (2 ^ 64 - 1) = search rules in
-    let found = rw (rule_is, own_is, looks) at c.find-found.ensures in
-    let place_is = found.place _ refl in
-    let left = c.move_found.ensures.state b.slc.now b.format ∙ ap (with_cursor a.state) place_is in
-    rw (sym c.self.view_is) (record {
-      byte = c.byte_at.ensures ∙ ap (slice_get b.slc.now) place_is;
-      settles = left;
-      costs = arrives k a _ c.args.saw_next follows left
-          (rw c.move_found.ensures.looks (rw place_is at found.finds));
-    })
+    ≡ saturating c.find-found.result.looks (one_if c.args.saw_next) = search rules in
+    rw (sym c.self.view_is) (arrives k a _ c.args.saw_next c.find-found.result.looks follows left
+    found.finds
+    (c.move_found.ensures.looks ∙ rw looks refl))
