@@ -1,21 +1,19 @@
 //! How a `Bytes` reads: the one place where word, cursor, shortcuts, run and decision meet.
 //!
-//! A peek and a next try these cases in order, and each case ends the read. But a peek asks first
-//! whether the byte separates, and answers one that doesn't, digit or not. Where two cases of a
-//! peek end alike, the compiler tests the byte again in the `next` that follows.
+//! A peek settles, and then looks at the byte at the cursor. To settle is to move the cursor to the
+//! place, and only at a separator is there something to do. All ways of a peek end in that one look,
+//! so a compiler knows in the `next` after it that the cursor is within the buffer, and the byte.
 //!
-//! | Case | a peek | a next |
+//! | At the cursor | a peek settles | a next |
 //! |---|---|---|
-//! | no component has a flag | one look | passes the byte: two looks |
-//! | another component reads | starts to read, and asks the decision | the same |
-//! | a direct byte: a digit, or any byte without flags | one look | passes a digit: two looks |
-//! | a lone separator between a counted digit and a digit | two looks | passes both: four looks |
-//! | neither digit nor separator | one look | passes it uncounted: two looks |
-//! | any other separator | asks the decision | the same |
+//! | any byte, where no component has a flag | there | passes it: two looks |
+//! | a direct byte: a digit, or any byte without flags | there | passes it: two looks |
+//! | neither digit nor separator | there | passes it uncounted: two looks |
+//! | a lone separator between a counted digit and a digit | after it: two looks | passes both: four looks |
+//! | any other separator | by the decision | by the decision; after one look it passes the byte |
 //!
-//! `peek_of` and `next_of` let their component read first, so the second case is left to the
-//! iterators, which call `peek_by` and `next_by`. The decision counts the looks that it takes, by
-//! its source. It has the only loop over bytes.
+//! `next_of` lets its component read first; a peek does so at a separator, and asks the decision.
+//! The decision counts the looks that it takes, by its source. It has the only loop over bytes.
 //! At the end of the buffer a read answers `None` and counts nothing.
 
 ghost use Rattle.std.specs.Prelude.{◌≡◌, ℕ, ◌+◌, ◌<◌, ◌≤◌, length, Some, option_copied, nat_lt, not, true, IfSome, slice_get};
