@@ -26,10 +26,13 @@ class Numbers:
     def lines(self, page):
         return list(enumerate(read(page).split("\n"), 1))
 
+    def matches(self, page, pattern):
+        return [(number, m) for number, line in self.lines(page)
+                for m in re.finditer(pattern, line)]
+
     def find(self, page, pattern):
         """(line, match) of each match in a page; a fault if there is none."""
-        found = [(number, m) for number, line in self.lines(page)
-                 for m in re.finditer(pattern, line)]
+        found = self.matches(page, pattern)
         if not found:
             self.faults.append(f"{page}:1: nothing on it has the form {pattern}")
         return found
@@ -100,6 +103,7 @@ def bound(it):
             it.compare(page, line, "the bound on looks", here.groups(), m and m.groups())
 
 
+USES = "crates/digit_uses"
 CALLS = "crates/lexical_digits/src/ops.rt"
 # Where each call is named too.
 CALL_FILES = ("crates/lexical_digits/specs/CallTable.antt",
@@ -160,6 +164,22 @@ def names(it):
             it.compare(page, line, "the version of CHANGELOG.md", m[1], version)
 
 
+def by_hand(it):
+    """The head of each example says how many lines of its proof were written by hand: those of its
+    own files and of the files of lemmas that these name, without imports, comments and blanks."""
+    proofs = files_below(f"{USES}/proofs", ".antt")
+    for path in files_below(f"{USES}/src", ".rt"):
+        own = [file for file in proofs
+               if file.startswith(path.replace("/src/", "/proofs/")[:-3] + "/")]
+        text = "".join(map(read, [path, *own]))
+        own += [file for file in proofs if re.search(
+            r"\b(crate|digit_uses)(::|\.)proofs(::|\.)" + os.path.basename(file)[:-5] + r"\b", text)]
+        lines = [line for file in own for line in read(file).split("\n")
+                 if line.strip() and not re.match(r"\s*(--|use )", line)]
+        for line, m in it.matches(path, r"^//! Proof by hand: (\d+|none)"):
+            it.compare(path, line, "the number of lines by hand", m[1], str(len(lines) or "none"))
+
+
 def words_of(page):
     text = re.sub(r"^```.*?^```", "", read(page), flags=re.S | re.M)
     return sum(len(re.sub(r"`[^`]*`", "`", line).split()) for line in text.split("\n"))
@@ -175,7 +195,7 @@ def words(it):
 
 def check():
     it = Numbers()
-    for part in (counted, crates_of_a_caller, bound, calls, measured, names):
+    for part in (counted, crates_of_a_caller, bound, calls, measured, names, by_hand):
         part(it)
     total = words(it)
     return f"{it.count} numbers and names; {total:,} words without the reference", it.faults
