@@ -105,9 +105,12 @@ def bound(it):
 
 USES = "crates/digit_uses"
 CALLS = "crates/lexical_digits/src/ops.rt"
-# Where each call is named too.
-CALL_FILES = ("crates/lexical_digits/specs/CallTable.antt",
-              "crates/lexical_plain/specs/Plain.antt", "crates/digit_script/src/dispatch.rt")
+# Where each call is named too; and those that the plain iterators don't have.
+CALL_FILES = ("crates/lexical_digits/specs/CallTable.antt", "crates/lexical_plain/specs/Plain.antt",
+              "crates/digit_script/src/dispatch.rt", "crates/digit_vectors/src/tests/table.rt",
+              "crates/digit_vectors/src/tests/lists.rt")
+ROWS = "crates/lexical_plain/src/laws/rows"
+NOT_PLAIN = {"IsSign", "IsDigitSeparator"}
 
 
 def calls(it):
@@ -121,11 +124,10 @@ def calls(it):
             it.count += 1
             if not any(other.startswith(call) for other in named):
                 it.faults.append(f"{CALLS}:1: no {call}, the call `{name}` of {path}")
-    tests = "\n".join(map(read, files_below("crates/digit_vectors/src/tests", ".rt")))
     texts = {path: read(path) for path in CALL_FILES}
-    texts["crates/digit_vectors/src/tests"] = tests
+    texts[ROWS] = "\n".join([*map(read, files_below(ROWS, ".rt")), *NOT_PLAIN])
     for path, text in texts.items():
-        words = set(re.findall(r"\w+", re.sub(r"^use .*", "", text, flags=re.M)))
+        words = set(re.findall(r"\w+", re.sub(r"^(pub )?use .*", "", text, flags=re.M)))
         it.faults += [f"{path}:1: no {call}, which {CALLS} has" for call in named
                       if call not in words]
 
