@@ -26,10 +26,13 @@ class Numbers:
     def lines(self, page):
         return list(enumerate(read(page).split("\n"), 1))
 
+    def matches(self, page, pattern):
+        return [(number, m) for number, line in self.lines(page)
+                for m in re.finditer(pattern, line)]
+
     def find(self, page, pattern):
         """(line, match) of each match in a page; a fault if there is none."""
-        found = [(number, m) for number, line in self.lines(page)
-                 for m in re.finditer(pattern, line)]
+        found = self.matches(page, pattern)
         if not found:
             self.faults.append(f"{page}:1: nothing on it has the form {pattern}")
         return found
@@ -100,10 +103,14 @@ def bound(it):
             it.compare(page, line, "the bound on looks", here.groups(), m and m.groups())
 
 
+USES = "crates/digit_uses"
 CALLS = "crates/lexical_digits/src/ops.rt"
-# Where each call is named too.
-CALL_FILES = ("crates/lexical_digits/specs/CallTable.antt",
-              "crates/lexical_plain/specs/Plain.antt", "crates/digit_script/src/dispatch.rt")
+# Where each call is named too; and those that the plain iterators don't have.
+CALL_FILES = ("crates/lexical_digits/specs/CallTable.antt", "crates/lexical_plain/specs/Plain.antt",
+              "crates/digit_script/src/dispatch.rt", "crates/digit_vectors/src/tests/table.rt",
+              "crates/digit_vectors/src/tests/lists.rt")
+ROWS = "crates/lexical_plain/src/laws/rows"
+NOT_PLAIN = {"IsSign", "IsDigitSeparator"}
 
 
 def calls(it):
@@ -117,11 +124,10 @@ def calls(it):
             it.count += 1
             if not any(other.startswith(call) for other in named):
                 it.faults.append(f"{CALLS}:1: no {call}, the call `{name}` of {path}")
-    tests = "\n".join(map(read, files_below("crates/digit_vectors/src/tests", ".rt")))
     texts = {path: read(path) for path in CALL_FILES}
-    texts["crates/digit_vectors/src/tests"] = tests
+    texts[ROWS] = "\n".join([*map(read, files_below(ROWS, ".rt")), *NOT_PLAIN])
     for path, text in texts.items():
-        words = set(re.findall(r"\w+", re.sub(r"^use .*", "", text, flags=re.M)))
+        words = set(re.findall(r"\w+", re.sub(r"^(pub )?use .*", "", text, flags=re.M)))
         it.faults += [f"{path}:1: no {call}, which {CALLS} has" for call in named
                       if call not in words]
 
@@ -160,6 +166,22 @@ def names(it):
             it.compare(page, line, "the version of CHANGELOG.md", m[1], version)
 
 
+def by_hand(it):
+    """The head of each example says how many lines of its proof were written by hand: those of its
+    own files and of the files of lemmas that these name, without imports, comments and blanks."""
+    proofs = files_below(f"{USES}/proofs", ".antt")
+    for path in files_below(f"{USES}/src", ".rt"):
+        own = [file for file in proofs
+               if file.startswith(path.replace("/src/", "/proofs/")[:-3] + "/")]
+        text = "".join(map(read, [path, *own]))
+        own += [file for file in proofs if re.search(
+            r"\b(crate|digit_uses)(::|\.)proofs(::|\.)" + os.path.basename(file)[:-5] + r"\b", text)]
+        lines = [line for file in own for line in read(file).split("\n")
+                 if line.strip() and not re.match(r"\s*(--|use )", line)]
+        for line, m in it.matches(path, r"^//! Proof by hand: (\d+|none)"):
+            it.compare(path, line, "the number of lines by hand", m[1], str(len(lines) or "none"))
+
+
 def words_of(page):
     text = re.sub(r"^```.*?^```", "", read(page), flags=re.S | re.M)
     return sum(len(re.sub(r"`[^`]*`", "`", line).split()) for line in text.split("\n"))
@@ -175,7 +197,7 @@ def words(it):
 
 def check():
     it = Numbers()
-    for part in (counted, crates_of_a_caller, bound, calls, measured, names):
+    for part in (counted, crates_of_a_caller, bound, calls, measured, names, by_hand):
         part(it)
     total = words(it)
     return f"{it.count} numbers and names; {total:,} words without the reference", it.faults

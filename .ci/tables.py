@@ -1,22 +1,23 @@
 #!/usr/bin/env python3
-"""The tables of docs/RULES.md: each row is a row of a test, and the other way round.
+"""The tables of docs/RULES.md, as the sources and the tests have them.
 
-    .ci/tables.py --write    writes the table of words with names from words.rt and that of a first
-                             0 from languages.rt, and adds the languages that CALLING.md leaves out
-                             to its list"""
-import ast
+    .ci/tables.py --write    writes them: the states and the worked rows from rules.rt, the words
+                             with names from words.rt, a first 0 from languages.rt. Of a worked row
+                             the page has the last column. It also adds the languages that
+                             CALLING.md leaves out to its list"""
 import os
 import re
 import sys
 
 sys.dont_write_bytecode = True
-from sources import TOP, read  # noqa: E402
+from sources import TOP, difference, read  # noqa: E402
 
 PAGE = "docs/RULES.md"
 TESTS = "crates/digit_vectors/src/tests/rules.rt"
 RADIXES = "crates/digit_vectors/src/tests/radixes.rt"
 LETTERS = {"I": 1 << 32, "L": 1 << 35, "T": 1 << 38, "C": 1 << 41}
-
+FLAGS = {"0": "none", "ALL": "ILTC", "INTERNAL": "I", "LEADING": "L", "TRAILING": "T",
+         "CONSECUTIVE": "C"}
 
 WORDS = ("crates/lexical_format/src/lib.rt", "crates/lexical_format/src/words.rt")
 # each word with a name is in the law `words_say` and has a row of a test
@@ -26,243 +27,102 @@ LISTING = "CALLING.md"
 # each language with its prefixes and its first 0, and what the languages' own tools read
 LANGUAGES = "crates/digit_languages/src/languages.rt"
 TOOLS = "crates/digit_vectors/src/tests/language_literals.rt"
+MEND = "run .ci/tables.py --write"
+WHY = "?"  # the last column of a worked row that is new
+
+# ---- the sources
+
+
+def parts_of(text):
+    """What commas part in a text of Rust, outside of brackets and literals."""
+    parts, depth = [""], 0
+    for token in re.findall(r'"(?:\\.|[^"\\])*"|.', text, re.S):
+        depth += (token in "([{") - (token in ")]}")
+        if token == "," and depth == 0:
+            parts.append("")
+        else:
+            parts[-1] += token
+    return [part.strip() for part in parts if part.strip()]
+
+
+def rows_of(path, name):
+    """The rows of a static array, each in its parts."""
+    found = re.search(rf"static {name}: \[[^=]*= \[\n(.*?)\n\];", read(path), re.S)
+    rows = parts_of(re.sub(r"//[^\n]*", "", found[1])) if found else []
+    return [parts_of(row[1:-1]) for row in rows]
+
+
+def text_of(literal):
+    return re.fullmatch(r'b?"(.*)"', literal)[1]
+
+
+def flags_of(expression):
+    return "".join(FLAGS[name.strip()] for name in expression.split("|"))
 
 
 def constants(*paths):
-    """The values of the constants of these files, by their names."""
+    """The constants of these files, by their names."""
     text = "".join(read(path) for path in paths)
-    known, waiting = {}, dict(re.findall(r"const (\w+): u128 =\s*([^;]+);", text))
-    while waiting:
-        found = {}
-        for name, value in waiting.items():
-            try:
-                found[name] = eval(" ".join(value.split()), {"__builtins__": {}}, known)
-            except (NameError, SyntaxError, TypeError):
-                pass
-        if not found:
-            break
-        known.update(found)
-        waiting = {name: value for name, value in waiting.items() if name not in found}
-    return known
+    code = dict(re.findall(r"const (\w+): u128 =\s*([^;]+);", text))
+
+    def value(expression):
+        total = 0
+        for term in expression.split("|"):
+            name, _, bits = term.strip(" \n()").partition(" << ")
+            total |= (value(code[name]) if name in code else int(name, 0)) << int(bits or "0")
+        return total
+
+    return {name: value(expression) for name, expression in code.items()}
 
 
-def value_of(node, known):
-    """A row of a static: numbers, texts as bytes, and tuples, also of what Rust has as an array."""
-    if isinstance(node, (ast.Tuple, ast.List)):
-        return tuple(value_of(part, known) for part in node.elts)
-    code = compile(ast.Expression(node), "<row>", "eval")
-    value = eval(code, {"__builtins__": {}}, known)
-    return value.encode() if isinstance(value, str) else value
+# ---- worked rows
 
 
-def statics(path, known):
-    """{name: [(row, line)]} of each static array of a file."""
-    text, found = read(path), {}
-    for m in re.finditer(r"static (\w+): \[[^=]*= \[\n?(.*?)\];\n", text, re.S):
-        body = re.sub(r"//[^\n]*", "", m[2])
-        first = text.count("\n", 0, m.start(2)) + 1
-        try:
-            tree = ast.parse(f"[\n{body}\n]", mode="eval").body
-            found[m[1]] = [(value_of(node, known), first + node.lineno - 2) for node in tree.elts]
-        except (SyntaxError, NameError, TypeError) as error:
-            found[m[1]] = str(error)
-    return found
+def quoted(text):
+    return f"`{text}`" if text else "nothing"
 
 
-def tables():
-    """Each table of the page: its columns, and its rows as (line, cells)."""
-    found, rows = [], []
-    for number, line in enumerate(read(PAGE).split("\n"), 1):
-        if line.startswith("|"):
-            rows.append((number, [cell.strip().replace("`", "") for cell in line.split("|")[1:-1]]))
-        elif rows:
-            found.append((rows[0][1], rows[2:]))
-            rows = []
-    return found
+def states():
+    """The lines of the table of the sixteen states."""
+    rows = [["flags", *(text_of(text) for text, _ in rows_of(TESTS, "TEXTS"))]]
+    rows += [[flags_of(flags), *(text_of(kept) or "nothing" for kept in parts_of(texts[1:-1]))]
+             for flags, texts in rows_of(TESTS, "STATES")]
+    widths = [max(map(len, column)) for column in zip(*rows)]
+    return ["  " + "  ".join(map(str.ljust, row, widths)).rstrip() for row in rows]
 
 
-def flags_of(cell):
-    if cell in ("none", "-"):
-        return 0
-    if not re.fullmatch("[ILTC]+", cell):
-        return None
-    return sum(LETTERS[letter] for letter in cell)
+def examples():
+    return [[flags_of(flags), quoted(text_of(text)), quoted(text_of(kept)), count]
+            for flags, text, kept, count in rows_of(TESTS, "EXAMPLES")]
 
 
-class Check:
-    def __init__(self):
-        self.known = constants(*WORDS, "crates/digit_vectors/src/tests.rt", TESTS, RADIXES)
-        self.named, self.faults, self.count = constants(*WORDS), [], 0
-        self.statics = statics(TESTS, self.known)
+def within():
+    return [[flags_of(flags), quoted(text_of(text)), f"{cursor}, {count}", quoted(text_of(kept))]
+            for flags, text, cursor, count, kept, _ in rows_of(TESTS, "FROM_WITHIN")]
 
-    def rows(self, name):
-        rows = self.statics.get(name, "no such static")
-        if isinstance(rows, str):
-            self.faults.append(f"{TESTS}:1: can't read {name}: {rows}")
-            return []
-        return rows
 
-    def same(self, what, page_rows, name):
-        """The rows of a table are those of a static, in any order."""
-        test_rows = self.rows(name)
-        tested = {row for row, _ in test_rows}
-        shown = {row for row, _ in page_rows}
-        self.count += len(page_rows)
-        for row, line in page_rows:
-            if row not in tested:
-                self.faults.append(f"{PAGE}:{line}: {what}: no row of {name} is {said(row)}")
-        for row, line in test_rows:
-            if row not in shown:
-                self.faults.append(f"{TESTS}:{line}: {name}: no row of {PAGE} is {said(row)}")
+def others():
+    """The rows of the words that are written by their parts."""
+    rows = []
+    for word, text, kept, count in rows_of(TESTS, "OTHER_WORDS"):
+        parts = re.fullmatch(r"\((\d+) << 104\)(?: \| \((0x\w+) << 64\))? \| (.*)", word)
+        if parts:
+            code = int(parts[2] or "0", 0)
+            separator = "none" if code == 0 else f"`{chr(code)}`" if code < 128 else parts[2]
+            rows.append([flags_of(parts[3]), f"{separator}, {parts[1]}", quoted(text_of(text)),
+                         quoted(text_of(kept)), count])
+    return rows
 
-    def states(self):
-        lines = read(PAGE).split("\n")
-        head = next((n for n, line in enumerate(lines) if re.match(r"\s+flags  ", line)), None)
-        if head is None:
-            self.faults.append(f"{PAGE}:1: no table of the sixteen states")
-            return
-        texts = lines[head].split()[1:]
-        tested = [row[0].decode() for row, _ in self.rows("TEXTS")]
-        if texts != tested:
-            self.faults.append(f"{PAGE}:{head + 1}: {texts}, and {tested} in {TESTS}")
-        rows, at = [], head + 1
-        while lines[at].strip() and not lines[at].startswith("```"):
-            flags, *kept = lines[at].split()
-            kept = tuple(b"" if text == "nothing" else text.encode() for text in kept)
-            rows.append(((flags_of(flags), kept), at + 1))
-            at += 1
-        self.same("a state", rows, "STATES")
 
-    def examples(self, rows):
-        found = []
-        for line, (flags, text, drained, count, _) in rows:
-            if flags_of(flags) is None:
-                self.in_test(line, TESTS, [text, drained, count])
-                continue
-            found.append(((flags_of(flags), text.encode(), drained.encode(), int(count)), line))
-        self.same("an example", found, "EXAMPLES")
-
-    def within(self, rows):
-        tested = self.rows("FROM_WITHIN")
-        counts = {row[:5]: row[5] for row, _ in tested}
-        found = []
-        for line, (flags, text, start, drained, _) in rows:
-            cursor, count = (int(part) for part in start.split(","))
-            row = (flags_of(flags), text.encode(), cursor, count, drained.encode())
-            found.append((row + (counts.get(row),), line))
-        self.same("a drain from within", found, "FROM_WITHIN")
-
-    def others(self, rows):
-        tested = {row for rows in self.statics.values() if not isinstance(rows, str)
-                  for row, _ in rows}
-        for line, (flags, word, text, drained, count, _) in rows:
-            separator, radix = (part.strip() for part in word.split(","))
-            separator = 0 if separator == "none" else ord(separator)
-            bits = (int(radix) << 104) | (separator << 64) | flags_of(flags)
-            row = (bits, text.encode(), drained.encode(), int(count))
-            self.count += 1
-            if row not in tested:
-                self.faults.append(f"{PAGE}:{line}: no row of {TESTS} is {said(row)}")
-
-    def radixes(self, rows):
-        for line, (_, _, text, drained, count, _) in rows:
-            self.in_test(line, RADIXES, [text, drained, count])
-
-    def in_test(self, line, path, cells):
-        """A test has the text, and beside it what is drained and the count."""
-        text, drained, count = cells
-        self.count += 1
-        tests = read(path).split("#[test]")
-        drains = re.compile(rf'b"{re.escape(drained)}",\s*{count}\b')
-        if not any(f'b"{text}"' in test and drains.search(test) for test in tests):
-            self.faults.append(f"{PAGE}:{line}: no test of {path} drains `{text}` to `{drained}` "
-                               f"with the count {count}")
-
-    def words(self, rows):
-        """Each cell has the flags of the word that the row and the column name, and each word is in
-        the table."""
-        names, shown = set(named_words()), set(BARE)
-        for line, (language, *cells) in rows:
-            for cell, (name, there) in zip(cells, self.cells(language.split(" ")[0])):
-                shown.add(name)
-                self.count += 1
-                if cell != there:
-                    self.faults.append(f"{PAGE}:{line}: {name} is {there}, not {cell}: {MEND}")
-        for name in sorted(names - shown):
-            self.faults.append(f"{PAGE}:{rows[0][0]}: no {name} of words.rt: {MEND}")
-        for path in NAMING:
-            named = set(re.findall(r"\w+", read(path)))
-            self.faults += [f"{path}:1: no {name} of words.rt" for name in sorted(names - named)]
-        self.faults += [f"{LISTING}:1: no {it} of words.rt: {MEND}" for it in unlisted()]
-
-    def first_zeros(self, rows):
-        """Each language of languages.rt has its row, as its `FirstZero` says, and no row is read
-        otherwise by the tool of the language."""
-        wanted, shown = dict(first_zeros(self.named)), {}
-        for line, (language, *cells) in rows:
-            shown[language] = cells
-            self.count += len(cells)
-            if cells != wanted.get(language):
-                self.faults.append(f"{PAGE}:{line}: {language} is not as languages.rt has it: {MEND}")
-        for name in sorted(set(wanted) - set(shown)):
-            self.faults.append(f"{PAGE}:{rows[0][0]}: no {name} of languages.rt: {MEND}")
-        for line, language, text, value in tool_values():
-            cells = shown.get(language)
-            if cells and text in FIRST:
-                self.count += 1
-                cell = cells[2 + FIRST.index(text)]
-                if (cell if cell.isdigit() else None) != value:
-                    self.faults.append(f"{TOOLS}:{line}: {text} of {language} is {value}, and "
-                                       f"{cell} in {PAGE}")
-
-    def cells(self, language):
-        """The words of a language with what the table says of each."""
-        for ending, radix in RADIX_OF.items():
-            name = f"{language}{ending}" + ("" if language == "TOML" else "_LITERAL")
-            yield name, word_said(self.named[name], radix) if name in self.named else "-"
-
-    def write(self):
-        """Writes the tables of words and of a first 0, and adds the languages that a page leaves
-        out."""
-        lines = read(PAGE).split("\n")
-        start = next(n for n, line in enumerate(lines) if line.startswith("| Language |")) + 2
-        end = next(n for n in range(start, len(lines)) if not lines[n].startswith("|"))
-        lines[start:end] = [" | ".join([f"| {marked(name)}", *map(marked, cells), ""]).strip()
-                            for name, cells in first_zeros(self.named)]
-        end = start = next(n for n, line in enumerate(lines) if line.startswith("| X |")) + 2
-        heads = []
-        while lines[end].startswith("|"):
-            heads.append(lines[end].split("|")[1].strip())
-            end += 1
-        shown = {head.split("`")[1] for head in heads}
-        heads += [f"`{it}`" for it in languages() if it not in shown and it not in BARE]
-        lines[start:end] = [" | ".join([f"| {head}", *(said for _, said in self.cells(
-            head.split("`")[1])), ""]).strip() for head in heads]
-        texts = {PAGE: "\n".join(lines), LISTING: read(LISTING)}
-        for language in unlisted():
-            texts[LISTING] = texts[LISTING].replace(", and `JSON`", f", `{language}`, and `JSON`")
-        for path, text in texts.items():
-            with open(os.path.join(TOP, path), "w", encoding="utf8") as file:
-                file.write(text)
-
-    def bits(self, rows):
-        """The bits of the flags are those of the constants."""
-        kinds = ("INTERNAL", "LEADING", "TRAILING", "CONSECUTIVE")
-        for line, (component, *cells) in rows:
-            for cell, kind in zip(cells, kinds):
-                bit = self.named[f"{component.upper()}_{kind}_DIGIT_SEPARATOR"].bit_length() - 1
-                self.count += 1
-                if cell != f"bit {bit}":
-                    self.faults.append(f"{PAGE}:{line}: {kind.lower()} of {component} is bit {bit}")
-
+# ---- words with names
 
 # The words of no language.
 BARE = ("JSON", "HEXADECIMAL", "HEXADECIMAL_FLOAT", "OCTAL", "BINARY")
-MEND = "run .ci/tables.py --write"
+RADIX_OF = {"": 10, "_HEX": 16, "_OCTAL": 8, "_BINARY": 2}
 
 
 def named_words():
-    return re.findall(r"pub const (\w+):", read("crates/lexical_format/src/words.rt"))
+    return re.findall(r"pub const (\w+):", read(WORDS[1]))
 
 
 def languages():
@@ -278,7 +138,36 @@ def unlisted():
     return [it for it in languages() if it not in listed]
 
 
-RADIX_OF = {"": 10, "_HEX": 16, "_OCTAL": 8, "_BINARY": 2}
+def word_said(word, radix):
+    """The flags of a word's components as the table has them, if its parts are as the page says."""
+    parts = []
+    for component in range(3):
+        letters = (letter for letter, bit in LETTERS.items() if word & (bit << component))
+        parts.append("".join(letters) or "none")
+    exponent_radix = word >> 120 or radix
+    separator = chr((word >> 64) & 0xff)
+    is_short = radix != 10 and parts[1:] == ["none", "none"]
+    if (word >> 104) & 0xff != radix or exponent_radix != (radix if is_short else 10):
+        return "of another radix"
+    if separator not in "_'":
+        return f"of the separator {separator}"
+    return parts[0] if is_short else ", ".join(parts)
+
+
+def words(heads):
+    """The row of each language with its words; `heads` has the first cells of the page."""
+    known = constants(*WORDS)
+    shown = {head.split("`")[1]: head for head in heads}
+    for language in [*shown, *(it for it in languages() if it not in (*shown, *BARE))]:
+        names = {f"{language}{ending}" + ("" if language == "TOML" else "_LITERAL"): radix
+                 for ending, radix in RADIX_OF.items()}
+        if set(names) & set(known):
+            yield [shown.get(language, f"`{language}`"),
+                   *(word_said(known[name], radix) if name in known else "-"
+                     for name, radix in names.items())]
+
+
+# ---- prefixes and a first 0
 
 # The texts of the table of a first 0; `_` is the separator of the language.
 FIRST = ("00", "017", "08", "0_7")
@@ -286,21 +175,20 @@ FIRST_ZERO = {"Plain": "nothing", "Octal": "octal", "Alone": "no digit follows",
               "Zeros": "only zeros follow"}
 
 
-def first_zeros(words):
-    """Each language of languages.rt, and the cells of its row."""
-    found = []
+def first_zeros():
+    """The row of each language of languages.rt."""
+    known = constants(*WORDS)
     for name, body in re.findall(r"pub const (\w+): Language = Language \{(.*?)^\};",
                                  read(LANGUAGES), re.S | re.M):
         field = dict(re.findall(r"^    (\w+): ([^;]*?),$", body, re.M))
         kind, octal = re.fullmatch(r"FirstZero::(\w+)(?:\((\w+)\))?", field["first_zero"]).groups()
-        word = words[octal or field["decimal"].split("::")[-1]]
+        word = known[octal or field["decimal"].split("::")[-1]]
         prefixes = [letter for letter, prefix in (("0b", "binary"), ("0o", "octal"),
                                                   ("0x", "hexadecimal")) if field[prefix] != "None"]
         if prefixes and field["upper"] == "true":
             prefixes.append("either case")
         cells = [first_zero_said(kind, word, text) for text in FIRST]
-        found.append((name, [", ".join(prefixes) or "none", FIRST_ZERO[kind], *cells]))
-    return found
+        yield [marked(it) for it in (name, ", ".join(prefixes) or "none", FIRST_ZERO[kind], *cells)]
 
 
 def first_zero_said(kind, word, text):
@@ -329,81 +217,134 @@ def marked(cell):
 
 
 def tool_values():
-    """(line, language, text, value or None) of each literal in the tests that the tools read."""
-    text = read(TOOLS)
-    names = re.findall(r"\w+", re.search(r"static LANGUAGES: .*? = \[(.*?)\];", text, re.S)[1])
-    for static, languages in (("VALUES", names), ("VALUES_IN_CXX", ["CXX14"])):
-        for row, line in statics(TOOLS, {"NO": None})[static]:
-            values = row[1] if isinstance(row[1], tuple) else (row[1],)
-            for language, value in zip(languages, values):
-                yield (line, language, row[0].decode().replace("'", "_"),
-                       None if value is None else str(value))
+    """(language, text, value) of each literal in the tests that the tools read."""
+    named = re.search(r"static LANGUAGES: .*? = \[(.*?)\];", read(TOOLS), re.S)
+    for static, names in (("VALUES", parts_of(named[1])), ("VALUES_IN_CXX", ["CXX14"])):
+        for text, values in rows_of(TOOLS, static):
+            for language, value in zip(names, parts_of(values.strip("[]"))):
+                yield language, text_of(text).replace("'", "_"), value
 
 
-def word_said(word, radix):
-    """The flags of a word's components as the table has them, if its parts are as the page says."""
-    parts = []
-    for component in range(3):
-        letters = (letter for letter, bit in LETTERS.items() if word & (bit << component))
-        parts.append("".join(letters) or "none")
-    exponent_radix = word >> 120 or radix
-    separator = chr((word >> 64) & 0xff)
-    is_short = radix != 10 and parts[1:] == ["none", "none"]
-    if (word >> 104) & 0xff != radix or exponent_radix != (radix if is_short else 10):
-        return "of another radix"
-    if separator not in "_'":
-        return f"of the separator {separator}"
-    return parts[0] if is_short else ", ".join(parts)
+# ---- the page
+
+FIRST_ZEROS = ("Language", "Prefixes", "A first 0 says", *(f"`{text}`" for text in FIRST))
+WITH_NAMES = ("X", "Radix 10", "16", "8", "2")
+WORKED = {
+    ("Flags", "Bytes", "Drained", "Count", "Why"): examples,
+    ("Flags", "Bytes", "Cursor, count", "Drained", "Why"): within,
+    ("Flags", "Separator, radix", "Bytes", "Drained", "Count", "Why"): others,
+}
+BITS = ("Component", "I", "L", "T", "C")
+OF_RADIXES = ("Component", "Mantissa, exponent radix", "Bytes", "Drained", "Count", "Why")
 
 
-def flags_said(value):
-    """The letters of a number that is only flags; None for another number."""
-    letters = "".join(letter for letter, bit in LETTERS.items() if value & bit)
-    return letters or "none" if value == sum(LETTERS[it] for it in letters) else None
+class Table:
+    """A table of the page, with the places of its rows."""
+
+    def __init__(self, lines, columns):
+        head = f"| {' | '.join(columns)} |"
+        if head not in lines:
+            raise ValueError(f"no table with the columns {', '.join(columns)}")
+        self.first = lines.index(head) + 2
+        self.last = next(n for n in range(self.first, len(lines) + 1)
+                         if not "".join(lines[n:n + 1]).startswith("|"))
+        self.rows = [[cell.strip() for cell in line.split("|")[1:-1]]
+                     for line in lines[self.first:self.last]]
 
 
-def said(row):
-    """A row as the page has it; its first number is flags or a word."""
-    parts = []
-    for n, part in enumerate(row):
-        if isinstance(part, tuple):
-            parts.append(" ".join(text.decode() or "nothing" for text in part))
-        elif isinstance(part, bytes):
-            parts.append(part.decode(errors="replace"))
-        elif n == 0 and isinstance(part, int):
-            parts.append(flags_said(part) or hex(part))
-        elif part is not None:
-            parts.append(str(part))
-    return ", ".join(parts)
+def is_of_flags(row):
+    return row[0] == "none" or re.fullmatch("[ILTC]+", row[0]) is not None
+
+
+def written():
+    """The pages with the tables that the sources have."""
+    lines = read(PAGE).split("\n")
+
+    def put(columns, rows):
+        table = Table(lines, columns)
+        rows = rows(table.rows) if callable(rows) else rows
+        lines[table.first:table.last] = [" | ".join([f"| {row[0]}", *row[1:], ""]).strip()
+                                         for row in rows]
+
+    def worked(rows):
+        def with_reasons(page):
+            why = {tuple(cells): reason for *cells, reason in page}
+            return [[*cells, why.get(tuple(cells), WHY)] for cells in rows] + [
+                row for row in page if not is_of_flags(row)]
+        return with_reasons
+
+    start = next(n for n, line in enumerate(lines) if re.match(r"\s+flags  ", line))
+    lines[start:next(n for n in range(start, len(lines)) if lines[n] == "```")] = states()
+    for columns, rows in WORKED.items():
+        put(columns, worked(rows()))
+    put(WITH_NAMES, lambda page: words([head for head, *_ in page]))
+    put(FIRST_ZEROS, first_zeros())
+    listing = read(LISTING)
+    for language in unlisted():
+        listing = listing.replace(", and `JSON`", f", `{language}`, and `JSON`")
+    return {PAGE: "\n".join(lines), LISTING: listing}
+
+
+def reasons(lines):
+    """Each worked row says why, and one whose row isn't written is in a test: a test has the text,
+    and beside it what is drained and the count."""
+    for columns, path in [*((it, TESTS) for it in WORKED), (OF_RADIXES, RADIXES)]:
+        table = Table(lines, columns)
+        for line, row in enumerate(table.rows, table.first + 1):
+            if row[-1] == WHY:
+                yield f"{PAGE}:{line}: this row doesn't say why"
+            if not is_of_flags(row):
+                text, drained, count = (cell.replace("`", "") for cell in row[-4:-1])
+                drains = re.compile(rf'b"{re.escape(drained)}",\s*{count}\b')
+                if not any(f'b"{text}"' in test and drains.search(test)
+                           for test in read(path).split("#[test]")):
+                    yield (f"{PAGE}:{line}: no test of {path} drains `{text}` to `{drained}` with "
+                           f"the count {count}")
+
+
+def bits(lines):
+    """The bits of the flags are those of the constants."""
+    known, table = constants(*WORDS), Table(lines, BITS)
+    for line, (component, *cells) in enumerate(table.rows, table.first + 1):
+        for cell, kind in zip(cells, ("INTERNAL", "LEADING", "TRAILING", "CONSECUTIVE")):
+            bit = known[f"{component.upper()}_{kind}_DIGIT_SEPARATOR"].bit_length() - 1
+            if cell != f"bit {bit}":
+                yield f"{PAGE}:{line}: {kind.lower()} of {component} is bit {bit}"
+
+
+def as_tools_read(lines):
+    """No row of a first 0 is read otherwise by the tool of the language."""
+    table = Table(lines, FIRST_ZEROS)
+    shown = {row[0].strip("`"): row[-len(FIRST):] for row in table.rows}
+    for language, text, value in tool_values():
+        if language in shown and text in FIRST:
+            cell = shown[language][FIRST.index(text)]
+            if (cell if cell.isdigit() else "NO") != value:
+                yield f"{TOOLS}:1: {text} of {language} is {value}, and {cell} in {PAGE}"
+
+
+def named():
+    """Each word with a name has its law and its row of a test."""
+    for path in NAMING:
+        there = set(re.findall(r"\w+", read(path)))
+        yield from (f"{path}:1: no {name} of words.rt" for name in named_words()
+                    if name not in there)
 
 
 def check():
-    it = Check()
-    it.states()
-    by_columns = {
-        ("X", "Radix 10", "16", "8", "2"): it.words,
-        ("Language", "Prefixes", "A first 0 says", *FIRST): it.first_zeros,
-        ("Component", "I", "L", "T", "C"): it.bits,
-        ("Flags", "Bytes", "Drained", "Count", "Why"): it.examples,
-        ("Flags", "Bytes", "Cursor, count", "Drained", "Why"): it.within,
-        ("Flags", "Separator, radix", "Bytes", "Drained", "Count", "Why"): it.others,
-        ("Component", "Mantissa, exponent radix", "Bytes", "Drained", "Count", "Why"): it.radixes,
-    }
-    for columns, rows in tables():
-        compare = by_columns.pop(tuple(columns), None)
-        if compare:
-            try:
-                compare(rows)
-            except (ValueError, TypeError) as error:
-                it.faults.append(f"{PAGE}:{rows[0][0]}: can't read this table: {error}")
-    for columns in by_columns:
-        it.faults.append(f"{PAGE}:1: no table with the columns {', '.join(columns)}")
-    return f"{it.count} rows and words of {PAGE} are those of the tests", it.faults
+    lines = read(PAGE).split("\n")
+    faults = [difference(path, text, ".ci/tables.py --write") for path, text in written().items()
+              if text != read(path)]
+    faults += [*reasons(lines), *bits(lines), *as_tools_read(lines), *named()]
+    rows = sum(line.startswith("| ") for line in lines) + len(states())
+    return f"{rows} rows of {PAGE}, and the names of {len(named_words())} words", faults
 
 
 if __name__ == "__main__":
     if sys.argv[1:] == ["--write"]:
-        Check().write()
+        for page, text in written().items():
+            with open(os.path.join(TOP, page), "w", encoding="utf8") as file:
+                file.write(text)
     said, faults = check()
     print("\n".join(faults) if faults else f"tables: {said}")
     sys.exit(1 if faults else 0)

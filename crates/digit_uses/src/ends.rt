@@ -1,7 +1,7 @@
 //! Loops that end early: by `peek_of` where the digits end, over a `Bytes` in a field, and by the
 //! iterator at a byte that is wanted.
 //!
-//! Proof by hand: 64 lines, three invariants with their measures, and four answers.
+//! Proof by hand: 70 lines, three invariants with their measures, and four answers.
 
 ghost use Rattle.std.specs.Prelude.{◌≡◌, ◌==◌, ◌<◌, IsTrue};
 ghost use Rattle.std.specs.List.{list_any, sum_by};

@@ -6,7 +6,7 @@
 //! A component's digits depend on the text, the word and the position, and not on what was read
 //! before. So each call takes these three, and its clauses speak of no state.
 //!
-//! Proof by hand: 14 lines in the answers of `read_mantissa`, and 10 in
+//! Proof by hand: 26 lines, two answers of `read_mantissa` and the lemmas of
 //! `proofs/Floats.antt`.
 
 ghost use Rattle.std.specs.Prelude.{◌≡◌, true, ◌+◌, ◌-◌, ◌^◌, ◌<◌, ◌≤◌, length, take, IsTrue, IfOk, IfErr, OnOk, pos, ◌+ℤ◌, ◌-ℤ◌};

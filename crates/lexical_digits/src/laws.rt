@@ -321,7 +321,7 @@ pub fn own_count_only(bytes: &mut Bytes, component: Component)
 /// its own. The comparison is the word without an exponent radix: by it each component has the
 /// mantissa radix (`one_radix`). A word whose radixes are equal is supported if its mantissa radix
 /// serves, and has the rules of that radix. For every list of calls the two words give the same
-/// answers, and leave the same state but for the word.
+/// answers, and leave the same state except for the word.
 #[tactic(auto, using(crate::proofs::Rule::Radixes::equal))]
 pub fn equal_radixes(buffer: &[u8], word: u128)
     ensures one_radix { (w : ℕ) (k : Component) →
