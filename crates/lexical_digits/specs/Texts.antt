@@ -56,6 +56,13 @@ pub record IsFromDigitToDigit (rule : Rule) (text : List ℕ) : Type 0 where
   pub first : 0 < length text → holds_digit rule text 0 ≡ true
   pub last : 0 < length text → digit_before rule text (length text) ≡ true
 
+-- q is the first of the positions from start on and below n that fails a test, or n if none fails
+pub record IsFirstFaultFrom (start : ℕ) (passes : ℕ → Bool) (n q : ℕ) : Type 0 where
+  pub onward : start ≤ q
+  pub within : q ≤ n
+  pub before : (p : ℕ) → start ≤ p → p < q → passes p ≡ true
+  pub at : q < n → passes q ≡ false
+
 -- q is the first of the positions below n that fails a test, or n if none fails
 pub record IsFirstFault (passes : ℕ → Bool) (n q : ℕ) : Type 0 where
   pub within : q ≤ n

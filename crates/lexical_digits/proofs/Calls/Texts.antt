@@ -1,6 +1,7 @@
--- Where reading a text from its start stops, in words of its bytes.
-use Rattle.std.proofs.Common.{◌≡◌, ℕ, zero, suc, ◌+◌, ◌-◌, ◌<◌, ◌≤◌, Bool, true, false, not, ltb, List, [], length, drop, refl, arith, slice_index}
+-- Where reading a text stops, in words of its bytes.
+use Rattle.std.proofs.Common.{◌≡◌, ℕ, zero, suc, ◌+◌, ◌-◌, ◌<◌, ◌≤◌, Bool, true, false, not, ltb, List, [], length, drop, refl, inl, inr, arith, slice_index}
 use Rattle.lexical_digits.specs.Laws.Terms.{not-false, cases_Bool, cases_lt, nat_tests, drop_all, gets, Rule, is_digit, class, neighbour, holds_separator, is_dropped, digits_seen, is_kept, GrantsAll, IsSupported, stop, IsInternalAlone, IsInternalInRuns, is_digit_or_between, is_digit_or_separator, IsFirstFault, holds_digit, digit_before, AllDigitsOrSeparators, IsFromDigitToDigit}
+use Rattle.lexical_digits.specs.Texts.{IsFirstFaultFrom}
 use Rattle.lexical_digits.specs.declared.skip.rule.Class.TheVariants.{Digit}
 use Rattle.lexical_digits.specs.Laws.Kept.{dropped_holds_separator, seen_none, seen_first}
 use Rattle.lexical_digits.proofs.Rule.Supported.{supported_rule}
@@ -8,6 +9,99 @@ use Rattle.lexical_digits.proofs.Rule.Grants.{dropped_if_all}
 use Rattle.lexical_digits.proofs.Rule.Runs.{right_single, right_in_run, neighbour_many}
 use Rattle.lexical_digits.proofs.Rule.Sides.{left_one, right_at}
 use Rattle.lexical_digits.proofs.Calls.FirstOther.{IsFirst, stop_is_first}
+
+-- ---- from a start on: the left side of a separator there is the byte before it
+
+module _ (rule : Rule) (text : List ℕ) (start : ℕ) where
+  -- where reading stops
+  abbrev end_from : ℕ
+  end_from = stop rule text start 0
+
+  found_from : start ≤ length text → IsFirst (is_kept rule text start 0)
+      (λ q. not (is_digit rule (slice_index text q))) start (length text) end_from
+  found_from within = stop_is_first rule text start 0 within
+
+  -- a separator that is dropped has a digit on its right
+  right_digit_from : IsInternalAlone rule → (seen : Bool) (q : ℕ)
+      → is_dropped rule text seen q ≡ true → holds_digit rule text (q + 1) ≡ true
+  unfolding is_dropped
+  right_digit_from only seen q h = grind (arith, only, right_single rule text only.consecutive q)
+
+  -- and one on its left, where none was seen
+  left_digit_from : IsSupported rule → IsInternalAlone rule → (q : ℕ) → q ≤ length text
+      → is_dropped rule text false q ≡ true → digit_before rule text q ≡ true
+  unfolding is_dropped
+  left_digit_from fits only q l h =
+      grind (arith, only, left_one rule text fits only.consecutive q l)
+
+  -- before the end a digit is before each separator that is dropped
+  before_dropped_from : IsSupported rule → IsInternalAlone rule → start ≤ length text → (q : ℕ)
+      → start ≤ q → q < length text → q < end_from → is_kept rule text start 0 q ≡ false
+      → digit_before rule text q ≡ true
+  unfolding is_kept holds_separator
+  before_dropped_from fits only within q s l m h = elim (cases_lt start q) [
+    | inl less ↦
+        grind (
+          arith,
+          gets,
+          (found_from within).before (q - 1),
+          right_digit_from only (ltb 0 (digits_seen rule text start 0 (q - 1))) (q - 1),
+          dropped_holds_separator rule text,
+        )
+    | inr more ↦
+        let same : q ≡ start = omega arith in
+        left_digit_from fits only q (omega arith)
+        (grind (arith, nat_tests, same, seen_none rule text start 0))
+  ]
+
+  -- a separator between two digits is dropped
+  drops_between_from : IsSupported rule → IsInternalAlone rule → (seen : Bool) (q : ℕ)
+      → q ≤ length text → holds_separator rule text q ≡ true → digit_before rule text q ≡ true
+      → holds_digit rule text (q + 1) ≡ true → is_dropped rule text seen q ≡ true
+  unfolding is_dropped
+  drops_between_from fits only seen q l h left right =
+      let left_side = left_one rule text fits only.consecutive q l in
+      grind (arith, only, right_single rule text only.consecutive q)
+
+  pub fault_between_from : IsSupported rule → IsInternalAlone rule → start ≤ length text
+      → IsFirstFaultFrom start (is_digit_or_between rule text) (length text) end_from
+  unfolding is_kept
+  fault_between_from fits only within =
+      let found = found_from within in
+      record {
+        onward = found.onward;
+        within = found.within;
+        before = λ q s m.
+            let l : q < length text = omega (arith, m, found.within) in
+            let before = before_dropped_from fits only within q s l m in
+            grind (
+              arith,
+              gets,
+              found.before q s m,
+              right_digit_from only,
+              dropped_holds_separator rule text,
+            );
+        at = λ l.
+            let seen : Bool = ltb 0 (digits_seen rule text start 0 end_from) in
+            let between = drops_between_from fits only seen end_from (omega arith) in
+            grind (arith, gets, found.at l, between);
+      }
+
+  pub fault_every_from : GrantsAll rule → start ≤ length text
+      → IsFirstFaultFrom start (is_digit_or_separator rule text) (length text) end_from
+  unfolding is_kept
+  fault_every_from grants within =
+      let found = found_from within in
+      record {
+        onward = found.onward;
+        within = found.within;
+        before = λ q s m.
+            let l : q < length text = omega (arith, m, found.within) in
+            grind (arith, gets, found.before q s m, dropped_if_all rule text grants);
+        at = λ l. grind (arith, gets, found.at l, dropped_if_all rule text grants);
+      }
+
+-- ---- from the first byte on
 
 module _ (rule : Rule) (text : List ℕ) where
   -- where reading stops
@@ -35,66 +129,23 @@ module _ (rule : Rule) (text : List ℕ) where
       → ((q : ℕ) → q < length text → passes q ≡ true) → end ≡ length text
   end_if_all passes fault all = grind (arith, cases_lt end (length text), fault, all end)
 
-  -- ---- the internal flag alone
+  -- ---- the internal flag alone, and all flags
 
-  -- a separator that is dropped has a digit on its right
-  right_digit : IsInternalAlone rule → (seen : Bool) (q : ℕ) → is_dropped rule text seen q ≡ true
-      → holds_digit rule text (q + 1) ≡ true
-  unfolding is_dropped
-  right_digit only seen q h = grind (arith, only, right_single rule text only.consecutive q)
-
-  -- and one on its left, where none was seen
-  left_digit : IsSupported rule → IsInternalAlone rule → (q : ℕ) → q ≤ length text
-      → is_dropped rule text false q ≡ true → digit_before rule text q ≡ true
-  unfolding is_dropped
-  left_digit fits only q l h = grind (arith, only, left_one rule text fits only.consecutive q l)
-
-  -- a separator between two digits is dropped
-  drops_between : IsSupported rule → IsInternalAlone rule → (seen : Bool) (q : ℕ)
-      → q ≤ length text → holds_separator rule text q ≡ true → digit_before rule text q ≡ true
-      → holds_digit rule text (q + 1) ≡ true → is_dropped rule text seen q ≡ true
-  unfolding is_dropped
-  drops_between fits only seen q l h left right =
-      let left_side = left_one rule text fits only.consecutive q l in
-      grind (arith, only, right_single rule text only.consecutive q)
-
-  -- before the end a digit stands before each separator that is dropped
-  before_dropped : IsSupported rule → IsInternalAlone rule → (q : ℕ) → q < length text
-      → q < end → is_kept rule text 0 0 q ≡ false → digit_before rule text q ≡ true
-  unfolding is_kept holds_separator
-  before_dropped fits only zero l m h =
-      left_digit fits only zero (omega arith)
-      (grind (arith, nat_tests, seen_none rule text 0 0))
-  before_dropped fits only (suc p) l m h =
-      let next : suc p ≡ p + 1 = omega arith in
-      grind (arith, gets, keeps_digits p, right_digit only, dropped_holds_separator rule text)
+  whole : (passes : ℕ → Bool) → IsFirstFaultFrom 0 passes (length text) end
+      → IsFirstFault passes (length text) end
+  whole passes fault = record {
+    within = fault.within;
+    before = λ q. fault.before q (omega arith);
+    at = fault.at;
+  }
 
   pub fault_between : IsSupported rule → IsInternalAlone rule
       → IsFirstFault (is_digit_or_between rule text) (length text) end
-  unfolding is_kept
-  fault_between fits only = record {
-    within = found.within;
-    before = λ q m.
-        let l : q < length text = omega (arith, m, found.within) in
-        let before = before_dropped fits only q l m in
-        grind (arith, gets, keeps_digits q m, right_digit only, dropped_holds_separator rule text);
-    at = λ l.
-        let seen : Bool = ltb 0 (digits_seen rule text 0 0 end) in
-        grind (arith, gets, found.at l, drops_between fits only seen end (omega arith));
-  }
-
-  -- ---- all flags: every separator is dropped
+  fault_between fits only = whole _ (fault_between_from rule text 0 fits only (omega arith))
 
   pub fault_every : GrantsAll rule
       → IsFirstFault (is_digit_or_separator rule text) (length text) end
-  unfolding is_kept
-  fault_every grants = record {
-    within = found.within;
-    before = λ q m.
-        let l : q < length text = omega (arith, m, found.within) in
-        grind (arith, gets, keeps_digits q m, dropped_if_all rule text grants);
-    at = λ l. grind (arith, gets, found.at l, dropped_if_all rule text grants);
-  }
+  fault_every grants = whole _ (fault_every_from rule text 0 grants (omega arith))
 
   -- ---- the internal and the consecutive flag
 
@@ -162,8 +213,8 @@ module _ (rule : Rule) (text : List ℕ) where
   read_if_ends fits only ends =
       grind (arith, gets, cases_lt end (length text), found, ends, drops_run fits only ends end)
 
-pub ruleset between = (fault_between, all_if_end, end_if_all, supported_rule)
+pub ruleset between = (fault_between, fault_between_from, all_if_end, end_if_all, supported_rule)
 
-pub ruleset every = (fault_every, all_if_end, end_if_all, supported_rule)
+pub ruleset every = (fault_every, fault_every_from, all_if_end, end_if_all, supported_rule)
 
 pub ruleset in_runs = (ends_if_read, read_if_ends, supported_rule)
