@@ -133,10 +133,7 @@ impl Work for Eights {
     fn on<F: Format>(text: &[u8], format: F) -> Outcome {
         let mut bytes = Bytes::new(text, format.word());
         let mut number: u64 = 0;
-        for _ in 0..text.len() {
-            let Some(eight) = bytes.peek_u64() else {
-                break;
-            };
+        while let Some(eight) = bytes.peek_u64() {
             number = number.wrapping_mul(31).wrapping_add(eight);
             bytes.step_by_unchecked(8);
             bytes.increment_count_of(Component::Integer, 8);

@@ -9,9 +9,8 @@ ghost use Rattle.lexical_digits.specs.Separators.{is_digit};
 ghost use Rattle.lexical_digits.specs.State.{rule_of};
 ghost use Rattle.lexical_digits.specs.Stop.{stop};
 
-use digit_literals::pass_digits;
-use lexical_digits::iterator::Iter;
-use lexical_digits::skip::{Bytes, Component};
+use digit_literals::stop_from;
+use lexical_digits::skip::Component;
 
 /// Where the number ends that begins with the digit at a position.
 #[tactic(auto, using(digit_literals::proofs::ForCallers::rests))]
@@ -23,7 +22,5 @@ pub fn number_end(text: &[u8], word: u128, from: usize) -> usize
     ensures onward { from < result }
     ensures within { result ≤ length text.now }
 {
-    let mut bytes = Bytes::new(&text[from..], word);
-    pass_digits(&mut bytes, Component::Integer);
-    from + bytes.cursor()
+    from + stop_from(&text[from..], word, Component::Integer, 0)
 }
