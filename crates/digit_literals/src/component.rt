@@ -20,7 +20,6 @@ use lexical_digits::skip::{Bytes, Component};
 /// else the end. By the law [`digits_end`](lexical_digits::stop::digits_end) the digits that lead
 /// are those of the buffer between the cursor and the stop.
 #[inline(always)]
-#[tactic(auto, using(crate::proofs::States::by_state))]
 pub fn pass_digits(bytes: &mut Bytes, component: Component) -> usize
     ensures digits { result ≡ length (leading_digits_of component bytes.old.state) }
     ensures within_buffer { result ≤ length bytes.old.state.buffer }
@@ -80,7 +79,6 @@ pub fn read_digits_of(
 /// `98_76` with internal `_`, after 0, up to 99: Err(TooLarge { at: 3, value: 98, count: 2 })
 /// ```
 #[inline(always)]
-#[tactic(auto, using(crate::proofs::States::by_state))]
 pub fn read_digits_up_to(
     bytes: &mut Bytes,
     component: Component,
@@ -112,7 +110,6 @@ pub fn read_digits_up_to(
 /// passes them. [`TooLarge`] is answered only if `most` is given, and otherwise the value means
 /// nothing.
 #[inline(always)]
-#[tactic(auto, using(crate::proofs::States::on_copy))]
 fn read_on(
     bytes: &mut Bytes,
     component: Component,
@@ -141,7 +138,6 @@ fn read_on(
 /// are. Each is counted, also where `next` counts none; special has no count. The cursor is then at
 /// the next byte that the component keeps, or else at the end.
 #[inline(always)]
-#[tactic(auto, using(crate::proofs::PassedZeros::passing))]
 pub fn pass_zeros(bytes: &mut Bytes, component: Component) -> usize
     ensures zeros { result ≡ zeros_of component bytes.old.state }
     ensures state { bytes.new.state ≡ past_zeros_of component bytes.old.state }

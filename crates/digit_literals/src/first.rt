@@ -39,7 +39,7 @@ pub struct FirstDigits {
 /// `98_76` with internal `_`, up to 99: FirstDigits { value: 98, count: 4, dropped: 2 }
 /// ```
 #[inline(always)]
-#[tactic(auto, using(crate::proofs::States::on_copy, crate::proofs::Firsts::bounds))]
+#[tactic(auto, using(crate::proofs::Firsts::bounds))]
 pub fn read_first_digits(
     bytes: &mut Bytes,
     component: Component,

@@ -276,7 +276,6 @@ struct Head {
 
 /// What a number begins with at a position.
 #[inline(always)]
-#[tactic(auto, using(std::proofs::lemmas::Option::gets))]
 fn read_head<T: Number>(text: &[u8], word: u128, start: usize) -> Head
     requires { start ≤ length text.now }
     ensures negative { result.is_negative ≡ is_negative_from T.LEAST text.now start }

@@ -5,11 +5,15 @@ use Rattle.lexical_digits.specs.Laws.Table.{own_fits}
 use Rattle.lexical_digits.proofs.Fields.CarriedByCursor.{state_counted}
 use Rattle.lexical_digits.proofs.Calls.Stops.{leading_are, after_leading_are}
 
+counted_once_more : (n : ℕ) (k : Component) (s : State)
+    → counted_by (suc n) k s ≡ counted_by n k (counted k s)
+counted_once_more n k s = grind arith
+
 pub counts_are_rows : (n : ℕ) (k : Component) (s : State) → IsState s
     → counted_by n k s ≡ (run_of s (replicate n (On k, IncrementCount))).state
 counts_are_rows zero k s v = grind (arith, own_fits k s v)
 counts_are_rows (suc n) k s v =
-    grind (arith, counts_are_rows n k (counted k s) (state_counted 1 k s v))
+    counted_once_more n k s ∙ counts_are_rows n k (counted k s) (state_counted 1 k s v)
 
 nexts_are_rows : (n : ℕ) (k : Component) (s : State) → settled k (iterate (taken k) n s)
     ≡ (run_of s (replicate n (On k, Next) ++ ((On k, Peek) ∷ []))).state

@@ -2,7 +2,7 @@ use Rattle.std.proofs.Common.{arith}
 use Rattle.std.proofs.lemmas.Int.{ints}
 use Rattle.lexical_digits.specs.State.{own}
 use Rattle.lexical_digits.proofs.Looks.Needed.{none_needed}
-use Rattle.digit_literals.proofs.States.{owed_same}
+use Rattle.digit_literals.proofs.States.{on_copy, owed_same}
 use Rattle.digit_literals.proofs.component.read_on.Goals as goal
 
 pub pass_read-requires-clause-within : goal.pass_read-requires-clause-within
@@ -14,6 +14,9 @@ returns-in-Some c =
     at c.in-Some.ensures in
     let reads = off.reads (own c.args.component c.args.bytes.now.state) in
     record { read = c.in-Some.read; passes = grind (arith, ints, none_needed); is = c.outcome.ensures }
+
+pub go_on_from-requires : goal.go_on_from-requires
+go_on_from-requires c = grind (arith, on_copy)
 
 pub returns : goal.returns
 returns c = record {

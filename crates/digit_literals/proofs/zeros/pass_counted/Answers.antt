@@ -12,5 +12,14 @@ loop-component-preserved c = record {
   at_least = grind arith;
 }
 
+pub loop-component-smaller : goal.loop-component-smaller
+loop-component-smaller c = grind (arith, counting)
+
+pub returns-clause-zeros : goal.returns-clause-zeros
+returns-clause-zeros c = grind (arith, counting)
+
+pub returns-clause-state : goal.returns-clause-state
+returns-clause-state c = grind (arith, counting)
+
 pub returns-clause-owes : goal.returns-clause-owes
 returns-clause-owes c = grind (arith, ints)

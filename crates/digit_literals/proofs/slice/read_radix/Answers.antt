@@ -1,0 +1,15 @@
+use Rattle.std.proofs.Common.{arith}
+use Rattle.digit_literals.proofs.Passed.{reading}
+use Rattle.digit_literals.proofs.slice.read_radix.Goals as goal
+
+pub loop-at-init : goal.loop-at-init
+loop-at-init c = grind (arith, reading)
+
+pub loop-at-preserved : goal.loop-at-preserved
+loop-at-preserved c = grind (arith, reading)
+
+pub returns-then-not-is_separator : goal.returns-then-not-is_separator
+returns-then-not-is_separator c = grind (arith, reading)
+
+pub returns : goal.returns
+returns c = grind (arith, reading)
