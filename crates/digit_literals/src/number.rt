@@ -47,8 +47,8 @@ impl Number for u8 {
     ghost number = { λ x. pos x };
 
     #[inline(always)]
-    fn of_magnitude(is_negative: bool, magnitude: u128) -> u8 {
-        if is_negative { 0 } else { magnitude as u8 }
+    fn of_magnitude(_is_negative: bool, magnitude: u128) -> u8 {
+        magnitude as u8
     }
 }
 
@@ -64,8 +64,8 @@ impl Number for u16 {
     ghost number = { λ x. pos x };
 
     #[inline(always)]
-    fn of_magnitude(is_negative: bool, magnitude: u128) -> u16 {
-        if is_negative { 0 } else { magnitude as u16 }
+    fn of_magnitude(_is_negative: bool, magnitude: u128) -> u16 {
+        magnitude as u16
     }
 }
 
@@ -81,8 +81,8 @@ impl Number for u32 {
     ghost number = { λ x. pos x };
 
     #[inline(always)]
-    fn of_magnitude(is_negative: bool, magnitude: u128) -> u32 {
-        if is_negative { 0 } else { magnitude as u32 }
+    fn of_magnitude(_is_negative: bool, magnitude: u128) -> u32 {
+        magnitude as u32
     }
 }
 
@@ -98,8 +98,8 @@ impl Number for u64 {
     ghost number = { λ x. pos x };
 
     #[inline(always)]
-    fn of_magnitude(is_negative: bool, magnitude: u128) -> u64 {
-        if is_negative { 0 } else { magnitude as u64 }
+    fn of_magnitude(_is_negative: bool, magnitude: u128) -> u64 {
+        magnitude as u64
     }
 }
 
@@ -115,8 +115,8 @@ impl Number for u128 {
     ghost number = { λ x. pos x };
 
     #[inline(always)]
-    fn of_magnitude(is_negative: bool, magnitude: u128) -> u128 {
-        if is_negative { 0 } else { magnitude }
+    fn of_magnitude(_is_negative: bool, magnitude: u128) -> u128 {
+        magnitude
     }
 }
 
@@ -132,8 +132,8 @@ impl Number for usize {
     ghost number = { λ x. pos x };
 
     #[inline(always)]
-    fn of_magnitude(is_negative: bool, magnitude: u128) -> usize {
-        if is_negative { 0 } else { magnitude as usize }
+    fn of_magnitude(_is_negative: bool, magnitude: u128) -> usize {
+        magnitude as usize
     }
 }
 

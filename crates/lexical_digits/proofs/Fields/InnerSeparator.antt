@@ -37,17 +37,17 @@ place_inner rule buffer q digit count supported stands apart next is_next intern
     all : (i : ℕ) → q ≤ i → i < q + 1 → holds_separator rule buffer i ≡ true
     all i low high = let same : i ≡ q = omega arith in rw same holds
 
-    gone : class rule (slice_get buffer (q + 1)) ≡ right_side rule buffer q
+    not_kept : class rule (slice_get buffer (q + 1)) ≡ right_side rule buffer q
         → is_kept rule buffer q count q ≡ false
-    gone right =
+    not_kept right =
         kept_by_sides rule buffer supported q count true (sym (lt-ltb 0 count some)) holds
         ∙ rw (sym right, next, is_next, internal) refl
 
     here : (b : Bool) → rule.consecutive ≡ b → place rule buffer q count ≡ q + 1
     here true e = place_run rule buffer e 1 q (q + 1) count refl all stops within
-        (gone (right_many rule buffer supported e q (q + 1) holds (omega arith) all stops within))
+        (not_kept (right_many rule buffer supported e q (q + 1) holds (omega arith) all stops within))
     here false e = place_next rule buffer e q count (omega (arith, within))
-        (gone (right_one rule buffer supported e q))
+        (not_kept (right_one rule buffer supported e q))
 
 -- ---- while a component reads
 
