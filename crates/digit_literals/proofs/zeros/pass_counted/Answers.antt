@@ -1,5 +1,6 @@
 use Rattle.std.proofs.Common.{arith}
 use Rattle.std.proofs.lemmas.Int.{ints}
+use Rattle.std.proofs.lemmas.Option.{gets}
 use Rattle.digit_literals.proofs.PassedZeros.{counting}
 use Rattle.digit_literals.proofs.zeros.pass_counted.Goals as goal
 
@@ -23,3 +24,6 @@ returns-clause-state c = grind (arith, counting)
 
 pub returns-clause-owes : goal.returns-clause-owes
 returns-clause-owes c = grind (arith, ints)
+
+pub set_cursor-requires : goal.set_cursor-requires
+set_cursor-requires c = let zero = c.loop-component-test.ensures.zero in grind (arith, gets)
