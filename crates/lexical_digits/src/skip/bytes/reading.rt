@@ -66,20 +66,6 @@ fn byte_at<'a>(slc: &'a [u8], index: usize) -> Option<&'a u8>
     slc.get(index)
 }
 
-/// The byte at a cursor, or none at the end: as `byte_at`, by a test for equality, which is cheaper
-/// in a loop.
-#[inline(always)]
-fn byte_here<'a>(slc: &'a [u8], cursor: usize) -> Option<&'a u8>
-    requires { cursor ≤ length slc.now }
-    ensures { option_copied result ≡ slice_get slc.now cursor }
-{
-    if cursor == slc.len() {
-        None
-    } else {
-        Some(&slc[cursor])
-    }
-}
-
 /// The digit after the separator at the cursor, where that is dropped since a digit was counted
 /// before it; and whether the next byte was looked at and is no digit.
 #[inline(always)]
@@ -113,7 +99,7 @@ impl<'a> Bytes<'a> {
         if self.has_no_flags {
             return self.look();
         }
-        let byte = byte_here(self.slc, self.tally.index)?;
+        let byte = byte_at(self.slc, self.tally.index)?;
         self.settle(component, *byte);
         self.look()
     }
@@ -150,7 +136,7 @@ impl<'a> Bytes<'a> {
     fn look(&mut self) -> Option<&'a u8>
         ensures { LooksHere self.old self.new (option_copied result) }
     {
-        let byte = byte_here(self.slc, self.tally.index)?;
+        let byte = byte_at(self.slc, self.tally.index)?;
         self.tally.look(1);
         Some(byte)
     }
@@ -180,7 +166,7 @@ impl<'a> Bytes<'a> {
             let rule = self.switch_reader(component);
             return self.next_decided(component, rule, false);
         }
-        let byte = byte_here(self.slc, self.tally.index)?;
+        let byte = byte_at(self.slc, self.tally.index)?;
         if self.shortcuts.is_direct(*byte) {
             self.tally.pass_digit();
             return Some(byte);
@@ -208,7 +194,7 @@ impl<'a> Bytes<'a> {
         requires { has_no_flags self.old.state.word ≡ true }
         ensures { NextsOf component self.old self.new result }
     {
-        let byte = byte_here(self.slc, self.tally.index)?;
+        let byte = byte_at(self.slc, self.tally.index)?;
         self.tally.pass_digit();
         Some(byte)
     }
