@@ -1,7 +1,13 @@
 use Rattle.std.proofs.Common.{rules, arith, ◌≡◌, ◌≤◌, true, false, ◌∙◌, sym}
-use Rattle.lexical_digits.specs.Laws.Terms.{at_zero, past_zero, ints}
+use Rattle.lexical_digits.specs.Laws.Terms.{at_zero, past_zero, ints, gets}
 use Rattle.lexical_digits.proofs.Calls.Items.{zeros_by, after_zeros_by, past_cursor}
 use Rattle.lexical_digits.proofs.iterator.bodies.AnyDigitsBodies.skip_zeros.Goals as goal
+
+pub set_cursor-requires : goal.set_cursor-requires
+set_cursor-requires g c = grind (arith, gets)
+
+pub loop-self-smaller : goal.loop-self-smaller
+loop-self-smaller g c = grind (arith, gets)
 
 pub loop-self-preserved : goal.loop-self-preserved
 loop-self-preserved g c =
