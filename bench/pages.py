@@ -142,7 +142,7 @@ def speed(cases):
                    ("What is parsed", "Constant word", "Library", "std", "Constant word / std"),
                    std_rows(cases))
     return "\n".join(lines) + f"""
-To ask `looks` after each number of 1 to 4 digits raises the instructions for each byte from \
+Where `looks` is asked after each number of 1 to 4 digits, the instructions for each byte go from \
 {asked(cases, "no flags")} without flags and from {asked(cases, "I")} with separators allowed \
 (constant word).
 
