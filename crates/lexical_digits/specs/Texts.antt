@@ -1,7 +1,7 @@
 -- Texts in words of their bytes, for the most common states of the flags.
-use Rattle.std.specs.Prelude.{◌≡◌, ℕ, ◌+◌, ◌<◌, ◌≤◌, Bool, true, false, ◌&&◌, ◌||◌, List, length, slice_get}
+use Rattle.std.specs.Prelude.{◌≡◌, ℕ, ◌+◌, ◌<◌, ◌≤◌, Bool, true, false, not, ◌&&◌, ◌||◌, List, length, take, drop, reverse, find, slice_get}
 use Rattle.lexical_digits.specs.declared.skip.rule.Rule.{Rule}
-use Rattle.lexical_digits.specs.Separators.{is_digit, holds_separator}
+use Rattle.lexical_digits.specs.Separators.{is_digit, is_separator, holds_separator}
 use Rattle.lexical_digits.specs.Cursor.{holds_of}
 use Rattle.lexical_digits.specs.Looks.{slice_before}
 
@@ -39,6 +39,18 @@ abbrev pub is_digit_or_between : Rule → List ℕ → ℕ → Bool
 is_digit_or_between rule text q =
     holds_digit rule text q
     || (holds_separator rule text q && digit_before rule text q && holds_digit rule text (q + 1))
+
+-- whether the first of some bytes that is no separator is a digit
+abbrev pub leads_to_digit : Rule → List ℕ → Bool
+leads_to_digit rule bytes =
+    holds_of (is_digit rule) (find (λ byte. not (is_separator rule.separator byte)) bytes)
+
+-- whether a byte is a digit, or a separator in a run of them between two digits
+abbrev pub is_digit_or_in_run : Rule → List ℕ → ℕ → Bool
+is_digit_or_in_run rule text q =
+    holds_digit rule text q
+    || (holds_separator rule text q && leads_to_digit rule (reverse (take q text))
+    && leads_to_digit rule (drop (q + 1) text))
 
 -- ---- texts
 

@@ -1,6 +1,7 @@
 -- What the scans to both sides find.
 use Rattle.std.proofs.Common.{◌≡◌, ℕ, zero, suc, ◌+◌, ◌-◌, ◌<◌, ◌≤◌, Bool, true, false, not, ltb, List, [], ◌∷◌, length, get_or, drop, take, reverse, refl, sym, ap, ◌∙◌, arith, inl, inr, slice_get}
-use Rattle.lexical_digits.specs.Laws.Terms.{list_any, cases_lt, drop_more, drop_all, take_more, reverse-append, gets, Rule, is_separator, class, neighbour, right_side, left_side, roles, grants, holds_separator, is_dropped, is_kept, IsSupported, slice_before}
+use Rattle.lexical_digits.specs.Laws.Terms.{list_any, cases_lt, drop_more, drop_all, take_more, reverse-append, gets, Rule, is_digit, is_separator, class, neighbour, right_side, left_side, roles, grants, holds_separator, is_dropped, is_kept, IsSupported, slice_before}
+use Rattle.lexical_digits.specs.declared.skip.rule.Class.TheVariants.{Digit}
 use Rattle.lexical_digits.specs.Laws.Kept.{seen_none}
 use Rattle.lexical_digits.proofs.Rule.Runs.{separator_class, neighbour_many, neighbour_single, along, Separators, right_in_run, left_in_run, right_single}
 
@@ -24,6 +25,14 @@ module _ (rule : Rule) (buffer : List ℕ) (supported : IsSupported rule) where
   before_more q l =
       let next : suc q ≡ q + 1 = omega arith in
       rw (next, take_more buffer q 0 l, reverse-append) refl
+
+  -- after a digit the left side is a digit
+  pub left_after_digit : (q : ℕ) → q < length buffer → is_digit rule (get_or buffer q 0) ≡ true
+      → class rule (neighbour rule (reverse (take (q + 1) buffer))) ≡ Digit
+  unfolding neighbour
+  left_after_digit q l h =
+      let next : q + 1 ≡ suc q = omega arith in
+      rw (next, before_more q l) (grind (arith, separator_class rule buffer supported))
 
   -- the byte before a run's start is what stands to its left
   left_at : rule.consecutive ≡ true → (s : ℕ)

@@ -49,7 +49,8 @@ pub use Rattle.lexical_digits.specs.Stop.{stop_of, leading_digits_of, past_digit
 pub use Rattle.lexical_digits.specs.Texts.{IsInternalAlone, IsInternalInRuns, is_digit_or_between}
 pub use Rattle.lexical_digits.specs.Texts.{is_digit_or_separator, IsFirstFault, holds_digit}
 pub use Rattle.lexical_digits.specs.Texts.{digit_before, AllDigitsOrSeparators, AllDigitsOrBetween}
-pub use Rattle.lexical_digits.specs.Texts.{IsFromDigitToDigit}
+pub use Rattle.lexical_digits.specs.Texts.{IsFromDigitToDigit, IsFirstFaultFrom, leads_to_digit}
+pub use Rattle.lexical_digits.specs.Texts.{is_digit_or_in_run}
 pub use Rattle.lexical_digits.specs.Looks.{Held, PeeksOf, NextsOf, SettlesOf, LooksHere, slice_before, Costs, Finds}
 pub use Rattle.lexical_digits.specs.Looks.{IsRun, IsRunOrNone, IsSpan, LooksBetween, Remembers}
 pub use Rattle.lexical_digits.specs.Looks.{NoLooks, far, has_scanned, needs_run, one_if, owed}
