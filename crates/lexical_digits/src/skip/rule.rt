@@ -201,7 +201,7 @@ pub(super) struct Shortcuts {
     last_figure: u8,
     /// How many letters are digits.
     letters: u8,
-    /// The separator that is dropped between two digits, and 256 where there is none.
+    /// The separator that is dropped between two digits, and at least 256 where there is none.
     pub(super) inner_separator: u16,
 }
 
@@ -228,11 +228,8 @@ impl Shortcuts {
         Shortcuts {
             last_figure,
             letters,
-            inner_separator: if has_inner {
-                rule.separator as u16
-            } else {
-                256
-            },
+            // a sum, which a compiler doesn't take apart at each byte
+            inner_separator: rule.separator as u16 + if has_inner { 0 } else { 256 },
         }
     }
 

@@ -66,6 +66,16 @@ fn byte_at<'a>(slc: &'a [u8], index: usize) -> Option<&'a u8>
     slc.get(index)
 }
 
+/// The byte at a position within the buffer. A caller that tests the position itself computes no
+/// address before the test, as it does by `get`.
+#[inline(always)]
+fn byte_within<'a>(slc: &'a [u8], index: usize) -> &'a u8
+    requires { index < length slc.now }
+    ensures { Some result.now ≡ slice_get slc.now index }
+{
+    &slc[index]
+}
+
 /// The digit after the separator at the cursor, where that is dropped since a digit was counted
 /// before it; and whether the next byte was looked at and is no digit.
 #[inline(always)]
@@ -166,7 +176,10 @@ impl<'a> Bytes<'a> {
             let rule = self.switch_reader(component);
             return self.next_decided(component, rule, false);
         }
-        let byte = byte_at(self.slc, self.tally.index)?;
+        if self.tally.index >= self.slc.len() {
+            return None;
+        }
+        let byte = byte_within(self.slc, self.tally.index);
         if self.shortcuts.is_direct(*byte) {
             self.tally.pass_digit();
             return Some(byte);

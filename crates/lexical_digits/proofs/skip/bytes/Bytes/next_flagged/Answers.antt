@@ -1,5 +1,5 @@
 use Rattle.std.proofs.Common.{false, refl, sym, ◌∙◌, ◌<◌, ap, arith, min, length, ◌+◌, ◌-◌, ◌^◌}
-use Rattle.lexical_digits.specs.Laws.Terms.{is_digit, rule_of, state_of, counts, slice_get_within, false≢true, and_right, or_parts}
+use Rattle.lexical_digits.specs.Laws.Terms.{is_digit, rule_of, state_of, counts, slice_get_within, slice_get_past, false≢true, and_right, or_parts}
 use Rattle.lexical_digits.proofs.Fields.CarriedByCursor.{state_passed, state_moved, carried, carried_on}
 use Rattle.lexical_digits.proofs.Fields.DirectBytes.{rule_by, direct_by, counts_by, other_by}
 use Rattle.lexical_digits.proofs.Fields.AtTheCursor.{here_byte, here_direct, direct_counts, yields_by, yields_end}
@@ -7,16 +7,17 @@ use Rattle.lexical_digits.proofs.Fields.InnerSeparator.{over_by, yields_over, fo
 use Rattle.lexical_digits.proofs.skip.bytes.Bytes.next_flagged.Goals as goal
 use Rattle.lexical_digits.proofs.skip.bytes.Bytes.next_flagged.Goals.{then-self-byte+in_default, else-self-byte+else-not-is_separator}
 
-pub returns-in_err-byte : goal.returns-in_err-byte
-returns-in_err-byte c = rw (sym c.self.view_is)
-    (yields_end c.args.component _ _ (sym c.in_err-byte.ensures) c.from_residual.ensures)
+pub returns-then-self : goal.returns-then-self
+returns-then-self c =
+    let past = slice_get_past c.self.inside.slc.now _ (omega (arith, c.if-self.true)) in
+    rw (sym c.self.view_is) (yields_end c.args.component _ _ past refl)
 
 -- ---- a direct byte
 
 pub invariant_of-self-inside : goal.invariant_of-self-inside
 invariant_of-self-inside c =
     carried c.self.inside c.pass_digit.ensures
-    (state_passed _ _ _ c.self.inside.holds (slice_get_within _ _ _ (sym c.in_ok-byte.ensures)))
+    (state_passed _ _ _ c.self.inside.holds (slice_get_within _ _ _ (sym c.byte_within-byte.ensures)))
 
 pub returns-then-is_direct : goal.returns-then-is_direct
 returns-then-is_direct c =
@@ -26,7 +27,7 @@ returns-then-is_direct c =
     let direct = direct_by b k reader _ _ c.is_direct.ensures.fits
     (sym c.is_direct.ensures.value ∙ c.if-is_direct.true) in
     rw (sym c.self.view_is)
-    (yields_by k _ _ _ (here_direct k _ _ c.in_ok-byte.ensures direct) c.in_ok-byte.ensures
+    (yields_by k _ _ _ (here_direct k _ _ c.byte_within-byte.ensures direct) c.byte_within-byte.ensures
     refl c.pass_digit.ensures.looks (counts k b.format)
     (direct_counts k (state_of b.slc.now b.format b.tally) _ direct)
     (c.pass_digit.ensures.state b.slc.now b.format ∙ rw (reader, counts_by b k reader) refl))
@@ -47,7 +48,7 @@ pub returns-in-Some : goal.returns-in-Some
 returns-in-Some c =
     let b = c.self.inside in
     let reader = c.is_reader.ensures c.if-not-is_reader.false in
-    let over = over_by b _ reader _ c.is_direct.ensures.fits c.in_ok-byte.ensures _
+    let over = over_by b _ reader _ c.is_direct.ensures.fits c.byte_within-byte.ensures _
     (rw c.in-Some.is at c.inner_digit-saw.ensures.digit) in
     rw (sym c.self.view_is) (yields_over _ _ _ _ c.pass_other.new.self _ over
     (c.pass_other.ensures.state b.slc.now b.format) c.pass_other.ensures.index
@@ -61,7 +62,7 @@ returns-in-Some c =
 pub invariant_of-self-inside-then-not-is_separator :
     goal.invariant_of-self-inside-then-not-is_separator
 invariant_of-self-inside-then-not-is_separator c =
-    let within = slice_get_within c.self.inside.slc.now _ _ (sym c.in_ok-byte.ensures) in
+    let within = slice_get_within c.self.inside.slc.now _ _ (sym c.byte_within-byte.ensures) in
     carried c.self.inside c.pass_other-then-not-is_separator.ensures
     (state_moved _ _ c.self.inside.holds (omega (arith, within)))
 
@@ -72,10 +73,10 @@ returns-then-not-is_separator c =
     let reader = c.is_reader.ensures c.if-not-is_reader.false in
     let direct = direct_by b k reader _ _ c.is_direct.ensures.fits
     (sym c.is_direct.ensures.value ∙ c.if-is_direct.false) in
-    let digit = is_digit (rule_of b.format k) c.in_ok-byte.byte.now in
+    let digit = is_digit (rule_of b.format k) c.byte_within-byte.result.now in
     let other = other_by b k reader _ (sym c.is_separator.ensures ∙ c.if-not-is_separator.true) in
-    rw (sym c.self.view_is) (yields_by k _ _ _ (here_byte k _ _ c.in_ok-byte.ensures other)
-    c.in_ok-byte.ensures refl c.pass_other-then-not-is_separator.ensures.looks false
+    rw (sym c.self.view_is) (yields_by k _ _ _ (here_byte k _ _ c.byte_within-byte.ensures other)
+    c.byte_within-byte.ensures refl c.pass_other-then-not-is_separator.ensures.looks false
     (sym (and_right (counts k b.format) digit (or_parts _ digit direct).1))
     (c.pass_other-then-not-is_separator.ensures.state b.slc.now b.format))
 
@@ -89,7 +90,7 @@ pub next_decided-requires-2-clause-saw_next : goal.next_decided-requires-2-claus
 next_decided-requires-2-clause-saw_next c = elim c.if-self-byte.branch [
   | then-self-byte+in_default w ↦ λ e. rw (sym c.self.view_is)
       (follows_by c.self.inside _ (c.is_reader.ensures c.if-not-is_reader.false) _
-      c.is_direct.ensures.fits c.in_ok-byte.ensures
+      c.is_direct.ensures.fits c.byte_within-byte.ensures
       (w.inner_digit-saw.ensures.saw_next (sym w.saw_next-is ∙ e)))
   | else-self-byte+else-not-is_separator w ↦ λ e. absurd (false≢true (sym w.saw_next-is ∙ e))
 ]
