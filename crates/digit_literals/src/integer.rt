@@ -12,7 +12,7 @@ ghost use Rattle.digit_literals.specs.Integers.{IsInteger, HasNoDigit, IsTooLarg
 ghost use Rattle.digit_literals.specs.Reads.{ReadsTo, IsFirst, integer_of};
 
 use super::LiteralError;
-use super::slice::{ReadTo, read_counted, read_slice};
+use super::slice::{ReadTo, first_digit, read_counted, read_slice};
 use lexical_digits::iterator::Iter;
 use lexical_digits::skip::{Bytes, Component, Rule};
 
@@ -68,7 +68,9 @@ pub fn read_integer_from(
     ensures overflow_at { let n = length text.now in
         IfOverflow result (λ at. (start ≤ at) × (at < n)) }
 {
-    read_integer_on(text, word, start, None, most)
+    let rule = Rule::of(word, Component::Integer);
+    let first = first_digit(text, rule, start, 0, u128::from(most));
+    read_integer_on(text, word, start, first, most)
 }
 
 /// [`read_integer_from`], where the digit at `start` may be known.
