@@ -1,5 +1,5 @@
 -- Direct bytes: which they are by the shortcuts, and by the rule of the reader.
-use Rattle.std.proofs.Common.{◌≡◌, ℕ, ◌+◌, ◌-◌, ◌<◌, ◌≤◌, ◌%◌, ◌||◌, Bool, false, min, leb, ltb, sym, ◌∙◌, ap, arith}
+use Rattle.std.proofs.Common.{◌≡◌, ℕ, ◌+◌, ◌-◌, ◌<◌, ◌%◌, ◌||◌, Bool, false, min, ltb, sym, ◌∙◌, ap, arith}
 use Rattle.lexical_digits.specs.Laws.Terms.{digit_value, Rule, Shortcuts, separator, is_digit, is_separator, IsSupported, Component, Inside, rule_of, counts, lower, is_direct, is_direct_by, AreShortcuts, nat_tests, and_pow}
 use Rattle.std.specs.Int.Bits.{bit_or, or_add_and}
 use Rattle.lexical_digits.proofs.Rule.Supported.{supported_rule}
@@ -15,18 +15,10 @@ pub digit_by : (rule : Rule) (byte : ℕ) → byte < 256
 unfolding is_digit digit_value
 digit_by rule byte fits = grind (arith, nat_tests)
 
-digit_test : (rule : Rule) (byte last letters : ℕ) → byte < 256 → 2 ≤ rule.radix
-    → rule.radix ≤ 36 → last + 1 ≡ min rule.radix 10 → letters ≡ rule.radix - 10
-    → (leb ((byte + 208) % 256) last || ltb ((lower byte + 159) % 256) letters)
-    ≡ is_digit rule byte
-unfolding is_digit digit_value
-digit_test rule byte last letters fits low high e f = grind (arith, nat_tests)
-
 direct_test : (rule : Rule) (s : Shortcuts) (byte : ℕ) → byte < 256 → IsSupported rule
     → AreShortcuts rule s → is_direct_by s byte ≡ is_direct rule byte
 direct_test rule s byte fits supported are =
-    let figures = digit_test rule byte s.last_figure s.letters fits supported.low supported.high in
-    grind (arith, nat_tests, are)
+    grind (arith, nat_tests, are, supported, digit_by rule byte fits)
 
 -- another byte is no separator
 pub not_separator : (separator byte : ℕ) → (byte ≡ separator → ⊥)

@@ -147,7 +147,7 @@ impl<'a> Bytes<'a> {
         ensures { LooksHere self.old self.new (option_copied result) }
     {
         let byte = byte_at(self.slc, self.tally.index)?;
-        self.tally.look(1);
+        self.tally.look();
         Some(byte)
     }
 

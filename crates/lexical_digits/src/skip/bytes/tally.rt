@@ -203,13 +203,13 @@ impl Tally {
         self.exponent = 0;
     }
 
-    /// Counts that many looks. The cursor stays.
+    /// Counts a look. The cursor stays.
     #[inline(always)]
-    pub(super) fn look(&mut self, times: u64)
-        ensures { let looks = saturating (looks_of self.old) times in
+    pub(super) fn look(&mut self)
+        ensures { let looks = saturating (looks_of self.old) 1 in
             Leaves self.old self.new (λ s. s) self.old.index looks }
     {
-        self.looks_left = self.looks_left.saturating_sub(times);
+        self.looks_left = self.looks_left.saturating_sub(1);
     }
 
     /// Passes one byte: counts two looks, and a digit if the reader counts.
