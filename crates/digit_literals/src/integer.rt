@@ -69,8 +69,11 @@ pub fn read_integer_from(
         IfOverflow result (λ at. (start ≤ at) × (at < n)) }
 {
     let rule = Rule::of(word, Component::Integer);
-    let first = first_digit(text, rule, start, 0, u128::from(most));
-    read_integer_on(text, word, start, first, most)
+    // A compiler sees that without inner separators no digit follows a first byte that is none.
+    match first_digit(text, rule, start, 0, u128::from(most)) {
+        None if !rule.internal => read_integer_on(text, word, start, None, most),
+        first => read_integer_on(text, word, start, first, most),
+    }
 }
 
 /// [`read_integer_from`], where the digit at `start` may be known.
