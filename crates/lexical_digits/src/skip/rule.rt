@@ -197,9 +197,9 @@ impl Rule {
 /// all bytes where it has no flags.
 #[derive(Clone, Copy)]
 pub(super) struct Shortcuts {
-    /// The last direct figure, counted from `0`; 255 where every byte is direct.
-    last_figure: u8,
-    /// How many letters are digits.
+    /// How many bytes from `0` on are direct; 255 where every byte is.
+    figures: u8,
+    /// How many bytes from `a` on are direct, in either case; 255 where every byte is.
     letters: u8,
     /// The separator that is dropped between two digits, and at least 256 where there is none.
     pub(super) inner_separator: u16,
@@ -217,16 +217,17 @@ impl Shortcuts {
         ensures inner { result.inner_separator < 256
             → IsInner rule is_counting result.inner_separator }
     {
-        let (last_figure, letters) = if !rule.has_flags() {
-            (255, 0)
-        } else if rule.radix > 10 {
-            (9, (rule.radix - 10) as u8)
+        let (figures, letters) = if !rule.has_flags() {
+            (255, 255)
         } else {
-            ((rule.radix - 1) as u8, 0)
+            (
+                rule.radix.min(10) as u8,
+                rule.radix.saturating_sub(10) as u8,
+            )
         };
         let has_inner = is_counting && rule.internal && rule.separator != 0;
         Shortcuts {
-            last_figure,
+            figures,
             letters,
             // a sum, which a compiler doesn't take apart at each byte
             inner_separator: rule.separator as u16 + if has_inner { 0 } else { 256 },
@@ -240,7 +241,6 @@ impl Shortcuts {
         ensures value { result ≡ is_direct_by self byte }
         ensures fits { byte < 256 }
     {
-        byte.wrapping_sub(b'0') <= self.last_figure
-            || (byte | 0x20).wrapping_sub(b'a') < self.letters
+        byte.wrapping_sub(b'0') < self.figures || (byte | 0x20).wrapping_sub(b'a') < self.letters
     }
 }
