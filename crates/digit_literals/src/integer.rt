@@ -69,8 +69,11 @@ pub fn read_integer_from(
         IfOverflow result (λ at. (start ≤ at) × (at < n)) }
 {
     let rule = Rule::of(word, Component::Integer);
-    let first = first_digit(text, rule, start, 0, u128::from(most));
-    read_integer_on(text, word, start, first, most)
+    // A compiler sees that without inner separators no digit follows a first byte that is none.
+    match first_digit(text, rule, start, 0, u128::from(most)) {
+        None if !rule.internal => read_integer_on(text, word, start, None, most),
+        first => read_integer_on(text, word, start, first, most),
+    }
 }
 
 /// [`read_integer_from`], where the digit at `start` may be known.
@@ -227,12 +230,7 @@ fn read_ahead(
         IfSome result (λ read. ReadsTo r text.now start 0 most read 0) }
     ensures empty { IfSome result (λ read. (read.end == start) ≡ (read.count == 0)) }
 {
-    let rule = Rule::of(word, component);
-    // A compiler sees that without inner separators no digit follows a first byte that is none.
-    match first {
-        None if !rule.internal => read_slice(text, rule, start, 0, None, most),
-        _ => read_slice(text, rule, start, 0, first, most),
-    }
+    read_slice(text, Rule::of(word, component), start, 0, first, most)
 }
 
 /// Reads the digits of a component from `start` on by a `Bytes`, whatever separators are met: up to

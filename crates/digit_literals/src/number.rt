@@ -291,9 +291,12 @@ fn read_head<T: Number>(text: &[u8], word: u128, start: usize) -> Head
         begin: start,
         first: None,
     };
+    if T::LEAST == 0 {
+        return head;
+    }
     let rule = Rule::of(word, Component::Integer);
     head.first = first_digit(text, rule, start, 0, T::MOST);
-    if T::LEAST == 0 || head.first.is_some() {
+    if head.first.is_some() {
         return head;
     }
     match text.get(start) {

@@ -3,9 +3,4 @@ use Rattle.digit_literals.proofs.integer.read_ahead.Goals as goal
 
 pub read_slice-requires-clause-supported : goal.read_slice-requires-clause-supported
 read_slice-requires-clause-supported c =
-    supported_by _ c.args.word c.args.component c.of-rule.ensures c.requires.supported
-
-pub read_slice-requires-in_default-clause-supported :
-    goal.read_slice-requires-in_default-clause-supported
-read_slice-requires-in_default-clause-supported c =
-    supported_by _ c.args.word c.args.component c.of-rule.ensures c.requires.supported
+    supported_by _ c.args.word c.args.component c.of.ensures c.requires.supported
