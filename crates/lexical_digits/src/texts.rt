@@ -33,7 +33,7 @@ pub fn internal_reads_between(text: &[u8], word: u128, component: Component)
 /// With the internal and the consecutive flag only, reading stops at the first byte that is neither
 /// a digit nor a separator in a run of separators between two digits. So a text is read to its end
 /// exactly if each byte is a digit or a separator, and the first and the last byte are digits. The
-/// digit before a run may stand before the start of the reading. Requires a supported word.
+/// digit before a run may be before the start of the reading. Requires a supported word.
 #[tactic(auto, using(crate::proofs::Calls::Texts::in_runs))]
 pub fn runs_read_between(text: &[u8], word: u128, component: Component)
     requires { IsTrue (is_supported word) }

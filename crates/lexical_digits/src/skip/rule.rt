@@ -118,8 +118,11 @@ impl Rule {
         ensures { result ≡ is_digit self byte }
     {
         let figures = self.radix.min(10) as u8;
+        if byte.wrapping_sub(b'0') < figures {
+            return true;
+        }
         let letters = self.radix.min(36).saturating_sub(10) as u8;
-        byte.wrapping_sub(b'0') < figures || (byte | 0x20).wrapping_sub(b'a') < letters
+        (byte | 0x20).wrapping_sub(b'a') < letters
     }
 
     /// Whether a byte is the separator. A separator of zero means that no byte is one.

@@ -17,7 +17,8 @@ returns-then-self c =
 pub invariant_of-self-inside : goal.invariant_of-self-inside
 invariant_of-self-inside c =
     carried c.self.inside c.pass_digit.ensures
-    (state_passed _ _ _ c.self.inside.holds (slice_get_within _ _ _ (sym c.byte_within-byte.ensures)))
+    (state_passed _ _ _ c.self.inside.holds
+    (slice_get_within _ _ _ (sym c.byte_within-byte.ensures)))
 
 pub returns-then-is_direct : goal.returns-then-is_direct
 returns-then-is_direct c =
@@ -27,8 +28,8 @@ returns-then-is_direct c =
     let direct = direct_by b k reader _ _ c.is_direct.ensures.fits
     (sym c.is_direct.ensures.value ∙ c.if-is_direct.true) in
     rw (sym c.self.view_is)
-    (yields_by k _ _ _ (here_direct k _ _ c.byte_within-byte.ensures direct) c.byte_within-byte.ensures
-    refl c.pass_digit.ensures.looks (counts k b.format)
+    (yields_by k _ _ _ (here_direct k _ _ c.byte_within-byte.ensures direct)
+    c.byte_within-byte.ensures refl c.pass_digit.ensures.looks (counts k b.format)
     (direct_counts k (state_of b.slc.now b.format b.tally) _ direct)
     (c.pass_digit.ensures.state b.slc.now b.format ∙ rw (reader, counts_by b k reader) refl))
 

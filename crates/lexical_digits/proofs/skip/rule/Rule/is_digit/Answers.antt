@@ -8,8 +8,8 @@ returns-then-byte-figures c =
     let test = digit_by c.args.self c.args.byte c.ranges.byte.fits in
     grind (arith, nat_tests, test, c.min-figures.ensures, c.if-byte-figures.true)
 
-pub returns-else-byte-figures : goal.returns-else-byte-figures
-returns-else-byte-figures c =
+pub returns : goal.returns
+returns c =
     let test = digit_by c.args.self c.args.byte c.ranges.byte.fits in
     let same = lower_by_or c.args.byte in
     grind (arith, nat_tests, test, same, c.min-figures.ensures, c.min.ensures, c.saturating_sub-letters.ensures, c.if-byte-figures.false)
