@@ -184,15 +184,18 @@ impl<'a> Bytes<'a> {
             self.tally.pass_digit();
             return Some(byte);
         }
-        if *byte != self.rule.separator {
+        let mut saw_next = false;
+        if self.shortcuts.inner_separator == *byte as u16 {
+            let (next, saw) = inner_digit(self.slc, self.tally, self.shortcuts, *byte);
+            if let Some(next) = next {
+                self.tally.pass_other();
+                self.tally.pass_digit();
+                return Some(next);
+            }
+            saw_next = saw;
+        } else if *byte != self.rule.separator {
             self.tally.pass_other();
             return Some(byte);
-        }
-        let (next, saw_next) = inner_digit(self.slc, self.tally, self.shortcuts, *byte);
-        if let Some(next) = next {
-            self.tally.pass_other();
-            self.tally.pass_digit();
-            return Some(next);
         }
         let rule = self.rule;
         self.next_decided(component, rule, saw_next)
