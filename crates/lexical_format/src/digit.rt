@@ -1,7 +1,32 @@
 //! The bytes that are digits, and their values.
 
 ghost use Rattle.std.specs.Prelude.{◌≡◌};
-ghost use Rattle.lexical_format.specs.Digits.{digit_of_radix, is_digit_of_radix};
+ghost use Rattle.lexical_format.specs.Digits.{digit_of_radix, is_digit_of_radix, value_or_36};
+
+/// The value of each byte as a digit, and 36 where it is none.
+static VALUES: [u8; 256] = [
+    36, 36, 36, 36, 36, 36, 36, 36, 36, 36, 36, 36, 36, 36, 36, 36, 36, 36, 36, 36, 36, 36, 36, 36,
+    36, 36, 36, 36, 36, 36, 36, 36, 36, 36, 36, 36, 36, 36, 36, 36, 36, 36, 36, 36, 36, 36, 36, 36,
+    0, 1, 2, 3, 4, 5, 6, 7, 8, 9, 36, 36, 36, 36, 36, 36, 36, 10, 11, 12, 13, 14, 15, 16, 17, 18,
+    19, 20, 21, 22, 23, 24, 25, 26, 27, 28, 29, 30, 31, 32, 33, 34, 35, 36, 36, 36, 36, 36, 36, 10,
+    11, 12, 13, 14, 15, 16, 17, 18, 19, 20, 21, 22, 23, 24, 25, 26, 27, 28, 29, 30, 31, 32, 33, 34,
+    35, 36, 36, 36, 36, 36, 36, 36, 36, 36, 36, 36, 36, 36, 36, 36, 36, 36, 36, 36, 36, 36, 36, 36,
+    36, 36, 36, 36, 36, 36, 36, 36, 36, 36, 36, 36, 36, 36, 36, 36, 36, 36, 36, 36, 36, 36, 36, 36,
+    36, 36, 36, 36, 36, 36, 36, 36, 36, 36, 36, 36, 36, 36, 36, 36, 36, 36, 36, 36, 36, 36, 36, 36,
+    36, 36, 36, 36, 36, 36, 36, 36, 36, 36, 36, 36, 36, 36, 36, 36, 36, 36, 36, 36, 36, 36, 36, 36,
+    36, 36, 36, 36, 36, 36, 36, 36, 36, 36, 36, 36, 36, 36, 36, 36, 36, 36, 36, 36, 36, 36, 36, 36,
+    36, 36, 36, 36, 36, 36, 36, 36, 36, 36, 36, 36, 36, 36,
+];
+
+/// The value of the byte as a digit: `0` to `9` have the values 0 to 9, letters of either case 10
+/// to 35. Every other byte has 36, which isn't below the greatest radix. There is no branch between
+/// figures and letters.
+#[inline(always)]
+pub fn digit_value(byte: u8) -> u8
+    ensures { result ≡ value_or_36 byte }
+{
+    VALUES[usize::from(byte)]
+}
 
 /// The value of the byte as a digit of that radix.
 ///
@@ -13,20 +38,25 @@ ghost use Rattle.lexical_format.specs.Digits.{digit_of_radix, is_digit_of_radix}
 pub fn char_to_digit_const(value: u8, radix: u32) -> Option<u32>
     ensures { result ≡ digit_of_radix radix value }
 {
-    let digit = match value {
-        b'0'..=b'9' => value - b'0',
-        b'A'..=b'Z' => value - b'A' + 10,
-        b'a'..=b'z' => value - b'a' + 10,
-        _ => return None,
+    // Where a compiler knows that the radix is 10, a figure takes no load.
+    let digit = if radix == 10 {
+        value.wrapping_sub(b'0')
+    } else {
+        digit_value(value)
     };
     let digit = u32::from(digit);
-    if digit < radix { Some(digit) } else { None }
+    if digit < radix.min(36) {
+        Some(digit)
+    } else {
+        None
+    }
 }
 
 /// Whether [`char_to_digit_const`] answers a value.
 #[inline(always)]
+#[tactic(auto, unfolding(crate::specs::Digits::digit_value))]
 pub fn char_is_digit_const(value: u8, radix: u32) -> bool
     ensures { result ≡ is_digit_of_radix radix value }
 {
-    char_to_digit_const(value, radix).is_some()
+    u32::from(digit_value(value)) < radix.min(36)
 }

@@ -34,7 +34,7 @@ pub mod laws;
 pub mod words;
 
 pub use builder::{ALL_FLAGS, DECIMAL, DigitSeparatorFlags, NO_FLAGS, NumberFormatBuilder};
-pub use digit::{char_is_digit_const, char_to_digit_const};
+pub use digit::{char_is_digit_const, char_to_digit_const, digit_value};
 
 /// Drops the integer's internal separators: a digit on both sides.
 pub const INTEGER_INTERNAL_DIGIT_SEPARATOR: u128 = 1 << 32;

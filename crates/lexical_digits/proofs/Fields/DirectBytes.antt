@@ -1,24 +1,23 @@
 -- Direct bytes: which they are by the shortcuts, and by the rule of the reader.
-use Rattle.std.proofs.Common.{◌≡◌, ℕ, ◌+◌, ◌-◌, ◌<◌, ◌%◌, ◌||◌, Bool, false, min, ltb, sym, ◌∙◌, ap, arith}
-use Rattle.lexical_digits.specs.Laws.Terms.{digit_value, Rule, Shortcuts, separator, is_digit, is_separator, IsSupported, Component, Inside, rule_of, counts, lower, is_direct, is_direct_by, AreShortcuts, nat_tests, and_pow}
-use Rattle.std.specs.Int.Bits.{bit_or, or_add_and}
+use Rattle.std.proofs.Common.{◌≡◌, ℕ, ◌<◌, ◌≤◌, Bool, false, ltb, sym, ◌∙◌, ap, arith}
+use Rattle.lexical_digits.specs.Laws.Terms.{digit_value, Rule, Shortcuts, separator, is_digit, is_separator, IsSupported, Component, Inside, rule_of, counts, is_direct, is_direct_by, AreShortcuts, nat_tests}
+use Rattle.lexical_format.specs.Digits.{value_or_36}
 use Rattle.lexical_digits.proofs.Rule.Supported.{supported_rule}
 use Rattle.lexical_digits.proofs.Looks.Owed.{separator_of}
 
-pub lower_by_or : (byte : ℕ) → bit_or byte 32 ≡ lower byte
-lower_by_or byte = omega (arith, or_add_and byte 32, and_pow byte 5)
-
--- the figures and the letters that are digits
-pub digit_by : (rule : Rule) (byte : ℕ) → byte < 256
-    → (ltb ((byte + 208) % 256) (min rule.radix 10)
-    || ltb ((lower byte + 159) % 256) (min rule.radix 36 - 10)) ≡ is_digit rule byte
+digit_by : (rule : Rule) (byte : ℕ) → rule.radix ≤ 36
+    → ltb (value_or_36 byte) rule.radix ≡ is_digit rule byte
 unfolding is_digit digit_value
-digit_by rule byte fits = grind (arith, nat_tests)
+digit_by rule byte high = grind (arith, nat_tests)
 
-direct_test : (rule : Rule) (s : Shortcuts) (byte : ℕ) → byte < 256 → IsSupported rule
-    → AreShortcuts rule s → is_direct_by s byte ≡ is_direct rule byte
-direct_test rule s byte fits supported are =
-    grind (arith, nat_tests, are, supported, digit_by rule byte fits)
+values_low : (byte : ℕ) → value_or_36 byte < 255
+unfolding digit_value
+values_low byte = grind (arith, nat_tests)
+
+direct_test : (rule : Rule) (s : Shortcuts) (byte : ℕ) → IsSupported rule → AreShortcuts rule s
+    → is_direct_by s byte ≡ is_direct rule byte
+direct_test rule s byte supported are =
+    grind (arith, nat_tests, are, digit_by rule byte supported.high, values_low byte)
 
 -- another byte is no separator
 pub not_separator : (separator byte : ℕ) → (byte ≡ separator → ⊥)
@@ -37,7 +36,7 @@ module _ (b : Inside) (k : Component) (reader : b.tally.reader ≡ k) where
   pub direct_by : (byte : ℕ) (t : Bool) → byte < 256 → is_direct_by b.shortcuts byte ≡ t
       → is_direct (rule_of b.format k) byte ≡ t
   direct_by byte t fits e =
-      sym (direct_test (rule_of b.format k) b.shortcuts byte fits
+      sym (direct_test (rule_of b.format k) b.shortcuts byte
       (supported_rule b.format k b.holds.word) (rw rule_by at b.reading.direct)) ∙ e
 
   -- a byte that is no separator by the rule, by the word

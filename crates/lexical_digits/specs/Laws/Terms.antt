@@ -61,11 +61,10 @@ pub use Rattle.lexical_digits.specs.Fields.Bytes.{FollowsDigit, IsInnerAt, IsInn
 pub use Rattle.lexical_digits.specs.Fields.Bytes.{has_no_flags, held_of}
 unfoldable pub use Rattle.lexical_digits.specs.Looks.{separator_at}
 pub use Rattle.lexical_digits.specs.Fields.Shortcuts.{AreShortcuts, IsInner, is_direct}
-pub use Rattle.lexical_digits.specs.Fields.Shortcuts.{is_direct_by, lower}
+pub use Rattle.lexical_digits.specs.Fields.Shortcuts.{is_direct_by}
 unfoldable pub use Rattle.lexical_digits.specs.Fields.Tally.{exponent_of, fraction_of, integer_of}
 unfoldable pub use Rattle.lexical_digits.specs.Fields.Tally.{looks_of}
 pub use Rattle.lexical_digits.specs.Fields.Tally.{Leaves, count_of, passed_by, state_of}
 pub use Rattle.lexical_digits.specs.declared.skip.bytes.Bytes.TheInside.{Inside}
 pub use Rattle.lexical_digits.specs.declared.skip.rule.Shortcuts.{Shortcuts}
 pub use Rattle.lexical_digits.specs.declared.skip.bytes.tally.Tally.{Tally}
-pub use Rattle.std.proofs.lemmas.Nat.Bits.{and_pow}

@@ -9,7 +9,7 @@ ghost use Rattle.lexical_digits.specs.Separators.{class, is_digit, is_separator,
 ghost use Rattle.lexical_digits.specs.State.{radix_of, rule_at, special_rule, rule_of, is_special};
 
 use super::component::Component;
-use lexical_format::NumberFormat;
+use lexical_format::{NumberFormat, char_is_digit_const, digit_value};
 
 /// The bytes that are a component's digits and separators, and the separators that it drops.
 ///
@@ -113,16 +113,12 @@ impl Rule {
     }
 
     /// Whether a byte is a digit of the radix.
+    #[tactic(auto, unfolding(crate::specs::Separators::is_digit))]
     #[inline(always)]
     pub fn is_digit(self, byte: u8) -> bool
         ensures { result ≡ is_digit self byte }
     {
-        let figures = self.radix.min(10) as u8;
-        if byte.wrapping_sub(b'0') < figures {
-            return true;
-        }
-        let letters = self.radix.min(36).saturating_sub(10) as u8;
-        (byte | 0x20).wrapping_sub(b'a') < letters
+        char_is_digit_const(byte, self.radix)
     }
 
     /// Whether a byte is the separator. A separator of zero means that no byte is one.
@@ -200,10 +196,8 @@ impl Rule {
 /// all bytes where it has no flags.
 #[derive(Clone, Copy)]
 pub(super) struct Shortcuts {
-    /// How many bytes from `0` on are direct; 255 where every byte is.
-    figures: u8,
-    /// How many bytes from `a` on are direct, in either case; 255 where every byte is.
-    letters: u8,
+    /// Below which value a byte is direct; 255 where every byte is.
+    values: u8,
     /// The separator that is dropped between two digits, and at least 256 where there is none.
     pub(super) inner_separator: u16,
 }
@@ -220,30 +214,25 @@ impl Shortcuts {
         ensures inner { result.inner_separator < 256
             → IsInner rule is_counting result.inner_separator }
     {
-        let (figures, letters) = if !rule.has_flags() {
-            (255, 255)
+        let values = if rule.has_flags() {
+            rule.radix as u8
         } else {
-            (
-                rule.radix.min(10) as u8,
-                rule.radix.saturating_sub(10) as u8,
-            )
+            255
         };
         let has_inner = is_counting && rule.internal && rule.separator != 0;
         Shortcuts {
-            figures,
-            letters,
+            values,
             // a sum, which a compiler doesn't take apart at each byte
             inner_separator: rule.separator as u16 + if has_inner { 0 } else { 256 },
         }
     }
 
-    /// Whether the byte is direct. `| 0x20` makes a letter lower case; no other byte becomes one.
-    #[tactic(auto, using(crate::proofs::Fields::DirectBytes::lower_by_or))]
+    /// Whether the byte is direct.
     #[inline(always)]
     pub(super) fn is_direct(self, byte: u8) -> bool
         ensures value { result ≡ is_direct_by self byte }
         ensures fits { byte < 256 }
     {
-        byte.wrapping_sub(b'0') < self.figures || (byte | 0x20).wrapping_sub(b'a') < self.letters
+        digit_value(byte) < self.values
     }
 }
