@@ -8,15 +8,6 @@ digit_value byte =
     if nat_le 65 byte && nat_le byte 90 then Some (byte - 55) else
     if nat_le 97 byte && nat_le byte 122 then Some (byte - 87) else None
 
--- a value, and 36 where there is none
-abbrev pub or_36 : Option ℕ → ℕ
-or_36 None = 36
-or_36 (Some value) = value
-
--- the value of a byte, and 36 where it is no digit of any radix
-abbrev pub value_or_36 : ℕ → ℕ
-value_or_36 byte = or_36 (digit_value byte)
-
 -- a value, where it is below the radix
 abbrev pub value_below : ℕ → Option ℕ → Option ℕ
 value_below radix None = None

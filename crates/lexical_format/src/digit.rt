@@ -1,29 +1,37 @@
 //! The bytes that are digits, and their values.
 
-ghost use Rattle.std.specs.Prelude.{◌≡◌};
-ghost use Rattle.lexical_format.specs.Digits.{digit_of_radix, is_digit_of_radix, value_or_36};
+ghost use Rattle.std.specs.Prelude.{◌≡◌, unwrap_or};
+ghost use Rattle.lexical_format.specs.Digits.{digit_value, digit_of_radix, is_digit_of_radix};
 
-/// The value of each byte as a digit, and 36 where it is none.
+/// The value of each byte as a digit, and 36 where it has none. A load takes no branch between
+/// figures and letters, which a processor could not predict.
+#[rattlefmt::skip]
 static VALUES: [u8; 256] = [
-    36, 36, 36, 36, 36, 36, 36, 36, 36, 36, 36, 36, 36, 36, 36, 36, 36, 36, 36, 36, 36, 36, 36, 36,
-    36, 36, 36, 36, 36, 36, 36, 36, 36, 36, 36, 36, 36, 36, 36, 36, 36, 36, 36, 36, 36, 36, 36, 36,
-    0, 1, 2, 3, 4, 5, 6, 7, 8, 9, 36, 36, 36, 36, 36, 36, 36, 10, 11, 12, 13, 14, 15, 16, 17, 18,
-    19, 20, 21, 22, 23, 24, 25, 26, 27, 28, 29, 30, 31, 32, 33, 34, 35, 36, 36, 36, 36, 36, 36, 10,
-    11, 12, 13, 14, 15, 16, 17, 18, 19, 20, 21, 22, 23, 24, 25, 26, 27, 28, 29, 30, 31, 32, 33, 34,
-    35, 36, 36, 36, 36, 36, 36, 36, 36, 36, 36, 36, 36, 36, 36, 36, 36, 36, 36, 36, 36, 36, 36, 36,
-    36, 36, 36, 36, 36, 36, 36, 36, 36, 36, 36, 36, 36, 36, 36, 36, 36, 36, 36, 36, 36, 36, 36, 36,
-    36, 36, 36, 36, 36, 36, 36, 36, 36, 36, 36, 36, 36, 36, 36, 36, 36, 36, 36, 36, 36, 36, 36, 36,
-    36, 36, 36, 36, 36, 36, 36, 36, 36, 36, 36, 36, 36, 36, 36, 36, 36, 36, 36, 36, 36, 36, 36, 36,
-    36, 36, 36, 36, 36, 36, 36, 36, 36, 36, 36, 36, 36, 36, 36, 36, 36, 36, 36, 36, 36, 36, 36, 36,
-    36, 36, 36, 36, 36, 36, 36, 36, 36, 36, 36, 36, 36, 36,
+    36, 36, 36, 36, 36, 36, 36, 36, 36, 36, 36, 36, 36, 36, 36, 36, // 0x00
+    36, 36, 36, 36, 36, 36, 36, 36, 36, 36, 36, 36, 36, 36, 36, 36, // 0x10
+    36, 36, 36, 36, 36, 36, 36, 36, 36, 36, 36, 36, 36, 36, 36, 36, // 0x20
+     0,  1,  2,  3,  4,  5,  6,  7,  8,  9, 36, 36, 36, 36, 36, 36, // 0x30: 0 to 9
+    36, 10, 11, 12, 13, 14, 15, 16, 17, 18, 19, 20, 21, 22, 23, 24, // 0x40: A to O
+    25, 26, 27, 28, 29, 30, 31, 32, 33, 34, 35, 36, 36, 36, 36, 36, // 0x50: P to Z
+    36, 10, 11, 12, 13, 14, 15, 16, 17, 18, 19, 20, 21, 22, 23, 24, // 0x60: a to o
+    25, 26, 27, 28, 29, 30, 31, 32, 33, 34, 35, 36, 36, 36, 36, 36, // 0x70: p to z
+    36, 36, 36, 36, 36, 36, 36, 36, 36, 36, 36, 36, 36, 36, 36, 36, // 0x80
+    36, 36, 36, 36, 36, 36, 36, 36, 36, 36, 36, 36, 36, 36, 36, 36, // 0x90
+    36, 36, 36, 36, 36, 36, 36, 36, 36, 36, 36, 36, 36, 36, 36, 36, // 0xa0
+    36, 36, 36, 36, 36, 36, 36, 36, 36, 36, 36, 36, 36, 36, 36, 36, // 0xb0
+    36, 36, 36, 36, 36, 36, 36, 36, 36, 36, 36, 36, 36, 36, 36, 36, // 0xc0
+    36, 36, 36, 36, 36, 36, 36, 36, 36, 36, 36, 36, 36, 36, 36, 36, // 0xd0
+    36, 36, 36, 36, 36, 36, 36, 36, 36, 36, 36, 36, 36, 36, 36, 36, // 0xe0
+    36, 36, 36, 36, 36, 36, 36, 36, 36, 36, 36, 36, 36, 36, 36, 36, // 0xf0
 ];
 
-/// The value of the byte as a digit: `0` to `9` have the values 0 to 9, letters of either case 10
-/// to 35. Every other byte has 36, which isn't below the greatest radix. There is no branch between
-/// figures and letters.
+/// The value of the byte as a digit of any radix, and 36 where it has none.
+///
+/// `0` to `9` have the values 0 to 9, letters of either case 10 to 35. The byte is a digit of a
+/// radix up to 36 if the answer is below that radix. lexical-util has no such call.
 #[inline(always)]
 pub fn digit_value(byte: u8) -> u8
-    ensures { result ≡ value_or_36 byte }
+    ensures { result ≡ unwrap_or (digit_value byte) 36 }
 {
     VALUES[usize::from(byte)]
 }
@@ -38,7 +46,7 @@ pub fn digit_value(byte: u8) -> u8
 pub fn char_to_digit_const(value: u8, radix: u32) -> Option<u32>
     ensures { result ≡ digit_of_radix radix value }
 {
-    // Where a compiler knows that the radix is 10, a figure takes no load.
+    // a figure of radix 10 takes no load
     let digit = if radix == 10 {
         value.wrapping_sub(b'0')
     } else {

@@ -1,16 +1,15 @@
 -- Direct bytes: which they are by the shortcuts, and by the rule of the reader.
-use Rattle.std.proofs.Common.{◌≡◌, ℕ, ◌<◌, ◌≤◌, Bool, false, ltb, sym, ◌∙◌, ap, arith}
+use Rattle.std.proofs.Common.{◌≡◌, ℕ, ◌<◌, ◌≤◌, Bool, false, ltb, unwrap_or, sym, ◌∙◌, ap, arith}
 use Rattle.lexical_digits.specs.Laws.Terms.{digit_value, Rule, Shortcuts, separator, is_digit, is_separator, IsSupported, Component, Inside, rule_of, counts, is_direct, is_direct_by, AreShortcuts, nat_tests}
-use Rattle.lexical_format.specs.Digits.{value_or_36}
 use Rattle.lexical_digits.proofs.Rule.Supported.{supported_rule}
 use Rattle.lexical_digits.proofs.Looks.Owed.{separator_of}
 
 digit_by : (rule : Rule) (byte : ℕ) → rule.radix ≤ 36
-    → ltb (value_or_36 byte) rule.radix ≡ is_digit rule byte
+    → ltb (unwrap_or (digit_value byte) 36) rule.radix ≡ is_digit rule byte
 unfolding is_digit digit_value
 digit_by rule byte high = grind (arith, nat_tests)
 
-values_low : (byte : ℕ) → value_or_36 byte < 255
+values_low : (byte : ℕ) → unwrap_or (digit_value byte) 36 < 255
 unfolding digit_value
 values_low byte = grind (arith, nat_tests)
 

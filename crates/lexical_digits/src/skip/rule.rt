@@ -196,8 +196,8 @@ impl Rule {
 /// all bytes where it has no flags.
 #[derive(Clone, Copy)]
 pub(super) struct Shortcuts {
-    /// Below which value a byte is direct; 255 where every byte is.
-    values: u8,
+    /// A byte is direct if its value is below this one: the radix, or 255 where every byte is.
+    direct_below: u8,
     /// The separator that is dropped between two digits, and at least 256 where there is none.
     pub(super) inner_separator: u16,
 }
@@ -214,14 +214,14 @@ impl Shortcuts {
         ensures inner { result.inner_separator < 256
             → IsInner rule is_counting result.inner_separator }
     {
-        let values = if rule.has_flags() {
+        let direct_below = if rule.has_flags() {
             rule.radix as u8
         } else {
             255
         };
         let has_inner = is_counting && rule.internal && rule.separator != 0;
         Shortcuts {
-            values,
+            direct_below,
             // a sum, which a compiler doesn't take apart at each byte
             inner_separator: rule.separator as u16 + if has_inner { 0 } else { 256 },
         }
@@ -233,6 +233,6 @@ impl Shortcuts {
         ensures value { result ≡ is_direct_by self byte }
         ensures fits { byte < 256 }
     {
-        digit_value(byte) < self.values
+        digit_value(byte) < self.direct_below
     }
 }
