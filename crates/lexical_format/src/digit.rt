@@ -1,6 +1,7 @@
 //! The bytes that are digits, and their values.
 
-ghost use Rattle.std.specs.Prelude.{◌≡◌, unwrap_or};
+ghost use Rattle.std.specs.Prelude.{◌≡◌, map, unwrap_or};
+ghost use Rattle.std.specs.List.{range_with_len};
 ghost use Rattle.lexical_format.specs.Digits.{digit_value, digit_of_radix, is_digit_of_radix};
 
 /// The value of each byte as a digit, and 36 where it has none. A load takes no branch between
@@ -25,6 +26,15 @@ static VALUES: [u8; 256] = [
     36, 36, 36, 36, 36, 36, 36, 36, 36, 36, 36, 36, 36, 36, 36, 36, // 0xf0
 ];
 
+/// The table of values, with one entry for each byte.
+#[inline(always)]
+#[tactic(auto, unfolding(crate::specs::Digits::digit_value))]
+fn values() -> &'static [u8; 256]
+    ensures { result.now ≡ map (λ byte. unwrap_or (digit_value byte) 36) (range_with_len 0 256) }
+{
+    &VALUES
+}
+
 /// The value of the byte as a digit of any radix, and 36 where it has none.
 ///
 /// `0` to `9` have the values 0 to 9, letters of either case 10 to 35. The byte is a digit of a
@@ -33,7 +43,7 @@ static VALUES: [u8; 256] = [
 pub fn digit_value(byte: u8) -> u8
     ensures { result ≡ unwrap_or (digit_value byte) 36 }
 {
-    VALUES[usize::from(byte)]
+    values()[usize::from(byte)]
 }
 
 /// The value of the byte as a digit of that radix.
