@@ -168,12 +168,14 @@ impl<'a> Bytes<'a> {
 
     /// The next byte that a component keeps, where any component may have a flag. The cursor moves
     /// past that byte, and the component counts it if it is a digit.
+    /// After `read_as` the component reads, so the first way is never gone. It writes nothing but
+    /// what the decision does: a compiler keeps the fields in registers only if a loop has few writes.
     #[inline(always)]
     fn next_flagged(&mut self, component: Component) -> Option<&'a u8>
         ensures { NextsOf component self.old self.new result }
     {
         if !self.tally.is_reader(component) {
-            let rule = self.switch_reader(component);
+            let rule = self.rule(component);
             return self.next_decided(component, rule, false);
         }
         if self.tally.index >= self.slc.len() {
