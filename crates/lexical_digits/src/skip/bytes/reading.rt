@@ -168,8 +168,8 @@ impl<'a> Bytes<'a> {
 
     /// The next byte that a component keeps, where any component may have a flag. The cursor moves
     /// past that byte, and the component counts it if it is a digit.
-    /// After `read_as` the component reads, so the first way is never gone. It writes nothing but
-    /// what the decision does: a compiler keeps the fields in registers only if a loop has few writes.
+    /// `next_of` calls `read_as` before, so the component reads. The other case stores no rule, since
+    /// a compiler keeps fields in registers only in a loop with few stores.
     #[inline(always)]
     fn next_flagged(&mut self, component: Component) -> Option<&'a u8>
         ensures { NextsOf component self.old self.new result }
