@@ -1,6 +1,6 @@
 //! A `Bytes`: its fields, its word, its counts and its cursor. The module `reading` has the reads.
 
-ghost use Rattle.std.specs.Prelude.{◌≡◌, ℕ, ◌+◌, ◌-◌, ◌*◌, ◌<◌, ◌≤◌, if◌then◌else◌, length, List, None, IsTrue, pos, ◌≤ℤ◌, ◌+ℤ◌};
+ghost use Rattle.std.specs.Prelude.{◌≡◌, ℕ, ◌+◌, ◌-◌, ◌*◌, ◌^◌, ◌<◌, ◌≤◌, min, if◌then◌else◌, length, List, None, IsTrue, pos, ◌≤ℤ◌, ◌+ℤ◌};
 ghost use Rattle.lexical_format.specs.Word.{separator, is_supported};
 ghost use Rattle.lexical_digits.specs.Separators.{is_digit, is_separator, IsSupported};
 ghost use Rattle.lexical_digits.specs.State.{IsState, with_cursor, with_no_counts, start, rule, own, with_own, counts, saturating, is_contiguous, has_no_separator, count_of_all, current_count, cut, cut_end};
@@ -217,11 +217,12 @@ impl<'a> Bytes<'a> {
 
     /// Goes on from where a copy of this `Bytes` is: takes its cursor, counts, looks and remembered
     /// run. The component that read still reads. Requires that the copy has the same buffer and
-    /// word.
+    /// word, and no fewer looks: no look is taken back.
     #[inline(always)]
     pub fn go_on_from(&mut self, copy: Bytes<'a>)
         requires buffer { copy.state.buffer ≡ self.old.state.buffer }
         requires word { copy.state.word ≡ self.old.state.word }
+        requires looks { min self.old.looks (2 ^ 64 - 1) ≤ copy.looks }
         ensures { IsCopy copy.entry self.new }
     {
         self.tally.go_on_from(copy.tally);
