@@ -7,6 +7,7 @@ pub mod ItemsOfComponents
 pub mod ChangesOwn
 pub mod DigitAtPlace
 pub mod Stops
+pub mod MoreFlags
 pub mod FirstOther
 pub mod Texts
 pub mod ForCallers

@@ -1,13 +1,15 @@
 //! Where the digits of a component end: laws of its iterator. Each law is the contract of a
 //! function.
 
-ghost use Rattle.std.specs.Prelude.{◌≡◌, ℕ, ◌<◌, [], length, filter, slice_range};
+ghost use Rattle.std.specs.Prelude.{◌≡◌, ℕ, ◌<◌, ◌≤◌, false, List, [], length, take, filter, slice_range};
 ghost use Rattle.std.specs.Fn.{iterate};
 ghost use Rattle.lexical_format.specs.Digits.{is_digit_of_radix};
-ghost use Rattle.lexical_digits.specs.Separators.{is_digit};
+ghost use Rattle.lexical_digits.specs.declared.skip.rule.Rule.{Rule};
+ghost use Rattle.lexical_digits.specs.Separators.{is_digit, IsSupported, GrantsAtLeast};
 ghost use Rattle.lexical_digits.specs.State.{State, IsState, rule};
 ghost use Rattle.lexical_digits.specs.CallTable.{place_of, settled, taken};
-ghost use Rattle.lexical_digits.specs.Stop.{leading, after_leading, stop_of, leading_digits_of, past_digits_of, IsNthDigit};
+ghost use Rattle.lexical_digits.specs.Looks.{separator_at};
+ghost use Rattle.lexical_digits.specs.Stop.{leading, after_leading, stop, leading_digits, stop_of, leading_digits_of, past_digits_of, IsNthDigit};
 ghost use Rattle.lexical_digits.specs.declared.skip.component.Component.{Component};
 
 /// The leading digits of a component's iterator are the items before the first one that is no
@@ -48,4 +50,30 @@ pub fn digits_end()
     ensures nth { (n : ℕ) (k : Component) (s : State) → IsState s →
         n < length (leading_digits_of k s) →
         IsNthDigit k s n (place_of k (iterate (taken k) n s)) }
+{}
+
+/// More flags read on. Where one rule grants at least what another grants, with the same separator
+/// and radix, then from each start and count its stop is no earlier, and the digits before it begin
+/// with the other's.
+///
+/// Where the lesser rule stops at a byte that isn't the separator, or at the end, the stop and the
+/// digits are the same. So a text that is read whole by a word is read whole, with the same digits,
+/// by each word with more flags.
+#[tactic(auto, using(crate::proofs::Calls::MoreFlags::more_flags))]
+pub fn more_flags_read_on()
+    ensures no_earlier { (lesser greater : Rule) (buffer : List ℕ) (start count : ℕ) →
+        IsSupported lesser → GrantsAtLeast lesser greater →
+        stop lesser buffer start count ≤ stop greater buffer start count }
+    ensures begins { (lesser greater : Rule) (buffer : List ℕ) (start count : ℕ) →
+        IsSupported lesser → GrantsAtLeast lesser greater →
+        let before = leading_digits lesser buffer start count in
+        take (length before) (leading_digits greater buffer start count) ≡ before }
+    ensures same_stop { (lesser greater : Rule) (buffer : List ℕ) (start count : ℕ) →
+        IsSupported lesser → GrantsAtLeast lesser greater →
+        separator_at lesser.separator buffer (stop lesser buffer start count) ≡ false →
+        stop greater buffer start count ≡ stop lesser buffer start count }
+    ensures same_digits { (lesser greater : Rule) (buffer : List ℕ) (start count : ℕ) →
+        IsSupported lesser → GrantsAtLeast lesser greater →
+        separator_at lesser.separator buffer (stop lesser buffer start count) ≡ false →
+        leading_digits greater buffer start count ≡ leading_digits lesser buffer start count }
 {}

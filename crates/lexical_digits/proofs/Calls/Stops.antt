@@ -53,14 +53,15 @@ after_leading_are k s v = rw (leading_are k s v) (all_left k s v)
 
 -- ---- the digits from the cursor to the stop
 
-filter_first : (p : ℕ → Bool) (xs : List ℕ) (s e : ℕ) → s < length xs → s < e
+pub filter_first : (p : ℕ → Bool) (xs : List ℕ) (s e : ℕ) → s < length xs → s < e
     → filter p (slice_range xs s e)
     ≡ cond (p (get_or xs s 0)) (get_or xs s 0 ∷ filter p (slice_range xs (s + 1) e))
     (filter p (slice_range xs (s + 1) e))
 filter_first p xs s e l m =
     let more : e - s ≡ suc (e - (s + 1)) = omega arith in rw (more, drop_more xs s 0 l)
 
-filter_none : (p : ℕ → Bool) (xs : List ℕ) (s e : ℕ) → e ≤ s → filter p (slice_range xs s e) ≡ []
+pub filter_none : (p : ℕ → Bool) (xs : List ℕ) (s e : ℕ) → e ≤ s
+    → filter p (slice_range xs s e) ≡ []
 filter_none p xs s e l = grind arith
 
 -- what is passed over holds no digit

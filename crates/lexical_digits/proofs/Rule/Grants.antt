@@ -27,7 +27,7 @@ module _ (rule : Rule) where
     ignores_seen (inl none) t u q = grind (arith, grants_no_list rule none)
     ignores_seen (inr all) t u q = dropped_if_all all t q ∙ sym (dropped_if_all all u q)
 
-    kept_at_digit : (s c k : ℕ) → is_digit rule (get_or buffer k 0) ≡ true
+    pub kept_at_digit : (s c k : ℕ) → is_digit rule (get_or buffer k 0) ≡ true
         → is_kept rule buffer s c k ≡ true
     unfolding is_kept
     kept_at_digit s c k digit = grind (arith, no_digit_at_separator, dropped_holds_separator)
