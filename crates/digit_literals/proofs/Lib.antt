@@ -15,3 +15,4 @@ pub mod Significant
 pub mod Firsts
 pub mod Signs
 pub mod Fresh
+pub mod MoreFlags

@@ -17,6 +17,8 @@ ghost use Rattle.digit_literals.specs.Outcomes.{ReadsAll, FindsNone, PassesMost}
 ghost use Rattle.digit_literals.specs.Numbers.{IsNumberFrom, IsNumberFault, digits_from, most_from};
 ghost use Rattle.digit_literals.specs.declared.parse.ParseError.{ParseError};
 
+pub mod flags;
+
 use super::first::FirstDigits;
 
 /// What is left after a [`TooLarge`](crate::TooLarge): the digits that lead are those before its
