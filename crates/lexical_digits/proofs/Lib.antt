@@ -1,4 +1,5 @@
 pub mod Rule
+pub mod ByteSet
 pub mod Looks
 pub mod Fields
 pub mod Calls

@@ -7,12 +7,13 @@ use Rattle.lexical_format.specs.Word.{separator}
 use Rattle.lexical_digits.specs.declared.skip.component.Component.{Component}
 use Rattle.lexical_digits.specs.declared.skip.component.Component.TheVariants.{Integer, Fraction, Exponent, Special}
 pub use Rattle.lexical_digits.specs.declared.ops.Op.{Op}
-pub use Rattle.lexical_digits.specs.declared.ops.Op.TheVariants.{AsSlice, GetBuffer, BufferLength, Cursor, CurrentCount, IsBufferEmpty, IsContiguous, SetCursor, StepBy, Step, First, FirstIsCased, FirstIsUncased, FirstIs, PeekU32, PeekU64, IsConsumed, IncrementCount, Peek, TryRead, Next, PeekIsCased, PeekIsUncased, PeekIs, ReadIfEqual, ReadIfNever, ReadIfValueCased, ReadIfValueUncased, ReadIfValue, SkipZeros, IsDigit, IsSign, IsDigitSeparator, TakeN}
+pub use Rattle.lexical_digits.specs.declared.ops.Op.TheVariants.{AsSlice, GetBuffer, BufferLength, Cursor, CurrentCount, IsBufferEmpty, IsContiguous, SetCursor, StepBy, Step, First, FirstIsCased, FirstIsUncased, FirstIs, PeekU32, PeekU64, IsConsumed, IncrementCount, Peek, TryRead, Next, PeekIsCased, PeekIsUncased, PeekIs, ReadIfEqual, ReadIfNever, ReadIf, ReadIfValueCased, ReadIfValueUncased, ReadIfValue, SkipZeros, IsDigit, IsSign, IsDigitSeparator, TakeN}
 pub use Rattle.lexical_digits.specs.declared.ops.Answer.{Answer}
 pub use Rattle.lexical_digits.specs.declared.ops.Answer.TheVariants.{Span, Count, Flag, Done, Byte, Four, Eight, View, Refused}
 use Rattle.lexical_digits.specs.Separators.{is_digit, is_separator, place, drain, zeros, past_zeros}
 use Rattle.lexical_digits.specs.State.{State, with_cursor, rule, own, with_own, has_no_separator, is_contiguous, counts, saturating, count_after, count_of_all, current_count, cut_end, cut}
 use Rattle.lexical_digits.specs.Cursor.{can_step, holds_of, byte_if, is_value, next_number}
+use Rattle.lexical_digits.specs.ByteSet.{accepts}
 
 -- ---- what the iterator of a component finds and leaves
 
@@ -192,6 +193,7 @@ row_of (On k) (PeekIs v is_cased) s =
     row (Flag (holds_of (is_value v is_cased) (byte_at_place k s))) (settled k s)
 row_of (On k) (ReadIfEqual v) s = read_where k s (byte_if (is_value v true) (byte_at_place k s))
 row_of (On k) ReadIfNever s = read_where k s None
+row_of (On k) (ReadIf set) s = read_where k s (byte_if (accepts set) (byte_at_place k s))
 row_of (On k) (ReadIfValueCased v) s =
     read_where k s (byte_if (is_value v true) (byte_at_place k s))
 row_of (On k) (ReadIfValueUncased v) s =
@@ -204,6 +206,11 @@ row_of (On k) (IsSign v) s = row (Flag ((v == 43) || (v == 45))) s
 row_of (On k) (IsDigitSeparator v) s = row (Flag (is_separator (separator s.word) v)) s
 row_of (On k) (TakeN n) s = view_row k n s
 row_of part call s = shared_row part call s
+
+-- the call that reads what a `read_if` read: a closure accepted that byte, or none
+abbrev pub read_as : Option ℕ → Op
+read_as None = ReadIfNever
+read_as (Some byte) = ReadIfEqual byte
 
 -- ---- a list of calls
 

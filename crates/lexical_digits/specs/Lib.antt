@@ -3,6 +3,7 @@ pub mod Stop
 pub mod Texts
 pub mod State
 pub mod Cursor
+pub mod ByteSet
 pub mod CallTable
 pub mod Looks
 pub mod Fields

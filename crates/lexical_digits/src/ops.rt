@@ -1,6 +1,57 @@
 //! The calls of lexical-util by their names, and what a call answers. No function of this crate takes
 //! them: they are the rows of the call table, and the crate `digit_script` makes lists of them.
 
+ghost use Rattle.std.specs.Prelude.{◌≡◌, ℕ, ◌+◌, ◌<◌, ◌≤◌};
+ghost use Rattle.lexical_format.specs.Word.{bit};
+ghost use Rattle.lexical_digits.specs.ByteSet.{accepts};
+
+/// A test of a byte, as a value: the bytes that it accepts.
+#[derive(Clone, Copy, Debug, PartialEq, Eq)]
+pub struct ByteSet {
+    /// Those below 128. Byte b is bit b.
+    pub low: u128,
+    /// Those from 128 on. Byte b is bit b - 128.
+    pub high: u128,
+}
+
+impl ByteSet {
+    /// The bytes that a closure accepts. It calls the closure on every byte, once. Requires that
+    /// the closure may be called on every byte.
+    pub fn of<F: Fn(u8) -> bool + Drop>(test: F) -> ByteSet
+        requires { (b : ℕ) → b < 256 → F.pre test b }
+        ensures { (b : ℕ) → b < 256 → F.post test b (accepts result b) }
+    {
+        ByteSet {
+            low: accepted(&test, 0),
+            high: accepted(&test, 128),
+        }
+    }
+
+    /// Whether a byte is in the set.
+    pub fn accepts(self, byte: u8) -> bool
+        ensures { result ≡ accepts self byte }
+    {
+        if byte < 128 {
+            (self.low >> byte) & 1 == 1
+        } else {
+            (self.high >> (byte - 128)) & 1 == 1
+        }
+    }
+}
+
+/// Which of the 128 bytes from `start` on a closure accepts. Byte `start + i` is bit i.
+fn accepted<F: Fn(u8) -> bool>(test: &F, start: u8) -> u128
+    requires low { start ≤ 128 }
+    requires test { (b : ℕ) → b < 256 → F.pre test.now b }
+    ensures { (i : ℕ) → i < 128 → F.post test.now (start + i) (bit result i) }
+{
+    let mut bits = 0;
+    for i in (0..128).rev() {
+        bits = bits * 2 + u128::from(test(start + i));
+    }
+    bits
+}
+
 /// A call of lexical-util by its name, with its arguments. The doc of each variant begins with the
 /// lexical-util call that the variant makes.
 #[derive(Clone, Copy, Debug, PartialEq, Eq)]
@@ -59,6 +110,8 @@ pub enum Op {
     ReadIfEqual(u8),
     /// `read_if` with a closure that accepts no byte.
     ReadIfNever,
+    /// `read_if` with a closure that accepts the bytes of this set.
+    ReadIf(ByteSet),
     /// `read_if_value_cased`: reads the next kept byte if it is this byte.
     ReadIfValueCased(u8),
     /// `read_if_value_uncased`: reads the next kept byte if it is this byte in either case.

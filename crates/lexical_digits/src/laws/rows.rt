@@ -2,13 +2,16 @@
 //! calls of lexical-util has the answers and the state of a list of that table. Each law is the
 //! contract of a function, which makes the call.
 
-ghost use Rattle.std.specs.Prelude.{◌≡◌, ◌++◌, [], ◌∷◌, length, replicate, pos, ◌≤ℤ◌, ◌+ℤ◌};
+ghost use Rattle.std.specs.Prelude.{◌≡◌, ◌<◌, ◌++◌, [], ◌∷◌, length, replicate, pos, ◌≤ℤ◌, ◌+ℤ◌, IfSome};
 ghost use Rattle.lexical_digits.specs.State.{State, IsState, start};
-ghost use Rattle.lexical_digits.specs.CallTable.{On, OnBytes, Peek, Next, IncrementCount, SetCursor, Byte, row_of, run_of};
+ghost use Rattle.lexical_digits.specs.Cursor.{ReadsIf};
+ghost use Rattle.lexical_digits.specs.CallTable.{On, OnBytes, Peek, Next, IncrementCount, SetCursor, Byte, row_of, read_as, run_of, byte_at_place, settled, past_place};
 ghost use Rattle.lexical_digits.specs.Looks.{owed};
 ghost use Rattle.lexical_digits.specs.Stop.{leading_digits_of, past_digits_of};
 ghost use Rattle.lexical_digits.specs.declared.skip.component.Component.{Component};
 
+use crate::iterator::DigitsBodies;
+use crate::on_iterator;
 use crate::skip::{Bytes, Component};
 
 /// `peek_of` is the row `Peek` of the component's iterator.
@@ -27,6 +30,26 @@ pub fn next_of_is_row(bytes: &mut Bytes, component: Component) -> Option<u8>
     ensures owes { owed bytes.new ≤ℤ (owed bytes.old +ℤ pos 4) }
 {
     bytes.next_of(component).copied()
+}
+
+/// `read_if` with any closure, also one that changes something outside of itself, is a row of the
+/// component's iterator: `ReadIfEqual` of the byte that it read, or `ReadIfNever` if it read none.
+/// `reads` says what the closure answered. So a list whose closures share a state has the answers
+/// and the state of a list of the call table.
+pub fn read_if_is_row<Pred: FnOnce(u8) -> bool + Drop>(
+    bytes: &mut Bytes,
+    component: Component,
+    pred: Pred,
+) -> Option<u8>
+    requires { IfSome (byte_at_place component bytes.old.state) (λ b. b < 256 → Pred.pre pred b) }
+    ensures reads { let s = bytes.old.state in
+        ReadsIf (Pred.post pred) (byte_at_place component s) (settled component s)
+        (past_place component s) result bytes.new.state }
+    ensures answers { Byte result ≡ (row_of (On component) (read_as result) bytes.old.state).answer }
+    ensures state { bytes.new.state ≡ (row_of (On component) (read_as result) bytes.old.state).state }
+    ensures owes { owed bytes.new ≤ℤ (owed bytes.old +ℤ pos 4) }
+{
+    on_iterator!(bytes, component, iter => iter.read_if(pred))
 }
 
 /// `increment_count_of` with `digits` is that many rows `IncrementCount` of the component's
