@@ -106,6 +106,7 @@ reads (On k) (op.PeekIsUncased v) s = 1
 reads (On k) (op.PeekIs v is_cased) s = 1
 reads (On k) (op.ReadIfEqual v) s = 1
 reads (On k) op.ReadIfNever s = 1
+reads (On k) (op.ReadIf set) s = 1
 reads (On k) (op.ReadIfValueCased v) s = 1
 reads (On k) (op.ReadIfValueUncased v) s = 1
 reads (On k) (op.ReadIfValue v is_cased) s = 1

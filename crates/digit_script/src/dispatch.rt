@@ -140,6 +140,7 @@ fn read<'a, I: DigitsIter<'a>>(iter: &mut I, op: Op, at_separator: bool) -> Answ
         Op::PeekIs(value, is_cased) => Answer::Flag(iter.peek_is(value, is_cased)),
         Op::ReadIfEqual(value) => Answer::Byte(iter.read_if(|byte| byte == value)),
         Op::ReadIfNever => Answer::Byte(iter.read_if(|_| false)),
+        Op::ReadIf(set) => Answer::Byte(iter.read_if(|byte| set.accepts(byte))),
         Op::ReadIfValueCased(value) => Answer::Byte(iter.read_if_value_cased(value)),
         Op::ReadIfValueUncased(value) => Answer::Byte(iter.read_if_value_uncased(value)),
         Op::ReadIfValue(value, is_cased) => Answer::Byte(iter.read_if_value(value, is_cased)),

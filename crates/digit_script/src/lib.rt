@@ -14,7 +14,7 @@ ghost use Rattle.digit_script.specs.Script.{script_of, RunsCalls};
 mod dispatch;
 
 use dispatch::make;
-pub use lexical_digits::ops::{Answer, Op};
+pub use lexical_digits::ops::{Answer, ByteSet, Op};
 use lexical_digits::skip::Bytes;
 use std::alloc::{AllocError, Allocator, Global};
 
