@@ -11,10 +11,11 @@ use Rattle.lexical_digits.specs.declared.skip.component.Component.{Component}
 use Rattle.lexical_digits.specs.declared.skip.component.Component.TheVariants.{Special}
 use Rattle.lexical_digits.specs.State.{State}
 use Rattle.lexical_digits.specs.Cursor.{holds_of, byte_if, is_value, next_number}
+use Rattle.lexical_digits.specs.ByteSet.{accepts}
 use Rattle.lexical_digits.specs.CallTable.{Part, On}
 use Rattle.lexical_digits.specs.declared.ops.Op.{Op}
 use Rattle.lexical_digits.specs.declared.ops.Answer.{Answer}
-use Rattle.lexical_digits.specs.declared.ops.Op.TheVariants.{AsSlice, GetBuffer, BufferLength, IsBufferEmpty, Cursor, SetCursor, CurrentCount, IsContiguous, First, FirstIsCased, FirstIsUncased, FirstIs, StepBy, Step, PeekU32, PeekU64, IsConsumed, IncrementCount, Peek, TryRead, Next, PeekIsCased, PeekIsUncased, PeekIs, ReadIfEqual, ReadIfNever, ReadIfValueCased, ReadIfValueUncased, ReadIfValue, SkipZeros, IsDigit, IsSign, IsDigitSeparator, TakeN}
+use Rattle.lexical_digits.specs.declared.ops.Op.TheVariants.{AsSlice, GetBuffer, BufferLength, IsBufferEmpty, Cursor, SetCursor, CurrentCount, IsContiguous, First, FirstIsCased, FirstIsUncased, FirstIs, StepBy, Step, PeekU32, PeekU64, IsConsumed, IncrementCount, Peek, TryRead, Next, PeekIsCased, PeekIsUncased, PeekIs, ReadIfEqual, ReadIfNever, ReadIf, ReadIfValueCased, ReadIfValueUncased, ReadIfValue, SkipZeros, IsDigit, IsSign, IsDigitSeparator, TakeN}
 use Rattle.lexical_digits.specs.declared.ops.Answer.TheVariants.{Span, Count, Flag, Done, Byte, Four, Eight, View, Refused}
 
 -- ---- the state
@@ -156,6 +157,7 @@ row_of (On k) (PeekIsUncased v) s = row (Flag (holds_of (is_value v false) (firs
 row_of (On k) (PeekIs v is_cased) s = row (Flag (holds_of (is_value v is_cased) (first s))) s
 row_of (On k) (ReadIfEqual v) s = read_where s (byte_if (is_value v true) (first s))
 row_of (On k) ReadIfNever s = read_where s None
+row_of (On k) (ReadIf set) s = read_where s (byte_if (accepts set) (first s))
 row_of (On k) (ReadIfValueCased v) s = read_where s (byte_if (is_value v true) (first s))
 row_of (On k) (ReadIfValueUncased v) s = read_where s (byte_if (is_value v false) (first s))
 row_of (On k) (ReadIfValue v is_cased) s = read_where s (byte_if (is_value v is_cased) (first s))

@@ -7,6 +7,7 @@ ghost use Rattle.lexical_plain.specs.Plain.{rest, MakesOnDigits, AnswersOnDigits
 
 use crate::noskip::{Bytes, DigitsIterator};
 use lexical_digits::iterator::{DigitsBodies, DigitsIter, Iter, IterBodies};
+use lexical_digits::ops::ByteSet;
 
 // ---- the calls that a `Bytes` has too
 
@@ -212,6 +213,14 @@ pub fn read_if_never(iter: &mut DigitsIterator) -> Option<u8>
         MakesOnDigits call.ReadIfNever s t (Byte result) }
 {
     iter.read_if(|_| false)
+}
+
+/// The row of `read_if` with the test whether the byte is in a set.
+pub fn read_if_in(iter: &mut DigitsIterator, set: ByteSet) -> Option<u8>
+    ensures { let s = iter.old.byte.now.state in let t = iter.new.byte.now.state in
+        MakesOnDigits (call.ReadIf set) s t (Byte result) }
+{
+    iter.read_if(|byte| set.accepts(byte))
 }
 
 /// The row of `read_if_value_cased`.
