@@ -1,5 +1,6 @@
 """The links of the pages: each link and its anchor, each heading that is cited after a link, and
-each backquoted path, proof module or name has to exist. Another page links to each page that isn't
+each backquoted path, proof module or name has to exist, and in the file that a page says: `x` of
+`file.rt`. Another page links to each page that isn't
 a crate's. No page names a host of a package registry."""
 import os
 import re
@@ -11,6 +12,9 @@ LINKS = re.compile(r'\]\(([^)\s]+)(?: "[^"]*")?\)(?:, "([^"]+)")?|^\[[^\]]+\]:\s
                    r'<\w+[^>]*\b(?:href|src)="([^"]+)"')
 # a path such as `laws::rows`, or a name with a `_` inside; no part of a name as `parse_`, `_from`
 NAMES = r"(?!X_)[A-Za-z](?:\w*_\w*[A-Za-z\d]|\w*(?:::\w+)+)(?:\(\))?"
+# names of a file, as in: `x`, `y` and `z` of `file.rt`
+QUOTED = r"`[\w:]+(?:\(\))?`"
+OF_FILE = re.compile(rf"((?:{QUOTED}(?:, | and | or ))*{QUOTED}) of `([\w/]+\.(?:rt|antt))`")
 # what pages say of other libraries
 OTHERS = {"parse_partial", "parse_with_options", "from_str_radix"}
 FOREIGN = {"docs/DIFFERENCES.md": NAMES, "docs/RULES.md": r"[A-Z]\w*_(LITERAL|STRING)"}
@@ -67,6 +71,14 @@ class Tree:
         is_known = os.path.splitext(text)[1] in self.endings or parts[0] in self.folders
         return is_known or text.endswith("/")
 
+    def lost_in_files(self, line):
+        """The names that a line says are of a file, and that no such file has."""
+        for names, path in OF_FILE.findall(line):
+            files = [it for it in self.files if f"/{it}".endswith(f"/{path}") and "/out/" not in it]
+            words = set(re.findall(r"\w+", "".join(map(self.text, files))))
+            yield from (f"{path} has no {name}" for name in re.findall(r"(\w+)(?:\(\))?`", names)
+                        if name not in words)
+
     def link_fault(self, page, target, heading):
         path, _, anchor = target.partition("#")
         here = os.path.dirname(page)
@@ -115,6 +127,7 @@ def check():
                 fault = tree.link_fault(page, target, heading)
                 if fault:
                     faults.append(f"{page}:{number}: {fault}")
+            faults += [f"{page}:{number}: {fault}" for fault in tree.lost_in_files(line)]
             for quoted in re.findall(r"`([^`]+)`", line):
                 is_foreign = page in FOREIGN and re.fullmatch(FOREIGN[page], quoted)
                 if not is_reference and not is_foreign and re.fullmatch(NAMES, quoted):
