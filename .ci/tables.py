@@ -117,7 +117,7 @@ def others():
 # ---- words with names
 
 # The words of no language.
-BARE = ("JSON", "HEXADECIMAL", "HEXADECIMAL_FLOAT", "OCTAL", "BINARY")
+BARE = ("HEXADECIMAL", "HEXADECIMAL_FLOAT", "OCTAL", "BINARY")
 RADIX_OF = {"": 10, "_HEX": 16, "_OCTAL": 8, "_BINARY": 2}
 
 
@@ -281,7 +281,7 @@ def written():
     put(FIRST_ZEROS, first_zeros())
     listing = read(LISTING)
     for language in unlisted():
-        listing = listing.replace(", and `JSON`", f", `{language}`, and `JSON`")
+        listing = listing.replace(", and `TOML`", f", `{language}`, and `TOML`")
     return {PAGE: "\n".join(lines), LISTING: listing}
 
 

@@ -48,8 +48,7 @@ pub fn constants_are()
 /// where integer, fraction and exponent drop it. Each is supported.
 #[tactic(auto, unfolding(crate::proofs::OnLiterals::lexical_on_literals))]
 pub fn words_say()
-    ensures json { IsWord JSON 10 10 0 nowhere nowhere nowhere }
-    ensures json_is { JSON ≡ STANDARD }
+    ensures standard { IsWord STANDARD 10 10 0 nowhere nowhere nowhere }
     ensures hexadecimal { IsWord HEXADECIMAL 16 16 0 nowhere nowhere nowhere }
     ensures hexadecimal_float { IsWord HEXADECIMAL_FLOAT 16 10 0 nowhere nowhere nowhere }
     ensures octal { IsWord OCTAL 8 8 0 nowhere nowhere nowhere }

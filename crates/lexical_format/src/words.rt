@@ -56,9 +56,6 @@ const DECIMAL_EXPONENT: u128 = 10 << 120;
 /// radix 10.
 const PERL_FLOAT: u128 = DECIMAL_EXPONENT | ALL_AFTER_DIGITS | INTEGER_LEADING_DIGIT_SEPARATOR;
 
-/// JSON's numbers: radix 10, no separator. This is [`STANDARD`].
-pub const JSON: u128 = STANDARD;
-
 /// Radix 16 for every component, no separator. For the digits of a float after `0x`, whose exponent
 /// follows `p`, use [`HEXADECIMAL_FLOAT`].
 pub const HEXADECIMAL: u128 = 16 << 104;

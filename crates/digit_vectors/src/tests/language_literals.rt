@@ -7,8 +7,9 @@ use digit_languages::languages::{
     RUST, TOML, ZIG,
 };
 use digit_languages::{FirstZero, Language, LanguageError, Literal, is_language, read_literal};
+use lexical_format::STANDARD;
 use lexical_format::words::{
-    JAVA_OCTAL_LITERAL, JSON, RUST_BINARY_LITERAL, RUST_HEX_LITERAL, RUST_LITERAL,
+    JAVA_OCTAL_LITERAL, RUST_BINARY_LITERAL, RUST_HEX_LITERAL, RUST_LITERAL,
 };
 use std::process::Abort;
 
@@ -137,7 +138,7 @@ static LITERALS: [Row; 6] = [
     (RUST, b"0b12", 0, 9, 1, RUST_BINARY_LITERAL, 2, 3),
     (JAVA, b"09", 0, 9, 0, JAVA_OCTAL_LITERAL, 0, 1),
     (JAVA, b"-017", 1, 15, 15, JAVA_OCTAL_LITERAL, 1, 4),
-    (JSON_NUMBER, b"0x1", 0, 0, 0, JSON, 0, 1),
+    (JSON_NUMBER, b"0x1", 0, 0, 0, STANDARD, 0, 1),
 ];
 
 #[test]

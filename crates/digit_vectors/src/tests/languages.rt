@@ -6,8 +6,8 @@ use digit_literals::{parse_integer, read_digits_of};
 use lexical_digits::iterator::IterBodies;
 use lexical_digits::skip::Bytes;
 use lexical_digits::skip::Component::{self, Exponent, Fraction};
-use lexical_format::is_supported;
 use lexical_format::words::*;
+use lexical_format::{STANDARD, is_supported};
 use std::process::Abort;
 
 /// A word, a text with its value, and a text that is no integer of the language.
@@ -15,7 +15,7 @@ type Row = (u128, &'static str, u64, &'static str);
 
 /// Words of radix 10.
 static DECIMAL_ROWS: [Row; 27] = [
-    (JSON, "10", 10, "1_0"),
+    (STANDARD, "10", 10, "1_0"),
     (RUST_LITERAL, "1_000__", 1000, "_1"),
     (CXX14_LITERAL, "1'000", 1000, "1''0"),
     (PYTHON_LITERAL, "1_0", 10, "_1"),

@@ -7,11 +7,12 @@ use super::{CONSECUTIVE, INTERNAL, LEADING, TRAILING, UNFLAGGED, bytes_of, move_
 use lexical_digits::iterator::{DigitsIter, IterBodies};
 use lexical_digits::skip::{Bytes, Component, Rule};
 use lexical_format::words::{
-    CXX14_LITERAL, HEXADECIMAL, JAVA_LITERAL, JSON, PYTHON_LITERAL, RUST_BINARY_LITERAL,
+    CXX14_LITERAL, HEXADECIMAL, JAVA_LITERAL, PYTHON_LITERAL, RUST_BINARY_LITERAL,
     RUST_HEX_LITERAL, RUST_LITERAL, RUST_OCTAL_LITERAL, TOML,
 };
 use lexical_format::{
     FRACTION_INTERNAL_DIGIT_SEPARATOR, FRACTION_LEADING_DIGIT_SEPARATOR, SPECIAL_DIGIT_SEPARATOR,
+    STANDARD,
 };
 use std::alloc::Global;
 use std::process::Abort;
@@ -226,7 +227,7 @@ static OTHER_WORDS: [(u128, &[u8], &[u8], usize); 20] = [
     ((10 << 104) | (0xFF << 64) | INTERNAL, b"4\xFF5", b"45", 2),
     ((10 << 104) | ALL, b"1_2", b"1_2", 2),
     // the words with names
-    (JSON, b"1_0", b"1_0", 3),
+    (STANDARD, b"1_0", b"1_0", 3),
     (HEXADECIMAL, b"fF", b"fF", 2),
     (RUST_LITERAL, b"1_000__", b"1000", 4),
     (RUST_LITERAL, b"_1", b"_1", 1),

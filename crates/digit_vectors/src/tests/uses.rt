@@ -23,11 +23,11 @@ use digit_uses::validate::{is_integer, validate};
 use lexical_digits::iterator::Iter;
 use lexical_digits::skip::{Bytes, Component};
 use lexical_format::words::{
-    JSON, RUST_BINARY_LITERAL, RUST_HEX_LITERAL, RUST_LITERAL, RUST_OCTAL_LITERAL,
+    RUST_BINARY_LITERAL, RUST_HEX_LITERAL, RUST_LITERAL, RUST_OCTAL_LITERAL,
 };
 use lexical_format::{
     EXPONENT_INTERNAL_DIGIT_SEPARATOR, FRACTION_TRAILING_DIGIT_SEPARATOR,
-    INTEGER_INTERNAL_DIGIT_SEPARATOR, char_is_digit_const, is_supported,
+    INTEGER_INTERNAL_DIGIT_SEPARATOR, STANDARD, char_is_digit_const, is_supported,
 };
 use std::alloc::Global;
 use std::process::Abort;
@@ -285,7 +285,7 @@ fn groups_of_hexadecimal_digits(rt: HostRuntime) {
 
 /// A word, a text and a cursor there; the value of the exponent that is read, and the cursor left.
 static EXPONENTS: [(u128, &[u8], usize, Option<u64>, usize); 2] = [
-    (JSON, b"12em", 2, None, 2),
+    (STANDARD, b"12em", 2, None, 2),
     (RUST_LITERAL, b"E1_0m", 0, Some(10), 4),
 ];
 
@@ -370,10 +370,10 @@ fn a_wanted_byte_is_read_too(rt: HostRuntime) {
 #[test]
 #[tactic(auto, unfolding(lexical_digits::specs::Separators::is_digit))]
 fn a_number_in_the_rest_of_a_text_ends(rt: HostRuntime) {
-    assert!(rt; is_supported(JSON));
+    assert!(rt; is_supported(STANDARD));
     assert!(rt; char_is_digit_const(b'1', 10) && char_is_digit_const(b'3', 10));
-    assert_eq!(rt; number_end(b"[12,3]", JSON, 1), 3);
-    assert_eq!(rt; number_end(b"[12,3]", JSON, 4), 5);
+    assert_eq!(rt; number_end(b"[12,3]", STANDARD, 1), 3);
+    assert_eq!(rt; number_end(b"[12,3]", STANDARD, 4), 5);
 }
 
 /// A text, and whether it is one integer.
