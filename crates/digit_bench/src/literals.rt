@@ -5,8 +5,7 @@ use super::drains::drained;
 use super::format::Format;
 use super::work::{Task, Work, run, run_each};
 use digit_literals::{
-    count_digits, parse_integer, parse_signed, pass_digits, pass_zeros, read_integer,
-    read_integer_from,
+    count_digits, parse_number, pass_digits, pass_zeros, read_integer, read_integer_from,
 };
 use lexical_digits::skip::{Bytes, Component};
 
@@ -55,26 +54,26 @@ fn whole(value: u64) -> Outcome {
     Outcome::of(value, 0)
 }
 
-/// Parses a text by `parse_integer`.
+/// Parses a text by `parse_number::<u64>`.
 struct Parsed;
 
 impl Work for Parsed {
     #[inline(always)]
     fn on<F: Format>(text: &[u8], format: F) -> Outcome {
-        match parse_integer(text, format.word()) {
+        match parse_number::<u64>(text, format.word()) {
             Ok(value) => whole(value),
             Err(_) => Outcome::nothing(),
         }
     }
 }
 
-/// Parses a text by `parse_signed`.
+/// Parses a text by `parse_number::<i64>`.
 struct Signed;
 
 impl Work for Signed {
     #[inline(always)]
     fn on<F: Format>(text: &[u8], format: F) -> Outcome {
-        match parse_signed(text, format.word()) {
+        match parse_number::<i64>(text, format.word()) {
             Ok(value) => whole(value.cast_unsigned()),
             Err(_) => Outcome::nothing(),
         }

@@ -13,6 +13,5 @@ pub mod ForCallers
 pub mod Rest
 pub mod Significant
 pub mod Firsts
-pub mod Signs
 pub mod Fresh
 pub mod MoreFlags

@@ -7,7 +7,7 @@ use Rattle.lexical_digits.specs.Laws.Terms.{is_supported, is_digit, rule_of, sto
 use Rattle.lexical_digits.proofs.Rule.Supported.{supported_rule}
 use Rattle.digit_literals.specs.After.{digits_between}
 use Rattle.digit_literals.specs.Integers.{IsIntegerFrom, HasNoDigitFrom, IsTooLargeFrom}
-use Rattle.digit_literals.specs.Whole.{IsFaultFrom}
+use Rattle.digit_literals.specs.Numbers.{IsFaultFrom}
 use Rattle.digit_literals.specs.declared.parse.ParseError.{ParseError}
 use Rattle.digit_literals.proofs.Significant.{value_grows}
 

@@ -6,5 +6,5 @@ pub mod Integers
 pub mod Rest
 pub mod Significant
 pub mod First
-pub mod Whole
+pub mod Errors
 pub mod Numbers

@@ -1,12 +1,37 @@
 -- A number of any integer type: digits, and a sign before them if the type has one.
-use Rattle.std.specs.Prelude.{◌≡◌, ℕ, ℤ, ◌+◌, Bool, ◌==◌, ◌&&◌, ◌||◌, nat_lt, if◌then◌else◌, List, slice_get, Result, IfOk}
+use Rattle.std.specs.Prelude.{◌≡◌, ℕ, ℤ, pos, neg_ℤ, ◌+◌, ◌<◌, ◌≤◌, Bool, ◌==◌, ◌&&◌, ◌||◌, nat_lt, if◌then◌else◌, List, length, slice_get, Result, IfOk}
+use Rattle.std.specs.Str.Parse.{digits_value}
 use Rattle.lexical_digits.specs.declared.skip.rule.Rule.{Rule}
 use Rattle.lexical_digits.specs.Cursor.{holds_of}
+use Rattle.lexical_digits.specs.Stop.{stop}
 use Rattle.digit_literals.specs.declared.LiteralError.{LiteralError}
 use Rattle.digit_literals.specs.declared.parse.ParseError.{ParseError}
+use Rattle.digit_literals.specs.declared.parse.ParseError.TheVariants.{Empty, Invalid, Overflow}
+use Rattle.digit_literals.specs.After.{digits_between}
 use Rattle.digit_literals.specs.Outcomes.{IfEmpty, IfOverflow}
 use Rattle.digit_literals.specs.Integers.{IsIntegerFrom, HasNoDigitFrom, IsTooLargeFrom}
-use Rattle.digit_literals.specs.Whole.{signed, IsFaultFrom}
+
+-- ---- without a sign
+
+module _ (rule : Rule) (text : List ℕ) (start most : ℕ) where
+  -- the byte here is the first that is kept and no digit, and the value of the digits before it is
+  -- at most `most`
+  pub record IsStray (at : ℕ) : Type 0 where
+    pub within : at < length text
+    pub stops : at ≡ stop rule text start 0
+    pub fits : digits_value rule.radix (digits_between rule text start at) ≤ most
+
+  -- the first fault of a text that is no integer from a start on up to its end
+  abbrev pub IsFaultFrom : ParseError → Type 0
+  IsFaultFrom (Empty at) = (at ≡ length text) × HasNoDigitFrom rule text start at
+  IsFaultFrom (Invalid at) = IsStray at
+  IsFaultFrom (Overflow at) = IsTooLargeFrom rule text start most at
+
+-- ---- with one
+
+-- a magnitude with its sign
+abbrev pub signed : Bool → ℕ → ℤ
+signed negative magnitude = if negative then neg_ℤ (pos magnitude) else pos magnitude
 
 -- whether a byte stands at a position
 abbrev pub stands : List ℕ → ℕ → ℕ → Bool

@@ -9,14 +9,8 @@
 //! are and where they end.
 #![tactic(auto)]
 
-ghost use Rattle.std.specs.Prelude.{◌≡◌, ℕ, ℤ, ◌≤◌, length, IsTrue};
-ghost use Rattle.lexical_format.specs.Word.{is_supported};
-ghost use Rattle.lexical_digits.specs.declared.skip.component.Component.TheVariants.{Integer};
-ghost use Rattle.lexical_digits.specs.State.{rule_of};
-ghost use Rattle.digit_literals.specs.Integers.{IsInteger, HasNoDigit, IsTooLarge};
-ghost use Rattle.digit_literals.specs.Whole.{IsFault, IsSigned, IsSignedFault};
+ghost use Rattle.std.specs.Prelude.{ℕ, ◌≤◌};
 ghost use Rattle.digit_literals.specs.Outcomes.{ReadsAll, FindsNone, PassesMost};
-ghost use Rattle.digit_literals.specs.declared.parse.ParseError.{ParseError};
 
 mod component;
 pub mod equality;
@@ -34,7 +28,7 @@ pub use self::component::{pass_digits, pass_zeros, read_digits_of, read_digits_u
 pub use self::first::{FirstDigits, read_first_digits, read_first_digits_from};
 pub use self::integer::{count_digits, read_integer, read_integer_from, stop_from};
 pub use self::number::{Number, parse_number, parse_number_from, read_number, read_number_from};
-pub use self::parse::{ParseError, parse_integer, parse_signed};
+pub use self::parse::ParseError;
 pub use self::reading::{Digits, TooLarge, read_digits, read_digits_after, take_digits};
 pub use self::wide::read_wide_from;
 use lexical_digits::iterator::DigitsIter;
@@ -83,25 +77,4 @@ pub fn outcomes_differ<'a, I: DigitsIter<'a>>(iter: &I, radix: u32)
     ensures none_or_most { (at over : ℕ) (left other : I.Meaning) → let m = I.meaning iter.now in
         FindsNone I.buffer I.cursor I.place I.taken I.settled radix m at left →
         PassesMost I.buffer I.cursor I.place I.taken I.settled radix m over other → ⊥ }
-{}
-
-/// No two outcomes of [`read_integer`] can be had of one text, nor an integer and a fault of
-/// [`parse_integer`] or [`parse_signed`], nor two faults. So a text that is one integer is always
-/// accepted, and any other text is refused for one reason. Requires that the word is supported.
-pub fn integers_have_no_fault(text: &[u8], word: u128)
-    requires { IsTrue (is_supported word) }
-    ensures none { (value end at : ℕ) → let r = rule_of word Integer in
-        IsInteger r text.now value end → HasNoDigit r text.now at → ⊥ }
-    ensures large { (value end at : ℕ) → let r = rule_of word Integer in
-        IsInteger r text.now value end → IsTooLarge r text.now at → ⊥ }
-    ensures none_or_large { (at over : ℕ) → let r = rule_of word Integer in
-        HasNoDigit r text.now at → IsTooLarge r text.now over → ⊥ }
-    ensures fault { (value : ℕ) (error : ParseError) → let r = rule_of word Integer in
-        IsInteger r text.now value (length text.now) → IsFault r text.now error → ⊥ }
-    ensures one_fault { (one other : ParseError) → let r = rule_of word Integer in
-        IsFault r text.now one → IsFault r text.now other → one ≡ other }
-    ensures signed { (value : ℤ) (error : ParseError) → let r = rule_of word Integer in
-        IsSigned r text.now value → IsSignedFault r text.now error → ⊥ }
-    ensures one_signed_fault { (one other : ParseError) → let r = rule_of word Integer in
-        IsSignedFault r text.now one → IsSignedFault r text.now other → one ≡ other }
 {}

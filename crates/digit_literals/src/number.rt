@@ -5,9 +5,9 @@ ghost use Rattle.lexical_format.specs.Word.{is_supported};
 ghost use Rattle.lexical_digits.specs.declared.skip.component.Component.TheVariants.{Integer};
 ghost use Rattle.lexical_digits.specs.State.{rule_of};
 ghost use Rattle.digit_literals.specs.Outcomes.{IfEmpty, IfOverflow};
-ghost use Rattle.digit_literals.specs.Numbers.{IsNumberFrom, ReadsNumber, IsNumberFault, digits_from, is_negative_from};
+ghost use Rattle.digit_literals.specs.Errors.{position};
+ghost use Rattle.digit_literals.specs.Numbers.{IsNumberFrom, ReadsNumber, IsNumberFault, digits_from, is_negative_from, signed};
 ghost use Rattle.digit_literals.specs.Reads.{IsFirst};
-ghost use Rattle.digit_literals.specs.Whole.{signed, position};
 
 use super::slice::first_digit;
 use super::wide::read_wide_on;

@@ -7,7 +7,7 @@ ghost use Rattle.lexical_format.specs.Word.{is_supported};
 ghost use Rattle.lexical_digits.specs.State.{rule_of};
 ghost use Rattle.lexical_digits.specs.declared.skip.component.Component.TheVariants.{Integer};
 ghost use Rattle.digit_literals.specs.Integers.{IsIntegerFrom, ReadsFrom};
-ghost use Rattle.digit_literals.specs.Whole.{IsFaultFrom};
+ghost use Rattle.digit_literals.specs.Numbers.{IsFaultFrom};
 
 use digit_literals::{LiteralError, ParseError, parse_number, parse_number_from, read_number_from};
 use lexical_format::words::PYTHON_LITERAL;

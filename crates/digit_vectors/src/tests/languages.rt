@@ -2,7 +2,7 @@
 //! are taken off. The values are worked out by hand.
 
 use super::bytes_of;
-use digit_literals::{parse_integer, read_digits_of};
+use digit_literals::{parse_number, read_digits_of};
 use lexical_digits::iterator::IterBodies;
 use lexical_digits::skip::Bytes;
 use lexical_digits::skip::Component::{self, Exponent, Fraction};
@@ -129,7 +129,7 @@ static BINARY_ROWS: [Row; 24] = [
 /// A text is read so, by this row of a table.
 fn assert_read(rt: &impl Abort, row: (&str, usize), word: u128, text: &str, wanted: Option<u64>) {
     assert!(rt; is_supported(word));
-    let read = parse_integer(text.as_bytes(), word);
+    let read = parse_number::<u64>(text.as_bytes(), word);
     let (table, at) = row;
     assert!(rt;
         read.ok() == wanted,

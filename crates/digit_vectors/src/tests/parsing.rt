@@ -2,8 +2,7 @@
 
 use super::{INTERNAL, UNFLAGGED, bytes_of};
 use digit_literals::{
-    Digits, LiteralError, ParseError, TooLarge, count_digits, parse_integer, parse_signed,
-    read_digits_after,
+    Digits, LiteralError, ParseError, TooLarge, count_digits, parse_number, read_digits_after,
 };
 use lexical_digits::iterator::Iter;
 use lexical_format::is_supported;
@@ -15,14 +14,20 @@ use std::str::from_utf8;
 /// The whole text has this value, or this first fault; `_` may stand between two digits.
 fn assert_whole(rt: &impl Abort, text: &[u8], read: Result<u64, ParseError>) {
     assert!(rt; is_supported(UNFLAGGED | INTERNAL));
-    let (came, text) = (parse_integer(text, UNFLAGGED | INTERNAL), from_utf8(text));
+    let (came, text) = (
+        parse_number::<u64>(text, UNFLAGGED | INTERNAL),
+        from_utf8(text),
+    );
     assert!(rt; came == read, "{text:?}: {came:?}, not {read:?}");
 }
 
 /// The same with a sign.
 fn assert_signed(rt: &impl Abort, text: &[u8], read: Result<i64, ParseError>) {
     assert!(rt; is_supported(UNFLAGGED | INTERNAL));
-    let (came, text) = (parse_signed(text, UNFLAGGED | INTERNAL), from_utf8(text));
+    let (came, text) = (
+        parse_number::<i64>(text, UNFLAGGED | INTERNAL),
+        from_utf8(text),
+    );
     assert!(rt; came == read, "{text:?}: {came:?}, not {read:?}");
 }
 
