@@ -4,11 +4,11 @@ use super::Outcome;
 use super::format::Format;
 use super::work::{Task, Work, run_each};
 use digit_floats::parse_float;
-use digit_literals::{Number, parse_number, read_number};
+use digit_literals::{Integer, parse_number, read_number};
 use lexical_format::NumberFormat;
 
 /// A number as the value of an [`Outcome`].
-trait Told: Number {
+trait Told: Integer {
     /// Its lowest 64 bits, and the others added to them.
     fn told(self) -> u64;
 }

@@ -27,7 +27,7 @@ mod zeros;
 pub use self::component::{pass_digits, pass_zeros, read_digits_of, read_digits_up_to};
 pub use self::first::{FirstDigits, read_first_digits, read_first_digits_from};
 pub use self::integer::{count_digits, read_integer, read_integer_from, stop_from};
-pub use self::number::{Number, parse_number, parse_number_from, read_number, read_number_from};
+pub use self::number::{Integer, parse_number, parse_number_from, read_number, read_number_from};
 pub use self::parse::ParseError;
 pub use self::reading::{Digits, TooLarge, read_digits, read_digits_after, take_digits};
 pub use self::wide::read_wide_from;

@@ -15,34 +15,34 @@ use super::{LiteralError, ParseError};
 use lexical_digits::skip::{Component, Rule};
 
 /// A type of integers: `u8` to `u128`, `i8` to `i128`, `usize` and `isize`.
-pub trait Number: Copy {
+pub trait Integer: Copy {
     /// The greatest number.
-    const MOST: u128;
+    const MAX: u128;
 
-    /// The magnitude of the least number. It is 0 exactly if the type has no sign.
-    const LEAST: u128;
+    /// The magnitude of the least number, as 128 of `i8`. It is 0 exactly if the type has no sign.
+    const MIN_MAGNITUDE: u128;
 
-    ghost MOST: { ℕ };
+    ghost MAX: { ℕ };
 
-    ghost LEAST: { ℕ };
+    ghost MIN_MAGNITUDE: { ℕ };
 
     /// The number that a value is.
     ghost number: { Self → ℤ };
 
     /// The value of a magnitude with its sign. Requires that the type has it.
     fn of_magnitude(is_negative: bool, magnitude: u128) -> Self
-        requires { magnitude ≤ (if is_negative then LEAST else MOST) }
+        requires { magnitude ≤ (if is_negative then MIN_MAGNITUDE else MAX) }
         ensures { number result ≡ signed is_negative magnitude };
 }
 
-impl Number for u8 {
-    const MOST: u128 = u8::MAX as u128;
+impl Integer for u8 {
+    const MAX: u128 = u8::MAX as u128;
 
-    const LEAST: u128 = 0;
+    const MIN_MAGNITUDE: u128 = 0;
 
-    ghost MOST = { 2 ^ 8 - 1 };
+    ghost MAX = { 2 ^ 8 - 1 };
 
-    ghost LEAST = { 0 };
+    ghost MIN_MAGNITUDE = { 0 };
 
     ghost number = { λ x. pos x };
 
@@ -52,14 +52,14 @@ impl Number for u8 {
     }
 }
 
-impl Number for u16 {
-    const MOST: u128 = u16::MAX as u128;
+impl Integer for u16 {
+    const MAX: u128 = u16::MAX as u128;
 
-    const LEAST: u128 = 0;
+    const MIN_MAGNITUDE: u128 = 0;
 
-    ghost MOST = { 2 ^ 16 - 1 };
+    ghost MAX = { 2 ^ 16 - 1 };
 
-    ghost LEAST = { 0 };
+    ghost MIN_MAGNITUDE = { 0 };
 
     ghost number = { λ x. pos x };
 
@@ -69,14 +69,14 @@ impl Number for u16 {
     }
 }
 
-impl Number for u32 {
-    const MOST: u128 = u32::MAX as u128;
+impl Integer for u32 {
+    const MAX: u128 = u32::MAX as u128;
 
-    const LEAST: u128 = 0;
+    const MIN_MAGNITUDE: u128 = 0;
 
-    ghost MOST = { 2 ^ 32 - 1 };
+    ghost MAX = { 2 ^ 32 - 1 };
 
-    ghost LEAST = { 0 };
+    ghost MIN_MAGNITUDE = { 0 };
 
     ghost number = { λ x. pos x };
 
@@ -86,14 +86,14 @@ impl Number for u32 {
     }
 }
 
-impl Number for u64 {
-    const MOST: u128 = u64::MAX as u128;
+impl Integer for u64 {
+    const MAX: u128 = u64::MAX as u128;
 
-    const LEAST: u128 = 0;
+    const MIN_MAGNITUDE: u128 = 0;
 
-    ghost MOST = { 2 ^ 64 - 1 };
+    ghost MAX = { 2 ^ 64 - 1 };
 
-    ghost LEAST = { 0 };
+    ghost MIN_MAGNITUDE = { 0 };
 
     ghost number = { λ x. pos x };
 
@@ -103,14 +103,14 @@ impl Number for u64 {
     }
 }
 
-impl Number for u128 {
-    const MOST: u128 = u128::MAX;
+impl Integer for u128 {
+    const MAX: u128 = u128::MAX;
 
-    const LEAST: u128 = 0;
+    const MIN_MAGNITUDE: u128 = 0;
 
-    ghost MOST = { 2 ^ 128 - 1 };
+    ghost MAX = { 2 ^ 128 - 1 };
 
-    ghost LEAST = { 0 };
+    ghost MIN_MAGNITUDE = { 0 };
 
     ghost number = { λ x. pos x };
 
@@ -120,14 +120,14 @@ impl Number for u128 {
     }
 }
 
-impl Number for usize {
-    const MOST: u128 = usize::MAX as u128;
+impl Integer for usize {
+    const MAX: u128 = usize::MAX as u128;
 
-    const LEAST: u128 = 0;
+    const MIN_MAGNITUDE: u128 = 0;
 
-    ghost MOST = { 2 ^ 64 - 1 };
+    ghost MAX = { 2 ^ 64 - 1 };
 
-    ghost LEAST = { 0 };
+    ghost MIN_MAGNITUDE = { 0 };
 
     ghost number = { λ x. pos x };
 
@@ -137,14 +137,14 @@ impl Number for usize {
     }
 }
 
-impl Number for i8 {
-    const MOST: u128 = (1 << 7) - 1;
+impl Integer for i8 {
+    const MAX: u128 = (1 << 7) - 1;
 
-    const LEAST: u128 = 1 << 7;
+    const MIN_MAGNITUDE: u128 = 1 << 7;
 
-    ghost MOST = { 2 ^ 7 - 1 };
+    ghost MAX = { 2 ^ 7 - 1 };
 
-    ghost LEAST = { 2 ^ 7 };
+    ghost MIN_MAGNITUDE = { 2 ^ 7 };
 
     ghost number = { λ x. x };
 
@@ -158,14 +158,14 @@ impl Number for i8 {
     }
 }
 
-impl Number for i16 {
-    const MOST: u128 = (1 << 15) - 1;
+impl Integer for i16 {
+    const MAX: u128 = (1 << 15) - 1;
 
-    const LEAST: u128 = 1 << 15;
+    const MIN_MAGNITUDE: u128 = 1 << 15;
 
-    ghost MOST = { 2 ^ 15 - 1 };
+    ghost MAX = { 2 ^ 15 - 1 };
 
-    ghost LEAST = { 2 ^ 15 };
+    ghost MIN_MAGNITUDE = { 2 ^ 15 };
 
     ghost number = { λ x. x };
 
@@ -179,14 +179,14 @@ impl Number for i16 {
     }
 }
 
-impl Number for i32 {
-    const MOST: u128 = (1 << 31) - 1;
+impl Integer for i32 {
+    const MAX: u128 = (1 << 31) - 1;
 
-    const LEAST: u128 = 1 << 31;
+    const MIN_MAGNITUDE: u128 = 1 << 31;
 
-    ghost MOST = { 2 ^ 31 - 1 };
+    ghost MAX = { 2 ^ 31 - 1 };
 
-    ghost LEAST = { 2 ^ 31 };
+    ghost MIN_MAGNITUDE = { 2 ^ 31 };
 
     ghost number = { λ x. x };
 
@@ -200,14 +200,14 @@ impl Number for i32 {
     }
 }
 
-impl Number for i64 {
-    const MOST: u128 = (1 << 63) - 1;
+impl Integer for i64 {
+    const MAX: u128 = (1 << 63) - 1;
 
-    const LEAST: u128 = 1 << 63;
+    const MIN_MAGNITUDE: u128 = 1 << 63;
 
-    ghost MOST = { 2 ^ 63 - 1 };
+    ghost MAX = { 2 ^ 63 - 1 };
 
-    ghost LEAST = { 2 ^ 63 };
+    ghost MIN_MAGNITUDE = { 2 ^ 63 };
 
     ghost number = { λ x. x };
 
@@ -221,14 +221,14 @@ impl Number for i64 {
     }
 }
 
-impl Number for i128 {
-    const MOST: u128 = (1 << 127) - 1;
+impl Integer for i128 {
+    const MAX: u128 = (1 << 127) - 1;
 
-    const LEAST: u128 = 1 << 127;
+    const MIN_MAGNITUDE: u128 = 1 << 127;
 
-    ghost MOST = { 2 ^ 127 - 1 };
+    ghost MAX = { 2 ^ 127 - 1 };
 
-    ghost LEAST = { 2 ^ 127 };
+    ghost MIN_MAGNITUDE = { 2 ^ 127 };
 
     ghost number = { λ x. x };
 
@@ -242,14 +242,14 @@ impl Number for i128 {
     }
 }
 
-impl Number for isize {
-    const MOST: u128 = (1 << 63) - 1;
+impl Integer for isize {
+    const MAX: u128 = (1 << 63) - 1;
 
-    const LEAST: u128 = 1 << 63;
+    const MIN_MAGNITUDE: u128 = 1 << 63;
 
-    ghost MOST = { 2 ^ 63 - 1 };
+    ghost MAX = { 2 ^ 63 - 1 };
 
-    ghost LEAST = { 2 ^ 63 };
+    ghost MIN_MAGNITUDE = { 2 ^ 63 };
 
     ghost number = { λ x. x };
 
@@ -276,12 +276,12 @@ struct Head {
 
 /// What a number begins with at a position.
 #[inline(always)]
-fn read_head<T: Number>(text: &[u8], word: u128, start: usize) -> Head
+fn read_head<T: Integer>(text: &[u8], word: u128, start: usize) -> Head
     requires { start ≤ length text.now }
-    ensures negative { result.is_negative ≡ is_negative_from T.LEAST text.now start }
-    ensures begins { result.begin ≡ digits_from T.LEAST text.now start }
+    ensures negative { result.is_negative ≡ is_negative_from T.MIN_MAGNITUDE text.now start }
+    ensures begins { result.begin ≡ digits_from T.MIN_MAGNITUDE text.now start }
     ensures first { let r = rule_of word Integer in
-        IfSome result.first (IsFirst r text.now result.begin 0 (Some T.MOST)) }
+        IfSome result.first (IsFirst r text.now result.begin 0 (Some T.MAX)) }
     ensures positive { IfSome result.first (λ _. result.is_negative ≡ false) }
     ensures onward { start ≤ result.begin }
     ensures within { result.begin ≤ length text.now }
@@ -291,11 +291,11 @@ fn read_head<T: Number>(text: &[u8], word: u128, start: usize) -> Head
         begin: start,
         first: None,
     };
-    if T::LEAST == 0 {
+    if T::MIN_MAGNITUDE == 0 {
         return head;
     }
     let rule = Rule::of(word, Component::Integer);
-    head.first = first_digit(text, rule, start, 0, T::MOST);
+    head.first = first_digit(text, rule, start, 0, T::MAX);
     if head.first.is_some() {
         return head;
     }
@@ -322,7 +322,7 @@ fn read_head<T: Number>(text: &[u8], word: u128, start: usize) -> Head
 /// `8080:65536`, `read_number_from::<u16>` from 5: Err(Overflow(9))
 /// ```
 #[inline(always)]
-pub fn read_number_from<T: Number>(
+pub fn read_number_from<T: Integer>(
     text: &[u8],
     word: u128,
     start: usize,
@@ -330,7 +330,7 @@ pub fn read_number_from<T: Number>(
     requires supported { IsTrue (is_supported word) }
     requires within { start ≤ length text.now }
     ensures reads { let r = rule_of word Integer in
-        ReadsNumber T.LEAST T.MOST r text.now start T.number result }
+        ReadsNumber T.MIN_MAGNITUDE T.MAX r text.now start T.number result }
     ensures end { let n = length text.now in
         IfOk result (λ read. (start ≤ read.1) × (read.1 ≤ n)) }
     ensures empty_at { let n = length text.now in
@@ -339,7 +339,11 @@ pub fn read_number_from<T: Number>(
         IfOverflow result (λ at. (start ≤ at) × (at < n)) }
 {
     let head = read_head::<T>(text, word, start);
-    let most = if head.is_negative { T::LEAST } else { T::MOST };
+    let most = if head.is_negative {
+        T::MIN_MAGNITUDE
+    } else {
+        T::MAX
+    };
     let (magnitude, end) = read_wide_on(text, word, head.begin, head.first, most)?;
     Ok((T::of_magnitude(head.is_negative, magnitude), end))
 }
@@ -353,13 +357,13 @@ pub fn read_number_from<T: Number>(
 /// ```
 #[inline(always)]
 #[tactic(auto, using(crate::proofs::ForCallers::stop_within))]
-pub fn parse_number_from<T: Number>(text: &[u8], word: u128, start: usize) -> Result<T, ParseError>
+pub fn parse_number_from<T: Integer>(text: &[u8], word: u128, start: usize) -> Result<T, ParseError>
     requires supported { IsTrue (is_supported word) }
     requires within { start ≤ length text.now }
     ensures ok { let r = rule_of word Integer in IfOk result (λ value.
-        IsNumberFrom T.LEAST T.MOST r text.now start (T.number value) (length text.now)) }
+        IsNumberFrom T.MIN_MAGNITUDE T.MAX r text.now start (T.number value) (length text.now)) }
     ensures fault { let r = rule_of word Integer in
-        IfErr result (IsNumberFault T.LEAST T.MOST r text.now start) }
+        IfErr result (IsNumberFault T.MIN_MAGNITUDE T.MAX r text.now start) }
     ensures fault_at { let n = length text.now in
         IfErr result (λ error. (start ≤ position error) × (position error ≤ n)) }
 {
@@ -390,12 +394,12 @@ pub fn parse_number_from<T: Number>(text: &[u8], word: u128, start: usize) -> Re
 /// with internal `_`, `parse_number::<i8>`: `-1_28` is Ok(-128), `128` is Err(Overflow(2))
 /// ```
 #[inline(always)]
-pub fn parse_number<T: Number>(text: &[u8], word: u128) -> Result<T, ParseError>
+pub fn parse_number<T: Integer>(text: &[u8], word: u128) -> Result<T, ParseError>
     requires { IsTrue (is_supported word) }
     ensures ok { let r = rule_of word Integer in IfOk result (λ value.
-        IsNumberFrom T.LEAST T.MOST r text.now 0 (T.number value) (length text.now)) }
+        IsNumberFrom T.MIN_MAGNITUDE T.MAX r text.now 0 (T.number value) (length text.now)) }
     ensures fault { let r = rule_of word Integer in
-        IfErr result (IsNumberFault T.LEAST T.MOST r text.now 0) }
+        IfErr result (IsNumberFault T.MIN_MAGNITUDE T.MAX r text.now 0) }
     ensures fault_at { let n = length text.now in IfErr result (λ error. position error ≤ n) }
 {
     parse_number_from::<T>(text, word, 0)
@@ -408,10 +412,10 @@ pub fn parse_number<T: Number>(text: &[u8], word: u128) -> Result<T, ParseError>
 /// `-1_000 m` with internal `_`, `read_number::<i32>`: Ok((-1000, 6))
 /// ```
 #[inline(always)]
-pub fn read_number<T: Number>(text: &[u8], word: u128) -> Result<(T, usize), LiteralError>
+pub fn read_number<T: Integer>(text: &[u8], word: u128) -> Result<(T, usize), LiteralError>
     requires { IsTrue (is_supported word) }
     ensures reads { let r = rule_of word Integer in
-        ReadsNumber T.LEAST T.MOST r text.now 0 T.number result }
+        ReadsNumber T.MIN_MAGNITUDE T.MAX r text.now 0 T.number result }
     ensures end { IfOk result (λ read. read.1 ≤ length text.now) }
     ensures empty_at { IfEmpty result (λ at. at ≤ length text.now) }
     ensures overflow_at { IfOverflow result (λ at. at < length text.now) }
