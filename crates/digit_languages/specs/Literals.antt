@@ -1,8 +1,10 @@
 -- The integer literals of a language: what says their word, and what they are worth.
-use Rattle.std.specs.Prelude.{◌≡◌, ℕ, ◌+◌, ◌-◌, Bool, true, false, ◌&&◌, ◌||◌, nat_lt, if◌then◌else◌, List, ◌++◌, codes, decimal, Option, Some, None, is_some}
+use Rattle.std.specs.Prelude.{ℕ, ℤ, pos, ◌+◌, ◌-◌, Bool, false, ◌&&◌, ◌||◌, nat_lt, if◌then◌else◌, List, ◌++◌, codes, decimal, Option, Some, None, is_some, Result, Ok, Err}
 use Rattle.lexical_digits.specs.State.{rule_of}
 use Rattle.lexical_digits.specs.declared.skip.component.Component.TheVariants.{Integer}
-use Rattle.digit_literals.specs.Integers.{IsIntegerFrom, HasNoDigitFrom, IsTooLargeFrom}
+use Rattle.digit_literals.specs.declared.LiteralError.{LiteralError}
+use Rattle.digit_literals.specs.declared.LiteralError.TheVariants as integers
+use Rattle.digit_literals.specs.Integers.{integer_at}
 use Rattle.digit_literals.specs.Numbers.{stands}
 use Rattle.digit_languages.specs.declared.language.Language.{Language}
 use Rattle.digit_languages.specs.declared.language.FirstZero.{FirstZero}
@@ -15,6 +17,11 @@ use Rattle.digit_languages.specs.Words.{octal_of}
 abbrev pub word_or : Option ℕ → ℕ → ℕ
 word_or None other = other
 word_or (Some word) other = word
+
+-- an integer's error as one of a language
+abbrev pub language_error : LiteralError → LanguageError
+language_error (integers.Empty at) = Empty at
+language_error (integers.Overflow at) = Overflow at
 
 module _ (l : Language) (text : List ℕ) (start : ℕ) where
   -- `0` and a letter, which may be in upper case where the language says so
@@ -57,31 +64,22 @@ module _ (l : Language) (text : List ℕ) (start : ℕ) where
   abbrev pub is_refused : ℕ → ℕ → Bool
   is_refused value end = if is_some prefix_word then false else refuses value end
 
-  module _ (most : ℕ) where
-    -- digits of this value are here, up to this end, by the word that stands for them
-    abbrev pub HasDigits : ℕ → ℕ → Type 0
-    HasDigits value end = IsIntegerFrom (rule_of word_at Integer) text digits_at most value end
+  -- its digits as a literal: their value and where they end, or why there is none
+  abbrev pub literal_of : Result (ℕ × ℕ) LiteralError → Result Literal LanguageError
+  literal_of (Ok (value, end)) =
+      if is_refused value end
+      then Err (Zero start)
+      else Ok (record { value = value; word = word_at; digits = digits_at; end = end })
+  literal_of (Err error) = Err (language_error error)
 
-    -- the literal here
-    pub record IsLiteral (read : Literal) : Type 0 where
-      pub word : read.word ≡ word_at
-      pub begins : read.digits ≡ digits_at
-      pub integer : HasDigits read.value read.end
-      pub allowed : is_refused read.value read.end ≡ false
+  -- the literal that begins here, if its value is at most `most`, or why there is none
+  abbrev pub literal_at : ℕ → Result Literal LanguageError
+  literal_at most = literal_of (integer_at (rule_of word_at Integer) text digits_at most)
 
-    -- there would be one, but for its first `0`
-    pub record IsRefused (at : ℕ) : Type 0 where
-      pub begins : at ≡ start
-      pub value : ℕ
-      pub end : ℕ
-      pub integer : HasDigits value end
-      pub refused : is_refused value end ≡ true
-
-    -- why there is none
-    abbrev pub IsNoLiteral : LanguageError → Type 0
-    IsNoLiteral (Empty at) = HasNoDigitFrom (rule_of word_at Integer) text digits_at at
-    IsNoLiteral (Overflow at) = IsTooLargeFrom (rule_of word_at Integer) text digits_at most at
-    IsNoLiteral (Zero at) = IsRefused at
+-- a literal's value and where it ends, as a number of a type
+abbrev pub typed : Result Literal LanguageError → Result (ℤ × ℕ) LanguageError
+typed (Ok read) = Ok (pos read.value, read.end)
+typed (Err error) = Err error
 
 -- the position that an error holds
 abbrev pub position : LanguageError → ℕ

@@ -6,7 +6,7 @@ pub mod languages;
 mod literal;
 
 pub use self::language::{FirstZero, Language, is_language};
-pub use self::literal::{LanguageError, Literal, read_literal};
+pub use self::literal::{LanguageError, Literal, read_literal, read_literal_as};
 
 #[cfg(test)]
 mod tests;

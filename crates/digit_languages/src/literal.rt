@@ -1,13 +1,13 @@
 //! The integer literal at a position.
 
-ghost use Rattle.std.specs.Prelude.{◌≡◌, ◌+◌, ◌-◌, ◌<◌, ◌≤◌, Some, length, IfOk, IfErr, IsTrue, IfSome};
+ghost use Rattle.std.specs.Prelude.{◌≡◌, ◌+◌, ◌-◌, ◌<◌, ◌≤◌, Some, Ok, Err, length, IfOk, IfErr, MatchResult, IsTrue, IfSome};
 ghost use Rattle.lexical_format.specs.Word.{is_supported};
 ghost use Rattle.digit_literals.specs.Numbers.{stands};
 ghost use Rattle.digit_languages.specs.Words.{IsLanguage};
-ghost use Rattle.digit_languages.specs.Literals.{has_prefix, prefix_word, plain_word, refuses, IsLiteral, IsNoLiteral, position, message};
+ghost use Rattle.digit_languages.specs.Literals.{has_prefix, prefix_word, plain_word, refuses, literal_at, typed, language_error, position, message};
 
 use super::language::{FirstZero, Language};
-use digit_literals::{LiteralError, read_wide_from};
+use digit_literals::{Integer, LiteralError, read_wide_from};
 use std::error::Error;
 use std::fmt;
 
@@ -32,6 +32,30 @@ pub enum LanguageError {
     Overflow(usize),
     /// The language refuses the first `0`, which is at this position.
     Zero(usize),
+}
+
+impl LanguageError {
+    /// The position that it holds.
+    #[inline(always)]
+    pub fn position(&self) -> usize
+        ensures { result ≡ position self.now }
+    {
+        match *self {
+            LanguageError::Empty(at) | LanguageError::Overflow(at) | LanguageError::Zero(at) => at,
+        }
+    }
+}
+
+impl From<LiteralError> for LanguageError {
+    ghost from_gives = { λ e r. r ≡ language_error e };
+
+    #[inline(always)]
+    fn from(e: LiteralError) -> LanguageError {
+        match e {
+            LiteralError::Empty(at) => LanguageError::Empty(at),
+            LiteralError::Overflow(at) => LanguageError::Overflow(at),
+        }
+    }
 }
 
 impl fmt::Display for LanguageError {
@@ -141,10 +165,10 @@ pub fn read_literal(
 ) -> Result<Literal, LanguageError>
     requires within { start ≤ length text.now }
     requires language { IsLanguage language }
-    ensures ok { IfOk result (IsLiteral language text.now start most) }
-    ensures none { IfErr result (IsNoLiteral language text.now start most) }
-    ensures end { let n = length text.now in
-        IfOk result (λ read. (start ≤ read.end) × (read.end ≤ n)) }
+    ensures is { result ≡ literal_at language text.now start most }
+    ensures fits { IfOk result (λ read. read.value ≤ most) }
+    ensures begins { IfOk result (λ read. (start ≤ read.digits) × (read.digits < read.end)) }
+    ensures end { IfOk result (λ read. read.end ≤ length text.now) }
     ensures at { let n = length text.now in
         IfErr result (λ error. (start ≤ position error) × (position error ≤ n)) }
 {
@@ -153,19 +177,40 @@ pub fn read_literal(
         Some(word) => (word, start + 2),
         None => (plain_word(language, text, start), start),
     };
-    match read_wide_from(text, word, digits, most) {
-        Ok((value, end)) => {
-            if prefix.is_none() && refuses(language, text, start, value, end) {
-                return Err(LanguageError::Zero(start));
-            }
-            Ok(Literal {
-                value,
-                word,
-                digits,
-                end,
-            })
-        }
-        Err(LiteralError::Empty(at)) => Err(LanguageError::Empty(at)),
-        Err(LiteralError::Overflow(at)) => Err(LanguageError::Overflow(at)),
+    let (value, end) = read_wide_from(text, word, digits, most)?;
+    if prefix.is_none() && refuses(language, text, start, value, end) {
+        return Err(LanguageError::Zero(start));
     }
+    Ok(Literal {
+        value,
+        word,
+        digits,
+        end,
+    })
+}
+
+/// The integer literal of a language that begins at `start`, as a number of a type that has it, and
+/// where it ends: [`read_literal`] up to the type's greatest number. A `-` before it isn't read.
+/// Requires that `start` is within the text and the language's words are supported.
+///
+/// ```text
+/// of Rust, `0xff_u8`, `read_literal_as::<u8>`: Ok((255, 5))      `0x1_00`: Err(Overflow(5))
+/// ```
+#[inline(always)]
+pub fn read_literal_as<T: Integer>(
+    text: &[u8],
+    start: usize,
+    language: Language,
+) -> Result<(T, usize), LanguageError>
+    requires within { start ≤ length text.now }
+    requires language { IsLanguage language }
+    ensures is { let read = typed (literal_at language text.now start T.MAX) in
+        MatchResult result (λ r. read ≡ Ok (T.number r.0, r.1)) (λ error. read ≡ Err error) }
+    ensures end { let n = length text.now in
+        IfOk result (λ read. (start < read.1) × (read.1 ≤ n)) }
+    ensures at { let n = length text.now in
+        IfErr result (λ error. (start ≤ position error) × (position error ≤ n)) }
+{
+    let read = read_literal(text, start, language, T::MAX)?;
+    Ok((T::of_magnitude(false, read.value), read.end))
 }

@@ -18,9 +18,8 @@ use Rattle.lexical_digits.specs.Stop.{stop, stop_of, leading_digits_of, past_dig
 use Rattle.lexical_digits.specs.State.{State, IsState, rule}
 use Rattle.lexical_digits.specs.declared.skip.component.Component.{Component}
 use Rattle.lexical_digits.proofs.Calls.FirstOther.{stop_is_first}
-use Rattle.digit_literals.specs.After.{digits_between, digits_to, past_digits_to, IsReadTo}
+use Rattle.digit_literals.specs.After.{digits_between, digits_to, past_digits_to, IsReadTo, ExceedsAt}
 use Rattle.digit_literals.specs.declared.reading.TooLarge.{TooLarge}
-use Rattle.digit_literals.specs.Integers.{IsTooLarge}
 use Rattle.digit_literals.specs.Rest.{LeavesRest}
 use Rattle.digit_literals.specs.First.{ReadsFirst}
 use Rattle.digit_literals.specs.Significant.{IsOfFirstDigits}
@@ -77,7 +76,8 @@ all_digits rule (x ∷ xs) = grind (arith, nat_tests, value_is rule.radix x, all
 
 -- a text of at most n digits has none with which the value is too large, where as many of the
 -- highest digit fit
-pub few_digits_fit : (rule : Rule) (text : List ℕ) (at n : ℕ) → IsTooLarge rule text at
+pub few_digits_fit : (rule : Rule) (text : List ℕ) (at n : ℕ)
+    → ExceedsAt rule text 0 0 0 (2 ^ 64 - 1) at
     → 1 ≤ rule.radix → rule.radix ^ n ≤ 2 ^ 64 → length (filter (is_digit rule) text) ≤ n → ⊥
 few_digits_fit rule text at n h some fits few =
     let read : List ℕ = digits_between rule text 0 (at + 1) in

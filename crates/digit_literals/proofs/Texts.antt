@@ -1,15 +1,20 @@
--- No two outcomes can be had of one text.
-use Rattle.std.proofs.Common.{◌≡◌, ℕ, zero, suc, ◌+◌, ◌-◌, ◌<◌, ◌≤◌, Bool, List, [], ◌∷◌, length, take, drop, arith, IsTrue, filter}
+-- The outcome of an integer in a text, case by case.
+use Rattle.std.proofs.Common.{◌≡◌, ℕ, zero, suc, ◌+◌, ◌-◌, ◌<◌, ◌≤◌, Bool, true, false, List, [], ◌∷◌, length, take, drop, find, unwrap_or, arith, IsTrue, filter}
+use Rattle.std.specs.Prelude.{Some, Ok, Err, nat_lt, ◌==◌}
+use Rattle.std.specs.List.{range_with_len}
 use Rattle.std.specs.Str.Parse.{digits_value, digits_value_after}
+use Rattle.std.proofs.lemmas.Bool.Decides.{nat_tests}
 use Rattle.lexical_digits.specs.declared.skip.rule.Rule.{Rule}
-use Rattle.lexical_digits.specs.declared.skip.component.Component.TheVariants.{Integer}
-use Rattle.lexical_digits.specs.Laws.Terms.{is_supported, is_digit, rule_of, stop}
+use Rattle.lexical_digits.specs.Laws.Terms.{is_digit, stop}
 use Rattle.lexical_digits.proofs.Rule.Supported.{supported_rule}
-use Rattle.digit_literals.specs.After.{digits_between}
-use Rattle.digit_literals.specs.Integers.{IsIntegerFrom, HasNoDigitFrom, IsTooLargeFrom}
-use Rattle.digit_literals.specs.Numbers.{IsFaultFrom}
-use Rattle.digit_literals.specs.declared.parse.ParseError.{ParseError}
+use Rattle.digit_literals.specs.declared.LiteralError.TheVariants.{Empty, Overflow}
+use Rattle.digit_literals.specs.declared.slice.ReadTo.{ReadTo}
+use Rattle.digit_literals.specs.After.{digits_between, ExceedsAt}
+use Rattle.digit_literals.specs.Integers.{value_to, integer_at}
+use Rattle.digit_literals.specs.Reads.{ReadsTo, integer_of}
+use Rattle.digit_literals.proofs.ForCallers.{stop_within, stops}
 use Rattle.digit_literals.proofs.Significant.{value_grows}
+use Rattle.digit_literals.proofs.UpToStop.{some_before_stop}
 
 -- the digits of more bytes are worth no less
 rises : (radix : ℕ) (p : ℕ → Bool) (m n : ℕ) (ys : List ℕ) (v : ℕ) → 1 ≤ radix → m ≤ n
@@ -20,43 +25,113 @@ rises radix p (suc m) zero ys v one l = absurd (omega arith)
 rises radix p (suc m) (suc n) [] v one l = omega arith
 rises radix p (suc m) (suc n) (y ∷ ys) v one l = grind (arith, rises radix p m n ys)
 
-module _ (word : ℕ) (text : List ℕ) (start most : ℕ) (h : IsTrue (is_supported word)) where
-  abbrev rule : Rule
-  rule = rule_of word Integer
+-- the first of some numbers is found
+found : (p : ℕ → Bool) (n a r : ℕ) → a ≤ r → r < a + n → p r ≡ true
+    → ((q : ℕ) → a ≤ q → q < r → p q ≡ false) → find p (range_with_len a n) ≡ Some r
+found p zero a r low high is before = absurd (omega arith)
+found p (suc n) a r low high is before = grind (arith, before, found p n (a + 1) r)
 
-  abbrev value_to : ℕ → ℕ
-  value_to end = digits_value rule.radix (digits_between rule text start end)
+module _ (rule : Rule) (text : List ℕ) (start most : ℕ) (low : 2 ≤ rule.radix) where
+  abbrev end : ℕ
+  end = stop rule text start 0
 
-  value_rises : (a b : ℕ) → a ≤ b → value_to a ≤ value_to b
-  value_rises a b l = rises rule.radix (is_digit rule) (a - start) (b - start) (drop start text) 0
-      (omega (arith, (supported_rule word Integer h).low)) (omega (arith, l))
+  value_rises : (a b : ℕ) → a ≤ b → value_to rule text start a ≤ value_to rule text start b
+  value_rises a b l =
+      rises rule.radix (is_digit rule) (a - start) (b - start) (drop start text) 0 (omega (arith, low))
+      (omega (arith, l))
 
-  -- it is too large with all digits before the stop as well, and no other digit is the first
-  pub too_large : (at : ℕ) → IsTooLargeFrom rule text start most at
-      → (most < value_to (stop rule text start 0))
-      × ((b : ℕ) → IsTooLargeFrom rule text start most b → at ≡ b)
-  too_large at h = (
-    grind (arith, value_rises (at + 1) (stop rule text start 0)),
-    λ b i. grind (arith, value_rises (at + 1) b, value_rises (b + 1) at),
-  )
+  -- one with which it is above `most`, the first
+  pub over_at : (at : ℕ) → start ≤ length text → ExceedsAt rule text start 0 0 most at
+      → integer_at rule text start most ≡ Err (Overflow at)
+  unfolding integer_at
+  over_at at within h =
+      let over : ℕ → Bool = λ q. nat_lt most (value_to rule text start (q + 1)) in
+      let some = some_before_stop rule text start most at h in
+      let high = stop_within rule text start 0 within in
+      let first = found over (length text - start) start at h.onward
+      (omega (arith, h.before_stop, high)) (grind (arith, nat_tests, h.passes))
+      (λ q a b. grind (arith, nat_tests, h.fits, value_rises (q + 1) at)) in
+      let more = value_rises (at + 1) end (omega (arith, h.before_stop)) in
+      grind (arith, nat_tests, first, some, more, h.passes)
 
-  pub not_none : (value end at : ℕ) → IsIntegerFrom rule text start most value end
-      → HasNoDigitFrom rule text start at → ⊥
-  not_none value end at i n = grind arith
+module _ (rule : Rule) (text : List ℕ) (start most : ℕ) where
+  -- digits up to the stop, whose value is at most `most`
+  pub some_at : 0 < length (digits_between rule text start (stop rule text start 0))
+      → value_to rule text start (stop rule text start 0) ≤ most
+      → integer_at rule text start most
+      ≡ Ok (value_to rule text start (stop rule text start 0), stop rule text start 0)
+  unfolding integer_at
+  some_at some fits = grind (arith, nat_tests)
 
-  pub not_large : (value end over : ℕ) → IsIntegerFrom rule text start most value end
-      → IsTooLargeFrom rule text start most over → ⊥
-  not_large value end over i t = grind (arith, too_large over t)
+  -- none
+  pub none_at : length (digits_between rule text start (stop rule text start 0)) ≡ 0
+      → integer_at rule text start most ≡ Err (Empty (stop rule text start 0))
+  unfolding integer_at
+  none_at none = grind (arith, nat_tests)
 
-  pub none_not_large : (at over : ℕ) → HasNoDigitFrom rule text start at
-      → IsTooLargeFrom rule text start most over → ⊥
-  none_not_large at over n t = grind (arith, too_large over t)
+-- what a reader answers of digits that it read up to a greatest value
+module _ (rule : Rule) (text : List ℕ) (start given most : ℕ) (low : 2 ≤ rule.radix)
+    (within : start ≤ length text) (fits : given ≤ most) where
+  pub integer_is : (read : ReadTo) (is_empty : Bool)
+      → ReadsTo rule text start 0 (Some given) read 0 → is_empty ≡ (read.count == 0)
+      → (read.is_too_large ≡ true → given ≡ most)
+      → integer_of read is_empty ≡ integer_at rule text start most
+  integer_is read is_empty reads empty same =
+      let over = over_at rule text start most low read.end within in
+      let some = some_at rule text start most in
+      let none = none_at rule text start most in
+      grind (arith, nat_tests, over, some, none, reads.stops, reads.exceeds, reads.digits, reads.worth, empty, fits, same)
 
-  pub not_fault : (value : ℕ) (error : ParseError)
-      → IsIntegerFrom rule text start most value (length text)
-      → IsFaultFrom rule text start most error → ⊥
-  not_fault value error i f = let over = too_large in grind arith
+-- the digits up to the stop, where one of them is too large for a smaller value
+pub wide_at : (given rule : Rule) (text : List ℕ) (start least at most value end : ℕ)
+    → given ≡ rule → ExceedsAt rule text start 0 0 least at → end ≡ stop rule text start 0
+    → value ≡ digits_value given.radix (digits_between given text start end) → value ≤ most
+    → integer_at rule text start most ≡ Ok (value, end)
+wide_at given rule text start least at most value end same large ends is fits =
+    let some = some_before_stop rule text start least at large in
+    grind (arith, same, ends, is, fits, some_at rule text start most some)
 
-  pub same_fault : (one other : ParseError) → IsFaultFrom rule text start most one
-      → IsFaultFrom rule text start most other → one ≡ other
-  same_fault one other f g = let over = too_large in grind arith
+-- ---- up to a greater number
+
+-- the first of some numbers is none before them
+not_before : (p : ℕ → Bool) (n a b end : ℕ) → b ≤ a → b ≤ end
+    → b ≤ unwrap_or (find p (range_with_len a n)) end
+not_before p zero a b end low high = high
+not_before p (suc n) a b end low high = grind (arith, not_before p n (a + 1) b end)
+
+-- the first of which less is asked is no later
+sooner : (p q : ℕ → Bool) (n a end : ℕ) → ((b : ℕ) → q b ≡ true → p b ≡ true)
+    → (0 < n → a + n ≤ end)
+    → unwrap_or (find p (range_with_len a n)) end ≤ unwrap_or (find q (range_with_len a n)) end
+sooner p q zero a end less within = omega arith
+sooner p q (suc n) a end less within = grind (
+  arith,
+  less a,
+  sooner p q n (a + 1) end less (λ _. omega (arith, within)),
+  not_before q n (a + 1) a end,
+  within,
+)
+
+module _ (rule : Rule) (text : List ℕ) (start most more : ℕ) where
+  pub reads_more : (value end : ℕ) → most ≤ more → integer_at rule text start most ≡ Ok (value, end)
+      → integer_at rule text start more ≡ Ok (value, end)
+  unfolding integer_at
+  reads_more value end l is = grind (arith, nat_tests, l, is)
+
+  pub empty_too : (at : ℕ) → integer_at rule text start most ≡ Err (Empty at)
+      → integer_at rule text start more ≡ Err (Empty at)
+  unfolding integer_at
+  empty_too at is = grind (arith, nat_tests, is)
+
+  pub over_later : (over beyond : ℕ) → most ≤ more
+      → integer_at rule text start most ≡ Err (Overflow over)
+      → integer_at rule text start more ≡ Err (Overflow beyond) → over ≤ beyond
+  unfolding integer_at
+  over_later over beyond l is large =
+      let first = sooner (λ at. nat_lt most (value_to rule text start (at + 1)))
+      (λ at. nat_lt more (value_to rule text start (at + 1))) (length text - start) start
+      (length text) (λ at h. grind (arith, nat_tests, l, h)) (λ some. omega (arith, some)) in
+      grind (arith, nat_tests, is, large, first)
+
+-- to be named in an attribute
+pub ruleset outcomes = (some_at, none_at, over_at, stops, some_before_stop, supported_rule)

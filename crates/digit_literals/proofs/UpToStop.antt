@@ -3,8 +3,7 @@ use Rattle.std.proofs.Common.{◌≡◌, ℕ, ◌+◌, ◌<◌, ◌≤◌, List,
 use Rattle.std.specs.Str.Parse.{digits_value}
 use Rattle.lexical_digits.specs.Stop.{stop}
 use Rattle.lexical_digits.specs.declared.skip.rule.Rule.{Rule}
-use Rattle.digit_literals.specs.After.{digits_between}
-use Rattle.digit_literals.specs.Integers.{IsIntegerFrom, IsTooLargeFrom}
+use Rattle.digit_literals.specs.After.{digits_between, ExceedsAt}
 use Rattle.digit_literals.proofs.Between.{fewer_between}
 
 -- digits of a value above a number are some
@@ -14,21 +13,9 @@ some_above radix most (d ∷ ds) h = omega arith
 
 -- there are digits before the stop, if one of them is too large
 pub some_before_stop : (rule : Rule) (text : List ℕ) (start most at : ℕ)
-    → IsTooLargeFrom rule text start most at
+    → ExceedsAt rule text start 0 0 most at
     → 0 < length (digits_between rule text start (stop rule text start 0))
 some_before_stop rule text start most at h =
     let some = some_above rule.radix most (digits_between rule text start (at + 1)) h.passes in
     let end = stop rule text start 0 in
     omega (arith, some, fewer_between rule text start (at + 1) end (omega (arith, h.before_stop)))
-
--- what was read of them is the integer
-pub is_integer : (given rule : Rule) (text : List ℕ) (start least at most value end : ℕ)
-    → given ≡ rule → IsTooLargeFrom rule text start least at → end ≡ stop rule text start 0
-    → value ≡ digits_value given.radix (digits_between given text start end) → value ≤ most
-    → IsIntegerFrom rule text start most value end
-is_integer given rule text start least at most value end same large ends is fits = record {
-  ends = ends;
-  some = rw ends (some_before_stop rule text start least at large);
-  is = rw (← same) is;
-  fits = fits;
-}

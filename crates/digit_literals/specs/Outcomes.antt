@@ -1,5 +1,5 @@
 -- What reading the digits that lead an iterator answers, and what it leaves.
-use Rattle.std.specs.Prelude.{◌≡◌, ⊤, ℕ, ℤ, ◌+◌, ◌-◌, ◌*◌, ◌^◌, ◌<◌, ◌≤◌, pos, ◌≤ℤ◌, ◌+ℤ◌, List, [], ◌++◌, length, take, codes, decimal, Result, Ok, Err}
+use Rattle.std.specs.Prelude.{◌≡◌, ⊤, ℕ, ℤ, ◌+◌, ◌-◌, ◌*◌, ◌^◌, ◌<◌, ◌≤◌, pos, ◌≤ℤ◌, ◌+ℤ◌, List, [], length, take, Result, Ok, Err}
 use Rattle.std.specs.Fn.{iterate}
 use Rattle.std.specs.Str.Parse.{digits_value, digits_value_after}
 use Rattle.lexical_format.specs.Digits.{is_digit_of_radix}
@@ -8,12 +8,6 @@ use Rattle.digit_literals.specs.declared.LiteralError.{LiteralError}
 use Rattle.digit_literals.specs.declared.LiteralError.TheVariants.{Empty, Overflow}
 use Rattle.digit_literals.specs.declared.reading.Digits.{Digits}
 use Rattle.digit_literals.specs.declared.reading.TooLarge.{TooLarge}
-
--- what is printed of an error
-abbrev pub literal_message : LiteralError → List ℕ
-literal_message (Empty at) = codes "there is no digit at " ++ decimal at
-literal_message (Overflow at) =
-    codes "the number is too large with the digit at " ++ decimal at
 
 -- a fact for one error, with its position
 abbrev pub IfEmpty : {T : Type 0} → Result T LiteralError → (ℕ → Type 0) → Type 0

@@ -1,14 +1,14 @@
 //! The integer that a text begins with, how many digits it has, and where the digits of a component
 //! end. No `Bytes` is made where the slice is enough.
 
-ghost use Rattle.std.specs.Prelude.{◌≡◌, ◌==◌, ◌-◌, ◌<◌, ◌≤◌, None, Some, length, filter, IfSome, IfOk, IfErr, IsTrue};
+ghost use Rattle.std.specs.Prelude.{◌≡◌, ◌==◌, ◌-◌, ◌^◌, ◌<◌, ◌≤◌, None, Some, length, filter, IfSome, IfOk, IfErr, IsTrue};
 ghost use Rattle.lexical_format.specs.Word.{is_supported};
 ghost use Rattle.lexical_digits.specs.declared.skip.component.Component.TheVariants.{Integer};
 ghost use Rattle.lexical_digits.specs.Separators.{is_digit};
 ghost use Rattle.lexical_digits.specs.State.{rule_of};
 ghost use Rattle.lexical_digits.specs.Stop.{stop};
 ghost use Rattle.digit_literals.specs.Outcomes.{IfEmpty, IfOverflow};
-ghost use Rattle.digit_literals.specs.Integers.{IsInteger, HasNoDigit, IsTooLarge, ReadsFrom};
+ghost use Rattle.digit_literals.specs.Integers.{integer_at};
 ghost use Rattle.digit_literals.specs.Reads.{ReadsTo, IsFirst, integer_of};
 
 use super::LiteralError;
@@ -31,10 +31,8 @@ use lexical_digits::skip::{Bytes, Component, Rule};
 #[inline(always)]
 pub fn read_integer(text: &[u8], word: u128) -> Result<(u64, usize), LiteralError>
     requires { IsTrue (is_supported word) }
-    ensures ok { IfOk result (λ read. IsInteger (rule_of word Integer) text.now read.0 read.1) }
-    ensures empty { IfEmpty result (λ at. HasNoDigit (rule_of word Integer) text.now at) }
-    ensures overflow { IfOverflow result (λ at. IsTooLarge (rule_of word Integer) text.now at) }
-    ensures end { IfOk result (λ read. read.1 ≤ length text.now) }
+    ensures is { result ≡ integer_at (rule_of word Integer) text.now 0 (2 ^ 64 - 1) }
+    ensures end { IfOk result (λ read. (0 < read.1) × (read.1 ≤ length text.now)) }
     ensures empty_at { IfEmpty result (λ at. at ≤ length text.now) }
     ensures overflow_at { IfOverflow result (λ at. at < length text.now) }
 {
@@ -60,9 +58,10 @@ pub fn read_integer_from(
 ) -> Result<(u64, usize), LiteralError>
     requires supported { IsTrue (is_supported word) }
     requires within { start ≤ length text.now }
-    ensures reads { ReadsFrom (rule_of word Integer) text.now start most result }
+    ensures is { result ≡ integer_at (rule_of word Integer) text.now start most }
+    ensures fits { IfOk result (λ read. read.0 ≤ most) }
     ensures end { let n = length text.now in
-        IfOk result (λ read. (start ≤ read.1) × (read.1 ≤ n)) }
+        IfOk result (λ read. (start < read.1) × (read.1 ≤ n)) }
     ensures empty_at { let n = length text.now in
         IfEmpty result (λ at. (start ≤ at) × (at ≤ n)) }
     ensures overflow_at { let n = length text.now in
@@ -78,7 +77,7 @@ pub fn read_integer_from(
 
 /// [`read_integer_from`], where the digit at `start` may be known.
 #[inline(always)]
-#[tactic(auto, using(crate::proofs::ForCallers::stops))]
+#[tactic(auto, using(crate::proofs::Texts::outcomes))]
 pub(super) fn read_integer_on(
     text: &[u8],
     word: u128,
@@ -90,9 +89,10 @@ pub(super) fn read_integer_on(
     requires within { start ≤ length text.now }
     requires first { let r = rule_of word Integer in
         IfSome first (IsFirst r text.now start 0 (Some most)) }
-    ensures reads { ReadsFrom (rule_of word Integer) text.now start most result }
+    ensures is { result ≡ integer_at (rule_of word Integer) text.now start most }
+    ensures fits { IfOk result (λ read. read.0 ≤ most) }
     ensures end { let n = length text.now in
-        IfOk result (λ read. (start ≤ read.1) × (read.1 ≤ n)) }
+        IfOk result (λ read. (start < read.1) × (read.1 ≤ n)) }
     ensures empty_at { let n = length text.now in
         IfEmpty result (λ at. (start ≤ at) × (at ≤ n)) }
     ensures overflow_at { let n = length text.now in

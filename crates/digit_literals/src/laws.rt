@@ -1,10 +1,9 @@
-//! Laws: what is left after a [`TooLarge`](crate::TooLarge), the outcomes of numbers of any type,
-//! and of an integer by its iterator.
+//! Laws: what is left after a [`TooLarge`](crate::TooLarge), the first digits, and the integer that an
+//! iterator reads.
 
-ghost use Rattle.std.specs.Prelude.{◌≡◌, ℕ, ℤ, ◌+◌, ◌-◌, ◌^◌, ◌<◌, List, ◌++◌, length, IsTrue};
-ghost use Rattle.lexical_format.specs.Word.{is_supported};
-ghost use Rattle.lexical_digits.specs.declared.skip.component.Component.TheVariants.{Integer};
+ghost use Rattle.std.specs.Prelude.{◌≡◌, ℕ, ◌+◌, ◌-◌, ◌^◌, ◌<◌, ◌≤◌, List, ◌++◌, Ok, Err};
 ghost use Rattle.lexical_digits.specs.declared.skip.component.Component.{Component};
+ghost use Rattle.lexical_digits.specs.declared.skip.component.Component.TheVariants.{Integer};
 ghost use Rattle.lexical_digits.specs.State.{State, IsState, rule, own, rule_of};
 ghost use Rattle.lexical_digits.specs.CallTable.{place_of, settled, taken};
 ghost use Rattle.digit_literals.specs.After.{ExceedsAt};
@@ -12,10 +11,9 @@ ghost use Rattle.digit_literals.specs.Rest.{LeavesRest};
 ghost use Rattle.digit_literals.specs.First.{ReadsFirst};
 ghost use Rattle.digit_literals.specs.Significant.{IsOfFirstDigits};
 ghost use Rattle.digit_literals.specs.declared.first.FirstDigits.{FirstDigits};
-ghost use Rattle.digit_literals.specs.Integers.{IsIntegerFrom, HasNoDigitFrom, IsTooLargeFrom};
+ghost use Rattle.digit_literals.specs.Integers.{integer_at};
 ghost use Rattle.digit_literals.specs.Outcomes.{ReadsAll, FindsNone, PassesMost};
-ghost use Rattle.digit_literals.specs.Numbers.{IsNumberFrom, IsNumberFault, digits_from, most_from};
-ghost use Rattle.digit_literals.specs.declared.parse.ParseError.{ParseError};
+ghost use Rattle.digit_literals.specs.declared.LiteralError.TheVariants.{Empty, Overflow};
 
 pub mod flags;
 
@@ -53,36 +51,21 @@ pub fn first_go_on(radix: u32, digits: u32, most: u64, before: FirstDigits, read
         IsOfFirstDigits radix digits (others ++ all) read.value (before.dropped + read.dropped) }
 {}
 
-/// From each start no text has two numbers of a type, nor two outcomes of
-/// [`read_number_from`](crate::read_number_from), nor a number and a fault of
-/// [`parse_number_from`](crate::parse_number_from), nor two faults. This holds of any type, by its
-/// greatest number and the magnitude of its least. Requires that the word is supported.
-pub fn numbers_have_no_fault(text: &[u8], word: u128)
-    requires { IsTrue (is_supported word) }
-    ensures one { (least most start end other : ℕ) (value another : ℤ) →
+/// Two readings from one start up to different greatest values. What is read up to the lesser is
+/// read up to the greater: the same value and end. Without a digit both say so, at one position. If
+/// both are too large, the lesser is passed no later. So what
+/// [`read_number`](crate::read_number) reads of a `u32`, it reads of a `u64`.
+pub fn greater_reads_more(text: &[u8], word: u128)
+    ensures reads { (start most more value end : ℕ) → most ≤ more → let r = rule_of word Integer in
+        integer_at r text.now start most ≡ Ok (value, end) →
+        integer_at r text.now start more ≡ Ok (value, end) }
+    ensures empty { (start most more at : ℕ) → let r = rule_of word Integer in
+        integer_at r text.now start most ≡ Err (Empty at) →
+        integer_at r text.now start more ≡ Err (Empty at) }
+    ensures later { (start most more over beyond : ℕ) → most ≤ more →
         let r = rule_of word Integer in
-        IsNumberFrom least most r text.now start value end →
-        IsNumberFrom least most r text.now start another other →
-        (value ≡ another) × (end ≡ other) }
-    ensures none { (least most start end at : ℕ) (value : ℤ) → let r = rule_of word Integer in
-        IsNumberFrom least most r text.now start value end →
-        HasNoDigitFrom r text.now (digits_from least text.now start) at → ⊥ }
-    ensures large { (least most start end over : ℕ) (value : ℤ) → let r = rule_of word Integer in
-        IsNumberFrom least most r text.now start value end →
-        IsTooLargeFrom r text.now (digits_from least text.now start)
-        (most_from least most r text.now start) over → ⊥ }
-    ensures none_or_large { (least most start at over : ℕ) → let r = rule_of word Integer in
-        let from = digits_from least text.now start in
-        HasNoDigitFrom r text.now from at →
-        IsTooLargeFrom r text.now from (most_from least most r text.now start) over → ⊥ }
-    ensures fault { (least most start : ℕ) (value : ℤ) (error : ParseError) →
-        let r = rule_of word Integer in
-        IsNumberFrom least most r text.now start value (length text.now) →
-        IsNumberFault least most r text.now start error → ⊥ }
-    ensures one_fault { (least most start : ℕ) (one other : ParseError) →
-        let r = rule_of word Integer in
-        IsNumberFault least most r text.now start one →
-        IsNumberFault least most r text.now start other → one ≡ other }
+        integer_at r text.now start most ≡ Err (Overflow over) →
+        integer_at r text.now start more ≡ Err (Overflow beyond) → over ≤ beyond }
 {}
 
 /// On a `Bytes` that has counted no digit, [`read_digits`](crate::read_digits) by a component
@@ -92,13 +75,13 @@ pub fn read_integer_is_read_digits()
     ensures ok { (k : Component) (s left : State) (value : ℕ) → IsState s → own k s ≡ 0 →
         ReadsAll (λ (m : State). m.buffer) (λ m. m.cursor) (place_of k) (taken k) (settled k)
         (rule k s).radix s value left →
-        IsIntegerFrom (rule k s) s.buffer s.cursor (2 ^ 64 - 1) value left.cursor }
+        integer_at (rule k s) s.buffer s.cursor (2 ^ 64 - 1) ≡ Ok (value, left.cursor) }
     ensures empty { (k : Component) (s left : State) (at : ℕ) → IsState s → own k s ≡ 0 →
         FindsNone (λ (m : State). m.buffer) (λ m. m.cursor) (place_of k) (taken k) (settled k)
         (rule k s).radix s at left →
-        HasNoDigitFrom (rule k s) s.buffer s.cursor at }
+        integer_at (rule k s) s.buffer s.cursor (2 ^ 64 - 1) ≡ Err (Empty at) }
     ensures overflow { (k : Component) (s left : State) (over : ℕ) → IsState s → own k s ≡ 0 →
         PassesMost (λ (m : State). m.buffer) (λ m. m.cursor) (place_of k) (taken k) (settled k)
         (rule k s).radix s over left →
-        IsTooLargeFrom (rule k s) s.buffer s.cursor (2 ^ 64 - 1) over }
+        integer_at (rule k s) s.buffer s.cursor (2 ^ 64 - 1) ≡ Err (Overflow over) }
 {}

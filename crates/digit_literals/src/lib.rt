@@ -9,7 +9,8 @@
 //! are and where they end.
 #![tactic(auto)]
 
-ghost use Rattle.std.specs.Prelude.{ℕ, ◌≤◌};
+ghost use Rattle.std.specs.Prelude.{◌≡◌, ℕ, ◌≤◌};
+ghost use Rattle.digit_literals.specs.Errors.{literal_position};
 ghost use Rattle.digit_literals.specs.Outcomes.{ReadsAll, FindsNone, PassesMost};
 
 mod component;
@@ -46,9 +47,21 @@ pub enum LiteralError {
     Overflow(usize),
 }
 
+impl LiteralError {
+    /// The position that it holds.
+    #[inline(always)]
+    pub fn position(&self) -> usize
+        ensures { result ≡ literal_position self.now }
+    {
+        match *self {
+            LiteralError::Empty(at) | LiteralError::Overflow(at) => at,
+        }
+    }
+}
+
 impl fmt::Display for LiteralError {
     ghost use Rattle.std.specs.Prelude.{Some};
-    ghost use Rattle.digit_literals.specs.Outcomes.{literal_message};
+    ghost use Rattle.digit_literals.specs.Errors.{literal_message};
 
     ghost output = { λ e. Some (literal_message e) };
 

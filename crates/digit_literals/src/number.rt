@@ -1,12 +1,12 @@
 //! Numbers of any integer type.
 
-ghost use Rattle.std.specs.Prelude.{◌≡◌, ℕ, ℤ, ◌+◌, ◌^◌, ◌-◌, ◌<◌, ◌≤◌, pos, if◌then◌else◌, Some, length, false, IfSome, IfOk, IfErr, IsTrue};
+ghost use Rattle.std.specs.Prelude.{◌≡◌, ℕ, ℤ, ◌+◌, ◌^◌, ◌-◌, ◌<◌, ◌≤◌, pos, if◌then◌else◌, Some, Ok, Err, length, false, IfSome, IfOk, IfErr, MatchResult, IsTrue};
 ghost use Rattle.lexical_format.specs.Word.{is_supported};
 ghost use Rattle.lexical_digits.specs.declared.skip.component.Component.TheVariants.{Integer};
 ghost use Rattle.lexical_digits.specs.State.{rule_of};
 ghost use Rattle.digit_literals.specs.Outcomes.{IfEmpty, IfOverflow};
 ghost use Rattle.digit_literals.specs.Errors.{position};
-ghost use Rattle.digit_literals.specs.Numbers.{IsNumberFrom, ReadsNumber, IsNumberFault, digits_from, is_negative_from, signed};
+ghost use Rattle.digit_literals.specs.Numbers.{number_at, to_end, digits_from, is_negative_from, signed};
 ghost use Rattle.digit_literals.specs.Reads.{IsFirst};
 
 use super::slice::first_digit;
@@ -329,10 +329,11 @@ pub fn read_number_from<T: Integer>(
 ) -> Result<(T, usize), LiteralError>
     requires supported { IsTrue (is_supported word) }
     requires within { start ≤ length text.now }
-    ensures reads { let r = rule_of word Integer in
-        ReadsNumber T.MIN_MAGNITUDE T.MAX r text.now start T.number result }
+    ensures is { let r = rule_of word Integer in MatchResult result
+        (λ read. number_at T.MIN_MAGNITUDE T.MAX r text.now start ≡ Ok (T.number read.0, read.1))
+        (λ error. number_at T.MIN_MAGNITUDE T.MAX r text.now start ≡ Err error) }
     ensures end { let n = length text.now in
-        IfOk result (λ read. (start ≤ read.1) × (read.1 ≤ n)) }
+        IfOk result (λ read. (start < read.1) × (read.1 ≤ n)) }
     ensures empty_at { let n = length text.now in
         IfEmpty result (λ at. (start ≤ at) × (at ≤ n)) }
     ensures overflow_at { let n = length text.now in
@@ -356,14 +357,12 @@ pub fn read_number_from<T: Integer>(
 /// `x=-1_29` with internal `_`, `parse_number_from::<i8>` from 2: Err(Overflow(6))
 /// ```
 #[inline(always)]
-#[tactic(auto, using(crate::proofs::ForCallers::stop_within))]
 pub fn parse_number_from<T: Integer>(text: &[u8], word: u128, start: usize) -> Result<T, ParseError>
     requires supported { IsTrue (is_supported word) }
     requires within { start ≤ length text.now }
-    ensures ok { let r = rule_of word Integer in IfOk result (λ value.
-        IsNumberFrom T.MIN_MAGNITUDE T.MAX r text.now start (T.number value) (length text.now)) }
-    ensures fault { let r = rule_of word Integer in
-        IfErr result (IsNumberFault T.MIN_MAGNITUDE T.MAX r text.now start) }
+    ensures is { let r = rule_of word Integer in
+        let read = to_end text.now (number_at T.MIN_MAGNITUDE T.MAX r text.now start) in
+        MatchResult result (λ value. read ≡ Ok (T.number value)) (λ error. read ≡ Err error) }
     ensures fault_at { let n = length text.now in
         IfErr result (λ error. (start ≤ position error) × (position error ≤ n)) }
 {
@@ -396,10 +395,9 @@ pub fn parse_number_from<T: Integer>(text: &[u8], word: u128, start: usize) -> R
 #[inline(always)]
 pub fn parse_number<T: Integer>(text: &[u8], word: u128) -> Result<T, ParseError>
     requires { IsTrue (is_supported word) }
-    ensures ok { let r = rule_of word Integer in IfOk result (λ value.
-        IsNumberFrom T.MIN_MAGNITUDE T.MAX r text.now 0 (T.number value) (length text.now)) }
-    ensures fault { let r = rule_of word Integer in
-        IfErr result (IsNumberFault T.MIN_MAGNITUDE T.MAX r text.now 0) }
+    ensures is { let r = rule_of word Integer in
+        let read = to_end text.now (number_at T.MIN_MAGNITUDE T.MAX r text.now 0) in
+        MatchResult result (λ value. read ≡ Ok (T.number value)) (λ error. read ≡ Err error) }
     ensures fault_at { let n = length text.now in IfErr result (λ error. position error ≤ n) }
 {
     parse_number_from::<T>(text, word, 0)
@@ -414,9 +412,10 @@ pub fn parse_number<T: Integer>(text: &[u8], word: u128) -> Result<T, ParseError
 #[inline(always)]
 pub fn read_number<T: Integer>(text: &[u8], word: u128) -> Result<(T, usize), LiteralError>
     requires { IsTrue (is_supported word) }
-    ensures reads { let r = rule_of word Integer in
-        ReadsNumber T.MIN_MAGNITUDE T.MAX r text.now 0 T.number result }
-    ensures end { IfOk result (λ read. read.1 ≤ length text.now) }
+    ensures is { let r = rule_of word Integer in MatchResult result
+        (λ read. number_at T.MIN_MAGNITUDE T.MAX r text.now 0 ≡ Ok (T.number read.0, read.1))
+        (λ error. number_at T.MIN_MAGNITUDE T.MAX r text.now 0 ≡ Err error) }
+    ensures end { IfOk result (λ read. (0 < read.1) × (read.1 ≤ length text.now)) }
     ensures empty_at { IfEmpty result (λ at. at ≤ length text.now) }
     ensures overflow_at { IfOverflow result (λ at. at < length text.now) }
 {

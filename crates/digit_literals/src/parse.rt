@@ -1,20 +1,46 @@
 //! Why a text is no number throughout.
 
-ghost use Rattle.std.specs.Prelude.{Some};
-ghost use Rattle.digit_literals.specs.Errors.{message};
+ghost use Rattle.std.specs.Prelude.{◌≡◌, Some};
+ghost use Rattle.digit_literals.specs.Errors.{position, message, parse_error};
 
+use super::LiteralError;
 use std::error::Error;
 use std::fmt;
 
 /// The first fault of a text that is no number of its type. A position counts bytes from 0.
 #[derive(Clone, Copy, Debug, PartialEq, Eq)]
 pub enum ParseError {
-    /// The text has no digit, and no other byte that is kept. The position is its end.
+    /// The text has no digit, and no other byte that is kept. The position is its end. One that was
+    /// a [`LiteralError`] may also hold the first kept byte, which is no digit.
     Empty(usize),
     /// The byte at this position is kept, and is no digit.
     Invalid(usize),
     /// With the digit at this position the value is above the greatest one.
     Overflow(usize),
+}
+
+impl ParseError {
+    /// The position that it holds.
+    #[inline(always)]
+    pub fn position(&self) -> usize
+        ensures { result ≡ position self.now }
+    {
+        match *self {
+            ParseError::Empty(at) | ParseError::Invalid(at) | ParseError::Overflow(at) => at,
+        }
+    }
+}
+
+impl From<LiteralError> for ParseError {
+    ghost from_gives = { λ e r. r ≡ parse_error e };
+
+    #[inline(always)]
+    fn from(e: LiteralError) -> ParseError {
+        match e {
+            LiteralError::Empty(at) => ParseError::Empty(at),
+            LiteralError::Overflow(at) => ParseError::Overflow(at),
+        }
+    }
 }
 
 impl fmt::Display for ParseError {

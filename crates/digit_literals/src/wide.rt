@@ -1,15 +1,16 @@
 //! Integers that may have more than 64 bits.
 
-ghost use Rattle.std.specs.Prelude.{◌≡◌, ◌+◌, ◌-◌, ◌*◌, ◌^◌, ◌<◌, ◌≤◌, Some, length, true, false, IfOk, IfErr, IfSome, IsTrue, SomeIff};
+ghost use Rattle.std.specs.Prelude.{◌≡◌, ◌+◌, ◌-◌, ◌*◌, ◌^◌, ◌<◌, ◌≤◌, Some, Ok, Err, length, true, false, IfOk, IfErr, IfSome, IsTrue, SomeIff};
 ghost use Rattle.std.specs.Str.Parse.{digits_value};
 ghost use Rattle.lexical_format.specs.Word.{is_supported};
 ghost use Rattle.lexical_digits.specs.declared.skip.component.Component.TheVariants.{Integer};
 ghost use Rattle.lexical_digits.specs.State.{rule_of};
 ghost use Rattle.lexical_digits.specs.Stop.{stop};
-ghost use Rattle.digit_literals.specs.After.{digits_between};
+ghost use Rattle.digit_literals.specs.After.{digits_between, ExceedsAt};
 ghost use Rattle.digit_literals.specs.Outcomes.{IfEmpty, IfOverflow};
-ghost use Rattle.digit_literals.specs.Integers.{ReadsFrom, IsIntegerFrom, IsTooLargeFrom};
+ghost use Rattle.digit_literals.specs.Integers.{integer_at};
 ghost use Rattle.digit_literals.specs.Reads.{IsFirst};
+ghost use Rattle.digit_literals.specs.declared.LiteralError.TheVariants.{Overflow};
 
 use super::LiteralError;
 use super::integer::{integer_of, read_integer_on, read_told, stop_from};
@@ -35,9 +36,10 @@ pub fn read_wide_from(
 ) -> Result<(u128, usize), LiteralError>
     requires supported { IsTrue (is_supported word) }
     requires within { start ≤ length text.now }
-    ensures reads { ReadsFrom (rule_of word Integer) text.now start most result }
+    ensures is { result ≡ integer_at (rule_of word Integer) text.now start most }
+    ensures fits { IfOk result (λ read. read.0 ≤ most) }
     ensures end { let n = length text.now in
-        IfOk result (λ read. (start ≤ read.1) × (read.1 ≤ n)) }
+        IfOk result (λ read. (start < read.1) × (read.1 ≤ n)) }
     ensures empty_at { let n = length text.now in
         IfEmpty result (λ at. (start ≤ at) × (at ≤ n)) }
     ensures overflow_at { let n = length text.now in
@@ -59,9 +61,10 @@ pub(super) fn read_wide_on(
     requires within { start ≤ length text.now }
     requires first { let r = rule_of word Integer in
         IfSome first (IsFirst r text.now start 0 (Some most)) }
-    ensures reads { ReadsFrom (rule_of word Integer) text.now start most result }
+    ensures is { result ≡ integer_at (rule_of word Integer) text.now start most }
+    ensures fits { IfOk result (λ read. read.0 ≤ most) }
     ensures end { let n = length text.now in
-        IfOk result (λ read. (start ≤ read.1) × (read.1 ≤ n)) }
+        IfOk result (λ read. (start < read.1) × (read.1 ≤ n)) }
     ensures empty_at { let n = length text.now in
         IfEmpty result (λ at. (start ≤ at) × (at ≤ n)) }
     ensures overflow_at { let n = length text.now in
@@ -99,18 +102,21 @@ struct Wide {
 /// the value of the digits before it.
 #[cold]
 #[inline(never)]
-#[tactic(auto, using(crate::proofs::Onward::bounds))]
+#[tactic(auto, using(crate::proofs::Texts::outcomes))]
 fn read_beyond(text: &[u8], word: u128, start: usize, at: usize, before: u64, most: u128) -> Wide
     requires supported { IsTrue (is_supported word) }
     requires within { start ≤ length text.now }
-    requires beyond { IsTooLargeFrom (rule_of word Integer) text.now start (2 ^ 64 - 1) at }
+    requires beyond { ExceedsAt (rule_of word Integer) text.now start 0 0 (2 ^ 64 - 1) at }
     requires before { let r = rule_of word Integer in
         before ≡ digits_value r.radix (digits_between r text.now start at) }
     ensures ok { let r = rule_of word Integer in result.is_too_large ≡ false →
-        IsIntegerFrom r text.now start most result.value result.end }
+        integer_at r text.now start most ≡ Ok (result.value, result.end) }
     ensures overflow { let r = rule_of word Integer in result.is_too_large ≡ true →
-        IsTooLargeFrom r text.now start most result.end }
-    ensures end { (start ≤ result.end) × (result.end ≤ length text.now) }
+        integer_at r text.now start most ≡ Err (Overflow result.end) }
+    ensures fits { result.is_too_large ≡ false → result.value ≤ most }
+    ensures onward { start ≤ result.end }
+    ensures end { result.is_too_large ≡ false → start < result.end }
+    ensures within { result.end ≤ length text.now }
     ensures overflow_at { result.is_too_large ≡ true → result.end < length text.now }
 {
     if let Some((value, end)) = read_pieces(text, word, start, at, before) {
@@ -203,7 +209,7 @@ fn read_pieces(
 ) -> Option<(u128, usize)>
     requires supported { IsTrue (is_supported word) }
     requires within { start ≤ length text.now }
-    requires beyond { IsTooLargeFrom (rule_of word Integer) text.now start (2 ^ 64 - 1) from }
+    requires beyond { ExceedsAt (rule_of word Integer) text.now start 0 0 (2 ^ 64 - 1) from }
     requires before { let r = rule_of word Integer in
         before ≡ digits_value r.radix (digits_between r text.now start from) }
     ensures ends { IfSome result (λ read. read.1 ≡ stop (rule_of word Integer) text.now start 0) }
