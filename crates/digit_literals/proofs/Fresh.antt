@@ -52,4 +52,4 @@ module _ (k : Component) (s : State) (v : IsState s) (fresh : own k s ≡ 0) whe
       let low = (supported_rule s.word k v.word).low in
       let exceeds : ExceedsAt r s.buffer s.cursor 0 0 (2 ^ 64 - 1) over =
       grind (arith, fresh, leads, nth) in
-      over_at r s.buffer s.cursor (2 ^ 64 - 1) low over v.within exceeds
+      over_at r s.buffer s.cursor (2 ^ 64 - 1) low v.within over exceeds

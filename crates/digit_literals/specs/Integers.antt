@@ -1,12 +1,12 @@
 -- The integer that begins at a position of a text, and why there is none.
-use Rattle.std.specs.Prelude.{ℕ, ◌+◌, ◌-◌, ◌==◌, nat_lt, if◌then◌else◌, List, length, find, unwrap_or, Result, Ok, Err}
+use Rattle.std.specs.Prelude.{◌≡◌, ℕ, ◌<◌, ◌≤◌, [], ◌+◌, ◌-◌, ◌==◌, nat_lt, if◌then◌else◌, List, length, find, unwrap_or, Result, Ok, Err}
 use Rattle.std.specs.List.{range_with_len}
 use Rattle.std.specs.Str.Parse.{digits_value}
 use Rattle.lexical_digits.specs.declared.skip.rule.Rule.{Rule}
 use Rattle.lexical_digits.specs.Stop.{stop}
 use Rattle.digit_literals.specs.declared.LiteralError.{LiteralError}
 use Rattle.digit_literals.specs.declared.LiteralError.TheVariants.{Empty, Overflow}
-use Rattle.digit_literals.specs.After.{digits_between}
+use Rattle.digit_literals.specs.After.{digits_between, ExceedsAt}
 
 module _ (rule : Rule) (text : List ℕ) (start : ℕ) where
   -- the value of the digits up to a position
@@ -27,3 +27,21 @@ module _ (rule : Rule) (text : List ℕ) (start : ℕ) where
       if length (digits_between rule text start end) == 0 then Err (Empty end)
       else if nat_lt most (value_to end) then Err (Overflow (first_over most))
       else Ok (value_to end, end)
+
+  -- ---- what each outcome says
+
+  -- there are digits before the stop, and their value is at most `most`
+  pub record IsIntegerFrom (most value end : ℕ) : Type 0 where
+    pub ends : end ≡ stop rule text start 0
+    pub some : 0 < length (digits_between rule text start end)
+    pub is : value ≡ value_to end
+    pub fits : value ≤ most
+
+  -- there is none
+  pub record HasNoDigitFrom (at : ℕ) : Type 0 where
+    pub stops : at ≡ stop rule text start 0
+    pub none : digits_between rule text start at ≡ []
+
+  -- the one at this position is the first with which the value is above `most`
+  abbrev pub IsTooLargeFrom : ℕ → ℕ → Type 0
+  IsTooLargeFrom most at = ExceedsAt rule text start 0 0 most at

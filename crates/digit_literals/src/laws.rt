@@ -1,7 +1,8 @@
 //! Laws: what is left after a [`TooLarge`](crate::TooLarge), the first digits, and the integer that an
 //! iterator reads.
 
-ghost use Rattle.std.specs.Prelude.{◌≡◌, ℕ, ◌+◌, ◌-◌, ◌^◌, ◌<◌, ◌≤◌, List, ◌++◌, Ok, Err};
+ghost use Rattle.std.specs.Prelude.{◌≡◌, ℕ, ◌+◌, ◌-◌, ◌^◌, ◌<◌, ◌≤◌, ◌↔◌, List, ◌++◌, length, Ok, Err, IsTrue};
+ghost use Rattle.lexical_format.specs.Word.{is_supported};
 ghost use Rattle.lexical_digits.specs.declared.skip.component.Component.{Component};
 ghost use Rattle.lexical_digits.specs.declared.skip.component.Component.TheVariants.{Integer};
 ghost use Rattle.lexical_digits.specs.State.{State, IsState, rule, own, rule_of};
@@ -11,7 +12,7 @@ ghost use Rattle.digit_literals.specs.Rest.{LeavesRest};
 ghost use Rattle.digit_literals.specs.First.{ReadsFirst};
 ghost use Rattle.digit_literals.specs.Significant.{IsOfFirstDigits};
 ghost use Rattle.digit_literals.specs.declared.first.FirstDigits.{FirstDigits};
-ghost use Rattle.digit_literals.specs.Integers.{integer_at};
+ghost use Rattle.digit_literals.specs.Integers.{integer_at, IsIntegerFrom, HasNoDigitFrom, IsTooLargeFrom};
 ghost use Rattle.digit_literals.specs.Outcomes.{ReadsAll, FindsNone, PassesMost};
 ghost use Rattle.digit_literals.specs.declared.LiteralError.TheVariants.{Empty, Overflow};
 
@@ -49,6 +50,22 @@ pub fn first_go_on(radix: u32, digits: u32, most: u64, before: FirstDigits, read
         IsOfFirstDigits radix digits others before.value before.dropped →
         ReadsFirst r most before.value all read →
         IsOfFirstDigits radix digits (others ++ all) read.value (before.dropped + read.dropped) }
+{}
+
+/// What each outcome of [`read_integer_from`](crate::read_integer_from) says: there are digits
+/// before the stop, and their value is at most `most`; there is none; or the one at this position
+/// is the first with which the value is above `most`. Requires that the word is supported.
+pub fn outcomes_say(text: &[u8], word: u128)
+    requires { IsTrue (is_supported word) }
+    ensures ok { (start most value end : ℕ) → let r = rule_of word Integer in
+        integer_at r text.now start most ≡ Ok (value, end) ↔
+        IsIntegerFrom r text.now start most value end }
+    ensures empty { (start most at : ℕ) → let r = rule_of word Integer in
+        integer_at r text.now start most ≡ Err (Empty at) ↔ HasNoDigitFrom r text.now start at }
+    ensures overflow { (start most at : ℕ) → start ≤ length text.now →
+        let r = rule_of word Integer in
+        integer_at r text.now start most ≡ Err (Overflow at) ↔
+        IsTooLargeFrom r text.now start most at }
 {}
 
 /// Two readings from one start up to different greatest values. What is read up to the lesser is

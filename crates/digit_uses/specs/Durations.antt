@@ -1,10 +1,11 @@
 -- A length of time in parts, as `1h30m`: each an integer and a unit.
-use Rattle.std.specs.Prelude.{◌≡◌, ℕ, ◌+◌, ◌-◌, ◌*◌, ◌^◌, ◌<◌, if◌then◌else◌, List, Option, Some, None}
+use Rattle.std.specs.Prelude.{◌≡◌, ℕ, ◌+◌, ◌-◌, ◌*◌, ◌^◌, ◌<◌, if◌then◌else◌, List, Option, Some, None, Result, Ok, Err}
 use Rattle.lexical_digits.specs.State.{rule_of}
-use Rattle.lexical_digits.specs.Stop.{stop}
 use Rattle.lexical_digits.specs.declared.skip.component.Component.TheVariants.{Integer}
 use Rattle.lexical_format.specs.declared.words.TheConstants.{PYTHON_LITERAL}
-use Rattle.digit_literals.specs.Integers.{IsIntegerFrom, HasNoDigitFrom, IsTooLargeFrom}
+use Rattle.digit_literals.specs.declared.LiteralError.{LiteralError}
+use Rattle.digit_literals.specs.declared.LiteralError.TheVariants as literals
+use Rattle.digit_literals.specs.Integers.{integer_at}
 use Rattle.digit_literals.specs.Numbers.{stands}
 use Rattle.digit_uses.specs.declared.durations.Fault.{Fault}
 use Rattle.digit_uses.specs.declared.durations.Cause.{Cause}
@@ -21,17 +22,17 @@ module _ (text : List ℕ) where
       else if stands text at 115 then Some (1000, at + 1)
       else None
 
-  -- where the digits end that begin at a position
-  abbrev pub digits_end : ℕ → ℕ
-  digits_end start = stop (rule_of PYTHON_LITERAL Integer) text start 0
+  -- the integer at a position, and where it ends
+  abbrev pub value_at : ℕ → Result (ℕ × ℕ) LiteralError
+  value_at start = integer_at (rule_of PYTHON_LITERAL Integer) text start (2 ^ 32 - 1)
 
   -- an integer and its unit, worth so many milliseconds
   pub record IsPart (start worth end : ℕ) : Type 0 where
     pub value : ℕ
     pub factor : ℕ
-    pub integer : IsIntegerFrom (rule_of PYTHON_LITERAL Integer) text start (2 ^ 32 - 1) value
-        (digits_end start)
-    pub unit : unit_at (digits_end start) ≡ Some (factor, end)
+    pub at : ℕ
+    pub integer : value_at start ≡ Ok (value, at)
+    pub unit : unit_at at ≡ Some (factor, end)
     pub is : worth ≡ value * factor
 
   -- the text up to a position is parts that are worth so much together
@@ -40,12 +41,17 @@ module _ (text : List ℕ) where
     more : (start before worth end sum : ℕ) → Sums start before → IsPart start worth end
         → sum ≡ before + worth → Sums end sum
 
+  -- an integer without a unit
+  pub record HasNoUnit (start at : ℕ) : Type 0 where
+    pub value : ℕ
+    pub integer : value_at start ≡ Ok (value, at)
+    pub unit : unit_at at ≡ None
+
   -- why there is no part here
   abbrev pub IsCause : ℕ → Cause → Type 0
-  IsCause start (Empty at) = HasNoDigitFrom (rule_of PYTHON_LITERAL Integer) text start at
-  IsCause start (TooLarge at) =
-      IsTooLargeFrom (rule_of PYTHON_LITERAL Integer) text start (2 ^ 32 - 1) at
-  IsCause start (NoUnit at) = (at ≡ digits_end start) × (unit_at at ≡ None)
+  IsCause start (Empty at) = value_at start ≡ Err (literals.Empty at)
+  IsCause start (TooLarge at) = value_at start ≡ Err (literals.Overflow at)
+  IsCause start (NoUnit at) = HasNoUnit start at
 
   -- there is none after these parts
   pub record IsNoPart (start : ℕ) (why : Cause) : Type 0 where

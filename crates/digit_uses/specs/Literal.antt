@@ -1,8 +1,8 @@
 -- Rust's integer literals with the name of a type.
-use Rattle.std.specs.Prelude.{◌≡◌, ℕ, ◌-◌, ◌^◌, ◌<◌, ◌≤◌, if◌then◌else◌, List, drop, codes, bytes_eq, Option, Some, None}
+use Rattle.std.specs.Prelude.{◌≡◌, ℕ, ◌-◌, ◌^◌, ◌<◌, ◌≤◌, if◌then◌else◌, List, drop, codes, bytes_eq, Option, Some, None, Ok, Err}
 use Rattle.digit_languages.specs.declared.literal.Literal.{Literal}
 use Rattle.digit_languages.specs.declared.languages.TheConstants.{RUST}
-use Rattle.digit_languages.specs.Literals.{IsLiteral, IsNoLiteral}
+use Rattle.digit_languages.specs.Literals.{literal_at}
 use Rattle.digit_uses.specs.declared.literal.Suffix.{Suffix}
 use Rattle.digit_uses.specs.declared.literal.Suffix.TheVariants.{Absent, U8, U16, U32, U64, U128}
 use Rattle.digit_uses.specs.declared.literal.LiteralFault.{LiteralFault}
@@ -31,7 +31,7 @@ most_of U128 = 2 ^ 128 - 1
 module _ (text : List ℕ) where
   -- the text begins with this literal
   abbrev pub Begins : Literal → Type 0
-  Begins read = IsLiteral RUST text 0 (2 ^ 128 - 1) read
+  Begins read = literal_at RUST text 0 (2 ^ 128 - 1) ≡ Ok read
 
   -- the text is this literal and the name of its type
   pub record IsTyped (read : Literal) (suffix : Suffix) : Type 0 where
@@ -52,6 +52,6 @@ module _ (text : List ℕ) where
 
   -- why the text isn't one
   abbrev pub IsTypedFault : LiteralFault → Type 0
-  IsTypedFault (Number error) = IsNoLiteral RUST text 0 (2 ^ 128 - 1) error
+  IsTypedFault (Number error) = literal_at RUST text 0 (2 ^ 128 - 1) ≡ Err error
   IsTypedFault (Name read) = IsUnnamed read
   IsTypedFault (Range read suffix) = IsOutOfRange read suffix

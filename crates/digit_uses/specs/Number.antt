@@ -1,5 +1,5 @@
 -- A lexer's number: an integer literal of a language, or a float.
-use Rattle.std.specs.Prelude.{◌≡◌, ℕ, ◌-◌, ◌^◌, Bool, true, false, ◌||◌, List}
+use Rattle.std.specs.Prelude.{◌≡◌, ℕ, ◌-◌, ◌^◌, Bool, true, false, ◌||◌, List, pos, Ok, Err}
 use Rattle.std.specs.Float.{Float, NotNan, binary64}
 use Rattle.lexical_digits.specs.State.{rule_of}
 use Rattle.lexical_digits.specs.Stop.{stop}
@@ -8,7 +8,7 @@ use Rattle.digit_floats.specs.Bytes.{stands, is_point, is_mark}
 use Rattle.digit_floats.specs.Float as floats
 use Rattle.digit_floats.specs.Float.{past_sign, float_at, float_end}
 use Rattle.digit_languages.specs.declared.language.Language.{Language}
-use Rattle.digit_languages.specs.Literals.{HasDigits, is_refused, IsNoLiteral}
+use Rattle.digit_languages.specs.Literals.{literal_at, typed}
 use Rattle.digit_uses.specs.declared.number.Number.{Number}
 use Rattle.digit_uses.specs.declared.number.Number.TheVariants as variants
 use Rattle.digit_uses.specs.declared.number.NumberError.{NumberError}
@@ -26,8 +26,7 @@ module _ (l : Language) (text : List ℕ) (start : ℕ) where
   -- the integer literal here, by its prefix or its first `0`
   pub record IsInteger (value end : ℕ) : Type 0 where
     pub decides : is_float ≡ false
-    pub digits : HasDigits l text start (2 ^ 128 - 1) value end
-    pub allowed : is_refused l text start value end ≡ false
+    pub literal : typed (literal_at l text start (2 ^ 128 - 1)) ≡ Ok (pos value, end)
 
   -- the float here, rounded once
   pub record IsFloat (x : Float) (end : ℕ) : Type 0 where
@@ -43,6 +42,6 @@ module _ (l : Language) (text : List ℕ) (start : ℕ) where
   -- why there is none
   abbrev pub IsFault : NumberError → Type 0
   IsFault (errors.Integer error) =
-      (is_float ≡ false) × IsNoLiteral l text start (2 ^ 128 - 1) error
+      (is_float ≡ false) × (literal_at l text start (2 ^ 128 - 1) ≡ Err error)
   IsFault (errors.Float error) =
       (is_float ≡ true) × floats.IsFault l.decimal text (past_sign text start) error

@@ -1,16 +1,16 @@
 //! The blocks of the page CALLING.md, in its order. `.ci/pages` compares the two.
 
-ghost use Rattle.std.specs.Prelude.{◌≡◌, ◌+◌, ◌-◌, ◌^◌, length, IfOk, IfErr, IfSome, IsTrue};
+ghost use Rattle.std.specs.Prelude.{◌≡◌, ◌+◌, ◌-◌, ◌^◌, length, Ok, IfOk, IfErr, IfSome, IsTrue};
 ghost use Rattle.std.specs.Float.{binary64};
 ghost use Rattle.lexical_format.specs.Word.{is_supported};
 ghost use Rattle.lexical_digits.specs.State.{rule_of};
 ghost use Rattle.lexical_digits.specs.Stop.{stop};
 ghost use Rattle.lexical_digits.specs.declared.skip.component.Component.TheVariants.{Integer};
 ghost use Rattle.digit_literals.specs.After.{digits_between};
-ghost use Rattle.digit_literals.specs.Integers.{IsIntegerFrom};
-ghost use Rattle.digit_literals.specs.Numbers.{IsNumberFrom, IsNumberFault};
+ghost use Rattle.digit_literals.specs.Integers.{integer_at};
+ghost use Rattle.digit_literals.specs.Numbers.{number_at, to_end};
 ghost use Rattle.digit_floats.specs.Float.{past_sign, float_at, IsWholeFault};
-ghost use Rattle.digit_languages.specs.Literals.{IsLiteral, IsNoLiteral};
+ghost use Rattle.digit_languages.specs.Literals.{literal_at};
 
 use digit_floats::{FloatError, parse_float};
 use digit_languages::languages::RUST;
@@ -29,10 +29,8 @@ use std::alloc::{AllocError, Global};
 /// The height that a text is: `-1_000` gives -1000, and `1_000m` gives `Invalid(5)`.
 #[tactic(auto, unfolding(lexical_format::proofs::OnLiterals::lexical_on_literals))]
 pub fn parse_height(text: &[u8]) -> Result<i32, ParseError>
-    ensures ok { let r = rule_of PYTHON_LITERAL Integer in IfOk result (λ value.
-        IsNumberFrom (2 ^ 31) (2 ^ 31 - 1) r text.now 0 value (length text.now)) }
-    ensures fault { let r = rule_of PYTHON_LITERAL Integer in
-        IfErr result (IsNumberFault (2 ^ 31) (2 ^ 31 - 1) r text.now 0) }
+    ensures { let r = rule_of PYTHON_LITERAL Integer in
+        result ≡ to_end text.now (number_at (2 ^ 31) (2 ^ 31 - 1) r text.now 0) }
 {
     parse_number::<i32>(text, PYTHON_LITERAL)
 }
@@ -51,7 +49,7 @@ pub fn parse_rate(text: &[u8]) -> Result<f64, FloatError>
 #[tactic(auto, unfolding(lexical_format::proofs::OnLiterals::lexical_on_literals))]
 pub fn read_size(text: &[u8]) -> Result<(u32, u32, usize), LiteralError>
     ensures { let r = rule_of PYTHON_LITERAL Integer in IfOk result (λ size.
-        IsIntegerFrom r text.now (stop r text.now 0 0 + 1) (2 ^ 32 - 1) size.1 size.2) }
+        integer_at r text.now (stop r text.now 0 0 + 1) (2 ^ 32 - 1) ≡ Ok (size.1, size.2)) }
 {
     let (width, end) = read_number::<u32>(text, PYTHON_LITERAL)?;
     if end == text.len() || text[end] != b'x' {
@@ -65,8 +63,7 @@ pub fn read_size(text: &[u8]) -> Result<(u32, u32, usize), LiteralError>
 /// its end, where the suffix begins.
 #[tactic(auto, unfolding(lexical_format::proofs::OnLiterals::lexical_on_literals))]
 pub fn read_mask(text: &[u8]) -> Result<Literal, LanguageError>
-    ensures ok { IfOk result (IsLiteral RUST text.now 0 (2 ^ 16 - 1)) }
-    ensures none { IfErr result (IsNoLiteral RUST text.now 0 (2 ^ 16 - 1)) }
+    ensures { result ≡ literal_at RUST text.now 0 (2 ^ 16 - 1) }
 {
     read_literal(text, 0, RUST, u128::from(u16::MAX))
 }

@@ -2,7 +2,7 @@
 //!
 //! Proof by hand: none.
 
-ghost use Rattle.std.specs.Prelude.{◌≡◌, ℕ, List, ◌++◌, ◌+◌, ◌*◌, ◌-◌, ◌^◌, ◌<◌, ◌≤◌, length, IfSome, OnSome, IfOk, OnOk, IsTrue};
+ghost use Rattle.std.specs.Prelude.{◌≡◌, ℕ, List, ◌++◌, ◌+◌, ◌*◌, ◌-◌, ◌^◌, ◌<◌, ◌≤◌, length, IfSome, OnSome, Ok, IfOk, OnOk, IsTrue};
 ghost use Rattle.std.specs.Str.Parse.{digits_value};
 ghost use Rattle.lexical_format.specs.Digits.{is_digit_of_radix};
 ghost use Rattle.lexical_format.specs.Word.{is_supported};
@@ -11,7 +11,7 @@ ghost use Rattle.lexical_digits.specs.CallTable.{zeros_of, past_zeros_of};
 ghost use Rattle.lexical_digits.specs.Stop.{after_leading, stop_of, leading_digits_of, past_digits_of};
 ghost use Rattle.lexical_digits.specs.declared.skip.component.Component.TheVariants.{Integer, Fraction};
 ghost use Rattle.digit_literals.specs.After.{IsDigits};
-ghost use Rattle.digit_literals.specs.Integers.{IsInteger, IsIntegerFrom};
+ghost use Rattle.digit_literals.specs.Integers.{integer_at};
 ghost use Rattle.digit_literals.specs.Outcomes.{digits};
 ghost use Rattle.digit_literals.specs.Significant.{IsOfFirstDigits};
 ghost use Rattle.digit_uses.specs.Bytes.{past_component, past_leading};
@@ -104,9 +104,9 @@ type Range = ((u64, usize), (u64, usize));
 pub fn read_range(text: &[u8], word: u128) -> Result<Range, LiteralError>
     requires { IsTrue (is_supported word) }
     ensures first { IfOk result (λ read. let one = read.0 in
-        IsInteger (rule_of word Integer) text.now one.0 one.1) }
+        integer_at (rule_of word Integer) text.now 0 (2 ^ 64 - 1) ≡ Ok one) }
     ensures second { IfOk result (λ read. let one = read.0 in let other = read.1 in
-        IsIntegerFrom (rule_of word Integer) text.now (one.1 + 1) (2 ^ 64 - 1) other.0 other.1) }
+        integer_at (rule_of word Integer) text.now (one.1 + 1) (2 ^ 64 - 1) ≡ Ok other) }
 {
     let (value, end) = read_integer(text, word)?;
     if end == text.len() {
