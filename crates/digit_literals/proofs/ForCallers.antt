@@ -1,7 +1,7 @@
 -- For those who call the readers of this crate: what a proof over their answers needs again and
 -- again. These stay.
 use Rattle.std.proofs.Common.{◌≡◌, ℕ, zero, suc, ◌+◌, ◌-◌, ◌*◌, ◌^◌, ◌<◌, ◌≤◌, Bool, true, List, [], ◌∷◌, ◌++◌, length, take, drop, slice_index, refl, sym, ◌∙◌, arith, add-one, length-append}
-use Rattle.std.specs.Prelude.{Some, None}
+use Rattle.std.specs.Prelude.{Some, None, Err}
 use native.Mathlib.Numerals.{unary_clauses}
 use Rattle.std.specs.Char.{digit_value}
 use Rattle.std.specs.List.{filter, slice_range}
@@ -18,8 +18,10 @@ use Rattle.lexical_digits.specs.Stop.{stop, stop_of, leading_digits_of, past_dig
 use Rattle.lexical_digits.specs.State.{State, IsState, rule}
 use Rattle.lexical_digits.specs.declared.skip.component.Component.{Component}
 use Rattle.lexical_digits.proofs.Calls.FirstOther.{stop_is_first}
-use Rattle.digit_literals.specs.After.{digits_between, digits_to, past_digits_to, IsReadTo, ExceedsAt}
+use Rattle.digit_literals.specs.After.{digits_between, digits_to, past_digits_to, IsReadTo}
 use Rattle.digit_literals.specs.declared.reading.TooLarge.{TooLarge}
+use Rattle.digit_literals.specs.declared.LiteralError.TheVariants.{Overflow}
+use Rattle.digit_literals.specs.Integers.{integer_at}
 use Rattle.digit_literals.specs.Rest.{LeavesRest}
 use Rattle.digit_literals.specs.First.{ReadsFirst}
 use Rattle.digit_literals.specs.Significant.{IsOfFirstDigits}
@@ -74,16 +76,18 @@ unfolding is_digit
 all_digits rule [] = tt
 all_digits rule (x ∷ xs) = grind (arith, nat_tests, value_is rule.radix x, all_digits rule xs)
 
--- a text of at most n digits has none with which the value is too large, where as many of the
--- highest digit fit
+-- a text of at most n digits isn't too large, where as many of the highest digit fit
 pub few_digits_fit : (rule : Rule) (text : List ℕ) (at n : ℕ)
-    → ExceedsAt rule text 0 0 0 (2 ^ 64 - 1) at
-    → 1 ≤ rule.radix → rule.radix ^ n ≤ 2 ^ 64 → length (filter (is_digit rule) text) ≤ n → ⊥
+    → integer_at rule text 0 (2 ^ 64 - 1) ≡ Err (Overflow at) → 1 ≤ rule.radix
+    → rule.radix ^ n ≤ 2 ^ 64 → length (filter (is_digit rule) text) ≤ n → ⊥
+unfolding integer_at
 few_digits_fit rule text at n h some fits few =
-    let read : List ℕ = digits_between rule text 0 (at + 1) in
+    let end = stop rule text 0 0 in
+    let read : List ℕ = digits_between rule text 0 end in
+    let large : 2 ^ 64 - 1 < digits_value rule.radix read = grind (arith, nat_tests, h) in
     let below = digits_value-lt rule.radix read (all_digits rule _) in
-    let at_most : length read ≤ n = omega (arith, few, fewer (is_digit rule) (at + 1 - 0) text) in
-    omega (arith, fits, h.passes, below, pow-le-pow_right {n = rule.radix} some at_most)
+    let at_most : length read ≤ n = omega (arith, few, fewer (is_digit rule) (end - 0) text) in
+    omega (arith, fits, large, below, pow-le-pow_right {n = rule.radix} some at_most)
 
 -- ---- digits after the value of others
 

@@ -1,4 +1,4 @@
--- The outcome of an integer in a text, case by case.
+-- The outcome of an integer in a text, case by case; `says` stays, for those who call.
 use Rattle.std.proofs.Common.{◌≡◌, ℕ, zero, suc, ◌+◌, ◌-◌, ◌<◌, ◌≤◌, Bool, true, false, List, [], ◌∷◌, length, take, drop, find, unwrap_or, arith, add-one, filter}
 use Rattle.std.specs.Prelude.{Some, Ok, Err, nat_lt, ◌==◌}
 use Rattle.std.specs.List.{range_with_len}
@@ -126,6 +126,9 @@ module _ (rule : Rule) (text : List ℕ) (start most : ℕ) where
       → HasNoDigitFrom rule text start at
   unfolding integer_at
   says_none at is = grind (arith, nat_tests, is, nil_from_length (digits_between rule text start at))
+
+-- what an answer says, for those who call; to be named in an attribute
+pub ruleset says = (says_some, says_none)
 
 -- what a reader answers of digits that it read up to a greatest value
 module _ (rule : Rule) (text : List ℕ) (start given most : ℕ) (low : 2 ≤ rule.radix)

@@ -1,5 +1,5 @@
 -- A length of time in parts, as `1h30m`: each an integer and a unit.
-use Rattle.std.specs.Prelude.{◌≡◌, ℕ, ◌+◌, ◌-◌, ◌*◌, ◌^◌, ◌<◌, if◌then◌else◌, List, Option, Some, None, Result, Ok, Err}
+use Rattle.std.specs.Prelude.{◌≡◌, ℕ, ◌+◌, ◌-◌, ◌*◌, ◌^◌, ◌<◌, if◌then◌else◌, List, Option, Some, None, Result, Ok, Err, IsOkAnd}
 use Rattle.lexical_digits.specs.State.{rule_of}
 use Rattle.lexical_digits.specs.declared.skip.component.Component.TheVariants.{Integer}
 use Rattle.lexical_format.specs.declared.words.TheConstants.{PYTHON_LITERAL}
@@ -41,17 +41,12 @@ module _ (text : List ℕ) where
     more : (start before worth end sum : ℕ) → Sums start before → IsPart start worth end
         → sum ≡ before + worth → Sums end sum
 
-  -- an integer without a unit
-  pub record HasNoUnit (start at : ℕ) : Type 0 where
-    pub value : ℕ
-    pub integer : value_at start ≡ Ok (value, at)
-    pub unit : unit_at at ≡ None
-
   -- why there is no part here
   abbrev pub IsCause : ℕ → Cause → Type 0
   IsCause start (Empty at) = value_at start ≡ Err (literals.Empty at)
   IsCause start (TooLarge at) = value_at start ≡ Err (literals.Overflow at)
-  IsCause start (NoUnit at) = HasNoUnit start at
+  IsCause start (NoUnit at) =
+      IsOkAnd (value_at start) (λ read. read.1 ≡ at) × (unit_at at ≡ None)
 
   -- there is none after these parts
   pub record IsNoPart (start : ℕ) (why : Cause) : Type 0 where

@@ -1,6 +1,6 @@
 //! The blocks of the page CALLING.md, in its order. `.ci/pages` compares the two.
 
-ghost use Rattle.std.specs.Prelude.{◌≡◌, ◌+◌, ◌-◌, ◌^◌, length, Ok, IfOk, IfErr, IfSome, IsTrue};
+ghost use Rattle.std.specs.Prelude.{◌≡◌, ℕ, ◌+◌, ◌-◌, ◌^◌, length, Ok, IfOk, IfErr, IfSome, IsTrue};
 ghost use Rattle.std.specs.Float.{binary64};
 ghost use Rattle.lexical_format.specs.Word.{is_supported};
 ghost use Rattle.lexical_digits.specs.State.{rule_of};
@@ -48,8 +48,9 @@ pub fn parse_rate(text: &[u8]) -> Result<f64, FloatError>
 /// The size that a text begins with, and where it ends: `1_920x1_080 px` gives `(1920, 1080, 11)`.
 #[tactic(auto, unfolding(lexical_format::proofs::OnLiterals::lexical_on_literals))]
 pub fn read_size(text: &[u8]) -> Result<(u32, u32, usize), LiteralError>
-    ensures { let r = rule_of PYTHON_LITERAL Integer in IfOk result (λ size.
-        integer_at r text.now (stop r text.now 0 0 + 1) (2 ^ 32 - 1) ≡ Ok (size.1, size.2)) }
+    ensures { let r = rule_of PYTHON_LITERAL Integer in IfOk result (λ size. (end : ℕ)
+        × (integer_at r text.now 0 (2 ^ 32 - 1) ≡ Ok (size.0, end))
+        × (integer_at r text.now (end + 1) (2 ^ 32 - 1) ≡ Ok (size.1, size.2))) }
 {
     let (width, end) = read_number::<u32>(text, PYTHON_LITERAL)?;
     if end == text.len() || text[end] != b'x' {
