@@ -2,11 +2,17 @@ mod AsStd
 mod Cut
 mod CutOff
 mod Decimals
+mod First
 mod Huge
 mod Kept
+mod NearBetween
+mod NearFloats
+mod NearProduct
+mod NearRows
 mod Numbers
 mod Outcomes
 mod Plain
 mod Signs
+mod Squeeze
 mod Tens
 mod Written

@@ -49,7 +49,7 @@ ten_at xs i d t h = row xs 0 i i d t h (omega arith)
 
 -- ---- one operation
 
-whole : (f : Format) (w : ℕ) → w ≤ 2 ^ prec f → HasValue (of_int f (pos w)) false w 1
+pub whole : (f : Format) (w : ℕ) → w ≤ 2 ^ prec f → HasValue (of_int f (pos w)) false w 1
 unfolding of_int
 whole f w h = round_whole f false w h
 

@@ -2,4 +2,5 @@ pub mod Bytes
 pub mod Cut
 pub mod Exact
 pub mod Float
+pub mod Near
 pub mod Separators

@@ -1,22 +1,24 @@
 //! The nearest `f64` or `f32` of a text with digit separators.
 #![tactic(auto)]
 
-ghost use Rattle.std.specs.Prelude.{◌≡◌, ◌<◌, ◌≤◌, ◌*◌, ◌^◌, false, IfSome, length, Some, None, MatchOption, IsTrue, IfOk, IfErr, OnOk};
+ghost use Rattle.std.specs.Prelude.{◌≡◌, ◌+◌, ◌<◌, ◌≤◌, ◌*◌, ◌^◌, ℕ, false, IfSome, length, Some, None, MatchOption, IsTrue, IfOk, IfErr, OnOk};
 ghost use Rattle.std.specs.Float as Ieee;
 ghost use Rattle.std.specs.Float.{Format, NotNan, binary32, binary64};
 ghost use Rattle.std.specs.Float.Ieee.{neg, round};
 ghost use Rattle.std.specs.Float.Parse.{parse_float as std_float};
 ghost use Rattle.lexical_format.specs.Word.{is_supported};
+ghost use Rattle.digit_floats.specs.Near.{IsBetween};
 ghost use Rattle.digit_floats.specs.Float.{IsDecimal, past_sign, float_at, float_end, HasFloat, IsFault, IsWholeFault};
 
 mod exact;
 pub mod laws;
+mod powers;
 mod read;
 #[cfg(test)]
 mod tests;
 mod text;
 
-use exact::{round_exact, ten_to_f32, ten_to_f64};
+use exact::{nearest_f64, round_exact, round_near, ten_to_f32, ten_to_f64};
 use read::{read_exponent, read_mantissa, read_sign};
 use text::round_digits;
 
@@ -42,6 +44,15 @@ pub trait Float: Copy {
     fn over_ten_to(digits: u64, tens: u64) -> Option<Self>
         requires { 0 < digits }
         ensures { IfSome result (λ x. value x ≡ round format false digits (10 ^ tens)) };
+
+    /// The float nearest to all numbers from the digits to the digits and `more`, times
+    /// 10 ^ (power - 288), if one product tells.
+    fn nearest(digits: u64, more: u64, power: u64) -> Option<Self>
+        requires digits { 0 < digits }
+        requires more { (more ≤ 1) × (more * 2 ^ 58 ≤ digits) }
+        requires power { power < 577 }
+        ensures { IfSome result (λ x. (num den : ℕ) → 0 < den
+            → IsBetween num den digits (digits + more) power → value x ≡ round format false num den) };
 
     /// The float with the other sign.
     fn negated(self) -> Self
@@ -78,6 +89,11 @@ impl Float for f64 {
     }
 
     #[inline(always)]
+    fn nearest(digits: u64, more: u64, power: u64) -> Option<f64> {
+        nearest_f64(digits, more, power)
+    }
+
+    #[inline(always)]
     fn negated(self) -> f64 {
         -self
     }
@@ -110,6 +126,11 @@ impl Float for f32 {
             return None;
         }
         Some(digits as f32 / ten_to_f32(tens))
+    }
+
+    #[inline(always)]
+    fn nearest(_digits: u64, _more: u64, _power: u64) -> Option<f32> {
+        None
     }
 
     #[inline(always)]
@@ -164,6 +185,19 @@ pub fn read_float_from<F: Float>(
         if let Some(x) = round_exact::<F>(
             negative,
             mantissa.value,
+            places,
+            power.negative,
+            power.value,
+        ) {
+            return Ok((x, power.end));
+        }
+    }
+    if power.value <= 0xffff_ffff {
+        let cut = mantissa.dropped as u64;
+        if let Some(x) = round_near::<F>(
+            negative,
+            mantissa.value,
+            cut,
             places,
             power.negative,
             power.value,

@@ -6,6 +6,8 @@ ghost use Rattle.std.specs.Str.Parse.{digits_value, digits_value_after};
 ghost use Rattle.lexical_format.specs.Word.{is_supported};
 ghost use Rattle.lexical_digits.specs.State.{rule_of};
 ghost use Rattle.lexical_digits.specs.declared.skip.component.Component.TheVariants.{Integer};
+ghost use Rattle.digit_literals.specs.First.{ReadsFirst};
+ghost use Rattle.digit_floats.specs.Near.{IsCutAt};
 ghost use Rattle.digit_floats.specs.Bytes.{stands, is_minus, is_point, is_mark, IsPointed};
 ghost use Rattle.digit_floats.specs.Float.{IsDecimal, past_sign, digits_from, digits_end, fraction_digits, mantissa_end, exponent_digits, exponent_end, exponent_negative};
 
@@ -79,6 +81,8 @@ fn read_part(
         → filter is_ascii_digit (slice_range text.now at result.1)
         ≡ digits_from word text.now component at }
     ensures fits { result.0.value ≤ most }
+    ensures first { ReadsFirst (rule_of word component).radix most before
+        (digits_from word text.now component at) result.0 }
     ensures end { result.1 ≡ digits_end word text.now component at }
     ensures onward { at + result.0.count ≤ result.1 }
     ensures within { result.1 ≤ length text.now }
@@ -115,6 +119,11 @@ pub fn read_mantissa(text: &[u8], word: u128, at: usize) -> Mantissa
     ensures value { let e = digits_end word text.now Integer at in
         result.dropped ≡ 0 → result.value ≡ digits_value 10
         (digits_from word text.now Integer at ++ fraction_digits word text.now e) }
+    ensures first { let e = digits_end word text.now Integer at in
+        IsCutAt (digits_value 10
+        (digits_from word text.now Integer at ++ fraction_digits word text.now e))
+        result.value result.dropped }
+    ensures few_dropped { result.dropped < 2 ^ 63 }
     ensures digits { let e = digits_end word text.now Integer at in
         result.digits ≡ length (digits_from word text.now Integer at)
         + length (fraction_digits word text.now e) }

@@ -1,0 +1,103 @@
+-- The product of the digits and the row of a power of ten bounds the number.
+use Rattle.std.proofs.Common.{◌≡◌, ℕ, zero, suc, ◌+◌, ◌-◌, ◌*◌, ◌/◌, ◌%◌, ◌^◌, ◌<◌, ◌≤◌, refl, sym, ap, ◌∙◌, arith, mul-le-mul_right}
+use native.Mathlib.Nat.{mul-le-mul_left, mul-lt-mul_of_pos_right, le_of_mul-le-mul_right, le_trans, lt_of_le_of_lt, le_of_lt, mul-pos}
+use lib.Pow.{pow-add, pow_pos}
+use Rattle.digit_floats.specs.Near.{power_scale, IsRow, IsBetween}
+use Rattle.digit_floats.proofs.Tens.{ten_pos}
+
+module _ (num den N D S C Z P : ℕ) (pos_d : 0 < D) where
+  from : (h m t : ℕ) → h * P ≤ m * Z * t → t * (S * D) ≤ N * C → m * N * den ≤ num * D
+      → h * P * S * den ≤ num * Z * C
+  from h m t a b e =
+      let x : h * P * (S * D * den) ≤ m * Z * t * (S * D * den) = mul-le-mul_right (S * D * den) a in
+      let y : t * (S * D) * (m * Z * den) ≤ N * C * (m * Z * den) = mul-le-mul_right (m * Z * den) b in
+      let z : m * N * den * (Z * C) ≤ num * D * (Z * C) = mul-le-mul_right (Z * C) e in
+      let i : h * P * S * den * D ≡ h * P * (S * D * den) = grind arith in
+      let j : m * Z * t * (S * D * den) ≡ t * (S * D) * (m * Z * den) = grind arith in
+      let k : N * C * (m * Z * den) ≡ m * N * den * (Z * C) = grind arith in
+      let l : num * D * (Z * C) ≡ num * Z * C * D = grind arith in
+      le_of_mul-le-mul_right {k = D} (omega (arith, x, y, z, i, j, k, l)) pos_d
+
+  to : (g m t : ℕ) → m * Z * (t + 1) ≤ g * P → N * C ≤ (t + 1) * (S * D) → num * D ≤ m * N * den
+      → num * Z * C ≤ g * P * S * den
+  to g m t a b e =
+      let x : m * Z * (t + 1) * (S * D * den) ≤ g * P * (S * D * den) = mul-le-mul_right (S * D * den) a in
+      let y : N * C * (m * Z * den) ≤ (t + 1) * (S * D) * (m * Z * den) = mul-le-mul_right (m * Z * den) b in
+      let z : num * D * (Z * C) ≤ m * N * den * (Z * C) = mul-le-mul_right (Z * C) e in
+      let i : g * P * S * den * D ≡ g * P * (S * D * den) = grind arith in
+      let j : m * Z * (t + 1) * (S * D * den) ≡ (t + 1) * (S * D) * (m * Z * den) = grind arith in
+      let k : N * C * (m * Z * den) ≡ m * N * den * (Z * C) = grind arith in
+      let l : num * D * (Z * C) ≡ num * Z * C * D = grind arith in
+      le_of_mul-le-mul_right {k = D} (omega (arith, x, y, z, i, j, k, l)) pos_d
+
+-- the same in units of 2 ^ -1074
+module _ (num den P S Z C K L R : ℕ) (pos_z : 0 < Z) (a : P * S * R ≡ K * Z) (b : L ≡ C * R) where
+  unit_from : (h : ℕ) → h * P * S * den ≤ num * Z * C → h * K * den ≤ num * L
+  unit_from h p =
+      let x : h * P * S * den * R ≤ num * Z * C * R = mul-le-mul_right R p in
+      let i : h * P * S * den * R ≡ h * (P * S * R) * den = grind arith in
+      let j : h * (K * Z) * den ≡ h * K * den * Z = grind arith in
+      let k : num * Z * C * R ≡ num * (C * R) * Z = grind arith in
+      le_of_mul-le-mul_right {k = Z} (rw (b, ← j, ← a, ← i, ← k) x) pos_z
+
+  unit_to : (g : ℕ) → num * Z * C ≤ g * P * S * den → num * L ≤ g * K * den
+  unit_to g p =
+      let x : num * Z * C * R ≤ g * P * S * den * R = mul-le-mul_right R p in
+      let i : g * P * S * den * R ≡ g * (P * S * R) * den = grind arith in
+      let j : g * (K * Z) * den ≡ g * K * den * Z = grind arith in
+      let k : num * Z * C * R ≡ num * (C * R) * Z = grind arith in
+      le_of_mul-le-mul_right {k = Z} (rw (b, ← j, ← a, ← i, ← k) x) pos_z
+
+-- ---- the number is from h to h + 2 of these units, and more where digits were cut off
+
+module _ (num den m more q t z : ℕ) (r : IsRow q t) (b : IsBetween num den m (m + more) q) (top : m * 2 ^ z < 2 ^ 64) (few : z ≤ 63) where
+  abbrev pub unit : ℕ
+  unit = power_scale q + 68 - z + 51
+
+  abbrev pub high : ℕ
+  high = m * 2 ^ z * t / 2 ^ 65
+
+  abbrev pub width : ℕ
+  width = 2 + more * 2 ^ z
+
+  places : 2 ^ 65 * 2 ^ power_scale q * 2 ^ 54 ≡ 2 ^ unit * 2 ^ z
+  places =
+      ap (λ x. x * 2 ^ 54) (sym (pow-add 2 65 (power_scale q))) ∙ sym (pow-add 2 (65 + power_scale q) 54)
+      ∙ ap (λ x. 2 ^ x) (omega arith) ∙ pow-add 2 unit z
+
+  least : 2 ^ 1074 ≡ 2 ^ 1020 * 2 ^ 54
+  least = refl
+
+  pub above_high : high * 2 ^ unit * den ≤ num * 2 ^ 1074
+  above_high =
+      let a : high * 2 ^ 65 ≤ m * 2 ^ z * t = omega arith in
+      unit_from num den (2 ^ 65) (2 ^ power_scale q) (2 ^ z) (2 ^ 1020) (2 ^ unit) (2 ^ 1074) (2 ^ 54)
+      (pow_pos z) places least high
+      (from num den (10 ^ (q - 288)) (10 ^ (288 - q)) (2 ^ power_scale q) (2 ^ 1020) (2 ^ z) (2 ^ 65)
+      (ten_pos (288 - q)) high m t a r.from b.from)
+
+  pub below_high : num * 2 ^ 1074 ≤ (high + width) * 2 ^ unit * den
+  below_high =
+      let s : (m + more) * 2 ^ z * (t + 1) ≡ m * 2 ^ z * t + m * 2 ^ z + more * 2 ^ z * (t + 1) = grind arith in
+      let w : more * 2 ^ z * (t + 1) ≤ more * 2 ^ z * 2 ^ 64 = mul-le-mul_left (more * 2 ^ z) (omega (arith, r.fits)) in
+      let a : (m + more) * 2 ^ z * (t + 1) ≤ (high + width) * 2 ^ 65 = omega (arith, s, w) in
+      unit_to num den (2 ^ 65) (2 ^ power_scale q) (2 ^ z) (2 ^ 1020) (2 ^ unit) (2 ^ 1074) (2 ^ 54)
+      (pow_pos z) places least (high + width)
+      (to num den (10 ^ (q - 288)) (10 ^ (288 - q)) (2 ^ power_scale q) (2 ^ 1020) (2 ^ z) (2 ^ 65)
+      (ten_pos (288 - q)) (high + width) (m + more) t a (le_of_lt r.below) b.to)
+
+-- ---- bounds
+
+pub small_width : (more m z : ℕ) → more ≤ 1 → more * 2 ^ 58 ≤ m → (2 ^ 58 ≤ m → z ≤ 5)
+    → more * 2 ^ z ≤ 32
+small_width zero m z p q few = omega arith
+small_width (suc zero) m z p q few =
+    let l : 2 ^ z ≤ 2 ^ 5 = lib.Pow.pow_mono (few (omega arith)) in omega (arith, l)
+small_width (suc (suc more)) m z p q few = absurd (omega arith)
+
+pub scale_bound : (q s : ℕ) → q < 577 → s ≡ power_scale q → s ≤ 1913
+scale_bound q s h e = omega arith
+
+pub below_63 : (v t : ℕ) → v < 2 ^ 64 → t < 2 ^ 64 → v * t / 2 ^ 65 < 2 ^ 63
+below_63 v t a b =
+    let x : v * t ≤ v * 2 ^ 64 = mul-le-mul_left v (omega arith) in omega (arith, x)
