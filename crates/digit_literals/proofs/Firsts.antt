@@ -1,19 +1,25 @@
 -- What is read of a number of any length: the first of its significant digits.
-use Rattle.std.proofs.Common.{◌≡◌, ℕ, ◌+◌, ◌-◌, ◌<◌, ◌≤◌, List, length, length-append, take, arith}
+use Rattle.std.proofs.Common.{◌≡◌, ℕ, ◌+◌, ◌-◌, ◌^◌, ◌<◌, ◌≤◌, refl, ap, ◌∙◌, IsTrue, List, length, length-append, take, arith}
+use Rattle.lexical_format.specs.Word.{is_supported}
+use Rattle.lexical_digits.specs.State.{rule_of, start, with_cursor}
+use Rattle.lexical_digits.specs.Stop.{stop, stop_of}
+use Rattle.lexical_digits.specs.Laws.Table.{with_own_buffer, with_own_word}
 use Rattle.std.specs.Str.Parse.{digits_value_after}
 use Rattle.std.proofs.lemmas.List.{take_all}
 use Rattle.lexical_digits.specs.declared.skip.component.Component.{Component}
+use Rattle.lexical_digits.specs.declared.skip.component.Component.TheVariants.{Integer, Fraction, Exponent, Special}
 use Rattle.lexical_digits.specs.Laws.Terms.{ints, State, IsState, rule, own, leading_digits_of}
 use Rattle.lexical_digits.proofs.Calls.Stops.{leading_between}
 use Rattle.lexical_digits.proofs.Rule.Supported.{supported_rule}
 use Rattle.digit_literals.specs.declared.first.FirstDigits.{FirstDigits}
 use Rattle.digit_literals.specs.declared.reading.Digits.{Digits}
 use Rattle.digit_literals.specs.declared.reading.TooLarge.{TooLarge}
-use Rattle.digit_literals.specs.After.{past_digits_to, IsDigits, IsReadTo, ExceedsAt}
+use Rattle.digit_literals.specs.After.{digits_between, past_digits_to, IsDigits, IsReadTo, ExceedsAt}
+use Rattle.digit_literals.specs.Rest.{LeavesRest}
 use Rattle.digit_literals.proofs.Rest.{leaves_rest, nth}
 use Rattle.digit_literals.specs.First.{ReadsFirst}
-use Rattle.digit_literals.proofs.ForCallers.{all_digits}
-use Rattle.digit_literals.proofs.States.{by_state, within_stop}
+use Rattle.digit_literals.proofs.ForCallers.{all_digits, stop_within}
+use Rattle.digit_literals.proofs.States.{by_state, within_stop, own_of_fresh}
 
 module _ (k : Component) (s : State) (most before : ℕ) (valid : IsState s) where
   abbrev radix : ℕ
@@ -62,3 +68,78 @@ module _ (k : Component) (s : State) (most before : ℕ) (valid : IsState s) whe
 
 -- how many digits there are at most, and where they are
 pub ruleset bounds = (by_state, within_stop, ints, reads_rest)
+
+-- ---- off a slice, where the digits after the first are counted
+
+left_of : (k : Component) (s : State) (over : ℕ) → IsState (past_digits_to k s over)
+    → leading_digits_of k (past_digits_to k s over)
+    ≡ digits_between (rule k s) s.buffer over (stop_of k (past_digits_to k s over))
+left_of Integer s over v = leading_between Integer _ v
+left_of Fraction s over v = leading_between Fraction _ v
+left_of Exponent s over v = leading_between Exponent _ v
+left_of Special s over v = leading_between Special _ v
+
+pub stop_after : (k : Component) (s : State) (over : ℕ)
+    → stop_of k (past_digits_to k s over)
+    ≡ stop (rule k s) s.buffer over (own k (past_digits_to k s over))
+stop_after Integer s over = refl
+stop_after Fraction s over = refl
+stop_after Exponent s over = refl
+stop_after Special s over = refl
+
+module _ (word : ℕ) (k : Component) (text : List ℕ) (at before most over : ℕ)
+    (supported : IsTrue (is_supported word)) (small : length text < 2 ^ 63) (inside : at ≤ length text)
+    (h : ExceedsAt (rule_of word k) text at 0 before most over) where
+  abbrev s : State
+  s = with_cursor (start text word) at
+
+  fresh : IsState s
+  fresh = record {
+    buffer = small;
+    within = inside;
+    word = supported;
+    integer = omega arith;
+    fraction = omega arith;
+    exponent = omega arith;
+  }
+
+  here : ExceedsAt (rule k s) s.buffer s.cursor (own k s) before most over
+  here = rw (own_of_fresh k text word at) h
+
+  abbrev t : State
+  t = past_digits_to k s over
+
+  there : IsState t
+  there = grind (arith, fresh, here, stop_within, with_own_word, with_own_buffer)
+
+  left : leading_digits_of k t ≡ digits_between (rule_of word k) text over (stop_of k t)
+  left = left_of k s over there
+
+  rest : LeavesRest k s before most over
+  rest = leaves_rest k s before most over fresh here
+
+  abbrev all : List ℕ
+  all = digits_between (rule_of word k) text at (stop (rule_of word k) text at 0)
+
+  none : own k s ≡ 0
+  none = own_of_fresh k text word at
+
+  leading : leading_digits_of k s ≡ all
+  leading =
+      leading_between k s fresh
+      ∙ ap (λ (c : ℕ). digits_between (rule_of word k) text at (stop (rule_of word k) text at c)) none
+
+  pub stop_is : stop_of k t ≡ stop (rule_of word k) text at 0
+  stop_is = rest.stop ∙ ap (λ (c : ℕ). stop (rule_of word k) text at c) none
+
+  pub rest_is : (value count more end : ℕ)
+      → value ≡ digits_value_after (rule_of word k).radix before (digits_between (rule_of word k) text at over)
+      → count ≡ length (digits_between (rule_of word k) text at over)
+      → end ≡ stop_of k t → more ≡ length (digits_between (rule_of word k) text over end)
+      → ReadsFirst (rule_of word k).radix most before all
+      (record { value = value; count = count + more; dropped = more })
+  rest_is value count more end is counted ends are =
+      let error : TooLarge = record { at = over; value = value; count = count } in
+      let so_far : IsReadTo k s before error = record { is = is; digits = counted } in
+      let others : more ≡ length (leading_digits_of k t) = rw (left, ← ends) are in
+      rw leading at (reads_rest k s most before fresh {error = error} {dropped = more} here so_far others)

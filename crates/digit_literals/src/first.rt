@@ -1,6 +1,6 @@
 //! The first digits of a number, where it may have more than a `u64` holds.
 
-ghost use Rattle.std.specs.Prelude.{◌≡◌, Some, ◌+◌, ◌*◌, ◌^◌, ◌-◌, ◌≤◌, min, false, length, pos, ◌≤ℤ◌, ◌+ℤ◌, IfSome, IfNone, IsTrue};
+ghost use Rattle.std.specs.Prelude.{◌≡◌, Some, None, ◌+◌, ◌*◌, ◌^◌, ◌-◌, ◌≤◌, min, false, length, pos, ◌≤ℤ◌, ◌+ℤ◌, IfSome, IfNone, IsTrue};
 ghost use Rattle.lexical_format.specs.Word.{is_supported};
 ghost use Rattle.lexical_digits.specs.State.{rule, rule_of};
 ghost use Rattle.lexical_digits.specs.Separators.{IsSupported};
@@ -108,6 +108,52 @@ pub fn read_first_digits_from(
         };
         return (all, read.end);
     }
+    read_first_again(text, word, component, start, before, most)
+}
+
+/// [`read_first_digits_from`] again, where a digit may be too large: the others are counted.
+#[cold]
+#[inline(never)]
+fn read_first_again(
+    text: &[u8],
+    word: u128,
+    component: Component,
+    start: usize,
+    before: u64,
+    most: u64,
+) -> (FirstDigits, usize)
+    requires supported { IsTrue (is_supported word) }
+    requires within { start ≤ length text.now }
+    requires fits { before ≤ most }
+    ensures first { let r = rule_of word component in
+        let digits = digits_between r text.now start (stop r text.now start 0) in
+        ReadsFirst r.radix most before digits result.0 }
+    ensures stops { result.1 ≡ stop (rule_of word component) text.now start 0 }
+    ensures onward { start + result.0.count ≤ result.1 }
+    ensures end { result.1 ≤ length text.now }
+{
+    let rule = Rule::of(word, component);
+    if rule.radix == 10 {
+        let first = first_digit(text, rule, start, before, u128::from(most));
+        if let Some(read) = read_radix(text, rule, 10, start, before, first, Some(most)) {
+            if !read.is_too_large {
+                let all = FirstDigits {
+                    value: read.value,
+                    count: read.count,
+                    dropped: 0,
+                };
+                return (all, read.end);
+            }
+            if let Some(rest) = count_rest(text, rule, read.end) {
+                let all = FirstDigits {
+                    value: read.value,
+                    count: read.count + rest.count,
+                    dropped: rest.count,
+                };
+                return (all, rest.end);
+            }
+        }
+    }
     let first = read_first_fresh(text, word, component, start, before, most);
     (first.digits, first.end)
 }
@@ -149,6 +195,17 @@ fn read_first_fresh(
         digits,
         end: bytes.cursor(),
     }
+}
+
+/// Counts the digits of a rule with radix 10 from `start` on, where the slice is enough.
+#[inline(always)]
+fn count_rest(text: &[u8], rule: Rule, start: usize) -> Option<ReadTo>
+    requires supported { IsSupported rule }
+    requires radix { rule.radix ≡ 10 }
+    requires within { start ≤ length text.now }
+    ensures { IfSome result (IsOffSlice rule text.now start 0 None) }
+{
+    read_radix(text, rule, 10, start, 0, None, None)
 }
 
 /// Reads the digits of a rule with radix 10 from `start` on, where the slice is enough and no digit
