@@ -12,7 +12,7 @@ use lib.Ieee.Scale.{round_same}
 use lib.Arith.{digits_div, digits_mod}
 use borrow.Author.Tests.{lt-leb, ne_eqb}
 use Rattle.digit_floats.specs.Near.{IsTwoTo}
-use Rattle.digit_floats.proofs.Tens.{whole}
+use Rattle.digit_floats.proofs.Tens.{whole, product_at}
 
 -- ---- sums and products by the values of what is added or multiplied
 
@@ -35,26 +35,6 @@ module _ (f : Format) where
       cross x dx y dy a b c p q =
           let l : (x * dy + y * dx) * c ≡ x * c * dy + y * c * dx = grind arith in
           let r : a * dx * dy + b * dy * dx ≡ (a + b) * (dx * dy) = grind arith in
-          l ∙ rw (p, q) r
-
-  product_at : (x y : Float) (a b c d : ℕ) → 0 < c → 0 < d → HasValue x false a c
-      → HasValue y false b d → mul f x y ≡ round f false (a * b) (c * d)
-  unfolding mul
-  product_at nan y a b c d C D p q = absurd p
-  product_at (inf s) y a b c d C D p q = absurd p
-  product_at (fin true m e) y a b c d C D p q = absurd (true≢false p.0)
-  product_at (fin false m e) nan a b c d C D p q = absurd q
-  product_at (fin false m e) (inf t) a b c d C D p q = absurd q
-  product_at (fin false m e) (fin true n k) a b c d C D p q = absurd (true≢false q.0)
-  product_at (fin false m e) (fin false n k) a b c d C D p q =
-      round_same f false _ _ (a * b) (c * d) (mul-pos (down_pos e) (down_pos k)) (mul-pos C D)
-      (cross (m * up e) (down e) (n * up k) (down k) p.1 q.1)
-    where
-      cross : (x dx y dy : ℕ) → x * c ≡ a * dx → y * d ≡ b * dy
-          → x * y * (c * d) ≡ a * b * (dx * dy)
-      cross x dx y dy p q =
-          let l : x * y * (c * d) ≡ x * c * (y * d) = grind arith in
-          let r : a * dx * (b * dy) ≡ a * b * (dx * dy) = grind arith in
           l ∙ rw (p, q) r
 
 -- ---- a small whole number of a power of two

@@ -1,5 +1,5 @@
 -- One multiplication or division of two floats that are exact rounds once.
-use Rattle.std.proofs.Common.{◌≡◌, ℕ, zero, suc, ◌+◌, ◌-◌, ◌*◌, ◌^◌, ◌<◌, ◌≤◌, Bool, true, false, ◌&&◌, List, [], ◌∷◌, length, refl, ap, subst, ◌∙◌, arith}
+use Rattle.std.proofs.Common.{◌≡◌, ℕ, zero, suc, ◌+◌, ◌-◌, ◌*◌, ◌^◌, ◌<◌, ◌≤◌, Bool, true, false, ◌&&◌, true≢false, List, [], ◌∷◌, length, refl, ap, subst, ◌∙◌, arith}
 use Rattle.std.specs.Prelude.{get_or, pos}
 use native.Mathlib.Nat.{mul-pos, pow-suc}
 use lib.Dec.{T, eqb, ltb→lt, eqb→eq}
@@ -8,7 +8,7 @@ use borrow.Author.Tests.{ne_eqb}
 use lib.Ieee.{Float, Format, nan, inf, fin, prec, round, mul, div, of_int, up, down}
 use lib.Ieee.Back.{round_whole}
 use lib.Ieee.Exact.{HasValue}
-use lib.Ieee.Fits.{up_pos, and_l, and_r}
+use lib.Ieee.Fits.{up_pos, down_pos, and_l, and_r}
 use lib.Ieee.Positive.{positive, positive_of_value, mul_at, num, den, den_pos, value→cross}
 use lib.Ieee.Scale.{round_same}
 use Rattle.digit_floats.specs.Exact.{IsTenTo}
@@ -49,26 +49,45 @@ ten_at xs i d t h = row xs 0 i i d t h (omega arith)
 
 -- ---- one operation
 
+module _ (f : Format) where
+  pub product_at : (x y : Float) (a b c d : ℕ) → 0 < c → 0 < d → HasValue x false a c
+      → HasValue y false b d → mul f x y ≡ round f false (a * b) (c * d)
+  unfolding mul
+  product_at nan y a b c d C D p q = absurd p
+  product_at (inf s) y a b c d C D p q = absurd p
+  product_at (fin true m e) y a b c d C D p q = absurd (true≢false p.0)
+  product_at (fin false m e) nan a b c d C D p q = absurd q
+  product_at (fin false m e) (inf t) a b c d C D p q = absurd q
+  product_at (fin false m e) (fin true n k) a b c d C D p q = absurd (true≢false q.0)
+  product_at (fin false m e) (fin false n k) a b c d C D p q =
+      round_same f false _ _ (a * b) (c * d) (mul-pos (down_pos e) (down_pos k)) (mul-pos C D)
+      (cross (m * up e) (down e) (n * up k) (down k) p.1 q.1)
+    where
+      cross : (x dx y dy : ℕ) → x * c ≡ a * dx → y * d ≡ b * dy
+          → x * y * (c * d) ≡ a * b * (dx * dy)
+      cross x dx y dy p q =
+          let l : x * y * (c * d) ≡ x * c * (y * d) = grind arith in
+          let r : a * dx * (b * dy) ≡ a * b * (dx * dy) = grind arith in
+          l ∙ rw (p, q) r
+
 pub whole : (f : Format) (w : ℕ) → w ≤ 2 ^ prec f → HasValue (of_int f (pos w)) false w 1
 unfolding of_int
 whole f w h = round_whole f false w h
 
-pub times_ten : (f : Format) (w k : ℕ) (x : Float) → 0 < w → w ≤ 2 ^ prec f → IsTenTo k x
+pub times_ten : (f : Format) (w k : ℕ) (x : Float) → w ≤ 2 ^ prec f → IsTenTo k x
     → mul f (of_int f (pos w)) x ≡ round f false (w * 10 ^ k) 1
-times_ten f w k x p h t =
-    mul_at f _ x w 1 (10 ^ k) 1 (positive_of_value _ w 1 (whole f w h) p)
-    (positive_of_value x _ 1 t (ten_pos k)) (omega arith) (omega arith) (whole f w h) t
+times_ten f w k x h t = product_at f _ x w (10 ^ k) 1 1 (omega arith) (omega arith) (whole f w h) t
 
-quotient : (f : Format) (x y : Float) → T (positive x) → T (positive y)
+quotient : (f : Format) (x y : Float) (w : ℕ) → HasValue x false w 1 → T (positive y)
     → div f x y ≡ round f false (num x * den y) (num y * den x)
 unfolding div
-quotient f nan y p q = absurd p
-quotient f (inf s) y p q = absurd p
-quotient f (fin true m e) y p q = absurd p
-quotient f (fin false m e) nan p q = absurd q
-quotient f (fin false m e) (inf t) p q = absurd q
-quotient f (fin false m e) (fin true n d) p q = absurd q
-quotient f (fin false m e) (fin false n d) p q =
+quotient f nan y w p q = absurd p
+quotient f (inf s) y w p q = absurd p
+quotient f (fin true m e) y w p q = absurd (true≢false p.0)
+quotient f (fin false m e) nan w p q = absurd q
+quotient f (fin false m e) (inf t) w p q = absurd q
+quotient f (fin false m e) (fin true n d) w p q = absurd q
+quotient f (fin false m e) (fin false n d) w p q =
     let above : 0 < n = ltb→lt 0 n q in
     rw (ne_eqb n 0 (λ z. omega arith))
 
@@ -84,13 +103,12 @@ cross nx dx ny dy w t a b =
     let q : ny ≡ t * dy = omega arith in
     rw (p, q) (grind arith)
 
-pub over_ten : (f : Format) (w k : ℕ) (x : Float) → 0 < w → w ≤ 2 ^ prec f → IsTenTo k x
+pub over_ten : (f : Format) (w k : ℕ) (x : Float) → w ≤ 2 ^ prec f → IsTenTo k x
     → div f (of_int f (pos w)) x ≡ round f false w (10 ^ k)
-over_ten f w k x p h t =
+over_ten f w k x h t =
     let y = of_int f (pos w) in
-    let py = positive_of_value y w 1 (whole f w h) p in
     let px = positive_of_value x _ 1 t (ten_pos k) in
-    quotient f y x py px
+    quotient f y x w (whole f w h) px
     ∙ round_same f false _ _ w (10 ^ k) (mul-pos (num_pos x px) (den_pos y)) (ten_pos k)
     (cross (num y) (den y) (num x) (den x) w (10 ^ k) (value→cross y w 1 (whole f w h))
     (value→cross x (10 ^ k) 1 t))

@@ -36,7 +36,6 @@ pub fn ten_to_f32(k: u64) -> f32
 #[inline(always)]
 #[tactic(auto, using(crate::proofs::Tens::times_rest, crate::proofs::Tens::over_rest))]
 fn magnitude<F: Float>(digits: u64, up: u64, down: u64) -> Option<F>
-    requires { 0 < digits }
     ensures { IfSome result (λ x.
         F.value x ≡ round F.format false (digits * 10 ^ up) (10 ^ down)) }
 {
@@ -72,9 +71,6 @@ pub fn round_exact<F: Float>(
         (digits * 10 ^ (if down then 0 else power))
         (10 ^ (places + (if down then power else 0)))) }
 {
-    if digits == 0 {
-        return None;
-    }
     if down {
         let x: F = magnitude(digits, 0, places + power)?;
         Some(signed(negative, x))

@@ -37,12 +37,10 @@ pub trait Float: Copy {
 
     /// The digits times ten to a power, if both factors are exact.
     fn times_ten_to(digits: u64, tens: u64) -> Option<Self>
-        requires { 0 < digits }
         ensures { IfSome result (λ x. value x ≡ round format false (digits * 10 ^ tens) 1) };
 
     /// The digits over ten to a power, if both are exact.
     fn over_ten_to(digits: u64, tens: u64) -> Option<Self>
-        requires { 0 < digits }
         ensures { IfSome result (λ x. value x ≡ round format false digits (10 ^ tens)) };
 
     /// The float nearest to all numbers from the digits to the digits and `more`, times

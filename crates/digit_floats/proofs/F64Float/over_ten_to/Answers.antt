@@ -5,4 +5,4 @@ use Rattle.digit_floats.proofs.F64Float.over_ten_to.Goals as goal
 
 pub returns : goal.returns
 returns c =
-    over_ten binary64 c.args.digits c.args.tens _ c.requires (omega arith) c.ten_to_f64.ensures
+    over_ten binary64 c.args.digits c.args.tens _ (omega arith) c.ten_to_f64.ensures
