@@ -19,7 +19,7 @@ use Rattle.std.specs.Float.Parse.{parse_float, read_float, sign_len}
 use Rattle.std.specs.Float.Numeral as std
 use Rattle.digit_literals.specs.After.{digits_between}
 use Rattle.digit_floats.specs.Bytes.{stands, is_sign, is_minus, is_point, is_mark}
-use Rattle.digit_floats.specs.Float.{IsDecimal, past_sign, digits_end, digits_from, fraction_digits, fraction_end, exponent_digits, exponent_end, exponent_negative, mantissa_end, number_end, float_end, float_at, parts_at, HasFloat}
+use Rattle.digit_floats.specs.Float.{IsDecimal, plain_marks, past_sign, digits_end, digits_from, fraction_digits, fraction_end, exponent_digits, exponent_end, exponent_negative, mantissa_end, number_end, float_end, float_at, parts_at, HasFloat}
 use Rattle.digit_floats.specs.Separators.{HasNoSeparator}
 use Rattle.digit_floats.proofs.Decimals.{same_digit, digits_are}
 
@@ -125,23 +125,23 @@ module _ (word : ℕ) (text : List ℕ) (decimal : IsDecimal word) (plain : HasN
           let same : i + n - i ≡ n = omega arith in
           rw (e, same, drop-drop i at text) refl
 
-  fraction_by : (i : ℕ) (b : Bool) → stands is_point text (at + i) ≡ b
-      → fraction_digits word text (at + i)
+  fraction_by : (i : ℕ) (b : Bool) → stands (is_point 46) text (at + i) ≡ b
+      → fraction_digits word text 46 (at + i)
       ≡ (if b
       then slice_range r (i + 1) (if b then std.digits_end r (i + 1) else i)
       else [])
   unfolding fraction_digits
   fraction_by i true e =
-      let l = stands_within is_point text (at + i) e in
+      let l = stands_within (is_point 46) text (at + i) e in
       let n : at + i + 1 ≡ at + (i + 1) = omega arith in
       rw (e, n) (digits_is Fraction decimal.0 (i + 1) (omega arith))
   fraction_by i false e = rw e refl
 
-  fraction_end_by : (i : ℕ) (b : Bool) → stands is_point text (at + i) ≡ b
-      → fraction_end word text (at + i) ≡ at + (if b then std.digits_end r (i + 1) else i)
+  fraction_end_by : (i : ℕ) (b : Bool) → stands (is_point 46) text (at + i) ≡ b
+      → fraction_end word text 46 (at + i) ≡ at + (if b then std.digits_end r (i + 1) else i)
   unfolding fraction_end
   fraction_end_by i true e =
-      let l = stands_within is_point text (at + i) e in
+      let l = stands_within (is_point 46) text (at + i) e in
       let n : at + i + 1 ≡ at + (i + 1) = omega arith in
       rw (e, n) (end_is Fraction decimal.0 (i + 1) (omega arith))
   fraction_end_by i false e = rw e refl
@@ -165,18 +165,18 @@ module _ (word : ℕ) (text : List ℕ) (decimal : IsDecimal word) (plain : HasN
 
   sign_within : (i : ℕ) (b : Bool) → stands is_sign text i ≡ b → i ≤ length text
       → past_sign text i ≤ length text
-  sign_within i true e l = let h = stands_within is_sign text i e in rw e (omega arith)
+  sign_within i true e l = let h = stands_within (is_sign text i e in rw e (omega arith)
   sign_within i false e l = rw e l
 
-  start_within : (j : ℕ) → stands is_mark text (at + j) ≡ true
+  start_within : (j : ℕ) → stands (is_mark 101) text (at + j) ≡ true
       → at + std.exponent_start r j ≤ length text
   start_within j e =
-      let l = stands_within is_mark text (at + j) e in
+      let l = stands_within (is_mark 101) text (at + j) e in
       subst (λ (z : ℕ). z ≤ length text) (start_is j)
       (sign_within (at + (j + 1)) _ refl (omega arith))
 
-  exponent_by : (j : ℕ) (b : Bool) → stands is_mark text (at + j) ≡ b
-      → exponent_digits word text (at + j)
+  exponent_by : (j : ℕ) (b : Bool) → stands (is_mark 101) text (at + j) ≡ b
+      → exponent_digits word text 101 (at + j)
       ≡ (if b
       then slice_range r (std.exponent_start r j) (std.digits_end r (std.exponent_start r j))
       else [])
@@ -186,8 +186,8 @@ module _ (word : ℕ) (text : List ℕ) (decimal : IsDecimal word) (plain : HasN
       rw (e, n, start_is j) (digits_is Exponent decimal.1 _ (start_within j e))
   exponent_by j false e = rw e refl
 
-  exponent_end_by : (j : ℕ) (b : Bool) → stands is_mark text (at + j) ≡ b
-      → exponent_end word text (at + j)
+  exponent_end_by : (j : ℕ) (b : Bool) → stands (is_mark 101) text (at + j) ≡ b
+      → exponent_end word text 101 (at + j)
       ≡ at + (if b then std.digits_end r (std.exponent_start r j) else j)
   unfolding exponent_end
   exponent_end_by j true e =
@@ -195,21 +195,21 @@ module _ (word : ℕ) (text : List ℕ) (decimal : IsDecimal word) (plain : HasN
       rw (e, n, start_is j) (end_is Exponent decimal.1 _ (start_within j e))
   exponent_end_by j false e = rw e refl
 
-  negative_by : (j : ℕ) (b : Bool) → stands is_mark text (at + j) ≡ b
-      → exponent_negative word text (at + j) ≡ (b && slice_index r (j + 1) == std.minus)
+  negative_by : (j : ℕ) (b : Bool) → stands (is_mark 101) text (at + j) ≡ b
+      → exponent_negative word text 101 (at + j) ≡ (b && slice_index r (j + 1) == std.minus)
   unfolding exponent_negative
   negative_by j b e =
       let n : at + j + 1 ≡ at + (j + 1) = omega arith in
       rw (e, n, byte is_minus (j + 1) refl) refl
 
   -- a digit follows the mark
-  has_by : (j : ℕ) (b : Bool) → stands is_mark text (at + j) ≡ b
-      → (b ≡ true → 0 < length (exponent_digits word text (at + j))) → std.has_exponent r j ≡ b
+  has_by : (j : ℕ) (b : Bool) → stands (is_mark 101) text (at + j) ≡ b
+      → (b ≡ true → 0 < length (exponent_digits word text 101 (at + j))) → std.has_exponent r j ≡ b
   has_by j false e some =
-      let m : is_mark (slice_index r j) ≡ false = sym (byte is_mark j refl) ∙ e in
+      let m : is_mark 101 (slice_index r j) ≡ false = sym (byte (is_mark 101) j refl) ∙ e in
       rw m refl
   has_by j true e some =
-      let m : is_mark (slice_index r j) ≡ true = sym (byte is_mark j refl) ∙ e in
+      let m : is_mark 101 (slice_index r j) ≡ true = sym (byte (is_mark 101) j refl) ∙ e in
       let c = std.exponent_start r j in
       let long : 0 < length (slice_range r c (std.digits_end r c)) =
       subst (λ (z : List ℕ). 0 < length z) (exponent_by j true e) (some refl) in
@@ -230,7 +230,7 @@ module _ (word : ℕ) (text : List ℕ) (decimal : IsDecimal word) (plain : HasN
 
   -- ---- the whole number
 
-  module _ (within : at ≤ length text) (is : HasFloat word text at) where
+  module _ (within : at ≤ length text) (is : HasFloat word text plain_marks at) where
     abbrev i : ℕ
     i = std.digits_end r 0
 
@@ -250,26 +250,26 @@ module _ (word : ℕ) (text : List ℕ) (decimal : IsDecimal word) (plain : HasN
         subst (λ (y : ℕ). digits_from word text Integer y ≡ slice_range r 0 (std.digits_end r 0))
         here (digits_is Integer decimal.0 0 (omega arith))
 
-    mantissa_is : mantissa_end word text at ≡ at + j
-    mantissa_is = rw whole_end_is (fraction_end_by i _ (byte is_point i refl))
+    mantissa_is : mantissa_end word text 46 at ≡ at + j
+    mantissa_is = rw whole_end_is (fraction_end_by i _ (byte (is_point 46) i refl))
 
-    has_is : std.has_exponent r j ≡ stands is_mark text (at + j)
+    has_is : std.has_exponent r j ≡ stands (is_mark 101) text (at + j)
     has_is =
         has_by j _ refl
-        (subst (λ (y : ℕ). stands is_mark text y ≡ true → 0 < length (exponent_digits word text y))
+        (subst (λ (y : ℕ). stands (is_mark 101) text y ≡ true → 0 < length (exponent_digits word text 101 y))
         mantissa_is is.exponent)
 
-    exponent_is : exponent_digits word text (mantissa_end word text at)
+    exponent_is : exponent_digits word text 101 (mantissa_end word text 46 at)
         ≡ (std.scan_numeral r).exponent
     unfolding std.scan_numeral
     exponent_is = rw mantissa_is (exponent_by j _ (sym has_is))
 
-    negative_is : exponent_negative word text (mantissa_end word text at)
+    negative_is : exponent_negative word text 101 (mantissa_end word text 46 at)
         ≡ (std.scan_numeral r).exponent_negative
     unfolding std.scan_numeral
     negative_is = rw mantissa_is (negative_by j _ (sym has_is))
 
-    end_is_std : number_end word text at ≡ at + (std.scan_numeral r).len
+    end_is_std : number_end word text plain_marks at ≡ at + (std.scan_numeral r).len
     unfolding std.scan_numeral
     end_is_std = rw mantissa_is (exponent_end_by j _ (sym has_is))
 
@@ -277,13 +277,13 @@ module _ (word : ℕ) (text : List ℕ) (decimal : IsDecimal word) (plain : HasN
     unfolding std.scan_numeral
     whole_is_std = whole_is
 
-    fraction_is_std : fraction_digits word text (digits_end word text Integer at)
+    fraction_is_std : fraction_digits word text 46 (digits_end word text Integer at)
         ≡ (std.scan_numeral r).fraction
     unfolding std.scan_numeral
-    fraction_is_std = rw whole_end_is (fraction_by i _ (byte is_point i refl))
+    fraction_is_std = rw whole_end_is (fraction_by i _ (byte (is_point 46) i refl))
 
     pub nearest_is : (f : Format) (negative : Bool)
-        → nearest_float f negative (parts_at word text at)
+        → nearest_float f negative (parts_at word text plain_marks at)
         ≡ nearest_float f negative (std.scan_numeral r)
     nearest_is f negative =
         rw (whole_is_std, fraction_is_std, exponent_is, negative_is) refl
@@ -319,8 +319,8 @@ unfolding read_float
 read_is f text at sign some = rw (sign, some) refl
 
 pub as_std : (word : ℕ) (text : List ℕ) → IsDecimal word → HasNoSeparator word text
-    → HasFloat word text (past_sign text 0) → float_end word text 0 ≡ length text
-    → (f : Format) → parse_float f text ≡ Some (float_at word text f 0)
+    → HasFloat word text plain_marks (past_sign text 0) → float_end word text plain_marks 0 ≡ length text
+    → (f : Format) → parse_float f text ≡ Some (float_at word text plain_marks f 0)
 as_std word text decimal plain is whole f =
     let at = past_sign text 0 in
     let l = sign_fits text in

@@ -10,8 +10,6 @@ mod NearFloats
 mod NearProduct
 mod NearRows
 mod Numbers
-mod Outcomes
-mod Plain
 mod Signs
 mod Squeeze
 mod Tens

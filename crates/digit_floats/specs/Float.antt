@@ -1,5 +1,5 @@
 -- The float at a position of a text: its digits, its parts in std's word, and why there is none.
-use Rattle.std.specs.Prelude.{◌≡◌, ⊤, ℕ, ◌+◌, ◌-◌, ◌<◌, Bool, true, if◌then◌else◌, ◌&&◌, List, [], length}
+use Rattle.std.specs.Prelude.{◌≡◌, ⊤, ℕ, ◌+◌, ◌-◌, ◌<◌, ◌==◌, Bool, true, if◌then◌else◌, ◌&&◌, List, [], length, Result, Ok, Err}
 use Rattle.std.specs.Float.{Float, Format}
 use Rattle.std.specs.Float.Numeral.{Parts, nearest_float}
 use Rattle.lexical_format.specs.Word.{mantissa_radix, exponent_radix}
@@ -8,6 +8,7 @@ use Rattle.lexical_digits.specs.declared.skip.component.Component.TheVariants.{I
 use Rattle.lexical_digits.specs.State.{rule_of}
 use Rattle.lexical_digits.specs.Stop.{stop}
 use Rattle.digit_literals.specs.After.{digits_between}
+use Rattle.digit_floats.specs.declared.read.Marks.{Marks}
 use Rattle.digit_floats.specs.declared.FloatError.{FloatError}
 use Rattle.digit_floats.specs.declared.FloatError.TheVariants.{Empty, EmptyExponent, Invalid}
 use Rattle.digit_floats.specs.Bytes.{stands, is_sign, is_minus, is_point, is_mark}
@@ -28,96 +29,101 @@ module _ (word : ℕ) (text : List ℕ) where
   unfoldable pub digits_from : Component → ℕ → List ℕ
   digits_from k at = digits_between (rule_of word k) text at (digits_end k at)
 
-  -- the fraction at a position: after a point, if one stands there
-  unfoldable pub fraction_digits : ℕ → List ℕ
-  fraction_digits at = if stands is_point text at then digits_from Fraction (at + 1) else []
+  -- ---- after a point
 
-  unfoldable pub fraction_end : ℕ → ℕ
-  fraction_end at = if stands is_point text at then digits_end Fraction (at + 1) else at
+  module _ (point : ℕ) where
+    -- the fraction at a position: after a point, if one stands there
+    unfoldable pub fraction_digits : ℕ → List ℕ
+    fraction_digits at =
+        if stands (is_point point) text at then digits_from Fraction (at + 1) else []
 
-  -- the exponent at a position: after a mark and a sign, if a mark stands there
-  unfoldable pub exponent_digits : ℕ → List ℕ
-  exponent_digits at =
-      if stands is_mark text at then digits_from Exponent (past_sign text (at + 1)) else []
+    unfoldable pub fraction_end : ℕ → ℕ
+    fraction_end at =
+        if stands (is_point point) text at then digits_end Fraction (at + 1) else at
 
-  unfoldable pub exponent_end : ℕ → ℕ
-  exponent_end at =
-      if stands is_mark text at then digits_end Exponent (past_sign text (at + 1)) else at
+    -- where integer and fraction end that begin at a position
+    abbrev pub mantissa_end : ℕ → ℕ
+    mantissa_end at = fraction_end (digits_end Integer at)
 
-  unfoldable pub exponent_negative : ℕ → Bool
-  exponent_negative at = stands is_mark text at && stands is_minus text (at + 1)
+    -- how many digits they have
+    abbrev pub mantissa_count : ℕ → ℕ
+    mantissa_count at =
+        length (digits_from Integer at) + length (fraction_digits (digits_end Integer at))
+
+  -- ---- after the mark of an exponent
+
+  module _ (mark : ℕ) where
+    -- the exponent at a position: after a mark and a sign, if a mark stands there
+    unfoldable pub exponent_digits : ℕ → List ℕ
+    exponent_digits at =
+        if stands (is_mark mark) text at
+        then digits_from Exponent (past_sign text (at + 1)) else []
+
+    unfoldable pub exponent_end : ℕ → ℕ
+    exponent_end at =
+        if stands (is_mark mark) text at
+        then digits_end Exponent (past_sign text (at + 1)) else at
+
+    unfoldable pub exponent_negative : ℕ → Bool
+    exponent_negative at = stands (is_mark mark) text at && stands is_minus text (at + 1)
 
   -- ---- the number at a position, which follows any sign
 
-  -- where integer and fraction end
-  abbrev pub mantissa_end : ℕ → ℕ
-  mantissa_end at = fraction_end (digits_end Integer at)
+  module _ (marks : Marks) where
+    -- its parts in std's word: what `scan_numeral` finds in a text without separators
+    abbrev pub parts_at : ℕ → Parts
+    parts_at at =
+        let mark = mantissa_end marks.point at in
+        record {
+          whole = digits_from Integer at;
+          point = stands (is_point marks.point) text (digits_end Integer at);
+          fraction = fraction_digits marks.point (digits_end Integer at);
+          exponent_negative = exponent_negative marks.exponent mark;
+          exponent = exponent_digits marks.exponent mark;
+          len = exponent_end marks.exponent mark - at;
+        }
 
-  -- its parts in std's word: what `scan_numeral` finds in a text without separators
-  abbrev pub parts_at : ℕ → Parts
-  parts_at at = record {
-    whole = digits_from Integer at;
-    point = stands is_point text (digits_end Integer at);
-    fraction = fraction_digits (digits_end Integer at);
-    exponent_negative = exponent_negative (mantissa_end at);
-    exponent = exponent_digits (mantissa_end at);
-    len = exponent_end (mantissa_end at) - at;
-  }
+    -- the position after it
+    abbrev pub number_end : ℕ → ℕ
+    number_end at = exponent_end marks.exponent (mantissa_end marks.point at)
 
-  -- the position after it
-  abbrev pub number_end : ℕ → ℕ
-  number_end at = exponent_end (mantissa_end at)
+    -- ---- the float at a position, with a sign
 
-  -- ---- the float at a position, with a sign
+    -- the float nearest to the number that the parts write
+    abbrev pub float_at : Format → ℕ → Float
+    float_at f at = nearest_float f (stands is_minus text at) (parts_at (past_sign text at))
 
-  -- the float nearest to the number that the parts write
-  abbrev pub float_at : Format → ℕ → Float
-  float_at f at = nearest_float f (stands is_minus text at) (parts_at (past_sign text at))
+    abbrev pub float_end : ℕ → ℕ
+    float_end at = number_end (past_sign text at)
 
-  abbrev pub float_end : ℕ → ℕ
-  float_end at = number_end (past_sign text at)
+    -- there is a digit, and one after any mark
+    pub record HasFloat (at : ℕ) : Type 0 where
+      pub some : 0 < mantissa_count marks.point at
+      pub exponent : stands (is_mark marks.exponent) text (mantissa_end marks.point at) ≡ true
+          → 0 < length (exponent_digits marks.exponent (mantissa_end marks.point at))
 
-  -- ---- why there is none
+    -- what is read from a position on: a float and where it ends, or why there is none
+    abbrev pub read_at : Format → ℕ → Result (Float × ℕ) FloatError
+    read_at f at =
+        let start = past_sign text at in
+        let mark = mantissa_end marks.point start in
+        if mantissa_count marks.point start == 0 then Err (Empty mark) else
+        if stands (is_mark marks.exponent) text mark
+            && (length (exponent_digits marks.exponent mark) == 0)
+        then Err (EmptyExponent (number_end start)) else
+        Ok (float_at f at, float_end at)
 
-  abbrev pub mantissa_count : ℕ → ℕ
-  mantissa_count at =
-      length (digits_from Integer at) + length (fraction_digits (digits_end Integer at))
+  -- the same of a text that is to be one float
+  abbrev pub whole_of : Result (Float × ℕ) FloatError → Result Float FloatError
+  whole_of (Ok r) = if r.1 == length text then Ok r.0 else Err (Invalid r.1)
+  whole_of (Err error) = Err error
 
-  -- neither integer nor fraction has a digit; they end here
-  pub record HasNoDigit (at stop : ℕ) : Type 0 where
-    pub none : mantissa_count at ≡ 0
-    pub stops : stop ≡ mantissa_end at
+  abbrev pub parse_at : Marks → Format → ℕ → Result Float FloatError
+  parse_at marks f at = whole_of (read_at marks f at)
 
-  -- a mark follows a digit, and no digit the mark; one would be here
-  pub record HasNoExponent (at stop : ℕ) : Type 0 where
-    pub some : 0 < mantissa_count at
-    pub mark : stands is_mark text (mantissa_end at) ≡ true
-    pub none : length (exponent_digits (mantissa_end at)) ≡ 0
-    pub stops : stop ≡ number_end at
-
-  -- there is a digit, and one after any mark
-  pub record HasFloat (at : ℕ) : Type 0 where
-    pub some : 0 < mantissa_count at
-    pub exponent : stands is_mark text (mantissa_end at) ≡ true
-        → 0 < length (exponent_digits (mantissa_end at))
-
-  -- there is one that ends here, and it isn't the whole text
-  pub record IsFollowed (at stop : ℕ) : Type 0 where
-    pub is : HasFloat at
-    pub stops : stop ≡ number_end at
-    pub before_end : stop < length text
-
-  -- of the number from a position on, after any sign
-  abbrev pub IsFault : ℕ → FloatError → Type 0
-  IsFault at (Empty stop) = HasNoDigit at stop
-  IsFault at (EmptyExponent stop) = HasNoExponent at stop
-  IsFault at (Invalid stop) = ⊥
-
-  -- of a text that is to be one float from a position on, after any sign
-  abbrev pub IsWholeFault : ℕ → FloatError → Type 0
-  IsWholeFault at (Empty stop) = HasNoDigit at stop
-  IsWholeFault at (EmptyExponent stop) = HasNoExponent at stop
-  IsWholeFault at (Invalid stop) = IsFollowed at stop
+-- `.` and `e`
+abbrev pub plain_marks : Marks
+plain_marks = record { point = 46; exponent = 101 }
 
 -- the words of the mantissa, and of the exponent, to be named in an attribute
 unfoldable pub mantissas : ⊤

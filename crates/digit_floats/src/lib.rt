@@ -1,26 +1,29 @@
 //! The nearest `f64` or `f32` of a text with digit separators.
 #![tactic(auto)]
 
-ghost use Rattle.std.specs.Prelude.{◌≡◌, ◌+◌, ◌<◌, ◌≤◌, ◌*◌, ◌^◌, ℕ, false, IfSome, length, Some, None, MatchOption, IsTrue, IfOk, IfErr, OnOk};
+ghost use Rattle.std.specs.Prelude.{◌≡◌, ◌+◌, ◌<◌, ◌≤◌, ◌*◌, ◌^◌, ℕ, false, IfSome, length, Some, None, MatchOption, IsTrue, IfOk, Ok, Err, MatchResult};
 ghost use Rattle.std.specs.Float as Ieee;
 ghost use Rattle.std.specs.Float.{Format, NotNan, binary32, binary64};
 ghost use Rattle.std.specs.Float.Ieee.{neg, round};
 ghost use Rattle.std.specs.Float.Parse.{parse_float as std_float};
 ghost use Rattle.lexical_format.specs.Word.{is_supported};
 ghost use Rattle.digit_floats.specs.Near.{IsBetween};
-ghost use Rattle.digit_floats.specs.Float.{IsDecimal, past_sign, float_at, float_end, HasFloat, IsFault, IsWholeFault};
+ghost use Rattle.digit_floats.specs.Float.{IsDecimal, plain_marks, read_at, parse_at};
 
 mod exact;
 pub mod laws;
 mod powers;
 mod read;
+mod round;
 #[cfg(test)]
 mod tests;
 mod text;
 
-use exact::{nearest_f64, round_exact, round_near, ten_to_f32, ten_to_f64};
-use read::{read_exponent, read_mantissa, read_sign};
-use text::round_digits;
+use exact::{nearest_f64, ten_to_f32, ten_to_f64};
+pub use read::{Marks, Mantissa, Power, read_exponent, read_mantissa};
+pub use round::round_parts;
+
+use read::read_sign;
 
 /// `f64` and `f32`.
 pub trait Float: Copy {
@@ -162,56 +165,23 @@ pub fn read_float_from<F: Float>(
     requires supported { IsTrue (is_supported word) }
     requires decimal { IsDecimal word }
     requires within { start ≤ length text.now }
-    ensures value { IfOk result (λ r. F.value r.0 ≡ float_at word text.now F.format start) }
+    ensures reads { MatchResult result
+        (λ r. read_at word text.now plain_marks F.format start ≡ Ok (F.value r.0, r.1))
+        (λ error. read_at word text.now plain_marks F.format start ≡ Err error) }
     ensures number { IfOk result (λ r. NotNan (F.value r.0)) }
-    ensures end { IfOk result (λ r. r.1 ≡ float_end word text.now start) }
+    ensures onward { IfOk result (λ r. start < r.1) }
     ensures within { IfOk result (λ r. r.1 ≤ length text.now) }
-    ensures is { OnOk result (HasFloat word text.now (past_sign text.now start)) }
-    ensures fault { IfErr result (IsFault word text.now (past_sign text.now start)) }
 {
     let (negative, at) = read_sign(text, start);
-    let mantissa = read_mantissa(text, word, at);
+    let mantissa = read_mantissa(text, word, at, Marks::PLAIN.point);
     if mantissa.digits == 0 {
         return Err(FloatError::Empty(mantissa.end));
     }
-    let power = match read_exponent(text, word, mantissa.end) {
+    let power = match read_exponent(text, word, mantissa.end, Marks::PLAIN.exponent) {
         Ok(power) => power,
         Err(stop) => return Err(FloatError::EmptyExponent(stop)),
     };
-    let places = mantissa.places as u64;
-    if mantissa.dropped == 0 && power.value <= 0xffff_ffff {
-        if let Some(x) = round_exact::<F>(
-            negative,
-            mantissa.value,
-            places,
-            power.negative,
-            power.value,
-        ) {
-            return Ok((x, power.end));
-        }
-    }
-    if power.value <= 0xffff_ffff {
-        let cut = mantissa.dropped as u64;
-        if let Some(x) = round_near::<F>(
-            negative,
-            mantissa.value,
-            cut,
-            places,
-            power.negative,
-            power.value,
-        ) {
-            return Ok((x, power.end));
-        }
-    }
-    let x = round_digits::<F>(
-        negative,
-        &text[at..mantissa.end],
-        &text[at..mantissa.whole_end],
-        &text[mantissa.fraction_start..mantissa.end],
-        mantissa.digits,
-        places,
-        power,
-    );
+    let x = round_parts::<F>(text, negative, mantissa, power);
     Ok((x, power.end))
 }
 
@@ -220,12 +190,12 @@ pub fn read_float_from<F: Float>(
 pub fn read_float<F: Float>(text: &[u8], word: u128) -> Result<(F, usize), FloatError>
     requires supported { IsTrue (is_supported word) }
     requires decimal { IsDecimal word }
-    ensures value { IfOk result (λ r. F.value r.0 ≡ float_at word text.now F.format 0) }
+    ensures reads { MatchResult result
+        (λ r. read_at word text.now plain_marks F.format 0 ≡ Ok (F.value r.0, r.1))
+        (λ error. read_at word text.now plain_marks F.format 0 ≡ Err error) }
     ensures number { IfOk result (λ r. NotNan (F.value r.0)) }
-    ensures end { IfOk result (λ r. r.1 ≡ float_end word text.now 0) }
+    ensures onward { IfOk result (λ r. 0 < r.1) }
     ensures within { IfOk result (λ r. r.1 ≤ length text.now) }
-    ensures is { OnOk result (HasFloat word text.now (past_sign text.now 0)) }
-    ensures fault { IfErr result (IsFault word text.now (past_sign text.now 0)) }
 {
     read_float_from::<F>(text, word, 0)
 }
@@ -236,11 +206,10 @@ pub fn parse_float_from<F: Float>(text: &[u8], word: u128, start: usize) -> Resu
     requires supported { IsTrue (is_supported word) }
     requires decimal { IsDecimal word }
     requires within { start ≤ length text.now }
-    ensures value { IfOk result (λ x. F.value x ≡ float_at word text.now F.format start) }
+    ensures parses { MatchResult result
+        (λ x. parse_at word text.now plain_marks F.format start ≡ Ok (F.value x))
+        (λ error. parse_at word text.now plain_marks F.format start ≡ Err error) }
     ensures number { IfOk result (λ x. NotNan (F.value x)) }
-    ensures is { OnOk result (HasFloat word text.now (past_sign text.now start)) }
-    ensures whole { OnOk result (float_end word text.now start ≡ length text.now) }
-    ensures fault { IfErr result (IsWholeFault word text.now (past_sign text.now start)) }
 {
     let (x, end) = read_float_from::<F>(text, word, start)?;
     if end < text.len() {
@@ -254,11 +223,10 @@ pub fn parse_float_from<F: Float>(text: &[u8], word: u128, start: usize) -> Resu
 pub fn parse_float<F: Float>(text: &[u8], word: u128) -> Result<F, FloatError>
     requires supported { IsTrue (is_supported word) }
     requires decimal { IsDecimal word }
-    ensures value { IfOk result (λ x. F.value x ≡ float_at word text.now F.format 0) }
+    ensures parses { MatchResult result
+        (λ x. parse_at word text.now plain_marks F.format 0 ≡ Ok (F.value x))
+        (λ error. parse_at word text.now plain_marks F.format 0 ≡ Err error) }
     ensures number { IfOk result (λ x. NotNan (F.value x)) }
-    ensures is { OnOk result (HasFloat word text.now (past_sign text.now 0)) }
-    ensures whole { OnOk result (float_end word text.now 0 ≡ length text.now) }
-    ensures fault { IfErr result (IsWholeFault word text.now (past_sign text.now 0)) }
 {
     parse_float_from::<F>(text, word, 0)
 }

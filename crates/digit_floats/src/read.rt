@@ -1,18 +1,35 @@
 // Sign, mantissa and exponent, each component from where it begins.
 
-ghost use Rattle.std.specs.Prelude.{◌≡◌, true, ◌+◌, ◌-◌, ◌^◌, ◌<◌, ◌≤◌, ◌++◌, min, length, filter, slice_range, IsTrue, IfOk, IfErr, OnOk};
+ghost use Rattle.std.specs.Prelude.{◌≡◌, true, ◌+◌, ◌-◌, ◌^◌, ◌<◌, ◌≤◌, min, length, filter, slice_range, IsTrue, IfOk, IfErr, OnOk};
 ghost use Rattle.std.specs.Char.{is_ascii_digit};
 ghost use Rattle.std.specs.Str.Parse.{digits_value, digits_value_after};
 ghost use Rattle.lexical_format.specs.Word.{is_supported};
 ghost use Rattle.lexical_digits.specs.State.{rule_of};
 ghost use Rattle.lexical_digits.specs.declared.skip.component.Component.TheVariants.{Integer};
 ghost use Rattle.digit_literals.specs.First.{ReadsFirst};
-ghost use Rattle.digit_floats.specs.Near.{IsCutAt};
-ghost use Rattle.digit_floats.specs.Bytes.{stands, is_minus, is_point, is_mark, IsPointed};
+ghost use Rattle.digit_floats.specs.Bytes.{stands, is_minus, is_point, is_mark};
 ghost use Rattle.digit_floats.specs.Float.{IsDecimal, past_sign, digits_from, digits_end, fraction_digits, mantissa_end, exponent_digits, exponent_end, exponent_negative};
+ghost use Rattle.digit_floats.specs.Parts.{integer_of, fraction_of, IsMantissa};
 
 use digit_literals::{FirstDigits, read_first_digits_from};
 use lexical_digits::skip::Component;
+
+/// The bytes that begin a fraction and an exponent.
+#[derive(Clone, Copy, Debug, PartialEq, Eq)]
+pub struct Marks {
+    /// Between integer and fraction.
+    pub point: u8,
+    /// Before an exponent. Of a letter in lower case the upper case marks too.
+    pub exponent: u8,
+}
+
+impl Marks {
+    /// `.` and `e`.
+    pub const PLAIN: Marks = Marks {
+        point: b'.',
+        exponent: b'e',
+    };
+}
 
 /// A sign, if there is one: whether it is a minus, and the position after it.
 #[inline]
@@ -30,25 +47,25 @@ pub fn read_sign(text: &[u8], at: usize) -> (bool, usize)
 }
 
 /// Whether a point is at a position.
-#[inline]
-fn has_point(text: &[u8], at: usize) -> bool
-    ensures answer { result ≡ stands is_point text.now at }
+#[inline(always)]
+fn has_point(text: &[u8], at: usize, point: u8) -> bool
+    ensures answer { result ≡ stands (is_point point) text.now at }
     ensures within { result ≡ true → at < length text.now }
 {
     match text.get(at) {
-        Some(byte) => *byte == b'.',
+        Some(byte) => *byte == point,
         None => false,
     }
 }
 
 /// Whether the mark of an exponent is at a position.
-#[inline]
-fn has_mark(text: &[u8], at: usize) -> bool
-    ensures answer { result ≡ stands is_mark text.now at }
+#[inline(always)]
+fn has_mark(text: &[u8], at: usize, mark: u8) -> bool
+    ensures answer { result ≡ stands (is_mark mark) text.now at }
     ensures within { result ≡ true → at < length text.now }
 {
     match text.get(at) {
-        Some(byte) => *byte == b'e' || *byte == b'E',
+        Some(byte) => *byte == mark || *byte == mark.to_ascii_uppercase(),
         None => false,
     }
 }
@@ -90,65 +107,51 @@ fn read_part(
     read_first_digits_from(text, word, component, at, before, most)
 }
 
-/// The digits of integer and fraction.
-#[derive(Clone, Copy)]
+/// The digits of integer and fraction, and where they are in their text.
+#[derive(Clone, Copy, Debug, PartialEq, Eq)]
 pub struct Mantissa {
-    /// The first 19 significant ones as a number.
+    /// The first 19 significant ones as a number. The first that is no zero is the first
+    /// significant one.
     pub value: u64,
-    /// How many there are.
+    /// How many there are, zeros that lead among them.
     pub digits: usize,
     /// How many of them follow the point.
     pub places: usize,
-    /// How many aren't in the value.
+    /// How many follow the first 19 significant ones.
     pub dropped: usize,
-    /// Where the integer ends.
+    /// Where the integer begins.
+    pub start: usize,
+    /// Where it ends: here a point is, if any.
     pub whole_end: usize,
-    /// Where the fraction begins, after a point.
+    /// Where the fraction begins: after a point, if any.
     pub fraction_start: usize,
-    /// Where they end.
+    /// Where the fraction ends.
     pub end: usize,
 }
 
-/// Reads integer and fraction from a position on.
+/// Reads integer and fraction from a position on, where no sign is: none of them may have a digit.
 #[inline(always)]
-#[tactic(auto, using(digit_literals::proofs::ForCallers::value_of_both, crate::proofs::Plain::point_before, crate::proofs::Plain::no_point), unfolding(crate::specs::Float::mantissas))]
-pub fn read_mantissa(text: &[u8], word: u128, at: usize) -> Mantissa
+#[tactic(auto, using(digit_literals::proofs::ForCallers::value_of_both), unfolding(crate::specs::Float::mantissas))]
+pub fn read_mantissa(text: &[u8], word: u128, at: usize, point: u8) -> Mantissa
     requires supported { IsTrue (is_supported word) }
     requires decimal { IsDecimal word }
     requires within { at ≤ length text.now }
-    ensures value { let e = digits_end word text.now Integer at in
-        result.dropped ≡ 0 → result.value ≡ digits_value 10
-        (digits_from word text.now Integer at ++ fraction_digits word text.now e) }
-    ensures first { let e = digits_end word text.now Integer at in
-        IsCutAt (digits_value 10
-        (digits_from word text.now Integer at ++ fraction_digits word text.now e))
-        result.value result.dropped }
-    ensures few_dropped { result.dropped < 2 ^ 63 }
-    ensures digits { let e = digits_end word text.now Integer at in
-        result.digits ≡ length (digits_from word text.now Integer at)
-        + length (fraction_digits word text.now e) }
-    ensures places { let e = digits_end word text.now Integer at in
-        result.places ≡ length (fraction_digits word text.now e) }
-    ensures few_places { result.places < 2 ^ 63 }
-    ensures whole_bytes { filter is_ascii_digit (slice_range text.now at result.whole_end)
-        ≡ digits_from word text.now Integer at }
-    ensures fraction_bytes { filter is_ascii_digit (slice_range text.now result.fraction_start result.end)
-        ≡ fraction_digits word text.now (digits_end word text.now Integer at) }
-    ensures pointed { IsPointed (slice_range text.now at result.end)
-        (slice_range text.now at result.whole_end)
-        (slice_range text.now result.fraction_start result.end) }
-    ensures end { result.end ≡ mantissa_end word text.now at }
-    ensures onward { (at ≤ result.whole_end) × (result.whole_end ≤ result.fraction_start)
-        × (result.fraction_start ≤ result.end) }
-    ensures within { result.end ≤ length text.now }
+    ensures is { IsMantissa text.now result }
+    ensures integer { integer_of text.now result ≡ digits_from word text.now Integer at }
+    ensures fraction { let e = digits_end word text.now Integer at in
+        fraction_of text.now result ≡ fraction_digits word text.now point e }
+    ensures start { result.start ≡ at }
+    ensures whole_end { result.whole_end ≡ digits_end word text.now Integer at }
+    ensures end { result.end ≡ mantissa_end word text.now point at }
 {
     let (integer, whole_end) = read_part(text, word, Component::Integer, at, 0, MOST);
-    if !has_point(text, whole_end) {
+    if !has_point(text, whole_end, point) {
         return Mantissa {
             value: integer.value,
             digits: integer.count,
             places: 0,
             dropped: integer.dropped,
+            start: at,
             whole_end,
             fraction_start: whole_end,
             end: whole_end,
@@ -167,6 +170,7 @@ pub fn read_mantissa(text: &[u8], word: u128, at: usize) -> Mantissa
         digits: integer.count + fraction.count,
         places: fraction.count,
         dropped: integer.dropped + fraction.dropped,
+        start: at,
         whole_end,
         fraction_start: whole_end + 1,
         end,
@@ -174,8 +178,9 @@ pub fn read_mantissa(text: &[u8], word: u128, at: usize) -> Mantissa
 }
 
 /// An exponent.
-#[derive(Clone, Copy)]
+#[derive(Clone, Copy, Debug, PartialEq, Eq)]
 pub struct Power {
+    /// Whether it has a minus.
     pub negative: bool,
     /// Its value, or the greatest that fits.
     pub value: u64,
@@ -183,26 +188,26 @@ pub struct Power {
     pub end: usize,
 }
 
-/// Reads an exponent, if its mark is there: only where it ends if no digit follows the mark.
+/// Reads an exponent, if its mark is at this position: without a mark it is 0 and ends here. The
+/// error is where a digit would be: none follows the mark, and a sign after it.
 #[inline(always)]
 #[tactic(auto, unfolding(crate::specs::Float::exponents))]
-pub fn read_exponent(text: &[u8], word: u128, at: usize) -> Result<Power, usize>
+pub fn read_exponent(text: &[u8], word: u128, at: usize, mark: u8) -> Result<Power, usize>
     requires supported { IsTrue (is_supported word) }
     requires decimal { IsDecimal word }
     requires within { at ≤ length text.now }
     ensures value { IfOk result (λ p.
-        p.value ≡ min (digits_value 10 (exponent_digits word text.now at)) (2 ^ 64 - 1)) }
-    ensures negative { IfOk result (λ p. p.negative ≡ exponent_negative word text.now at) }
-    ensures end { IfOk result (λ p. p.end ≡ exponent_end word text.now at) }
-    ensures onward { IfOk result (λ p. at ≤ p.end) }
-    ensures within { IfOk result (λ p. p.end ≤ length text.now) }
-    ensures some { OnOk result (stands is_mark text.now at ≡ true
-        → 0 < length (exponent_digits word text.now at)) }
-    ensures mark { IfErr result (λ _. stands is_mark text.now at ≡ true) }
-    ensures none { IfErr result (λ _. length (exponent_digits word text.now at) ≡ 0) }
-    ensures stops { IfErr result (λ stop. stop ≡ exponent_end word text.now at) }
+        p.value ≡ min (digits_value 10 (exponent_digits word text.now mark at)) (2 ^ 64 - 1)) }
+    ensures negative { IfOk result (λ p. p.negative ≡ exponent_negative word text.now mark at) }
+    ensures end { IfOk result (λ p. p.end ≡ exponent_end word text.now mark at) }
+    ensures within { IfOk result (λ p. (at ≤ p.end) × (p.end ≤ length text.now)) }
+    ensures some { OnOk result (stands (is_mark mark) text.now at ≡ true
+        → 0 < length (exponent_digits word text.now mark at)) }
+    ensures mark { IfErr result (λ _. stands (is_mark mark) text.now at ≡ true) }
+    ensures none { IfErr result (λ _. length (exponent_digits word text.now mark at) ≡ 0) }
+    ensures stops { IfErr result (λ stop. stop ≡ exponent_end word text.now mark at) }
 {
-    if !has_mark(text, at) {
+    if !has_mark(text, at, mark) {
         return Ok(Power {
             negative: false,
             value: 0,

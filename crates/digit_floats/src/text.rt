@@ -7,7 +7,6 @@ ghost use Rattle.std.specs.Float.Ieee.{round};
 ghost use Rattle.std.specs.Float.Numeral.{text_of};
 ghost use Rattle.std.specs.Str.Parse.{digits_value, digits_value_after};
 ghost use Rattle.digit_floats.specs.Cut.{room, IsKept, four_digits, cut_parts};
-ghost use Rattle.digit_floats.specs.Bytes.{IsPointed};
 
 use super::Float;
 use super::exact::signed;
@@ -192,8 +191,12 @@ fn push_tens(bytes: &mut [u8], kept: Kept, tens: Tens) -> usize
     }
 }
 
-/// [`round_digits`] by a text that is written: the digits that are kept, and a power of ten.
-fn round_kept<F: Float>(
+/// The float nearest to a number of any length: the digits of two texts, of which the last `places`
+/// follow the point, times ten to a power. A text is written for std: the digits that are kept, and
+/// a power of ten.
+#[cold]
+#[inline(never)]
+pub fn round_digits<F: Float>(
     negative: bool,
     whole: &[u8],
     fraction: &[u8],
@@ -213,57 +216,4 @@ fn round_kept<F: Float>(
     let text = from_utf8(&bytes[..n]).unwrap();
     let x = F::of_text(text).unwrap();
     signed(negative, x)
-}
-
-/// The float nearest to the number that digits write, with a point among them or without, as std
-/// reads it; nothing if there are other bytes, or no digit before the point.
-#[inline(always)]
-#[tactic(auto, using(crate::proofs::Plain::reads_digits))]
-fn round_plain<F: Float>(number: &[u8], whole: &[u8], fraction: &[u8], digits: usize) -> Option<F>
-    requires pointed { IsPointed number.now whole.now fraction.now }
-    requires digits { digits ≡ length (filter is_ascii_digit whole.now)
-        + length (filter is_ascii_digit fraction.now) }
-    requires few { length whole.now + length fraction.now < 2 ^ 63 }
-    ensures { IfSome result (λ x. F.value x ≡ round F.format false
-        (digits_value 10 (filter is_ascii_digit whole.now ++ filter is_ascii_digit fraction.now))
-        (10 ^ length (filter is_ascii_digit fraction.now))) }
-{
-    if whole.is_empty() || digits < whole.len() + fraction.len() {
-        return None;
-    }
-    match from_utf8(number) {
-        Ok(text) => F::of_text(text),
-        Err(_) => None,
-    }
-}
-
-/// The float nearest to a number of any length: the digits of two texts, of which the last `places`
-/// follow the point, times ten to a power. `number` is both texts, with the point.
-#[cold]
-#[inline(never)]
-pub fn round_digits<F: Float>(
-    negative: bool,
-    number: &[u8],
-    whole: &[u8],
-    fraction: &[u8],
-    digits: usize,
-    places: u64,
-    power: Power,
-) -> F
-    requires pointed { IsPointed number.now whole.now fraction.now }
-    requires digits { digits ≡ length (filter is_ascii_digit whole.now)
-        + length (filter is_ascii_digit fraction.now) }
-    requires places { places ≡ length (filter is_ascii_digit fraction.now) }
-    requires few_places { places < 2 ^ 63 }
-    requires few { length whole.now + length fraction.now < 2 ^ 63 }
-    ensures { (n : ℕ) → power.value ≡ min n (2 ^ 64 - 1) → F.value result ≡ round F.format negative
-        (digits_value 10 (filter is_ascii_digit whole.now ++ filter is_ascii_digit fraction.now)
-        * 10 ^ (if power.negative then 0 else n)) (10 ^ (places + (if power.negative then n else 0))) }
-{
-    if power.value == 0 {
-        if let Some(x) = round_plain(number, whole, fraction, digits) {
-            return signed(negative, x);
-        }
-    }
-    round_kept(negative, whole, fraction, places, power)
 }

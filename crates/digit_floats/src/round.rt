@@ -1,0 +1,55 @@
+//! The float nearest to a number that was read.
+
+ghost use Rattle.std.specs.Prelude.{◌≡◌, ◌+◌, ◌*◌, ◌-◌, ◌^◌, ◌++◌, ℕ, min, if◌then◌else◌};
+ghost use Rattle.std.specs.Float.Ieee.{round};
+ghost use Rattle.std.specs.Str.Parse.{digits_value};
+ghost use Rattle.digit_floats.specs.Parts.{integer_of, fraction_of, IsMantissa};
+
+use super::Float;
+use super::exact::{round_exact, round_near};
+use super::read::{Mantissa, Power};
+use super::text::round_digits;
+
+/// The float nearest to the number that integer, fraction and exponent of a text make, with a sign.
+#[inline(always)]
+#[tactic(auto, using(crate::proofs::First::cut_at))]
+pub fn round_parts<F: Float>(text: &[u8], negative: bool, mantissa: Mantissa, power: Power) -> F
+    requires { IsMantissa text.now mantissa }
+    ensures { (n : ℕ) → power.value ≡ min n (2 ^ 64 - 1) → F.value result ≡ round F.format negative
+        (digits_value 10 (integer_of text.now mantissa ++ fraction_of text.now mantissa)
+        * 10 ^ (if power.negative then 0 else n))
+        (10 ^ (mantissa.places + (if power.negative then n else 0))) }
+{
+    let places = mantissa.places as u64;
+    if mantissa.dropped == 0 && power.value <= 0xffff_ffff {
+        if let Some(x) = round_exact::<F>(
+            negative,
+            mantissa.value,
+            places,
+            power.negative,
+            power.value,
+        ) {
+            return x;
+        }
+    }
+    if power.value <= 0xffff_ffff {
+        let cut = mantissa.dropped as u64;
+        if let Some(x) = round_near::<F>(
+            negative,
+            mantissa.value,
+            cut,
+            places,
+            power.negative,
+            power.value,
+        ) {
+            return x;
+        }
+    }
+    round_digits::<F>(
+        negative,
+        &text[mantissa.start..mantissa.whole_end],
+        &text[mantissa.fraction_start..mantissa.end],
+        places,
+        power,
+    )
+}
