@@ -165,7 +165,7 @@ module _ (word : ℕ) (text : List ℕ) (decimal : IsDecimal word) (plain : HasN
 
   sign_within : (i : ℕ) (b : Bool) → stands is_sign text i ≡ b → i ≤ length text
       → past_sign text i ≤ length text
-  sign_within i true e l = let h = stands_within (is_sign text i e in rw e (omega arith)
+  sign_within i true e l = let h = stands_within is_sign text i e in rw e (omega arith)
   sign_within i false e l = rw e l
 
   start_within : (j : ℕ) → stands (is_mark 101) text (at + j) ≡ true

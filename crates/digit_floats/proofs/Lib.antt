@@ -5,6 +5,7 @@ mod Decimals
 mod First
 mod Huge
 mod Kept
+mod Mantissas
 mod NearBetween
 mod NearFloats
 mod NearProduct

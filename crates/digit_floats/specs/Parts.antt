@@ -21,4 +21,5 @@ pub record IsMantissa (text : List ℕ) (m : Mantissa) : Type 0 where
   pub whole : m.start ≤ m.whole_end
   pub onward : m.whole_end ≤ m.fraction_start
   pub fraction : m.fraction_start ≤ m.end
+  pub long : m.start + m.digits ≤ m.end
   pub within : m.end ≤ length text
