@@ -9,7 +9,7 @@ use Rattle.std.proofs.lemmas.Int.Digits.{digits_value_push, digits_push}
 use Rattle.std.proofs.lemmas.List.{take_more_set}
 use Rattle.std.proofs.lemmas.List.Elements.{filter_more}
 use lib.Pow.{pow-add}
-use Rattle.digit_floats.specs.declared.text.Kept.{Kept}
+use Rattle.digit_floats.specs.declared.long.Kept.{Kept}
 use Rattle.digit_floats.specs.Cut.{room, IsCut, IsKept}
 
 -- ---- the number

@@ -2,6 +2,7 @@ mod AsStd
 mod Cut
 mod CutOff
 mod Decimals
+mod Exponents
 mod First
 mod Huge
 mod Kept

@@ -3,7 +3,7 @@
 use Rattle.std.specs.Prelude.{◌≡◌, ℕ, ◌+◌, ◌*◌, ◌/◌, ◌%◌, ◌^◌, ◌<◌, ◌≤◌, Bool, true, false, if◌then◌else◌, nat_lt, List, [], ◌∷◌, ◌++◌, take, length}
 use Rattle.std.specs.Float.Numeral.{Parts, text_of}
 use Rattle.std.specs.Str.Parse.{AllDigits, digits_value}
-use Rattle.digit_floats.specs.declared.text.Kept.{Kept}
+use Rattle.digit_floats.specs.declared.long.Kept.{Kept}
 
 -- how many digits are kept
 abbrev pub room : ℕ

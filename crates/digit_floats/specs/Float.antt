@@ -8,9 +8,9 @@ use Rattle.lexical_digits.specs.declared.skip.component.Component.TheVariants.{I
 use Rattle.lexical_digits.specs.State.{rule_of}
 use Rattle.lexical_digits.specs.Stop.{stop}
 use Rattle.digit_literals.specs.After.{digits_between}
-use Rattle.digit_floats.specs.declared.read.Marks.{Marks}
-use Rattle.digit_floats.specs.declared.FloatError.{FloatError}
-use Rattle.digit_floats.specs.declared.FloatError.TheVariants.{Empty, EmptyExponent, Invalid}
+use Rattle.digit_floats.specs.declared.parts.Marks.{Marks}
+use Rattle.digit_floats.specs.declared.error.FloatError.{FloatError}
+use Rattle.digit_floats.specs.declared.error.FloatError.TheVariants.{Empty, EmptyExponent, Invalid}
 use Rattle.digit_floats.specs.Bytes.{stands, is_sign, is_minus, is_point, is_mark}
 
 -- mantissa and exponent are written in decimal
@@ -20,6 +20,11 @@ IsDecimal word = (mantissa_radix word ≡ 10) × (exponent_radix word ≡ 10)
 -- the position after a sign, if one stands there
 abbrev pub past_sign : List ℕ → ℕ → ℕ
 past_sign text at = if stands is_sign text at then at + 1 else at
+
+-- a number and where it ends, or why there is none
+abbrev pub with_end : {A : Type 0} → A → Result ℕ FloatError → Result (A × ℕ) FloatError
+with_end x (Ok end) = Ok (x, end)
+with_end x (Err error) = Err error
 
 module _ (word : ℕ) (text : List ℕ) where
   -- where the digits of a component end that begin at a position, and these digits
@@ -102,16 +107,20 @@ module _ (word : ℕ) (text : List ℕ) where
       pub exponent : stands (is_mark marks.exponent) text (mantissa_end marks.point at) ≡ true
           → 0 < length (exponent_digits marks.exponent (mantissa_end marks.point at))
 
-    -- what is read from a position on: a float and where it ends, or why there is none
-    abbrev pub read_at : Format → ℕ → Result (Float × ℕ) FloatError
-    read_at f at =
+    -- where the number ends that begins at a position, with a sign, or why there is none
+    abbrev pub end_at : ℕ → Result ℕ FloatError
+    end_at at =
         let start = past_sign text at in
         let mark = mantissa_end marks.point start in
         if mantissa_count marks.point start == 0 then Err (Empty mark) else
         if stands (is_mark marks.exponent) text mark
-            && (length (exponent_digits marks.exponent mark) == 0)
+        && (length (exponent_digits marks.exponent mark) == 0)
         then Err (EmptyExponent (number_end start)) else
-        Ok (float_at f at, float_end at)
+        Ok (number_end start)
+
+    -- the float there and where it ends, or why there is none
+    abbrev pub read_at : Format → ℕ → Result (Float × ℕ) FloatError
+    read_at f at = with_end (float_at f at) (end_at at)
 
   -- the same of a text that is to be one float
   abbrev pub whole_of : Result (Float × ℕ) FloatError → Result Float FloatError

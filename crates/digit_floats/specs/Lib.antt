@@ -1,5 +1,7 @@
 pub mod Bytes
 pub mod Cut
+pub mod Decimals
+pub mod Errors
 pub mod Exact
 pub mod Float
 pub mod Near

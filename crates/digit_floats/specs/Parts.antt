@@ -1,8 +1,14 @@
 -- The parts of a float that were read: their digits in the text.
-use Rattle.std.specs.Prelude.{◌≡◌, ℕ, ◌+◌, ◌^◌, ◌<◌, ◌≤◌, List, ◌++◌, length, filter, slice_range}
+use Rattle.std.specs.Prelude.{◌≡◌, ℕ, ◌+◌, ◌-◌, ◌^◌, min, ◌<◌, ◌≤◌, List, ◌++◌, length, filter, slice_range}
 use Rattle.std.specs.Char.{is_ascii_digit}
 use Rattle.digit_literals.specs.Significant.{IsOfFirstDigits}
-use Rattle.digit_floats.specs.declared.read.Mantissa.{Mantissa}
+use Rattle.std.specs.Str.Parse.{digits_value}
+use Rattle.lexical_digits.specs.declared.skip.component.Component.TheVariants.{Integer}
+use Rattle.digit_floats.specs.declared.parts.Mantissa.{Mantissa}
+use Rattle.digit_floats.specs.declared.parts.Marks.{Marks}
+use Rattle.digit_floats.specs.declared.parts.Parts.{Parts}
+use Rattle.digit_floats.specs.Bytes.{stands, is_minus}
+use Rattle.digit_floats.specs.Float.{past_sign, digits_end, digits_from, fraction_digits, mantissa_end, exponent_digits, exponent_negative}
 
 -- the digits of integer and fraction
 abbrev pub integer_of : List ℕ → Mantissa → List ℕ
@@ -23,3 +29,20 @@ pub record IsMantissa (text : List ℕ) (m : Mantissa) : Type 0 where
   pub fraction : m.fraction_start ≤ m.end
   pub long : m.start + m.digits ≤ m.end
   pub within : m.end ≤ length text
+
+-- parts are those of the number at a position, with a sign
+pub record IsParts (word : ℕ) (text : List ℕ) (marks : Marks) (at : ℕ) (p : Parts) : Type 0 where
+  pub negative : p.negative ≡ stands is_minus text at
+  pub mantissa : IsMantissa text p.mantissa
+  pub integer : integer_of text p.mantissa ≡ digits_from word text Integer (past_sign text at)
+  pub fraction : fraction_of text p.mantissa
+      ≡ fraction_digits word text marks.point (digits_end word text Integer (past_sign text at))
+  pub power_negative : p.power.negative
+      ≡ exponent_negative word text marks.exponent
+      (mantissa_end word text marks.point (past_sign text at))
+  pub power : p.power.value
+      ≡ min
+      (digits_value 10
+      (exponent_digits word text marks.exponent
+      (mantissa_end word text marks.point (past_sign text at))))
+      (2 ^ 64 - 1)

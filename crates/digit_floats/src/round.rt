@@ -5,10 +5,11 @@ ghost use Rattle.std.specs.Float.Ieee.{round};
 ghost use Rattle.std.specs.Str.Parse.{digits_value};
 ghost use Rattle.digit_floats.specs.Parts.{integer_of, fraction_of, IsMantissa};
 
-use super::Float;
-use super::exact::{round_exact, round_near};
-use super::read::{Mantissa, Power};
-use super::text::round_digits;
+use super::exact::round_exact;
+use super::float::Float;
+use super::long::round_digits;
+use super::near::round_near;
+use super::parts::{Mantissa, Power};
 
 /// The float nearest to the number that integer, fraction and exponent of a text make, with a sign.
 #[inline(always)]

@@ -1,8 +1,0 @@
-use Rattle.std.proofs.Common.{arith}
-use Rattle.std.specs.Float.{binary64}
-use Rattle.digit_floats.proofs.Tens.{over_ten}
-use Rattle.digit_floats.proofs.F64Float.over_ten_to.Goals as goal
-
-pub returns : goal.returns
-returns c =
-    over_ten binary64 c.args.digits c.args.tens _ (omega arith) c.ten_to_f64.ensures

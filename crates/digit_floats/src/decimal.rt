@@ -1,0 +1,76 @@
+//! The decimal number at a position of a text.
+
+ghost use Rattle.std.specs.Prelude.{◌≡◌, ◌<◌, ◌≤◌, ◌^◌, ◌-◌, ℕ, min, length, if◌then◌else◌, pos, neg_ℤ, ◌+ℤ◌, ◌-ℤ◌, IsTrue, IfOk, Ok, Err, MatchResult};
+ghost use Rattle.std.specs.Int.{saturate_signed, w64};
+ghost use Rattle.lexical_format.specs.Word.{is_supported};
+ghost use Rattle.digit_floats.specs.Decimals.{read_decimal_at};
+ghost use Rattle.digit_floats.specs.Float.{IsDecimal, plain_marks};
+
+use super::error::FloatError;
+use super::parts::{Marks, Power, read_parts};
+
+/// A decimal number: about `value` times ten to the power `exponent`, and exactly that if no digit
+/// was dropped.
+#[derive(Clone, Copy, Debug, PartialEq, Eq)]
+pub struct Decimal {
+    /// Whether it has a minus; so may a zero.
+    pub negative: bool,
+    /// The first 19 significant digits as a number. The first that is no zero is the first
+    /// significant one.
+    pub value: u64,
+    /// How many digits follow those of the value.
+    pub dropped: usize,
+    /// The exponent that is written, more by each digit that was dropped, and less by each that
+    /// follows the point; or the end of `i64` nearest to it.
+    pub exponent: i64,
+}
+
+/// An exponent, more by the digits that were dropped and less by those that follow the point.
+#[inline(always)]
+#[tactic(auto, using(crate::proofs::Exponents::capped))]
+fn exponent_of(power: Power, dropped: usize, places: usize) -> i64
+    requires dropped { dropped < 2 ^ 63 }
+    requires places { places < 2 ^ 63 }
+    ensures { (n : ℕ) → power.value ≡ min n (2 ^ 64 - 1) → result ≡ saturate_signed w64
+        ((if power.negative then neg_ℤ (pos n) else pos n) +ℤ (pos dropped -ℤ pos places)) }
+{
+    let more = dropped as i64 - places as i64;
+    if power.negative {
+        more.saturating_sub_unsigned(power.value)
+    } else {
+        more.saturating_add_unsigned(power.value)
+    }
+}
+
+/// The decimal number that begins at a position of a text, and the position after it: what
+/// [`read_float_from`](crate::read_float_from) rounds. Requires that the word is supported, and
+/// that its mantissa and exponent are decimal.
+///
+/// ```text
+/// `-0.1000000000000000055511151231257827e+7x`:
+///     value 1000000000000000055, dropped 15, exponent 7 + 15 - 34 = -12, end 40
+/// ```
+#[inline(always)]
+pub fn read_decimal_from(
+    text: &[u8],
+    word: u128,
+    start: usize,
+) -> Result<(Decimal, usize), FloatError>
+    requires supported { IsTrue (is_supported word) }
+    requires decimal { IsDecimal word }
+    requires within { start ≤ length text.now }
+    ensures reads { MatchResult result
+        (λ r. read_decimal_at word text.now plain_marks start ≡ Ok r)
+        (λ error. read_decimal_at word text.now plain_marks start ≡ Err error) }
+    ensures within { IfOk result (λ r. (start < r.1) × (r.1 ≤ length text.now)) }
+{
+    let parts = read_parts(text, word, Marks::PLAIN, start)?;
+    let mantissa = parts.mantissa;
+    let number = Decimal {
+        negative: parts.negative,
+        value: mantissa.value,
+        dropped: mantissa.dropped,
+        exponent: exponent_of(parts.power, mantissa.dropped, mantissa.places),
+    };
+    Ok((number, parts.power.end))
+}

@@ -1,0 +1,44 @@
+//! Why a text has no float.
+
+ghost use Rattle.std.specs.Prelude.{◌≡◌, Some};
+ghost use Rattle.digit_floats.specs.Errors as errors;
+ghost use Rattle.digit_floats.specs.Errors.{message};
+
+use std::error::Error;
+use std::fmt;
+
+/// Why there is no float. A position counts bytes from the start of the text, from 0.
+#[derive(Clone, Copy, Debug, PartialEq, Eq)]
+pub enum FloatError {
+    /// Neither integer nor fraction has a digit; they end here.
+    Empty(usize),
+    /// No digit follows the mark of an exponent; one would be here.
+    EmptyExponent(usize),
+    /// The byte at this position is no part of the float before it.
+    Invalid(usize),
+}
+
+impl FloatError {
+    /// The position that the error holds.
+    pub fn position(&self) -> usize
+        ensures { result ≡ errors.position self.now }
+    {
+        match *self {
+            FloatError::Empty(at) | FloatError::EmptyExponent(at) | FloatError::Invalid(at) => at,
+        }
+    }
+}
+
+impl fmt::Display for FloatError {
+    ghost output = { λ e. Some (message e) };
+
+    fn fmt<W: fmt::Write>(&self, f: &mut fmt::Formatter<W>) -> fmt::Result {
+        match *self {
+            FloatError::Empty(at) => write!(f, "there is no digit before {at}"),
+            FloatError::EmptyExponent(at) => write!(f, "the exponent has no digit at {at}"),
+            FloatError::Invalid(at) => write!(f, "the byte at {at} is no part of a float"),
+        }
+    }
+}
+
+impl Error for FloatError {}

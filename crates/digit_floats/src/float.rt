@@ -1,0 +1,135 @@
+//! `f64` and `f32`: what rounding asks of a type of floats.
+
+ghost use Rattle.std.specs.Prelude.{◌≡◌, ◌+◌, ◌<◌, ◌≤◌, ◌*◌, ◌^◌, ℕ, false, IfSome, Some, None, MatchOption};
+ghost use Rattle.std.specs.Float as Ieee;
+ghost use Rattle.std.specs.Float.{Format, binary32, binary64};
+ghost use Rattle.std.specs.Float.Ieee.{neg, round};
+ghost use Rattle.std.specs.Float.Parse.{parse_float as std_float};
+ghost use Rattle.digit_floats.specs.Near.{IsBetween};
+
+use super::exact::{ten_to_f32, ten_to_f64};
+use super::near::nearest_f64;
+
+/// `f64` and `f32`.
+pub trait Float: Copy {
+    /// The format, in std's word.
+    ghost format: { Format };
+
+    /// The number that a float is.
+    ghost value: { Self → Ieee.Float };
+
+    /// The float that a text is, by std's `parse`.
+    fn of_text(text: &str) -> Option<Self>
+        ensures { MatchOption result (std_float format text.now ≡ None)
+            (λ x. std_float format text.now ≡ Some (value x)) };
+
+    /// The digits times ten to a power, if both factors are exact.
+    fn times_ten_to(digits: u64, tens: u64) -> Option<Self>
+        ensures { IfSome result (λ x. value x ≡ round format false (digits * 10 ^ tens) 1) };
+
+    /// The digits over ten to a power, if both are exact.
+    fn over_ten_to(digits: u64, tens: u64) -> Option<Self>
+        ensures { IfSome result (λ x. value x ≡ round format false digits (10 ^ tens)) };
+
+    /// The float nearest to all numbers from the digits to the digits and `more`, times
+    /// 10 ^ (power - 288), if one product tells.
+    fn nearest(digits: u64, more: u64, power: u64) -> Option<Self>
+        requires digits { 0 < digits }
+        requires more { (more ≤ 1) × (more * 2 ^ 58 ≤ digits) }
+        requires power { power < 577 }
+        ensures { IfSome result (λ x. (num den : ℕ) → 0 < den
+            → IsBetween num den digits (digits + more) power → value x ≡ round format false num den) };
+
+    /// The float with the other sign.
+    fn negated(self) -> Self
+        ensures { value result ≡ neg (value self) };
+}
+
+impl Float for f64 {
+    ghost format = { binary64 };
+
+    ghost value = { λ x. x };
+
+    #[inline]
+    fn of_text(text: &str) -> Option<f64> {
+        match text.parse::<f64>() {
+            Ok(x) => Some(x),
+            Err(_) => None,
+        }
+    }
+
+    #[inline(always)]
+    fn times_ten_to(digits: u64, tens: u64) -> Option<f64> {
+        if digits > 1 << 53 || tens > 22 {
+            return None;
+        }
+        Some(digits as f64 * ten_to_f64(tens))
+    }
+
+    #[inline(always)]
+    fn over_ten_to(digits: u64, tens: u64) -> Option<f64> {
+        if digits > 1 << 53 || tens > 22 {
+            return None;
+        }
+        Some(digits as f64 / ten_to_f64(tens))
+    }
+
+    #[inline(always)]
+    fn nearest(digits: u64, more: u64, power: u64) -> Option<f64> {
+        nearest_f64(digits, more, power)
+    }
+
+    #[inline(always)]
+    fn negated(self) -> f64 {
+        -self
+    }
+}
+
+impl Float for f32 {
+    ghost format = { binary32 };
+
+    ghost value = { λ x. x };
+
+    #[inline]
+    fn of_text(text: &str) -> Option<f32> {
+        match text.parse::<f32>() {
+            Ok(x) => Some(x),
+            Err(_) => None,
+        }
+    }
+
+    #[inline(always)]
+    fn times_ten_to(digits: u64, tens: u64) -> Option<f32> {
+        if digits > 1 << 24 || tens > 10 {
+            return None;
+        }
+        Some(digits as f32 * ten_to_f32(tens))
+    }
+
+    #[inline(always)]
+    fn over_ten_to(digits: u64, tens: u64) -> Option<f32> {
+        if digits > 1 << 24 || tens > 10 {
+            return None;
+        }
+        Some(digits as f32 / ten_to_f32(tens))
+    }
+
+    #[inline(always)]
+    fn nearest(_digits: u64, _more: u64, _power: u64) -> Option<f32> {
+        None
+    }
+
+    #[inline(always)]
+    fn negated(self) -> f32 {
+        -self
+    }
+}
+
+/// A float with a sign.
+#[inline(always)]
+pub fn signed<F: Float>(negative: bool, x: F) -> F
+    ensures { (num den : ℕ) → F.value x ≡ round F.format false num den
+        → F.value result ≡ round F.format negative num den }
+{
+    if negative { x.negated() } else { x }
+}

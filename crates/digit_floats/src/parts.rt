@@ -1,0 +1,270 @@
+//! Sign, mantissa and exponent of a number, each component from where it begins.
+
+ghost use Rattle.std.specs.Prelude.{◌≡◌, true, ◌+◌, ◌-◌, ◌^◌, ◌<◌, ◌≤◌, min, length, filter, slice_range, IsTrue, IfOk, IfErr, OnOk, Ok, Err, MatchResult};
+ghost use Rattle.std.specs.Char.{is_ascii_digit};
+ghost use Rattle.std.specs.Str.Parse.{digits_value, digits_value_after};
+ghost use Rattle.lexical_format.specs.Word.{is_supported};
+ghost use Rattle.lexical_digits.specs.State.{rule_of};
+ghost use Rattle.lexical_digits.specs.declared.skip.component.Component.TheVariants.{Integer};
+ghost use Rattle.digit_literals.specs.First.{ReadsFirst};
+ghost use Rattle.digit_floats.specs.Bytes.{stands, is_minus, is_point, is_mark};
+ghost use Rattle.digit_floats.specs.Float.{IsDecimal, past_sign, digits_from, digits_end, fraction_digits, mantissa_end, exponent_digits, exponent_end, exponent_negative};
+ghost use Rattle.digit_floats.specs.Float.{end_at};
+ghost use Rattle.digit_floats.specs.Parts.{integer_of, fraction_of, IsMantissa, IsParts};
+
+use super::error::FloatError;
+use digit_literals::{FirstDigits, read_first_digits_from};
+use lexical_digits::skip::Component;
+
+/// The bytes that begin a fraction and an exponent.
+#[derive(Clone, Copy, Debug, PartialEq, Eq)]
+pub struct Marks {
+    /// Between integer and fraction.
+    pub point: u8,
+    /// Before an exponent. Of a letter in lower case the upper case marks too.
+    pub exponent: u8,
+}
+
+impl Marks {
+    /// `.` and `e`.
+    pub const PLAIN: Marks = Marks {
+        point: b'.',
+        exponent: b'e',
+    };
+}
+
+/// A sign, if there is one: whether it is a minus, and the position after it.
+#[inline]
+pub fn read_sign(text: &[u8], at: usize) -> (bool, usize)
+    requires { at ≤ length text.now }
+    ensures minus { result.0 ≡ stands is_minus text.now at }
+    ensures after { result.1 ≡ past_sign text.now at }
+    ensures within { result.1 ≤ length text.now }
+{
+    match text.get(at) {
+        Some(b'-') => (true, at + 1),
+        Some(b'+') => (false, at + 1),
+        _ => (false, at),
+    }
+}
+
+/// Whether a point is at a position.
+#[inline(always)]
+fn has_point(text: &[u8], at: usize, point: u8) -> bool
+    ensures answer { result ≡ stands (is_point point) text.now at }
+    ensures within { result ≡ true → at < length text.now }
+{
+    match text.get(at) {
+        Some(byte) => *byte == point,
+        None => false,
+    }
+}
+
+/// Whether the mark of an exponent is at a position.
+#[inline(always)]
+fn has_mark(text: &[u8], at: usize, mark: u8) -> bool
+    ensures answer { result ≡ stands (is_mark mark) text.now at }
+    ensures within { result ≡ true → at < length text.now }
+{
+    match text.get(at) {
+        Some(byte) => *byte == mark || *byte == mark.to_ascii_uppercase(),
+        None => false,
+    }
+}
+
+/// The greatest value of 19 digits.
+const MOST: u64 = 9_999_999_999_999_999_999;
+
+/// The first digits of a component from a position on, after those of a number, and where they end.
+#[inline(always)]
+#[tactic(auto, using(crate::proofs::Decimals::digits_are, digit_literals::proofs::ForCallers::dropped), unfolding(crate::specs::Float::digits_from, crate::specs::Float::digits_end))]
+fn read_part(
+    text: &[u8],
+    word: u128,
+    component: Component,
+    at: usize,
+    before: u64,
+    most: u64,
+) -> (FirstDigits, usize)
+    requires supported { IsTrue (is_supported word) }
+    requires within { at ≤ length text.now }
+    requires before { before ≤ most }
+    ensures count { result.0.count ≡ length (digits_from word text.now component at) }
+    ensures whole { result.0.dropped ≡ 0
+        → result.0.value ≡ digits_value_after (rule_of word component).radix before
+        (digits_from word text.now component at) }
+    ensures dropped { result.0.dropped ≤ result.0.count }
+    ensures over { 0 < result.0.dropped → most < digits_value_after (rule_of word component).radix before
+        (digits_from word text.now component at) }
+    ensures bytes { (rule_of word component).radix ≡ 10
+        → filter is_ascii_digit (slice_range text.now at result.1)
+        ≡ digits_from word text.now component at }
+    ensures fits { result.0.value ≤ most }
+    ensures first { ReadsFirst (rule_of word component).radix most before
+        (digits_from word text.now component at) result.0 }
+    ensures end { result.1 ≡ digits_end word text.now component at }
+    ensures onward { at + result.0.count ≤ result.1 }
+    ensures within { result.1 ≤ length text.now }
+{
+    read_first_digits_from(text, word, component, at, before, most)
+}
+
+/// The digits of integer and fraction, and where they are in their text.
+#[derive(Clone, Copy, Debug, PartialEq, Eq)]
+pub struct Mantissa {
+    /// The first 19 significant ones as a number. The first that is no zero is the first
+    /// significant one.
+    pub value: u64,
+    /// How many there are, zeros that lead among them.
+    pub digits: usize,
+    /// How many of them follow the point.
+    pub places: usize,
+    /// How many follow the first 19 significant ones.
+    pub dropped: usize,
+    /// Where the integer begins.
+    pub start: usize,
+    /// Where it ends: here a point is, if any.
+    pub whole_end: usize,
+    /// Where the fraction begins: after a point, if any.
+    pub fraction_start: usize,
+    /// Where the fraction ends.
+    pub end: usize,
+}
+
+/// Reads integer and fraction from a position on, where no sign is: none of them may have a digit.
+#[inline(always)]
+#[tactic(auto, using(digit_literals::proofs::ForCallers::value_of_both), unfolding(crate::specs::Float::mantissas))]
+pub fn read_mantissa(text: &[u8], word: u128, at: usize, point: u8) -> Mantissa
+    requires supported { IsTrue (is_supported word) }
+    requires decimal { IsDecimal word }
+    requires within { at ≤ length text.now }
+    ensures is { IsMantissa text.now result }
+    ensures integer { integer_of text.now result ≡ digits_from word text.now Integer at }
+    ensures fraction { let e = digits_end word text.now Integer at in
+        fraction_of text.now result ≡ fraction_digits word text.now point e }
+    ensures start { result.start ≡ at }
+    ensures whole_end { result.whole_end ≡ digits_end word text.now Integer at }
+    ensures end { result.end ≡ mantissa_end word text.now point at }
+{
+    let (integer, whole_end) = read_part(text, word, Component::Integer, at, 0, MOST);
+    if !has_point(text, whole_end, point) {
+        return Mantissa {
+            value: integer.value,
+            digits: integer.count,
+            places: 0,
+            dropped: integer.dropped,
+            start: at,
+            whole_end,
+            fraction_start: whole_end,
+            end: whole_end,
+        };
+    }
+    let (fraction, end) = read_part(
+        text,
+        word,
+        Component::Fraction,
+        whole_end + 1,
+        integer.value,
+        MOST,
+    );
+    Mantissa {
+        value: fraction.value,
+        digits: integer.count + fraction.count,
+        places: fraction.count,
+        dropped: integer.dropped + fraction.dropped,
+        start: at,
+        whole_end,
+        fraction_start: whole_end + 1,
+        end,
+    }
+}
+
+/// An exponent.
+#[derive(Clone, Copy, Debug, PartialEq, Eq)]
+pub struct Power {
+    /// Whether it has a minus.
+    pub negative: bool,
+    /// Its value, or the greatest that fits.
+    pub value: u64,
+    /// Where its digits end.
+    pub end: usize,
+}
+
+/// Reads an exponent, if its mark is at this position: without a mark it is 0 and ends here. The
+/// error is where a digit would be: none follows the mark, and a sign after it.
+#[inline(always)]
+#[tactic(auto, unfolding(crate::specs::Float::exponents))]
+pub fn read_exponent(text: &[u8], word: u128, at: usize, mark: u8) -> Result<Power, usize>
+    requires supported { IsTrue (is_supported word) }
+    requires decimal { IsDecimal word }
+    requires within { at ≤ length text.now }
+    ensures value { IfOk result (λ p.
+        p.value ≡ min (digits_value 10 (exponent_digits word text.now mark at)) (2 ^ 64 - 1)) }
+    ensures negative { IfOk result (λ p. p.negative ≡ exponent_negative word text.now mark at) }
+    ensures end { IfOk result (λ p. p.end ≡ exponent_end word text.now mark at) }
+    ensures within { IfOk result (λ p. (at ≤ p.end) × (p.end ≤ length text.now)) }
+    ensures some { OnOk result (stands (is_mark mark) text.now at ≡ true
+        → 0 < length (exponent_digits word text.now mark at)) }
+    ensures mark { IfErr result (λ _. stands (is_mark mark) text.now at ≡ true) }
+    ensures none { IfErr result (λ _. length (exponent_digits word text.now mark at) ≡ 0) }
+    ensures stops { IfErr result (λ stop. stop ≡ exponent_end word text.now mark at) }
+{
+    if !has_mark(text, at, mark) {
+        return Ok(Power {
+            negative: false,
+            value: 0,
+            end: at,
+        });
+    }
+    let (negative, start) = read_sign(text, at + 1);
+    let (part, end) = read_part(text, word, Component::Exponent, start, 0, u64::MAX);
+    if part.count == 0 {
+        return Err(end);
+    }
+    let value = if part.dropped > 0 {
+        u64::MAX
+    } else {
+        part.value
+    };
+    Ok(Power {
+        negative,
+        value,
+        end,
+    })
+}
+
+/// The parts of a number.
+#[derive(Clone, Copy)]
+pub struct Parts {
+    /// Whether it has a minus.
+    pub negative: bool,
+    pub mantissa: Mantissa,
+    pub power: Power,
+}
+
+/// Reads a number from a position on.
+#[inline(always)]
+pub fn read_parts(text: &[u8], word: u128, marks: Marks, start: usize) -> Result<Parts, FloatError>
+    requires supported { IsTrue (is_supported word) }
+    requires decimal { IsDecimal word }
+    requires within { start ≤ length text.now }
+    ensures ends { MatchResult result
+        (λ p. end_at word text.now marks start ≡ Ok p.power.end)
+        (λ error. end_at word text.now marks start ≡ Err error) }
+    ensures is { IfOk result (IsParts word text.now marks start) }
+    ensures within { IfOk result (λ p. (start < p.power.end) × (p.power.end ≤ length text.now)) }
+{
+    let (negative, at) = read_sign(text, start);
+    let mantissa = read_mantissa(text, word, at, marks.point);
+    if mantissa.digits == 0 {
+        return Err(FloatError::Empty(mantissa.end));
+    }
+    match read_exponent(text, word, mantissa.end, marks.exponent) {
+        Ok(power) => Ok(Parts {
+            negative,
+            mantissa,
+            power,
+        }),
+        Err(stop) => Err(FloatError::EmptyExponent(stop)),
+    }
+}
