@@ -1,4 +1,5 @@
 mod AsStd
+mod Between
 mod Cut
 mod CutOff
 mod Decimals
@@ -7,12 +8,11 @@ mod First
 mod Huge
 mod Kept
 mod Mantissas
-mod NearBetween
-mod NearFloats
-mod NearProduct
-mod NearRows
 mod Numbers
+mod Product
+mod Rows
 mod Signs
 mod Squeeze
+mod Sums
 mod Tens
 mod Written

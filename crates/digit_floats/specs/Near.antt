@@ -1,6 +1,7 @@
 -- The powers of ten from 10 ^ -288 to 10 ^ 288, each by 64 bits and a power of two.
 use Rattle.std.specs.Prelude.{ℕ, min, ◌+◌, ◌-◌, ◌*◌, ◌/◌, ◌^◌, ◌<◌, ◌≤◌, false}
-use Rattle.std.specs.Float.{Float}
+use Rattle.std.specs.Float.{Float, Format}
+use lib.Ieee.{low}
 use lib.Ieee.Exact.{HasValue}
 
 -- t * 2 ^ (power_scale q - 1020) is 10 ^ (q - 288), or just below it
@@ -18,9 +19,9 @@ pub record IsBetween (num den a b q : ℕ) : Type 0 where
   pub from : a * 10 ^ (q - 288) * den ≤ num * 10 ^ (288 - q)
   pub to : num * 10 ^ (288 - q) ≤ b * 10 ^ (q - 288) * den
 
--- x is 2 ^ k units, of 2 ^ -1074
-abbrev pub IsTwoTo : ℕ → Float → Type 0
-IsTwoTo k x = HasValue x false (2 ^ k) (2 ^ 1074)
+-- x is 2 ^ k of the least floats above 0
+abbrev pub IsTwoTo : Format → ℕ → Float → Type 0
+IsTwoTo f k x = HasValue x false (2 ^ k) (2 ^ low f)
 
 -- n is value and then `cut` digits more, if any
 pub record IsCutAt (n value cut : ℕ) : Type 0 where

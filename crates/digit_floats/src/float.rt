@@ -8,7 +8,7 @@ ghost use Rattle.std.specs.Float.Parse.{parse_float as std_float};
 ghost use Rattle.digit_floats.specs.Near.{IsBetween};
 
 use super::exact::{ten_to_f32, ten_to_f64};
-use super::near::nearest_f64;
+use super::near::{nearest_f32, nearest_f64};
 
 /// `f64` and `f32`.
 pub trait Float: Copy {
@@ -115,8 +115,8 @@ impl Float for f32 {
     }
 
     #[inline(always)]
-    fn nearest(_digits: u64, _more: u64, _power: u64) -> Option<f32> {
-        None
+    fn nearest(digits: u64, more: u64, power: u64) -> Option<f32> {
+        nearest_f32(digits, more, power)
     }
 
     #[inline(always)]

@@ -1,3 +1,2 @@
-mod Floats
 mod Remainders
 mod Tokens

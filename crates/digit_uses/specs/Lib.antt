@@ -1,8 +1,8 @@
 pub mod Bytes
 pub mod Durations
-pub mod Float
 pub mod Groups
 pub mod Lexer
 pub mod Literal
 pub mod Loops
+pub mod Money
 pub mod Number

@@ -5,8 +5,7 @@ use Rattle.lexical_digits.specs.State.{rule_of}
 use Rattle.lexical_digits.specs.Stop.{stop}
 use Rattle.lexical_digits.specs.declared.skip.component.Component.TheVariants.{Integer}
 use Rattle.digit_floats.specs.Bytes.{stands, is_point, is_mark}
-use Rattle.digit_floats.specs.Float as floats
-use Rattle.digit_floats.specs.Float.{past_sign, float_at, float_end}
+use Rattle.digit_floats.specs.Float.{plain_marks, read_at}
 use Rattle.digit_languages.specs.declared.language.Language.{Language}
 use Rattle.digit_languages.specs.Literals.{literal_at, typed}
 use Rattle.digit_uses.specs.declared.number.Number.{Number}
@@ -21,7 +20,9 @@ module _ (l : Language) (text : List ℕ) (start : ℕ) where
 
   -- a point or the mark of an exponent follows them
   abbrev pub is_float : Bool
-  is_float = stands is_point text whole_end || stands is_mark text whole_end
+  is_float =
+      stands (is_point plain_marks.point) text whole_end
+      || stands (is_mark plain_marks.exponent) text whole_end
 
   -- the integer literal here, by its prefix or its first `0`
   pub record IsInteger (value end : ℕ) : Type 0 where
@@ -31,9 +32,8 @@ module _ (l : Language) (text : List ℕ) (start : ℕ) where
   -- the float here, rounded once
   pub record IsFloat (x : Float) (end : ℕ) : Type 0 where
     pub decides : is_float ≡ true
-    pub value : x ≡ float_at l.decimal text binary64 start
+    pub reads : read_at l.decimal text plain_marks binary64 start ≡ Ok (x, end)
     pub number : NotNan x
-    pub ends : end ≡ float_end l.decimal text start
 
   abbrev pub IsNumber : Number → Type 0
   IsNumber (variants.Integer value end) = IsInteger value end
@@ -44,4 +44,4 @@ module _ (l : Language) (text : List ℕ) (start : ℕ) where
   IsFault (errors.Integer error) =
       (is_float ≡ false) × (literal_at l text start (2 ^ 128 - 1) ≡ Err error)
   IsFault (errors.Float error) =
-      (is_float ≡ true) × floats.IsFault l.decimal text (past_sign text start) error
+      (is_float ≡ true) × (read_at l.decimal text plain_marks binary64 start ≡ Err error)

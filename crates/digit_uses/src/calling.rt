@@ -1,6 +1,6 @@
 //! The blocks of the page CALLING.md, in its order. `.ci/pages` compares the two.
 
-ghost use Rattle.std.specs.Prelude.{◌≡◌, ℕ, ◌+◌, ◌-◌, ◌^◌, length, Ok, IfOk, IfErr, IfSome, IsTrue};
+ghost use Rattle.std.specs.Prelude.{◌≡◌, ℕ, ◌+◌, ◌-◌, ◌^◌, length, Ok, Err, IfOk, IfErr, IfSome, IsTrue, MatchResult};
 ghost use Rattle.std.specs.Float.{binary64};
 ghost use Rattle.lexical_format.specs.Word.{is_supported};
 ghost use Rattle.lexical_digits.specs.State.{rule_of};
@@ -9,7 +9,7 @@ ghost use Rattle.lexical_digits.specs.declared.skip.component.Component.TheVaria
 ghost use Rattle.digit_literals.specs.After.{digits_between};
 ghost use Rattle.digit_literals.specs.Integers.{integer_at};
 ghost use Rattle.digit_literals.specs.Numbers.{number_at, to_end};
-ghost use Rattle.digit_floats.specs.Float.{past_sign, float_at, IsWholeFault};
+ghost use Rattle.digit_floats.specs.Float.{plain_marks, parse_at};
 ghost use Rattle.digit_languages.specs.Literals.{literal_at};
 
 use digit_floats::{FloatError, parse_float};
@@ -38,9 +38,8 @@ pub fn parse_height(text: &[u8]) -> Result<i32, ParseError>
 /// The rate that a text is, as the nearest `f64`: `1_234.5e-1` gives 123.45.
 #[tactic(auto, unfolding(lexical_format::proofs::OnLiterals::lexical_on_literals))]
 pub fn parse_rate(text: &[u8]) -> Result<f64, FloatError>
-    ensures value { IfOk result (λ x. x ≡ float_at PYTHON_LITERAL text.now binary64 0) }
-    ensures fault { let start = past_sign text.now 0 in
-        IfErr result (IsWholeFault PYTHON_LITERAL text.now start) }
+    ensures { let parsed = parse_at PYTHON_LITERAL text.now plain_marks binary64 0 in
+        MatchResult result (λ x. parsed ≡ Ok x) (λ error. parsed ≡ Err error) }
 {
     parse_float::<f64>(text, PYTHON_LITERAL)
 }

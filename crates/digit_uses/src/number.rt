@@ -33,7 +33,7 @@ pub enum NumberError {
 
 /// Whether a point or the mark of an exponent is at a position.
 fn is_float_at(text: &[u8], at: usize) -> bool
-    ensures { result ≡ (stands is_point text.now at || stands is_mark text.now at) }
+    ensures { result ≡ (stands (is_point 46) text.now at || stands (is_mark 101) text.now at) }
 {
     match text.get(at) {
         Some(byte) => *byte == b'.' || *byte == b'e' || *byte == b'E',

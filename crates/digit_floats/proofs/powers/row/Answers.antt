@@ -1,4 +1,4 @@
-use Rattle.digit_floats.proofs.NearRows.{row_at}
+use Rattle.digit_floats.proofs.Rows.{row_at}
 use Rattle.digit_floats.proofs.powers.row.Goals as goal
 
 pub returns : goal.returns

@@ -1,0 +1,20 @@
+use Rattle.std.proofs.Common.{◌≡◌, ◌*◌, ◌%◌, ◌^◌, ◌<◌, ℕ, subst, arith}
+use native.Mathlib.Nat.{mod-eq_of_lt}
+use lib.Ieee.{binary64, of_bits}
+use Rattle.digit_floats.specs.Near.{IsTwoTo}
+use Rattle.digit_floats.proofs.Sums.{two_to_is, two_to_number}
+use Rattle.digit_floats.proofs.near.two_to_f64.Goals as goal
+
+pub float_from_bits-result : goal.float_from_bits-result
+float_from_bits-result c =
+    let field = c.args.field in
+    let e : field * 2 ^ 52 % 2 ^ 64 ≡ field * 2 ^ 52 = mod-eq_of_lt (omega (arith, c.requires.1)) in
+    rw e (two_to_number binary64 field c.requires.0 c.requires.1)
+
+pub returns : goal.returns
+returns c =
+    let field = c.args.field in
+    let e : field * 2 ^ 52 % 2 ^ 64 ≡ field * 2 ^ 52 = mod-eq_of_lt (omega (arith, c.requires.1)) in
+    rw e
+    (subst (λ (k : ℕ). IsTwoTo binary64 k (of_bits binary64 (field * 2 ^ 52))) (omega arith)
+    (two_to_is binary64 field c.requires.0 c.requires.1))
