@@ -46,7 +46,7 @@ fn check<const WORD: u128, const IN_ALL: u128>(texts: &[Text]) {
     ] {
         check_calls::<WORD>(work, texts);
     }
-    for work in [Work::Floats, Work::FloatsOf, Work::Mantissas, Work::Nearest] {
+    for work in [Work::Floats, Work::FloatsOf, Work::Mantissas, Work::Nearest, Work::NearestF32] {
         check_calls::<IN_ALL>(work, texts);
     }
 }

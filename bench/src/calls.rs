@@ -69,7 +69,8 @@ pub fn drained<B: Buffers>(work: Work, word: u128) -> Way {
             for_type!(of, T, on_each(move |text| numbers::read::<B, T>(text, word)))
         }
         Work::RustLiterals => on_each(numbers::rust_literal::<B, B, B, B>),
-        Work::Nearest => on_each(move |text| numbers::nearest::<B>(text, word)),
+        Work::Nearest => on_each(move |text| numbers::nearest::<B, f64>(text, word)),
+        Work::NearestF32 => on_each(move |text| numbers::nearest::<B, f32>(text, word)),
     }
 }
 

@@ -4,13 +4,13 @@ use crate::measure::Job;
 use crate::numbers::Type::{I32, I64, U128, U16, U32, U64, U8};
 use crate::texts::{
     decimals, digits, each_third, floats, fractions, hex_digits, hex_numbers, lines, literals,
-    numbers, others, runs, rust_literals, signed, stopped, zeros, Text,
+    numbers, others, runs, rust_literals, signed, stopped, zero_floats, zeros, Text,
 };
 use crate::word::{I, IC, ILTC, I_16, I_IN_ALL, NONE, RUST};
 use crate::work::Sides;
 use crate::work::Work::{
     Asked, Cleared, Counted, Digits, Eights, Floats, FloatsOf, Handed, Lines, Literals, Mantissas,
-    Nearest, Number, NumberFrom, NumberOf, Numbers, Parsed, Parts, Peeked, RustLiterals, Signed,
+    Nearest, NearestF32, Number, NumberFrom, NumberOf, Numbers, Parsed, Parts, Peeked, RustLiterals, Signed,
     Stopped, Sum, Zeros,
 };
 
@@ -264,5 +264,20 @@ fn float_texts() -> Vec<Case> {
         "x: I, grouped, 18 to 40 digits": decimals(9..=20, true), skip::<I_IN_ALL>(Nearest);
         "x: no flags, in [0, 1) with 17 digits": fractions(), skip::<NONE>(Nearest);
         "x: I, in [0, 1) with 17 digits": fractions(), skip::<I_IN_ALL>(Nearest);
+        "x: no flags, zeros": zero_floats(), skip::<NONE>(Nearest);
+        "x: I, zeros": zero_floats(), skip::<I_IN_ALL>(Nearest);
+        "x: no flags, f32, 1 to 4 digits, a point":
+            decimals(1..=4, false), skip::<NONE>(NearestF32);
+        "x: I, f32, 1 to 4 digits, a point": decimals(1..=4, false), skip::<I_IN_ALL>(NearestF32);
+        "x: no flags, f32, 8 to 20 digits, a point":
+            decimals(4..=10, false), skip::<NONE>(NearestF32);
+        "x: I, grouped, f32, 8 to 20 digits, a point":
+            decimals(4..=10, true), skip::<I_IN_ALL>(NearestF32);
+        "x: no flags, f32, 8 to 18 digits, an exponent":
+            floats(4..=9, 1, false), skip::<NONE>(NearestF32);
+        "x: I, grouped, f32, 8 to 18 digits, an exponent":
+            floats(4..=9, 1, true), skip::<I_IN_ALL>(NearestF32);
+        "x: no flags, f32, in [0, 1) with 17 digits": fractions(), skip::<NONE>(NearestF32);
+        "x: I, f32, in [0, 1) with 17 digits": fractions(), skip::<I_IN_ALL>(NearestF32);
     }
 }

@@ -32,7 +32,8 @@ pub fn filtered<const WORD: u128>(work: Work) -> Option<Way> {
             Some(for_type!(of, T, Box::new(numbers::each_parsed::<T>)))
         }
         Work::RustLiterals => Some(Box::new(numbers::each_rust_literal)),
-        Work::Nearest => Some(Box::new(numbers::each_nearest)),
+        Work::Nearest => Some(Box::new(numbers::each_nearest::<f64>)),
+        Work::NearestF32 => Some(Box::new(numbers::each_nearest::<f32>)),
         Work::Stopped | Work::Digits | Work::Zeros | Work::Mantissas => None,
     }
 }

@@ -74,6 +74,7 @@ exports! {
     digit_bench_read_u128
     digit_bench_languages
     digit_bench_nearest
+    digit_bench_nearest_f32
 }
 
 pub type Export = unsafe extern "C" fn(&Task, &mut Outcome);

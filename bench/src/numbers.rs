@@ -163,20 +163,37 @@ impl Kept {
         }
     }
 
-    fn float(&self) -> Option<f64> {
+    fn float<T: Float>(&self) -> Option<T> {
         from_utf8(&self.bytes[..self.len]).ok()?.parse().ok()
+    }
+}
+
+/// `f64` and `f32`.
+pub trait Float: FromStr {
+    fn bits(self) -> u64;
+}
+
+impl Float for f64 {
+    fn bits(self) -> u64 {
+        self.to_bits()
+    }
+}
+
+impl Float for f32 {
+    fn bits(self) -> u64 {
+        self.to_bits().into()
     }
 }
 
 /// The float that a text is: its bytes without separators, by std's `parse`.
 #[inline(always)]
-pub fn nearest<B: Buffers>(text: &[u8], word: u128) -> Outcome {
+pub fn nearest<B: Buffers, T: Float>(text: &[u8], word: u128) -> Outcome {
     let mut kept = Kept { bytes: [0; LONGEST], len: 0 };
     let mut bytes = B::Bytes::over(text, word);
     kept.push_component(bytes.integer());
     kept.push_component(bytes.fraction());
     kept.push_component(bytes.exponent());
-    of_value(kept.float().map_or(0, f64::to_bits))
+    of_value(kept.float().map_or(0, T::bits))
 }
 
 // ---- std, on the texts without separators
@@ -200,8 +217,8 @@ pub fn each_rust_literal(text: &Text) -> Outcome {
 }
 
 /// Each float by `parse`: their bits.
-pub fn each_nearest(text: &Text) -> Outcome {
-    each_digits(text, |digits| digits.parse::<f64>().map_or(0, f64::to_bits))
+pub fn each_nearest<T: Float>(text: &Text) -> Outcome {
+    each_digits(text, |digits| digits.parse::<T>().map_or(0, T::bits))
 }
 
 /// What each number without separators comes to, added up.

@@ -243,6 +243,14 @@ pub fn fractions() -> Text {
     })
 }
 
+/// Zeros: an integer, some with a fraction, some with a sign.
+pub fn zero_floats() -> Text {
+    numbers_by(|random, bytes| {
+        let zeros: [&[u8]; 4] = [b"0", b"0.0", b"-0.0", b"0.000"];
+        bytes.extend(zeros[random.below(4) as usize]);
+    })
+}
+
 /// Numbers that a function adds to bytes, and the same without separators.
 fn numbers_by(mut push: impl FnMut(&mut Random, &mut Vec<u8>)) -> Text {
     let mut random = Random(SEED);

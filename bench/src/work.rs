@@ -59,7 +59,7 @@ pub enum Work {
     /// filter stands `str::parse`, on each line without separators.
     Lines,
     /// Takes each of many numbers apart into mantissa and decimal exponent: the library by
-    /// `digit_uses::float`. In place of the filter stands `str::parse`, which makes an `f64`.
+    /// `read_decimal_from`. In place of the filter stands `str::parse`, which makes an `f64`.
     Parts,
     /// Parses each of many texts as a number of a type: the library by `parse_number`. In place of
     /// the filter stands `str::parse`, on the digits without separators.
@@ -74,6 +74,8 @@ pub enum Work {
     /// sides copy what the iterators answer, and parse it by `str::parse`; the filter has the text
     /// without separators.
     Nearest,
+    /// The same of `f32`.
+    NearestF32,
 }
 
 /// One side's way to do the work.
@@ -196,6 +198,7 @@ fn skipping(work: Work, format: Format) -> Way {
             return exported(library::digit_bench_languages, Format { word: 0, ..format });
         }
         Work::Nearest => library::digit_bench_nearest,
+        Work::NearestF32 => library::digit_bench_nearest_f32,
     };
     exported(export, format)
 }

@@ -5,7 +5,7 @@ use super::format::Format;
 use super::work::{Task, Work, run_each};
 use super::{Outcome, loops};
 use digit_literals::read_digits_of;
-use digit_uses::float::read_float;
+use digit_floats::read_decimal_from;
 use lexical_digits::iterator::Iter;
 use lexical_digits::skip::{Bytes, Component};
 use lexical_format::NumberFormat;
@@ -87,8 +87,8 @@ impl Work for Mantissas {
     }
 }
 
-/// Takes a number apart into mantissa and decimal exponent by `read_float`. The count is where it
-/// ends. Nothing where there is no number, or the radix isn't 10.
+/// Takes a number apart into value and decimal exponent by `read_decimal_from`. The count is where
+/// it ends. Nothing where there is no number, or a radix isn't 10.
 struct Parts;
 
 impl Work for Parts {
@@ -97,16 +97,17 @@ impl Work for Parts {
     #[inline(always)]
     fn on<F: Format>(text: &[u8], format: F) -> Outcome {
         let word = format.word();
-        if NumberFormat::new(word).mantissa_radix() != 10 {
+        let format = NumberFormat::new(word);
+        if format.mantissa_radix() != 10 || format.exponent_radix() != 10 {
             return Outcome::nothing();
         }
-        match read_float(text, word) {
-            Ok(float) => Outcome {
-                value: float
-                    .mantissa
+        match read_decimal_from(text, word, 0) {
+            Ok((number, end)) => Outcome {
+                value: number
+                    .value
                     .wrapping_mul(31)
-                    .wrapping_add(float.exponent.cast_unsigned()),
-                count: float.end as u64,
+                    .wrapping_add(number.exponent.cast_unsigned()),
+                count: end as u64,
                 looks: 0,
             },
             Err(_) => Outcome::nothing(),

@@ -109,6 +109,24 @@ impl Work for Nearest {
     }
 }
 
+/// Parses a text as the nearest `f32`, as [`Nearest`] does.
+struct NearestF32;
+
+impl Work for NearestF32 {
+    #[inline(always)]
+    fn on<F: Format>(text: &[u8], format: F) -> Outcome {
+        let word = format.word();
+        let format = NumberFormat::new(word);
+        if format.mantissa_radix() != 10 || format.exponent_radix() != 10 {
+            return Outcome::nothing();
+        }
+        match parse_float::<f32>(text, word) {
+            Ok(float) => Outcome::of(u64::from(float.to_bits()), 0),
+            Err(_) => Outcome::nothing(),
+        }
+    }
+}
+
 #[unsafe(no_mangle)]
 pub extern "C" fn digit_bench_parsed_u8(task: &Task, outcome: &mut Outcome) {
     *outcome = run_each::<Parsed<u8>>(task);
@@ -177,4 +195,9 @@ pub extern "C" fn digit_bench_read_u128(task: &Task, outcome: &mut Outcome) {
 #[unsafe(no_mangle)]
 pub extern "C" fn digit_bench_nearest(task: &Task, outcome: &mut Outcome) {
     *outcome = run_each::<Nearest>(task);
+}
+
+#[unsafe(no_mangle)]
+pub extern "C" fn digit_bench_nearest_f32(task: &Task, outcome: &mut Outcome) {
+    *outcome = run_each::<NearestF32>(task);
 }

@@ -21,6 +21,7 @@ mod lists;
 mod literals;
 mod loans;
 mod looks;
+mod money;
 mod numbers;
 mod parsing;
 mod passing;

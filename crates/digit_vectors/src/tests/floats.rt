@@ -1,19 +1,22 @@
-//! Floats, by `read_float`. The word is Python's: one `_` between two digits of each component.
+//! Decimal numbers, by `read_decimal_from`. The word is Python's: one `_` between two digits of
+//! each component.
 
-use digit_uses::float::{Float, FloatError, read_float};
+use digit_floats::{Decimal, FloatError, read_decimal_from};
 use lexical_format::words::PYTHON_LITERAL;
 use lexical_format::{NumberFormat, is_supported};
-use std::num::nearest_u64_to_f64;
+use std::alloc::AllocError;
 use std::process::Abort;
 
 /// What a text begins with.
-fn read(rt: &impl Abort, text: &[u8]) -> Result<Float, FloatError> {
+fn read(rt: &impl Abort, text: &[u8]) -> Result<(Decimal, usize), FloatError> {
     let word = PYTHON_LITERAL;
-    assert!(rt; is_supported(word) && NumberFormat::new(word).mantissa_radix() == 10);
-    read_float(text, word)
+    let format = NumberFormat::new(word);
+    assert!(rt; is_supported(word));
+    assert!(rt; format.mantissa_radix() == 10 && format.exponent_radix() == 10);
+    read_decimal_from(text, word, 0)
 }
 
-/// A text, with mantissa, dropped digits, exponent and end of its float.
+/// A text, with value, dropped digits, exponent and end of its number.
 static FLOATS: [(&[u8], u64, usize, i64, usize); 33] = [
     (b"0", 0, 0, 0, 1),
     (b"+7", 7, 0, 0, 2),
@@ -92,43 +95,41 @@ static FLOATS: [(&[u8], u64, usize, i64, usize); 33] = [
 
 #[test]
 fn floats_are_taken_apart(rt: HostRuntime) {
-    for (text, mantissa, dropped, exponent, end) in &FLOATS {
-        let float = Float {
-            is_negative: false,
-            mantissa: *mantissa,
+    for (text, value, dropped, exponent, end) in &FLOATS {
+        let number = Decimal {
+            negative: false,
+            value: *value,
             dropped: *dropped,
             exponent: *exponent,
-            end: *end,
         };
         let answer = read(&rt, text);
-        assert!(rt; answer == Ok(float), "{text:?}: {answer:?}");
+        assert!(rt; answer == Ok((number, *end)), "{text:?}: {answer:?}");
     }
 }
 
 #[test]
 fn a_sign_is_told_of_zero_too(rt: HostRuntime) {
-    let zero = Float {
-        is_negative: true,
-        mantissa: 0,
+    let zero = Decimal {
+        negative: true,
+        value: 0,
         dropped: 0,
         exponent: -1,
-        end: 4,
     };
-    assert_eq!(rt; read(&rt, b"-0.0"), Ok(zero));
+    assert_eq!(rt; read(&rt, b"-0.0"), Ok((zero, 4)));
 }
 
 static FAULTS: [(&[u8], FloatError); 11] = [
-    (b"", FloatError::NoDigit(0)),
-    (b".", FloatError::NoDigit(1)),
-    (b"-", FloatError::NoDigit(1)),
-    (b"e5", FloatError::NoDigit(0)),
-    (b"_1", FloatError::NoDigit(0)),
-    (b"-.e1", FloatError::NoDigit(2)),
-    (b"1e", FloatError::NoExponent(2)),
-    (b"1e+", FloatError::NoExponent(3)),
-    (b"1e-_1", FloatError::NoExponent(3)),
-    (b"12.e", FloatError::NoExponent(4)),
-    (b"1234567890123456789012e", FloatError::NoExponent(23)),
+    (b"", FloatError::Empty(0)),
+    (b".", FloatError::Empty(1)),
+    (b"-", FloatError::Empty(1)),
+    (b"e5", FloatError::Empty(0)),
+    (b"_1", FloatError::Empty(0)),
+    (b"-.e1", FloatError::Empty(2)),
+    (b"1e", FloatError::EmptyExponent(2)),
+    (b"1e+", FloatError::EmptyExponent(3)),
+    (b"1e-_1", FloatError::EmptyExponent(3)),
+    (b"12.e", FloatError::EmptyExponent(4)),
+    (b"1234567890123456789012e", FloatError::EmptyExponent(23)),
 ];
 
 #[test]
@@ -139,59 +140,43 @@ fn a_text_without_a_float_has_one_fault(rt: HostRuntime) {
     }
 }
 
-/// Texts of at most 15 digits whose exponent is -22 to 22.
-static EXACT: [&str; 20] = [
-    "0",
-    "1",
-    "0.1",
-    "0.3",
-    "123456789012345",
-    "-98765.4321",
-    "3.14159265358979",
-    "2.2250738585072e-3",
-    "1e22",
-    "1e-22",
-    "-7.5e-10",
-    ".001",
-    "5.",
-    "000123.450",
-    "9007199254740.99",
-    "1.7976931348623e9",
-    "4503599627370.5",
-    "6.02214076e22",
-    "6.62607015e-10",
-    "0.000000000000001",
-];
-
-/// A power of ten that `f64` has exactly.
-fn power(exponent: u64) -> f64 {
-    let mut power = 1.0;
-    for _ in 0..exponent {
-        power = power * 10.0;
-    }
-    power
-}
-
-/// The nearest number to a float whose mantissa is below 2 to the power 53, and whose exponent is
-/// -22 to 22: both factors are exact, and one product or quotient rounds once.
-fn value(float: Float) -> f64 {
-    let size = nearest_u64_to_f64(float.mantissa);
-    let power = power(float.exponent.unsigned_abs());
-    let size = if float.exponent < 0 {
-        size / power
-    } else {
-        size * power
-    };
-    if float.is_negative { -size } else { size }
-}
-
-/// What `str::parse` makes of a text is what the parts of `read_float` make.
 #[test]
-fn floats_agree_with_std(rt: HostRuntime) {
-    for text in &EXACT {
-        let std: Option<f64> = text.parse::<f64>().ok();
-        let answer = read(&rt, text.as_bytes());
-        let here: Option<f64> = answer.ok().map(value);
-        assert!(rt; std.is_some() && std == here, "{text}: {answer:?}");
+fn a_number_is_read_from_a_position_on(rt: HostRuntime) {
+    let word = PYTHON_LITERAL;
+    let format = NumberFormat::new(word);
+    assert!(rt; is_supported(word));
+    assert!(rt; format.mantissa_radix() == 10 && format.exponent_radix() == 10);
+    let number = Decimal {
+        negative: true,
+        value: 1205,
+        dropped: 0,
+        exponent: 1,
+    };
+    assert_eq!(rt;
+        read_decimal_from(b"x=-1_2.05e3;", word, 2),
+        Ok((number, 11))
+    );
+}
+
+#[test]
+fn an_error_of_floats_prints_its_position(rt: HostRuntime) -> Result<(), AllocError> {
+    let rows: [(FloatError, &str, usize); 3] = [
+        (FloatError::Empty(1), "there is no digit before 1", 1),
+        (
+            FloatError::EmptyExponent(22),
+            "the exponent has no digit at 22",
+            22,
+        ),
+        (
+            FloatError::Invalid(3),
+            "the byte at 3 is no part of a float",
+            3,
+        ),
+    ];
+    for (error, message, position) in rows {
+        let printed = format!(in rt.alloc(); "{error}")?;
+        assert!(rt; printed == message);
+        assert!(rt; error.position() == position);
     }
+    Ok(())
 }
