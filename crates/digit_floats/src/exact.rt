@@ -67,3 +67,13 @@ pub fn round_exact<F: Float>(
         Some(signed(negative, x))
     }
 }
+
+/// A zero with a sign, which a zero times any power of ten is.
+#[inline(always)]
+pub fn zero<F: Float>(negative: bool) -> Option<F>
+    ensures { IfSome result (λ x. (up down : ℕ) →
+        F.value x ≡ round F.format negative (0 * 10 ^ up) (10 ^ down)) }
+{
+    let x: F = magnitude(0, 0, 0)?;
+    Some(signed(negative, x))
+}

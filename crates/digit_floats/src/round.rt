@@ -5,7 +5,7 @@ ghost use Rattle.std.specs.Float.Ieee.{round};
 ghost use Rattle.std.specs.Str.Parse.{digits_value};
 ghost use Rattle.digit_floats.specs.Parts.{integer_of, fraction_of, IsMantissa};
 
-use super::exact::round_exact;
+use super::exact::{round_exact, zero};
 use super::float::Float;
 use super::long::round_digits;
 use super::near::round_near;
@@ -22,27 +22,35 @@ pub fn round_parts<F: Float>(text: &[u8], negative: bool, mantissa: Mantissa, po
         (10 ^ (mantissa.places + (if power.negative then n else 0))) }
 {
     let places = mantissa.places as u64;
-    if mantissa.dropped == 0 && power.value <= 0xffff_ffff {
-        if let Some(x) = round_exact::<F>(
+    let cut = mantissa.dropped as u64;
+    let few = power.value <= 0xffff_ffff;
+    if few && cut == 0 {
+        let found = round_exact::<F>(
             negative,
             mantissa.value,
             places,
             power.negative,
             power.value,
-        ) {
+        );
+        if let Some(x) = found {
             return x;
         }
     }
-    if power.value <= 0xffff_ffff {
-        let cut = mantissa.dropped as u64;
-        if let Some(x) = round_near::<F>(
+    if mantissa.value == 0 && cut == 0 {
+        if let Some(x) = zero::<F>(negative) {
+            return x;
+        }
+    }
+    if few {
+        let found = round_near::<F>(
             negative,
             mantissa.value,
             cut,
             places,
             power.negative,
             power.value,
-        ) {
+        );
+        if let Some(x) = found {
             return x;
         }
     }

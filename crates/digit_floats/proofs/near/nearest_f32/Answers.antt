@@ -48,7 +48,7 @@ returns-then-y-x c num den D b =
     omega (arith, c.scale-scale.ensures, n.ensures.top) in
     let wide : (m + more) * 2 ^ z * (t + 1) ≤ (m * 2 ^ z * t / 2 ^ 82 + w) * 2 ^ 82 =
     let e : (m + more) * 2 ^ z * (t + 1)
-        ≡ m * 2 ^ z * t + m * 2 ^ z + more * 2 ^ z * (t + 1) = grind arith in
+    ≡ m * 2 ^ z * t + m * 2 ^ z + more * 2 ^ z * (t + 1) = grind arith in
     let l : more * 2 ^ z * (t + 1) ≤ more * 2 ^ z * 2 ^ 64 =
     mul-le-mul_left (more * 2 ^ z) (omega (arith, row.fits)) in
     omega (arith, e, l, n.ensures.shifted, fits) in
