@@ -59,8 +59,91 @@ const DOUBLES: [(&[u8], u64); 37] = [
     ),
 ];
 
-/// The bits of the nearest `f32`, by CPython's `fractions`.
-const SINGLES: [(&[u8], u32); 8] = [
+/// Numbers that one product with a power of ten of 64 bits leaves undecided, found by a search in
+/// Python: random digits and exponents for which both ends of the product's error round apart. Of
+/// the last three the digits after the first 19 are cut off. The bits by CPython's `float`.
+const UNDECIDED: [(&[u8], u64); 11] = [
+    (b"227717055223185445e-55", 0x381efec802a6be2d),
+    (b"8895197897916929638e1", 0x441349d3a6600599),
+    (b"7979182616979197296e40", 0x4c296c531247e68f),
+    (b"4848635383755091692e34", 0x4ae032f6b4b16da3),
+    (b"5811781575790392445e-39", 0x3bbb7203472f230b),
+    (b"3485459327916018644e-30", 0x3d8ea88e819c729f),
+    (b"6562061377389666858e-35", 0x3c92e9f25929303b),
+    (b"9682979594741840190e-32", 0x3d3b415276ecd99f),
+    (b"1390923018544942847688123e33", 0x4bcc5cf4faad9114),
+    (b"6305818351636392315829886e-27", 0x3f79d421398447b1),
+    (b"362001326456210211263681e5", 0x45dd3e0310bbaa98),
+];
+
+/// The greatest and the least floats, subnormal and normal, and their neighbours, by CPython: the
+/// first three are the middle between the greatest float and 2^1024, and one less and one more.
+const ENDS: [(&[u8], u64); 11] = [
+    (
+        b"179769313486231580793728971405303415079934132710037826936173778980444968292764750946649017977587207096330286416692887910946555547851940402630657488671505820681908902000708383676273854845817711531764475730270069855571366959622842914819860834936475292719074168444365510704342711559699508093042880177904174497791",
+        0x7fefffffffffffff,
+    ),
+    (
+        b"179769313486231580793728971405303415079934132710037826936173778980444968292764750946649017977587207096330286416692887910946555547851940402630657488671505820681908902000708383676273854845817711531764475730270069855571366959622842914819860834936475292719074168444365510704342711559699508093042880177904174497792",
+        0x7ff0000000000000,
+    ),
+    (
+        b"179769313486231580793728971405303415079934132710037826936173778980444968292764750946649017977587207096330286416692887910946555547851940402630657488671505820681908902000708383676273854845817711531764475730270069855571366959622842914819860834936475292719074168444365510704342711559699508093042880177904174497793",
+        0x7ff0000000000000,
+    ),
+    (b"1.7976931348623157e308", 0x7fefffffffffffff),
+    (b"1.7976931348623158e308", 0x7fefffffffffffff),
+    (b"4.9e-324", 0x0000000000000001),
+    (b"2.5e-324", 0x0000000000000001),
+    (b"2.4703282292062328e-324", 0x0000000000000001),
+    (b"2.2250738585072012e-308", 0x0010000000000000),
+    (b"2.2250738585072011e-308", 0x000fffffffffffff),
+    (b"2.225073858507201e-308", 0x000fffffffffffff),
+];
+
+/// Random 17 digits, times ten to each power beside an end of the table or of the floats, from
+/// 10^-342 to 10^308, by CPython.
+const POWERS: [(&[u8], u64); 32] = [
+    (b"35916947868522639e-358", 0x0000000000000000),
+    (b"62565044657441663e-357", 0x0000000000000000),
+    (b"62595834767757723e-346", 0x0000000000000000),
+    (b"95910763460448536e-341", 0x0000000000000000),
+    (b"76562008400908709e-340", 0x0000000000000002),
+    (b"23054362709331936e-339", 0x0000000000000005),
+    (b"33271430322502792e-336", 0x0000000000001a4e),
+    (b"50285543250006564e-326", 0x00005c9149782cac),
+    (b"43915062847535739e-324", 0x001f940cf68533b2),
+    (b"75913330518247753e-323", 0x00610f0102320976),
+    (b"13155881391795284e-316", 0x01ac317ad138cc2c),
+    (b"68083526232190067e-305", 0x041a8a313acce978),
+    (b"58893507766105182e-304", 0x044cb260969b9a7e),
+    (b"55730155862392934e-303", 0x0480f8dcea4f03b3),
+    (b"27110549468110600e-216", 0x168099f72393f4b4),
+    (b"48066007766635295e-116", 0x2b50d239390f48a1),
+    (b"14587837167737820e-66", 0x3595d4f2e8012c42),
+    (b"18105259427682275e-16", 0x3ffcf7ea0d0bfc55),
+    (b"67839753304915680e34", 0x4a7d02dad7afda65),
+    (b"33688619368862807e84", 0x54cecdf5ec3ede95),
+    (b"55039877847468020e184", 0x699cc317db5662b4),
+    (b"45917397139200025e254", 0x7821621d1bcd1562),
+    (b"53541434867210349e255", 0x78595640b142c01d),
+    (b"65125280185735042e256", 0x789342fb93f36cf0),
+    (b"14792269973180976e271", 0x7b8f161750494d6e),
+    (b"31668432990323718e272", 0x7bd4cc27a29649d7),
+    (b"59512335540605574e273", 0x7c186d539dcfa073),
+    (b"97749292156449783e275", 0x7c8f584fb3ec018a),
+    (b"53188674402309441e276", 0x7cb551df2d75bfc4),
+    (b"11884763592558348e284", 0x7e3c65009f2af794),
+    (b"34576286223978172e291", 0x7fc89e7f7ff236cd),
+    (b"94046129320945141e292", 0x7ff0000000000000),
+];
+
+/// The bits of the nearest `f32`, by CPython's `fractions`. The first four are undecided as above.
+const SINGLES: [(&[u8], u32); 23] = [
+    (b"746338464e0", 0x4e31f0e2),
+    (b"225996510e-1", 0x4bac6bf2),
+    (b"745876920e-1", 0x4c8e43c6),
+    (b"599151475e-2", 0x4ab6d8b6),
     (b"16777217", 0x4b800000),
     (b"16777217.000000000000000000000000001", 0x4b800001),
     (b"3.4028235677973366e38", 0x7f7fffff),
@@ -68,6 +151,20 @@ const SINGLES: [(&[u8], u32); 8] = [
     (b"7.006492321624085e-46", 0x00000000),
     (b"7.006492321624086e-46", 0x00000001),
     (b"0.1", 0x3dcccccd),
+    (b"340282356779733661637539395458142568447", 0x7f7fffff),
+    (b"340282356779733661637539395458142568448", 0x7f800000),
+    (b"3.4028235e38", 0x7f7fffff),
+    (b"1.4e-45", 0x00000001),
+    (b"7.1e-46", 0x00000001),
+    (b"1.17549435e-38", 0x00800000),
+    (b"1.1754942e-38", 0x007fffff),
+    (
+        b"1.00000017881393421514957253748434595763683319091796875",
+        0x3f800001,
+    ),
+    (b"1.00000017881393432617187499", 0x3f800001),
+    (b"1.00000017881393432617187500", 0x3f800002),
+    (b"1.00000017881393432617187501", 0x3f800002),
     (b"1_6.5", 0x41840000),
 ];
 
@@ -84,6 +181,19 @@ fn single(text: &[u8]) -> Result<u32, FloatError> {
 #[test]
 fn doubles_are_nearest(rt: HostRuntime) {
     for (text, bits) in DOUBLES {
+        assert!(&rt; double(text) == Ok(bits), "{text:?}");
+    }
+}
+
+#[test]
+fn the_hardest_doubles_are_nearest(rt: HostRuntime) {
+    for (text, bits) in UNDECIDED {
+        assert!(&rt; double(text) == Ok(bits), "{text:?}");
+    }
+    for (text, bits) in ENDS {
+        assert!(&rt; double(text) == Ok(bits), "{text:?}");
+    }
+    for (text, bits) in POWERS {
         assert!(&rt; double(text) == Ok(bits), "{text:?}");
     }
 }
@@ -202,11 +312,15 @@ fn a_number_of_any_length_is_read(rt: HostRuntime) -> Result<(), AllocError> {
     Ok(())
 }
 
-/// 5 to the power 1,075 times 10 to the power -1,075 is half the least float, 2 to the power -1,075.
-#[test]
-fn the_middle_below_the_least_float_has_752_digits(rt: HostRuntime) -> Result<(), AllocError> {
+/// `0.` and the 1,075 places of a number times 2 to the power -1,075, which is half the least
+/// float: the number times 5 to the power 1,075.
+fn halves(alloc: Global, number: u64) -> Result<Vec<u8>, AllocError> {
     let mut digits = [0u8; 800];
-    digits[0] = 1;
+    let mut rest = number;
+    for digit in &mut digits {
+        *digit = (rest % 10) as u8;
+        rest = rest / 10;
+    }
     for _ in 0..1075 {
         let mut carry = 0;
         for digit in &mut digits {
@@ -215,13 +329,51 @@ fn the_middle_below_the_least_float_has_752_digits(rt: HostRuntime) -> Result<()
             carry = five / 10;
         }
     }
-    let mut text = padded(rt.alloc(), b"0.", b'0', 1075 - 800, b"")?;
+    let mut text = padded(alloc, b"0.", b'0', 1075 - 800, b"")?;
     for digit in digits.iter().rev() {
         text.push(digit.wrapping_add(b'0'))?;
     }
-    assert!(&rt; double(&text) == Ok(0));
-    text.push(b'1')?;
-    assert!(&rt; double(&text) == Ok(1));
+    Ok(text)
+}
+
+/// Middles between two floats, of 752 to 768 digits, by CPython: the bits of the middle, of a
+/// number just below it, and of one just above.
+#[test]
+fn the_middle_between_two_floats_is_even(rt: HostRuntime) -> Result<(), AllocError> {
+    let rows: [(u64, u64, u64, u64); 5] = [
+        (1, 0, 0, 1),
+        (3, 2, 1, 2),
+        // beside the least normal float
+        (
+            0x1f_ffff_ffff_ffff,
+            0x0010000000000000,
+            0x000fffffffffffff,
+            0x0010000000000000,
+        ),
+        (
+            0x20_0000_0000_0001,
+            0x0010000000000000,
+            0x0010000000000000,
+            0x0010000000000001,
+        ),
+        (
+            0x3f_ffff_ffff_ffff,
+            0x0020000000000000,
+            0x001fffffffffffff,
+            0x0020000000000000,
+        ),
+    ];
+    for (number, middle, below, above) in rows {
+        let mut text = halves(rt.alloc(), number)?;
+        assert!(&rt; double(&text) == Ok(middle), "{number}");
+        text.push(b'1')?;
+        assert!(&rt; double(&text) == Ok(above), "{number}");
+        // the last digit is 5
+        text.pop();
+        text.pop();
+        text.extend_from_slice(b"49")?;
+        assert!(&rt; double(&text) == Ok(below), "{number}");
+    }
     Ok(())
 }
 
