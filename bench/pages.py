@@ -3,6 +3,7 @@
 docs/SPEED.md, the sentences of README.md, and the picture docs/speed.svg. `.ci/pages` compares
 them."""
 import os
+import re
 import sys
 
 sys.dont_write_bytecode = True
@@ -108,12 +109,13 @@ class Cases:
 
 # ---- docs/SPEED.md
 
-def speed_rows(cases, unit):
+def speed_rows(cases):
     for words, case in ROWS.items():
-        row = cases.row(case, unit)
+        row, original = cases.row(case), cases.fixed_side(case)
+        times = cases.rows["Nanoseconds"].get(case, {})
         yield [words, *(row.get(column, "–") for column in (
-            "Library", "Library / floor", "Library / fixed", "Constant", "Constant / fixed",
-            cases.fixed_side(case)))]
+            "Constant", original, "Constant / fixed", "Library", "Library / floor")),
+            " / ".join(times.get(column, "–") for column in ("Constant", original))]
 
 
 def std_rows(cases):
@@ -131,11 +133,11 @@ def asked(cases, flags):
 
 def speed(cases):
     """What docs/SPEED.md has between its comments."""
-    head = ("What is read", "Library", "to the floor", "to the original", "Constant word",
-            "to the original", "Original")
+    head = ("What is read", "Constant word", "Original", "Ratio", "At run time", "to the floor",
+            "ns, constant / original")
     lines = [f"{cases.machine}\n"]
-    for unit in UNITS:
-        lines += table(UNITS[unit], head, speed_rows(cases, unit) if cases.rows[unit] else [])
+    lines += table("Instructions for each byte, and nanoseconds in the last column:", head,
+                   speed_rows(cases))
     lines += [f"{mean}\n" for mean in cases.means]
     lines += table("Beside std's `parse`, or `from_str_radix`, which reads the text without its "
                    "separators; instructions for each byte of the text with them:",
@@ -154,47 +156,45 @@ A run of separators that is kept, as hostile text may have it, takes \
 
 # ---- README.md
 
-def both(cases, case):
-    """The ratios of a constant word and of one at run time."""
-    constant, library = (cases.to_fixed(case, side) for side in ("Constant", "Library"))
-    return f"{constant:.1f} ({library:.1f})"
+def span(cases, form, side, other=None):
+    """The least and the greatest ratio of a side to another, by default to the one that has its
+    word fixed, in the cases whose names begin with this form."""
+    ratios = [ratio for case in cases.rows["Instructions"] if re.match(form, case)
+              if (ratio := cases.ratio(case, side, other or cases.fixed_side(case)))]
+    least, most = f"{min(ratios):.1f}", f"{max(ratios):.1f}"
+    return most if least == most else f"{least} to {most}"
 
 
-def beside_std(cases, letter):
-    """The least and the greatest ratio to std of the cases with a letter, and what has that."""
-    ratios = {words: cases.ratio(case, "Constant", "Filter") for words, case in STD_ROWS.items()
-              if case.startswith(letter)}
-    worst = max(ratios, key=ratios.get)
-    return f"{min(ratios.values()):.1f} to {ratios[worst]:.1f}", worst
+def most_of(cases, form, side, other=None):
+    return span(cases, form, side, other).split()[-1]
 
 
 def summary(cases):
     """What README.md has between its comments."""
-    numbers, worst_number = beside_std(cases, "u:")
-    floats, worst_float = beside_std(cases, "x:")
-    ratios = {case: ratio for case in cases.rows["Instructions"]
-              if (ratio := cases.to_fixed(case, "Library"))}
-    worst = max(ratios, key=ratios.get)
+    def std(form):
+        return span(cases, form, "Constant", "Filter")
+
+    def original(form):
+        return span(cases, form, "Constant")
+
     return f"""\
-Beside lexical-util, which knows its word when it is compiled, a constant word takes \
-{both(cases, "b: I, digits, number")} times as many instructions on digits, \
-{both(cases, "f: I, short grouped numbers")} on grouped numbers of 8 to 20 bytes and \
-{both(cases, "f: I, 1 to 4 digits")} on numbers of 1 to 4 digits; in parentheses a word that is \
-known at run time.
-`pass_digits` takes {both(cases, "o: I, grouped, pass_digits")} on grouped numbers, \
-`read_digits_of` {both(cases, "l: I, grouped, by read_digits_of")}, `read_integer` \
-{both(cases, "j: I, 1 to 4 digits")} on numbers of 1 to 4 digits, and lines with one integer each \
-{both(cases, "t: I, grouped, lines")}. More are \
-{both(cases, "n: I, grouped numbers to a comma")} on grouped numbers that are peeked, \
-{both(cases, "e: ILTC, runs of 16, number")} on runs of 16 dropped separators and \
-{both(cases, "k: I, other bytes, peeked")} on letters that are peeked. The worst row at run time is "{worst}": {ratios[worst]:.1f} times the instructions.
-Beside std's `parse`, which reads the text without its separators, `parse_number` takes {numbers} \
-times as many instructions with a constant word, most on {worst_number}.
-`parse_float` takes {floats} times as many as std's, most on {worst_float}.
-A kept run costs {cases.run("IC", 100, "Library")} instructions a byte at 100 separators and \
-{cases.run("IC", 100000, "Library")} at 100,000, where lexical-util's work grows with the square \
-under internal and consecutive; under leading and consecutive it takes \
-{cases.run("LC", 1000, "Library")} and lexical-util {cases.run("LC", 1000, "Original")}."""
+The numbers are ratios of instructions, with a format word that is a constant; less is better.
+
+- **Integers** without separators take {std("[pu]: no flags")} of what std's `parse` takes, and \
+{original("[pu]: no flags")} of a loop over lexical-util's iterator.
+- **Grouped integers**, such as `1_234_567`, take {std("[pu]: I, grouped")} of what std's `parse` \
+takes for the digits without their separators, and {original("[pu]: I, grouped")} of lexical-util.
+- **Hexadecimal digits** take {original("[bf]: I, radix 16")} of lexical-util. Literals of Rust, \
+of which a quarter is hexadecimal, take {std("w: ")} of std's `from_str_radix`.
+- **Floats** take {std("x: no flags")} of what std's `parse` takes, and {std("x: I, grouped")} \
+with separators.
+
+Slow are floats of more than 15 digits (up to {most_of(cases, "x:", "Constant", "Filter")} of \
+std), runs of dropped separators ({most_of(cases, "e:", "Constant")} of lexical-util), letters \
+({most_of(cases, "k:", "Constant")}), and a word that is known only at run time (up to \
+{most_of(cases, "", "Library")}). No text makes it quadratic: a kept run of separators takes \
+{cases.run("IC", 100, "Library")} instructions a byte at 100 separators and \
+{cases.run("IC", 100000, "Library")} at 100,000."""
 
 
 # ---- all three
