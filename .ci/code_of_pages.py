@@ -70,9 +70,19 @@ def answers(faults):
             faults.append(f"README.md:{number}: no `{m[1]} == {m[2]}` in {path}")
 
 
+def first_run(faults):
+    """What README shows of digit_hello is what `rt ci` finds that it prints."""
+    path = "crates/digit_hello/stdout"
+    page = read("README.md")
+    shown = re.search(r"digit_hello && rt try\)\n(.*?)^interpreter:", page, re.S | re.M)
+    if not shown or shown[1] != read(path):
+        faults.append(f"README.md:1: the run of digit_hello doesn't print what {path} has")
+
+
 def check():
     faults, count = [], 0
     answers(faults)
+    first_run(faults)
     for page, (module, prefix) in PAGES.items():
         files, blocks = files_of(page, module, prefix, faults)
         count += blocks + len(files) - 1

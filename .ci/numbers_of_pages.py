@@ -65,7 +65,7 @@ def counted(it):
                                      text, re.I):
                     it.compare(page, line, f"the number of {m[0].partition(' ')[2]}",
                                number(m[1].lower()), there)
-    listed = re.search(r"## The crates\n(.*?)\n## ", read("README.md"), re.S)
+    listed = re.search(r"## Use it\n(.*?)\n## ", read("README.md"), re.S)
     first = read("README.md").count("\n", 0, listed.start()) + 1 if listed else 1
     names = re.findall(r"`([a-z]+_[a-z]+)`", listed[1]) if listed else []
     order = list(crates())
@@ -148,12 +148,12 @@ def names(it):
     it.find("README.md", r"rattle-kit-\w+ logic [0-9a-f]+")
     versions = it.find("CHANGELOG.md", r"^## (\d+\.\d+\.\d+)")
     version = versions[0][1][1] if versions else ""
-    for page, form in (("CHANGELOG.md", r"`(\w+)`"),
-                       ("README.md", r"docs/reference/(\w+)\.md")):
-        line, text = next(((n, text) for n, text in it.lines(page)
-                           if "`lexical_plain`" in text and "`digit_script`" in text), (1, ""))
-        it.compare(page, line, "the list of libraries", sorted(set(re.findall(form, text))),
-                   sorted(libraries()))
+    line, text = next(((n, text) for n, text in it.lines("CHANGELOG.md")
+                       if "`lexical_plain`" in text and "`digit_script`" in text), (1, ""))
+    listed = {"CHANGELOG.md": (line, re.findall(r"`(\w+)`", text)),
+              "README.md": (1, re.findall(r"docs/reference/(\w+)\.md", read("README.md")))}
+    for page, (line, names) in listed.items():
+        it.compare(page, line, "the list of libraries", sorted(set(names)), sorted(libraries()))
     for line, text in it.lines("HANDLES"):
         if text:
             it.compare("HANDLES", line, "the promise of no handle", text, "Handles allowed: none.")

@@ -38,7 +38,7 @@ def crates():
 
 
 # The crates that no caller uses: examples, the program, tests, the benchmark.
-INNER = ("digit_uses", "digit_drain", "digit_vectors", "digit_bench")
+INNER = ("digit_hello", "digit_uses", "digit_drain", "digit_vectors", "digit_bench")
 
 
 def libraries():
