@@ -2,9 +2,9 @@
 """The tables of docs/RULES.md, as the sources and the tests have them.
 
     .ci/tables.py --write    writes them: the states and the worked rows from rules.rt, the words
-                             with names from words.rt, a first 0 from languages.rt. Of a worked row
-                             the page has the last column. It also adds the languages that
-                             CALLING.md leaves out to its list"""
+                             with names from words.rt, a first 0 from languages.rt. Of the worked
+                             rows the page shows some, each with a last column of its own. It also
+                             adds the languages that CALLING.md leaves out to its list"""
 import os
 import re
 import sys
@@ -28,7 +28,7 @@ LISTING = "CALLING.md"
 LANGUAGES = "crates/digit_languages/src/languages.rt"
 TOOLS = "crates/digit_vectors/src/tests/language_literals.rt"
 MEND = "run .ci/tables.py --write"
-WHY = "?"  # the last column of a worked row that is new
+WHY = "?"  # the last column of a worked row that doesn't say why
 
 # ---- the sources
 
@@ -176,7 +176,14 @@ FIRST_ZERO = {"Plain": "nothing", "Octal": "octal", "Alone": "no digit follows",
 
 
 def first_zeros():
-    """The row of each language of languages.rt."""
+    """A row for the languages of languages.rt that say the same."""
+    names = {}
+    for name, *cells in first_zeros_by_language():
+        names.setdefault(tuple(cells), []).append(name)
+    return [[", ".join(of_row), *cells] for cells, of_row in names.items()]
+
+
+def first_zeros_by_language():
     known = constants(*WORDS)
     for name, body in re.findall(r"pub const (\w+): Language = Language \{(.*?)^\};",
                                  read(LANGUAGES), re.S | re.M):
@@ -267,11 +274,10 @@ def written():
                                          for row in rows]
 
     def worked(rows):
-        def with_reasons(page):
-            why = {tuple(cells): reason for *cells, reason in page}
-            return [[*cells, why.get(tuple(cells), WHY)] for cells in rows] + [
-                row for row in page if not is_of_flags(row)]
-        return with_reasons
+        """The page shows some of the rows of the tests, and says why."""
+        def shown(page):
+            return [row for row in page if row[:-1] in rows or not is_of_flags(row)]
+        return shown
 
     start = next(n for n, line in enumerate(lines) if re.match(r"\s+flags  ", line))
     lines[start:next(n for n in range(start, len(lines)) if lines[n] == "```")] = states()
@@ -315,7 +321,8 @@ def bits(lines):
 def as_tools_read(lines):
     """No row of a first 0 is read otherwise by the tool of the language."""
     table = Table(lines, FIRST_ZEROS)
-    shown = {row[0].strip("`"): row[-len(FIRST):] for row in table.rows}
+    shown = {name: row[-len(FIRST):] for row in table.rows
+             for name in re.findall(r"`(\w+)`", row[0])}
     for language, text, value in tool_values():
         if language in shown and text in FIRST:
             cell = shown[language][FIRST.index(text)]
