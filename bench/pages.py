@@ -20,16 +20,11 @@ ROWS = {
     "The same in radix 16": "f: I, radix 16, short grouped numbers",
     "Numbers of 1 to 4 digits, separators allowed": "f: I, 1 to 4 digits",
     "The same up to a comma, by `peek`, `is_digit` and `next`": "n: I, 1 to 4 digits to a comma",
-    "Grouped numbers up to a comma, by `peek`, `is_digit` and `next`":
-        "n: I, grouped numbers to a comma",
     "Grouped integers, by `read_integer`": "j: I, grouped literals",
     "Integers of 1 to 4 digits, by `read_integer`": "j: I, 1 to 4 digits",
-    "Lines with one grouped integer each, by `read_integer_from`": "t: I, grouped, lines",
     "Grouped digits up to a comma, by `pass_digits`": "o: I, grouped, pass_digits",
-    "Grouped zeros, by `pass_zeros`": "o: I, grouped, pass_zeros",
     "Integer, fraction and exponent, grouped": "l: I, three grouped components",
     "The same, by `read_digits_of`": "l: I, grouped, by read_digits_of",
-    "The same, as mantissa and exponent": "s: I, grouped, mantissa and exponent",
     "Numbers of 8 or 9 digits, grouped, by `parse_number::<u32>`": "u: I, grouped, u32",
     "Numbers of 20 to 39 digits, grouped, by `parse_number::<u128>`":
         "u: I, grouped, 20 to 39 digits, u128",
@@ -43,18 +38,14 @@ STD_ROWS = {
     "`u64`, 8 to 20 digits": "p: no flags, parse_integer",
     "`u64`, 8 to 20 digits, grouped": "p: I, grouped, parse_integer",
     "`i32`, 1 to 4 digits": "u: no flags, 1 to 4 digits, i32",
-    "`i32`, 8 or 9 digits": "u: no flags, i32",
     "`i32`, 8 or 9 digits, grouped": "u: I, grouped, i32",
-    "`u128`, 8 to 20 digits": "u: no flags, u128",
     "`u128`, 20 to 39 digits": "u: no flags, 20 to 39 digits, u128",
     "`u128`, 20 to 39 digits, grouped": "u: I, grouped, 20 to 39 digits, u128",
     "Literals of Rust with a prefix, by `read_literal`": "w: literals of Rust",
     "Literals of Rust with a prefix, grouped": "w: grouped literals of Rust",
     "`f64`, integers of 1 to 4 digits": "x: no flags, integers of 1 to 4 digits",
-    "`f64`, 1 to 4 digits before a point and after it": "x: no flags, 1 to 4 digits, a point",
     "`f64`, 8 to 14 digits with a point": "x: no flags, 8 to 14 digits, a point",
     "`f64`, 8 to 14 digits with a point, grouped": "x: I, grouped, 8 to 14 digits, a point",
-    "`f64`, 8 to 20 digits with a point": "x: no flags, 8 to 20 digits, a point",
     "`f64`, 18 to 40 digits": "x: no flags, 18 to 40 digits",
     "`f64` in [0, 1), 17 digits": "x: no flags, in [0, 1) with 17 digits",
 }
@@ -115,13 +106,13 @@ def speed_rows(cases):
         times = cases.rows["Nanoseconds"].get(case, {})
         yield [words, *(row.get(column, "–") for column in (
             "Constant", original, "Constant / fixed", "Library", "Library / floor")),
-            " / ".join(times.get(column, "–") for column in ("Constant", original))]
+            "/".join(times.get(column, "–") for column in ("Constant", original))]
 
 
 def std_rows(cases):
     for words, case in STD_ROWS.items():
         ratio = cases.ratio(case, "Constant", "Filter")
-        sides = (cases.row(case)[side] for side in ("Constant", "Library", "Filter"))
+        sides = (cases.row(case)[side] for side in ("Constant", "Filter"))
         yield [words, *sides, f"{ratio:.2f}"]
 
 
@@ -134,22 +125,20 @@ def asked(cases, flags):
 def speed(cases):
     """What docs/SPEED.md has between its comments."""
     head = ("What is read", "Constant word", "Original", "Ratio", "At run time", "to the floor",
-            "ns, constant / original")
+            "ns")
     lines = [f"{cases.machine}\n"]
-    lines += table("Instructions for each byte, and nanoseconds in the last column:", head,
+    lines += table("Instructions for each byte; in the last column nanoseconds, constant and original:", head,
                    speed_rows(cases))
     lines += [f"{mean}\n" for mean in cases.means]
     lines += table("Beside std's `parse`, or `from_str_radix`, which reads the text without its "
-                   "separators; instructions for each byte of the text with them:",
-                   ("What is parsed", "Constant word", "Library", "std", "Constant word / std"),
+                   "separators:",
+                   ("What is parsed", "Constant word", "std", "Ratio"),
                    std_rows(cases))
     return "\n".join(lines) + f"""
-Where `looks` is asked after each number of 1 to 4 digits, the instructions for each byte go from \
-{asked(cases, "no flags")} without flags and from {asked(cases, "I")} with separators allowed \
-(constant word).
+If `looks` is asked after each number of 1 to 4 digits, these go from {asked(cases, "no flags")} \
+without flags, and from {asked(cases, "I")} with separators allowed.
 
-A run of separators that is kept, as hostile text may have it, takes \
-{cases.run("IC", 100, "Library")} instructions a byte at 100 separators and \
+A run of separators that is kept takes {cases.run("IC", 100, "Library")} at 100 separators and \
 {cases.run("IC", 100000, "Library")} at 100,000 (word IC). The original takes \
 {cases.run("IC", 10000, "Original")} at 10,000, and that grows with the run."""
 
