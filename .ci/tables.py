@@ -155,16 +155,18 @@ def word_said(word, radix):
 
 
 def words(heads):
-    """The row of each language with its words; `heads` has the first cells of the page."""
-    known = constants(*WORDS)
-    shown = {head.split("`")[1]: head for head in heads}
+    """A row for the languages whose words have the same flags; `heads` has the first cells of the
+    page."""
+    known, rows = constants(*WORDS), {}
+    shown = {m[1]: m[0] for head in heads for m in re.finditer(r"`([A-Z]\w*)`(?: \([^)]*\))?", head)}
     for language in [*shown, *(it for it in languages() if it not in (*shown, *BARE))]:
         names = {f"{language}{ending}" + ("" if language == "TOML" else "_LITERAL"): radix
                  for ending, radix in RADIX_OF.items()}
         if set(names) & set(known):
-            yield [shown.get(language, f"`{language}`"),
-                   *(word_said(known[name], radix) if name in known else "-"
-                     for name, radix in names.items())]
+            cells = tuple(word_said(known[name], radix) if name in known else "-"
+                          for name, radix in names.items())
+            rows.setdefault(cells, []).append(shown.get(language, f"`{language}`"))
+    return [[", ".join(of_row), *cells] for cells, of_row in rows.items()]
 
 
 # ---- prefixes and a first 0
