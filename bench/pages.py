@@ -16,39 +16,32 @@ from picture import svg  # noqa: E402
 ROWS = {
     "Digits, no separators allowed": "a: no flags, digits, number",
     "Digits, separators allowed": "b: I, digits, number",
-    "Numbers of 8 to 20 bytes, grouped by thousands": "f: I, short grouped numbers",
+    "Numbers of 8 to 20 bytes, grouped": "f: I, short grouped numbers",
     "The same in radix 16": "f: I, radix 16, short grouped numbers",
-    "Numbers of 1 to 4 digits, separators allowed": "f: I, 1 to 4 digits",
-    "The same up to a comma, by `peek`, `is_digit` and `next`": "n: I, 1 to 4 digits to a comma",
-    "Grouped integers, by `read_integer`": "j: I, grouped literals",
-    "Integers of 1 to 4 digits, by `read_integer`": "j: I, 1 to 4 digits",
-    "Grouped digits up to a comma, by `pass_digits`": "o: I, grouped, pass_digits",
+    "Numbers of 1 to 4 digits": "f: I, 1 to 4 digits",
+    "The same by `peek`, `is_digit` and `next`": "n: I, 1 to 4 digits to a comma",
     "Integer, fraction and exponent, grouped": "l: I, three grouped components",
-    "The same, by `read_digits_of`": "l: I, grouped, by read_digits_of",
-    "Numbers of 8 or 9 digits, grouped, by `parse_number::<u32>`": "u: I, grouped, u32",
-    "Numbers of 20 to 39 digits, grouped, by `parse_number::<u128>`":
-        "u: I, grouped, 20 to 39 digits, u128",
-    "Floats of 8 to 14 digits, grouped, by `parse_float`": "x: I, grouped, 8 to 14 digits, a point",
+    "The same by `read_digits_of`": "l: I, grouped, by read_digits_of",
+    "Grouped digits by `pass_digits`": "o: I, grouped, pass_digits",
     "Runs of 16 separators, all dropped": "e: ILTC, runs of 16, number",
-    "Letters, by `peek` and `next`": "k: I, other bytes, peeked",
-}
-# The rows beside std, with the cases that they show.
-STD_ROWS = {
+    "Letters by `peek` and `next`": "k: I, other bytes, peeked",
+    "Grouped integers by `read_integer`": "j: I, grouped literals",
     "`u64`, 1 to 4 digits": "p: no flags, 1 to 4 digits, parse_integer",
     "`u64`, 8 to 20 digits": "p: no flags, parse_integer",
     "`u64`, 8 to 20 digits, grouped": "p: I, grouped, parse_integer",
     "`i32`, 1 to 4 digits": "u: no flags, 1 to 4 digits, i32",
     "`i32`, 8 or 9 digits, grouped": "u: I, grouped, i32",
-    "`u128`, 20 to 39 digits": "u: no flags, 20 to 39 digits, u128",
     "`u128`, 20 to 39 digits, grouped": "u: I, grouped, 20 to 39 digits, u128",
-    "Literals of Rust with a prefix, by `read_literal`": "w: literals of Rust",
-    "Literals of Rust with a prefix, grouped": "w: grouped literals of Rust",
+    "Literals of Rust by `read_literal`": "w: literals of Rust",
+    "Literals of Rust, grouped": "w: grouped literals of Rust",
     "`f64`, integers of 1 to 4 digits": "x: no flags, integers of 1 to 4 digits",
     "`f64`, 8 to 14 digits with a point": "x: no flags, 8 to 14 digits, a point",
-    "`f64`, 8 to 14 digits with a point, grouped": "x: I, grouped, 8 to 14 digits, a point",
+    "`f64`, 8 to 14 digits, grouped": "x: I, grouped, 8 to 14 digits, a point",
     "`f64`, 18 to 40 digits": "x: no flags, 18 to 40 digits",
     "`f64` in [0, 1), 17 digits": "x: no flags, in [0, 1) with 17 digits",
 }
+# The letters of the cases whose filter is std's `parse` or `from_str_radix`.
+BY_STD = "jptuvwx"
 
 
 def read(path):
@@ -102,18 +95,14 @@ class Cases:
 
 def speed_rows(cases):
     for words, case in ROWS.items():
-        row, original = cases.row(case), cases.fixed_side(case)
+        row = cases.row(case)
         times = cases.rows["Nanoseconds"].get(case, {})
-        yield [words, *(row.get(column, "–") for column in (
-            "Constant", original, "Constant / fixed", "Library", "Library / floor")),
-            "/".join(times.get(column, "–") for column in ("Constant", original))]
-
-
-def std_rows(cases):
-    for words, case in STD_ROWS.items():
-        ratio = cases.ratio(case, "Constant", "Filter")
-        sides = (cases.row(case)[side] for side in ("Constant", "Filter"))
-        yield [words, *sides, f"{ratio:.2f}"]
+        to_std = cases.ratio(case, "Constant", "Filter") if case[0] in BY_STD else None
+        is_over = " over" if "over" in row.get("Library / floor", "") else ""
+        is_beside = row.get("Original", "–") != "–"
+        yield [words, row["Constant"], row["Constant / fixed"] if is_beside else "–",
+               f"{to_std:.2f}" if to_std else "–", row["Library"] + is_over,
+               "/".join(times.get(column, "–") for column in ("Constant", "Original"))]
 
 
 def asked(cases, flags):
@@ -124,22 +113,17 @@ def asked(cases, flags):
 
 def speed(cases):
     """What docs/SPEED.md has between its comments."""
-    head = ("What is read", "Constant word", "Original", "Ratio", "At run time", "to the floor",
-            "ns")
+    head = ("What is read", "Constant word", "to lexical-util", "to std", "At run time", "ns")
     lines = [f"{cases.machine}\n"]
-    lines += table("Instructions for each byte; in the last column nanoseconds, constant and original:", head,
-                   speed_rows(cases))
+    lines += table("Instructions for each byte; in the last column nanoseconds, of the constant word "
+                   "and of lexical-util:", head, speed_rows(cases))
     lines += [f"{mean}\n" for mean in cases.means]
-    lines += table("Beside std's `parse`, or `from_str_radix`, which reads the text without its "
-                   "separators:",
-                   ("What is parsed", "Constant word", "std", "Ratio"),
-                   std_rows(cases))
     return "\n".join(lines) + f"""
 If `looks` is asked after each number of 1 to 4 digits, these go from {asked(cases, "no flags")} \
 without flags, and from {asked(cases, "I")} with separators allowed.
 
 A run of separators that is kept takes {cases.run("IC", 100, "Library")} at 100 separators and \
-{cases.run("IC", 100000, "Library")} at 100,000 (word IC). The original takes \
+{cases.run("IC", 100000, "Library")} at 100,000 (word IC). lexical-util takes \
 {cases.run("IC", 10000, "Original")} at 10,000, and that grows with the run."""
 
 
