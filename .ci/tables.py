@@ -3,8 +3,7 @@
 
     .ci/tables.py --write    writes them: the states and the worked rows from rules.rt, the words
                              with names from words.rt, a first 0 from languages.rt. Of the worked
-                             rows the page shows some, each with a last column of its own. It also
-                             adds the languages that CALLING.md leaves out to its list"""
+                             rows the page shows some, each with a last column of its own"""
 import os
 import re
 import sys
@@ -14,7 +13,6 @@ from sources import TOP, difference, read  # noqa: E402
 
 PAGE = "docs/RULES.md"
 TESTS = "crates/digit_vectors/src/tests/rules.rt"
-RADIXES = "crates/digit_vectors/src/tests/radixes.rt"
 LETTERS = {"I": 1 << 32, "L": 1 << 35, "T": 1 << 38, "C": 1 << 41}
 FLAGS = {"0": "none", "ALL": "ILTC", "INTERNAL": "I", "LEADING": "L", "TRAILING": "T",
          "CONSECUTIVE": "C"}
@@ -22,8 +20,6 @@ FLAGS = {"0": "none", "ALL": "ILTC", "INTERNAL": "I", "LEADING": "L", "TRAILING"
 WORDS = ("crates/lexical_format/src/lib.rt", "crates/lexical_format/src/words.rt")
 # each word with a name is in the law `words_say` and has a row of a test
 NAMING = ("crates/lexical_format/src/laws.rt", "crates/digit_vectors/src/tests/languages.rt")
-# and its language is in CALLING's list, by its name or by that of the word
-LISTING = "CALLING.md"
 # each language with its prefixes and its first 0, and what the languages' own tools read
 LANGUAGES = "crates/digit_languages/src/languages.rt"
 TOOLS = "crates/digit_vectors/src/tests/language_literals.rt"
@@ -101,19 +97,6 @@ def within():
             for flags, text, cursor, count, kept, _ in rows_of(TESTS, "FROM_WITHIN")]
 
 
-def others():
-    """The rows of the words that are written by their parts."""
-    rows = []
-    for word, text, kept, count in rows_of(TESTS, "OTHER_WORDS"):
-        parts = re.fullmatch(r"\((\d+) << 104\)(?: \| \((0x\w+) << 64\))? \| (.*)", word)
-        if parts:
-            code = int(parts[2] or "0", 0)
-            separator = "none" if code == 0 else f"`{chr(code)}`" if code < 128 else parts[2]
-            rows.append([flags_of(parts[3]), f"{separator}, {parts[1]}", quoted(text_of(text)),
-                         quoted(text_of(kept)), count])
-    return rows
-
-
 # ---- words with names
 
 # The words of no language.
@@ -130,12 +113,6 @@ def languages():
     return list(dict.fromkeys(
         name if name in BARE else re.sub(r"(_HEX|_OCTAL|_BINARY)?(_LITERAL)?$", "", name)
         for name in named_words()))
-
-
-def unlisted():
-    """The languages that are not in CALLING's list, by their names or by those of their words."""
-    listed = set(re.findall(r"\w+", read(LISTING).upper()))
-    return [it for it in languages() if it not in listed]
 
 
 def word_said(word, radix):
@@ -241,10 +218,8 @@ WITH_NAMES = ("X", "Radix 10", "16", "8", "2")
 WORKED = {
     ("Flags", "Bytes", "Drained", "Count", "Why"): examples,
     ("Flags", "Bytes", "Cursor, count", "Drained", "Why"): within,
-    ("Flags", "Separator, radix", "Bytes", "Drained", "Count", "Why"): others,
 }
 BITS = ("Component", "I", "L", "T", "C")
-OF_RADIXES = ("Component", "Mantissa, exponent radix", "Bytes", "Drained", "Count", "Why")
 
 
 class Table:
@@ -266,7 +241,7 @@ def is_of_flags(row):
 
 
 def written():
-    """The pages with the tables that the sources have."""
+    """The page with the tables that the sources have."""
     lines = read(PAGE).split("\n")
 
     def put(columns, rows):
@@ -287,16 +262,13 @@ def written():
         put(columns, worked(rows()))
     put(WITH_NAMES, lambda page: words([head for head, *_ in page]))
     put(FIRST_ZEROS, first_zeros())
-    listing = read(LISTING)
-    for language in unlisted():
-        listing = listing.replace(", and `TOML`", f", `{language}`, and `TOML`")
-    return {PAGE: "\n".join(lines), LISTING: listing}
+    return "\n".join(lines)
 
 
 def reasons(lines):
     """Each worked row says why, and one whose row isn't written is in a test: a test has the text,
     and beside it what is drained and the count."""
-    for columns, path in [*((it, TESTS) for it in WORKED), (OF_RADIXES, RADIXES)]:
+    for columns in WORKED:
         table = Table(lines, columns)
         for line, row in enumerate(table.rows, table.first + 1):
             if row[-1] == WHY:
@@ -305,8 +277,8 @@ def reasons(lines):
                 text, drained, count = (cell.replace("`", "") for cell in row[-4:-1])
                 drains = re.compile(rf'b"{re.escape(drained)}",\s*{count}\b')
                 if not any(f'b"{text}"' in test and drains.search(test)
-                           for test in read(path).split("#[test]")):
-                    yield (f"{PAGE}:{line}: no test of {path} drains `{text}` to `{drained}` with "
+                           for test in read(TESTS).split("#[test]")):
+                    yield (f"{PAGE}:{line}: no test of {TESTS} drains `{text}` to `{drained}` with "
                            f"the count {count}")
 
 
@@ -342,8 +314,8 @@ def named():
 
 def check():
     lines = read(PAGE).split("\n")
-    faults = [difference(path, text, ".ci/tables.py --write") for path, text in written().items()
-              if text != read(path)]
+    text = written()
+    faults = [difference(PAGE, text, ".ci/tables.py --write")] if text != read(PAGE) else []
     faults += [*reasons(lines), *bits(lines), *as_tools_read(lines), *named()]
     rows = sum(line.startswith("| ") for line in lines) + len(states())
     return f"{rows} rows of {PAGE}, and the names of {len(named_words())} words", faults
@@ -351,9 +323,9 @@ def check():
 
 if __name__ == "__main__":
     if sys.argv[1:] == ["--write"]:
-        for page, text in written().items():
-            with open(os.path.join(TOP, page), "w", encoding="utf8") as file:
-                file.write(text)
+        text = written()
+        with open(os.path.join(TOP, PAGE), "w", encoding="utf8") as file:
+            file.write(text)
     said, faults = check()
     print("\n".join(faults) if faults else f"tables: {said}")
     sys.exit(1 if faults else 0)
