@@ -145,20 +145,21 @@ def summary(cases):
         return span(cases, form, "Constant")
 
     return f"""\
-The numbers are ratios of instructions, with a format word that is a constant; less is better.
+Counted in instructions, with a format word that is a constant:
 
-- **Integers** without separators take {std("[pu]: no flags")} of what std's `parse` takes, and \
-{original("[pu]: no flags")} of a loop over lexical-util's iterator.
-- **Grouped integers**, such as `1_234_567`, take {std("[pu]: I, grouped")} of what std's `parse` \
-takes for the digits without their separators, and {original("[pu]: I, grouped")} of lexical-util.
-- **Hexadecimal digits** take {original("[bf]: I, radix 16")} of lexical-util. Literals of Rust, \
-of which a quarter is hexadecimal, take {std("w: ")} of std's `from_str_radix`.
-- **Floats** take {std("x: no flags")} of what std's `parse` takes, and {std("x: I, grouped")} \
+- **Integers** without separators take {std("[pu]: no flags")} times those of std's `parse`, and \
+{original("[pu]: no flags")} times those of a loop over lexical-util's iterator.
+- **Grouped integers**, such as `1_234_567`, take {std("[pu]: I, grouped")} times those of std's \
+`parse`, which gets the digits without separators, and {original("[pu]: I, grouped")} times \
+lexical-util's.
+- **Hexadecimal digits** take {original("[bf]: I, radix 16")} times lexical-util's. Literals of \
+Rust, of which a quarter is hexadecimal, take {std("w: ")} times those of `from_str_radix`.
+- **Floats** take {std("x: no flags")} times those of std's `parse`, and {std("x: I, grouped")} \
 with separators.
 
-Slow are floats of more than 15 digits (up to {most_of(cases, "x:", "Constant", "Filter")} of \
-std), runs of dropped separators ({most_of(cases, "e:", "Constant")} of lexical-util), letters \
-({most_of(cases, "k:", "Constant")}), and a word that is known only at run time (up to \
+The slow ones are floats of more than 15 digits (up to {most_of(cases, "x:", "Constant", "Filter")} \
+times std), runs of dropped separators ({most_of(cases, "e:", "Constant")} times lexical-util), \
+letters ({most_of(cases, "k:", "Constant")}), and a word that is known only at run time (up to \
 {most_of(cases, "", "Library")}). No text makes it quadratic: a kept run of separators takes \
 {cases.run("IC", 100, "Library")} instructions a byte at 100 separators and \
 {cases.run("IC", 100000, "Library")} at 100,000."""
