@@ -4,8 +4,8 @@
 use super::format::Format;
 use super::work::{Task, Work, run_each};
 use super::{Outcome, loops};
-use digit_literals::read_digits_of;
 use digit_floats::read_decimal_from;
+use digit_literals::read_digits_of;
 use lexical_digits::iterator::Iter;
 use lexical_digits::skip::{Bytes, Component};
 use lexical_format::NumberFormat;

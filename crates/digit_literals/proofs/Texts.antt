@@ -77,7 +77,7 @@ module _ (rule : Rule) (text : List ℕ) (start most : ℕ) (low : 2 ≤ rule.ra
         let some = some_before_stop rule text start most at h in
         let high = stop_within rule text start 0 within in
         let found = first_is at h.onward (omega (arith, h.before_stop, high))
-            (grind (arith, nat_tests, h.passes)) in
+        (grind (arith, nat_tests, h.passes)) in
         let r = first_over rule text start most in
         let same : r ≡ at = grind (arith, nat_tests, found, h.fits, value_rises (r + 1) at) in
         grind (arith, nat_tests, same, some, over_all at h)
@@ -94,7 +94,7 @@ module _ (rule : Rule) (text : List ℕ) (start most : ℕ) (low : 2 ≤ rule.ra
         let past : start < end = grind (arith, some) in
         let last : end - 1 + 1 ≡ end = omega (arith, past) in
         let found = first_is (end - 1) (omega (arith, past)) (omega (arith, past, high))
-            (grind (arith, nat_tests, large, last)) in
+        (grind (arith, nat_tests, large, last)) in
         record {
           onward = omega (arith, is, found.onward);
           before_stop = omega (arith, is, found.upto, past);
