@@ -4,7 +4,7 @@
 use super::bytes_of;
 use super::scripts::PARTS;
 use super::table::{Format, Table};
-use digit_script::{Answer, Call, Op, Part, run};
+use digit_script::{Answer, ByteSet, Call, Op, Part, run};
 use lexical_digits::iterator::Iter;
 use lexical_digits::skip::{Bytes, Component};
 use lexical_format::{
@@ -62,6 +62,22 @@ impl Numbers {
         self.next() % 2 == 1
     }
 
+    /// 124 bits.
+    fn bits(&mut self) -> u128 {
+        let mut bits = 0;
+        for _ in 0..4 {
+            bits = (bits << 31) | self.next() as u128;
+        }
+        bits
+    }
+
+    fn set(&mut self) -> ByteSet {
+        ByteSet {
+            low: self.bits(),
+            high: self.bits(),
+        }
+    }
+
     /// A call that every part has.
     fn shared_op(&mut self) -> Op {
         match self.next() % 17 {
@@ -86,7 +102,7 @@ impl Numbers {
 
     /// A call that only the iterators have.
     fn read_op(&mut self) -> Op {
-        match self.next() % 20 {
+        match self.next() % 21 {
             0 => Op::IsConsumed,
             1 => Op::IncrementCount,
             2 | 3 => Op::Peek,
@@ -104,6 +120,7 @@ impl Numbers {
             16 => Op::IsDigit(self.value()),
             17 => Op::IsSign(self.value()),
             18 => Op::IsDigitSeparator(self.value()),
+            19 => Op::ReadIf(self.set()),
             _ => Op::TakeN(self.next() % 6),
         }
     }

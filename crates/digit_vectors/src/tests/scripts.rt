@@ -1,7 +1,7 @@
 //! Lists of calls whose answers are known.
 
 use super::{INTERNAL, UNFLAGGED, bytes_of};
-use digit_script::{Answer, Call, Op, Part, run};
+use digit_script::{Answer, ByteSet, Call, Op, Part, run};
 use lexical_digits::iterator::Iter;
 use lexical_digits::skip::Bytes;
 use lexical_format::{
@@ -212,9 +212,21 @@ fn a_contiguous_part_goes_over_separators(rt: HostRuntime) {
     }
 }
 
+/// `0` to `9`.
+const DIGITS: ByteSet = ByteSet {
+    low: 0x3ff << 48,
+    high: 0,
+};
+
+/// `_`, and the bytes 0xFE and 0xFF.
+const PUNCTUATION: ByteSet = ByteSet {
+    low: 1 << 95,
+    high: 3 << 126,
+};
+
 /// Calls that only the iterators have: the answer and the cursor where the first separator is
 /// kept, and where it is dropped.
-static READS: [(Op, (Answer, usize), (Answer, usize)); 19] = [
+static READS: [(Op, (Answer, usize), (Answer, usize)); 21] = [
     (Op::IsConsumed, (NO, 0), (NO, 1)),
     (Op::IncrementCount, (Answer::Done, 0), (Answer::Done, 0)),
     (Op::Peek, (SEPARATOR, 0), (ZERO, 1)),
@@ -226,6 +238,8 @@ static READS: [(Op, (Answer, usize), (Answer, usize)); 19] = [
     (Op::PeekIs(b'_', true), (YES, 0), (NO, 1)),
     (Op::ReadIfEqual(b'0'), (NONE, 0), (ZERO, 2)),
     (Op::ReadIfNever, (NONE, 0), (NONE, 1)),
+    (Op::ReadIf(DIGITS), (NONE, 0), (ZERO, 2)),
+    (Op::ReadIf(PUNCTUATION), (SEPARATOR, 1), (NONE, 1)),
     (Op::ReadIfValueCased(b'_'), (SEPARATOR, 1), (NONE, 1)),
     (Op::ReadIfValueUncased(b'0'), (NONE, 0), (ZERO, 2)),
     (Op::ReadIfValue(b'_', true), (SEPARATOR, 1), (NONE, 1)),
@@ -247,6 +261,13 @@ fn the_iterators_alone_read(rt: HostRuntime) {
             assert_call(&rt, rt.alloc(), part, *op, *dropped, *at_dropped);
         }
     }
+}
+
+#[test]
+fn a_closure_is_a_set_of_bytes(rt: HostRuntime) {
+    assert!(rt; ByteSet::of(|byte| byte.is_ascii_digit()) == DIGITS);
+    let wanted = b'_';
+    assert!(rt; ByteSet::of(|byte| byte == wanted || byte > 0xfd) == PUNCTUATION);
 }
 
 /// What `skip_zeros` and `take_n` answer on each part, and the cursor that they leave.

@@ -4,7 +4,7 @@
 
 ghost use Rattle.std.specs.Prelude.{◌<◌, ◌≤◌, length};
 
-use digit_script::{Answer, Call, Op, Part};
+use digit_script::{Answer, ByteSet, Call, Op, Part};
 
 /// A format word by its parts.
 #[derive(Clone, Copy, Debug)]
@@ -152,6 +152,15 @@ fn is_value(byte: Option<u8>, value: u8, is_cased: bool) -> bool {
         Some(byte) if is_cased => byte == value,
         Some(byte) => byte.to_ascii_lowercase() == value.to_ascii_lowercase(),
     }
+}
+
+/// Whether a byte is in a set, by halving.
+fn is_in(set: ByteSet, byte: u8) -> bool {
+    let mut bits = if byte < 128 { set.low } else { set.high };
+    for _ in 0..byte % 128 {
+        bits /= 2;
+    }
+    bits % 2 == 1
 }
 
 /// The number of the first four bytes, the first of them lowest.
@@ -384,6 +393,9 @@ impl Table<'_> {
                 return self.read_if(place, is_value(byte, value, true));
             }
             Op::ReadIfNever => return self.read_if(place, false),
+            Op::ReadIf(set) => {
+                return self.read_if(place, byte.is_some_and(|byte| is_in(set, byte)));
+            }
             Op::ReadIfValueUncased(value) => {
                 return self.read_if(place, is_value(byte, value, false));
             }
