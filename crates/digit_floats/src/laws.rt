@@ -1,9 +1,13 @@
-//! A law: std reads the same where there is no separator.
+//! Laws: std reads the same where there is no separator, and a zero keeps its sign.
 
 ghost use Rattle.std.specs.Prelude.{◌≡◌, ℕ, length, Some};
 ghost use Rattle.std.specs.Float.{Format};
+ghost use Rattle.std.specs.Float.Ieee.{round};
+ghost use Rattle.std.specs.Float.Numeral.{numeral_digits};
 ghost use Rattle.std.specs.Float.Parse.{parse_float as std_float};
-ghost use Rattle.digit_floats.specs.Float.{IsDecimal, HasFloat, plain_marks, past_sign, float_at, float_end};
+ghost use Rattle.digit_floats.specs.Float.{IsDecimal, HasFloat, plain_marks, past_sign, parts_at, float_at, float_end};
+ghost use Rattle.digit_floats.specs.Bytes.{stands, is_minus};
+ghost use Rattle.digit_floats.specs.declared.parts.Marks.{Marks};
 ghost use Rattle.digit_floats.specs.Separators.{HasNoSeparator};
 
 /// On a text without separators, all of which is a float, std's `parse` answers the same float.
@@ -15,4 +19,12 @@ pub fn std_reads_the_same(text: &[u8], word: u128)
     requires whole { float_end word text.now plain_marks 0 ≡ length text.now }
     ensures value { (f : Format) →
         std_float f text.now ≡ Some (float_at word text.now plain_marks f 0) }
+{}
+
+/// A number whose digits are all `0` is a zero with its sign, whatever its exponent: `-0.0e9` is
+/// -0.0. Here `round f negative 0 1` is that zero.
+pub fn zeros_keep_their_sign(text: &[u8], word: u128)
+    ensures { (marks : Marks) (f : Format) (at : ℕ) →
+        numeral_digits (parts_at word text.now marks (past_sign text.now at)) ≡ 0 →
+        float_at word text.now marks f at ≡ round f (stands is_minus text.now at) 0 1 }
 {}
