@@ -10,8 +10,8 @@ ghost use Rattle.digit_literals.specs.After.{past_digits_to, digits_read, IsDigi
 ghost use Rattle.digit_literals.specs.Reads.{ReadsOn};
 
 use super::reading::{Digits, TooLarge};
-use super::slice::{first_digit, read_counted, read_slice};
-use super::zeros::{pass_counted, read_zeros};
+use super::slice::{first_digit, read_bytes, read_slice};
+use super::zeros::{pass_zeros_bytes, read_zeros};
 use lexical_digits::iterator::Iter;
 use lexical_digits::skip::{Bytes, Component};
 
@@ -30,7 +30,7 @@ pub fn pass_digits(bytes: &mut Bytes, component: Component) -> usize
     ensures at_least { min (bytes.old.looks + 2 * result) (2 ^ 64 - 1) ≤ bytes.new.looks }
 {
     // no digit is too large where no value is asked for
-    read_on(bytes, component, 0, None).unwrap().count
+    read_leading(bytes, component, 0, None).unwrap().count
 }
 
 /// Reads the digits of a component that lead from the cursor on, after the digits of a value:
@@ -103,14 +103,14 @@ pub fn read_digits_up_to(
     ensures at_least { let digits = digits_read result in
         min (bytes.old.looks + 2 * digits) (2 ^ 64 - 1) ≤ bytes.new.looks }
 {
-    read_on(bytes, component, before, Some(most))
+    read_leading(bytes, component, before, Some(most))
 }
 
 /// Reads the digits of a component that lead from the cursor on, after the value `before`, and
 /// passes them. [`TooLarge`] is answered only if `most` is given, and otherwise the value means
 /// nothing.
 #[inline(always)]
-fn read_on(
+fn read_leading(
     bytes: &mut Bytes,
     component: Component,
     before: u64,
@@ -129,7 +129,7 @@ fn read_on(
     }
     // on a copy, so that `bytes` may stay in registers
     let mut copy = bytes.clone().unwrap();
-    let read = read_counted(&mut copy, component, before, most);
+    let read = read_bytes(&mut copy, component, before, most);
     bytes.go_on_from(copy);
     read.outcome()
 }
@@ -153,9 +153,9 @@ pub fn pass_zeros(bytes: &mut Bytes, component: Component) -> usize
         bytes.increment_count_of(component, read.count);
         return read.count;
     }
-    // on a copy, as in `read_on`
+    // on a copy, as in `read_leading`
     let mut copy = bytes.clone().unwrap();
-    let zeros = pass_counted(&mut copy, component);
+    let zeros = pass_zeros_bytes(&mut copy, component);
     bytes.go_on_from(copy);
     zeros
 }

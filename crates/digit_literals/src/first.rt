@@ -56,7 +56,7 @@ pub fn read_first_digits(
     ensures owes { owed bytes.new ≤ℤ (owed bytes.old +ℤ pos (8 * result.count + 8)) }
     ensures at_least { min (bytes.old.looks + 2 * result.count) (2 ^ 64 - 1) ≤ bytes.new.looks }
 {
-    if let Some(read) = read_decimal(bytes, component, before, most) {
+    if let Some(read) = read_first_slice(bytes, component, before, most) {
         return FirstDigits {
             value: read.value,
             count: read.count,
@@ -65,7 +65,7 @@ pub fn read_first_digits(
     }
     // on a copy, so that `bytes` may stay in registers
     let mut copy = bytes.clone().unwrap();
-    let read = read_first_apart(&mut copy, component, before, most);
+    let read = read_first_bytes(&mut copy, component, before, most);
     bytes.go_on_from(copy);
     read
 }
@@ -100,7 +100,7 @@ pub fn read_first_digits_from(
     ensures end { result.1 ≤ length text.now }
 {
     let rule = Rule::of(word, component);
-    if let Some(read) = decimals_from(text, rule, start, before, most) {
+    if let Some(read) = decimals_slice(text, rule, start, before, most) {
         let all = FirstDigits {
             value: read.value,
             count: read.count,
@@ -154,7 +154,7 @@ fn read_first_again(
             }
         }
     }
-    let first = read_first_fresh(text, word, component, start, before, most);
+    let first = read_first_fresh_bytes(text, word, component, start, before, most);
     (first.digits, first.end)
 }
 
@@ -170,7 +170,7 @@ struct FirstRead {
 /// there are.
 #[cold]
 #[inline(never)]
-fn read_first_fresh(
+fn read_first_fresh_bytes(
     text: &[u8],
     word: u128,
     component: Component,
@@ -211,7 +211,7 @@ fn count_rest(text: &[u8], rule: Rule, start: usize) -> Option<ReadTo>
 /// Reads the digits of a rule with radix 10 from `start` on, where the slice is enough and no digit
 /// is too large.
 #[inline(always)]
-fn decimals_from(text: &[u8], rule: Rule, start: usize, before: u64, most: u64) -> Option<ReadTo>
+fn decimals_slice(text: &[u8], rule: Rule, start: usize, before: u64, most: u64) -> Option<ReadTo>
     requires supported { IsSupported rule }
     requires within { start ≤ length text.now }
     requires fits { before ≤ most }
@@ -229,13 +229,18 @@ fn decimals_from(text: &[u8], rule: Rule, start: usize, before: u64, most: u64) 
 /// Reads and passes the digits of a component with radix 10, where the slice is enough and no digit
 /// is too large. Otherwise it leaves all.
 #[inline(always)]
-fn read_decimal(bytes: &mut Bytes, component: Component, before: u64, most: u64) -> Option<Digits>
+fn read_first_slice(
+    bytes: &mut Bytes,
+    component: Component,
+    before: u64,
+    most: u64,
+) -> Option<Digits>
     requires { before ≤ most }
     ensures reads { IfSome result (PassesAll component before most bytes.old bytes.new) }
     ensures leaves { IfNone result (bytes.new ≡ bytes.old) }
 {
     let rule = bytes.rule(component);
-    let read = decimals_from(bytes.get_buffer(), rule, bytes.cursor(), before, most)?;
+    let read = decimals_slice(bytes.get_buffer(), rule, bytes.cursor(), before, most)?;
     bytes.pass_read(component, read.end, read.count);
     Some(Digits {
         value: read.value,
@@ -248,7 +253,7 @@ fn read_decimal(bytes: &mut Bytes, component: Component, before: u64, most: u64)
 #[cold]
 #[inline(never)]
 #[tactic(auto, using(crate::proofs::Firsts::bounds))]
-fn read_first_apart(bytes: &mut Bytes, component: Component, before: u64, most: u64) -> FirstDigits
+fn read_first_bytes(bytes: &mut Bytes, component: Component, before: u64, most: u64) -> FirstDigits
     requires { before ≤ most }
     ensures first { let s = bytes.old.state in
         ReadsFirst (rule component s).radix most before (leading_digits_of component s) result }

@@ -12,7 +12,7 @@ ghost use Rattle.digit_literals.specs.Integers.{integer_at};
 ghost use Rattle.digit_literals.specs.Reads.{ReadsTo, IsFirst, integer_of};
 
 use super::LiteralError;
-use super::slice::{ReadTo, first_digit, read_counted, read_slice};
+use super::slice::{ReadTo, first_digit, read_bytes, read_slice};
 use lexical_digits::iterator::Iter;
 use lexical_digits::skip::{Bytes, Component, Rule};
 
@@ -70,15 +70,15 @@ pub fn read_integer_from(
     let rule = Rule::of(word, Component::Integer);
     // A compiler sees that without inner separators no digit follows a first byte that is none.
     match first_digit(text, rule, start, 0, u128::from(most)) {
-        None if !rule.internal => read_integer_on(text, word, start, None, most),
-        first => read_integer_on(text, word, start, first, most),
+        None if !rule.internal => read_integer_known(text, word, start, None, most),
+        first => read_integer_known(text, word, start, first, most),
     }
 }
 
 /// [`read_integer_from`], where the digit at `start` may be known.
 #[inline(always)]
 #[tactic(auto, using(crate::proofs::Texts::outcomes))]
-pub(super) fn read_integer_on(
+pub(super) fn read_integer_known(
     text: &[u8],
     word: u128,
     start: usize,
@@ -101,7 +101,7 @@ pub(super) fn read_integer_on(
     match read_ahead(text, word, Component::Integer, start, first, Some(most)) {
         Some(read) => integer_of(read, read.end == start),
         None => {
-            let read = read_fresh(text, word, Component::Integer, start, Some(most));
+            let read = read_fresh_bytes(text, word, Component::Integer, start, Some(most));
             integer_of(read, read.count == 0)
         }
     }
@@ -139,7 +139,7 @@ pub fn count_digits(text: &[u8], word: u128) -> Result<usize, usize>
     ensures stops { IfErr result (λ at. at ≡ stop (rule_of word Integer) text.now 0 0) }
     ensures within { IfErr result (λ at. at < length text.now) }
 {
-    let read = read_text(text, word, Component::Integer, 0, None);
+    let read = read_component(text, word, Component::Integer, 0, None);
     if read.end == text.len() {
         Ok(read.count)
     } else {
@@ -164,13 +164,13 @@ pub fn stop_from(text: &[u8], word: u128, component: Component, start: usize) ->
     ensures onward { start ≤ result }
     ensures within { result ≤ length text.now }
 {
-    read_text(text, word, component, start, None).end
+    read_component(text, word, component, start, None).end
 }
 
 /// The digits of a component that lead from `start` on, and whether there are none: up to a greatest
 /// value if one is asked for. The digit at `start` may be known.
 #[inline(always)]
-pub(super) fn read_told(
+pub(super) fn read_known(
     text: &[u8],
     word: u128,
     component: Component,
@@ -188,7 +188,7 @@ pub(super) fn read_told(
     match read_ahead(text, word, component, start, first, most) {
         Some(read) => (read, read.end == start),
         None => {
-            let read = read_fresh(text, word, component, start, most);
+            let read = read_fresh_bytes(text, word, component, start, most);
             (read, read.count == 0)
         }
     }
@@ -196,7 +196,7 @@ pub(super) fn read_told(
 
 /// The digits of a component that lead from `start` on: up to a greatest value if one is asked for.
 #[inline(always)]
-pub(super) fn read_text(
+pub(super) fn read_component(
     text: &[u8],
     word: u128,
     component: Component,
@@ -207,7 +207,7 @@ pub(super) fn read_text(
     requires within { start ≤ length text.now }
     ensures { ReadsTo (rule_of word component) text.now start 0 most result 0 }
 {
-    read_told(text, word, component, start, None, most).0
+    read_known(text, word, component, start, None, most).0
 }
 
 /// Reads the digits of a component from `start` on, where the slice is enough: up to a greatest
@@ -237,7 +237,7 @@ fn read_ahead(
 /// a greatest value if one is asked for.
 #[cold]
 #[inline(never)]
-fn read_fresh(
+fn read_fresh_bytes(
     text: &[u8],
     word: u128,
     component: Component,
@@ -250,5 +250,5 @@ fn read_fresh(
 {
     let mut bytes = Bytes::new(text, word);
     bytes.set_cursor(start);
-    read_counted(&mut bytes, component, 0, most)
+    read_bytes(&mut bytes, component, 0, most)
 }

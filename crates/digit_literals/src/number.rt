@@ -10,7 +10,7 @@ ghost use Rattle.digit_literals.specs.Numbers.{number_at, to_end, digits_from, i
 ghost use Rattle.digit_literals.specs.Reads.{IsFirst};
 
 use super::slice::first_digit;
-use super::wide::read_wide_on;
+use super::wide::read_wide_known;
 use super::{LiteralError, ParseError};
 use lexical_digits::skip::{Component, Rule};
 
@@ -276,7 +276,7 @@ struct Head {
 
 /// What a number begins with at a position.
 #[inline(always)]
-fn read_head<T: Integer>(text: &[u8], word: u128, start: usize) -> Head
+fn read_sign<T: Integer>(text: &[u8], word: u128, start: usize) -> Head
     requires { start ≤ length text.now }
     ensures negative { result.is_negative ≡ is_negative_from T.MIN_MAGNITUDE text.now start }
     ensures begins { result.begin ≡ digits_from T.MIN_MAGNITUDE text.now start }
@@ -339,13 +339,13 @@ pub fn read_number_from<T: Integer>(
     ensures overflow_at { let n = length text.now in
         IfOverflow result (λ at. (start ≤ at) × (at < n)) }
 {
-    let head = read_head::<T>(text, word, start);
+    let head = read_sign::<T>(text, word, start);
     let most = if head.is_negative {
         T::MIN_MAGNITUDE
     } else {
         T::MAX
     };
-    let (magnitude, end) = read_wide_on(text, word, head.begin, head.first, most)?;
+    let (magnitude, end) = read_wide_known(text, word, head.begin, head.first, most)?;
     Ok((T::of_magnitude(head.is_negative, magnitude), end))
 }
 

@@ -202,7 +202,7 @@ fn peek_digit_of(bytes: &mut Bytes, component: Component, radix: u32) -> Option<
 #[cold]
 #[inline(never)]
 #[tactic(auto, using(lexical_digits::specs::Laws::Table::place_from))]
-pub(super) fn read_counted(
+pub(super) fn read_bytes(
     bytes: &mut Bytes,
     component: Component,
     before: u64,

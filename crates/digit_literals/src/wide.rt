@@ -13,7 +13,7 @@ ghost use Rattle.digit_literals.specs.Reads.{IsFirst};
 ghost use Rattle.digit_literals.specs.declared.LiteralError.TheVariants.{Overflow};
 
 use super::LiteralError;
-use super::integer::{integer_of, read_integer_on, read_told, stop_from};
+use super::integer::{integer_of, read_integer_known, read_known, stop_from};
 use super::slice::{ReadTo, read_slice};
 use lexical_digits::skip::{Component, Rule};
 use lexical_format::char_to_digit_const;
@@ -45,12 +45,12 @@ pub fn read_wide_from(
     ensures overflow_at { let n = length text.now in
         IfOverflow result (λ at. (start ≤ at) × (at < n)) }
 {
-    read_wide_on(text, word, start, None, most)
+    read_wide_known(text, word, start, None, most)
 }
 
 /// [`read_wide_from`], where the digit at `start` may be known.
 #[inline(always)]
-pub(super) fn read_wide_on(
+pub(super) fn read_wide_known(
     text: &[u8],
     word: u128,
     start: usize,
@@ -71,10 +71,10 @@ pub(super) fn read_wide_on(
         IfOverflow result (λ at. (start ≤ at) × (at < n)) }
 {
     if most <= u128::from(u64::MAX) {
-        let (value, end) = read_integer_on(text, word, start, first, most as u64)?;
+        let (value, end) = read_integer_known(text, word, start, first, most as u64)?;
         return Ok((u128::from(value), end));
     }
-    let (read, is_empty) = read_told(text, word, Component::Integer, start, first, Some(u64::MAX));
+    let (read, is_empty) = read_known(text, word, Component::Integer, start, first, Some(u64::MAX));
     if read.is_too_large {
         let wide = read_beyond(text, word, start, read.end, read.value, most);
         if wide.is_too_large {

@@ -72,7 +72,7 @@ fn peek_is_zero(bytes: &mut Bytes, component: Component) -> bool
 #[cold]
 #[inline(never)]
 #[tactic(auto, using(crate::proofs::PassedZeros::counting))]
-pub(super) fn pass_counted(bytes: &mut Bytes, component: Component) -> usize
+pub(super) fn pass_zeros_bytes(bytes: &mut Bytes, component: Component) -> usize
     ensures zeros { result ≡ zeros_of component bytes.old.state }
     ensures state { bytes.new.state ≡ past_zeros_of component bytes.old.state }
     ensures remembers { needs_run component bytes.new ≡ false }

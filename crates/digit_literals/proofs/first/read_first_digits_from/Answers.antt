@@ -9,8 +9,8 @@ use Rattle.digit_literals.proofs.Firsts.{reads_all}
 use Rattle.digit_literals.proofs.States.{own_of_fresh}
 use Rattle.digit_literals.proofs.first.read_first_digits_from.Goals as goal
 
-pub decimals_from-requires-clause-supported : goal.decimals_from-requires-clause-supported
-decimals_from-requires-clause-supported c =
+pub decimals_slice-requires-clause-supported : goal.decimals_slice-requires-clause-supported
+decimals_slice-requires-clause-supported c =
     grind (arith, supported_rule c.args.word c.args.component c.requires.supported)
 
 pub returns-in-Some-clause-end : goal.returns-in-Some-clause-end

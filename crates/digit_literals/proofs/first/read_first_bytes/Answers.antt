@@ -1,7 +1,7 @@
 use Rattle.std.proofs.Common.{arith, rules}
 use Rattle.digit_literals.proofs.Firsts.{reads_all, reads_rest}
 use Rattle.digit_literals.proofs.Rest.{leaves_rest}
-use Rattle.digit_literals.proofs.first.read_first_apart.Goals as goal
+use Rattle.digit_literals.proofs.first.read_first_bytes.Goals as goal
 
 pub returns-in-Ok-clause-first : goal.returns-in-Ok-clause-first
 returns-in-Ok-clause-first c =

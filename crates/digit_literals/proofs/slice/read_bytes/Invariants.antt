@@ -1,7 +1,7 @@
 use Rattle.std.proofs.Common.{length}
 use Rattle.lexical_digits.specs.Stop.{leading_digits_of}
 use Rattle.digit_literals.proofs.Counted.{GoesOn}
-use Rattle.digit_literals.proofs.slice.read_counted.Given as goal
+use Rattle.digit_literals.proofs.slice.read_bytes.Given as goal
 
 abbrev pub invariant-loop-digit : goal.invariant-loop-digit
 invariant-loop-digit l =

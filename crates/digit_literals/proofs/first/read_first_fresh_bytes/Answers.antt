@@ -3,7 +3,7 @@ use Rattle.lexical_digits.specs.Laws.Terms.{IsState}
 use Rattle.lexical_digits.specs.State.{start, with_cursor}
 use Rattle.lexical_digits.proofs.Calls.Stops.{leading_between}
 use Rattle.digit_literals.proofs.States.{own_of_fresh}
-use Rattle.digit_literals.proofs.first.read_first_fresh.Goals as goal
+use Rattle.digit_literals.proofs.first.read_first_fresh_bytes.Goals as goal
 
 pub returns-clause-first : goal.returns-clause-first
 returns-clause-first c =

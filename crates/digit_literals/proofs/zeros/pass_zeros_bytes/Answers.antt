@@ -2,7 +2,7 @@ use Rattle.std.proofs.Common.{arith}
 use Rattle.std.proofs.lemmas.Int.{ints}
 use Rattle.std.proofs.lemmas.Option.{gets}
 use Rattle.digit_literals.proofs.PassedZeros.{counting}
-use Rattle.digit_literals.proofs.zeros.pass_counted.Goals as goal
+use Rattle.digit_literals.proofs.zeros.pass_zeros_bytes.Goals as goal
 
 pub loop-component-preserved : goal.loop-component-preserved
 loop-component-preserved c = record {

@@ -3,7 +3,7 @@ use Rattle.std.proofs.lemmas.Int.{ints}
 use Rattle.lexical_digits.specs.State.{own}
 use Rattle.lexical_digits.proofs.Looks.Needed.{none_needed}
 use Rattle.digit_literals.proofs.States.{on_copy, owed_same}
-use Rattle.digit_literals.proofs.component.read_on.Goals as goal
+use Rattle.digit_literals.proofs.component.read_leading.Goals as goal
 
 pub pass_read-requires-clause-within : goal.pass_read-requires-clause-within
 pass_read-requires-clause-within c = let reads = c.in-Some.ensures.reads 0 in grind arith
@@ -20,7 +20,7 @@ go_on_from-requires c = grind (arith, on_copy)
 
 pub returns : goal.returns
 returns c = record {
-  read = c.read_counted-read.result;
+  read = c.read_bytes-read.result;
   passes = grind (arith, ints, owed_same);
   is = c.outcome-2.ensures;
 }

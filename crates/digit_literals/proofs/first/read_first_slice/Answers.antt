@@ -3,7 +3,7 @@ use Rattle.std.proofs.lemmas.Int.{ints}
 use Rattle.lexical_digits.specs.State.{own}
 use Rattle.lexical_digits.proofs.Looks.Needed.{none_needed}
 use Rattle.lexical_digits.proofs.Calls.Stops.{leading_between}
-use Rattle.digit_literals.proofs.first.read_decimal.Goals as goal
+use Rattle.digit_literals.proofs.first.read_first_slice.Goals as goal
 
 pub pass_read-requires-clause-within : goal.pass_read-requires-clause-within
 pass_read-requires-clause-within c = let reads = c.in_ok-read.ensures.reads.reads 0 in grind arith

@@ -1,7 +1,7 @@
 use Rattle.std.proofs.Common.{◌≡◌, ◌+◌, ◌*◌, ◌-◌, ◌^◌, ◌≤◌, min, pos, ◌≤ℤ◌, ◌+ℤ◌}
 use Rattle.lexical_digits.specs.CallTable.{zeros_of, past_zeros_of}
 use Rattle.lexical_digits.specs.Looks.{owed}
-use Rattle.digit_literals.proofs.zeros.pass_counted.Given as goal
+use Rattle.digit_literals.proofs.zeros.pass_zeros_bytes.Given as goal
 
 -- of the zeros that lead, so many were passed, each with a look
 abbrev pub invariant-loop-component : goal.invariant-loop-component

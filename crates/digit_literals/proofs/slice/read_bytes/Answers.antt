@@ -1,6 +1,6 @@
 use Rattle.std.proofs.Common.{◌≡◌, rules, arith}
 use Rattle.digit_literals.proofs.Counted.{one_read, fewer_left, stops_before, ends_there}
-use Rattle.digit_literals.proofs.slice.read_counted.Goals as goal
+use Rattle.digit_literals.proofs.slice.read_bytes.Goals as goal
 
 pub loop-digit-init : goal.loop-digit-init
 loop-digit-init c = record {
