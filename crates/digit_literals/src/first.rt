@@ -190,7 +190,8 @@ fn read_first_fresh_bytes(
 {
     let mut bytes = Bytes::new(text, word);
     bytes.set_cursor(start);
-    let digits = read_first_digits(&mut bytes, component, before, most);
+    // the slice from here on was tried before
+    let digits = read_first_bytes(&mut bytes, component, before, most);
     FirstRead {
         digits,
         end: bytes.cursor(),
@@ -257,6 +258,7 @@ fn read_first_bytes(bytes: &mut Bytes, component: Component, before: u64, most: 
     requires { before ≤ most }
     ensures first { let s = bytes.old.state in
         ReadsFirst (rule component s).radix most before (leading_digits_of component s) result }
+    ensures within { bytes.old.state.cursor + result.count ≤ bytes.new.state.cursor }
     ensures state { bytes.new.state ≡ past_digits_of component bytes.old.state }
     ensures remembers { needs_run component bytes.new ≡ false }
     ensures owes { owed bytes.new ≤ℤ (owed bytes.old +ℤ pos (8 * result.count + 8)) }

@@ -12,7 +12,7 @@ returns-clause-first c =
     let valid : IsState s = grind arith in
     let fresh = c.new-bytes.ensures.state in
     let moved = rw fresh at c.set_cursor.ensures.moves in
-    let read = rw moved at c.read_first_digits-digits.ensures in
+    let read = rw moved at c.read_first_bytes-digits.ensures in
     let between = leading_between k s valid in
     let none = own_of_fresh k c.args.text.now c.args.word c.args.start in
     rw (between, none) at read.first
