@@ -1,10 +1,17 @@
 -- What is read of a number of any length: the first of its significant digits.
-use Rattle.std.proofs.Common.{◌≡◌, ℕ, ◌+◌, ◌-◌, ◌^◌, ◌<◌, ◌≤◌, refl, ap, ◌∙◌, IsTrue, List, length, length-append, take, arith}
+use Rattle.std.proofs.Common.{◌≡◌, ℕ, ◌+◌, ◌-◌, ◌*◌, ◌^◌, ◌<◌, ◌≤◌, ◌%◌, refl, sym, ap, subst, ◌∙◌, IsTrue, List, length, length-append, take, arith}
 use Rattle.lexical_format.specs.Word.{is_supported}
 use Rattle.lexical_digits.specs.State.{rule_of, start, with_cursor}
 use Rattle.lexical_digits.specs.Stop.{stop, stop_of}
 use Rattle.lexical_digits.specs.Laws.Table.{with_own_buffer, with_own_word}
-use Rattle.std.specs.Str.Parse.{digits_value_after}
+use native.Mathlib.Nat.{mod-eq_of_lt, mul-le-mul_right}
+use lib.Pow.{pow-add}
+use Rattle.std.specs.Prelude.{Some, None}
+use Rattle.std.specs.Str.Parse.{AllDigits, digits_value, digits_value_after}
+use Rattle.std.proofs.lemmas.Int.Digits.{digits_value-lt}
+use Rattle.lexical_digits.specs.declared.skip.rule.Rule.{Rule}
+use Rattle.digit_literals.specs.declared.slice.ReadTo.{ReadTo}
+use Rattle.digit_literals.specs.Reads.{IsOffSlice}
 use Rattle.std.proofs.lemmas.List.{take_all}
 use Rattle.lexical_digits.specs.declared.skip.component.Component.{Component}
 use Rattle.lexical_digits.specs.declared.skip.component.Component.TheVariants.{Integer, Fraction, Exponent, Special}
@@ -18,7 +25,7 @@ use Rattle.digit_literals.specs.After.{digits_between, past_digits_to, IsDigits,
 use Rattle.digit_literals.specs.Rest.{LeavesRest}
 use Rattle.digit_literals.proofs.Rest.{leaves_rest, nth}
 use Rattle.digit_literals.specs.First.{ReadsFirst}
-use Rattle.digit_literals.proofs.ForCallers.{all_digits, stop_within}
+use Rattle.digit_literals.proofs.ForCallers.{all_digits, stop_within, value_of_pieces}
 use Rattle.digit_literals.proofs.States.{by_state, within_stop, own_of_fresh}
 
 module _ (k : Component) (s : State) (most before : ℕ) (valid : IsState s) where
@@ -143,3 +150,48 @@ module _ (word : ℕ) (k : Component) (text : List ℕ) (at before most over : �
       let so_far : IsReadTo k s before error = record { is = is; digits = counted } in
       let others : more ≡ length (leading_digits_of k t) = rw (left, ← ends) are in
       rw leading at (reads_rest k s most before fresh {error = error} {dropped = more} here so_far others)
+
+-- ---- off a slice, where no digit was tested for being too large
+
+pub few_fit : (r : Rule) (text : List ℕ) (at before most : ℕ) (read : ReadTo)
+    → r.radix ≡ 10 → (before + 1) * 10 ^ read.count ≤ 10 ^ 19 → 10 ^ 19 ≤ most + 1
+    → IsOffSlice r text at before None read → IsOffSlice r text at before (Some most) read
+few_fit r text at before most read ten room top h =
+    let digits = digits_between r text at read.end in
+    let below : digits_value 10 digits < 10 ^ read.count =
+    rw (h.reads 0).digits (digits_value-lt 10 digits (subst (λ (n : ℕ). AllDigits n digits) ten (all_digits r _))) in
+    let pieces : digits_value_after 10 before digits ≡ before * 10 ^ read.count + digits_value 10 digits =
+    rw (h.reads 0).digits (value_of_pieces 10 before digits) in
+    let more : (before + 1) * 10 ^ read.count ≡ before * 10 ^ read.count + 10 ^ read.count = grind arith in
+    let less : digits_value_after 10 before digits < 10 ^ 19 = omega arith in
+    let is : read.value ≡ digits_value_after 10 before digits =
+    subst (λ (n : ℕ). read.value ≡ digits_value_after n before digits % 2 ^ 64) ten h.wrapped
+    ∙ mod-eq_of_lt (omega arith) in
+    record {
+      reads = λ own.
+          let o = h.reads own in
+          record {
+            onward = o.onward;
+            within = o.within;
+            digits = o.digits;
+            worth = record {
+              is = subst (λ (n : ℕ). read.value ≡ digits_value_after n before digits) (sym ten) is;
+              fits = omega arith;
+            };
+            stops = o.stops;
+            exceeds = λ t. absurd (o.exceeds t);
+          };
+      wrapped = tt;
+      other = h.other;
+      below = h.below;
+      dense = h.dense;
+    }
+
+pub has_room : (before count bound : ℕ) → count ≤ 19 → bound ≡ 10 ^ (19 - count) → before < bound
+    → (before + 1) * 10 ^ count ≤ 10 ^ 19
+has_room before count bound few is less =
+    let all : 10 ^ (19 - count) * 10 ^ count ≡ 10 ^ 19 =
+    sym (pow-add 10 (19 - count) count) ∙ ap (λ (n : ℕ). 10 ^ n) {y = 19} (omega arith) in
+    let l : (before + 1) * 10 ^ count ≤ 10 ^ (19 - count) * 10 ^ count =
+    mul-le-mul_right (10 ^ count) (omega arith) in
+    omega arith

@@ -1,5 +1,5 @@
 -- Bytes that are passed from a start on: digits, with separators at most between two of them.
-use Rattle.std.proofs.Common.{◌≡◌, ℕ, ◌+◌, ◌*◌, ◌<◌, ◌≤◌, true, false, List, length, refl, arith}
+use Rattle.std.proofs.Common.{◌≡◌, ℕ, ◌+◌, ◌*◌, ◌/◌, ◌%◌, ◌^◌, ◌<◌, ◌≤◌, true, false, List, length, refl, ap, ◌∙◌, arith}
 use Rattle.std.specs.Prelude.{slice_index}
 use Rattle.std.proofs.lemmas.Option.{gets}
 use Rattle.std.proofs.lemmas.List.{drop_more}
@@ -51,8 +51,18 @@ pub by_radix : (rule : Rule) (byte : ℕ) → is_digit rule byte ≡ is_digit_of
 unfolding is_digit
 by_radix rule byte = refl
 
+-- the lowest 64 bits of a value with one more digit
+pub wrapped_more : (value all radix digit : ℕ) → value ≡ all % 2 ^ 64
+    → (value * radix + digit) % 2 ^ 64 ≡ (all * radix + digit) % 2 ^ 64
+wrapped_more value all radix digit e =
+    let parts : all ≡ all / 2 ^ 64 * 2 ^ 64 + value = omega arith in
+    let more : all * radix ≡ all / 2 ^ 64 * radix * 2 ^ 64 + value * radix =
+    ap (λ (n : ℕ). n * radix) parts ∙ grind arith in
+    omega arith
+
 -- what one more byte needs
 pub ruleset passed =
     (none_between, one_more, nat_tests, byte_kept, lone_dropped, separator_no_digit)
 
-pub ruleset reading = (passed, no_more, value_more, stop_is_first, by_radix, separators)
+pub ruleset reading =
+    (passed, no_more, value_more, wrapped_more, stop_is_first, by_radix, separators)

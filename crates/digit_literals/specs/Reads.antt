@@ -1,6 +1,6 @@
 -- Of functions that no caller sees: digits that were read from a start on, up to where they end, or
 -- up to the first with which their value is too large. No public clause uses these words.
-use Rattle.std.specs.Prelude.{◌≡◌, ℕ, ◌+◌, ◌-◌, ◌*◌, ◌^◌, ◌≤◌, ◌<◌, min, slice_index, Some, Bool, true, false, if◌then◌else◌, List, length, Option, IfSome, MatchOption, Result, Ok, Err, pos, ◌≤ℤ◌, ◌+ℤ◌}
+use Rattle.std.specs.Prelude.{◌≡◌, ℕ, ◌+◌, ◌-◌, ◌*◌, ◌%◌, ◌^◌, ◌≤◌, ◌<◌, min, slice_index, Some, Bool, true, false, if◌then◌else◌, List, length, Option, IfSome, IfNone, MatchOption, Result, Ok, Err, pos, ◌≤ℤ◌, ◌+ℤ◌}
 use Rattle.std.specs.Str.Parse.{digits_value_after}
 use Rattle.lexical_format.specs.Digits.{digit_of_radix}
 use Rattle.lexical_digits.specs.declared.skip.rule.Rule.{Rule}
@@ -52,6 +52,8 @@ module _ (rule : Rule) (text : List ℕ) (start before : ℕ) (most : Option ℕ
   -- the end
   pub record IsOffSlice : Type 0 where
     pub reads : (own : ℕ) → ReadsTo own
+    pub wrapped : IfNone most
+        (read.value ≡ digits_value_after rule.radix before (digits_between rule text start read.end) % 2 ^ 64)
     pub other : separator_at rule.separator text read.end ≡ false
     pub below : start + read.count ≤ read.end
     pub dense : read.end ≤ start + 2 * read.count

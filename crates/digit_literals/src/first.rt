@@ -1,6 +1,6 @@
 //! The first digits of a number, where it may have more than a `u64` holds.
 
-ghost use Rattle.std.specs.Prelude.{◌≡◌, Some, None, ◌+◌, ◌*◌, ◌^◌, ◌-◌, ◌≤◌, min, false, length, pos, ◌≤ℤ◌, ◌+ℤ◌, IfSome, IfNone, IsTrue};
+ghost use Rattle.std.specs.Prelude.{◌≡◌, Some, None, ◌+◌, ◌*◌, ◌^◌, ◌-◌, ◌≤◌, min, true, false, length, pos, ◌≤ℤ◌, ◌+ℤ◌, IfSome, IfNone, IsTrue};
 ghost use Rattle.lexical_format.specs.Word.{is_supported};
 ghost use Rattle.lexical_digits.specs.State.{rule, rule_of};
 ghost use Rattle.lexical_digits.specs.Separators.{IsSupported};
@@ -13,6 +13,7 @@ ghost use Rattle.digit_literals.specs.Reads.{IsOffSlice, PassesAll};
 use super::component::{pass_digits, read_digits_up_to};
 use super::reading::Digits;
 use super::slice::{ReadTo, first_digit, read_radix};
+use super::wide::ten_to;
 use lexical_digits::iterator::Iter;
 use lexical_digits::skip::{Bytes, Component, Rule};
 
@@ -209,6 +210,26 @@ fn count_rest(text: &[u8], rule: Rule, start: usize) -> Option<ReadTo>
     read_radix(text, rule, 10, start, 0, None, None)
 }
 
+/// The greatest value of 19 digits.
+const MOST_OF_19: u64 = 9_999_999_999_999_999_999;
+
+/// Whether so many decimal digits after a value are worth less than 10 to the power 19.
+#[inline(always)]
+fn are_few(before: u64, count: usize) -> bool
+    ensures { result ≡ true → (before + 1) * 10 ^ count ≤ 10 ^ 19 }
+{
+    if count > 19 {
+        return false;
+    }
+    if before == 0 {
+        return true;
+    }
+    match ten_to(19 - count) {
+        Some(bound) => before < bound,
+        None => false,
+    }
+}
+
 /// Reads the digits of a rule with radix 10 from `start` on, where the slice is enough and no digit
 /// is too large.
 #[inline(always)]
@@ -223,6 +244,15 @@ fn decimals_slice(text: &[u8], rule: Rule, start: usize, before: u64, most: u64)
         return None;
     }
     let first = first_digit(text, rule, start, before, u128::from(most));
+    if most >= MOST_OF_19 {
+        // no digit is tested for being too large: 19 never are
+        let read = read_radix(text, rule, 10, start, before, first, None)?;
+        return if are_few(before, read.count) {
+            Some(read)
+        } else {
+            None
+        };
+    }
     let read = read_radix(text, rule, 10, start, before, first, Some(most))?;
     if read.is_too_large { None } else { Some(read) }
 }

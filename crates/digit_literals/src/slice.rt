@@ -1,7 +1,7 @@
 //! Digits that are read off a slice. Where another separator than a lone one between two digits is
 //! met, a `Bytes` reads them.
 
-ghost use Rattle.std.specs.Prelude.{◌≡◌, ◌*◌, ◌+◌, ◌<◌, ◌≤◌, length, slice_index, true, false, Some, option_and_then, IfSome, MatchOption};
+ghost use Rattle.std.specs.Prelude.{◌≡◌, ◌*◌, ◌+◌, ◌%◌, ◌^◌, ◌<◌, ◌≤◌, length, slice_index, true, false, Some, None, option_and_then, IfSome, IfNone, MatchOption};
 ghost use Rattle.lexical_format.specs.Digits.{digit_of_radix};
 ghost use Rattle.lexical_digits.specs.Separators.{is_digit, IsSupported};
 ghost use Rattle.lexical_digits.specs.CallTable.{byte_at_place, settled};
@@ -17,8 +17,8 @@ use lexical_format::{char_is_digit_const, char_to_digit_const};
 /// Digits that were read from a start on.
 #[derive(Clone, Copy)]
 pub(super) struct ReadTo {
-    /// The value of the digits before them and of these, as one number, if a greatest value was
-    /// asked for.
+    /// The value of the digits before them and of these, as one number; its lowest 64 bits, if no
+    /// greatest value was asked for.
     pub(super) value: u64,
     /// How many digits were read.
     pub(super) count: usize,
@@ -49,15 +49,21 @@ impl ReadTo {
     }
 }
 
-/// The value with one more digit, if that is at most `most`. Without `most` no value is asked for.
+/// The value with one more digit, if that is at most `most`; without `most` its lowest 64 bits.
 #[inline(always)]
 fn add_if(value: u64, radix: u32, digit: u32, most: Option<u64>) -> Option<u64>
-    ensures { MatchOption result (MatchOption most ⊥ (λ m. m < value * radix + digit))
+    ensures is { MatchOption result (MatchOption most ⊥ (λ m. m < value * radix + digit))
         (λ more. IfSome most (IsMore radix value digit more)) }
+    ensures wraps { IfSome result (λ more.
+        IfNone most (more ≡ (value * radix + digit) % 2 ^ 64)) }
 {
     match most {
         Some(most) => add_digit(value, radix, digit, most),
-        None => Some(value),
+        None => Some(
+            value
+                .wrapping_mul(u64::from(radix))
+                .wrapping_add(u64::from(digit)),
+        ),
     }
 }
 
@@ -86,6 +92,7 @@ pub(super) fn first_digit(
     most: u128,
 ) -> Option<u32>
     ensures is { IfSome result (IsFirst rule text.now at before (Some most)) }
+    ensures any { IfSome result (IsFirst rule text.now at before None) }
     ensures minus { IfSome result (λ _. stands text.now at 45 ≡ false) }
     ensures plus { IfSome result (λ _. stands text.now at 43 ≡ false) }
 {
@@ -102,8 +109,8 @@ pub(super) fn first_digit(
 
 /// Reads the digits of a rule from `start` on, after the value `before`, up to where they end, or
 /// up to the first with which the value is above `most`. `None` where a separator is met that isn't
-/// a lone one between two digits. Without `most` no value is asked for. The digit at `start` may be
-/// known: it isn't tested again.
+/// a lone one between two digits. Without `most` the value is its lowest 64 bits. The digit at
+/// `start` may be known: it isn't tested again.
 #[inline(always)]
 pub(super) fn read_slice(
     text: &[u8],

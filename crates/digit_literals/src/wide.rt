@@ -155,7 +155,7 @@ fn read_beyond(text: &[u8], word: u128, start: usize, at: usize, before: u64, mo
 
 /// 10 to the power of `n`, if that fits 64 bits.
 #[inline(always)]
-fn ten_to(n: usize) -> Option<u64>
+pub(super) fn ten_to(n: usize) -> Option<u64>
     ensures { IfSome result (λ power. power ≡ 10 ^ n) }
 {
     Some(match n {

@@ -14,7 +14,7 @@ pub loop-digit-preserved : goal.loop-digit-preserved
 loop-digit-preserved c =
     let peeked = c.peek_digit_of.ensures in
     one_read _ _ _ _ _ _ _ _ _ c.loop-digit.invariant peeked.costs peeked.settles c.in-Some.digit
-    (search rules) _ _ c.in-Some-add_if.ensures c.next_of.ensures.costs
+    (search rules) _ _ c.in-Some-add_if.ensures.is c.next_of.ensures.costs
     c.next_of.ensures.takes.takes
 
 pub loop-digit-smaller : goal.loop-digit-smaller
@@ -27,7 +27,7 @@ pub returns-in_default-add_if : goal.returns-in_default-add_if
 returns-in_default-add_if c =
     let peeked = c.peek_digit_of.ensures in
     stops_before _ _ _ _ _ _ _ _ _ c.loop-digit.invariant peeked.costs peeked.settles
-    c.in-Some.digit (search rules) _ c.cursor-end.ensures.value c.in_default-add_if.ensures
+    c.in-Some.digit (search rules) _ c.cursor-end.ensures.value c.in_default-add_if.ensures.is
 
 pub returns : goal.returns
 returns c =

@@ -1,5 +1,6 @@
-use Rattle.std.proofs.Common.{◌≡◌, ◌+◌, length}
-use Rattle.std.specs.Prelude.{IfSome}
+use Rattle.std.proofs.Common.{◌≡◌, ◌+◌, ◌%◌, ◌^◌, length}
+use Rattle.std.specs.Prelude.{IfSome, IfNone}
+use Rattle.std.specs.Str.Parse.{digits_value_after}
 use Rattle.digit_literals.specs.After.{digits_between}
 use Rattle.digit_literals.specs.Reads.{IsWorth}
 use Rattle.digit_literals.proofs.Passed.{HasPassed}
@@ -12,4 +13,5 @@ invariant-loop-at l =
       passed : HasPassed l.rule l.text l.start l.at;
       all : l.at ≡ l.start + length digits + l.separators;
       worth : IfSome l.most (IsWorth l.rule.radix l.before digits l.value);
+      wrapped : IfNone l.most (l.value ≡ digits_value_after l.rule.radix l.before digits % 2 ^ 64);
     }
