@@ -256,7 +256,8 @@ module _ (word : ℕ) (text : List ℕ) (decimal : IsDecimal word) (plain : HasN
     has_is : std.has_exponent r j ≡ stands (is_mark 101) text (at + j)
     has_is =
         has_by j _ refl
-        (subst (λ (y : ℕ). stands (is_mark 101) text y ≡ true → 0 < length (exponent_digits word text 101 y))
+        (subst (λ (y : ℕ). stands (is_mark 101) text y ≡ true
+        → 0 < length (exponent_digits word text 101 y))
         mantissa_is is.exponent)
 
     exponent_is : exponent_digits word text 101 (mantissa_end word text 46 at)
@@ -319,7 +320,8 @@ unfolding read_float
 read_is f text at sign some = rw (sign, some) refl
 
 pub as_std : (word : ℕ) (text : List ℕ) → IsDecimal word → HasNoSeparator word text
-    → HasFloat word text plain_marks (past_sign text 0) → float_end word text plain_marks 0 ≡ length text
+    → HasFloat word text plain_marks (past_sign text 0)
+    → float_end word text plain_marks 0 ≡ length text
     → (f : Format) → parse_float f text ≡ Some (float_at word text plain_marks f 0)
 as_std word text decimal plain is whole f =
     let at = past_sign text 0 in

@@ -15,7 +15,8 @@ module _ (digits cut n up below power : ℕ) where
       let places_are : power - 288 + below ≡ cut + (up + (288 - power)) = omega arith in
       let E : A * B ≡ 10 ^ cut * (U * V) =
       sym (pow-add 10 (power - 288) below) ∙ ap (λ t. 10 ^ t) places_are
-      ∙ pow-add 10 cut (up + (288 - power)) ∙ ap (λ t. 10 ^ cut * t) (pow-add 10 up (288 - power)) in
+      ∙ pow-add 10 cut (up + (288 - power))
+      ∙ ap (λ t. 10 ^ cut * t) (pow-add 10 up (288 - power)) in
       let left : (d : ℕ) → d * A * B ≡ d * 10 ^ cut * (U * V) =
       λ d. mul_assoc d A B ∙ ap (λ t. d * t) E ∙ sym (mul_assoc d (10 ^ cut) (U * V)) in
       let right : n * U * V ≡ n * (U * V) = mul_assoc n U V in

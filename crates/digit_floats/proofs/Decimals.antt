@@ -8,7 +8,8 @@ use Rattle.lexical_digits.specs.declared.skip.rule.Rule.{Rule}
 use Rattle.lexical_digits.specs.Separators.{is_digit}
 use Rattle.lexical_format.specs.Digits as words
 
-pub same_digit : (rule : Rule) (byte : ℕ) → rule.radix ≡ 10 → is_digit rule byte ≡ is_ascii_digit byte
+pub same_digit : (rule : Rule) (byte : ℕ) → rule.radix ≡ 10
+    → is_digit rule byte ≡ is_ascii_digit byte
 unfolding is_digit words.digit_value
 same_digit rule byte e = grind (arith, nat_tests)
 

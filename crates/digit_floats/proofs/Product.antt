@@ -9,8 +9,10 @@ module _ (num den N D S C Z P : ℕ) (pos_d : 0 < D) where
   from : (h m t : ℕ) → h * P ≤ m * Z * t → t * (S * D) ≤ N * C → m * N * den ≤ num * D
       → h * P * S * den ≤ num * Z * C
   from h m t a b e =
-      let x : h * P * (S * D * den) ≤ m * Z * t * (S * D * den) = mul-le-mul_right (S * D * den) a in
-      let y : t * (S * D) * (m * Z * den) ≤ N * C * (m * Z * den) = mul-le-mul_right (m * Z * den) b in
+      let x : h * P * (S * D * den) ≤ m * Z * t * (S * D * den) =
+      mul-le-mul_right (S * D * den) a in
+      let y : t * (S * D) * (m * Z * den) ≤ N * C * (m * Z * den) =
+      mul-le-mul_right (m * Z * den) b in
       let z : m * N * den * (Z * C) ≤ num * D * (Z * C) = mul-le-mul_right (Z * C) e in
       let i : h * P * S * den * D ≡ h * P * (S * D * den) = grind arith in
       let j : m * Z * t * (S * D * den) ≡ t * (S * D) * (m * Z * den) = grind arith in
@@ -21,8 +23,10 @@ module _ (num den N D S C Z P : ℕ) (pos_d : 0 < D) where
   to : (g m t : ℕ) → m * Z * (t + 1) ≤ g * P → N * C ≤ (t + 1) * (S * D) → num * D ≤ m * N * den
       → num * Z * C ≤ g * P * S * den
   to g m t a b e =
-      let x : m * Z * (t + 1) * (S * D * den) ≤ g * P * (S * D * den) = mul-le-mul_right (S * D * den) a in
-      let y : N * C * (m * Z * den) ≤ (t + 1) * (S * D) * (m * Z * den) = mul-le-mul_right (m * Z * den) b in
+      let x : m * Z * (t + 1) * (S * D * den) ≤ g * P * (S * D * den) =
+      mul-le-mul_right (S * D * den) a in
+      let y : N * C * (m * Z * den) ≤ (t + 1) * (S * D) * (m * Z * den) =
+      mul-le-mul_right (m * Z * den) b in
       let z : num * D * (Z * C) ≤ m * N * den * (Z * C) = mul-le-mul_right (Z * C) e in
       let i : g * P * S * den * D ≡ g * P * (S * D * den) = grind arith in
       let j : m * Z * (t + 1) * (S * D * den) ≡ (t + 1) * (S * D) * (m * Z * den) = grind arith in

@@ -24,7 +24,8 @@ bits_of_value f (fin t m e) s a v =
 same_value : (f : Format) (x y : Float) (s : Bool) (a : ℕ) → T (fits f x) → T (fits f y)
     → HasValue x s a (2 ^ low f) → HasValue y s a (2 ^ low f) → x ≡ y
 same_value f x y s a p q v w =
-    sym (of_bits-to_bits f x p) ∙ ap (of_bits f) (bits_of_value f x s a v ∙ sym (bits_of_value f y s a w))
+    sym (of_bits-to_bits f x p)
+    ∙ ap (of_bits f) (bits_of_value f x s a v ∙ sym (bits_of_value f y s a w))
     ∙ of_bits-to_bits f y q
 
 out : (a b : ℕ) → T (ltb a b || (eqb a b && true)) → a ≤ b
@@ -45,7 +46,8 @@ module _ (c : ℕ) (C : 0 < c) where
   ordered (fin false m e) nan a b p q t = absurd q
   ordered (fin false m e) (inf r) a b p q t = absurd q
   ordered (fin false m e) (fin true n d) a b p q t = absurd (true≢false q.0)
-  ordered (fin false m e) (fin false n d) a b p q t = by_c (out (m * up e * down d) (n * up d * down e) t)
+  ordered (fin false m e) (fin false n d) a b p q t =
+      by_c (out (m * up e * down d) (n * up d * down e) t)
     where
       by_c : m * up e * down d ≤ n * up d * down e → a ≤ b
       by_c h =
@@ -61,10 +63,13 @@ module _ (c : ℕ) (C : 0 < c) where
 
 module _ (f : Format) (q k p j : ℕ) where
   one : T (fits f (units f false q k)) → T (fits f (units f false p j))
-      → T (le (units f false q k) (units f false p j)) → T (le (units f false p j) (units f false q k))
+      → T (le (units f false q k) (units f false p j))
+      → T (le (units f false p j) (units f false q k))
       → units f false q k ≡ units f false p j
   unfolding units
-  one F G = go (ltb (q * 2 ^ k) (2 ^ (low f + suc (emax f)))) (ltb (p * 2 ^ j) (2 ^ (low f + suc (emax f)))) F G
+  one F G =
+      go (ltb (q * 2 ^ k) (2 ^ (low f + suc (emax f))))
+      (ltb (p * 2 ^ j) (2 ^ (low f + suc (emax f)))) F G
     where
       x : Float
       x = odd (suc (prec f)) false q k (low f)
@@ -86,15 +91,18 @@ module _ (f : Format) (q k p j : ℕ) where
           → T (le (cond b y (inf false)) (cond a x (inf false)))
           → cond a x (inf false) ≡ cond b y (inf false)
       go true true F G s t =
-          let same : q * 2 ^ k ≡ p * 2 ^ j = omega (arith, ordered _ C x y _ _ v w s, ordered _ C y x _ _ w v t) in
-          same_value f x y false (p * 2 ^ j) F G (subst (λ (n : ℕ). HasValue x false n (2 ^ low f)) same v) w
+          let same : q * 2 ^ k ≡ p * 2 ^ j =
+          omega (arith, ordered _ C x y _ _ v w s, ordered _ C y x _ _ w v t) in
+          same_value f x y false (p * 2 ^ j) F G
+          (subst (λ (n : ℕ). HasValue x false n (2 ^ low f)) same v) w
       go true false F G s t = absurd (not_above _ C x _ v t)
       go false true F G s t = absurd (not_above _ C y _ w s)
       go false false F G s t = refl
 
 -- the rounding of a fraction is some number of units
 pub same : (f : Format) (a b c d : ℕ)
-    → T (le (round f false a b) (round f false c d)) → T (le (round f false c d) (round f false a b))
+    → T (le (round f false a b) (round f false c d))
+    → T (le (round f false c d) (round f false a b))
     → round f false a b ≡ round f false c d
 same f a b c d s t =
     let e = round_is f false a b in

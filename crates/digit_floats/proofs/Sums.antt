@@ -45,7 +45,8 @@ module _ (f : Format) where
       → IsTwoTo f k x → HasValue (mul f (of_int f (pos w)) x) false (w * 2 ^ k) (2 ^ low f)
   part w k n x h few room t =
       let small : w < 2 ^ prec f = lt_of_lt_of_le h (pow_mono few) in
-      let fine : w * 2 ^ k < 2 ^ (low f + suc (emax f)) = lt_of_lt_of_le (shl_lt n k h) (pow_mono room) in
+      let fine : w * 2 ^ k < 2 ^ (low f + suc (emax f)) =
+      lt_of_lt_of_le (shl_lt n k h) (pow_mono room) in
       let is = product_at f _ x w (2 ^ k) 1 (2 ^ low f) (omega arith) (pow_pos (low f))
       (whole f w (le_of_lt small)) t in
       let one : 1 * 2 ^ low f ≡ 2 ^ low f = omega arith in
@@ -62,7 +63,8 @@ module _ (f : Format) where
   of_parts a b s k i j u v ai ip ir bj jp jr t w =
       let upper = part a (k + s) i v ai ip ir w in
       let lower = part b k j u bj jp jr t in
-      let e : a * 2 ^ (k + s) + b * 2 ^ k ≡ (a * 2 ^ s + b) * 2 ^ k = rw (pow-add 2 k s) (grind arith) in
+      let e : a * 2 ^ (k + s) + b * 2 ^ k ≡ (a * 2 ^ s + b) * 2 ^ k =
+      rw (pow-add 2 k s) (grind arith) in
       sum_at f _ _ _ _ (2 ^ low f) (pow_pos (low f)) upper lower
       ∙ ap (λ (n : ℕ). round f false n (2 ^ low f)) e
 
@@ -77,7 +79,8 @@ module _ (f : Format) where
       ap (λ (n : ℕ). n * 2 ^ j) (omega arith) ∙ sym (pow-add 2 (prec f - 1) j)
       ∙ ap (λ (k : ℕ). 2 ^ (prec f - 1 + k)) (omega arith) in
       subst (λ (k : Bool). HasValue (cond k (cond (eqb 0 0) (inf false) nan)
-      (odd (prec f) false (hid f + 0) j (low f))) false (2 ^ (prec f - 1 + (suc j - 1))) (2 ^ low f))
+      (odd (prec f) false (hid f + 0) j (low f))) false
+      (2 ^ (prec f - 1 + (suc j - 1))) (2 ^ low f))
       (sym (ne_eqb (suc j) (ones f) (λ z. omega (arith, z, h))))
       (subst (λ (n : ℕ). HasValue (odd (prec f) false (hid f + 0) j (low f)) false n (2 ^ low f)) e
       (odd_sign (prec f) false (hid f + 0) j (low f)))
@@ -91,7 +94,8 @@ module _ (f : Format) where
       let more : x < suc (ones f) = omega (arith, h) in
       let a : x * hid f < suc (ones f) * hid f = mul-lt-mul_of_pos_right more H in
       let l : b < top f = subst (λ (n : ℕ). b < n) (mul_comm (suc (ones f)) (hid f)) a in
-      let d : b % top f / hid f ≡ x = ap (λ (n : ℕ). n / hid f) (mod-eq_of_lt l) ∙ mul-div_cancel x H in
+      let d : b % top f / hid f ≡ x =
+      ap (λ (n : ℕ). n / hid f) (mod-eq_of_lt l) ∙ mul-div_cancel x H in
       let m : b % hid f ≡ 0 = mul-mod_left x (hid f) in
       subst (λ (y : Float). HasValue y false (2 ^ (prec f - 1 + (x - 1))) (2 ^ low f))
       (λ i. of_fields f (sym (lt-leb (top f) b l) i) (sym d i) (sym m i)) (fields x p h)

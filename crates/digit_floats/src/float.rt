@@ -38,7 +38,8 @@ pub trait Float: Copy {
         requires more { (more ≤ 1) × (more * 2 ^ 58 ≤ digits) }
         requires power { power < 577 }
         ensures { IfSome result (λ x. (num den : ℕ) → 0 < den
-            → IsBetween num den digits (digits + more) power → value x ≡ round format false num den) };
+            → IsBetween num den digits (digits + more) power
+            → value x ≡ round format false num den) };
 
     /// The float with the other sign.
     fn negated(self) -> Self

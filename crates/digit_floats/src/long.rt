@@ -206,7 +206,8 @@ pub fn round_digits<F: Float>(
     requires few { length whole.now + length fraction.now < 2 ^ 63 }
     ensures { (n : ℕ) → power.value ≡ min n (2 ^ 64 - 1) → F.value result ≡ round F.format negative
         (digits_value 10 (filter is_ascii_digit whole.now ++ filter is_ascii_digit fraction.now)
-        * 10 ^ (if power.negative then 0 else n)) (10 ^ (places + (if power.negative then n else 0))) }
+        * 10 ^ (if power.negative then 0 else n))
+        (10 ^ (places + (if power.negative then n else 0))) }
 {
     let mut bytes = [0u8; ROOM + 7];
     let kept = keep_both(&mut bytes, whole, fraction);

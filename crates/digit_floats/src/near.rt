@@ -101,7 +101,8 @@ pub fn round_near<F: Float>(
     requires cut { cut < 2 ^ 63 }
     requires places { places < 2 ^ 63 }
     requires power { power < 2 ^ 32 }
-    ensures { IfSome result (λ x. (n : ℕ) → IsCutAt n digits cut → F.value x ≡ round F.format negative
+    ensures { IfSome result (λ x. (n : ℕ) → IsCutAt n digits cut
+        → F.value x ≡ round F.format negative
         (n * 10 ^ (if down then 0 else power)) (10 ^ (places + (if down then power else 0)))) }
 {
     let (up, under) = if down { (0, power) } else { (power, 0) };

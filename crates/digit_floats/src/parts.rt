@@ -94,7 +94,8 @@ fn read_part(
         → result.0.value ≡ digits_value_after (rule_of word component).radix before
         (digits_from word text.now component at) }
     ensures dropped { result.0.dropped ≤ result.0.count }
-    ensures over { 0 < result.0.dropped → most < digits_value_after (rule_of word component).radix before
+    ensures over { 0 < result.0.dropped
+        → most < digits_value_after (rule_of word component).radix before
         (digits_from word text.now component at) }
     ensures bytes { (rule_of word component).radix ≡ 10
         → filter is_ascii_digit (slice_range text.now at result.1)

@@ -12,6 +12,8 @@ use super::near::round_near;
 use super::parts::{Mantissa, Power};
 
 /// The float nearest to the number that integer, fraction and exponent of a text make, with a sign.
+/// `mantissa` and `power` are what [`read_mantissa`](crate::read_mantissa) and
+/// [`read_exponent`](crate::read_exponent) answered of this text.
 #[inline(always)]
 #[tactic(auto, using(crate::proofs::First::cut_at))]
 pub fn round_parts<F: Float>(text: &[u8], negative: bool, mantissa: Mantissa, power: Power) -> F
@@ -21,6 +23,10 @@ pub fn round_parts<F: Float>(text: &[u8], negative: bool, mantissa: Mantissa, po
         * 10 ^ (if power.negative then 0 else n))
         (10 ^ (mantissa.places + (if power.negative then n else 0))) }
 {
+    // One multiplication or division decides digits and a power of ten that a float holds: up to
+    // 2^53 (of an `f32` 2^24) and 10^22 (10^10). Otherwise one product of 64 bits with a power of
+    // ten decides; of random numbers with 16 digits and more it leaves 1 in 200 undecided, of `f32`
+    // 1 in 2,000, and also powers beyond its table. These go the long way, by a text for std.
     let places = mantissa.places as u64;
     let cut = mantissa.dropped as u64;
     let few = power.value <= 0xffff_ffff;

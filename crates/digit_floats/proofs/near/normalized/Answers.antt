@@ -11,9 +11,11 @@ returns c =
     let t = leading_top 64 w c.requires c.ranges.digits.fits in
     let places : z + suc t.0 ≡ 64 = t.1 in
     let exact : w * 2 ^ z % 2 ^ 64 ≡ w * 2 ^ z = shl_exact (suc t.0) z 64 t.3 (omega arith) in
-    let top : 2 ^ t.0 * 2 ^ z ≡ 2 ^ 63 = sym (pow-add 2 t.0 z) ∙ ap (λ x. 2 ^ x) {y = 63} (omega arith) in
+    let top : 2 ^ t.0 * 2 ^ z ≡ 2 ^ 63 =
+    sym (pow-add 2 t.0 z) ∙ ap (λ x. 2 ^ x) {y = 63} (omega arith) in
     record {
       shifted = exact;
       top = (omega (arith, mul-le-mul_right (2 ^ z) t.2), omega arith);
-      few = λ h. let l : 58 < suc t.0 = lt_of_not-le (λ g. omega (arith, pow_mono g, t.3)) in omega arith;
+      few = λ h.
+          let l : 58 < suc t.0 = lt_of_not-le (λ g. omega (arith, pow_mono g, t.3)) in omega arith;
     }
