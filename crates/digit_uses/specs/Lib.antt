@@ -1,5 +1,6 @@
 pub mod Bytes
 pub mod Durations
+pub mod Geometry
 pub mod Groups
 pub mod Lexer
 pub mod Literal
