@@ -1,6 +1,6 @@
 -- On a text without separators the float is that of std's `parse`.
 use Rattle.std.proofs.Common.{◌≡◌, ℕ, zero, suc, ◌+◌, ◌-◌, ◌<◌, ◌≤◌, Bool, true, false, List, [], ◌∷◌, length, take, drop, get_or, slice_index, refl, sym, ap, subst, ◌∙◌, length-drop, arith}
-use Rattle.std.specs.Prelude.{not, filter, slice_range, Some, if◌then◌else◌, ◌==◌, ◌||◌, ◌&&◌}
+use Rattle.std.specs.Prelude.{not, filter, slice_range, Some, Ok, Result, if◌then◌else◌, ◌==◌, ◌||◌, ◌&&◌}
 use Rattle.std.specs.Char.{is_ascii_digit}
 use Rattle.std.specs.List.{prefix_len}
 use Rattle.std.proofs.lemmas.List.{get_or-drop, drop-drop, length-take}
@@ -19,9 +19,15 @@ use Rattle.std.specs.Float.Parse.{parse_float, read_float, sign_len}
 use Rattle.std.specs.Float.Numeral as std
 use Rattle.digit_literals.specs.After.{digits_between}
 use Rattle.digit_floats.specs.Bytes.{stands, is_sign, is_minus, is_point, is_mark}
-use Rattle.digit_floats.specs.Float.{IsDecimal, plain_marks, past_sign, digits_end, digits_from, fraction_digits, fraction_end, exponent_digits, exponent_end, exponent_negative, mantissa_end, number_end, float_end, float_at, parts_at, HasFloat}
+use Rattle.digit_floats.specs.Float.{IsDecimal, plain_marks, past_sign, digits_end, digits_from, fraction_digits, fraction_end, exponent_digits, exponent_end, exponent_negative, mantissa_end, number_end, float_end, float_at, parts_at, mantissa_count, parse_at}
 use Rattle.digit_floats.specs.Separators.{HasNoSeparator}
 use Rattle.digit_floats.proofs.Decimals.{same_digit, digits_are}
+
+-- there is a digit, and one after any mark
+pub record HasFloat (word : ℕ) (text : List ℕ) (at : ℕ) : Type 0 where
+  pub some : 0 < mantissa_count word text 46 at
+  pub exponent : stands (is_mark 101) text (mantissa_end word text 46 at) ≡ true
+      → 0 < length (exponent_digits word text 101 (mantissa_end word text 46 at))
 
 front : (p : ℕ → Bool) (xs : List ℕ)
     → filter p (take (prefix_len p xs) xs) ≡ take (prefix_len p xs) xs
@@ -230,7 +236,7 @@ module _ (word : ℕ) (text : List ℕ) (decimal : IsDecimal word) (plain : HasN
 
   -- ---- the whole number
 
-  module _ (within : at ≤ length text) (is : HasFloat word text plain_marks at) where
+  module _ (within : at ≤ length text) (is : HasFloat word text at) where
     abbrev i : ℕ
     i = std.digits_end r 0
 
@@ -292,6 +298,9 @@ module _ (word : ℕ) (text : List ℕ) (decimal : IsDecimal word) (plain : HasN
     pub has_digits_is : std.has_digits (std.scan_numeral r) ≡ true
     has_digits_is = rw (← whole_is_std, ← fraction_is_std) (grind (arith, nat_tests, is.some))
 
+one_value : {A E : Type 0} (r : Result A E) (x y : A) → r ≡ Ok x → r ≡ Ok y → x ≡ y
+one_value r x y e f = cc
+
 -- ---- the whole text
 
 sign_is : (text : List ℕ) → sign_len text ≡ past_sign text 0
@@ -319,8 +328,8 @@ read_is : (f : Format) (text : List ℕ) (at : ℕ) → sign_len text ≡ at
 unfolding read_float
 read_is f text at sign some = rw (sign, some) refl
 
-pub as_std : (word : ℕ) (text : List ℕ) → IsDecimal word → HasNoSeparator word text
-    → HasFloat word text plain_marks (past_sign text 0)
+as_std : (word : ℕ) (text : List ℕ) → IsDecimal word → HasNoSeparator word text
+    → HasFloat word text (past_sign text 0)
     → float_end word text plain_marks 0 ≡ length text
     → (f : Format) → parse_float f text ≡ Some (float_at word text plain_marks f 0)
 as_std word text decimal plain is whole f =
@@ -332,3 +341,35 @@ as_std word text decimal plain is whole f =
     let nearest = nearest_is word text decimal plain at l is f (is_minus (slice_index text 0)) in
     finish f text _ _ (read_is f text at (sign_is text) some) (sym ends ∙ whole)
     ∙ rw (minus, nearest) refl
+
+-- of what is read of it
+module _ (word : ℕ) (text : List ℕ) (decimal : IsDecimal word) (plain : HasNoSeparator word text)
+    (f : Format) (x : Float) where
+  abbrev at : ℕ
+  at = past_sign text 0
+
+  abbrev mark : ℕ
+  mark = mantissa_end word text 46 at
+
+  pub as_parsed : parse_at word text plain_marks f 0 ≡ Ok x → parse_float f text ≡ Some x
+  as_parsed e =
+      go (mantissa_count word text 46 at == 0)
+      (stands (is_mark 101) text mark && (length (exponent_digits word text 101 mark) == 0))
+      (number_end word text plain_marks at == length text) refl refl refl e
+    where
+      go : (a b c : Bool) → (mantissa_count word text 46 at == 0) ≡ a
+          → (stands (is_mark 101) text mark && (length (exponent_digits word text 101 mark) == 0)) ≡ b
+          → (number_end word text plain_marks at == length text) ≡ c
+          → parse_at word text plain_marks f 0 ≡ Ok x → parse_float f text ≡ Some x
+      go true b c d g h e = let none = rw d at e in cc
+      go false true c d g h e = let none = rw (d, g) at e in cc
+      go false false false d g h e = let none = rw (d, g, h) at e in cc
+      go false false true d g h e =
+          let is : HasFloat word text at = record {
+            some = grind (arith, nat_tests);
+            exponent = λ m. grind (arith, nat_tests);
+          } in
+          let ends : number_end word text plain_marks at ≡ length text = grind (arith, nat_tests) in
+          let here : parse_at word text plain_marks f 0 ≡ Ok (float_at word text plain_marks f 0) =
+          rw (d, g, h) refl in
+          as_std word text decimal plain is ends f ∙ ap Some (one_value _ _ _ here e)

@@ -101,12 +101,6 @@ module _ (word : ℕ) (text : List ℕ) where
     abbrev pub float_end : ℕ → ℕ
     float_end at = number_end (past_sign text at)
 
-    -- there is a digit, and one after any mark
-    pub record HasFloat (at : ℕ) : Type 0 where
-      pub some : 0 < mantissa_count marks.point at
-      pub exponent : stands (is_mark marks.exponent) text (mantissa_end marks.point at) ≡ true
-          → 0 < length (exponent_digits marks.exponent (mantissa_end marks.point at))
-
     -- where the number ends that begins at a position, with a sign, or why there is none
     abbrev pub end_at : ℕ → Result ℕ FloatError
     end_at at =

@@ -1,24 +1,22 @@
 //! Laws: std reads the same where there is no separator, and a zero keeps its sign.
 
-ghost use Rattle.std.specs.Prelude.{◌≡◌, ℕ, length, Some};
-ghost use Rattle.std.specs.Float.{Format};
+ghost use Rattle.std.specs.Prelude.{◌≡◌, ℕ, Some, Ok};
+ghost use Rattle.std.specs.Float.{Float, Format};
 ghost use Rattle.std.specs.Float.Ieee.{round};
 ghost use Rattle.std.specs.Float.Numeral.{numeral_digits};
 ghost use Rattle.std.specs.Float.Parse.{parse_float as std_float};
-ghost use Rattle.digit_floats.specs.Float.{IsDecimal, HasFloat, plain_marks, past_sign, parts_at, float_at, float_end};
+ghost use Rattle.digit_floats.specs.Float.{IsDecimal, plain_marks, past_sign, parts_at, float_at, parse_at};
 ghost use Rattle.digit_floats.specs.Bytes.{stands, is_minus};
 ghost use Rattle.digit_floats.specs.declared.parts.Marks.{Marks};
 ghost use Rattle.digit_floats.specs.Separators.{HasNoSeparator};
 
 /// On a text without separators, all of which is a float, std's `parse` answers the same float.
-#[tactic(auto, using(crate::proofs::AsStd::as_std))]
+#[tactic(auto, using(crate::proofs::AsStd::as_parsed))]
 pub fn std_reads_the_same(text: &[u8], word: u128)
     requires decimal { IsDecimal word }
     requires plain { HasNoSeparator word text.now }
-    requires is { HasFloat word text.now plain_marks (past_sign text.now 0) }
-    requires whole { float_end word text.now plain_marks 0 ≡ length text.now }
-    ensures value { (f : Format) →
-        std_float f text.now ≡ Some (float_at word text.now plain_marks f 0) }
+    ensures value { (f : Format) (x : Float) → parse_at word text.now plain_marks f 0 ≡ Ok x →
+        std_float f text.now ≡ Some x }
 {}
 
 /// A number whose digits are all `0` is a zero with its sign, whatever its exponent: `-0.0e9` is
