@@ -213,6 +213,18 @@ fn count_rest(text: &[u8], rule: Rule, start: usize) -> Option<ReadTo>
 /// The greatest value of 19 digits.
 const MOST_OF_19: u64 = 9_999_999_999_999_999_999;
 
+/// Whether a value is below 10 to the power 19, less by so many.
+#[inline]
+fn is_below(before: u64, count: usize) -> bool
+    requires { count ≤ 19 }
+    ensures { result ≡ true → (before + 1) * 10 ^ count ≤ 10 ^ 19 }
+{
+    match ten_to(19 - count) {
+        Some(bound) => before < bound,
+        None => false,
+    }
+}
+
 /// Whether so many decimal digits after a value are worth less than 10 to the power 19.
 #[inline(always)]
 fn are_few(before: u64, count: usize) -> bool
@@ -221,17 +233,11 @@ fn are_few(before: u64, count: usize) -> bool
     if count > 19 {
         return false;
     }
-    if before == 0 {
-        return true;
-    }
-    match ten_to(19 - count) {
-        Some(bound) => before < bound,
-        None => false,
-    }
+    before == 0 || is_below(before, count)
 }
 
-/// Reads the digits of a rule with radix 10 from `start` on, where the slice is enough and no digit
-/// is too large.
+/// Reads the digits of a rule with radix 10 from `start` on, where the slice is enough and 19 digits
+/// fit, and no more are there.
 #[inline(always)]
 fn decimals_slice(text: &[u8], rule: Rule, start: usize, before: u64, most: u64) -> Option<ReadTo>
     requires supported { IsSupported rule }
@@ -240,21 +246,17 @@ fn decimals_slice(text: &[u8], rule: Rule, start: usize, before: u64, most: u64)
     ensures reads { IfSome result (IsOffSlice rule text.now start before (Some most)) }
     ensures all { IfSome result (λ read. read.is_too_large ≡ false) }
 {
-    if rule.radix != 10 {
+    if rule.radix != 10 || most < MOST_OF_19 {
         return None;
     }
+    // no digit is tested for being too large: 19 never are
     let first = first_digit(text, rule, start, before, u128::from(most));
-    if most >= MOST_OF_19 {
-        // no digit is tested for being too large: 19 never are
-        let read = read_radix(text, rule, 10, start, before, first, None)?;
-        return if are_few(before, read.count) {
-            Some(read)
-        } else {
-            None
-        };
+    let read = read_radix(text, rule, 10, start, before, first, None)?;
+    if are_few(before, read.count) {
+        Some(read)
+    } else {
+        None
     }
-    let read = read_radix(text, rule, 10, start, before, first, Some(most))?;
-    if read.is_too_large { None } else { Some(read) }
 }
 
 /// Reads and passes the digits of a component with radix 10, where the slice is enough and no digit

@@ -1,6 +1,6 @@
 use Rattle.std.proofs.Common.{◌≡◌, Bool, true, false, refl, arith}
 use Rattle.digit_literals.proofs.Firsts.{few_fit}
-use Rattle.digit_literals.proofs.first.decimals_from.Goals as goal
+use Rattle.digit_literals.proofs.first.decimals_slice.Goals as goal
 
 never : (b : Bool) → (b ≡ true → ⊥) → b ≡ false
 never true e = absurd (e refl)

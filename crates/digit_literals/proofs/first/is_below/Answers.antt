@@ -1,7 +1,7 @@
 use Rattle.std.proofs.Common.{◌≡◌, ◌+◌, ◌*◌, ◌^◌, ◌<◌, ◌≤◌, arith}
 use Rattle.std.proofs.lemmas.Bool.Decides.{nat_tests}
 use Rattle.digit_literals.proofs.Firsts.{has_room}
-use Rattle.digit_literals.proofs.first.are_few.Goals as goal
+use Rattle.digit_literals.proofs.first.is_below.Goals as goal
 
 pub returns-in-Some : goal.returns-in-Some
 returns-in-Some c h =
