@@ -1,5 +1,5 @@
 -- What a rule reads is read by one with more flags.
-use Rattle.std.proofs.Common.{◌≡◌, ℕ, ℤ, false, List, length, refl, ◌∙◌, arith}
+use Rattle.std.proofs.Common.{◌≡◌, ℕ, ℤ, Bool, false, List, length, refl, ap, ◌∙◌, arith}
 use Rattle.std.specs.Prelude.{Ok}
 use Rattle.std.proofs.lemmas.Option.{slice_get_past}
 use Rattle.lexical_digits.specs.declared.skip.rule.Rule.{Rule}
@@ -9,6 +9,7 @@ use Rattle.lexical_digits.specs.Stop.{stop}
 use Rattle.lexical_digits.proofs.Rule.Grants.{digit_same}
 use Rattle.lexical_digits.proofs.Calls.MoreFlags.{same_stop}
 use Rattle.digit_literals.specs.Integers.{integer_at}
+use Rattle.digit_literals.specs.Numbers.{digits_from, is_negative_from, with_sign, number_at, to_end}
 use Rattle.digit_literals.proofs.Texts.{says_some}
 
 pub same_integer : (lesser greater : Rule) (text : List ℕ) (start most : ℕ)
@@ -33,3 +34,27 @@ same_at_end lesser greater text start most value fits more is =
     let ends = (says_some lesser text start most value (length text) is).ends in
     same_integer lesser greater text start most fits more
     (rw (← ends) (none_at_end lesser.separator text)) ∙ is
+
+-- ---- a number
+
+module _ (lesser greater : Rule) (text : List ℕ) where
+  pub same_number : (least most start : ℕ) → IsSupported lesser → GrantsAtLeast lesser greater
+      → separator_at lesser.separator text (stop lesser text (digits_from least text start) 0)
+      ≡ false → number_at least most greater text start ≡ number_at least most lesser text start
+  same_number least most start fits more other =
+      ap (with_sign (is_negative_from least text start))
+      (same_integer lesser greater text (digits_from least text start) _ fits more other)
+
+  stops_at_end : (negative : Bool) (start most : ℕ) (value : ℤ)
+      → to_end text (with_sign negative (integer_at lesser text start most)) ≡ Ok value
+      → stop lesser text start 0 ≡ length text
+  unfolding integer_at
+  stops_at_end negative start most value is = grind arith
+
+  pub same_whole : (least most start : ℕ) (value : ℤ) → IsSupported lesser
+      → GrantsAtLeast lesser greater
+      → to_end text (number_at least most lesser text start) ≡ Ok value
+      → to_end text (number_at least most greater text start) ≡ Ok value
+  same_whole least most start value fits more is =
+      let end = stops_at_end (is_negative_from least text start) _ _ value is in
+      rw (same_number least most start fits more (rw end (none_at_end lesser.separator text))) is
