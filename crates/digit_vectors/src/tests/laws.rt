@@ -3,6 +3,7 @@
 use super::steps::{Part, Step, assert_part};
 use super::{CONSECUTIVE, INTERNAL, LEADING, TRAILING, UNFLAGGED, bytes_of};
 use crate::slow::is_kept;
+use digit_literals::laws::flags::more_flags_read_the_same;
 use digit_literals::laws::{first_are_significant, first_go_on, too_large_leaves_the_rest};
 use digit_literals::{FirstDigits, outcomes_differ};
 use digit_script::{Answer, Call, Op, same_answer, same_call, same_op, same_part};
@@ -10,7 +11,7 @@ use lexical_digits::iterator::DigitsIter;
 use lexical_digits::laws::equality::{same_component, same_rule, same_run, same_sight};
 use lexical_digits::laws::rows::{
     clear_counts_starts_again, digits_are_rows, increment_count_of_is_rows, next_of_is_row,
-    peek_of_is_row,
+    peek_of_is_row, read_if_is_row,
 };
 use lexical_digits::laws::{
     Component, digits_agree, drain_counts, equality, grants_monotone, items_are_drain,
@@ -18,7 +19,7 @@ use lexical_digits::laws::{
     special_drops_all, ungranted_keeps_all, zeros_unroll,
 };
 use lexical_digits::skip::{Bytes, Class, Rule, Run, Sight};
-use lexical_digits::stop::digits_end;
+use lexical_digits::stop::{digits_end, more_flags_read_on};
 use lexical_format::laws::{constants_are, flags_are_bits, masks_are_flags, words_say};
 use lexical_format::{
     EXPONENT_INTERNAL_DIGIT_SEPARATOR, FRACTION_INTERNAL_DIGIT_SEPARATOR, SPECIAL_DIGIT_SEPARATOR,
@@ -248,6 +249,8 @@ fn laws_over_definitions_may_be_called(rt: HostRuntime) {
     let mut bytes = bytes_of(&rt, b"12", UNFLAGGED | INTERNAL);
     outcomes_differ(&bytes.integer_iter(), 10);
     digits_end();
+    more_flags_read_on();
+    more_flags_read_the_same();
     rest_is_left();
     digits_are_rows();
     assert!(rt; is_supported(STANDARD));
@@ -295,6 +298,21 @@ fn calls_by_component_are_rows(rt: HostRuntime) {
     assert_left(&rt, &mut bytes, 2, [1, 3, 0]);
     clear_counts_starts_again(&mut bytes);
     assert_left(&rt, &mut bytes, 2, [0, 0, 0]);
+}
+
+/// A closure that counts its calls is called once by each `read_if`.
+#[test]
+fn a_closure_with_a_state_is_a_row(rt: HostRuntime) {
+    let mut bytes = bytes_of(&rt, b"4_5", EACH);
+    let mut calls = 0_u8;
+    let mut read = [None; 3];
+    for at in 0..3 {
+        read[at] = read_if_is_row(&mut bytes, Component::Integer, |byte| {
+            calls = calls.wrapping_add(1);
+            byte != b'5'
+        });
+    }
+    assert!(rt; read == [Some(b'4'), None, None] && calls == 3);
 }
 
 #[test]
