@@ -175,7 +175,7 @@ fn an_error_of_floats_prints_its_position(rt: HostRuntime) -> Result<(), AllocEr
     ];
     for (error, message, position) in rows {
         let printed = format!(in rt.alloc(); "{error}")?;
-        assert!(rt; printed == message);
+        assert!(rt; printed.as_str() == message);
         assert!(rt; error.position() == position);
     }
     Ok(())

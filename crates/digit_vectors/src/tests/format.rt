@@ -244,7 +244,7 @@ fn equal_values_have_equal_parts(rt: HostRuntime) {
         NumberFormat::new(STANDARD),
         NumberFormat::new(DECIMAL.build()),
     );
-    assert!(rt; laws::same_format(standard, json));
+    assert!(rt; laws::same_format(standard, built));
     assert!(rt; standard == NumberFormat { word: STANDARD });
     assert!(rt; !laws::same_format(standard, NumberFormat::new(words::HEXADECIMAL)));
     let (standard, flags, decimal) = laws::clones_are_same(standard, ALL_FLAGS, DECIMAL);
