@@ -98,8 +98,14 @@ pub(super) fn read_integer_known(
     ensures overflow_at { let n = length text.now in
         IfOverflow result (λ at. (start ≤ at) × (at < n)) }
 {
-    let (read, is_empty) = read_known(text, word, Component::Integer, start, first, Some(most));
-    integer_of(read, is_empty)
+    // not by `read_known`: a test where the two ways meet again costs more than the code twice
+    match read_component_slice(text, word, Component::Integer, start, first, Some(most)) {
+        Some(read) => integer_of(read, read.end == start),
+        None => {
+            let read = read_fresh_bytes(text, word, Component::Integer, start, Some(most));
+            integer_of(read, read.count == 0)
+        }
+    }
 }
 
 /// The value of the digits that were read and where they end, or why there is none. `is_empty` says
@@ -180,8 +186,7 @@ pub(super) fn read_known(
     ensures reads { ReadsTo (rule_of word component) text.now start 0 most result.0 0 }
     ensures empty { result.1 ≡ (result.0.count == 0) }
 {
-    match read_slice(text, Rule::of(word, component), start, 0, first, most) {
-        // there is no digit exactly if no byte was passed
+    match read_component_slice(text, word, component, start, first, most) {
         Some(read) => (read, read.end == start),
         None => {
             let read = read_fresh_bytes(text, word, component, start, most);
@@ -204,6 +209,29 @@ pub(super) fn read_component(
     ensures { ReadsTo (rule_of word component) text.now start 0 most result 0 }
 {
     read_known(text, word, component, start, None, most).0
+}
+
+/// Reads the digits of a component from `start` on, where the slice is enough: up to a greatest
+/// value if one is asked for. There is no digit exactly if no byte was passed. The digit at `start`
+/// may be known.
+#[inline(always)]
+fn read_component_slice(
+    text: &[u8],
+    word: u128,
+    component: Component,
+    start: usize,
+    first: Option<u32>,
+    most: Option<u64>,
+) -> Option<ReadTo>
+    requires supported { IsTrue (is_supported word) }
+    requires within { start ≤ length text.now }
+    requires first { let r = rule_of word component in
+        IfSome first (IsFirst r text.now start 0 most) }
+    ensures reads { let r = rule_of word component in
+        IfSome result (λ read. ReadsTo r text.now start 0 most read 0) }
+    ensures empty { IfSome result (λ read. (read.end == start) ≡ (read.count == 0)) }
+{
+    read_slice(text, Rule::of(word, component), start, 0, first, most)
 }
 
 /// Reads the digits of a component from `start` on by a `Bytes`, whatever separators are met: up to

@@ -1,6 +1,6 @@
 //! Integers that may have more than 64 bits.
 
-ghost use Rattle.std.specs.Prelude.{◌≡◌, ◌+◌, ◌-◌, ◌*◌, ◌^◌, ◌<◌, ◌≤◌, min, Some, Ok, Err, length, true, false, IfOk, IfErr, IfSome, IsTrue, SomeIff};
+ghost use Rattle.std.specs.Prelude.{◌≡◌, ◌+◌, ◌-◌, ◌*◌, ◌^◌, ◌<◌, ◌≤◌, Some, Ok, Err, length, true, false, IfOk, IfErr, IfSome, IsTrue, SomeIff};
 ghost use Rattle.std.specs.Str.Parse.{digits_value};
 ghost use Rattle.lexical_format.specs.Word.{is_supported};
 ghost use Rattle.lexical_digits.specs.declared.skip.component.Component.TheVariants.{Integer};
@@ -13,7 +13,7 @@ ghost use Rattle.digit_literals.specs.Reads.{IsFirst};
 ghost use Rattle.digit_literals.specs.declared.LiteralError.TheVariants.{Overflow};
 
 use super::LiteralError;
-use super::integer::{integer_of, read_known, stop_from};
+use super::integer::{integer_of, read_integer_known, read_known, stop_from};
 use super::slice::{ReadTo, read_slice};
 use lexical_digits::skip::{Component, Rule};
 use lexical_format::char_to_digit_const;
@@ -70,9 +70,12 @@ pub(super) fn read_wide_known(
     ensures overflow_at { let n = length text.now in
         IfOverflow result (λ at. (start ≤ at) × (at < n)) }
 {
-    let narrow = within_64_bits(most);
-    let (read, is_empty) = read_known(text, word, Component::Integer, start, first, Some(narrow));
-    if read.is_too_large && most > u128::from(narrow) {
+    if most <= u128::from(u64::MAX) {
+        let (value, end) = read_integer_known(text, word, start, first, most as u64)?;
+        return Ok((u128::from(value), end));
+    }
+    let (read, is_empty) = read_known(text, word, Component::Integer, start, first, Some(u64::MAX));
+    if read.is_too_large {
         let wide = read_beyond(text, word, start, read.end, read.value, most);
         if wide.is_too_large {
             return Err(LiteralError::Overflow(wide.end));
@@ -81,18 +84,6 @@ pub(super) fn read_wide_known(
     }
     let (value, end) = integer_of(read, is_empty)?;
     Ok((u128::from(value), end))
-}
-
-/// A greatest value, or `u64::MAX` where it is above that.
-#[inline(always)]
-fn within_64_bits(most: u128) -> u64
-    ensures { result ≡ min most (2 ^ 64 - 1) }
-{
-    if most < u128::from(u64::MAX) {
-        most as u64
-    } else {
-        u64::MAX
-    }
 }
 
 /// An integer of more than 64 bits. A struct, and no `Result`: the place of its answer isn't set to
