@@ -7,7 +7,10 @@ import sys
 
 SIDES = ("Library", "Constant", "Floor", "Fixed word", "Original", "Filter")
 UNITS = {"Instructions": "Instructions for each byte:",
+         "Mispredictions": "Mispredictions for each byte, of branches as valgrind predicts them:",
          "Nanoseconds": "Nanoseconds for each byte, on this machine:"}
+# Those whose ratios say something
+RATED = {"Instructions": "instructions", "Nanoseconds": "time"}
 TO_FLOOR = 1.1  # the greatest wanted ratio of the library to the floor
 # The greatest wanted ratio of a byte of a kept run to one of a run of so many separators
 FLAT, REFERENCE = 1.2, "1000"
@@ -19,26 +22,28 @@ def target(case):
 
 
 class Told:
-    """What was told: `times` by case and side, and then by the pad of the program; `counts`, the
-    instructions, by case and side; the looks by case; the programs."""
+    """What was told: `times` by case and side, and then by the pad of the program; `counts` by
+    unit, and then by case and side; the looks by case; the programs."""
 
     def __init__(self, lines):
-        self.times, self.counts, self.looks, self.programs = {}, {}, {}, set()
+        self.times, self.looks, self.programs = {}, {}, set()
+        self.counts = {"Instructions": {}, "Mispredictions": {}}
         for kind, *fields in (line.rstrip("\n").split("\t") for line in lines):
             if kind == "time":
                 case, side, pad, nanoseconds = fields
                 pads = self.times.setdefault((case, side), {})
                 pads.setdefault(pad, []).append(float(nanoseconds))
             elif kind == "count":
-                case, side, instructions = fields
-                self.counts[case, side] = float(instructions)
+                case, side, *counts = fields
+                for count, of_unit in zip(counts, self.counts.values()):
+                    of_unit[case, side] = float(count)
             elif kind == "looks":
                 self.looks[fields[0]] = float(fields[1])
             elif kind == "program":
                 self.programs.add(tuple(fields))
             else:
                 sys.exit(f"no line of medians: {kind} {fields}")
-        self.keys = list(dict.fromkeys([*self.times, *self.counts]))
+        self.keys = list(dict.fromkeys([*self.times, *self.counts["Instructions"]]))
         self.sides = [side for side in SIDES if any(side == other for _, other in self.keys)]
         self.cases = [case for case in dict.fromkeys(case for case, _ in self.keys)
                       if not case.startswith("g:")]
@@ -51,8 +56,8 @@ class Told:
 
     def value(self, unit, case, side):
         """What a byte takes; of times the least median of all placements counts."""
-        if unit == "Instructions":
-            return self.counts.get((case, side))
+        if unit in self.counts:
+            return self.counts[unit].get((case, side))
         pads = self.times.get((case, side))
         return pads and min(map(min, pads.values()))
 
@@ -63,7 +68,7 @@ class Told:
     def spreads(self, unit, case):
         """How far the library's slowest placement lies above its fastest, and how far any side's
         greatest median lies above the least of its placement."""
-        if unit == "Instructions":
+        if unit in self.counts:
             return []
         least = [min(medians) for medians in self.times[case, "Library"].values()]
         spread = max(max(medians) / min(medians) for (other, _), pads in self.times.items()
@@ -91,10 +96,11 @@ def case_rows(told, unit):
         if values["Library"] is None:
             continue
         fixed = told.fixed_side(case)
-        yield [case, *(printed(values[side]) for side in told.sides),
-               at_most(values["Library"], values["Floor"], TO_FLOOR),
-               at_most(values["Constant"], values[fixed], target(case)),
-               at_most(values["Library"], values[fixed], math.inf), *told.spreads(unit, case)]
+        ratios = [at_most(values["Library"], values["Floor"], TO_FLOOR),
+                  at_most(values["Constant"], values[fixed], target(case)),
+                  at_most(values["Library"], values[fixed], math.inf)] if unit in RATED else []
+        yield [case, *(printed(values[side]) for side in told.sides), *ratios,
+               *told.spreads(unit, case)]
 
 
 def run_rows(told, unit):
@@ -111,16 +117,24 @@ def run_rows(told, unit):
 
 
 def means(told):
-    """The geometric means of what the library takes to what the original takes."""
-    for unit, words in (("Instructions", "instructions"), ("Nanoseconds", "time")):
-        logs = {side: [math.log(value / other) for case in told.cases
-                       if (value := told.value(unit, case, side)) and
-                       (other := told.value(unit, case, told.fixed_side(case)))]
-                for side in ("Constant", "Library")}
-        if all(logs.values()):
-            constant, library = (math.exp(sum(it) / len(it)) for it in logs.values())
-            yield (f"Geometric mean of all rows to the original, by {words}: {constant:.2f} with a "
-                   f"constant word, {library:.2f} with a word at run time.\n")
+    """The geometric means of what the library takes to what the original takes, and the cases with
+    the greatest ratios."""
+    for unit, words in RATED.items():
+        ratios = {side: {case: value / other for case in told.cases
+                         if (value := told.value(unit, case, side)) and
+                         (other := told.value(unit, case, told.fixed_side(case)))}
+                  for side in ("Constant", "Library")}
+        if all(ratios.values()):
+            constant, library = (mean_and_most(of_side) for of_side in ratios.values())
+            yield (f"Geometric mean of all rows to the original, by {words}: {constant} with a "
+                   f"constant word, {library} with a word at run time.\n")
+
+
+def mean_and_most(ratios):
+    """The geometric mean of ratios by case, and the greatest."""
+    most = max(ratios, key=ratios.get)
+    mean = math.exp(sum(map(math.log, ratios.values())) / len(ratios))
+    return f"{mean:.2f} (at most {ratios[most]:.2f}, \"{most}\")"
 
 
 def table(words, head, rows):
@@ -133,12 +147,14 @@ def main():
     sys.stdout.reconfigure(encoding="utf8")
     told = Told(sys.stdin)
     told.check_places()
-    lines, spread = [], {"Instructions": [], "Nanoseconds": ["Apart", "Spread"]}
+    lines, spread = [], dict.fromkeys(UNITS, []) | {"Nanoseconds": ["Apart", "Spread"]}
     for unit, words in UNITS.items():
-        head = ["Case", *told.sides, "Library / floor", "Constant / fixed", "Library / fixed"]
+        ratios = ["Library / floor", "Constant / fixed", "Library / fixed"] if unit in RATED else []
+        head = ["Case", *told.sides, *ratios]
         lines += table(words, head + spread[unit], case_rows(told, unit))
     lines += means(told)
-    for unit, words in UNITS.items():
+    for unit in RATED:
+        words = UNITS[unit]
         sides = [side for side in told.sides if side != "Constant"]
         head = ["Case", "Separators", "Looks", *sides, "To a run of 1,000"]
         lines += table(words, head + spread[unit], run_rows(told, unit))

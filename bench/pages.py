@@ -24,10 +24,14 @@ ROWS = {
     "Runs of 16 separators, all dropped": "e: ILTC, runs of 16, number",
     "Letters by `peek` and `next`": "k: I, other bytes, peeked",
     "Grouped integers by `read_integer`": "j: I, grouped literals",
-    "`u64`, 1 to 4 digits": "p: no flags, 1 to 4 digits, parse_integer",
-    "`u64`, 8 to 20 digits, grouped": "p: I, grouped, parse_integer",
+    "`u64`, 1 to 4 digits": "u: no flags, 1 to 4 digits, u64",
+    "`u64`, 8 to 20 digits, grouped": "u: I, grouped, u64",
     "`i32`, 1 to 4 digits": "u: no flags, 1 to 4 digits, i32",
     "`i32`, 8 or 9 digits, grouped": "u: I, grouped, i32",
+    "Hexadecimal `u64`, 1 to 4 digits": "y: radix 16, no flags, 1 to 4 digits, parse_number, u64",
+    "Hexadecimal `u64`, 8 to 16 digits": "y: radix 16, no flags, parse_number, u64",
+    "The same, grouped": "y: radix 16, I, grouped, parse_number, u64",
+    "Binary `u64`, 8 to 60 digits": "y: radix 2, no flags, parse_number, u64",
     "Literals of Rust by `read_literal`": "w: literals of Rust",
     "`f64`, integers of 1 to 4 digits": "x: no flags, integers of 1 to 4 digits",
     "`f64`, 8 to 14 digits, grouped": "x: I, grouped, 8 to 14 digits, a point",
@@ -35,7 +39,7 @@ ROWS = {
     "`f64` in [0, 1), 17 digits": "x: no flags, in [0, 1) with 17 digits",
 }
 # The letters of the cases whose filter is std's `parse` or `from_str_radix`.
-BY_STD = "jptuvwx"
+BY_STD = "jtuvwxy"
 
 
 def read(path):
@@ -94,9 +98,11 @@ def speed_rows(cases):
         to_std = cases.ratio(case, "Constant", "Filter") if case[0] in BY_STD else None
         is_over = " over" if "over" in row.get("Library / floor", "") else ""
         is_beside = row.get("Original", "–") != "–"
+        misses = cases.row(case, "Mispredictions")
         yield [words, row["Constant"], row["Constant / fixed"] if is_beside else "–",
                f"{to_std:.2f}" if to_std else "–", row["Library"] + is_over,
-               "/".join(times.get(column, "–") for column in ("Constant", "Original"))]
+               *("/".join(it.get(column, "–") for column in ("Constant", "Original"))
+                 for it in (times, misses))]
 
 
 def asked(cases, flags):
@@ -107,10 +113,12 @@ def asked(cases, flags):
 
 def speed(cases):
     """What docs/SPEED.md has between its comments."""
-    head = ("What is read", "Constant word", "to lexical-util", "to std", "At run time", "ns")
+    head = ("What is read", "Constant word", "to lexical-util", "to std", "At run time", "ns",
+            "mispredicted")
     lines = [f"{cases.machine}\n"]
-    lines += table("Instructions for each byte; in the last column nanoseconds, of the constant word "
-                   "and of lexical-util:", head, speed_rows(cases))
+    lines += table("Instructions for each byte; in the last two columns nanoseconds, and branches "
+                   "that valgrind mispredicts, of the constant word and of lexical-util:", head,
+                   speed_rows(cases))
     lines += [f"{mean}\n" for mean in cases.means]
     return "\n".join(lines) + f"""
 If `looks` is asked after each number of 1 to 4 digits, these go from {asked(cases, "no flags")} \
@@ -147,13 +155,14 @@ def summary(cases):
     return f"""\
 Counted in instructions, with a format word that is a constant:
 
-- **Integers** without separators take {std("[pu]: no flags")} times those of std's `parse`, and \
-{original("[pu]: no flags")} times those of a loop over lexical-util's iterator.
-- **Grouped integers**, such as `1_234_567`, take {std("[pu]: I, grouped")} times those of std's \
-`parse`, which gets the digits without separators, and {original("[pu]: I, grouped")} times \
+- **Integers** without separators take {std("u: no flags")} times those of std's `parse`, and \
+{original("u: no flags")} times those of a loop over lexical-util's iterator.
+- **Grouped integers**, such as `1_234_567`, take {std("u: I, grouped")} times those of std's \
+`parse`, which gets the digits without separators, and {original("u: I, grouped")} times \
 lexical-util's.
-- **Hexadecimal digits** take {original("[bf]: I, radix 16")} times lexical-util's. Literals of \
-Rust, of which a quarter is hexadecimal, take {std("w: ")} times those of `from_str_radix`.
+- **Hexadecimal integers** take {std("y: radix 16, no flags")} times those of `from_str_radix`, \
+and {original("y: radix 16")} times lexical-util's. Literals of Rust take {std("w: ")} times as \
+many as `from_str_radix`.
 - **Floats** take {std("x: no flags")} times those of std's `parse`, and {std("x: I, grouped")} \
 with separators.
 

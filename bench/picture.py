@@ -154,8 +154,9 @@ def run_axes(across, up):
 
 
 def svg(cases):
-    """The picture, on a light sheet with a name for those who can't see it."""
-    names = list(cases.rows["Instructions"])
+    """The picture, on a light sheet with a name for those who can't see it. Other radices than 10
+    are left to the table."""
+    names = [name for name in cases.rows["Instructions"] if not name.startswith("y:")]
     bottom = TOP + ROW * len(names)
     height = bottom + GAP + RUNS + 70
     return "\n".join([

@@ -1,7 +1,7 @@
 //! The calls that a Rust user has, and what is done by them.
 
 use crate::library::Outcome;
-use crate::numbers::{self, for_type};
+use crate::numbers::{self, for_type, of_value};
 use crate::texts::Text;
 use crate::work::{each, float_of, with_digit, with_eight, Way, Work};
 
@@ -51,9 +51,8 @@ pub fn drained<B: Buffers>(work: Work, word: u128) -> Way {
         Work::Eights => Box::new(move |text| eights::<B>(&text.bytes, word)),
         Work::Numbers | Work::Asked => on_each(move |text| number::<B>(text, word)),
         Work::Stopped => on_each(move |text| stopped::<B>(text, word)),
-        Work::Literals => on_each(move |text| literal::<B>(text, word)),
-        Work::Parsed => on_each(move |text| parsed::<B>(text, word)),
-        Work::Signed => on_each(move |text| signed::<B>(text, word)),
+        Work::Literals | Work::Mostly => on_each(move |text| literal::<B>(text, word)),
+        Work::Values => on_each(move |text| value::<B>(text, word)),
         Work::Counted => on_each(move |text| counted::<B>(text, word)),
         Work::Cleared => Box::new(move |text| cleared::<B>(&text.bytes, word)),
         Work::Digits => on_each(move |text| digits::<B>(text, word)),
@@ -198,36 +197,12 @@ fn literal<B: Buffers>(text: &[u8], word: u128) -> Outcome {
     }
 }
 
-/// What a text came to as a whole; nothing where it is no literal.
+/// The value of the digits that lead, and how many were counted; 0 where `u64` does not hold it.
 #[inline(always)]
-fn whole(value: Option<u64>) -> Outcome {
-    Outcome { value: value.unwrap_or(0), ..Outcome::default() }
-}
-
-#[inline(always)]
-fn parsed<B: Buffers>(text: &[u8], word: u128) -> Outcome {
-    whole(whole_value::<B>(text, word))
-}
-
-/// The value of a text that is one literal, if `u64` holds it.
-#[inline(always)]
-fn whole_value<B: Buffers>(text: &[u8], word: u128) -> Option<u64> {
+fn value<B: Buffers>(text: &[u8], word: u128) -> Outcome {
     let mut bytes = B::Bytes::over(text, word);
-    let mut iter = bytes.integer();
-    let (value, digits) = value_after(&mut iter, B::radix(word), 0)?;
-    (digits > 0 && iter.cursor() == text.len()).then_some(value)
-}
-
-#[inline(always)]
-fn signed<B: Buffers>(text: &[u8], word: u128) -> Outcome {
-    let (magnitude, is_negative) = match text {
-        [b'-', rest @ ..] => (rest, true),
-        [b'+', rest @ ..] => (rest, false),
-        _ => (text, false),
-    };
-    let most = i64::MAX as u64 + u64::from(is_negative);
-    let value = whole_value::<B>(magnitude, word).filter(|&value| value <= most);
-    whole(value.map(|value| if is_negative { value.wrapping_neg() } else { value }))
+    let value = value_after(&mut bytes.integer(), B::radix(word), 0).map_or(0, |read| read.0);
+    outcome(value, &mut bytes)
 }
 
 /// How many digits a text has that is one literal, or none.
@@ -237,7 +212,7 @@ fn counted<B: Buffers>(text: &[u8], word: u128) -> Outcome {
     let mut digits = 0;
     let mut iter = bytes.integer();
     pass_digits(&mut iter, |_| digits += 1);
-    whole((iter.cursor() == text.len()).then_some(digits))
+    of_value(if iter.cursor() == text.len() { digits } else { 0 })
 }
 
 /// The numbers of a text, with a byte after each.

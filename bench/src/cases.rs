@@ -4,19 +4,22 @@ use crate::measure::Job;
 use crate::numbers::Type::{I32, I64, U128, U16, U32, U64, U8};
 use crate::texts::{
     decimals, digits, each_third, floats, fractions, hex_digits, hex_numbers, lines, literals,
-    numbers, others, runs, rust_literals, signed, stopped, zero_floats, zeros, Text,
+    numbers, numbers_in, others, runs, rust_literals, signed, stopped, zero_floats, zeros, Text,
+    BASE_36, BINARY, HEX,
 };
-use crate::word::{I, IC, ILTC, I_16, I_IN_ALL, NONE, RUST};
-use crate::work::Sides;
+use crate::word::{
+    I, IC, ILTC, I_16, I_2, I_IN_ALL, NONE, NONE_16, NONE_2, NONE_36, RUST,
+};
 use crate::work::Work::{
     Asked, Cleared, Counted, Digits, Eights, Floats, FloatsOf, Handed, Lines, Literals, Mantissas,
-    Nearest, NearestF32, Number, NumberFrom, NumberOf, Numbers, Parsed, Parts, Peeked, RustLiterals, Signed,
-    Stopped, Sum, Zeros,
+    Mostly, Nearest, NearestF32, Number, NumberFrom, NumberOf, Numbers, Parts, Peeked,
+    RustLiterals, Stopped, Sum, Values, Zeros,
 };
+use crate::work::{Sides, Work};
 
 /// What is done with one text.
 struct Case {
-    name: &'static str,
+    name: String,
     text: fn() -> Text,
     sides: Sides,
 }
@@ -24,8 +27,8 @@ struct Case {
 impl Case {
     fn run(&self, run: fn(&[Job])) {
         let text = &(self.text)();
-        self.sides.check(self.name, text);
-        let job = |(side, way)| Job { case: self.name, side, text, way };
+        self.sides.check(&self.name, text);
+        let job = |(side, way)| Job { case: &self.name, side, text, way };
         run(&self.sides.named().map(job).collect::<Vec<_>>());
     }
 }
@@ -33,13 +36,17 @@ impl Case {
 /// Cases: the name of each, its text, and the sides of its work.
 macro_rules! cases {
     ($($name:literal: $text:expr, $kind:ident $(::<$word:ident>)? ($work:expr);)*) => {
-        vec![$(Case { name: $name, text: || $text, sides: Sides::$kind$(::<$word>)?($work) }),*]
+        vec![$(Case {
+            name: $name.into(),
+            text: || $text,
+            sides: Sides::$kind$(::<$word>)?($work),
+        }),*]
     };
 }
 
 /// Runs the wanted cases: measures them, or runs them once.
 pub fn run_all(run: fn(&[Job]), is_wanted: impl Fn(&str) -> bool) {
-    all().iter().filter(|case| is_wanted(case.name)).for_each(|case| case.run(run));
+    all().iter().filter(|case| is_wanted(&case.name)).for_each(|case| case.run(run));
 }
 
 /// The cases, in the order of the table.
@@ -53,6 +60,7 @@ fn all() -> Vec<Case> {
         shortest_components(),
         number_texts(),
         leading_numbers(),
+        other_radices(),
         float_texts(),
     ];
     groups.into_iter().flatten().collect()
@@ -118,12 +126,7 @@ fn literal_texts() -> Vec<Case> {
         "j: I, grouped literals": literals(8..=20, true), skip::<I>(Literals);
         "j: no flags, 1 to 4 digits": literals(1..=4, false), skip::<NONE>(Literals);
         "j: I, 1 to 4 digits": literals(1..=4, false), skip::<I>(Literals);
-        "p: no flags, parse_integer": literals(8..=20, false), skip::<NONE>(Parsed);
-        "p: I, grouped, parse_integer": literals(8..=20, true), skip::<I>(Parsed);
-        "p: no flags, 1 to 4 digits, parse_integer": literals(1..=4, false), skip::<NONE>(Parsed);
-        "p: I, 1 to 4 digits, parse_integer": literals(1..=4, false), skip::<I>(Parsed);
-        "p: no flags, parse_signed": signed(8..=20, false), skip::<NONE>(Signed);
-        "p: I, grouped, parse_signed": signed(8..=20, true), skip::<I>(Signed);
+        "j: no flags, 1 to 4 digits, mostly one word": literals(1..=4, false), skip::<NONE>(Mostly);
         "p: I, grouped, count_digits": literals(8..=20, true), skip::<I>(Counted);
         "t: no flags, lines": lines(8..=18, false), skip::<NONE>(Lines);
         "t: I, grouped, lines": lines(8..=18, true), skip::<I>(Lines);
@@ -172,9 +175,15 @@ fn shortest_components() -> Vec<Case> {
     }
 }
 
-/// Numbers of other types than those of p.
+/// Numbers of each type.
 fn number_texts() -> Vec<Case> {
     cases! {
+        "u: no flags, u64": literals(8..=20, false), skip::<NONE>(NumberOf(U64));
+        "u: I, grouped, u64": literals(8..=20, true), skip::<I>(NumberOf(U64));
+        "u: no flags, 1 to 4 digits, u64": literals(1..=4, false), skip::<NONE>(NumberOf(U64));
+        "u: I, 1 to 4 digits, u64": literals(1..=4, false), skip::<I>(NumberOf(U64));
+        "u: no flags, i64": signed(8..=20, false), skip::<NONE>(NumberOf(I64));
+        "u: I, grouped, i64": signed(8..=20, true), skip::<I>(NumberOf(I64));
         "u: no flags, 1 or 2 digits, u8": literals(1..=2, false), skip::<NONE>(NumberOf(U8));
         "u: I, 1 or 2 digits, u8": literals(1..=2, false), skip::<I>(NumberOf(U8));
         "u: no flags, 1 to 4 digits, u16": literals(1..=4, false), skip::<NONE>(NumberOf(U16));
@@ -233,9 +242,45 @@ fn leading_numbers() -> Vec<Case> {
         "v: I, grouped, u128": literals(8..=20, true), skip::<I>(NumberFrom(U128));
         "v: no flags, 1 to 4 digits, u128": literals(1..=4, false), skip::<NONE>(NumberFrom(U128));
         "v: I, 1 to 4 digits, u128": literals(1..=4, false), skip::<I>(NumberFrom(U128));
-        "w: literals of Rust": rust_literals(false), skip::<RUST>(RustLiterals);
-        "w: grouped literals of Rust": rust_literals(true), skip::<RUST>(RustLiterals);
+        "w: literals of Rust": rust_literals(0..=3, false), skip::<RUST>(RustLiterals);
+        "w: grouped literals of Rust": rust_literals(0..=3, true), skip::<RUST>(RustLiterals);
+        "w: hexadecimal literals of Rust": rust_literals(3..=3, false), skip::<RUST>(RustLiterals);
+        "w: grouped hexadecimal literals of Rust":
+            rust_literals(3..=3, true), skip::<RUST>(RustLiterals);
     }
+}
+
+/// Integers in other radices than 10, by each of the calls that read one.
+fn other_radices() -> Vec<Case> {
+    let texts = [
+        each_call::<NONE_16>("radix 16, no flags, 1 to 4 digits", || numbers_in(HEX, 1..=4, false)),
+        each_call::<I_16>("radix 16, I, 1 to 4 digits", || numbers_in(HEX, 1..=4, false)),
+        each_call::<NONE_16>("radix 16, no flags", || numbers_in(HEX, 8..=16, false)),
+        each_call::<I_16>("radix 16, I, grouped", || numbers_in(HEX, 8..=16, true)),
+        each_call::<NONE_2>("radix 2, no flags", || numbers_in(BINARY, 8..=60, false)),
+        each_call::<I_2>("radix 2, I, grouped", || numbers_in(BINARY, 8..=60, true)),
+        each_call::<NONE_36>("radix 36, no flags", || numbers_in(BASE_36, 8..=12, false)),
+    ];
+    texts.into_iter().flatten().collect()
+}
+
+/// The calls that read an integer, on one text.
+fn each_call<const WORD: u128>(words: &str, text: fn() -> Text) -> Vec<Case> {
+    let calls = [
+        ("read_integer", Literals),
+        ("read_number, u64", NumberFrom(U64)),
+        ("parse_number, u64", NumberOf(U64)),
+        ("parse_number, u128", NumberOf(U128)),
+        ("read_digits_of", Values),
+        ("pass_digits", Digits),
+        ("iterator", Stopped),
+    ];
+    let case = |(call, work): (&str, Work)| Case {
+        name: format!("y: {words}, {call}"),
+        text,
+        sides: Sides::skip::<WORD>(work),
+    };
+    calls.map(case).into()
 }
 
 /// Floats.

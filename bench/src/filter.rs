@@ -2,7 +2,7 @@
 //! cursor, no call for each byte, and no count.
 
 use crate::library::Outcome;
-use crate::numbers::{self, for_type, of_value};
+use crate::numbers::{self, for_type, in_radix, of_value, Type};
 use crate::texts::Text;
 use crate::word::{Class, Rule};
 use crate::work::{each, float_of, with_digit, with_eight, Way, Work};
@@ -23,14 +23,16 @@ pub fn filtered<const WORD: u128>(work: Work) -> Option<Way> {
             Some(Box::new(|text| each(text, |text| of_value(number::<WORD>(text)))))
         }
         Work::Floats | Work::FloatsOf => Some(Box::new(|text| each(text, float::<WORD>))),
-        Work::Literals | Work::Parsed | Work::Lines => Some(Box::new(numbers::each_parsed::<u64>)),
-        Work::Signed => Some(Box::new(numbers::each_parsed::<i64>)),
+        Work::Literals | Work::Mostly | Work::Values | Work::Lines => {
+            filtered::<WORD>(Work::NumberOf(Type::U64))
+        }
         Work::Counted => Some(Box::new(|text| each(text, counted::<WORD>))),
         Work::Cleared => Some(Box::new(|text| of_value(sum_of_numbers::<WORD>(&text.bytes)))),
         Work::Parts => Some(Box::new(each_float)),
-        Work::NumberOf(of) | Work::NumberFrom(of) => {
+        Work::NumberOf(of) | Work::NumberFrom(of) if Rule::<WORD>::RADIX == 10 => {
             Some(for_type!(of, T, Box::new(numbers::each_parsed::<T>)))
         }
+        Work::NumberOf(of) | Work::NumberFrom(of) => Some(Box::new(in_radix::<WORD>(of)?)),
         Work::RustLiterals => Some(Box::new(numbers::each_rust_literal)),
         Work::Nearest => Some(Box::new(numbers::each_nearest::<f64>)),
         Work::NearestF32 => Some(Box::new(numbers::each_nearest::<f32>)),

@@ -50,18 +50,19 @@ exports! {
     digit_bench_asked
     digit_bench_stopped
     digit_bench_literals
-    digit_bench_parsed
-    digit_bench_signed
+    digit_bench_mostly
     digit_bench_counted
     digit_bench_digits
     digit_bench_zeros
     digit_bench_floats
     digit_bench_floats_of
+    digit_bench_values
     digit_bench_mantissas
     digit_bench_parts
     digit_bench_parsed_u8
     digit_bench_parsed_u16
     digit_bench_parsed_u32
+    digit_bench_parsed_u64
     digit_bench_parsed_i32
     digit_bench_parsed_i64
     digit_bench_parsed_u128

@@ -4,7 +4,7 @@
 use crate::calls::{Buffer, Buffers, Digits};
 use crate::library::Outcome;
 use crate::texts::Text;
-use crate::word::{RUST, RUST_16, RUST_2, RUST_8};
+use crate::word::{Rule, RUST, RUST_16, RUST_2, RUST_8};
 use std::str::{from_utf8, FromStr};
 
 /// A type of integers.
@@ -201,6 +201,22 @@ pub fn nearest<B: Buffers, T: Float>(text: &[u8], word: u128) -> Outcome {
 /// Each number of a type by `parse`.
 pub fn each_parsed<T: Number>(text: &Text) -> Outcome {
     each_digits(text, |digits| digits.parse::<T>().map_or(0, T::told))
+}
+
+/// Each number in another radix than 10 by `from_str_radix`. Only two types have that here, since
+/// where a type is parsed in several radices, a compiler makes one code for all of them.
+pub fn in_radix<const WORD: u128>(of: Type) -> Option<fn(&Text) -> Outcome> {
+    match of {
+        Type::U64 => Some(|text| {
+            let value = |it: &str| u64::from_str_radix(it, Rule::<WORD>::RADIX).unwrap_or(0);
+            each_digits(text, value)
+        }),
+        Type::U128 => Some(|text| {
+            let value = |it: &str| u128::from_str_radix(it, Rule::<WORD>::RADIX).unwrap_or(0);
+            each_digits(text, |it| value(it).told())
+        }),
+        _ => None,
+    }
 }
 
 /// Each literal of Rust: a match on the prefix, and then `from_str_radix`.

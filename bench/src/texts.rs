@@ -46,9 +46,29 @@ impl Random {
         [None, Some(b'-'), Some(b'+')][self.below(3) as usize]
     }
 
-    /// A digit of radix 16, its letter in either case.
+    fn one_of(&mut self, bytes: &[u8]) -> u8 {
+        bytes[self.below(bytes.len() as u64) as usize]
+    }
+
     fn hex_digit(&mut self) -> u8 {
-        b"0123456789abcdefABCDEF"[self.below(22) as usize]
+        self.one_of(HEX)
+    }
+
+    /// A number of so many of these digits, grouped by threes where `grouped` says so.
+    fn push_number(
+        &mut self,
+        bytes: &mut Vec<u8>,
+        digits: &[u8],
+        lengths: &RangeInclusive<u64>,
+        grouped: bool,
+    ) {
+        let length = self.within(lengths);
+        for at in 0..length {
+            if grouped && at > 0 && (length - at).is_multiple_of(3) {
+                bytes.push(b'_');
+            }
+            bytes.push(self.one_of(digits));
+        }
     }
 
     /// A number of digits out of a range, with a separator after each group except the last.
@@ -76,6 +96,13 @@ impl Random {
 }
 
 const SEED: u64 = 0x9E37_79B9_7F4A_7C15;
+
+/// The digits of radix 2.
+pub const BINARY: &[u8] = b"01";
+/// Those of radix 16, the letters in either case.
+pub const HEX: &[u8] = b"0123456789abcdefABCDEF";
+/// Those of radix 36.
+pub const BASE_36: &[u8] = b"0123456789abcdefghijklmnopqrstuvwxyzABCDEFGHIJKLMNOPQRSTUVWXYZ";
 
 /// How many bytes a text has, or a few more.
 pub static SIZE: AtomicUsize = AtomicUsize::new(1 << 20);
@@ -164,24 +191,23 @@ pub fn lines(lengths: RangeInclusive<u64>, grouped: bool) -> Text {
     literals_of(lengths, grouped, |_| None, Some(b'\n'))
 }
 
-/// Literals of Rust: of each radix as many, of 4 to 16 digits; grouped by threes where `grouped`
-/// says so.
-pub fn rust_literals(grouped: bool) -> Text {
+/// Numbers of so many of these digits; grouped by threes where `grouped` says so.
+pub fn numbers_in(digits: &[u8], lengths: RangeInclusive<u64>, grouped: bool) -> Text {
+    numbers_by(|random, bytes| random.push_number(bytes, digits, &lengths, grouped))
+}
+
+/// Literals of Rust of 4 to 16 digits, of each of some kinds as many: decimal, binary, octal and
+/// hexadecimal are 0 to 3. Grouped by threes where `grouped` says so.
+pub fn rust_literals(kinds: RangeInclusive<u64>, grouped: bool) -> Text {
     numbers_by(|random, bytes| {
-        let (prefix, digits): (&[u8], &[u8]) = match random.below(4) {
+        let (prefix, digits): (&[u8], &[u8]) = match random.within(&kinds) {
             0 => (b"", b"123456789"),
-            1 => (b"0b", b"01"),
+            1 => (b"0b", BINARY),
             2 => (b"0o", b"01234567"),
-            _ => (b"0x", b"0123456789abcdefABCDEF"),
+            _ => (b"0x", HEX),
         };
         bytes.extend(prefix);
-        let length = random.within(&(4..=16));
-        for at in 0..length {
-            if grouped && at > 0 && (length - at).is_multiple_of(3) {
-                bytes.push(b'_');
-            }
-            bytes.push(digits[random.below(digits.len() as u64) as usize]);
-        }
+        random.push_number(bytes, digits, &(4..=16), grouped);
     })
 }
 

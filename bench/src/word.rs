@@ -28,23 +28,27 @@ pub const IC: u128 = I | CONSECUTIVE;
 pub const LC: u128 = UNGRANTED | LEADING | CONSECUTIVE;
 /// Every separator is dropped.
 pub const ILTC: u128 = IC | LEADING | TRAILING;
-/// As [`I`], in radix 16.
-pub const I_16: u128 = I + (6 << 104);
+/// As [`NONE`] and [`I`], in other radices.
+pub const NONE_16: u128 = with_radix(NONE, 16);
+pub const I_16: u128 = with_radix(I, 16);
+pub const NONE_2: u128 = with_radix(NONE, 2);
+pub const I_2: u128 = with_radix(I, 2);
+pub const NONE_36: u128 = with_radix(NONE, 36);
 /// Rust's decimal literals: separators after the first digit.
 pub const RUST: u128 = IC | TRAILING;
 /// The digits after `0b`, `0o` and `0x`: separators anywhere.
-pub const RUST_2: u128 = in_radix(2);
-pub const RUST_8: u128 = in_radix(8);
-pub const RUST_16: u128 = in_radix(16);
+pub const RUST_2: u128 = with_radix(ILTC, 2);
+pub const RUST_8: u128 = with_radix(ILTC, 8);
+pub const RUST_16: u128 = with_radix(ILTC, 16);
 
-/// As [`ILTC`], in another radix.
-const fn in_radix(radix: u128) -> u128 {
-    (ILTC & !(0xff << 104)) | radix << 104
+/// A word in another radix.
+const fn with_radix(word: u128, radix: u128) -> u128 {
+    (word & !(0xff << 104)) | radix << 104
 }
 
 /// Whether the library has code of its own for the word as a constant.
 pub fn is_constant(word: u128) -> bool {
-    [NONE, I, IC, ILTC, I_IN_ALL, I_16].contains(&word)
+    [NONE, I, IC, ILTC, I_IN_ALL, NONE_16, I_16, NONE_2, I_2, NONE_36].contains(&word)
 }
 
 /// The word with the separator `_` and the flags that the four lowest bits say, internal, leading,

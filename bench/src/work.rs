@@ -35,10 +35,11 @@ pub enum Work {
     /// Reads each of many integer literals, and adds up those that `u64` holds. In place of the
     /// filter stands `str::parse`, on the digits without separators.
     Literals,
-    /// Reads each of many texts that are one literal: the library by `parse_integer`.
-    Parsed,
-    /// The same with a sign: the library by `parse_signed`, and the filter as `i64`.
-    Signed,
+    /// The same: the library by `digit_uses::mostly`, with code of its own for one word.
+    Mostly,
+    /// Reads the digits of each of many integers: the library by `read_digits_of`. In place of the
+    /// filter stands `str::parse` too.
+    Values,
     /// Counts the digits of each of many texts that are one literal: the library by `count_digits`.
     Counted,
     /// Reads all numbers of a text: the library by one `Bytes` with `clear_counts`, and the others
@@ -180,8 +181,8 @@ fn skipping(work: Work, format: Format) -> Way {
         Work::Asked => library::digit_bench_asked,
         Work::Stopped => library::digit_bench_stopped,
         Work::Literals => library::digit_bench_literals,
-        Work::Parsed => library::digit_bench_parsed,
-        Work::Signed => library::digit_bench_signed,
+        Work::Mostly => library::digit_bench_mostly,
+        Work::Values => library::digit_bench_values,
         Work::Counted => library::digit_bench_counted,
         Work::Cleared => library::digit_bench_cleared,
         Work::Digits => library::digit_bench_digits,
@@ -213,7 +214,7 @@ fn parsed_export(of: Type) -> Export {
         Type::U8 => library::digit_bench_parsed_u8,
         Type::U16 => library::digit_bench_parsed_u16,
         Type::U32 => library::digit_bench_parsed_u32,
-        Type::U64 => library::digit_bench_parsed,
+        Type::U64 => library::digit_bench_parsed_u64,
         Type::I32 => library::digit_bench_parsed_i32,
         Type::I64 => library::digit_bench_parsed_i64,
         Type::U128 => library::digit_bench_parsed_u128,

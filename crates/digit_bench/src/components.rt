@@ -1,6 +1,7 @@
 //! Numbers of an integer, a fraction and an exponent over one `Bytes`: each component by an
 //! iterator of its own, or by the calls that name the component.
 
+use super::drains::drained;
 use super::format::Format;
 use super::work::{Task, Work, run_each};
 use super::{Outcome, loops};
@@ -87,6 +88,18 @@ impl Work for Mantissas {
     }
 }
 
+/// Reads the digits of an integer by `read_digits_of`.
+struct Values;
+
+impl Work for Values {
+    #[inline(always)]
+    fn on<F: Format>(text: &[u8], format: F) -> Outcome {
+        let mut bytes = Bytes::new(text, format.word());
+        let value = value_of(&mut bytes, Component::Integer, 0);
+        drained(value, &bytes)
+    }
+}
+
 /// Takes a number apart into value and decimal exponent by `read_decimal_from`. The count is where
 /// it ends. Nothing where there is no number, or a radix isn't 10.
 struct Parts;
@@ -128,6 +141,11 @@ pub extern "C" fn digit_bench_floats(task: &Task, outcome: &mut Outcome) {
 #[unsafe(no_mangle)]
 pub extern "C" fn digit_bench_floats_of(task: &Task, outcome: &mut Outcome) {
     *outcome = run_each::<FloatsOf>(task);
+}
+
+#[unsafe(no_mangle)]
+pub extern "C" fn digit_bench_values(task: &Task, outcome: &mut Outcome) {
+    *outcome = run_each::<Values>(task);
 }
 
 #[unsafe(no_mangle)]

@@ -95,3 +95,51 @@ impl Format for HexI {
         0x10000000005f0000000100000000
     }
 }
+
+/// As [`Decimal`], in radix 16.
+#[derive(Clone, Copy)]
+pub struct Hex;
+
+impl Format for Hex {
+    #[inline(always)]
+    #[tactic(auto, unfolding(lexical_format::proofs::OnLiterals::lexical_on_literals))]
+    fn word(self) -> u128 {
+        0x1000000000000000000000000000
+    }
+}
+
+/// As [`Decimal`], in radix 2.
+#[derive(Clone, Copy)]
+pub struct Binary;
+
+impl Format for Binary {
+    #[inline(always)]
+    #[tactic(auto, unfolding(lexical_format::proofs::OnLiterals::lexical_on_literals))]
+    fn word(self) -> u128 {
+        0x200000000000000000000000000
+    }
+}
+
+/// As [`DecimalI`], in radix 2.
+#[derive(Clone, Copy)]
+pub struct BinaryI;
+
+impl Format for BinaryI {
+    #[inline(always)]
+    #[tactic(auto, unfolding(lexical_format::proofs::OnLiterals::lexical_on_literals))]
+    fn word(self) -> u128 {
+        0x2000000005f0000000100000000
+    }
+}
+
+/// As [`Decimal`], in radix 36.
+#[derive(Clone, Copy)]
+pub struct Base36;
+
+impl Format for Base36 {
+    #[inline(always)]
+    #[tactic(auto, unfolding(lexical_format::proofs::OnLiterals::lexical_on_literals))]
+    fn word(self) -> u128 {
+        0x2400000000000000000000000000
+    }
+}

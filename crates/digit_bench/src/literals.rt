@@ -4,9 +4,8 @@ use super::Outcome;
 use super::drains::drained;
 use super::format::Format;
 use super::work::{Task, Work, run, run_each};
-use digit_literals::{
-    count_digits, parse_number, pass_digits, pass_zeros, read_integer, read_integer_from,
-};
+use digit_literals::{count_digits, pass_digits, pass_zeros, read_integer, read_integer_from};
+use digit_uses::mostly::read_mostly_standard;
 use lexical_digits::skip::{Bytes, Component};
 
 /// Reads a literal by `read_integer`. The count is where it ends; nothing where there is none.
@@ -16,6 +15,19 @@ impl Work for Literals {
     #[inline(always)]
     fn on<F: Format>(text: &[u8], format: F) -> Outcome {
         match read_integer(text, format.word()) {
+            Ok((value, end)) => Outcome::of(value, end as u64),
+            Err(_) => Outcome::nothing(),
+        }
+    }
+}
+
+/// The same by `read_mostly_standard`.
+struct Mostly;
+
+impl Work for Mostly {
+    #[inline(always)]
+    fn on<F: Format>(text: &[u8], format: F) -> Outcome {
+        match read_mostly_standard(text, format.word()) {
             Ok((value, end)) => Outcome::of(value, end as u64),
             Err(_) => Outcome::nothing(),
         }
@@ -48,38 +60,6 @@ fn lines_sum<F: Format>(text: &[u8], format: F) -> Outcome {
     Outcome::of(total, start as u64)
 }
 
-/// What a text came to as a whole: a value, or nothing.
-#[inline(always)]
-fn whole(value: u64) -> Outcome {
-    Outcome::of(value, 0)
-}
-
-/// Parses a text by `parse_number::<u64>`.
-struct Parsed;
-
-impl Work for Parsed {
-    #[inline(always)]
-    fn on<F: Format>(text: &[u8], format: F) -> Outcome {
-        match parse_number::<u64>(text, format.word()) {
-            Ok(value) => whole(value),
-            Err(_) => Outcome::nothing(),
-        }
-    }
-}
-
-/// Parses a text by `parse_number::<i64>`.
-struct Signed;
-
-impl Work for Signed {
-    #[inline(always)]
-    fn on<F: Format>(text: &[u8], format: F) -> Outcome {
-        match parse_number::<i64>(text, format.word()) {
-            Ok(value) => whole(value.cast_unsigned()),
-            Err(_) => Outcome::nothing(),
-        }
-    }
-}
-
 /// Counts the digits of a text by `count_digits`.
 struct Counted;
 
@@ -87,7 +67,7 @@ impl Work for Counted {
     #[inline(always)]
     fn on<F: Format>(text: &[u8], format: F) -> Outcome {
         match count_digits(text, format.word()) {
-            Ok(digits) => whole(digits as u64),
+            Ok(digits) => Outcome::of(digits as u64, 0),
             Err(_) => Outcome::nothing(),
         }
     }
@@ -123,6 +103,11 @@ pub extern "C" fn digit_bench_literals(task: &Task, outcome: &mut Outcome) {
 }
 
 #[unsafe(no_mangle)]
+pub extern "C" fn digit_bench_mostly(task: &Task, outcome: &mut Outcome) {
+    *outcome = run_each::<Mostly>(task);
+}
+
+#[unsafe(no_mangle)]
 pub extern "C" fn digit_bench_lines(task: &Task, outcome: &mut Outcome) {
     *outcome = run::<Lines>(task);
 }
@@ -135,16 +120,6 @@ pub extern "C" fn digit_bench_digits(task: &Task, outcome: &mut Outcome) {
 #[unsafe(no_mangle)]
 pub extern "C" fn digit_bench_zeros(task: &Task, outcome: &mut Outcome) {
     *outcome = run_each::<Zeros>(task);
-}
-
-#[unsafe(no_mangle)]
-pub extern "C" fn digit_bench_parsed(task: &Task, outcome: &mut Outcome) {
-    *outcome = run_each::<Parsed>(task);
-}
-
-#[unsafe(no_mangle)]
-pub extern "C" fn digit_bench_signed(task: &Task, outcome: &mut Outcome) {
-    *outcome = run_each::<Signed>(task);
 }
 
 #[unsafe(no_mangle)]

@@ -143,6 +143,11 @@ pub extern "C" fn digit_bench_parsed_u32(task: &Task, outcome: &mut Outcome) {
 }
 
 #[unsafe(no_mangle)]
+pub extern "C" fn digit_bench_parsed_u64(task: &Task, outcome: &mut Outcome) {
+    *outcome = run_each::<Parsed<u64>>(task);
+}
+
+#[unsafe(no_mangle)]
 pub extern "C" fn digit_bench_parsed_i32(task: &Task, outcome: &mut Outcome) {
     *outcome = run_each::<Parsed<i32>>(task);
 }

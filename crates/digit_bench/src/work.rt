@@ -3,7 +3,8 @@
 
 use super::Outcome;
 use super::format::{
-    AtRunTime, Decimal, DecimalAll, DecimalI, DecimalIC, DecimalILTC, Format, HexI,
+    AtRunTime, Base36, Binary, BinaryI, Decimal, DecimalAll, DecimalI, DecimalIC, DecimalILTC,
+    Format, Hex, HexI,
 };
 use lexical_format::is_supported;
 
@@ -96,6 +97,14 @@ fn run_all<W: Work>(task: &Task, lengths: Option<&[u8]>) -> Outcome {
         once_or_each::<W, DecimalAll>(text, lengths, DecimalAll)
     } else if word == HexI.word() {
         once_or_each::<W, HexI>(text, lengths, HexI)
+    } else if word == Hex.word() {
+        once_or_each::<W, Hex>(text, lengths, Hex)
+    } else if word == Binary.word() {
+        once_or_each::<W, Binary>(text, lengths, Binary)
+    } else if word == BinaryI.word() {
+        once_or_each::<W, BinaryI>(text, lengths, BinaryI)
+    } else if word == Base36.word() {
+        once_or_each::<W, Base36>(text, lengths, Base36)
     } else {
         Outcome::nothing()
     }

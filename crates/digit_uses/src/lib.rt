@@ -14,6 +14,7 @@ pub mod lexer;
 pub mod literal;
 pub mod loops;
 pub mod money;
+pub mod mostly;
 pub mod number;
 pub mod numbers;
 pub mod onward;

@@ -10,6 +10,7 @@ mod components;
 mod counts;
 mod cursors;
 mod decision;
+mod every_byte;
 mod floats;
 mod format;
 mod integers;
