@@ -1,12 +1,12 @@
 //! The bounds of each integer type.
 
-use digit_literals::{Number, ParseError, parse_number};
+use digit_literals::{Integer, ParseError, parse_number};
 use lexical_format::words::PYTHON_LITERAL;
 use std::process::Abort;
 
 /// The number that a text is, with `_` between two digits.
 #[tactic(auto, unfolding(lexical_format::proofs::OnLiterals::lexical_on_literals))]
-fn parse<T: Number>(text: &[u8]) -> Result<T, ParseError> {
+fn parse<T: Integer>(text: &[u8]) -> Result<T, ParseError> {
     parse_number::<T>(text, PYTHON_LITERAL)
 }
 

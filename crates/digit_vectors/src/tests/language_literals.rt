@@ -6,7 +6,10 @@ use digit_languages::languages::{
     CXX14, ELIXIR, GO, HASKELL, JAVA, JAVASCRIPT, JSON_NUMBER, OCAML, PERL, PHP, PYTHON, RUBY,
     RUST, TOML, ZIG,
 };
-use digit_languages::{FirstZero, Language, LanguageError, Literal, is_language, read_literal};
+use digit_languages::{
+    FirstZero, Language, LanguageError, Literal, is_language, read_literal, read_literal_as,
+};
+use digit_literals::LiteralError;
 use lexical_format::STANDARD;
 use lexical_format::words::{
     JAVA_OCTAL_LITERAL, RUST_BINARY_LITERAL, RUST_HEX_LITERAL, RUST_LITERAL,
@@ -176,6 +179,27 @@ fn faults_of_literals_say_where_they_are(rt: HostRuntime) {
         let answer = read_literal(text, *start, *language, *most);
         assert!(rt; answer == Err(*fault), "{text:?}: {answer:?}");
     }
+}
+
+#[test]
+fn a_literal_is_a_number_of_its_type(rt: HostRuntime) {
+    assert!(rt; is_language(RUST) && is_language(JAVA) && is_language(PYTHON));
+    assert!(rt; read_literal_as::<u8>(b"0xff_u8", 0, RUST) == Ok((255, 5)));
+    assert!(rt; read_literal_as::<u8>(b"0x1_00", 0, RUST) == Err(LanguageError::Overflow(5)));
+    assert!(rt; read_literal_as::<i8>(b"127", 0, RUST) == Ok((127, 3)));
+    assert!(rt; read_literal_as::<i8>(b"128", 0, RUST) == Err(LanguageError::Overflow(2)));
+    assert!(rt; read_literal_as::<i64>(b"=017;", 1, JAVA) == Ok((15, 4)));
+    assert!(rt; read_literal_as::<u64>(b"007", 0, PYTHON) == Err(LanguageError::Zero(0)));
+    assert!(rt; read_literal_as::<usize>(b"-1", 0, RUST) == Err(LanguageError::Empty(0)));
+}
+
+#[test]
+fn errors_of_literals_hold_positions(rt: HostRuntime) {
+    assert!(rt; LanguageError::Empty(3).position() == 3);
+    assert!(rt; LanguageError::Overflow(20).position() == 20);
+    assert!(rt; LanguageError::Zero(1).position() == 1);
+    assert!(rt; LanguageError::from(LiteralError::Empty(3)) == LanguageError::Empty(3));
+    assert!(rt; LanguageError::from(LiteralError::Overflow(20)) == LanguageError::Overflow(20));
 }
 
 #[test]

@@ -4,7 +4,9 @@ use super::steps::{Part, Step, assert_part};
 use super::{CONSECUTIVE, INTERNAL, LEADING, TRAILING, UNFLAGGED, bytes_of};
 use crate::slow::is_kept;
 use digit_literals::laws::flags::more_flags_read_the_same;
-use digit_literals::laws::{first_are_significant, first_go_on, too_large_leaves_the_rest};
+use digit_literals::laws::{
+    first_are_significant, first_go_on, greater_reads_more, outcomes_say, too_large_leaves_the_rest,
+};
 use digit_literals::{FirstDigits, outcomes_differ};
 use digit_script::{Answer, Call, Op, same_answer, same_call, same_op, same_part};
 use lexical_digits::iterator::DigitsIter;
@@ -254,6 +256,8 @@ fn laws_over_definitions_may_be_called(rt: HostRuntime) {
     rest_is_left();
     digits_are_rows();
     assert!(rt; is_supported(STANDARD));
+    outcomes_say(b"12", STANDARD);
+    greater_reads_more(b"12", STANDARD);
     too_large_leaves_the_rest();
     first_are_significant(16, 2, 0xff);
     first_go_on(10, 1, 9, FIRST, FIRST);

@@ -109,6 +109,13 @@ fn errors_say_what_and_where(rt: HostRuntime) {
     assert_printed(&rt, rt.alloc(), &ParseError::Empty(3), empty);
     assert_printed(&rt, rt.alloc(), &ParseError::Invalid(0), invalid);
     assert_printed(&rt, rt.alloc(), &ParseError::Overflow(20), overflow);
+    assert!(rt; LiteralError::Empty(3).position() == 3);
+    assert!(rt; LiteralError::Overflow(20).position() == 20);
+    assert!(rt; ParseError::Empty(3).position() == 3);
+    assert!(rt; ParseError::Invalid(0).position() == 0);
+    assert!(rt; ParseError::Overflow(20).position() == 20);
+    assert!(rt; ParseError::from(LiteralError::Empty(3)) == ParseError::Empty(3));
+    assert!(rt; ParseError::from(LiteralError::Overflow(20)) == ParseError::Overflow(20));
     let (value, count) = (u64::MAX / 10, 19);
     let too_large = TooLarge {
         at: 20,

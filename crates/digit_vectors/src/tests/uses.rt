@@ -10,6 +10,7 @@ use digit_uses::drained::{length_without_separators, without_separators};
 use digit_uses::durations::{Cause, Fault as DurationFault, parse_duration};
 use digit_uses::ends::{Parser, component_end, take_through};
 use digit_uses::figures::{Figures, read_figures};
+use digit_uses::geometry::{Geometry, GeometryError, parse_geometry};
 use digit_uses::groups::{GroupsError, read_groups};
 use digit_uses::lexer::{Fault, Token, numbers};
 use digit_uses::literal::{LiteralFault, Suffix, parse_literal};
@@ -17,6 +18,7 @@ use digit_uses::loops::{count_yielded, yields};
 use digit_uses::onward::{
     count_beyond, first_of_both, read_mantissa, read_number, read_past_zeros, read_range, read_wide,
 };
+use digit_uses::own_error::{PercentError, read_percent};
 use digit_uses::remainder::remainder;
 use digit_uses::rest::number_end;
 use digit_uses::validate::{is_integer, validate};
@@ -410,4 +412,39 @@ fn lengths_of_time(rt: HostRuntime) {
     assert!(rt; parse_duration(b"1hx") == Err(DurationFault::NoPart(2, Cause::Empty(2))));
     let answer = parse_duration(b"1s4294967296s");
     assert!(rt; answer == Err(DurationFault::NoPart(2, Cause::TooLarge(11))));
+}
+
+/// The window of this size at this place.
+const WINDOW: Geometry = Geometry {
+    width: 1920,
+    height: 1080,
+    x: 0,
+    y: 24,
+};
+
+/// A text, and the geometry that it is, or why it is none.
+static GEOMETRIES: [(&[u8], Result<Geometry, GeometryError>); 8] = [
+    (b"1920x1080+0+24", Ok(WINDOW)),
+    (b"1920*1080+0+24", Err(GeometryError::Byte(4))),
+    (b"1920x1080+0", Err(GeometryError::Byte(11))),
+    (b"1920x1080+0+24 ", Err(GeometryError::Byte(14))),
+    (b"x1080+0+24", Err(GeometryError::NoDigit(0))),
+    (b"1x2+3+", Err(GeometryError::NoDigit(6))),
+    (b"1x65536+0+0", Err(GeometryError::TooLarge(6))),
+    (b"1x2+3+65536", Err(GeometryError::TooLarge(10))),
+];
+
+#[test]
+fn a_geometry_is_four_fields(rt: HostRuntime) {
+    for (text, wanted) in &GEOMETRIES {
+        let geometry = parse_geometry(text);
+        assert!(rt; geometry == *wanted, "{text:?}: {geometry:?}");
+    }
+}
+
+#[test]
+fn a_field_has_an_error_of_its_own(rt: HostRuntime) {
+    assert!(rt; read_percent(b"1_00%", 0) == Ok((100, 4)));
+    assert!(rt; read_percent(b"a101", 1) == Err(PercentError::Above100(3)));
+    assert!(rt; read_percent(b"a%", 1) == Err(PercentError::NoDigit(1)));
 }
