@@ -6,4 +6,3 @@ pub mod Lexer
 pub mod Literal
 pub mod Loops
 pub mod Money
-pub mod Number

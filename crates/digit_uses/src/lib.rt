@@ -15,7 +15,6 @@ pub mod literal;
 pub mod loops;
 pub mod money;
 pub mod mostly;
-pub mod number;
 pub mod numbers;
 pub mod onward;
 pub mod own_error;

@@ -17,7 +17,6 @@ mod integers;
 mod language_literals;
 mod languages;
 mod laws;
-mod lexed;
 mod lists;
 mod literals;
 mod loans;
