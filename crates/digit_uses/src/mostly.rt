@@ -1,11 +1,13 @@
 //! A word that comes at run time, and is mostly one: code in place for that one, as for a constant
 //! word, and a call for the others.
+//!
+//! Proof by hand: none.
 
-ghost use Rattle.std.specs.Prelude.{IfOk, IsTrue};
+ghost use Rattle.std.specs.Prelude.{◌≡◌, ◌-◌, ◌^◌, IsTrue};
 ghost use Rattle.lexical_format.specs.Word.{is_supported};
 ghost use Rattle.lexical_digits.specs.State.{rule_of};
 ghost use Rattle.lexical_digits.specs.declared.skip.component.Component.TheVariants.{Integer};
-ghost use Rattle.digit_literals.specs.Integers.{IsInteger};
+ghost use Rattle.digit_literals.specs.Integers.{integer_at};
 
 use digit_literals::{LiteralError, read_integer};
 use lexical_format::STANDARD;
@@ -14,7 +16,7 @@ use lexical_format::STANDARD;
 #[inline(always)]
 pub fn read_mostly_standard(text: &[u8], word: u128) -> Result<(u64, usize), LiteralError>
     requires { IsTrue (is_supported word) }
-    ensures { IfOk result (λ read. IsInteger (rule_of word Integer) text.now read.0 read.1) }
+    ensures { result ≡ integer_at (rule_of word Integer) text.now 0 (2 ^ 64 - 1) }
 {
     if word == STANDARD {
         read_integer(text, STANDARD)
@@ -27,7 +29,7 @@ pub fn read_mostly_standard(text: &[u8], word: u128) -> Result<(u64, usize), Lit
 #[inline(never)]
 fn read_by(text: &[u8], word: u128) -> Result<(u64, usize), LiteralError>
     requires { IsTrue (is_supported word) }
-    ensures { IfOk result (λ read. IsInteger (rule_of word Integer) text.now read.0 read.1) }
+    ensures { result ≡ integer_at (rule_of word Integer) text.now 0 (2 ^ 64 - 1) }
 {
     read_integer(text, word)
 }
