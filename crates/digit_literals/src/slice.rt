@@ -80,8 +80,8 @@ pub(super) fn is_inner(text: &[u8], rule: Rule, radix: u32, at: usize) -> bool
     rule.internal && at + 1 < text.len() && char_is_digit_const(text[at + 1], radix)
 }
 
-/// The decimal digit at a position, if one is there, the radix has it, and it is at most `most`. It
-/// is no sign, and no value is before it.
+/// The digit at a position, if one is there, it is at most `most`, and no value is before it.
+/// A digit is no sign.
 #[inline(always)]
 #[tactic(auto, using(std::proofs::lemmas::Option::gets), unfolding(lexical_format::specs::Digits::digit_value))]
 pub(super) fn first_digit(
@@ -99,8 +99,8 @@ pub(super) fn first_digit(
     if before > 0 {
         return None;
     }
-    let digit = u32::from(text.get(at)?.wrapping_sub(b'0'));
-    if digit < 10 && digit < rule.radix && u128::from(digit) <= most {
+    let digit = char_to_digit_const(*text.get(at)?, rule.radix)?;
+    if u128::from(digit) <= most {
         Some(digit)
     } else {
         None
