@@ -1,6 +1,6 @@
 //! The blocks of the page CALLING.md, in its order. `.ci/pages` compares the two.
 
-ghost use Rattle.std.specs.Prelude.{◌≡◌, ℕ, ◌+◌, ◌-◌, ◌^◌, length, Ok, Err, IfOk, IfErr, IfSome, IsTrue, MatchResult};
+ghost use Rattle.std.specs.Prelude.{◌≡◌, ℕ, ◌+◌, ◌-◌, ◌^◌, ◌≤◌, length, Ok, Err, IfOk, IfErr, IfSome, IsTrue, MatchResult};
 ghost use Rattle.std.specs.Float.{binary64};
 ghost use Rattle.lexical_format.specs.Word.{is_supported};
 ghost use Rattle.lexical_digits.specs.State.{rule_of};
@@ -16,7 +16,8 @@ use digit_floats::{FloatError, parse_float};
 use digit_languages::languages::RUST;
 use digit_languages::{LanguageError, Literal, read_literal};
 use digit_literals::{
-    LiteralError, ParseError, parse_number, read_number, read_number_from, stop_from,
+    LiteralError, ParseError, parse_number, read_integer_from, read_number, read_number_from,
+    stop_from,
 };
 use lexical_digits::skip::{Component, Rule};
 use lexical_format::words::PYTHON_LITERAL;
@@ -66,6 +67,29 @@ pub fn read_mask(text: &[u8]) -> Result<Literal, LanguageError>
     ensures { result ≡ literal_at RUST text.now 0 (2 ^ 16 - 1) }
 {
     read_literal(text, 0, RUST, u128::from(u16::MAX))
+}
+
+/// Why there is no percentage.
+#[derive(Clone, Copy, Debug, PartialEq, Eq)]
+pub enum PercentError {
+    NoDigit(usize),
+    Above100(usize),
+}
+
+/// The percentage that begins at `start`, and where it ends: `1_00%` gives `(100, 4)`.
+#[tactic(auto, unfolding(lexical_format::proofs::OnLiterals::lexical_on_literals))]
+pub fn read_percent(line: &[u8], start: usize) -> Result<(u8, usize), PercentError>
+    requires { start ≤ length line.now }
+    ensures ok { let r = rule_of PYTHON_LITERAL Integer in
+        IfOk result (λ percent. integer_at r line.now start 100 ≡ Ok percent) }
+    ensures none { let r = rule_of PYTHON_LITERAL Integer in IfErr result (λ _.
+        (percent : ℕ × ℕ) → integer_at r line.now start 100 ≡ Ok percent → ⊥) }
+{
+    match read_integer_from(line, PYTHON_LITERAL, start, 100) {
+        Ok((percent, end)) => Ok((percent as u8, end)),
+        Err(LiteralError::Empty(at)) => Err(PercentError::NoDigit(at)),
+        Err(LiteralError::Overflow(at)) => Err(PercentError::Above100(at)),
+    }
 }
 
 /// Radix 16, and `'` between digits.

@@ -17,7 +17,6 @@ pub mod money;
 pub mod mostly;
 pub mod numbers;
 pub mod onward;
-pub mod own_error;
 pub mod readme;
 pub mod remainder;
 pub mod rest;

@@ -5,6 +5,7 @@ use digit_languages::{LanguageError, Literal};
 use digit_literals::{LiteralError, TooLarge};
 use digit_script::{Answer, Call, Op, Part};
 use digit_uses::back::try_exponent;
+use digit_uses::calling::{PercentError, read_percent};
 use digit_uses::calls::{make_calls, pass_number};
 use digit_uses::drained::{length_without_separators, without_separators};
 use digit_uses::durations::{Cause, Fault as DurationFault, parse_duration};
@@ -18,7 +19,6 @@ use digit_uses::loops::{count_yielded, yields};
 use digit_uses::onward::{
     count_beyond, first_of_both, read_mantissa, read_number, read_past_zeros, read_range, read_wide,
 };
-use digit_uses::own_error::{PercentError, read_percent};
 use digit_uses::remainder::remainder;
 use digit_uses::rest::number_end;
 use digit_uses::validate::{is_integer, validate};
