@@ -8,7 +8,7 @@ mod First
 mod Huge
 mod Kept
 mod Mantissas
-mod Numbers
+pub mod Numbers
 mod Product
 mod Rows
 mod Signs

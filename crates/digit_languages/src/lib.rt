@@ -6,7 +6,9 @@ pub mod languages;
 mod literal;
 
 pub use self::language::{FirstZero, Language, is_language};
-pub use self::literal::{LanguageError, Literal, read_literal, read_literal_as};
+pub use self::literal::{
+    LanguageError, Literal, plain_word, prefix_word, read_literal, read_literal_as,
+};
 
 #[cfg(test)]
 mod tests;

@@ -97,10 +97,11 @@ fn has_prefix(language: Language, text: &[u8], start: usize, letter: u8) -> bool
             || (language.upper && stands(text, start + 1, letter - 32)))
 }
 
-/// The word that a prefix at the start says.
+/// The word that a prefix at the start says. Requires that the start is within the text and the
+/// language's words are supported.
 #[inline(always)]
 #[tactic(auto, using(std::proofs::lemmas::Option::gets))]
-fn prefix_word(language: Language, text: &[u8], start: usize) -> Option<u128>
+pub fn prefix_word(language: Language, text: &[u8], start: usize) -> Option<u128>
     requires language { IsLanguage language }
     requires within { start ≤ length text.now }
     ensures is { result ≡ prefix_word language text.now start }
@@ -118,9 +119,10 @@ fn prefix_word(language: Language, text: &[u8], start: usize) -> Option<u128>
     }
 }
 
-/// The word of a literal without a prefix.
+/// The word of a literal without a prefix that begins at the start: a first `0` may say octal.
+/// Requires that the language's words are supported.
 #[inline(always)]
-fn plain_word(language: Language, text: &[u8], start: usize) -> u128
+pub fn plain_word(language: Language, text: &[u8], start: usize) -> u128
     requires { IsLanguage language }
     ensures is { result ≡ plain_word language text.now start }
     ensures supported { IsTrue (is_supported result) }

@@ -1,0 +1,61 @@
+-- When an integer is the `0` at its start alone.
+use Rattle.std.proofs.Common.{◌≡◌, ℕ, ◌-◌, ◌^◌, ◌<◌, true, false, List, length, arith}
+use Rattle.std.specs.Prelude.{Err, is_some}
+use Rattle.std.proofs.lemmas.Bool.Decides.{nat_tests}
+use Rattle.digit_languages.specs.declared.language.Language.{Language}
+use Rattle.digit_languages.specs.Literals.{prefix_word, word_at, digits_at, refuses}
+use Rattle.digit_languages.specs.declared.language.FirstZero.TheVariants.{Zeros}
+use Rattle.lexical_digits.specs.declared.skip.component.Component.TheVariants.{Integer}
+use Rattle.lexical_digits.specs.State.{rule_of}
+use Rattle.digit_literals.specs.Integers.{integer_at}
+use Rattle.digit_literals.specs.declared.LiteralError.TheVariants.{Overflow}
+use Rattle.digit_literals.specs.Numbers.{stands}
+use Rattle.digit_numbers.proofs.Large.{has_value, has_digits}
+use Rattle.digit_numbers.specs.Numbers.{literal_digits, literal_value, literal_end, is_zero_alone}
+
+module _ (l : Language) (text : List ℕ) (at : ℕ) where
+  pub after_prefix : is_some (prefix_word l text at) ≡ true → 0 < length (literal_digits l text at)
+      → is_zero_alone l text at ≡ false
+  unfolding is_zero_alone
+  after_prefix p some = grind (arith, nat_tests)
+
+  pub bare_prefix : is_some (prefix_word l text at) ≡ true → length (literal_digits l text at) ≡ 0
+      → is_zero_alone l text at ≡ true
+  unfolding is_zero_alone
+  bare_prefix p none = grind (arith, nat_tests)
+
+  pub refused : is_some (prefix_word l text at) ≡ false → 0 < length (literal_digits l text at)
+      → refuses l text at (literal_value l text at) (literal_end l text at) ≡ true
+      → is_zero_alone l text at ≡ true
+  unfolding is_zero_alone
+  refused p some r = grind (arith, nat_tests)
+
+  pub allowed : is_some (prefix_word l text at) ≡ false
+      → refuses l text at (literal_value l text at) (literal_end l text at) ≡ false
+      → is_zero_alone l text at ≡ false
+  unfolding is_zero_alone
+  allowed p r = grind (arith, nat_tests)
+
+  pub no_digit : is_some (prefix_word l text at) ≡ false → length (literal_digits l text at) ≡ 0
+      → is_zero_alone l text at ≡ false
+  unfolding is_zero_alone
+  no_digit p none = grind (arith, nat_tests)
+
+  module _ (over : ℕ)
+      (h : integer_at (rule_of (word_at l text at) Integer) text (digits_at l text at) (2 ^ 128 - 1)
+      ≡ Err (Overflow over)) where
+    pub large_value : 0 < literal_value l text at
+    large_value =
+        has_value (rule_of (word_at l text at) Integer) text (digits_at l text at) (2 ^ 128 - 1) over h
+
+    pub large_digits : 0 < length (literal_digits l text at)
+    large_digits =
+        has_digits (rule_of (word_at l text at) Integer) text (digits_at l text at) (2 ^ 128 - 1) over h
+
+  pub refuses_more : (value end : ℕ) → l.first_zero ≡ Zeros → stands text at 48 ≡ true → 0 < value
+      → refuses l text at value end ≡ true
+  refuses_more value end z first some = rw (first, z) (grind (arith, nat_tests))
+
+pub ruleset zeros = (after_prefix, bare_prefix, refused, allowed, no_digit)
+
+pub ruleset larges = (large_value, large_digits, refuses_more)

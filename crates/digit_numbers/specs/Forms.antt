@@ -1,0 +1,54 @@
+-- What a form says.
+use Rattle.std.specs.Prelude.{ℕ, Bool, true, false, ◌==◌, ◌||◌, nat_le, None}
+use Rattle.std.specs.Char.{is_ascii_alphabetic}
+use Rattle.digit_floats.specs.Float.{IsDecimal}
+use Rattle.digit_languages.specs.Words.{IsLanguage}
+use Rattle.digit_languages.specs.declared.language.Language.{Language}
+use Rattle.digit_numbers.specs.declared.form.Form.{Form}
+use Rattle.digit_numbers.specs.declared.form.Signs.{Signs}
+use Rattle.digit_numbers.specs.declared.form.Signs.TheVariants.{Absent, Minus, Either}
+use Rattle.digit_numbers.specs.declared.form.Whole.{Whole}
+use Rattle.digit_numbers.specs.declared.form.Whole.TheVariants.{Integer, LargeIsFloat, Float}
+use Rattle.digit_numbers.specs.declared.form.AfterPoint.{AfterPoint}
+use Rattle.digit_numbers.specs.declared.form.AfterPoint.TheVariants.{Anything, NoPoint, NoPointOrName}
+
+-- its words are supported, and its floats are decimal
+pub record IsForm (f : Form) : Type 0 where
+  pub language : IsLanguage f.integers
+  pub decimal : IsDecimal f.integers.decimal
+
+-- whether a byte is a sign that a number may have
+abbrev pub is_minus_of : Signs → ℕ → Bool
+is_minus_of Absent byte = false
+is_minus_of Minus byte = byte == 45
+is_minus_of Either byte = byte == 45
+
+abbrev pub is_plus_of : Signs → ℕ → Bool
+is_plus_of Absent byte = false
+is_plus_of Minus byte = false
+is_plus_of Either byte = byte == 43
+
+-- whether a byte may begin a name: `_`, a letter, or above ASCII
+abbrev pub begins_name : ℕ → Bool
+begins_name byte = byte == 95 || is_ascii_alphabetic byte || nat_le 128 byte
+
+-- whether a byte after a point says that it is none
+abbrev pub is_barred : AfterPoint → ℕ → Bool
+is_barred Anything byte = false
+is_barred NoPoint byte = byte == 46
+is_barred NoPointOrName byte = byte == 46 || begins_name byte
+
+-- whether digits by themselves are a float: always, and if they are many
+abbrev pub is_always_float : Whole → Bool
+is_always_float Integer = false
+is_always_float LargeIsFloat = false
+is_always_float Float = true
+
+abbrev pub may_be_float : Whole → Bool
+may_be_float Integer = false
+may_be_float LargeIsFloat = true
+may_be_float Float = true
+
+-- a language without its prefixes
+abbrev pub unprefixed : Language → Language
+unprefixed l = record l { binary = None; octal = None; hexadecimal = None }

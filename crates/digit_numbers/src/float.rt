@@ -1,0 +1,237 @@
+// The float at a position, by a form.
+
+ghost use Rattle.std.specs.Prelude.{◌≡◌, Err, ◌+◌, ◌-◌, ◌*◌, ◌^◌, ◌++◌, ◌<◌, ◌≤◌, false, true, min, length, [], None, IsTrue, IfSome, MatchOption, ◌&&◌, not, nat_lt};
+ghost use Rattle.std.specs.Float.{NotNan};
+ghost use Rattle.std.specs.Float.Ieee.{round};
+ghost use Rattle.std.specs.Float.Numeral.{nearest_float};
+ghost use Rattle.std.specs.Str.Parse.{digits_value};
+ghost use Rattle.lexical_digits.specs.declared.skip.component.Component.TheVariants.{Integer};
+ghost use Rattle.lexical_digits.specs.State.{rule_of};
+ghost use Rattle.digit_literals.specs.Integers.{integer_at};
+ghost use Rattle.digit_literals.specs.declared.LiteralError.TheVariants.{Overflow};
+ghost use Rattle.digit_floats.specs.Bytes.{stands, is_point, is_mark};
+ghost use Rattle.digit_floats.specs.Float.{digits_from, digits_end, mantissa_end, fraction_digits, exponent_digits, exponent_end, exponent_negative, parts_at};
+ghost use Rattle.digit_floats.specs.Parts.{integer_of, fraction_of, IsMantissa};
+ghost use Rattle.digit_numbers.specs.Forms.{IsForm, is_barred};
+ghost use Rattle.digit_numbers.specs.Numbers.{has_point, allows_point, has_exponent, has_more_zeros, is_float, IsFloatAt, whole_parts, whole_end};
+ghost use Rattle.digit_numbers.specs.Reads.{IsMantissaAt};
+
+use super::form::Form;
+use super::integer::is_zero;
+use digit_floats::{Float, Mantissa, Power, read_exponent, read_mantissa, round_parts};
+
+/// Whether a byte is at a position.
+#[inline(always)]
+fn has_byte(text: &[u8], at: usize, byte: u8) -> bool
+    ensures is { result ≡ stands (is_point byte) text.now at }
+{
+    match text.get(at) {
+        Some(there) => *there == byte,
+        None => false,
+    }
+}
+
+/// Whether the mark of an exponent is at a position.
+#[inline(always)]
+fn has_mark(text: &[u8], at: usize, mark: u8) -> bool
+    ensures is { result ≡ stands (is_mark mark) text.now at }
+{
+    match text.get(at) {
+        Some(byte) => *byte == mark || *byte == mark.to_ascii_uppercase(),
+        None => false,
+    }
+}
+
+/// Whether a byte is at a position that may not follow a point.
+#[inline(always)]
+fn has_barred(text: &[u8], form: Form, at: usize) -> bool
+    ensures is { result ≡ stands (is_barred form.after_point) text.now at }
+{
+    match text.get(at) {
+        Some(byte) => form.after_point.is_barred(*byte),
+        None => false,
+    }
+}
+
+/// Whether a point that follows the integer counts.
+#[inline(always)]
+fn allows_point(text: &[u8], form: Form, mantissa: Mantissa) -> bool
+    requires is { IsMantissaAt form text.now mantissa }
+    ensures { result ≡ allows_point form text.now mantissa.start }
+{
+    if mantissa.digits == mantissa.places && form.needs_integer {
+        return false;
+    }
+    mantissa.places > 0 || !(form.needs_fraction || has_barred(text, form, mantissa.whole_end + 1))
+}
+
+/// Whether more digits follow a first `0`, which the form refuses.
+#[inline(always)]
+fn has_more_zeros(text: &[u8], form: Form, mantissa: Mantissa) -> bool
+    requires is { IsMantissaAt form text.now mantissa }
+    ensures { result ≡ has_more_zeros form text.now mantissa.start }
+{
+    !form.float_zeros && is_zero(text, mantissa.start) && mantissa.start + 1 < mantissa.whole_end
+}
+
+/// The exponent after a mantissa, if there is one.
+#[inline(always)]
+fn read_power(text: &[u8], form: Form, mantissa: Mantissa) -> Option<Power>
+    requires form { IsForm form }
+    requires is { IsMantissaAt form text.now mantissa }
+    ensures is { MatchOption result (has_exponent form text.now mantissa.start ≡ false)
+        (λ p. has_exponent form text.now mantissa.start ≡ true) }
+    ensures value { IfSome result (λ p. p.value ≡ min (digits_value 10
+        (exponent_digits form.integers.decimal text.now form.marks.exponent mantissa.end))
+        (2 ^ 64 - 1)) }
+    ensures negative { IfSome result (λ p. p.negative
+        ≡ exponent_negative form.integers.decimal text.now form.marks.exponent mantissa.end) }
+    ensures end { IfSome result (λ p. p.end
+        ≡ exponent_end form.integers.decimal text.now form.marks.exponent mantissa.end) }
+    ensures within { IfSome result (λ p. (mantissa.end ≤ p.end) × (p.end ≤ length text.now)) }
+{
+    if !has_mark(text, mantissa.end, form.marks.exponent) {
+        return None;
+    }
+    read_exponent(
+        text,
+        form.integers.decimal,
+        mantissa.end,
+        form.marks.exponent,
+    )
+    .ok()
+}
+
+/// The float of a mantissa that is at a position, and where it ends, if there is one.
+#[inline(always)]
+#[tactic(auto, using(digit_floats::proofs::Numbers::round_number, crate::proofs::Alone::alone), unfolding(crate::specs::Numbers::is_float))]
+pub fn read_float<F: Float>(
+    text: &[u8],
+    form: Form,
+    negative: bool,
+    mantissa: Mantissa,
+) -> Option<(F, usize)>
+    requires form { IsForm form }
+    requires is { IsMantissaAt form text.now mantissa }
+    ensures is { MatchOption result (is_float form text.now mantissa.start ≡ false)
+        (λ r. IsFloatAt form text.now mantissa.start negative F.format (F.value r.0) r.1) }
+    ensures number { IfSome result (λ r. NotNan (F.value r.0)) }
+    ensures end { IfSome result (λ r. (mantissa.start < r.1) × (r.1 ≤ length text.now)) }
+{
+    if mantissa.digits == 0 || has_more_zeros(text, form, mantissa) {
+        return None;
+    }
+    let is_pointed = has_byte(text, mantissa.whole_end, form.marks.point);
+    if is_pointed && !allows_point(text, form, mantissa) {
+        return None;
+    }
+    match read_power(text, form, mantissa) {
+        Some(power) => {
+            let x = round_parts::<F>(text, negative, mantissa, power);
+            Some((x, power.end))
+        }
+        None if is_pointed => {
+            let x = round_pointed::<F>(text, form, negative, mantissa);
+            Some((x, mantissa.end))
+        }
+        None => None,
+    }
+}
+
+/// The float of a mantissa without an exponent.
+#[inline(always)]
+fn round_alone<F: Float>(text: &[u8], negative: bool, mantissa: Mantissa) -> F
+    requires is { IsMantissa text.now mantissa }
+    ensures value { F.value result ≡ round F.format negative
+        (digits_value 10 (integer_of text.now mantissa ++ fraction_of text.now mantissa))
+        (10 ^ mantissa.places) }
+{
+    let power = Power {
+        negative: false,
+        value: 0,
+        end: mantissa.end,
+    };
+    round_parts::<F>(text, negative, mantissa, power)
+}
+
+/// The float of a mantissa that no exponent follows.
+#[inline(always)]
+#[tactic(auto, using(digit_floats::proofs::Numbers::round_number, crate::proofs::Alone::alone))]
+fn round_pointed<F: Float>(text: &[u8], form: Form, negative: bool, mantissa: Mantissa) -> F
+    requires is { IsMantissaAt form text.now mantissa }
+    requires none { has_exponent form text.now mantissa.start ≡ false }
+    ensures value { F.value result ≡ nearest_float F.format negative
+        (parts_at form.integers.decimal text.now form.marks mantissa.start) }
+    ensures number { NotNan (F.value result) }
+{
+    round_alone::<F>(text, negative, mantissa)
+}
+
+/// A byte that isn't at a position.
+#[inline(always)]
+fn other_byte(text: &[u8], at: usize) -> u8
+    ensures { stands (is_point result) text.now at ≡ false }
+{
+    match text.get(at) {
+        Some(0) => 1,
+        _ => 0,
+    }
+}
+
+/// The digits before a point.
+#[inline(always)]
+#[tactic(auto, using(std::proofs::lemmas::List::nil_from_length, crate::proofs::Alone::no_fraction))]
+fn whole_of(text: &[u8], form: Form, mantissa: Mantissa) -> Mantissa
+    requires form { IsForm form }
+    requires is { IsMantissaAt form text.now mantissa }
+    ensures is { IsMantissa text.now result }
+    ensures integer { integer_of text.now result
+        ≡ digits_from form.integers.decimal text.now Integer mantissa.start }
+    ensures fraction { fraction_of text.now result ≡ [] }
+{
+    if mantissa.places == 0 {
+        return mantissa;
+    }
+    // no point is found
+    let other = other_byte(text, mantissa.whole_end);
+    read_mantissa(text, form.integers.decimal, mantissa.start, other)
+}
+
+/// The float that digits are by themselves.
+#[inline(always)]
+#[tactic(auto, using(digit_floats::proofs::Numbers::round_number, crate::proofs::Alone::alone))]
+pub fn round_whole<F: Float>(text: &[u8], form: Form, negative: bool, mantissa: Mantissa) -> F
+    requires form { IsForm form }
+    requires is { IsMantissaAt form text.now mantissa }
+    ensures value { F.value result ≡ nearest_float F.format negative
+        (whole_parts form text.now mantissa.start) }
+    ensures number { NotNan (F.value result) }
+{
+    let whole = whole_of(text, form, mantissa);
+    round_alone::<F>(text, negative, whole)
+}
+
+/// The float that large digits are, and where it ends.
+#[cold]
+#[tactic(auto, using(crate::proofs::Large::has_digits), unfolding(digit_floats::specs::Float::components))]
+pub fn read_large<F: Float>(
+    text: &[u8],
+    form: Form,
+    negative: bool,
+    mantissa: Mantissa,
+    over: usize,
+) -> (F, usize)
+    requires form { IsForm form }
+    requires is { IsMantissaAt form text.now mantissa }
+    requires large { integer_at (rule_of form.integers.decimal Integer) text.now mantissa.start
+        (2 ^ 128 - 1) ≡ Err (Overflow over) }
+    ensures value { F.value result.0 ≡ nearest_float F.format negative
+        (whole_parts form text.now mantissa.start) }
+    ensures number { NotNan (F.value result.0) }
+    ensures ends { result.1 ≡ whole_end form text.now mantissa.start }
+    ensures onward { mantissa.start < result.1 }
+    ensures within { result.1 ≤ length text.now }
+{
+    let x = round_whole::<F>(text, form, negative, mantissa);
+    (x, mantissa.whole_end)
+}

@@ -1,0 +1,146 @@
+//! What a form says of its numbers.
+
+ghost use Rattle.std.specs.Prelude.{◌≡◌, IsTrue};
+ghost use Rattle.digit_floats.specs.Float.{IsDecimal};
+ghost use Rattle.digit_numbers.specs.Forms.{IsForm, is_minus_of, is_plus_of, is_barred, begins_name, is_always_float, may_be_float};
+
+use digit_floats::Marks;
+use digit_languages::{Language, is_language};
+use lexical_format::NumberFormat;
+
+/// How a language or a data format writes numbers: a sign, and an integer or a float.
+#[derive(Clone, Copy, Debug, PartialEq, Eq)]
+pub struct Form {
+    /// The signs that a number may begin with.
+    pub signs: Signs,
+    /// How integers are written. Their decimal word is the word of floats too.
+    pub integers: Language,
+    /// Whether a sign may be before a prefix.
+    pub signed_prefix: bool,
+    /// What digits without a point and an exponent are.
+    pub whole: Whole,
+    /// The byte of the point, and the letter of the exponent.
+    pub marks: Marks,
+    /// Whether a point needs a digit before it.
+    pub needs_integer: bool,
+    /// Whether a point needs a digit after it.
+    pub needs_fraction: bool,
+    /// What may not follow a point that no digit follows.
+    pub after_point: AfterPoint,
+    /// Whether more digits may follow the first `0` of a float.
+    pub float_zeros: bool,
+}
+
+/// The signs that a number may begin with.
+#[derive(Clone, Copy, Debug, PartialEq, Eq)]
+pub enum Signs {
+    /// None: a minus is an operator.
+    Absent,
+    /// `-`.
+    Minus,
+    /// `-` and `+`.
+    Either,
+}
+
+/// What digits without a point and an exponent are.
+#[derive(Clone, Copy, Debug, PartialEq, Eq)]
+pub enum Whole {
+    /// An integer. Above 128 bits it is refused.
+    Integer,
+    /// An integer. Above 128 bits it is a float, if its first digit isn't 0.
+    LargeIsFloat,
+    /// A float, by the decimal word. There are no prefixes.
+    Float,
+}
+
+/// What may not follow a point that no digit follows. Otherwise the number ends before it.
+#[derive(Clone, Copy, Debug, PartialEq, Eq)]
+pub enum AfterPoint {
+    /// Anything may follow.
+    Anything,
+    /// A second point, as in the range `1..2`.
+    NoPoint,
+    /// A second point, or what begins a name, as in `1.max(2)`: `_`, a letter, a byte above ASCII.
+    NoPointOrName,
+}
+
+impl Signs {
+    /// Whether a byte is a minus that a number may have.
+    #[inline(always)]
+    pub(crate) fn is_minus(self, byte: u8) -> bool
+        ensures { result ≡ is_minus_of self byte }
+    {
+        match self {
+            Signs::Absent => false,
+            Signs::Minus | Signs::Either => byte == b'-',
+        }
+    }
+
+    /// Whether a byte is a plus that a number may have.
+    #[inline(always)]
+    pub(crate) fn is_plus(self, byte: u8) -> bool
+        ensures { result ≡ is_plus_of self byte }
+    {
+        match self {
+            Signs::Absent | Signs::Minus => false,
+            Signs::Either => byte == b'+',
+        }
+    }
+}
+
+impl Whole {
+    /// Whether digits are always a float.
+    #[inline(always)]
+    pub(crate) fn is_float(self) -> bool
+        ensures { result ≡ is_always_float self }
+    {
+        match self {
+            Whole::Integer | Whole::LargeIsFloat => false,
+            Whole::Float => true,
+        }
+    }
+
+    /// Whether a large integer is a float.
+    #[inline(always)]
+    pub(crate) fn may_be_float(self) -> bool
+        ensures { result ≡ may_be_float self }
+    {
+        match self {
+            Whole::Integer => false,
+            Whole::LargeIsFloat | Whole::Float => true,
+        }
+    }
+}
+
+/// Whether a byte may begin a name.
+#[inline(always)]
+fn begins_name(byte: u8) -> bool
+    ensures { result ≡ begins_name byte }
+{
+    byte == b'_' || byte.is_ascii_alphabetic() || byte >= 128
+}
+
+impl AfterPoint {
+    /// Whether a byte after a point says that it is none.
+    #[inline(always)]
+    pub(crate) fn is_barred(self, byte: u8) -> bool
+        ensures { result ≡ is_barred self byte }
+    {
+        match self {
+            AfterPoint::Anything => false,
+            AfterPoint::NoPoint => byte == b'.',
+            AfterPoint::NoPointOrName => byte == b'.' || begins_name(byte),
+        }
+    }
+}
+
+/// Whether the words of a form are supported, and its floats are decimal, as
+/// [`read_number_of`](crate::read_number_of) requires.
+#[inline(always)]
+pub fn is_form(form: Form) -> bool
+    ensures is { IsTrue result → IsForm form }
+    ensures only { IsForm form → IsTrue result }
+{
+    let format = NumberFormat::new(form.integers.decimal);
+    is_language(form.integers) && format.mantissa_radix() == 10 && format.exponent_radix() == 10
+}

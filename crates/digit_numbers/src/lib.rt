@@ -1,0 +1,13 @@
+//! A number as a language or a data format writes it: an integer or a float, and where it ends.
+#![tactic(auto)]
+
+mod float;
+mod form;
+pub mod forms;
+mod integer;
+mod number;
+#[cfg(test)]
+mod tests;
+
+pub use self::form::{AfterPoint, Form, Signs, Whole, is_form};
+pub use self::number::{Number, NumberError, parse_number_of, read_number_of};

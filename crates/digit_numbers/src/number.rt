@@ -1,0 +1,214 @@
+//! The number at a position.
+
+ghost use Rattle.std.specs.Prelude.{◌≡◌, ◌+◌, ◌<◌, ◌≤◌, ◌&&◌, not, if◌then◌else◌, Some, length, false, IfOk, IfErr, OnOk};
+ghost use Rattle.std.specs.Float.{NotNan};
+ghost use Rattle.digit_floats.specs.Bytes.{stands};
+ghost use Rattle.digit_numbers.specs.Forms.{IsForm, unprefixed};
+ghost use Rattle.digit_numbers.specs.Numbers.{is_negative, has_sign, past_sign, is_float, IsNumber, IsFault, IsWholeFault, position, message};
+ghost use Rattle.digit_languages.specs.Words.{IsLanguage};
+ghost use Rattle.digit_numbers.specs.Reads.{IsMantissaAt, IsSign};
+
+use super::float::{read_float, read_large, round_whole};
+use super::form::Form;
+use super::integer::{is_zero, read_integer, unprefixed};
+use digit_floats::{Float, Mantissa, read_mantissa};
+use digit_languages::Language;
+use std::error::Error;
+use std::fmt;
+
+/// A number.
+#[derive(Clone, Copy, Debug, PartialEq)]
+pub enum Number<F> {
+    Integer {
+        /// Whether a minus is before it: also of `-0`.
+        negative: bool,
+        magnitude: u128,
+        /// The word by which its digits were read. It has their radix.
+        word: u128,
+    },
+    /// The nearest float. `-0.0` is the negative zero, and what is too large is infinite.
+    Float(F),
+}
+
+/// Why there is no number. A position counts bytes from the start of the text, from 0.
+#[derive(Clone, Copy, Debug, PartialEq, Eq)]
+pub enum NumberError {
+    /// No number begins at the start: after its sign, if it has one, this position has no digit.
+    Empty(usize),
+    /// With the digit at this position the integer is above 128 bits.
+    Overflow(usize),
+    /// The byte at this position is no part of the number before it.
+    Invalid(usize),
+}
+
+impl fmt::Display for NumberError {
+    ghost output = { λ e. Some (message e) };
+
+    fn fmt<W: fmt::Write>(&self, f: &mut fmt::Formatter<W>) -> fmt::Result {
+        match *self {
+            NumberError::Empty(at) => write!(f, "there is no number at {at}"),
+            NumberError::Overflow(at) => {
+                write!(f, "the number is too large with the digit at {at}")
+            }
+            NumberError::Invalid(at) => write!(f, "the byte at {at} is no part of the number"),
+        }
+    }
+}
+
+impl Error for NumberError {}
+
+impl NumberError {
+    /// The position that the error holds.
+    pub fn position(self) -> usize
+        ensures { result ≡ position self }
+    {
+        match self {
+            NumberError::Empty(at) | NumberError::Overflow(at) | NumberError::Invalid(at) => at,
+        }
+    }
+}
+
+/// A sign.
+#[derive(Clone, Copy)]
+struct Sign {
+    is_there: bool,
+    is_minus: bool,
+    /// The position after it.
+    end: usize,
+}
+
+/// The sign at a start, if the form has one there.
+#[inline(always)]
+#[tactic(auto, unfolding(crate::specs::Numbers::past_sign))]
+fn read_sign(text: &[u8], form: Form, start: usize) -> Sign
+    requires { start ≤ length text.now }
+    ensures { IsSign form text.now start result }
+{
+    let Some(byte) = text.get(start) else {
+        return Sign {
+            is_there: false,
+            is_minus: false,
+            end: start,
+        };
+    };
+    let is_minus = form.signs.is_minus(*byte);
+    let is_there = is_minus || form.signs.is_plus(*byte);
+    let end = if is_there { start + 1 } else { start };
+    Sign {
+        is_there,
+        is_minus,
+        end,
+    }
+}
+
+/// The form's integers after a sign, or without one.
+#[inline(always)]
+fn language_of(form: Form, is_signed: bool) -> Language
+    requires { IsForm form }
+    ensures is { result
+        ≡ (if is_signed && not form.signed_prefix then unprefixed form.integers else form.integers) }
+    ensures serves { IsLanguage result }
+{
+    if is_signed && !form.signed_prefix {
+        unprefixed(form.integers)
+    } else {
+        form.integers
+    }
+}
+
+/// The digits of a number at a position, after any sign.
+#[inline(always)]
+fn read_digits(text: &[u8], form: Form, at: usize) -> Mantissa
+    requires form { IsForm form }
+    requires within { at ≤ length text.now }
+    ensures is { IsMantissaAt form text.now result }
+    ensures start { result.start ≡ at }
+{
+    read_mantissa(text, form.integers.decimal, at, form.marks.point)
+}
+
+/// The number that digits are without a point and an exponent.
+#[inline(always)]
+fn read_whole<F: Float>(
+    text: &[u8],
+    start: usize,
+    form: Form,
+    sign: Sign,
+    mantissa: Mantissa,
+) -> Result<(Number<F>, usize), NumberError>
+    requires within { start ≤ length text.now }
+    requires form { IsForm form }
+    requires sign { IsSign form text.now start sign }
+    requires digits { IsMantissaAt form text.now mantissa }
+    requires start { mantissa.start ≡ sign.end }
+    requires no_float { is_float form text.now sign.end ≡ false }
+    ensures ok { IfOk result (λ r. IsNumber form text.now start F.format F.value r.0 r.1) }
+    ensures none { IfErr result (IsFault form text.now start) }
+    ensures end { IfOk result (λ r. (start < r.1) × (r.1 ≤ length text.now)) }
+{
+    if form.whole.is_float() {
+        if mantissa.digits == mantissa.places {
+            return Err(NumberError::Empty(sign.end));
+        }
+        let x = round_whole::<F>(text, form, sign.is_minus, mantissa);
+        return Ok((Number::Float(x), mantissa.whole_end));
+    }
+    match read_integer(text, language_of(form, sign.is_there), sign.end) {
+        Ok(read) => {
+            let number = Number::Integer {
+                negative: sign.is_minus,
+                magnitude: read.value,
+                word: read.word,
+            };
+            Ok((number, read.end))
+        }
+        Err(NumberError::Overflow(over)) if form.whole.may_be_float() && !is_zero(text, sign.end) =>
+            {
+                let (x, end) = read_large::<F>(text, form, sign.is_minus, mantissa, over);
+                Ok((Number::Float(x), end))
+            }
+        Err(error) => Err(error),
+    }
+}
+
+/// The number of a form that begins at `start`: the longest prefix of the rest of the text that is
+/// one. Where it ends is the position after it. A point or an exponent that is no part of a number
+/// ends it: `1.` and `1e` of JSON are `1`. Requires that `start` is within the text, and that the
+/// form's words serve ([`is_form`](crate::is_form)).
+///
+/// ```text
+/// of JSON, `-1.5e3,`: Float(-1500.0), 6      `01`: Integer 0, 1      `.5`: Err(Empty(0))
+/// ```
+#[inline(always)]
+pub fn read_number_of<F: Float>(
+    text: &[u8],
+    start: usize,
+    form: Form,
+) -> Result<(Number<F>, usize), NumberError>
+    requires within { start ≤ length text.now }
+    requires form { IsForm form }
+    ensures ok { IfOk result (λ r. IsNumber form text.now start F.format F.value r.0 r.1) }
+    ensures none { IfErr result (IsFault form text.now start) }
+    ensures end { IfOk result (λ r. (start < r.1) × (r.1 ≤ length text.now)) }
+{
+    let sign = read_sign(text, form, start);
+    let mantissa = read_digits(text, form, sign.end);
+    if let Some((x, end)) = read_float::<F>(text, form, sign.is_minus, mantissa) {
+        return Ok((Number::Float(x), end));
+    }
+    read_whole::<F>(text, start, form, sign, mantissa)
+}
+
+/// The number of a form that a text is, as by [`read_number_of`].
+#[inline(always)]
+pub fn parse_number_of<F: Float>(text: &[u8], form: Form) -> Result<Number<F>, NumberError>
+    requires { IsForm form }
+    ensures ok { IfOk result (λ n. IsNumber form text.now 0 F.format F.value n (length text.now)) }
+    ensures none { IfErr result (IsWholeFault form text.now 0 F.format F.value) }
+{
+    let (number, end) = read_number_of::<F>(text, 0, form)?;
+    if end < text.len() {
+        return Err(NumberError::Invalid(end));
+    }
+    Ok(number)
+}

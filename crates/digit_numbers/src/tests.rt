@@ -1,0 +1,81 @@
+//! Numbers as RFC 8259 and the grammars of languages have them. Values are worked out by hand.
+
+use super::forms::{JSON, PYTHON, RUST};
+use super::{Form, Number, NumberError, is_form, parse_number_of, read_number_of};
+use std::process::Abort;
+
+/// An integer's sign and magnitude, or a float.
+#[derive(Clone, Copy, Debug, PartialEq)]
+enum Value {
+    Int(bool, u128),
+    Real(f64),
+    Fault(NumberError),
+}
+
+use Value::{Fault, Int, Real};
+
+/// A form, a text, and the number that it begins with and its end.
+static NUMBERS: [(Form, &[u8], Value, usize); 24] = [
+    (JSON, b"0", Int(false, 0), 1),
+    (JSON, b"-0", Int(true, 0), 2),
+    (JSON, b"-0.0", Real(-0.0), 4),
+    (JSON, b"-122.4194155,", Real(-122.4194155), 12),
+    (JSON, b"1e3", Real(1000.0), 3),
+    (JSON, b"1E+3]", Real(1000.0), 4),
+    (JSON, b"01", Int(false, 0), 1),
+    (JSON, b"00.5", Int(false, 0), 1),
+    (JSON, b"0.5", Real(0.5), 3),
+    (JSON, b"1.", Int(false, 1), 1),
+    (JSON, b"1.e1", Int(false, 1), 1),
+    (JSON, b"1e", Int(false, 1), 1),
+    (JSON, b"1.5e+", Real(1.5), 3),
+    (JSON, b".5", Fault(NumberError::Empty(0)), 0),
+    (JSON, b"+1", Fault(NumberError::Empty(0)), 0),
+    (JSON, b"-", Fault(NumberError::Empty(1)), 0),
+    (RUST, b"1..2", Int(false, 1), 1),
+    (RUST, b"1.max(2)", Int(false, 1), 1),
+    (RUST, b"1.;", Real(1.0), 2),
+    (RUST, b"0xff.5", Int(false, 255), 4),
+    (PYTHON, b"01.5", Real(1.5), 4),
+    (PYTHON, b"012", Int(false, 0), 1),
+    (PYTHON, b"0x", Int(false, 0), 1),
+    (PYTHON, b".5j", Real(0.5), 2),
+];
+
+fn value_of(read: Result<(Number<f64>, usize), NumberError>) -> (Value, usize) {
+    match read {
+        Ok(
+            (
+                Number::Integer {
+                    negative,
+                    magnitude,
+                    word: _,
+                },
+                end,
+            ),
+        ) => (Int(negative, magnitude), end),
+        Ok((Number::Float(x), end)) => (Real(x), end),
+        Err(error) => (Fault(error), 0),
+    }
+}
+
+#[test]
+#[tactic(auto, unfolding(lexical_format::proofs::OnLiterals::lexical_on_literals))]
+fn a_number_ends_where_its_form_says(rt: HostRuntime) {
+    for (form, text, value, end) in NUMBERS {
+        assert!(&rt; is_form(form));
+        let read = value_of(read_number_of::<f64>(text, 0, form));
+        assert!(&rt; read == (value, end), "{text:?}: {read:?}");
+    }
+}
+
+#[test]
+#[tactic(auto, unfolding(lexical_format::proofs::OnLiterals::lexical_on_literals))]
+fn a_large_integer_is_a_float_in_json(rt: HostRuntime) {
+    let text = b"340282366920938463463374607431768211456";
+    let read = parse_number_of::<f64>(text, JSON);
+    assert!(&rt; read == Ok(Number::Float(3.402823669209384634e38)));
+    let read = parse_number_of::<f64>(text, RUST);
+    assert!(&rt; read == Err(NumberError::Overflow(38)));
+    assert!(&rt; parse_number_of::<f64>(b"1e400", JSON) == Ok(Number::Float(1.0 / 0.0)));
+}
