@@ -1,7 +1,7 @@
 //! Hexadecimal digits with `:` between them, of which a fixed number is wanted: the 6 of a colour,
 //! or the 12 of an address.
 //!
-//! Proof by hand: 5 lines, an answer by a lemma for callers.
+//! Proof by hand: 15 lines, an answer for each outcome by lemmas for callers.
 
 ghost use Rattle.std.specs.Prelude.{◌≡◌, ◌≤◌, length, filter, IfOk, IfErr, IsTrue};
 ghost use Rattle.std.specs.Str.Parse.{digits_value};
