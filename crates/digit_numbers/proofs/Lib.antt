@@ -1,3 +1,5 @@
 pub mod Alone
+pub mod Json
+pub mod JsonBytes
 pub mod Large
 pub mod Zeros

@@ -5,6 +5,7 @@ mod float;
 mod form;
 pub mod forms;
 mod integer;
+pub mod laws;
 mod number;
 #[cfg(test)]
 mod tests;

@@ -171,10 +171,12 @@ fn read_whole<F: Float>(
     }
 }
 
-/// The number of a form that begins at `start`: the longest prefix of the rest of the text that is
-/// one. Where it ends is the position after it. A point or an exponent that is no part of a number
-/// ends it: `1.` and `1e` of JSON are `1`. Requires that `start` is within the text, and that the
-/// form's words serve ([`is_form`](crate::is_form)).
+/// The number of a form that begins at `start`, and the position after it: the longest prefix of
+/// the rest of the text that is one. Only an integer that the language refuses for its first zeros
+/// is the first `0`, although more zeros may be a number: `001` of Python is `0`, and ends at 1. A
+/// point or an exponent that is no part of a number ends it: `1.` and `1e` of JSON are `1`.
+/// Requires that `start` is within the text, and that the form's words serve
+/// ([`is_form`](crate::is_form)).
 ///
 /// ```text
 /// of JSON, `-1.5e3,`: Float(-1500.0), 6      `01`: Integer 0, 1      `.5`: Err(Empty(0))

@@ -1,0 +1,405 @@
+-- A number of RFC 8259 and the digits of a text: how far one can reach.
+use Rattle.std.proofs.Common.{◌≡◌, ℕ, ◌+◌, ◌<◌, ◌≤◌, Bool, true, false, Option, Some, None, List, refl, sym, subst, ◌∙◌, ◌⊎◌, inl, inr, arith, slice_get}
+use Rattle.std.specs.Char.{is_ascii_digit}
+use Rattle.std.proofs.lemmas.Bool.{cases_lt}
+use Rattle.std.proofs.lemmas.Bool.Decides.{nat_tests}
+use Rattle.lexical_digits.specs.Cursor.{holds_of}
+use Rattle.digit_floats.specs.Bytes.{stands, is_point, is_minus, is_sign}
+use Rattle.digit_numbers.specs.Json.{is_digit1_9, is_e, is_zero, IsOptional, IsDigits, IsInt, IsFrac, IsExp, IsJsonNumber, IsLongest}
+
+-- ---- what a byte isn't, if it is something else
+
+module _ (p q : ℕ → Bool) (text : List ℕ) (at : ℕ) where
+  apart : ((b : ℕ) → p b ≡ true → q b ≡ false) → stands p text at ≡ true → stands q text at ≡ false
+  apart h = by (slice_get text at)
+    where
+      by : (o : Option ℕ) → holds_of p o ≡ true → holds_of q o ≡ false
+      by None e = refl
+      by (Some b) e = h b e
+
+  into : ((b : ℕ) → p b ≡ true → q b ≡ true) → stands p text at ≡ true → stands q text at ≡ true
+  into h = by (slice_get text at)
+    where
+      by : (o : Option ℕ) → holds_of p o ≡ true → holds_of q o ≡ true
+      by None e = e
+      by (Some b) e = h b e
+
+digit_of_zero : (b : ℕ) → is_zero b ≡ true → is_ascii_digit b ≡ true
+digit_of_zero b h = grind (arith, nat_tests)
+
+digit_of_nine : (b : ℕ) → is_digit1_9 b ≡ true → is_ascii_digit b ≡ true
+digit_of_nine b h = grind (arith, nat_tests)
+
+no_zero : (b : ℕ) → is_digit1_9 b ≡ true → is_zero b ≡ false
+no_zero b h = grind (arith, nat_tests)
+
+no_minus : (b : ℕ) → is_ascii_digit b ≡ true → is_minus b ≡ false
+no_minus b h = grind (arith, nat_tests)
+
+no_sign : (b : ℕ) → is_ascii_digit b ≡ true → is_sign b ≡ false
+no_sign b h = grind (arith, nat_tests)
+
+no_point : (b : ℕ) → is_ascii_digit b ≡ true → is_point 46 b ≡ false
+no_point b h = grind (arith, nat_tests)
+
+no_e : (b : ℕ) → is_ascii_digit b ≡ true → is_e b ≡ false
+no_e b h = grind (arith, nat_tests)
+
+point_no_e : (b : ℕ) → is_point 46 b ≡ true → is_e b ≡ false
+point_no_e b h = grind (arith, nat_tests)
+
+nine : (text : List ℕ) (at : ℕ) → stands is_zero text at ≡ false
+    → stands is_ascii_digit text at ≡ true → stands is_digit1_9 text at ≡ true
+nine text at = by (slice_get text at)
+  where
+    byte : (b : ℕ) → is_zero b ≡ false → is_ascii_digit b ≡ true → is_digit1_9 b ≡ true
+    byte b z d = grind (arith, nat_tests)
+
+    by : (o : Option ℕ) → holds_of is_zero o ≡ false → holds_of is_ascii_digit o ≡ true
+        → holds_of is_digit1_9 o ≡ true
+    by None z d = d
+    by (Some b) z d = byte b z d
+
+module _ (text : List ℕ) where
+  -- ---- digits
+
+  -- all digits from a position on
+  pub record IsRun (from to : ℕ) : Type 0 where
+    pub digits : IsDigits text from to
+    pub stops : stands is_ascii_digit text to ≡ false
+
+  run_within : (from r to : ℕ) → IsRun from r → IsDigits text from to → to ≤ r
+  run_within from r to run ds = by (cases_lt r to)
+    where
+      by : (r < to) ⊎ (to ≤ r) → to ≤ r
+      by (inl l) =
+          let d = ds.all r run.digits.onward l in
+          let s = run.stops in
+          cc
+      by (inr l) = l
+
+  int_first : (from to : ℕ) → IsInt text from to → stands is_ascii_digit text from ≡ true
+  int_first from to (inl h) = into is_zero is_ascii_digit text from digit_of_zero h.0
+  int_first from to (inr h) = into is_digit1_9 is_ascii_digit text from digit_of_nine h.0
+
+  int_some : (from to : ℕ) → IsInt text from to → from < to
+  int_some from to (inl h) = omega (arith, h.1)
+  int_some from to (inr h) = omega (arith, h.1.onward)
+
+  int_all : (from to at : ℕ) → IsInt text from to → from ≤ at → at < to
+      → stands is_ascii_digit text at ≡ true
+  int_all from to at h l m = by (cases_lt from at) h
+    where
+      by : (from < at) ⊎ (at ≤ from) → IsInt text from to → stands is_ascii_digit text at ≡ true
+      by (inr e) h =
+          let same : at ≡ from = omega (arith, e, l) in
+          rw same (int_first from to h)
+      by (inl e) (inl h) = let f : ⊥ = omega (arith, e, m, h.1) in absurd f
+      by (inl e) (inr h) = h.1.all at (omega (arith, e)) m
+
+  int_digits : (from to : ℕ) → IsInt text from to → IsDigits text from to
+  int_digits from to h = record {
+    onward = omega (arith, int_some from to h);
+    all = λ at l m. int_all from to at h l m;
+  }
+
+  int_of : (at w : ℕ) → IsRun at w → at < w → (stands is_zero text at ≡ true → w ≡ at + 1)
+      → IsInt text at w
+  int_of at w run some zero = by (stands is_zero text at) refl
+    where
+      by : (b : Bool) → stands is_zero text at ≡ b → IsInt text at w
+      by true h = inl (h, zero h)
+      by false h = inr (
+        nine text at h (run.digits.all at (omega arith) some),
+        record {
+          onward = omega (arith, some);
+          all = λ q l m. run.digits.all q (omega (arith, l)) m;
+        },
+      )
+
+  -- ---- where a digit follows, the number ends
+
+  no_frac_at : (q exp : ℕ) → stands is_ascii_digit text q ≡ true → (exp ≡ q) ⊎ IsFrac text q exp
+      → exp ≡ q
+  no_frac_at q exp d (inl h) = h
+  no_frac_at q exp d (inr h) =
+      let n = apart is_ascii_digit (is_point 46) text q no_point d in
+      let p = h.point in
+      cc
+
+  no_exp_at : (q end : ℕ) → stands is_e text q ≡ false → (end ≡ q) ⊎ IsExp text q end → end ≡ q
+  no_exp_at q end n (inl h) = h
+  no_exp_at q end n (inr h) = let p = h.mark in cc
+
+  no_tail_at : (q exp end : ℕ) → stands is_ascii_digit text q ≡ true
+      → (exp ≡ q) ⊎ IsFrac text q exp → (end ≡ exp) ⊎ IsExp text exp end → end ≡ q
+  no_tail_at q exp end d f x =
+      no_exp_at q end (apart is_ascii_digit is_e text q no_e d)
+      (subst (λ (z : ℕ). (end ≡ z) ⊎ IsExp text z end) (no_frac_at q exp d f) x)
+
+  -- ---- what is found of a number: its sign, its digits, and those after a point and an `e`
+
+  pub record IsScan (start at w m x e : ℕ) : Type 0 where
+    pub minus : stands is_minus text start ≡ true → at ≡ start + 1
+    pub plain : stands is_minus text start ≡ false → at ≡ start
+    pub whole : IsRun at w
+    pub fraction : stands (is_point 46) text w ≡ true → IsRun (w + 1) m
+    pub no_fraction : stands (is_point 46) text w ≡ false → m ≡ w
+    pub sign : stands is_sign text (m + 1) ≡ true → x ≡ m + 1 + 1
+    pub no_sign : stands is_sign text (m + 1) ≡ false → x ≡ m + 1
+    pub exponent : stands is_e text m ≡ true → IsRun x e
+
+  module _ (start at w m x e : ℕ) (s : IsScan start at w m x e) where
+    pub minus_is : IsOptional text is_minus start at
+    minus_is = by (stands is_minus text start) refl
+      where
+        by : (b : Bool) → stands is_minus text start ≡ b → IsOptional text is_minus start at
+        by true h = inr (h, s.minus h)
+        by false h = inl (s.plain h)
+
+    sign_is : IsOptional text is_sign (m + 1) x
+    sign_is = by (stands is_sign text (m + 1)) refl
+      where
+        by : (b : Bool) → stands is_sign text (m + 1) ≡ b → IsOptional text is_sign (m + 1) x
+        by true h = inr (h, s.sign h)
+        by false h = inl (s.no_sign h)
+
+    w_m : w ≤ m
+    w_m = by (stands (is_point 46) text w) refl
+      where
+        by : (b : Bool) → stands (is_point 46) text w ≡ b → w ≤ m
+        by true h = let l = (s.fraction h).digits.onward in omega (arith, l)
+        by false h = let l = s.no_fraction h in omega (arith, l)
+
+    m_x : m < x
+    m_x = by sign_is
+      where
+        by : IsOptional text is_sign (m + 1) x → m < x
+        by (inl h) = omega (arith, h)
+        by (inr h) = omega (arith, h.1)
+
+    same_int : (int : ℕ) → IsOptional text is_minus start int
+        → stands is_ascii_digit text int ≡ true → int ≡ at
+    same_int int (inl h) d =
+        let there = subst (λ (z : ℕ). stands is_ascii_digit text z ≡ true) h d in
+        h ∙ sym (s.plain (apart is_ascii_digit is_minus text start no_minus there))
+    same_int int (inr h) d = h.1 ∙ sym (s.minus h.0)
+
+    same_first : (first : ℕ) → IsOptional text is_sign (m + 1) first
+        → stands is_ascii_digit text first ≡ true → first ≡ x
+    same_first first (inl h) d =
+        let there = subst (λ (z : ℕ). stands is_ascii_digit text z ≡ true) h d in
+        h ∙ sym (s.no_sign (apart is_ascii_digit is_sign text (m + 1) no_sign there))
+    same_first first (inr h) d = h.1 ∙ sym (s.sign h.0)
+
+    exp_within : (end : ℕ) → IsExp text m end → (x < end) × (end ≤ e)
+    exp_within end h =
+        let same = same_first h.first h.sign (h.digits.all h.first (omega arith) h.some) in
+        let ds = subst (λ (z : ℕ). IsDigits text z end) same h.digits in
+        (omega (arith, same, h.some), run_within x e end (s.exponent h.mark) ds)
+
+    module _ (other : ℕ) (n : IsJsonNumber text start other) where
+      int_is : n.int ≡ at
+      int_is = same_int n.int n.minus (int_first n.int n.frac n.integer)
+
+      int_at : IsInt text at n.frac
+      int_at = subst (λ (z : ℕ). IsInt text z n.frac) int_is n.integer
+
+      frac_within : n.frac ≤ w
+      frac_within = run_within at w n.frac s.whole (int_digits at n.frac int_at)
+
+      frac_onward : at < n.frac
+      frac_onward = int_some at n.frac int_at
+
+      before_w : n.frac < w → other ≡ n.frac
+      before_w l =
+          no_tail_at n.frac n.exp other
+          (s.whole.digits.all n.frac (omega (arith, frac_onward)) l) n.fraction n.exponent
+
+    -- ---- none
+
+    pub none : at ≡ w → (end : ℕ) → IsJsonNumber text start end → ⊥
+    none h end n = omega (arith, h, frac_within end n, frac_onward end n)
+
+    -- ---- a `0` that is followed by digits
+
+    pub zero_alone : stands is_zero text at ≡ true → at + 1 < w → IsLongest text start (at + 1)
+    zero_alone z l = record {
+      is = record {
+        int = at;
+        frac = at + 1;
+        exp = at + 1;
+        minus = minus_is;
+        integer = inl (z, refl);
+        fraction = inl refl;
+        exponent = inl refl;
+      };
+      longest = λ other n. by other n (int_at other n);
+    }
+      where
+        by : (other : ℕ) (n : IsJsonNumber text start other) → IsInt text at n.frac
+            → other ≤ at + 1
+        by other n (inl h) =
+            let end = before_w other n (omega (arith, l, h.1)) in
+            omega (arith, end, h.1)
+        by other n (inr h) =
+            let no = apart is_digit1_9 is_zero text at no_zero h.0 in
+            cc
+
+    -- ---- digits
+
+    module _ (some : at < w) (zero : stands is_zero text at ≡ true → w ≡ at + 1) where
+      pub integer_is : IsInt text at w
+      integer_is = int_of at w s.whole some zero
+
+      -- no fraction and no exponent follow
+      pub whole : (stands (is_point 46) text w ≡ true → w + 1 < m → ⊥)
+          → (stands (is_point 46) text w ≡ false → stands is_e text m ≡ true → x < e → ⊥)
+          → IsLongest text start w
+      whole no_frac no_exp = record {
+        is = record {
+          int = at;
+          frac = w;
+          exp = w;
+          minus = minus_is;
+          integer = integer_is;
+          fraction = inl refl;
+          exponent = inl refl;
+        };
+        longest = λ other n. by other n (cases_lt n.frac w);
+      }
+        where
+          ends : (other : ℕ) → (other ≡ w) ⊎ IsExp text w other → other ≤ w
+          ends other (inl h) = omega (arith, h)
+          ends other (inr h) = by (stands (is_point 46) text w) refl
+            where
+              by : (b : Bool) → stands (is_point 46) text w ≡ b → other ≤ w
+              by true p =
+                  let no = apart (is_point 46) is_e text w point_no_e p in
+                  let yes = h.mark in
+                  cc
+              by false p =
+                  let k = subst (λ (z : ℕ). IsExp text z other) (sym (s.no_fraction p)) h in
+                  let r = exp_within other k in
+                  absurd (no_exp p k.mark (omega (arith, r.0, r.1)))
+
+          at_w : (exp other : ℕ) → (exp ≡ w) ⊎ IsFrac text w exp
+              → (other ≡ exp) ⊎ IsExp text exp other → other ≤ w
+          at_w exp other (inl h) k =
+              ends other (subst (λ (z : ℕ). (other ≡ z) ⊎ IsExp text z other) h k)
+          at_w exp other (inr h) k =
+              let r = run_within (w + 1) m exp (s.fraction h.point) h.digits in
+              absurd (no_frac h.point (omega (arith, r, h.some)))
+
+          by : (other : ℕ) (n : IsJsonNumber text start other) → (n.frac < w) ⊎ (w ≤ n.frac)
+              → other ≤ w
+          by other n (inl l) = let end = before_w other n l in omega (arith, end, l)
+          by other n (inr l) =
+              let same : n.frac ≡ w = omega (arith, l, frac_within other n) in
+              at_w n.exp other
+              (subst (λ (z : ℕ). (n.exp ≡ z) ⊎ IsFrac text z n.exp) same n.fraction) n.exponent
+
+      -- a fraction or an exponent follows
+      module _ (end : ℕ) (frac : stands (is_point 46) text w ≡ true → w + 1 < m)
+          (exp : (stands is_e text m ≡ true) × (x < e) × (end ≡ e)
+          ⊎ (stands is_e text m ≡ true → x < e → ⊥) × (end ≡ m))
+        where
+          frac_is : (m ≡ w) ⊎ IsFrac text w m
+          frac_is = by (stands (is_point 46) text w) refl
+            where
+              by : (b : Bool) → stands (is_point 46) text w ≡ b → (m ≡ w) ⊎ IsFrac text w m
+              by true h = inr (record {
+                point = h;
+                digits = (s.fraction h).digits;
+                some = frac h;
+              })
+              by false h = inl (s.no_fraction h)
+
+          exp_is : (end ≡ m) ⊎ IsExp text m end
+          exp_is = by exp
+            where
+              by : (stands is_e text m ≡ true) × (x < e) × (end ≡ e)
+                  ⊎ (stands is_e text m ≡ true → x < e → ⊥) × (end ≡ m)
+                  → (end ≡ m) ⊎ IsExp text m end
+              by (inl h) = inr (record {
+                first = x;
+                mark = h.0;
+                sign = sign_is;
+                digits = subst (λ (z : ℕ). IsDigits text x z) (sym h.2) (s.exponent h.0).digits;
+                some = omega (arith, h.1, h.2);
+              })
+              by (inr h) = inl h.1
+
+          m_end : m ≤ end
+          m_end = by exp_is
+            where
+              by : (end ≡ m) ⊎ IsExp text m end → m ≤ end
+              by (inl h) = omega (arith, h)
+              by (inr h) = let r = exp_within end h in omega (arith, r.0, m_x)
+
+          tail : (other : ℕ) → (other ≡ m) ⊎ IsExp text m other → other ≤ end
+          tail other (inl h) = omega (arith, h, m_end)
+          tail other (inr h) = by exp
+            where
+              by : (stands is_e text m ≡ true) × (x < e) × (end ≡ e)
+                  ⊎ (stands is_e text m ≡ true → x < e → ⊥) × (end ≡ m) → other ≤ end
+              by (inl k) = let r = exp_within other h in omega (arith, r.1, k.2)
+              by (inr k) =
+                  let r = exp_within other h in
+                  absurd (k.0 h.mark (omega (arith, r.0, r.1)))
+
+          at_w : (exp other : ℕ) → (exp ≡ w) ⊎ IsFrac text w exp
+              → (other ≡ exp) ⊎ IsExp text exp other → other ≤ end
+          at_w exp other (inl h) k = by (stands (is_point 46) text w) refl
+            where
+              at_this : (other ≡ w) ⊎ IsExp text w other
+              at_this = subst (λ (z : ℕ). (other ≡ z) ⊎ IsExp text z other) h k
+
+              by : (b : Bool) → stands (is_point 46) text w ≡ b → other ≤ end
+              by true p =
+                  let same =
+                  no_exp_at w other (apart (is_point 46) is_e text w point_no_e p) at_this in
+                  omega (arith, same, w_m, m_end)
+              by false p =
+                  tail other
+                  (subst (λ (z : ℕ). (other ≡ z) ⊎ IsExp text z other) (sym (s.no_fraction p))
+                  at_this)
+          at_w exp other (inr h) k = by (cases_lt exp m)
+            where
+              run : IsRun (w + 1) m
+              run = s.fraction h.point
+
+              by : (exp < m) ⊎ (m ≤ exp) → other ≤ end
+              by (inl l) =
+                  let d = run.digits.all exp h.digits.onward l in
+                  let same = no_exp_at exp other (apart is_ascii_digit is_e text exp no_e d) k in
+                  omega (arith, same, l, m_end)
+              by (inr l) =
+                  let r = run_within (w + 1) m exp run h.digits in
+                  let same : exp ≡ m = omega (arith, r, l) in
+                  tail other (subst (λ (z : ℕ). (other ≡ z) ⊎ IsExp text z other) same k)
+
+          pub float : IsLongest text start end
+          float = record {
+            is = record {
+              int = at;
+              frac = w;
+              exp = m;
+              minus = minus_is;
+              integer = integer_is;
+              fraction = frac_is;
+              exponent = exp_is;
+            };
+            longest = λ other n. by other n (cases_lt n.frac w);
+          }
+            where
+              by : (other : ℕ) (n : IsJsonNumber text start other)
+                  → (n.frac < w) ⊎ (w ≤ n.frac) → other ≤ end
+              by other n (inl l) =
+                  let same = before_w other n l in
+                  omega (arith, same, l, w_m, m_end)
+              by other n (inr l) =
+                  let same : n.frac ≡ w = omega (arith, l, frac_within other n) in
+                  at_w n.exp other
+                  (subst (λ (z : ℕ). (n.exp ≡ z) ⊎ IsFrac text z n.exp) same n.fraction)
+                  n.exponent

@@ -1,0 +1,22 @@
+//! Laws: a number of JSON is that of RFC 8259.
+
+ghost use Rattle.std.specs.Prelude.{ℕ, Bool, ◌≤◌, length};
+ghost use Rattle.digit_numbers.specs.Json.{IsJsonInteger, IsJsonNumber, IsLongest};
+ghost use Rattle.digit_numbers.specs.Numbers.{IsFault, IsInteger, IsNumber};
+
+use super::forms::JSON;
+use super::number::{Number, NumberError};
+use digit_floats::Float;
+
+/// What is read by [`JSON`] is the longest prefix of the rest that is a number of RFC 8259. An
+/// integer has neither a fraction nor an exponent. Where there is an error, no prefix is a number.
+pub fn json_is_rfc_8259<F: Float>(text: &[u8], start: usize)
+    requires { start ≤ length text.now }
+    ensures number { (n : Number F) (end : ℕ) →
+        IsNumber JSON text.now start F.format F.value n end → IsLongest text.now start end }
+    ensures integer { (negative : Bool) (magnitude word end : ℕ) →
+        IsInteger JSON text.now start negative magnitude word end →
+        IsJsonInteger text.now start end }
+    ensures none { (error : NumberError) (end : ℕ) → IsFault JSON text.now start error →
+        IsJsonNumber text.now start end → ⊥ }
+{}
