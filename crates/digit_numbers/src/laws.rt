@@ -2,7 +2,7 @@
 
 ghost use Rattle.std.specs.Prelude.{ℕ, Bool, ◌≤◌, length};
 ghost use Rattle.digit_numbers.specs.Json.{IsJsonInteger, IsJsonNumber, IsLongest};
-ghost use Rattle.digit_numbers.specs.Numbers.{IsFault, IsInteger, IsNumber};
+ghost use Rattle.digit_numbers.specs.Numbers.{IsFault, IsInteger, IsNumber, IsWholeFault};
 
 use super::forms::JSON;
 use super::number::{Number, NumberError};
@@ -19,4 +19,14 @@ pub fn json_is_rfc_8259<F: Float>(text: &[u8], start: usize)
         IsJsonInteger text.now start end }
     ensures none { (error : NumberError) (end : ℕ) → IsFault JSON text.now start error →
         IsJsonNumber text.now start end → ⊥ }
+{}
+
+/// A text is a number by [`JSON`] exactly if it is a number of RFC 8259.
+pub fn json_texts_are_rfc_8259<F: Float>(text: &[u8])
+    ensures number { (n : Number F) →
+        IsNumber JSON text.now 0 F.format F.value n (length text.now) →
+        IsJsonNumber text.now 0 (length text.now) }
+    ensures none { (error : NumberError) →
+        IsWholeFault JSON text.now 0 F.format F.value error →
+        IsJsonNumber text.now 0 (length text.now) → ⊥ }
 {}
