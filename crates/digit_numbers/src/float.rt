@@ -1,6 +1,6 @@
 // The float at a position, by a form.
 
-ghost use Rattle.std.specs.Prelude.{◌≡◌, Err, ◌+◌, ◌-◌, ◌*◌, ◌^◌, ◌++◌, ◌<◌, ◌≤◌, false, true, min, length, [], None, IsTrue, IfSome, MatchOption, ◌&&◌, not, nat_lt};
+ghost use Rattle.std.specs.Prelude.{◌≡◌, Err, ◌+◌, ◌-◌, ◌*◌, ◌^◌, ◌++◌, ◌<◌, ◌≤◌, false, true, min, length, [], None, IfSome, MatchOption, ◌&&◌, not};
 ghost use Rattle.std.specs.Float.{NotNan};
 ghost use Rattle.std.specs.Float.Ieee.{round};
 ghost use Rattle.std.specs.Float.Numeral.{nearest_float};
@@ -10,10 +10,10 @@ ghost use Rattle.lexical_digits.specs.State.{rule_of};
 ghost use Rattle.digit_literals.specs.Integers.{integer_at};
 ghost use Rattle.digit_literals.specs.declared.LiteralError.TheVariants.{Overflow};
 ghost use Rattle.digit_floats.specs.Bytes.{stands, is_point, is_mark};
-ghost use Rattle.digit_floats.specs.Float.{digits_from, digits_end, mantissa_end, fraction_digits, exponent_digits, exponent_end, exponent_negative, parts_at};
+ghost use Rattle.digit_floats.specs.Float.{digits_from, exponent_digits, exponent_end, exponent_negative, parts_at};
 ghost use Rattle.digit_floats.specs.Parts.{integer_of, fraction_of, IsMantissa};
 ghost use Rattle.digit_numbers.specs.Forms.{IsForm, is_barred};
-ghost use Rattle.digit_numbers.specs.Numbers.{has_point, allows_point, has_exponent, has_more_zeros, is_float, IsFloatAt, whole_parts, whole_end};
+ghost use Rattle.digit_numbers.specs.Numbers.{allows_point, has_exponent, has_more_zeros, is_float, IsFloatAt, whole_parts, whole_end};
 ghost use Rattle.digit_numbers.specs.Reads.{IsMantissaAt};
 
 use super::form::Form;

@@ -1,10 +1,8 @@
 //! The number at a position.
 
-ghost use Rattle.std.specs.Prelude.{◌≡◌, ◌+◌, ◌<◌, ◌≤◌, ◌&&◌, not, if◌then◌else◌, Some, length, false, IfOk, IfErr, OnOk};
-ghost use Rattle.std.specs.Float.{NotNan};
-ghost use Rattle.digit_floats.specs.Bytes.{stands};
+ghost use Rattle.std.specs.Prelude.{◌≡◌, ◌+◌, ◌<◌, ◌≤◌, ◌&&◌, not, if◌then◌else◌, Some, length, false, IfOk, IfErr};
 ghost use Rattle.digit_numbers.specs.Forms.{IsForm, unprefixed};
-ghost use Rattle.digit_numbers.specs.Numbers.{is_negative, has_sign, past_sign, is_float, IsNumber, IsFault, IsWholeFault, position, message};
+ghost use Rattle.digit_numbers.specs.Numbers.{past_sign, is_float, IsNumber, IsFault, IsWholeFault, position, message};
 ghost use Rattle.digit_languages.specs.Words.{IsLanguage};
 ghost use Rattle.digit_numbers.specs.Reads.{IsMantissaAt, IsSign};
 
