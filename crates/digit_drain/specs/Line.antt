@@ -87,8 +87,8 @@ AreLetters Fraction field f = AreNumberFlags field f.fraction
     × (f.integer ≡ no_flags) × (f.exponent ≡ no_flags) × (f.special ≡ false)
 AreLetters Exponent field f = AreNumberFlags field f.exponent
     × (f.integer ≡ no_flags) × (f.fraction ≡ no_flags) × (f.special ≡ false)
-AreLetters Special field f = (field ≡ codes "S")
-    × (f.integer ≡ no_flags) × (f.fraction ≡ no_flags) × (f.exponent ≡ no_flags) × (f.special ≡ true)
+AreLetters Special field f = (field ≡ codes "S") × (f.integer ≡ no_flags)
+    × (f.fraction ≡ no_flags) × (f.exponent ≡ no_flags) × (f.special ≡ true)
 
 abbrev pub HasNoFlags : NumberFormatBuilder → Type 0
 HasNoFlags f = (f.integer ≡ no_flags) × (f.fraction ≡ no_flags) × (f.exponent ≡ no_flags)

@@ -5,7 +5,7 @@ use Rattle.lexical_digits.specs.declared.skip.component.Component.TheVariants.{I
 use Rattle.digit_literals.specs.declared.LiteralError.{LiteralError}
 use Rattle.digit_literals.specs.declared.LiteralError.TheVariants as integers
 use Rattle.digit_literals.specs.Integers.{integer_at}
-use Rattle.digit_literals.specs.Numbers.{stands}
+use Rattle.digit_literals.specs.Numbers.{has_byte}
 use Rattle.digit_languages.specs.declared.language.Language.{Language}
 use Rattle.digit_languages.specs.declared.language.FirstZero.{FirstZero}
 use Rattle.digit_languages.specs.declared.language.FirstZero.TheVariants.{Plain, Octal, Alone, Zeros}
@@ -27,8 +27,8 @@ module _ (l : Language) (text : List ℕ) (start : ℕ) where
   -- `0` and a letter, which may be in upper case where the language says so
   abbrev pub has_prefix : ℕ → Bool
   has_prefix letter =
-      stands text start 48
-      && (stands text (start + 1) letter || (l.upper && stands text (start + 1) (letter - 32)))
+      has_byte text start 48
+      && (has_byte text (start + 1) letter || (l.upper && has_byte text (start + 1) (letter - 32)))
 
   -- the word that a prefix says
   abbrev pub prefix_word : Option ℕ
@@ -39,7 +39,8 @@ module _ (l : Language) (text : List ℕ) (start : ℕ) where
 
   -- the word of a literal without one
   abbrev pub plain_word : ℕ
-  plain_word = if stands text start 48 then word_or (octal_of l.first_zero) l.decimal else l.decimal
+  plain_word =
+      if has_byte text start 48 then word_or (octal_of l.first_zero) l.decimal else l.decimal
 
   -- the word by which the literal is read
   abbrev pub word_at : ℕ
@@ -58,7 +59,7 @@ module _ (l : Language) (text : List ℕ) (start : ℕ) where
 
   -- whether the language refuses a literal without a prefix for its first `0`
   abbrev pub refuses : ℕ → ℕ → Bool
-  refuses value end = stands text start 48 && refused_by l.first_zero value end
+  refuses value end = has_byte text start 48 && refused_by l.first_zero value end
 
   -- whether it refuses the literal here
   abbrev pub is_refused : ℕ → ℕ → Bool

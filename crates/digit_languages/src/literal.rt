@@ -2,7 +2,7 @@
 
 ghost use Rattle.std.specs.Prelude.{◌≡◌, ◌+◌, ◌-◌, ◌<◌, ◌≤◌, Some, Ok, Err, length, IfOk, IfErr, MatchResult, IsTrue, IfSome};
 ghost use Rattle.lexical_format.specs.Word.{is_supported};
-ghost use Rattle.digit_literals.specs.Numbers.{stands};
+ghost use Rattle.digit_literals.specs.Numbers.{has_byte};
 ghost use Rattle.digit_languages.specs.Words.{IsLanguage};
 ghost use Rattle.digit_languages.specs.Literals.{has_prefix, prefix_word, plain_word, refuses, literal_at, typed, language_error, position, message};
 
@@ -76,8 +76,8 @@ impl Error for LanguageError {}
 
 /// Whether a byte is at a position.
 #[inline(always)]
-fn stands(text: &[u8], at: usize, byte: u8) -> bool
-    ensures { result ≡ stands text.now at byte }
+fn has_byte(text: &[u8], at: usize, byte: u8) -> bool
+    ensures { result ≡ has_byte text.now at byte }
 {
     match text.get(at) {
         Some(there) => *there == byte,
@@ -92,9 +92,9 @@ fn has_prefix(language: Language, text: &[u8], start: usize, letter: u8) -> bool
     requires lower { 32 ≤ letter }
     ensures is { result ≡ has_prefix language text.now start letter }
 {
-    stands(text, start, b'0')
-        && (stands(text, start + 1, letter)
-            || (language.upper && stands(text, start + 1, letter - 32)))
+    has_byte(text, start, b'0')
+        && (has_byte(text, start + 1, letter)
+            || (language.upper && has_byte(text, start + 1, letter - 32)))
 }
 
 /// The word that a prefix at the start says. Requires that the start is within the text and the
@@ -127,7 +127,7 @@ pub fn plain_word(language: Language, text: &[u8], start: usize) -> u128
     ensures is { result ≡ plain_word language text.now start }
     ensures supported { IsTrue (is_supported result) }
 {
-    if !stands(text, start, b'0') {
+    if !has_byte(text, start, b'0') {
         return language.decimal;
     }
     match language.first_zero.octal() {
@@ -142,7 +142,7 @@ fn refuses(language: Language, text: &[u8], start: usize, value: u128, end: usiz
     requires { start ≤ length text.now }
     ensures { result ≡ refuses language text.now start value end }
 {
-    stands(text, start, b'0')
+    has_byte(text, start, b'0')
         && match language.first_zero {
             FirstZero::Plain | FirstZero::Octal(_) => false,
             FirstZero::Alone => start + 1 < end,

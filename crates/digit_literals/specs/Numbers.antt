@@ -8,9 +8,9 @@ use Rattle.digit_literals.specs.declared.parse.ParseError.{ParseError}
 use Rattle.digit_literals.specs.declared.parse.ParseError.TheVariants.{Empty, Invalid, Overflow}
 use Rattle.digit_literals.specs.Integers.{integer_at}
 
--- whether a byte stands at a position
-abbrev pub stands : List ℕ → ℕ → ℕ → Bool
-stands text at byte = holds_of (λ there. there == byte) (slice_get text at)
+-- whether a byte is at a position
+abbrev pub has_byte : List ℕ → ℕ → ℕ → Bool
+has_byte text at byte = holds_of (λ there. there == byte) (slice_get text at)
 
 -- a magnitude with its sign
 abbrev pub signed : Bool → ℕ → ℤ
@@ -25,12 +25,13 @@ with_sign negative (Err error) = Err error
 
 -- whether a number at a position is negative
 abbrev pub is_negative_from : ℕ → List ℕ → ℕ → Bool
-is_negative_from least text start = nat_lt 0 least && stands text start 45
+is_negative_from least text start = nat_lt 0 least && has_byte text start 45
 
 -- where its digits begin: after the sign, a `-` or a `+`
 abbrev pub digits_from : ℕ → List ℕ → ℕ → ℕ
 digits_from least text start =
-    if nat_lt 0 least && (stands text start 45 || stands text start 43) then start + 1 else start
+    if nat_lt 0 least && (has_byte text start 45 || has_byte text start 43)
+    then start + 1 else start
 
 module _ (least most : ℕ) (rule : Rule) (text : List ℕ) (start : ℕ) where
   -- its greatest magnitude

@@ -236,8 +236,8 @@ fn are_few(before: u64, count: usize) -> bool
     before == 0 || is_below(before, count)
 }
 
-/// Reads the digits of a rule with radix 10 from `start` on, where the slice is enough and 19 digits
-/// fit, and no more are there.
+/// Reads the digits of a rule with radix 10 from `start` on, where the slice is enough, and 19
+/// digits fit and no more are there.
 #[inline(always)]
 fn decimals_slice(text: &[u8], rule: Rule, start: usize, before: u64, most: u64) -> Option<ReadTo>
     requires supported { IsSupported rule }

@@ -168,8 +168,8 @@ pub fn stop_from(text: &[u8], word: u128, component: Component, start: usize) ->
     read_component(text, word, component, start, None).end
 }
 
-/// The digits of a component that lead from `start` on, and whether there are none: up to a greatest
-/// value if one is asked for. The digit at `start` may be known.
+/// The digits of a component that lead from `start` on, and whether there are none: up to a
+/// greatest value if one is asked for. The digit at `start` may be known.
 #[inline(always)]
 pub(super) fn read_known(
     text: &[u8],

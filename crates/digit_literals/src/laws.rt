@@ -1,5 +1,5 @@
-//! Laws: what is left after a [`TooLarge`](crate::TooLarge), the first digits, and the integer that an
-//! iterator reads.
+//! Laws: what is left after a [`TooLarge`](crate::TooLarge), the first digits, and the integer that
+//! an iterator reads.
 
 ghost use Rattle.std.specs.Prelude.{◌≡◌, ℕ, ◌+◌, ◌-◌, ◌^◌, ◌<◌, ◌≤◌, ◌↔◌, List, ◌++◌, length, Ok, Err, IsTrue};
 ghost use Rattle.lexical_format.specs.Word.{is_supported};

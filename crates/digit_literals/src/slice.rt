@@ -6,7 +6,7 @@ ghost use Rattle.lexical_format.specs.Digits.{digit_of_radix};
 ghost use Rattle.lexical_digits.specs.Separators.{is_digit, IsSupported};
 ghost use Rattle.lexical_digits.specs.CallTable.{byte_at_place, settled};
 ghost use Rattle.lexical_digits.specs.Looks.{Costs};
-ghost use Rattle.digit_literals.specs.Numbers.{stands};
+ghost use Rattle.digit_literals.specs.Numbers.{has_byte};
 ghost use Rattle.digit_literals.specs.Reads.{IsMore, IsFirst, IsOffSlice, Passes, outcome};
 
 use super::reading::{Digits, TooLarge, add_digit};
@@ -93,8 +93,8 @@ pub(super) fn first_digit(
 ) -> Option<u32>
     ensures is { IfSome result (IsFirst rule text.now at before (Some most)) }
     ensures any { IfSome result (IsFirst rule text.now at before None) }
-    ensures minus { IfSome result (λ _. stands text.now at 45 ≡ false) }
-    ensures plus { IfSome result (λ _. stands text.now at 43 ≡ false) }
+    ensures minus { IfSome result (λ _. has_byte text.now at 45 ≡ false) }
+    ensures plus { IfSome result (λ _. has_byte text.now at 43 ≡ false) }
 {
     if before > 0 {
         return None;

@@ -22,7 +22,7 @@ use Rattle.digit_floats.specs.Float as floats
 use Rattle.digit_floats.specs.Float.{digits_end, digits_from, fraction_digits, fraction_end, mantissa_end, exponent_digits, exponent_end}
 use Rattle.digit_literals.specs.Integers.{integer_at, value_to}
 use Rattle.digit_literals.specs.declared.LiteralError.TheVariants.{Overflow}
-use Rattle.digit_literals.specs.Numbers as bytes
+use Rattle.digit_literals.specs.Numbers.{has_byte}
 use Rattle.digit_languages.specs.declared.language.Language.{Language}
 use Rattle.digit_languages.specs.Literals.{has_prefix, prefix_word, plain_word, word_or, word_at, digits_at}
 use Rattle.digit_numbers.specs.declared.forms.TheConstants.{JSON}
@@ -324,7 +324,7 @@ module _ (text : List ℕ) (start : ℕ) (l : start ≤ length text) where
       by false false false = refl
 
   plain_is : plain_word JSON.integers text at ≡ word
-  plain_is = by (bytes.stands text at 48)
+  plain_is = by (has_byte text at 48)
     where
       by : (b : Bool) → (if b then word else word) ≡ word
       by true = refl

@@ -9,7 +9,7 @@ use Rattle.lexical_digits.specs.declared.skip.component.Component.TheVariants.{I
 use Rattle.lexical_digits.specs.State.{rule_of}
 use Rattle.digit_literals.specs.Integers.{integer_at}
 use Rattle.digit_literals.specs.declared.LiteralError.TheVariants.{Overflow}
-use Rattle.digit_literals.specs.Numbers.{stands}
+use Rattle.digit_literals.specs.Numbers.{has_byte}
 use Rattle.digit_numbers.proofs.Large.{has_value, has_digits}
 use Rattle.digit_numbers.specs.Numbers.{literal_digits, literal_value, literal_end, is_zero_alone}
 
@@ -52,7 +52,7 @@ module _ (l : Language) (text : List ℕ) (at : ℕ) where
     large_digits =
         has_digits (rule_of (word_at l text at) Integer) text (digits_at l text at) (2 ^ 128 - 1) over h
 
-  pub refuses_more : (value end : ℕ) → l.first_zero ≡ Zeros → stands text at 48 ≡ true → 0 < value
+  pub refuses_more : (value end : ℕ) → l.first_zero ≡ Zeros → has_byte text at 48 ≡ true → 0 < value
       → refuses l text at value end ≡ true
   refuses_more value end z first some = rw (first, z) (grind (arith, nat_tests))
 

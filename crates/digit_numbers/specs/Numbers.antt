@@ -10,7 +10,7 @@ use Rattle.lexical_digits.specs.Stop.{stop}
 use Rattle.digit_literals.specs.After.{digits_between}
 use Rattle.digit_literals.specs.Integers.{integer_at}
 use Rattle.digit_literals.specs.declared.LiteralError.TheVariants as integers
-use Rattle.digit_literals.specs.Numbers as bytes
+use Rattle.digit_literals.specs.Numbers.{has_byte}
 use Rattle.digit_floats.specs.Bytes.{stands, is_point, is_mark}
 use Rattle.digit_floats.specs.Float.{digits_end, digits_from, fraction_digits, mantissa_end, exponent_digits, number_end, parts_at}
 use Rattle.digit_languages.specs.declared.language.Language.{Language}
@@ -118,7 +118,7 @@ module _ (f : Form) (text : List ℕ) where
 
     -- more digits follow a first `0`, and the form refuses that
     abbrev pub has_more_zeros : Bool
-    has_more_zeros = not f.float_zeros && bytes.stands text at 48 && nat_lt (at + 1) whole_end
+    has_more_zeros = not f.float_zeros && has_byte text at 48 && nat_lt (at + 1) whole_end
 
     -- digits with a point or an exponent
     unfoldable pub is_float : Bool
@@ -148,7 +148,7 @@ module _ (f : Form) (text : List ℕ) where
     -- they are above 128 bits, and don't begin with a 0
     pub record IsLargeDecimal : Type 0 where
       pub may : may_be_float f.whole ≡ true
-      pub first : bytes.stands text at 48 ≡ false
+      pub first : has_byte text at 48 ≡ false
       pub over : ℕ
       pub large : integer_at (rule_of word Integer) text at (2 ^ 128 - 1)
           ≡ Err (integers.Overflow over)
@@ -198,7 +198,7 @@ module _ (f : Form) (text : List ℕ) where
     -- it would be an integer above 128 bits
     pub record IsLarge (over : ℕ) : Type 0 where
       pub no_float : is_float at ≡ false
-      pub exact : may_be_float f.whole && not (bytes.stands text at 48) ≡ false
+      pub exact : may_be_float f.whole && not (has_byte text at 48) ≡ false
       pub large : IsLargeAt language text at over
 
     -- why there is none

@@ -7,7 +7,7 @@ ghost use Rattle.digit_literals.specs.Integers.{integer_at, IsIntegerFrom, HasNo
 ghost use Rattle.digit_literals.specs.Outcomes.{IfEmpty, IfOverflow};
 ghost use Rattle.lexical_format.specs.Word.{is_supported};
 ghost use Rattle.digit_literals.specs.declared.LiteralError.TheVariants.{Overflow};
-ghost use Rattle.digit_literals.specs.Numbers.{stands};
+ghost use Rattle.digit_literals.specs.Numbers.{has_byte};
 ghost use Rattle.digit_languages.specs.Words.{IsLanguage};
 ghost use Rattle.digit_languages.specs.Literals.{prefix_word, word_at, digits_at, refuses};
 ghost use Rattle.digit_numbers.specs.Forms.{unprefixed};
@@ -47,7 +47,7 @@ pub fn unprefixed(language: Language) -> Language
 /// Whether a `0` is at a position.
 #[inline(always)]
 pub fn is_zero(text: &[u8], at: usize) -> bool
-    ensures is { result ≡ stands text.now at 48 }
+    ensures is { result ≡ has_byte text.now at 48 }
     ensures within { result ≡ true → at < length text.now }
 {
     match text.get(at) {

@@ -6,7 +6,7 @@ use Rattle.lexical_format.specs.declared.words.TheConstants.{PYTHON_LITERAL}
 use Rattle.digit_literals.specs.declared.LiteralError.{LiteralError}
 use Rattle.digit_literals.specs.declared.LiteralError.TheVariants as literals
 use Rattle.digit_literals.specs.Integers.{integer_at}
-use Rattle.digit_literals.specs.Numbers.{stands}
+use Rattle.digit_literals.specs.Numbers.{has_byte}
 use Rattle.digit_uses.specs.declared.durations.Fault.{Fault}
 use Rattle.digit_uses.specs.declared.durations.Cause.{Cause}
 use Rattle.digit_uses.specs.declared.durations.Cause.TheVariants.{Empty, TooLarge, NoUnit}
@@ -16,10 +16,10 @@ module _ (text : List ℕ) where
   -- the milliseconds of the unit at a position, and where it ends
   abbrev pub unit_at : ℕ → Option (ℕ × ℕ)
   unit_at at =
-      if stands text at 104 then Some (3_600_000, at + 1)
-      else if stands text at 109
-      then (if stands text (at + 1) 115 then Some (1, at + 2) else Some (60_000, at + 1))
-      else if stands text at 115 then Some (1000, at + 1)
+      if has_byte text at 104 then Some (3_600_000, at + 1)
+      else if has_byte text at 109
+      then (if has_byte text (at + 1) 115 then Some (1, at + 2) else Some (60_000, at + 1))
+      else if has_byte text at 115 then Some (1000, at + 1)
       else None
 
   -- the integer at a position, and where it ends

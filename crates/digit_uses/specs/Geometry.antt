@@ -9,7 +9,7 @@ use Rattle.digit_literals.specs.declared.LiteralError.TheVariants as literals
 use Rattle.digit_literals.specs.declared.parse.ParseError.{ParseError}
 use Rattle.digit_literals.specs.declared.parse.ParseError.TheVariants as wholes
 use Rattle.digit_literals.specs.Integers.{integer_at}
-use Rattle.digit_literals.specs.Numbers.{stands, to_end}
+use Rattle.digit_literals.specs.Numbers.{has_byte, to_end}
 use Rattle.digit_uses.specs.declared.geometry.Geometry.{Geometry}
 use Rattle.digit_uses.specs.declared.geometry.GeometryError.{GeometryError}
 use Rattle.digit_uses.specs.declared.geometry.GeometryError.TheVariants.{NoDigit, TooLarge, Byte}
@@ -37,7 +37,7 @@ module _ (text : List ℕ) where
   -- what was read, if this byte follows it
   abbrev pub followed_by : ℕ → Result (ℕ × ℕ) LiteralError → Result (ℕ × ℕ) GeometryError
   followed_by mark (Ok (value, end)) =
-      if stands text end mark then Ok (value, end + 1) else Err (Byte end)
+      if has_byte text end mark then Ok (value, end + 1) else Err (Byte end)
   followed_by mark (Err error) = Err (no_number error)
 
   -- a field, and the position after the byte that follows it

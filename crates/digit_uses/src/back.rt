@@ -9,7 +9,8 @@ ghost use Rattle.lexical_digits.specs.Looks.{owed};
 ghost use Rattle.lexical_digits.specs.Stop.{leading_digits_of, past_digits_of};
 ghost use Rattle.lexical_digits.specs.declared.skip.component.Component.TheVariants.{Exponent};
 ghost use Rattle.digit_literals.specs.After.{PassesAt};
-ghost use Rattle.digit_uses.specs.Bytes.{one_of, stands, is_mark};
+ghost use Rattle.digit_floats.specs.Bytes.{stands};
+ghost use Rattle.digit_uses.specs.Bytes.{one_of, is_mark};
 
 use digit_literals::{TooLarge, read_digits_of};
 use lexical_digits::iterator::{Iter, IterBodies};

@@ -4,7 +4,7 @@
 //! Proof by hand: 4 lines, an invariant and a measure.
 
 ghost use Rattle.std.specs.Prelude.{◌≡◌, ◌<◌, ◌≤◌, true, length, IfOk, IfErr, IfSome};
-ghost use Rattle.digit_literals.specs.Numbers.{stands};
+ghost use Rattle.digit_literals.specs.Numbers.{has_byte};
 ghost use Rattle.digit_uses.specs.Durations.{unit_at, IsPart, Sums, IsCause, IsFault};
 
 use digit_literals::{LiteralError, read_number_from};
@@ -31,7 +31,7 @@ pub enum Cause {
 
 /// Whether a byte is at a position.
 fn has(text: &[u8], at: usize, byte: u8) -> bool
-    ensures is { result ≡ stands text.now at byte }
+    ensures is { result ≡ has_byte text.now at byte }
     ensures within { result ≡ true → at < length text.now }
 {
     at < text.len() && text[at] == byte

@@ -11,7 +11,7 @@ ghost use Rattle.lexical_digits.specs.State.{start};
 ghost use Rattle.lexical_digits.specs.CallTable.{drain_of, after_drain};
 ghost use Rattle.lexical_digits.specs.Stop.{stop_of};
 ghost use Rattle.lexical_digits.specs.declared.skip.component.Component.TheVariants.{Integer, Fraction};
-ghost use Rattle.digit_uses.specs.Bytes.{stands, is_point};
+ghost use Rattle.digit_literals.specs.Numbers.{has_byte};
 ghost use Rattle.digit_uses.specs.Loops.{worth};
 
 use lexical_digits::iterator::{Iter, IterBodies};
@@ -23,7 +23,7 @@ use lexical_format::char_to_digit_const;
 pub fn component_end(text: &[u8], word: u128, component: Component) -> (usize, bool)
     requires { IsTrue (is_supported word) }
     ensures end { result.0 ≡ stop_of component (start text.now word) }
-    ensures point { result.1 ≡ stands is_point text.now result.0 }
+    ensures point { result.1 ≡ has_byte text.now result.0 46 }
 {
     let mut bytes = Bytes::new(text, word);
     while let Some(byte) = bytes.peek_of(component) {

@@ -1,5 +1,5 @@
-//! The calls of lexical-util by their names, and what a call answers. No function of this crate takes
-//! them: they are the rows of the call table, and the crate `digit_script` makes lists of them.
+//! The calls of lexical-util by their names, and what a call answers. No function of this crate
+//! takes them: they are the rows of the call table, and the crate `digit_script` makes lists of them.
 
 ghost use Rattle.std.specs.Prelude.{◌≡◌, ℕ, ◌+◌, ◌<◌, ◌≤◌};
 ghost use Rattle.lexical_format.specs.Word.{bit};

@@ -131,8 +131,10 @@ pub fn words_say()
     ensures zig_binary { IsInteger ZIG_BINARY_LITERAL 2 between_digits }
     ensures ada { IsDecimal ADA_LITERAL between_digits }
     ensures ada_hex { IsWord ADA_HEX_LITERAL 16 10 95 between_digits between_digits between_digits }
-    ensures ada_octal { IsWord ADA_OCTAL_LITERAL 8 10 95 between_digits between_digits between_digits }
-    ensures ada_binary { IsWord ADA_BINARY_LITERAL 2 10 95 between_digits between_digits between_digits }
+    ensures ada_octal { IsWord
+        ADA_OCTAL_LITERAL 8 10 95 between_digits between_digits between_digits }
+    ensures ada_binary { IsWord
+        ADA_BINARY_LITERAL 2 10 95 between_digits between_digits between_digits }
     ensures elixir { IsDecimal ELIXIR_LITERAL between_digits }
     ensures elixir_integers { AreIntegers
         ELIXIR_HEX_LITERAL ELIXIR_OCTAL_LITERAL ELIXIR_BINARY_LITERAL between_digits }

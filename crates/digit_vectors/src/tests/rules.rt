@@ -52,7 +52,7 @@ fn assert_drained(
     let (text, drained, kept) = (from_utf8(text), from_utf8(&drained), from_utf8(kept));
     assert!(rt;
         is,
-        "{text:?} from {cursor} by {rule:?}: {drained:?} and count {counted}, not {kept:?} and {count_after}"
+        "{text:?} from {cursor}, {rule:?}: {drained:?}, {counted}, not {kept:?}, {count_after}"
     );
 }
 

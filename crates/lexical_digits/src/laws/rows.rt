@@ -45,8 +45,10 @@ pub fn read_if_is_row<Pred: FnOnce(u8) -> bool + Drop>(
     ensures reads { let s = bytes.old.state in
         ReadsIf (Pred.post pred) (byte_at_place component s) (settled component s)
         (past_place component s) result bytes.new.state }
-    ensures answers { Byte result ≡ (row_of (On component) (read_as result) bytes.old.state).answer }
-    ensures state { bytes.new.state ≡ (row_of (On component) (read_as result) bytes.old.state).state }
+    ensures answers { let s = bytes.old.state in
+        Byte result ≡ (row_of (On component) (read_as result) s).answer }
+    ensures state { let s = bytes.old.state in
+        bytes.new.state ≡ (row_of (On component) (read_as result) s).state }
     ensures owes { owed bytes.new ≤ℤ (owed bytes.old +ℤ pos 4) }
 {
     on_iterator!(bytes, component, iter => iter.read_if(pred))

@@ -160,7 +160,7 @@ impl Rule {
     pub(crate) fn counts_byte(self, component: Component, byte: u8) -> bool
         ensures { result ≡ ((not (is_special component) && has_flags self) && is_digit self byte) }
     {
-        !matches!(component, Component::Special) && self.has_flags() && self.is_digit(byte)
+        self.counts(component) && self.is_digit(byte)
     }
 
     /// The class of that byte.

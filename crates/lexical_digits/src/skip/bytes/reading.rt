@@ -1,15 +1,16 @@
 //! How a `Bytes` reads: the one place where word, cursor, shortcuts, run and decision meet.
 //!
 //! A peek settles, and then looks at the byte at the cursor. To settle is to move the cursor to the
-//! place, and only at a separator is there something to do. All ways of a peek end in that one look,
-//! so a compiler knows in the `next` after it that the cursor is within the buffer, and the byte.
+//! place, and only at a separator is there something to do. All ways of a peek end in that one
+//! look, so a compiler knows in the `next` after it that the cursor is within the buffer, and the
+//! byte.
 //!
 //! | At the cursor | a peek settles | a next |
 //! |---|---|---|
 //! | any byte, where no component has a flag | there | passes it: two looks |
 //! | a direct byte: a digit, or any byte without flags | there | passes it: two looks |
 //! | neither digit nor separator | there | passes it uncounted: two looks |
-//! | a lone separator between a counted digit and a digit | after it: two looks | passes both: four looks |
+//! | a lone separator from a counted digit to a digit | after it: two looks | passes both: four |
 //! | any other separator | by the decision | by the decision; after one look it passes the byte |
 //!
 //! `next_of` lets its component read first; a peek does so at a separator, and asks the decision.
@@ -168,8 +169,8 @@ impl<'a> Bytes<'a> {
 
     /// The next byte that a component keeps, where any component may have a flag. The cursor moves
     /// past that byte, and the component counts it if it is a digit.
-    /// `next_of` calls `read_as` before, so the component reads. The other case stores no rule, since
-    /// a compiler keeps fields in registers only in a loop with few stores.
+    /// `next_of` calls `read_as` before, so the component reads. The other case stores no rule,
+    /// since a compiler keeps fields in registers only in a loop with few stores.
     #[inline(always)]
     fn next_flagged(&mut self, component: Component) -> Option<&'a u8>
         ensures { NextsOf component self.old self.new result }
