@@ -2,7 +2,7 @@
 
 ghost use Rattle.std.specs.Prelude.{◌≡◌, ◌+◌, ◌<◌, ◌≤◌, ◌*◌, ◌^◌, ℕ, false, IfSome, Some, None, MatchOption};
 ghost use Rattle.std.specs.Float as Ieee;
-ghost use Rattle.std.specs.Float.{Format, binary32, binary64};
+ghost use Rattle.std.specs.Float.{Format, inf, nan, binary32, binary64};
 ghost use Rattle.std.specs.Float.Ieee.{neg, round};
 ghost use Rattle.std.specs.Float.Parse.{parse_float as std_float};
 ghost use Rattle.digit_floats.specs.Near.{IsBetween};
@@ -44,6 +44,14 @@ pub trait Float: Copy {
     /// The float with the other sign.
     fn negated(self) -> Self
         ensures { value result ≡ neg (value self) };
+
+    /// The infinity without a minus.
+    fn infinity() -> Self
+        ensures { value result ≡ inf false };
+
+    /// The value that is not a number.
+    fn not_a_number() -> Self
+        ensures { value result ≡ nan };
 }
 
 impl Float for f64 {
@@ -84,6 +92,16 @@ impl Float for f64 {
     fn negated(self) -> f64 {
         -self
     }
+
+    #[inline(always)]
+    fn infinity() -> f64 {
+        f64::INFINITY
+    }
+
+    #[inline(always)]
+    fn not_a_number() -> f64 {
+        f64::NAN
+    }
 }
 
 impl Float for f32 {
@@ -123,6 +141,16 @@ impl Float for f32 {
     #[inline(always)]
     fn negated(self) -> f32 {
         -self
+    }
+
+    #[inline(always)]
+    fn infinity() -> f32 {
+        f32::INFINITY
+    }
+
+    #[inline(always)]
+    fn not_a_number() -> f32 {
+        f32::NAN
     }
 }
 

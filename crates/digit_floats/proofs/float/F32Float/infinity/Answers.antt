@@ -1,0 +1,7 @@
+use Rattle.std.proofs.Common.{refl}
+use lib.Ieee.{of_bits}
+use Rattle.digit_floats.proofs.float.F32Float.infinity.Goals as goal
+
+pub returns : goal.returns
+unfolding of_bits
+returns c = refl
