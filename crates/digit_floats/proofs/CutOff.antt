@@ -2,7 +2,7 @@
 use Rattle.std.proofs.Common.{◌≡◌, ℕ, ◌+◌, ◌-◌, ◌*◌, ◌/◌, ◌%◌, ◌^◌, ◌<◌, ◌≤◌, Bool, true, false, cond, refl, sym, ap, subst, ◌∙◌, arith}
 use Prim.Native.Nat.{compare, Ordering}
 use mathlib.Core.Bool.{not}
-use lib.Dec.{T, is_le, compare_is_eq, ltb, ltb→lt, nltb→le, leb→le, nleb→lt, eqb→eq}
+use lib.Dec.{T, is_le, compare_is_eq, ltb, ltb→lt, nltb→le, leb→le, nleb→lt, eqb→eq, eqb_refl}
 use lib.Pow.{pow_pos, pow-add}
 use native.Mathlib.Nat.{mul_comm, mul-le-mul_right, mul-pos, lt_of_mul-lt-mul_right, div-add-mod', div-eq_of_lt-le, mod-lt}
 use lib.Ieee.{Float, Format, prec, low, size, units, nearest, round}
@@ -13,7 +13,7 @@ pub record IsBetweenHalves (a b h : ℕ) : Type 0 where
   pub above : h * b < 2 * a
   pub below : 2 * a < (h + 1) * b
 
-compare_lt : (a b : ℕ) → a < b → compare a b ≡ Ordering.lt
+pub compare_lt : (a b : ℕ) → a < b → compare a b ≡ Ordering.lt
 compare_lt a b h = go (compare a b) (nleb→lt a b) (eqb→eq a b)
   where
     go : (o : Ordering) → (T (not (is_le o)) → b < a) → (T (compare_is_eq o) → a ≡ b)
@@ -22,13 +22,22 @@ compare_lt a b h = go (compare a b) (nleb→lt a b) (eqb→eq a b)
     go Ordering.eq m e = absurd (omega (arith, e tt))
     go Ordering.gt m e = absurd (omega (arith, m tt))
 
-compare_gt : (a b : ℕ) → b < a → compare a b ≡ Ordering.gt
+pub compare_gt : (a b : ℕ) → b < a → compare a b ≡ Ordering.gt
 compare_gt a b h = go (compare a b) (leb→le a b)
   where
     go : (o : Ordering) → (T (is_le o) → a ≤ b) → o ≡ Ordering.gt
     go Ordering.lt m = absurd (omega (arith, m tt))
     go Ordering.eq m = absurd (omega (arith, m tt))
     go Ordering.gt m = refl
+
+pub compare_eq : (a b : ℕ) → a ≡ b → compare a b ≡ Ordering.eq
+compare_eq a b e =
+    go (compare a b) (subst (λ z. T (compare_is_eq (compare a z))) e (eqb_refl a))
+  where
+    go : (o : Ordering) → T (compare_is_eq o) → o ≡ Ordering.eq
+    go Ordering.lt t = absurd t
+    go Ordering.eq t = refl
+    go Ordering.gt t = absurd t
 
 module _ (a b h : ℕ) (B : 0 < b) (within : IsBetweenHalves a b h) where
   whole : (p : ℕ) → 0 < p → a / (b * p) ≡ h / (p * 2)

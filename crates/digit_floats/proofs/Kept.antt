@@ -111,21 +111,23 @@ module _ (bytes : List ℕ) (kept : Kept) (number byte : ℕ) (is : IsKept bytes
 
 -- ---- a text
 
-after_push : (n : ℕ) (ds : List ℕ) (d : ℕ)
-    → digits_value_after 10 n (ds ++ d ∷ []) ≡ digits_value_after 10 n ds * 10 + digit_value d
-after_push n [] d = refl
-after_push n (x ∷ ds) d = after_push (n * 10 + digit_value x) ds d
+after_push : (radix n : ℕ) (ds : List ℕ) (d : ℕ)
+    → digits_value_after radix n (ds ++ d ∷ [])
+    ≡ digits_value_after radix n ds * radix + digit_value d
+after_push radix n [] d = refl
+after_push radix n (x ∷ ds) d = after_push radix (n * radix + digit_value x) ds d
 
-module _ (text : List ℕ) (i number : ℕ) (within : i < length text) where
-  pub value_more : is_ascii_digit (get_or text i 0) ≡ true
-      → digits_value_after 10 number (filter is_ascii_digit (take (i + 1) text))
-      ≡ digits_value_after 10 number (filter is_ascii_digit (take i text)) * 10
-      + digit_value (get_or text i 0)
+module _ (radix : ℕ) (p : ℕ → Bool) (text : List ℕ) (i number : ℕ) (within : i < length text) where
+  abbrev value_of : List ℕ → ℕ
+  value_of xs = digits_value_after radix number (filter p xs)
+
+  pub value_more : p (get_or text i 0) ≡ true
+      → value_of (take (i + 1) text)
+      ≡ value_of (take i text) * radix + digit_value (get_or text i 0)
   value_more e =
-      rw (filter_more is_ascii_digit text i 0 within, e)
-      (after_push number (filter is_ascii_digit (take i text)) (get_or text i 0))
+      rw (filter_more p text i 0 within, e)
+      (after_push radix number (filter p (take i text)) (get_or text i 0))
 
-  pub value_same : is_ascii_digit (get_or text i 0) ≡ false
-      → digits_value_after 10 number (filter is_ascii_digit (take (i + 1) text))
-      ≡ digits_value_after 10 number (filter is_ascii_digit (take i text))
-  value_same e = rw (filter_more is_ascii_digit text i 0 within, e, append-nil) refl
+  pub value_same : p (get_or text i 0) ≡ false
+      → value_of (take (i + 1) text) ≡ value_of (take i text)
+  value_same e = rw (filter_more p text i 0 within, e, append-nil) refl

@@ -5,6 +5,7 @@ mod CutOff
 mod Decimals
 mod Exponents
 mod First
+mod HexDigits
 mod Huge
 mod Kept
 mod Mantissas
@@ -15,4 +16,6 @@ mod Signs
 mod Squeeze
 mod Sums
 mod Tens
+mod Units
+mod WholePart
 mod Written

@@ -12,7 +12,7 @@ unfolding odd is_nan
 odd_number d s zero k l = tt
 odd_number d s (suc q) k l = tt
 
-units_number : (f : Format) (s : Bool) (q k : ℕ) → NotNan (units f s q k)
+pub units_number : (f : Format) (s : Bool) (q k : ℕ) → NotNan (units f s q k)
 unfolding units is_nan
 units_number f s q k = go (ltb (q * 2 ^ k) (2 ^ (low f + suc (emax f))))
   where

@@ -11,7 +11,7 @@ use lib.Ieee.Order.{transfer, round_mono}
 
 -- ---- two floats of one value
 
-bits_of_value : (f : Format) (x : Float) (s : Bool) (a : ℕ) → HasValue x s a (2 ^ low f)
+pub bits_of_value : (f : Format) (x : Float) (s : Bool) (a : ℕ) → HasValue x s a (2 ^ low f)
     → to_bits f x ≡ cond s (top f) 0 + (size a - prec f) * hid f + a / 2 ^ (size a - prec f)
 unfolding to_bits
 bits_of_value f nan s a v = absurd v

@@ -1,9 +1,11 @@
+pub mod Binary
 pub mod Bytes
 pub mod Cut
 pub mod Decimals
 pub mod Errors
 pub mod Exact
 pub mod Float
+pub mod Hexadecimal
 pub mod Near
 pub mod Parts
 pub mod Separators

@@ -1,9 +1,9 @@
 //! `f64` and `f32`: what rounding asks of a type of floats.
 
-ghost use Rattle.std.specs.Prelude.{◌≡◌, ◌+◌, ◌<◌, ◌≤◌, ◌*◌, ◌^◌, ℕ, false, IfSome, Some, None, MatchOption};
+ghost use Rattle.std.specs.Prelude.{◌≡◌, ◌+◌, ◌-◌, ◌<◌, ◌≤◌, ◌*◌, ◌^◌, ℕ, false, IfSome, Some, None, MatchOption};
 ghost use Rattle.std.specs.Float as Ieee;
 ghost use Rattle.std.specs.Float.{Format, inf, nan, binary32, binary64};
-ghost use Rattle.std.specs.Float.Ieee.{neg, round};
+ghost use Rattle.std.specs.Float.Ieee.{prec, low, neg, round, units};
 ghost use Rattle.std.specs.Float.Parse.{parse_float as std_float};
 ghost use Rattle.digit_floats.specs.Near.{IsBetween};
 
@@ -44,6 +44,22 @@ pub trait Float: Copy {
     /// The float with the other sign.
     fn negated(self) -> Self
         ensures { value result ≡ neg (value self) };
+
+    /// How many binary digits a float has.
+    fn precision() -> u64
+        ensures value { result ≡ prec format }
+        ensures few { (0 < result) × (result ≤ 53) };
+
+    /// The least float above 0 is 2 to minus this.
+    fn least() -> u64
+        ensures { result ≡ low format };
+
+    /// So many of the least floats above 0, times 2 to `scale`; from the least number above all
+    /// floats on, the infinity.
+    fn of_units(count: u64, scale: u128) -> Self
+        requires few { count ≤ 2 ^ prec format }
+        requires many { 0 < scale → 2 ^ (prec format - 1) ≤ count }
+        ensures { value result ≡ units format false count scale };
 
     /// The infinity without a minus.
     fn infinity() -> Self
@@ -94,6 +110,24 @@ impl Float for f64 {
     }
 
     #[inline(always)]
+    fn precision() -> u64 {
+        53
+    }
+
+    #[inline(always)]
+    fn least() -> u64 {
+        1074
+    }
+
+    #[inline(always)]
+    fn of_units(count: u64, scale: u128) -> f64 {
+        if scale >= 2046 {
+            return f64::INFINITY;
+        }
+        f64::from_bits(count + ((scale as u64) << 52))
+    }
+
+    #[inline(always)]
     fn infinity() -> f64 {
         f64::INFINITY
     }
@@ -141,6 +175,24 @@ impl Float for f32 {
     #[inline(always)]
     fn negated(self) -> f32 {
         -self
+    }
+
+    #[inline(always)]
+    fn precision() -> u64 {
+        24
+    }
+
+    #[inline(always)]
+    fn least() -> u64 {
+        149
+    }
+
+    #[inline(always)]
+    fn of_units(count: u64, scale: u128) -> f32 {
+        if scale >= 254 {
+            return f32::INFINITY;
+        }
+        f32::from_bits((count as u32) + ((scale as u32) << 23))
     }
 
     #[inline(always)]

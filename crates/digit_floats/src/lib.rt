@@ -1,10 +1,14 @@
 //! The nearest `f64` or `f32` of a text with digit separators, and its decimal number.
 #![tactic(auto)]
 
+mod binary;
 mod decimal;
 mod error;
 mod exact;
 mod float;
+#[cfg(test)]
+mod hex_tests;
+mod hexadecimal;
 pub mod laws;
 mod long;
 mod near;
@@ -18,6 +22,7 @@ mod tests;
 pub use self::decimal::{Decimal, read_decimal_from};
 pub use self::error::FloatError;
 pub use self::float::Float;
+pub use self::hexadecimal::{HexMantissa, read_hex_mantissa, round_hex};
 pub use self::parts::{Mantissa, Marks, Power, read_exponent, read_mantissa};
 pub use self::read::{parse_float, parse_float_from, read_float, read_float_from};
 pub use self::round::round_parts;

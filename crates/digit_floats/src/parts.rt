@@ -1,9 +1,9 @@
 //! Sign, mantissa and exponent of a number, each component from where it begins.
 
 ghost use Rattle.std.specs.Prelude.{◌≡◌, true, ◌+◌, ◌-◌, ◌^◌, ◌<◌, ◌≤◌, min, length, filter, slice_range, IsTrue, IfOk, IfErr, OnOk, Ok, Err, MatchResult};
-ghost use Rattle.std.specs.Char.{is_ascii_digit};
+ghost use Rattle.std.specs.Char.{is_ascii_digit, is_ascii_hexdigit};
 ghost use Rattle.std.specs.Str.Parse.{digits_value, digits_value_after};
-ghost use Rattle.lexical_format.specs.Word.{is_supported};
+ghost use Rattle.lexical_format.specs.Word.{exponent_radix, is_supported};
 ghost use Rattle.lexical_digits.specs.State.{rule_of};
 ghost use Rattle.lexical_digits.specs.declared.skip.component.Component.TheVariants.{Integer};
 ghost use Rattle.digit_literals.specs.First.{ReadsFirst};
@@ -50,7 +50,7 @@ pub fn read_sign(text: &[u8], at: usize) -> (bool, usize)
 
 /// Whether a point is at a position.
 #[inline(always)]
-fn has_point(text: &[u8], at: usize, point: u8) -> bool
+pub fn has_point(text: &[u8], at: usize, point: u8) -> bool
     ensures answer { result ≡ stands (is_point point) text.now at }
     ensures within { result ≡ true → at < length text.now }
 {
@@ -77,8 +77,8 @@ const MOST: u64 = 9_999_999_999_999_999_999;
 
 /// The first digits of a component from a position on, after those of a number, and where they end.
 #[inline(always)]
-#[tactic(auto, using(crate::proofs::Decimals::digits_are, digit_literals::proofs::ForCallers::dropped), unfolding(crate::specs::Float::digits_from, crate::specs::Float::digits_end))]
-fn read_part(
+#[tactic(auto, using(crate::proofs::Decimals::digits_of_radix, digit_literals::proofs::ForCallers::dropped), unfolding(crate::specs::Float::digits_from, crate::specs::Float::digits_end))]
+pub fn read_part(
     text: &[u8],
     word: u128,
     component: Component,
@@ -99,6 +99,9 @@ fn read_part(
         (digits_from word text.now component at) }
     ensures bytes { (rule_of word component).radix ≡ 10
         → filter is_ascii_digit (slice_range text.now at result.1)
+        ≡ digits_from word text.now component at }
+    ensures hex_bytes { (rule_of word component).radix ≡ 16
+        → filter is_ascii_hexdigit (slice_range text.now at result.1)
         ≡ digits_from word text.now component at }
     ensures fits { result.0.value ≤ most }
     ensures first { ReadsFirst (rule_of word component).radix most before
@@ -192,12 +195,13 @@ pub struct Power {
 }
 
 /// Reads an exponent, if its mark is at this position: without a mark it is 0 and ends here. The
-/// error is where a digit would be: none follows the mark, and a sign after it.
+/// error is where a digit would be: none follows the mark, and a sign after it. Requires that the
+/// word is supported, and that its exponent is decimal.
 #[inline(always)]
 #[tactic(auto, unfolding(crate::specs::Float::exponents))]
 pub fn read_exponent(text: &[u8], word: u128, at: usize, mark: u8) -> Result<Power, usize>
     requires supported { IsTrue (is_supported word) }
-    requires decimal { IsDecimal word }
+    requires decimal { exponent_radix word ≡ 10 }
     requires within { at ≤ length text.now }
     ensures value { IfOk result (λ p.
         p.value ≡ min (digits_value 10 (exponent_digits word text.now mark at)) (2 ^ 64 - 1)) }

@@ -14,7 +14,7 @@ loop-byte-preserved c =
           let digit : is_ascii_digit (get_or text i 0) ≡ true = cc in
           record {
             keeps = λ number is.
-                rw (w.bytes-is, w.now-is, value_more text i number within digit)
+                rw (w.bytes-is, w.now-is, value_more 10 is_ascii_digit text i number within digit)
                 (w.keep-now.ensures.keeps _ (c.loop-byte.invariant.keeps number is));
             fits = rw w.now-is w.keep-now.ensures.fits;
             few = rw w.now-is (omega (arith, w.keep-now.ensures.few));
@@ -24,7 +24,7 @@ loop-byte-preserved c =
           let digit : is_ascii_digit (get_or text i 0) ≡ false = cc in
           record {
             keeps = λ number is.
-                rw (w.bytes-is, w.now-is, value_same text i number within digit)
+                rw (w.bytes-is, w.now-is, value_same 10 is_ascii_digit text i number within digit)
                 (c.loop-byte.invariant.keeps number is);
             fits = rw w.now-is c.loop-byte.invariant.fits;
             few = rw w.now-is (omega arith);

@@ -1,0 +1,76 @@
+//! The float nearest to a whole number times a power of two.
+
+ghost use Rattle.std.specs.Prelude.{◌≡◌, false, ◌+◌, ◌-◌, ◌*◌, ◌/◌, ◌%◌, ◌^◌, ◌<◌, ◌≤◌, ℕ};
+ghost use Rattle.std.specs.Float.Ieee.{round, low};
+ghost use Rattle.digit_floats.specs.Binary.{IsWholePart, shifted};
+
+use super::float::Float;
+
+/// How many binary digits a number has.
+fn bit_length(digits: u128) -> u128
+    requires { 2 ^ 53 ≤ digits }
+    ensures some { (53 < result) × (result ≤ 128) }
+    ensures least { 2 ^ (result - 1) ≤ digits }
+    ensures most { digits < 2 ^ result }
+{
+    128 - digits.leading_zeros() as u128
+}
+
+/// The power of two of the units in which a number of so many binary digits is rounded, and how many
+/// digits it loses there.
+fn scale_of(size: u128, above: u128, below: u128, precision: u128) -> (u128, u128)
+    requires size { (53 < size) × (size ≤ 128) }
+    requires above { above < 2 ^ 70 }
+    requires below { below < 2 ^ 70 }
+    requires precision { precision ≤ 53 }
+    ensures scale { result.0 ≡ size + above - (below + precision) }
+    ensures shift { result.0 + below ≡ above + result.1 }
+    ensures some { 0 < result.1 }
+{
+    let scale = (size + above).saturating_sub(below + precision);
+    (scale, scale + below - above)
+}
+
+/// The digits over 2 to `shift`, to the nearest whole number and at a tie to the even one, where
+/// `more` says that the number is above the digits.
+fn shift_digits(digits: u128, shift: u128, more: bool) -> u64
+    requires shift { 0 < shift }
+    requires few { digits < 2 ^ 119 }
+    requires fits { digits / 2 ^ shift < 2 ^ 53 }
+    ensures value { result ≡ shifted digits shift more }
+    ensures least { digits / 2 ^ shift ≤ result }
+    ensures most { result ≤ digits / 2 ^ shift + 1 }
+{
+    if shift >= 120 {
+        return 0;
+    }
+    let whole = (digits >> shift) as u64;
+    let rest = digits % (1 << shift);
+    let half = 1 << (shift - 1);
+    if rest < half {
+        return whole;
+    }
+    if rest > half {
+        return whole + 1;
+    }
+    if more {
+        return whole + 1;
+    }
+    whole + whole % 2
+}
+
+/// The float nearest to a number whose whole part, in units of 2 to `above` over 2 to `below` of the
+/// least floats above 0, is the digits; `more` says whether the number is above that.
+pub fn round_binary<F: Float>(digits: u128, more: bool, above: u128, below: u128) -> F
+    requires many { 2 ^ 53 ≤ digits }
+    requires few { digits < 2 ^ 119 }
+    requires above { above < 2 ^ 70 }
+    requires below { below < 2 ^ 70 }
+    ensures { (num den : ℕ) → 0 < den
+        → IsWholePart (num * 2 ^ low F.format * 2 ^ below) (2 ^ above * den) digits more
+        → F.value result ≡ round F.format false num den }
+{
+    let size = bit_length(digits);
+    let (scale, shift) = scale_of(size, above, below, F::precision() as u128);
+    F::of_units(shift_digits(digits, shift, more), scale)
+}

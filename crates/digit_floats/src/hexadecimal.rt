@@ -1,0 +1,220 @@
+//! Numbers of hexadecimal digits and a power of two, such as `1.8p3`, and the nearest float.
+
+ghost use Rattle.std.specs.Prelude.{◌≡◌, ◌+◌, ◌-◌, ◌*◌, ◌/◌, ◌%◌, ◌^◌, ◌<◌, ◌≤◌, ◌++◌, ℕ, min, length, filter, if◌then◌else◌, IsTrue, true, false};
+ghost use Rattle.std.specs.Char.{is_ascii_hexdigit, digit_value};
+ghost use Rattle.std.specs.Float.{NotNan};
+ghost use Rattle.std.specs.Float.Ieee.{round};
+ghost use Rattle.std.specs.Str.Parse.{digits_value, digits_value_after};
+ghost use Rattle.lexical_format.specs.Word.{is_supported};
+ghost use Rattle.lexical_digits.specs.declared.skip.component.Component.TheVariants.{Integer};
+ghost use Rattle.digit_floats.specs.Float.{digits_from, digits_end, fraction_digits, mantissa_end};
+ghost use Rattle.digit_floats.specs.Hexadecimal.{IsHexadecimal, IsHexMantissa, IsHexKept, hex_integer_of, hex_fraction_of, nearest_hex};
+
+use super::binary::round_binary;
+use super::float::{Float, signed};
+use super::parts::{Power, has_point, read_part};
+use lexical_digits::skip::Component;
+
+/// The hexadecimal digits of integer and fraction, and where they are in their text.
+#[derive(Clone, Copy, Debug, PartialEq, Eq)]
+pub struct HexMantissa {
+    /// How many there are, zeros that lead among them.
+    pub digits: usize,
+    /// How many of them follow the point.
+    pub places: usize,
+    /// Where the integer begins: after a sign and a prefix.
+    pub start: usize,
+    /// Where it ends: here a point is, if any.
+    pub whole_end: usize,
+    /// Where the fraction begins: after a point, if any.
+    pub fraction_start: usize,
+    /// Where the fraction ends.
+    pub end: usize,
+}
+
+/// Reads integer and fraction from a position on, where neither a sign nor a prefix is: none of
+/// them may have a digit. Requires that the word is supported, that its mantissa is hexadecimal,
+/// and its exponent decimal.
+#[inline(always)]
+#[tactic(auto, unfolding(crate::specs::Float::mantissas))]
+pub fn read_hex_mantissa(text: &[u8], word: u128, at: usize, point: u8) -> HexMantissa
+    requires supported { IsTrue (is_supported word) }
+    requires hexadecimal { IsHexadecimal word }
+    requires within { at ≤ length text.now }
+    ensures is { IsHexMantissa text.now result }
+    ensures integer { hex_integer_of text.now result ≡ digits_from word text.now Integer at }
+    ensures fraction { let e = digits_end word text.now Integer at in
+        hex_fraction_of text.now result ≡ fraction_digits word text.now point e }
+    ensures start { result.start ≡ at }
+    ensures whole_end { result.whole_end ≡ digits_end word text.now Integer at }
+    ensures end { result.end ≡ mantissa_end word text.now point at }
+{
+    let (integer, whole_end) = read_part(text, word, Component::Integer, at, 0, 0);
+    if !has_point(text, whole_end, point) {
+        return HexMantissa {
+            digits: integer.count,
+            places: 0,
+            start: at,
+            whole_end,
+            fraction_start: whole_end,
+            end: whole_end,
+        };
+    }
+    let (fraction, end) = read_part(text, word, Component::Fraction, whole_end + 1, 0, 0);
+    HexMantissa {
+        digits: integer.count + fraction.count,
+        places: fraction.count,
+        start: at,
+        whole_end,
+        fraction_start: whole_end + 1,
+        end,
+    }
+}
+
+/// The first digits of a number.
+#[derive(Clone, Copy)]
+struct HexKept {
+    /// Their value: from 2^60 on if digits follow them.
+    value: u64,
+    /// How many digits follow them.
+    cut: u64,
+    /// Whether one of these isn't 0.
+    more: bool,
+}
+
+/// The value of a hexadecimal digit.
+fn hex_value(byte: u8) -> u64
+    requires { is_ascii_hexdigit byte ≡ true }
+    ensures value { result ≡ digit_value byte }
+    ensures few { result < 16 }
+{
+    if byte <= b'9' {
+        (byte - b'0') as u64
+    } else if byte <= b'F' {
+        (byte - b'A') as u64 + 10
+    } else {
+        (byte - b'a') as u64 + 10
+    }
+}
+
+/// Keeps one digit more, or cuts it.
+fn keep_hex(kept: HexKept, digit: u64) -> HexKept
+    requires digit { digit < 16 }
+    requires few { kept.cut < 2 ^ 64 - 1 }
+    ensures keeps { (number : ℕ) → IsHexKept kept number
+        → IsHexKept result (number * 16 + digit) }
+    ensures few { result.cut ≤ kept.cut + 1 }
+{
+    if kept.value < 1 << 60 {
+        return HexKept {
+            value: kept.value * 16 + digit,
+            ..kept
+        };
+    }
+    if digit == 0 {
+        return HexKept {
+            cut: kept.cut + 1,
+            ..kept
+        };
+    }
+    HexKept {
+        value: kept.value,
+        cut: kept.cut + 1,
+        more: true,
+    }
+}
+
+/// Keeps the digits of a text, or cuts them.
+fn keep_hex_digits(kept: HexKept, text: &[u8]) -> HexKept
+    requires few { kept.cut + length text.now < 2 ^ 64 }
+    ensures keeps { (number : ℕ) → IsHexKept kept number → IsHexKept result
+        (digits_value_after 16 number (filter is_ascii_hexdigit text.now)) }
+    ensures few { result.cut ≤ kept.cut + length text.now }
+{
+    let mut now = kept;
+    for byte in text {
+        if byte.is_ascii_hexdigit() {
+            now = keep_hex(now, hex_value(*byte));
+        }
+    }
+    now
+}
+
+/// Keeps the first digits of two texts.
+fn keep_hex_both(whole: &[u8], fraction: &[u8]) -> HexKept
+    requires few { length whole.now + length fraction.now < 2 ^ 63 }
+    ensures keeps { IsHexKept result (digits_value 16
+        (filter is_ascii_hexdigit whole.now ++ filter is_ascii_hexdigit fraction.now)) }
+    ensures few { result.cut ≤ length whole.now + length fraction.now }
+{
+    let none = HexKept {
+        value: 0,
+        cut: 0,
+        more: false,
+    };
+    let kept = keep_hex_digits(none, whole);
+    keep_hex_digits(kept, fraction)
+}
+
+/// The float nearest to a number that is kept, of which the last `places` digits follow the point,
+/// times two to `up` over two to `under`.
+fn round_kept<F: Float>(kept: HexKept, places: u64, up: u64, under: u64) -> F
+    requires full { 0 < kept.cut → 2 ^ 60 ≤ kept.value }
+    ensures { (number : ℕ) → IsHexKept kept number → F.value result ≡ round F.format false
+        (number * 2 ^ up) (2 ^ (4 * places + under)) }
+{
+    if kept.value == 0 {
+        return F::of_units(0, 0);
+    }
+    let above = F::least() as u128 + 4 * kept.cut as u128 + up as u128;
+    let below = 4 * places as u128 + under as u128;
+    if kept.cut == 0 {
+        round_binary((kept.value as u128) << 53, false, above, below + 53)
+    } else {
+        round_binary(kept.value as u128, kept.more, above, below)
+    }
+}
+
+/// The same times two to a power. Where no more than 2^60 digits are cut or follow the point, a
+/// power above `u64::MAX` is as good as `u64::MAX`.
+fn round_power<F: Float>(kept: HexKept, places: u64, down: bool, power: u64) -> F
+    requires full { 0 < kept.cut → 2 ^ 60 ≤ kept.value }
+    ensures value { (number : ℕ) → IsHexKept kept number
+        → F.value result ≡ round F.format false (number * 2 ^ (if down then 0 else power))
+        (2 ^ (4 * places + (if down then power else 0))) }
+    ensures capped { kept.cut < 2 ^ 60 → places < 2 ^ 60 → (n number : ℕ)
+        → power ≡ min n (2 ^ 64 - 1) → IsHexKept kept number
+        → F.value result ≡ round F.format false (number * 2 ^ (if down then 0 else n))
+        (2 ^ (4 * places + (if down then n else 0))) }
+{
+    if down {
+        round_kept(kept, places, 0, power)
+    } else {
+        round_kept(kept, places, power, 0)
+    }
+}
+
+/// The float nearest to the number that the hexadecimal digits of integer and fraction and a power
+/// of two make, with a sign. `mantissa` and `power` are what [`read_hex_mantissa`] and
+/// [`read_exponent`](crate::read_exponent) answered of this text. An exponent above `u64::MAX` is
+/// taken as `u64::MAX`, which makes no difference in a text of less than 2^60 bytes.
+#[inline(never)]
+#[tactic(auto, using(crate::proofs::Numbers::round_number))]
+pub fn round_hex<F: Float>(text: &[u8], negative: bool, mantissa: HexMantissa, power: Power) -> F
+    requires { IsHexMantissa text.now mantissa }
+    ensures value { F.value result ≡ nearest_hex F.format negative
+        (hex_integer_of text.now mantissa ++ hex_fraction_of text.now mantissa) mantissa.places
+        power.negative power.value }
+    ensures capped { length text.now < 2 ^ 60 → (n : ℕ) → power.value ≡ min n (2 ^ 64 - 1)
+        → F.value result ≡ nearest_hex F.format negative
+        (hex_integer_of text.now mantissa ++ hex_fraction_of text.now mantissa) mantissa.places
+        power.negative n }
+    ensures number { NotNan (F.value result) }
+{
+    let kept = keep_hex_both(
+        &text[mantissa.start..mantissa.whole_end],
+        &text[mantissa.fraction_start..mantissa.end],
+    );
+    let x: F = round_power(kept, mantissa.places as u64, power.negative, power.value);
+    signed(negative, x)
+}
