@@ -33,7 +33,8 @@ use Rattle.digit_numbers.specs.declared.number.NumberError.TheVariants as errors
 use Rattle.std.specs.Str.Parse.{digits_value}
 use Rattle.digit_numbers.specs.Forms.{is_plus_of, unprefixed}
 use Rattle.digit_numbers.specs.Json.{is_e, is_zero, IsJsonInteger, IsJsonNumber, IsLongest}
-use Rattle.digit_numbers.specs.Numbers.{IsNumber, IsWholeFault, HasNone, IsFault, IsLarge, IsLargeAt, IsFloat, IsInteger, IsIntegerAt, HasNoIntegerAt, is_float, past_sign, has_sign, has_exponent, is_zero_alone, literal_end, literal_digits, language}
+use Rattle.digit_numbers.specs.Numbers.{IsNumber, IsWholeFault, HasNone, IsFault, IsLarge, IsLargeAt, IsFloat, IsInteger, IsIntegerAt, HasNoIntegerAt, is_float, past_sign, has_sign, has_exponent, is_zero_alone, literal_end, literal_digits, language, special_here}
+use Rattle.digit_numbers.specs.Specials.{special_at}
 use Rattle.digit_numbers.proofs.JsonBytes.{IsRun, IsScan, minus_is, none, zero_alone, integer_is, whole, float}
 use Rattle.digit_numbers.proofs.Large.{has_value, has_digits}
 
@@ -481,9 +482,9 @@ module _ (text : List ℕ) (start : ℕ) (l : start ≤ length text) where
 
   pub none_of : (error : NumberError) (end : ℕ) → IsFault JSON text start error
       → IsJsonNumber text start end → ⊥
-  none_of (errors.Empty stops) end h n = none_at stops end h n
-  none_of (errors.Overflow over) end h n = no_large over h
-  none_of (errors.Invalid _) end h n = h
+  none_of (errors.Empty stops) end h n = none_at stops end h.digits n
+  none_of (errors.Overflow over) end h n = no_large over h.digits
+  none_of (errors.Invalid _) end h n = h.digits
 
   pub integer_of : (negative : Bool) (magnitude said end : ℕ)
       → IsInteger JSON text start negative magnitude said end
@@ -534,17 +535,22 @@ module _ (text : List ℕ) (start : ℕ) (l : start ≤ length text) where
           let first = large.first in
           rw r.ends (digits_alone k (large_some large.over large.large) (λ z. cc))
 
+  no_special : special_here JSON text start ≡ None
+  unfolding special_at
+  no_special = refl
+
   pub number_of : {T : Type 0} (format : Format) (value : T → Float) (n : Number T) (end : ℕ)
       → IsNumber JSON text start format value n end → IsLongest text start end
   number_of format value (numbers.Integer negative magnitude said) end h =
-      (integer_of negative magnitude said end h).0
-  number_of format value (numbers.Float x) end h = float_of format (value x) end h
+      (integer_of negative magnitude said end (h.digits no_special)).0
+  number_of format value (numbers.Float x) end h =
+      float_of format (value x) end (h.digits no_special)
 
   pub none_of_whole : {T : Type 0} (format : Format) (value : T → Float) (error : NumberError)
       → IsWholeFault JSON text start format value error
       → IsJsonNumber text start (length text) → ⊥
-  none_of_whole format value (errors.Empty stops) h n = none_at stops (length text) h n
-  none_of_whole format value (errors.Overflow over) h n = no_large over h
+  none_of_whole format value (errors.Empty stops) h n = none_at stops (length text) h.digits n
+  none_of_whole format value (errors.Overflow over) h n = no_large over h.digits
   none_of_whole format value (errors.Invalid end) h n =
       let l = (number_of format value h.number end h.is).longest (length text) n in
       omega (arith, l, h.before_end)

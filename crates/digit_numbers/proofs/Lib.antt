@@ -2,4 +2,5 @@ pub mod Alone
 pub mod Json
 pub mod JsonBytes
 pub mod Large
+pub mod Names
 pub mod Zeros

@@ -2,3 +2,4 @@ pub mod Forms
 pub mod Json
 pub mod Numbers
 pub mod Reads
+pub mod Specials

@@ -1,7 +1,8 @@
--- The number at a position of a text by a form: the longest prefix of the rest that is one. A first
--- `0` that the language refuses before more digits is a number by itself.
-use Rattle.std.specs.Prelude.{◌≡◌, ℕ, ◌+◌, ◌-◌, ◌^◌, ◌<◌, ◌==◌, Bool, true, false, not, if◌then◌else◌, ◌&&◌, ◌||◌, nat_lt, List, Err, [], ◌++◌, length, codes, decimal, is_some}
-use Rattle.std.specs.Float.{Float, Format}
+-- The number at a position of a text by a form, in layers. After any sign it is a special value if
+-- one is there. Otherwise it is the longest prefix of the rest that is a number in digits, where a
+-- first `0` that the language refuses before more digits is a number by itself.
+use Rattle.std.specs.Prelude.{◌≡◌, ℕ, ◌+◌, ◌-◌, ◌^◌, ◌<◌, ◌==◌, Bool, true, false, not, if◌then◌else◌, ◌&&◌, ◌||◌, nat_lt, List, Err, [], ◌++◌, length, codes, decimal, is_some, ⊤, Option, None, Some}
+use Rattle.std.specs.Float.{Float, Format, NotNan}
 use Rattle.std.specs.Float.Numeral.{Parts, nearest_float}
 use Rattle.std.specs.Str.Parse.{digits_value}
 use Rattle.lexical_digits.specs.declared.skip.component.Component.TheVariants.{Integer}
@@ -16,11 +17,13 @@ use Rattle.digit_floats.specs.Float.{digits_end, digits_from, fraction_digits, m
 use Rattle.digit_languages.specs.declared.language.Language.{Language}
 use Rattle.digit_languages.specs.Literals.{prefix_word, word_at, digits_at, refuses}
 use Rattle.digit_numbers.specs.declared.form.Form.{Form}
+use Rattle.digit_numbers.specs.declared.form.Special.{Special}
 use Rattle.digit_numbers.specs.declared.number.Number.{Number}
 use Rattle.digit_numbers.specs.declared.number.Number.TheVariants as numbers
 use Rattle.digit_numbers.specs.declared.number.NumberError.{NumberError}
 use Rattle.digit_numbers.specs.declared.number.NumberError.TheVariants as errors
 use Rattle.digit_numbers.specs.Forms.{is_minus_of, is_plus_of, is_barred, is_always_float, may_be_float, unprefixed}
+use Rattle.digit_numbers.specs.Specials.{special_at, special_float, name_end}
 
 -- ---- an integer by a language
 
@@ -160,7 +163,7 @@ module _ (f : Form) (text : List ℕ) where
       pub value : x ≡ nearest_float format negative whole_parts
       pub ends : end ≡ whole_end
 
-  -- ---- the number at a start
+  -- ---- the number in digits at a start, after any sign
 
   module _ (start : ℕ) where
     abbrev pub at : ℕ
@@ -183,10 +186,10 @@ module _ (f : Form) (text : List ℕ) where
       pub pointed : is_float at ≡ true → IsFloatAt at (is_negative start) format x end
       pub whole : is_float at ≡ false → IsWholeFloatAt at (is_negative start) format x end
 
-    abbrev pub IsNumber : {T : Type 0} → Format → (T → Float) → Number T → ℕ → Type 0
-    IsNumber format value (numbers.Integer negative magnitude said) end =
+    abbrev pub IsPlainNumber : {T : Type 0} → Format → (T → Float) → Number T → ℕ → Type 0
+    IsPlainNumber format value (numbers.Integer negative magnitude said) end =
         IsInteger negative magnitude said end
-    IsNumber format value (numbers.Float x) end = IsFloat format (value x) end
+    IsPlainNumber format value (numbers.Float x) end = IsFloat format (value x) end
 
     -- no prefix of the rest is one
     pub record HasNone (stops : ℕ) : Type 0 where
@@ -202,10 +205,32 @@ module _ (f : Form) (text : List ℕ) where
       pub large : IsLargeAt language text at over
 
     -- why there is none
-    abbrev pub IsFault : NumberError → Type 0
-    IsFault (errors.Empty stops) = HasNone stops
-    IsFault (errors.Overflow over) = IsLarge over
-    IsFault (errors.Invalid end) = ⊥
+    abbrev pub IsPlainFault : NumberError → Type 0
+    IsPlainFault (errors.Empty stops) = HasNone stops
+    IsPlainFault (errors.Overflow over) = IsLarge over
+    IsPlainFault (errors.Invalid end) = ⊥
+
+    -- ---- the number at a start: a special value, or one in digits
+
+    -- the special value here
+    abbrev pub special_here : Option Special
+    special_here = special_at f text at (has_sign start)
+
+    -- it is the float that a name stands for
+    abbrev pub IsSpecial : {T : Type 0} → (T → Float) → Special → Number T → ℕ → Type 0
+    IsSpecial value s (numbers.Integer negative magnitude said) end = ⊥
+    IsSpecial value s (numbers.Float x) end =
+        (value x ≡ special_float s.value (is_negative start)) × (end ≡ name_end f text at s)
+
+    pub record IsNumber {T : Type 0} (format : Format) (value : T → Float) (number : Number T)
+        (end : ℕ) : Type 0 where
+      pub special : (s : Special) → special_here ≡ Some s → IsSpecial value s number end
+      pub digits : special_here ≡ None → IsPlainNumber format value number end
+
+    -- why there is none: no prefix of the rest is one, or it would be an integer above 128 bits
+    pub record IsFault (error : NumberError) : Type 0 where
+      pub no_special : special_here ≡ None
+      pub digits : IsPlainFault error
 
     -- a number is here, and the text goes on after it
     pub record IsFollowed {T : Type 0} (format : Format) (value : T → Float) (end : ℕ) : Type 0 where
@@ -215,9 +240,14 @@ module _ (f : Form) (text : List ℕ) where
 
     -- of a text that is to be one number
     abbrev pub IsWholeFault : {T : Type 0} → Format → (T → Float) → NumberError → Type 0
-    IsWholeFault format value (errors.Empty stops) = HasNone stops
-    IsWholeFault format value (errors.Overflow over) = IsLarge over
+    IsWholeFault format value (errors.Empty stops) = IsFault (errors.Empty stops)
+    IsWholeFault format value (errors.Overflow over) = IsFault (errors.Overflow over)
     IsWholeFault {T} format value (errors.Invalid end) = IsFollowed format value end
+
+-- a number that isn't NaN
+abbrev pub IsNoNan : {T : Type 0} → (T → Float) → Number T → Type 0
+IsNoNan value (numbers.Integer negative magnitude said) = ⊤
+IsNoNan value (numbers.Float x) = NotNan (value x)
 
 -- ---- an error
 

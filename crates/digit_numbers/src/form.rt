@@ -28,6 +28,51 @@ pub struct Form {
     pub after_point: AfterPoint,
     /// Whether more digits may follow the first `0` of a float.
     pub float_zeros: bool,
+    /// The values that have a name, such as `inf`, if there are any.
+    pub specials: Option<Specials>,
+}
+
+/// Values that have a name. Where a name is, after any sign, it is read before digits: the longest
+/// one, and of several with the same bytes the first.
+///
+/// The bytes of a name are those that the special component of the form's decimal word keeps. So
+/// separators in it are dropped if that word has the special flag.
+#[derive(Clone, Copy, Debug, PartialEq, Eq)]
+pub struct Specials {
+    /// The values. [`Special::ABSENT`] is in the places that aren't used.
+    pub names: [Special; 8],
+    /// Whether letters of ASCII may be in either case.
+    pub any_case: bool,
+}
+
+/// A value that has a name.
+#[derive(Clone, Copy, Debug, PartialEq, Eq)]
+pub struct Special {
+    /// The name, without a sign: the bytes before the first 0, as in `*b"inf\0\0\0\0\0"`. A name
+    /// without bytes is nowhere.
+    pub name: [u8; 8],
+    /// What it stands for.
+    pub value: SpecialValue,
+    /// Whether a sign may be before it, if the form has signs.
+    pub signed: bool,
+}
+
+/// What a name stands for.
+#[derive(Clone, Copy, Debug, PartialEq, Eq)]
+pub enum SpecialValue {
+    /// An infinity. A minus makes it negative.
+    Infinity,
+    /// The value that is not a number. A minus changes nothing.
+    NotANumber,
+}
+
+impl Special {
+    /// No name.
+    pub const ABSENT: Special = Special {
+        name: [0; 8],
+        value: SpecialValue::NotANumber,
+        signed: false,
+    };
 }
 
 /// The signs that a number may begin with.

@@ -17,6 +17,7 @@ pub const JSON: Form = Form {
     needs_fraction: true,
     after_point: AfterPoint::Anything,
     float_zeros: false,
+    specials: None,
 };
 
 /// TOML 1.0, except for `inf` and `nan`. A sign is before no prefix.
@@ -30,6 +31,7 @@ pub const TOML: Form = Form {
     needs_fraction: true,
     after_point: AfterPoint::Anything,
     float_zeros: false,
+    specials: None,
 };
 
 /// Rust's source code. A point that a second one or a name follows is none: `1..2`, `1.max(2)`.
@@ -43,6 +45,7 @@ pub const RUST: Form = Form {
     needs_fraction: false,
     after_point: AfterPoint::NoPointOrName,
     float_zeros: true,
+    specials: None,
 };
 
 /// Python's source code. Python refuses `001`; here it is `0`, and then `01`.
@@ -56,6 +59,7 @@ pub const PYTHON: Form = Form {
     needs_fraction: false,
     after_point: AfterPoint::Anything,
     float_zeros: true,
+    specials: None,
 };
 
 /// JavaScript's source code, in strict mode and in modules. An integer above 128 bits is a float.
@@ -69,6 +73,7 @@ pub const JAVASCRIPT: Form = Form {
     needs_fraction: false,
     after_point: AfterPoint::Anything,
     float_zeros: false,
+    specials: None,
 };
 
 /// Kotlin's source code.
@@ -82,6 +87,7 @@ pub const KOTLIN: Form = Form {
     needs_fraction: true,
     after_point: AfterPoint::Anything,
     float_zeros: true,
+    specials: None,
 };
 
 /// Haskell's source code.
@@ -95,6 +101,7 @@ pub const HASKELL: Form = Form {
     needs_fraction: true,
     after_point: AfterPoint::Anything,
     float_zeros: true,
+    specials: None,
 };
 
 /// Ruby's source code.
@@ -108,6 +115,7 @@ pub const RUBY: Form = Form {
     needs_fraction: true,
     after_point: AfterPoint::Anything,
     float_zeros: false,
+    specials: None,
 };
 
 /// PHP's source code. An integer above 128 bits is a float.
@@ -121,6 +129,7 @@ pub const PHP: Form = Form {
     needs_fraction: false,
     after_point: AfterPoint::Anything,
     float_zeros: true,
+    specials: None,
 };
 
 /// C++17 and C23, except for hexadecimal floats: `0x1p3` is `0x1`, and then `p3`.
@@ -134,6 +143,7 @@ pub const CXX17: Form = Form {
     needs_fraction: false,
     after_point: AfterPoint::Anything,
     float_zeros: true,
+    specials: None,
 };
 
 /// Java, except for hexadecimal floats.
@@ -147,6 +157,7 @@ pub const JAVA: Form = Form {
     needs_fraction: false,
     after_point: AfterPoint::Anything,
     float_zeros: true,
+    specials: None,
 };
 
 /// Go, except for hexadecimal floats.
@@ -160,6 +171,7 @@ pub const GO: Form = Form {
     needs_fraction: false,
     after_point: AfterPoint::Anything,
     float_zeros: true,
+    specials: None,
 };
 
 /// OCaml, except for hexadecimal floats.
@@ -173,6 +185,7 @@ pub const OCAML: Form = Form {
     needs_fraction: false,
     after_point: AfterPoint::Anything,
     float_zeros: true,
+    specials: None,
 };
 
 /// Swift, except for hexadecimal floats.
@@ -186,6 +199,7 @@ pub const SWIFT: Form = Form {
     needs_fraction: true,
     after_point: AfterPoint::Anything,
     float_zeros: true,
+    specials: None,
 };
 
 /// Perl, except for hexadecimal floats. A point that a second one follows is none: `1..2`. An
@@ -200,6 +214,7 @@ pub const PERL: Form = Form {
     needs_fraction: false,
     after_point: AfterPoint::NoPoint,
     float_zeros: false,
+    specials: None,
 };
 
 /// The words of each form of this file are supported, and its floats are decimal.

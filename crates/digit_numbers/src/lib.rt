@@ -7,8 +7,9 @@ pub mod forms;
 mod integer;
 pub mod laws;
 mod number;
+mod special;
 #[cfg(test)]
 mod tests;
 
-pub use self::form::{AfterPoint, Form, Signs, Whole, is_form};
+pub use self::form::{AfterPoint, Form, Signs, Special, SpecialValue, Specials, Whole, is_form};
 pub use self::number::{Number, NumberError, parse_number_of, read_number_of};

@@ -1,14 +1,16 @@
 //! The number at a position.
 
-ghost use Rattle.std.specs.Prelude.{◌≡◌, ◌+◌, ◌<◌, ◌≤◌, ◌&&◌, not, if◌then◌else◌, Some, length, false, IfOk, IfErr};
+ghost use Rattle.std.specs.Prelude.{◌≡◌, ◌+◌, ◌<◌, ◌≤◌, ◌&&◌, not, if◌then◌else◌, Some, None, length, false, IfOk, IfErr, IfSome, MatchOption};
 ghost use Rattle.digit_numbers.specs.Forms.{IsForm, unprefixed};
-ghost use Rattle.digit_numbers.specs.Numbers.{past_sign, is_float, IsNumber, IsFault, IsWholeFault, position, message};
+ghost use Rattle.digit_numbers.specs.Numbers.{past_sign, is_negative, is_float, special_here, IsNumber, IsPlainNumber, IsPlainFault, IsNoNan, IsFault, IsWholeFault, position, message};
 ghost use Rattle.digit_languages.specs.Words.{IsLanguage};
 ghost use Rattle.digit_numbers.specs.Reads.{IsMantissaAt, IsSign};
+ghost use Rattle.digit_numbers.specs.Specials.{special_float, name_end};
 
 use super::float::{read_float, read_large, round_whole};
 use super::form::Form;
 use super::integer::{is_zero, read_integer, unprefixed};
+use super::special::read_special;
 use digit_floats::{Float, Mantissa, read_mantissa};
 use digit_languages::Language;
 use std::error::Error;
@@ -31,7 +33,8 @@ pub enum Number<F> {
 /// Why there is no number. A position counts bytes from the start of the text, from 0.
 #[derive(Clone, Copy, Debug, PartialEq, Eq)]
 pub enum NumberError {
-    /// No number begins at the start: after its sign, if it has one, this position has no digit.
+    /// No number begins at the start: after its sign, if it has one, this position has neither a
+    /// special value of the form nor a digit.
     Empty(usize),
     /// With the digit at this position the integer is above 128 bits.
     Overflow(usize),
@@ -140,8 +143,9 @@ fn read_whole<F: Float>(
     requires digits { IsMantissaAt form text.now mantissa }
     requires start { mantissa.start ≡ sign.end }
     requires no_float { is_float form text.now sign.end ≡ false }
-    ensures ok { IfOk result (λ r. IsNumber form text.now start F.format F.value r.0 r.1) }
-    ensures none { IfErr result (IsFault form text.now start) }
+    ensures ok { IfOk result (λ r. IsPlainNumber form text.now start F.format F.value r.0 r.1) }
+    ensures none { IfErr result (IsPlainFault form text.now start) }
+    ensures no_nan { IfOk result (λ r. IsNoNan F.value r.0) }
     ensures end { IfOk result (λ r. (start < r.1) × (r.1 ≤ length text.now)) }
 {
     if form.whole.is_float() {
@@ -169,15 +173,40 @@ fn read_whole<F: Float>(
     }
 }
 
-/// The number of a form that begins at `start`, and the position after it: the longest prefix of
-/// the rest of the text that is one. Only an integer that the language refuses for its first zeros
-/// is the first `0`, although more zeros may be a number: `001` of Python is `0`, and ends at 1. A
-/// point or an exponent that is no part of a number ends it: `1.` and `1e` of JSON are `1`.
+/// The number in digits that begins at a start, and the position after it.
+#[inline(always)]
+fn read_plain<F: Float>(
+    text: &[u8],
+    start: usize,
+    form: Form,
+    sign: Sign,
+) -> Result<(Number<F>, usize), NumberError>
+    requires within { start ≤ length text.now }
+    requires form { IsForm form }
+    requires sign { IsSign form text.now start sign }
+    ensures ok { IfOk result (λ r. IsPlainNumber form text.now start F.format F.value r.0 r.1) }
+    ensures none { IfErr result (IsPlainFault form text.now start) }
+    ensures no_nan { IfOk result (λ r. IsNoNan F.value r.0) }
+    ensures end { IfOk result (λ r. (start < r.1) × (r.1 ≤ length text.now)) }
+{
+    let mantissa = read_digits(text, form, sign.end);
+    if let Some((x, end)) = read_float::<F>(text, form, sign.is_minus, mantissa) {
+        return Ok((Number::Float(x), end));
+    }
+    read_whole::<F>(text, start, form, sign, mantissa)
+}
+
+/// The number of a form that begins at `start`, and the position after it. After any sign it is
+/// the form's special value there, if there is one. Otherwise it is the longest prefix of the rest
+/// of the text that is a number in digits. Only an integer that the language refuses for its first
+/// zeros is the first `0`, although more zeros may be a number: `001` of Python is `0`, and ends at
+/// 1. A point or an exponent that is no part of a number ends it: `1.` and `1e` of JSON are `1`.
 /// Requires that `start` is within the text, and that the form's words serve
 /// ([`is_form`](crate::is_form)).
 ///
 /// ```text
 /// of JSON, `-1.5e3,`: Float(-1500.0), 6      `01`: Integer 0, 1      `.5`: Err(Empty(0))
+/// of TOML, `-inf,`: Float(-inf), 4
 /// ```
 #[inline(always)]
 pub fn read_number_of<F: Float>(
@@ -189,14 +218,15 @@ pub fn read_number_of<F: Float>(
     requires form { IsForm form }
     ensures ok { IfOk result (λ r. IsNumber form text.now start F.format F.value r.0 r.1) }
     ensures none { IfErr result (IsFault form text.now start) }
+    ensures no_nan { special_here form text.now start ≡ None → IfOk result (λ r. IsNoNan F.value r.0) }
     ensures end { IfOk result (λ r. (start < r.1) × (r.1 ≤ length text.now)) }
 {
     let sign = read_sign(text, form, start);
-    let mantissa = read_digits(text, form, sign.end);
-    if let Some((x, end)) = read_float::<F>(text, form, sign.is_minus, mantissa) {
+    if let Some((special, end)) = read_special(text, form, sign.end, sign.is_there) {
+        let x = special.value.float::<F>(sign.is_minus);
         return Ok((Number::Float(x), end));
     }
-    read_whole::<F>(text, start, form, sign, mantissa)
+    read_plain::<F>(text, start, form, sign)
 }
 
 /// The number of a form that a text is, as by [`read_number_of`].
