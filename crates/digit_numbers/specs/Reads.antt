@@ -2,7 +2,7 @@
 -- these words.
 use Rattle.std.specs.Prelude.{◌≡◌, ℕ, ◌+◌, ◌≤◌, true, List, length, is_some, IsTrue}
 use Rattle.lexical_digits.specs.declared.skip.component.Component.TheVariants.{Integer}
-use Rattle.digit_floats.specs.Float.{digits_from, digits_end, fraction_digits, mantissa_end}
+use Rattle.digit_floats.specs.Float.{IsDecimal, digits_from, digits_end, fraction_digits, mantissa_end}
 use Rattle.digit_floats.specs.Parts.{integer_of, fraction_of, IsMantissa}
 use Rattle.digit_floats.specs.declared.parts.Mantissa.{Mantissa}
 use Rattle.lexical_format.specs.Word.{is_supported}
@@ -21,6 +21,13 @@ pub record IsMantissaAt (f : Form) (text : List ℕ) (m : Mantissa) : Type 0 whe
       (digits_end f.integers.decimal text Integer m.start)
   pub whole_end : m.whole_end ≡ digits_end f.integers.decimal text Integer m.start
   pub ends : m.end ≡ mantissa_end f.integers.decimal text f.marks.point m.start
+
+-- the digits of a mantissa before a point are those of a language without prefixes
+pub record IsWholeOf (l : Language) (text : List ℕ) (m : Mantissa) : Type 0 where
+  pub is : IsMantissa text m
+  pub decimal : IsDecimal l.decimal
+  pub integer : integer_of text m ≡ digits_from l.decimal text Integer m.start
+  pub ends : m.whole_end ≡ digits_end l.decimal text Integer m.start
 
 -- a sign is that of a form at a start
 pub record IsSign (f : Form) (text : List ℕ) (start : ℕ) (sign : Sign) : Type 0 where

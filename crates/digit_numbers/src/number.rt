@@ -108,6 +108,7 @@ fn language_of(form: Form, is_signed: bool) -> Language
     requires { IsForm form }
     ensures is { result
         ≡ (if is_signed && not form.signed_prefix then unprefixed form.integers else form.integers) }
+    ensures decimal { result.decimal ≡ form.integers.decimal }
     ensures serves { IsLanguage result }
 {
     if is_signed && !form.signed_prefix {
@@ -155,7 +156,7 @@ fn read_whole<F: Float>(
         let x = round_whole::<F>(text, form, sign.is_minus, mantissa);
         return Ok((Number::Float(x), mantissa.whole_end));
     }
-    match read_integer(text, language_of(form, sign.is_there), sign.end) {
+    match read_integer(text, language_of(form, sign.is_there), mantissa) {
         Ok(read) => {
             let number = Number::Integer {
                 negative: sign.is_minus,
