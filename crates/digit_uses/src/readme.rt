@@ -4,6 +4,7 @@ use digit_languages::languages::RUST; // `0b`, `0o`, `0x`, and `_` among the dig
 use digit_floats::parse_float;
 use digit_languages::read_literal;
 use digit_literals::{parse_number, read_number};
+use digit_numbers::{forms, parse_number_of};
 use lexical_format::words::PYTHON_LITERAL; // radix 10, one `_` between two digits
 
 #[tactic(auto, unfolding(lexical_format::proofs::OnLiterals::lexical_on_literals))]
@@ -12,6 +13,7 @@ pub fn first_reads() {
     let debt = parse_number::<i32>(b"-1_000", PYTHON_LITERAL); // Ok(-1000)
     let size = read_number::<u64>(b"1_000 m", PYTHON_LITERAL); // Ok((1000, 5)): value, end
     let mask = read_literal(b"0xff_u8", 0, RUST, 255); // Ok: value 255, digits from 2 to 5
+    let json = parse_number_of::<f64>(b"-1.5e3", forms::JSON); // Ok(Number::Float(-1500.0))
     let port = parse_number::<u16>(b"70_000", PYTHON_LITERAL); // Err(Overflow(5))
     let stray = parse_number::<i32>(b"1__0", PYTHON_LITERAL); // Err(Invalid(1))
     let none = parse_number::<i32>(b"-", PYTHON_LITERAL); // Err(Empty(1))

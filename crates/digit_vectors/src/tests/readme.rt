@@ -6,6 +6,7 @@ use digit_languages::languages::RUST;
 use digit_languages::{Literal, read_literal};
 use digit_literals::ParseError::{Empty, Invalid, Overflow};
 use digit_literals::{parse_number, read_number};
+use digit_numbers::{Number, forms, parse_number_of};
 use lexical_format::words::{PYTHON_LITERAL, RUST_HEX_LITERAL};
 
 #[test]
@@ -17,6 +18,7 @@ fn answers_of_the_readme(rt: HostRuntime) {
     assert!(rt; parse_number::<u16>(b"70_000", PYTHON_LITERAL) == Err(Overflow(5)));
     assert!(rt; parse_number::<i32>(b"1__0", PYTHON_LITERAL) == Err(Invalid(1)));
     assert!(rt; parse_number::<i32>(b"-", PYTHON_LITERAL) == Err(Empty(1)));
+    assert!(rt; parse_number_of::<f64>(b"-1.5e3", forms::JSON) == Ok(Number::Float(-1500.0)));
     let literal = Literal {
         value: 255,
         word: RUST_HEX_LITERAL,
