@@ -1,5 +1,5 @@
 -- The first hexadecimal digits of a number, and the power of two after them.
-use Rattle.std.proofs.Common.{◌≡◌, ℕ, zero, suc, ◌+◌, ◌-◌, ◌*◌, ◌^◌, ◌<◌, ◌≤◌, Bool, true, false, T, ltb, List, ◌++◌, true≢false, refl, sym, ap, subst, ◌∙◌, arith, mul-le-mul_right}
+use Rattle.std.proofs.Common.{◌≡◌, ℕ, zero, suc, ◌+◌, ◌*◌, ◌^◌, ◌<◌, ◌≤◌, Bool, true, false, T, ltb, List, ◌++◌, true≢false, refl, sym, ap, subst, ◌∙◌, arith, mul-le-mul_right}
 use native.Mathlib.Nat.{mul-lt-mul_of_pos_right, mul-pos, pow-suc}
 use Rattle.std.specs.Prelude.{min}
 use Rattle.std.specs.Str.Parse.{digits_value, digits_value_after}
@@ -52,18 +52,19 @@ module _ (kept : HexKept) (number d : ℕ) (is : IsHexKept kept number) where
       by zero whole full = (uncut number kept.value kept.more whole).0 ∙ e
       by (suc cut) whole full = absurd (omega (arith, full (omega arith), e))
 
-  pub kept_zero : 2 ^ 60 ≤ kept.value → d ≡ 0
+  pub kept_zero : kept.cut + 1 < 2 ^ 64 → 2 ^ 60 ≤ kept.value → d ≡ 0
       → IsHexKept (record { value = kept.value; cut = kept.cut + 1; more = kept.more })
       (number * 16 + d)
-  kept_zero large e =
-      rw e (record { is = cut_zero _ _ _ _ is.is; fits = is.fits; full = λ _. large })
+  kept_zero few large e =
+      rw e (record { is = cut_zero _ _ _ _ is.is; fits = is.fits; few = few; full = λ _. large })
 
-  pub kept_other : 2 ^ 60 ≤ kept.value → 0 < d → d < 16
+  pub kept_other : kept.cut + 1 < 2 ^ 64 → 2 ^ 60 ≤ kept.value → 0 < d → d < 16
       → IsHexKept (record { value = kept.value; cut = kept.cut + 1; more = true })
       (number * 16 + d)
-  kept_other large some few = record {
+  kept_other short large some few = record {
     is = cut_other _ _ _ _ is.is d some few;
     fits = is.fits;
+    few = short;
     full = λ _. large;
   }
 
@@ -86,6 +87,7 @@ module _ (kept : HexKept) (number d : ℕ) (is : IsHexKept kept number) where
               above = λ e. absurd (true≢false (sym e ∙ same.1));
             };
             fits = omega arith;
+            few = omega arith;
             full = λ h. absurd (omega (arith, h));
           }
       by (suc cut) more whole full = absurd (omega (arith, full (omega arith), small))
@@ -100,6 +102,7 @@ none_kept = record {
     above = λ e. absurd (true≢false (sym e));
   };
   fits = omega arith;
+  few = omega arith;
   full = λ h. absurd (omega (arith, h));
 }
 
@@ -185,7 +188,7 @@ zero_is f number a b e B =
     sym (first_zero f)
     ∙ round_same f false 0 1 (number * a) b (omega arith) B (rw e (omega arith))
 
--- ---- a power above `u64::MAX` is as good as `u64::MAX`
+-- ---- a power above 2 ^ 70 is as good as 2 ^ 70
 
 module _ (f : Format) (number few places n m : ℕ) (some : 0 < number) (small : number < 2 ^ few) where
   pub both_huge : 1024 + places ≤ n → 1024 + places ≤ m
@@ -231,16 +234,16 @@ small_number kept number is =
     mul-le-mul_right (16 ^ kept.cut) (omega (arith, is.fits)) in
     omega (arith, e, l, is.is.most)
 
-module _ (f : Format) (few places n m : ℕ) (long : few < 2 ^ 63) (wide : places < 2 ^ 63)
-    (cap : m ≡ min n (2 ^ 64 - 1)) where
+module _ (f : Format) (few places n m : ℕ) (long : few < 2 ^ 69) (wide : places < 2 ^ 69)
+    (cap : m ≡ min n (2 ^ 70)) where
   pub up_capped : (number : ℕ) → number < 2 ^ few
       → round f false (number * 2 ^ m) (2 ^ places) ≡ round f false (number * 2 ^ n) (2 ^ places)
   up_capped zero small =
       sym (zero_is f 0 (2 ^ m) (2 ^ places) refl (pow_pos places))
       ∙ zero_is f 0 (2 ^ n) (2 ^ places) refl (pow_pos places)
-  up_capped (suc number) small = go (ltb n (2 ^ 64)) (ltb→lt n (2 ^ 64)) (nltb→le n (2 ^ 64))
+  up_capped (suc number) small = go (ltb n (2 ^ 70)) (ltb→lt n (2 ^ 70)) (nltb→le n (2 ^ 70))
     where
-      go : (b : Bool) → (T b → n < 2 ^ 64) → (T (not b) → 2 ^ 64 ≤ n)
+      go : (b : Bool) → (T b → n < 2 ^ 70) → (T (not b) → 2 ^ 70 ≤ n)
           → round f false (suc number * 2 ^ m) (2 ^ places)
           ≡ round f false (suc number * 2 ^ n) (2 ^ places)
       go true l h =
@@ -256,9 +259,9 @@ module _ (f : Format) (few places n m : ℕ) (long : few < 2 ^ 63) (wide : place
   down_capped zero small =
       sym (zero_is f 0 (2 ^ 0) (2 ^ (places + m)) refl (pow_pos (places + m)))
       ∙ zero_is f 0 (2 ^ 0) (2 ^ (places + n)) refl (pow_pos (places + n))
-  down_capped (suc number) small = go (ltb n (2 ^ 64)) (ltb→lt n (2 ^ 64)) (nltb→le n (2 ^ 64))
+  down_capped (suc number) small = go (ltb n (2 ^ 70)) (ltb→lt n (2 ^ 70)) (nltb→le n (2 ^ 70))
     where
-      go : (b : Bool) → (T b → n < 2 ^ 64) → (T (not b) → 2 ^ 64 ≤ n)
+      go : (b : Bool) → (T b → n < 2 ^ 70) → (T (not b) → 2 ^ 70 ≤ n)
           → round f false (suc number * 2 ^ 0) (2 ^ (places + m))
           ≡ round f false (suc number * 2 ^ 0) (2 ^ (places + n))
       go true l h =

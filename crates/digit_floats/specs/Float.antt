@@ -1,5 +1,5 @@
 -- The float at a position of a text: its digits, its parts in std's word, and why there is none.
-use Rattle.std.specs.Prelude.{◌≡◌, ⊤, ℕ, ◌+◌, ◌-◌, ◌<◌, ◌==◌, Bool, true, if◌then◌else◌, ◌&&◌, List, [], length, Result, Ok, Err}
+use Rattle.std.specs.Prelude.{◌≡◌, ⊤, ℕ, ◌+◌, ◌-◌, ◌==◌, Bool, if◌then◌else◌, ◌&&◌, List, [], length, Result, Ok, Err}
 use Rattle.std.specs.Float.{Float, Format}
 use Rattle.std.specs.Float.Numeral.{Parts, nearest_float}
 use Rattle.lexical_format.specs.Word.{mantissa_radix, exponent_radix}
@@ -92,6 +92,16 @@ module _ (word : ℕ) (text : List ℕ) where
     abbrev pub number_end : ℕ → ℕ
     number_end at = exponent_end marks.exponent (mantissa_end marks.point at)
 
+    -- the same, or why there is no number
+    abbrev pub end_from : ℕ → Result ℕ FloatError
+    end_from at =
+        let mark = mantissa_end marks.point at in
+        if mantissa_count marks.point at == 0 then Err (Empty mark) else
+        if stands (is_mark marks.exponent) text mark
+        && (length (exponent_digits marks.exponent mark) == 0)
+        then Err (EmptyExponent (number_end at)) else
+        Ok (number_end at)
+
     -- ---- the float at a position, with a sign
 
     -- the float nearest to the number that the parts write
@@ -103,14 +113,7 @@ module _ (word : ℕ) (text : List ℕ) where
 
     -- where the number ends that begins at a position, with a sign, or why there is none
     abbrev pub end_at : ℕ → Result ℕ FloatError
-    end_at at =
-        let start = past_sign text at in
-        let mark = mantissa_end marks.point start in
-        if mantissa_count marks.point start == 0 then Err (Empty mark) else
-        if stands (is_mark marks.exponent) text mark
-        && (length (exponent_digits marks.exponent mark) == 0)
-        then Err (EmptyExponent (number_end start)) else
-        Ok (number_end start)
+    end_at at = end_from (past_sign text at)
 
     -- the float there and where it ends, or why there is none
     abbrev pub read_at : Format → ℕ → Result (Float × ℕ) FloatError

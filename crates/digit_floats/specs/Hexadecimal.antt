@@ -1,17 +1,18 @@
 -- Numbers of hexadecimal digits and a power of two, such as `1.8p3`: their digits in the text, and
 -- the nearest float.
-use Rattle.std.specs.Prelude.{◌≡◌, ℕ, ◌+◌, ◌*◌, ◌^◌, ◌<◌, ◌≤◌, Bool, if◌then◌else◌, List, ◌++◌, length, filter, slice_range}
+use Rattle.std.specs.Prelude.{◌≡◌, ℕ, ◌+◌, ◌*◌, ◌^◌, ◌<◌, ◌≤◌, Bool, if◌then◌else◌, List, ◌++◌, length, filter, slice_range, Result}
 use Rattle.std.specs.Char.{is_ascii_hexdigit}
 use Rattle.std.specs.Float.{Float, Format}
 use Rattle.std.specs.Float.Ieee.{round}
 use Rattle.std.specs.Str.Parse.{digits_value}
 use Rattle.lexical_format.specs.Word.{mantissa_radix, exponent_radix}
 use Rattle.lexical_digits.specs.declared.skip.component.Component.TheVariants.{Integer}
+use Rattle.digit_floats.specs.declared.error.FloatError.{FloatError}
 use Rattle.digit_floats.specs.declared.hexadecimal.HexMantissa.{HexMantissa}
 use Rattle.digit_floats.specs.declared.hexadecimal.HexKept.{HexKept}
 use Rattle.digit_floats.specs.declared.parts.Marks.{Marks}
 use Rattle.digit_floats.specs.Binary.{IsWholePart}
-use Rattle.digit_floats.specs.Float.{digits_end, digits_from, fraction_digits, mantissa_end, exponent_digits, exponent_negative}
+use Rattle.digit_floats.specs.Float.{digits_end, digits_from, fraction_digits, mantissa_end, exponent_digits, exponent_negative, with_end, end_from}
 
 -- the mantissa is written in hexadecimal, and the exponent in decimal
 abbrev pub IsHexadecimal : ℕ → Type 0
@@ -38,6 +39,7 @@ pub record IsHexMantissa (text : List ℕ) (m : HexMantissa) : Type 0 where
 pub record IsHexKept (kept : HexKept) (number : ℕ) : Type 0 where
   pub is : IsWholePart number (16 ^ kept.cut) kept.value kept.more
   pub fits : kept.value < 2 ^ 64
+  pub few : kept.cut < 2 ^ 64
   pub full : 0 < kept.cut → 2 ^ 60 ≤ kept.value
 
 -- the float nearest to hexadecimal digits, of which the last `places` follow the point, times
@@ -55,3 +57,8 @@ hex_float_at word text marks f negative at =
     nearest_hex f negative (digits_from word text Integer at ++ fraction) (length fraction)
     (exponent_negative word text marks.exponent mark)
     (digits_value 10 (exponent_digits word text marks.exponent mark))
+
+-- the same and where the number ends, or why there is none
+abbrev pub read_hex_at : ℕ → List ℕ → Marks → Format → Bool → ℕ → Result (Float × ℕ) FloatError
+read_hex_at word text marks f negative at =
+    with_end (hex_float_at word text marks f negative at) (end_from word text marks at)

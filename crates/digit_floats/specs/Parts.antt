@@ -7,6 +7,7 @@ use Rattle.lexical_digits.specs.declared.skip.component.Component.TheVariants.{I
 use Rattle.digit_floats.specs.declared.parts.Mantissa.{Mantissa}
 use Rattle.digit_floats.specs.declared.parts.Marks.{Marks}
 use Rattle.digit_floats.specs.declared.parts.Parts.{Parts}
+use Rattle.digit_floats.specs.declared.parts.Power.{Power}
 use Rattle.digit_floats.specs.Bytes.{stands, is_minus}
 use Rattle.digit_floats.specs.Float.{past_sign, digits_end, digits_from, fraction_digits, mantissa_end, exponent_digits, exponent_negative}
 
@@ -29,6 +30,16 @@ pub record IsMantissa (text : List ℕ) (m : Mantissa) : Type 0 where
   pub fraction : m.fraction_start ≤ m.end
   pub long : m.start + m.digits ≤ m.end
   pub within : m.end ≤ length text
+
+-- the digits of an exponent, of which the mark is at a position
+abbrev pub exponent_of : List ℕ → ℕ → Power → List ℕ
+exponent_of text at p = filter is_ascii_digit (slice_range text (past_sign text (at + 1)) p.end)
+
+-- an exponent is of this text
+pub record IsPower (text : List ℕ) (at : ℕ) (p : Power) : Type 0 where
+  pub value : p.value ≡ min (digits_value 10 (exponent_of text at p)) (2 ^ 64 - 1)
+  pub some : 0 < p.value → past_sign text (at + 1) < p.end
+  pub within : p.end ≤ length text
 
 -- parts are those of the number at a position, with a sign
 pub record IsParts (word : ℕ) (text : List ℕ) (marks : Marks) (at : ℕ) (p : Parts) : Type 0 where

@@ -20,8 +20,8 @@ fn bit_length(digits: u128) -> u128
 /// digits it loses there.
 fn scale_of(size: u128, above: u128, below: u128, precision: u128) -> (u128, u128)
     requires size { (53 < size) × (size ≤ 128) }
-    requires above { above < 2 ^ 70 }
-    requires below { below < 2 ^ 70 }
+    requires above { above < 2 ^ 72 }
+    requires below { below < 2 ^ 72 }
     requires precision { precision ≤ 53 }
     ensures scale { result.0 ≡ size + above - (below + precision) }
     ensures shift { result.0 + below ≡ above + result.1 }
@@ -64,8 +64,8 @@ fn shift_digits(digits: u128, shift: u128, more: bool) -> u64
 pub fn round_binary<F: Float>(digits: u128, more: bool, above: u128, below: u128) -> F
     requires many { 2 ^ 53 ≤ digits }
     requires few { digits < 2 ^ 119 }
-    requires above { above < 2 ^ 70 }
-    requires below { below < 2 ^ 70 }
+    requires above { above < 2 ^ 72 }
+    requires below { below < 2 ^ 72 }
     ensures { (num den : ℕ) → 0 < den
         → IsWholePart (num * 2 ^ low F.format * 2 ^ below) (2 ^ above * den) digits more
         → F.value result ≡ round F.format false num den }

@@ -2,9 +2,14 @@
 //! each component. All values are by `strtod` and `strtof` of C (glibc), of the text after `0x`
 //! without separators.
 
-use super::{Float, HexMantissa, read_exponent, read_hex_mantissa, round_hex};
+use super::{Float, FloatError, Marks, read_hex_float_from};
 use lexical_format::words::CXX14_HEX_LITERAL;
 use std::process::Abort;
+
+const P: Marks = Marks {
+    point: b'.',
+    exponent: b'p',
+};
 
 /// The bits of the nearest `f64` and `f32`.
 const FLOATS: [(&[u8], u64, u32); 67] = [
@@ -122,38 +127,36 @@ const FLOATS: [(&[u8], u64, u32); 67] = [
 ];
 
 #[tactic(auto, unfolding(lexical_format::proofs::OnLiterals::lexical_on_literals))]
-fn bits(text: &[u8], negative: bool) -> Result<(u64, u32), usize> {
-    let mantissa = read_hex_mantissa(text, CXX14_HEX_LITERAL, 0, b'.');
-    let power = read_exponent(text, CXX14_HEX_LITERAL, mantissa.end, b'p')?;
-    let double: f64 = round_hex(text, negative, mantissa, power);
-    let single: f32 = round_hex(text, negative, mantissa, power);
-    Ok((double.to_bits(), single.to_bits()))
+fn double(text: &[u8], negative: bool) -> Result<(u64, usize), FloatError> {
+    let (x, end) = read_hex_float_from::<f64>(text, CXX14_HEX_LITERAL, P, negative, 0)?;
+    Ok((x.to_bits(), end))
+}
+
+#[tactic(auto, unfolding(lexical_format::proofs::OnLiterals::lexical_on_literals))]
+fn single(text: &[u8], negative: bool) -> Result<(u32, usize), FloatError> {
+    let (x, end) = read_hex_float_from::<f32>(text, CXX14_HEX_LITERAL, P, negative, 0)?;
+    Ok((x.to_bits(), end))
 }
 
 #[test]
 fn floats_are_nearest(rt: HostRuntime) {
-    for (text, double, single) in FLOATS {
-        assert!(&rt; bits(text, false) == Ok((double, single)), "{text:?}");
+    for (text, bits, half) in FLOATS {
+        assert!(&rt; double(text, false) == Ok((bits, text.len())), "{text:?}");
+        assert!(&rt; single(text, false) == Ok((half, text.len())), "{text:?}");
     }
-    assert!(&rt; bits(b"1.8p1", true) == Ok((0xc008000000000000, 0xc0400000)));
-    assert!(&rt; bits(b"0p9", true) == Ok((0x8000000000000000, 0x80000000)));
+    assert!(&rt; double(b"1.8p1", true) == Ok((0xc008000000000000, 5)));
+    assert!(&rt; single(b"0p9", true) == Ok((0x80000000, 3)));
 }
 
+/// By hand.
 #[test]
-fn a_mantissa_ends_where_its_digits_end(rt: HostRuntime) {
-    // By hand: the last two `'` aren't between digits.
-    let mantissa = read_hex_mantissa(b"0x1'F.8'p'1", CXX14_HEX_LITERAL, 2, b'.');
-    let wanted = HexMantissa {
-        digits: 3,
-        places: 1,
-        start: 2,
-        whole_end: 5,
-        fraction_start: 6,
-        end: 7,
-    };
-    assert!(&rt; mantissa == wanted);
-    let none = read_exponent(b"1p+", CXX14_HEX_LITERAL, 1, b'p');
-    assert!(&rt; none.is_err());
+fn a_number_ends_where_its_digits_end(rt: HostRuntime) {
+    assert!(&rt; double(b"1'F.8'p1", false) == Ok((0x403f800000000000, 5)));
+    assert!(&rt; double(b"1'F.8p'1", false) == Err(FloatError::EmptyExponent(6)));
+    assert!(&rt; double(b"1.8f", false) == Ok((0x3ff8f00000000000, 4)));
+    assert!(&rt; double(b"1.8g", false) == Ok((0x3ff8000000000000, 3)));
+    assert!(&rt; double(b".p1", false) == Err(FloatError::Empty(1)));
+    assert!(&rt; double(b"1P+", false) == Err(FloatError::EmptyExponent(3)));
 }
 
 #[test]

@@ -1,18 +1,20 @@
 //! Numbers of hexadecimal digits and a power of two, such as `1.8p3`, and the nearest float.
 
-ghost use Rattle.std.specs.Prelude.{◌≡◌, ◌+◌, ◌-◌, ◌*◌, ◌/◌, ◌%◌, ◌^◌, ◌<◌, ◌≤◌, ◌++◌, ℕ, min, length, filter, if◌then◌else◌, IsTrue, true, false};
-ghost use Rattle.std.specs.Char.{is_ascii_hexdigit, digit_value};
+ghost use Rattle.std.specs.Prelude.{◌≡◌, ◌+◌, ◌-◌, ◌*◌, ◌/◌, ◌%◌, ◌^◌, ◌<◌, ◌≤◌, ◌++◌, ℕ, min, length, filter, if◌then◌else◌, IsTrue, IfOk, Ok, Err, MatchResult, true, false};
+ghost use Rattle.std.specs.Char.{is_ascii_digit, is_ascii_hexdigit, digit_value};
 ghost use Rattle.std.specs.Float.{NotNan};
 ghost use Rattle.std.specs.Float.Ieee.{round};
 ghost use Rattle.std.specs.Str.Parse.{digits_value, digits_value_after};
 ghost use Rattle.lexical_format.specs.Word.{is_supported};
 ghost use Rattle.lexical_digits.specs.declared.skip.component.Component.TheVariants.{Integer};
 ghost use Rattle.digit_floats.specs.Float.{digits_from, digits_end, fraction_digits, mantissa_end};
-ghost use Rattle.digit_floats.specs.Hexadecimal.{IsHexadecimal, IsHexMantissa, IsHexKept, hex_integer_of, hex_fraction_of, nearest_hex};
+ghost use Rattle.digit_floats.specs.Parts.{exponent_of, IsPower};
+ghost use Rattle.digit_floats.specs.Hexadecimal.{IsHexadecimal, IsHexMantissa, IsHexKept, hex_integer_of, hex_fraction_of, nearest_hex, read_hex_at};
 
 use super::binary::round_binary;
+use super::error::FloatError;
 use super::float::{Float, signed};
-use super::parts::{Power, has_point, read_part};
+use super::parts::{Marks, Power, has_point, read_exponent, read_part, read_sign};
 use lexical_digits::skip::Component;
 
 /// The hexadecimal digits of integer and fraction, and where they are in their text.
@@ -158,7 +160,8 @@ fn keep_hex_both(whole: &[u8], fraction: &[u8]) -> HexKept
 
 /// The float nearest to a number that is kept, of which the last `places` digits follow the point,
 /// times two to `up` over two to `under`.
-fn round_kept<F: Float>(kept: HexKept, places: u64, up: u64, under: u64) -> F
+fn round_kept<F: Float>(kept: HexKept, places: u64, up: u128, under: u128) -> F
+    requires powers { (up ≤ 2 ^ 70) × (under ≤ 2 ^ 70) }
     requires full { 0 < kept.cut → 2 ^ 60 ≤ kept.value }
     ensures { (number : ℕ) → IsHexKept kept number → F.value result ≡ round F.format false
         (number * 2 ^ up) (2 ^ (4 * places + under)) }
@@ -166,8 +169,8 @@ fn round_kept<F: Float>(kept: HexKept, places: u64, up: u64, under: u64) -> F
     if kept.value == 0 {
         return F::of_units(0, 0);
     }
-    let above = F::least() as u128 + 4 * kept.cut as u128 + up as u128;
-    let below = 4 * places as u128 + under as u128;
+    let above = F::least() as u128 + 4 * kept.cut as u128 + up;
+    let below = 4 * places as u128 + under;
     if kept.cut == 0 {
         round_binary((kept.value as u128) << 53, false, above, below + 53)
     } else {
@@ -175,15 +178,11 @@ fn round_kept<F: Float>(kept: HexKept, places: u64, up: u64, under: u64) -> F
     }
 }
 
-/// The same times two to a power. Where no more than 2^60 digits are cut or follow the point, a
-/// power above `u64::MAX` is as good as `u64::MAX`.
-fn round_power<F: Float>(kept: HexKept, places: u64, down: bool, power: u64) -> F
+/// The same times two to a power, of which 2^70 is as good as all greater ones.
+fn round_power<F: Float>(kept: HexKept, places: u64, down: bool, power: u128) -> F
+    requires power { power ≤ 2 ^ 70 }
     requires full { 0 < kept.cut → 2 ^ 60 ≤ kept.value }
-    ensures value { (number : ℕ) → IsHexKept kept number
-        → F.value result ≡ round F.format false (number * 2 ^ (if down then 0 else power))
-        (2 ^ (4 * places + (if down then power else 0))) }
-    ensures capped { kept.cut < 2 ^ 60 → places < 2 ^ 60 → (n number : ℕ)
-        → power ≡ min n (2 ^ 64 - 1) → IsHexKept kept number
+    ensures { (n number : ℕ) → power ≡ min n (2 ^ 70) → IsHexKept kept number
         → F.value result ≡ round F.format false (number * 2 ^ (if down then 0 else n))
         (2 ^ (4 * places + (if down then n else 0))) }
 {
@@ -194,27 +193,82 @@ fn round_power<F: Float>(kept: HexKept, places: u64, down: bool, power: u64) -> 
     }
 }
 
+/// The value of the decimal digits of a text, or 2^70 for more.
+fn wide_value(text: &[u8]) -> u128
+    ensures { result ≡ min (digits_value 10 (filter is_ascii_digit text.now)) (2 ^ 70) }
+{
+    let mut value: u128 = 0;
+    for byte in text {
+        if byte.is_ascii_digit() {
+            value = (value * 10 + hex_value(*byte) as u128).min(1 << 70);
+        }
+    }
+    value
+}
+
+/// The value of an exponent, of which the mark is at a position, or 2^70 for more.
+fn wide_power(text: &[u8], at: usize, power: Power) -> u128
+    requires { IsPower text.now at power }
+    ensures { result ≡ min (digits_value 10 (exponent_of text.now at power)) (2 ^ 70) }
+{
+    if power.value < u64::MAX {
+        return power.value as u128;
+    }
+    let (_, start) = read_sign(text, at + 1);
+    wide_value(&text[start..power.end])
+}
+
 /// The float nearest to the number that the hexadecimal digits of integer and fraction and a power
-/// of two make, with a sign. `mantissa` and `power` are what [`read_hex_mantissa`] and
-/// [`read_exponent`](crate::read_exponent) answered of this text. An exponent above `u64::MAX` is
-/// taken as `u64::MAX`, which makes no difference in a text of less than 2^60 bytes.
+/// of two make, with a sign. `mantissa` and `power` are what [`read_hex_mantissa`] and, from the
+/// mantissa's end on, [`read_exponent`](crate::read_exponent) answered of this text.
 #[inline(never)]
-#[tactic(auto, using(crate::proofs::Numbers::round_number))]
 pub fn round_hex<F: Float>(text: &[u8], negative: bool, mantissa: HexMantissa, power: Power) -> F
-    requires { IsHexMantissa text.now mantissa }
+    requires mantissa { IsHexMantissa text.now mantissa }
+    requires power { IsPower text.now mantissa.end power }
     ensures value { F.value result ≡ nearest_hex F.format negative
         (hex_integer_of text.now mantissa ++ hex_fraction_of text.now mantissa) mantissa.places
-        power.negative power.value }
-    ensures capped { length text.now < 2 ^ 60 → (n : ℕ) → power.value ≡ min n (2 ^ 64 - 1)
-        → F.value result ≡ nearest_hex F.format negative
-        (hex_integer_of text.now mantissa ++ hex_fraction_of text.now mantissa) mantissa.places
-        power.negative n }
+        power.negative (digits_value 10 (exponent_of text.now mantissa.end power)) }
     ensures number { NotNan (F.value result) }
 {
     let kept = keep_hex_both(
         &text[mantissa.start..mantissa.whole_end],
         &text[mantissa.fraction_start..mantissa.end],
     );
-    let x: F = round_power(kept, mantissa.places as u64, power.negative, power.value);
+    let value = wide_power(text, mantissa.end, power);
+    let x: F = round_power(kept, mantissa.places as u64, power.negative, value);
     signed(negative, x)
+}
+
+/// The float of hexadecimal digits that begins at a position of a text, and the position after it:
+/// digits with a point before, among or after them, and a power of two in decimal after its mark, as
+/// `1.8p3`. A sign and a prefix such as `0x` are before this position; `negative` is the sign.
+/// Requires that the word is supported, that its mantissa is hexadecimal, and its exponent decimal.
+pub fn read_hex_float_from<F: Float>(
+    text: &[u8],
+    word: u128,
+    marks: Marks,
+    negative: bool,
+    start: usize,
+) -> Result<(F, usize), FloatError>
+    requires supported { IsTrue (is_supported word) }
+    requires hexadecimal { IsHexadecimal word }
+    requires within { start ≤ length text.now }
+    ensures reads { MatchResult result
+        (λ r. read_hex_at word text.now marks F.format negative start ≡ Ok (F.value r.0, r.1))
+        (λ error. read_hex_at word text.now marks F.format negative start ≡ Err error) }
+    ensures number { IfOk result (λ r. NotNan (F.value r.0)) }
+    ensures onward { IfOk result (λ r. start < r.1) }
+    ensures within { IfOk result (λ r. r.1 ≤ length text.now) }
+{
+    let mantissa = read_hex_mantissa(text, word, start, marks.point);
+    if mantissa.digits == 0 {
+        return Err(FloatError::Empty(mantissa.end));
+    }
+    match read_exponent(text, word, mantissa.end, marks.exponent) {
+        Ok(power) => {
+            let x = round_hex::<F>(text, negative, mantissa, power);
+            Ok((x, power.end))
+        }
+        Err(stop) => Err(FloatError::EmptyExponent(stop)),
+    }
 }

@@ -22,7 +22,7 @@ mod tests;
 pub use self::decimal::{Decimal, read_decimal_from};
 pub use self::error::FloatError;
 pub use self::float::Float;
-pub use self::hexadecimal::{HexMantissa, read_hex_mantissa, round_hex};
+pub use self::hexadecimal::{HexMantissa, read_hex_float_from, read_hex_mantissa, round_hex};
 pub use self::parts::{Mantissa, Marks, Power, read_exponent, read_mantissa};
 pub use self::read::{parse_float, parse_float_from, read_float, read_float_from};
 pub use self::round::round_parts;

@@ -10,7 +10,7 @@ ghost use Rattle.digit_literals.specs.First.{ReadsFirst};
 ghost use Rattle.digit_floats.specs.Bytes.{stands, is_minus, is_point, is_mark};
 ghost use Rattle.digit_floats.specs.Float.{IsDecimal, past_sign, digits_from, digits_end, fraction_digits, mantissa_end, exponent_digits, exponent_end, exponent_negative};
 ghost use Rattle.digit_floats.specs.Float.{end_at};
-ghost use Rattle.digit_floats.specs.Parts.{integer_of, fraction_of, IsMantissa, IsParts};
+ghost use Rattle.digit_floats.specs.Parts.{integer_of, fraction_of, exponent_of, IsMantissa, IsPower, IsParts};
 
 use super::error::FloatError;
 use digit_literals::{FirstDigits, read_first_digits_from};
@@ -203,6 +203,9 @@ pub fn read_exponent(text: &[u8], word: u128, at: usize, mark: u8) -> Result<Pow
     requires supported { IsTrue (is_supported word) }
     requires decimal { exponent_radix word ≡ 10 }
     requires within { at ≤ length text.now }
+    ensures is { IfOk result (IsPower text.now at) }
+    ensures digits { IfOk result (λ p.
+        exponent_of text.now at p ≡ exponent_digits word text.now mark at) }
     ensures value { IfOk result (λ p.
         p.value ≡ min (digits_value 10 (exponent_digits word text.now mark at)) (2 ^ 64 - 1)) }
     ensures negative { IfOk result (λ p. p.negative ≡ exponent_negative word text.now mark at) }

@@ -8,8 +8,9 @@ returns-then-kept-clause-keeps c number is =
 
 pub returns-then-digit-eq0-clause-keeps : goal.returns-then-digit-eq0-clause-keeps
 returns-then-digit-eq0-clause-keeps c number is =
-    kept_zero c.args.kept number c.args.digit is (omega arith) (omega arith)
+    kept_zero c.args.kept number c.args.digit is (omega arith) (omega arith) (omega arith)
 
 pub returns-clause-keeps : goal.returns-clause-keeps
 returns-clause-keeps c number is =
     kept_other c.args.kept number c.args.digit is (omega arith) (omega arith) (omega arith)
+    (omega arith)
