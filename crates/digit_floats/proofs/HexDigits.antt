@@ -143,8 +143,8 @@ module _ (number value cut l up below : ℕ) (more : Bool)
   places_are =
       rw (pow-add 2 (l + 4 * cut) up, pow-add 2 l (4 * cut), sixteen cut) (grind arith)
 
-  pub in_units : IsWholePart (number * 2 ^ up * 2 ^ l * 2 ^ below) (2 ^ (l + 4 * cut + up) * 2 ^ below)
-      value more
+  pub in_units : IsWholePart (number * 2 ^ up * 2 ^ l * 2 ^ below)
+      (2 ^ (l + 4 * cut + up) * 2 ^ below) value more
   in_units =
       let e : number * 2 ^ up * 2 ^ l * 2 ^ below ≡ number * c = grind arith in
       rw (e, places_are)
@@ -190,7 +190,8 @@ zero_is f number a b e B =
 
 -- ---- a power above 2 ^ 70 is as good as 2 ^ 70
 
-module _ (f : Format) (number few places n m : ℕ) (some : 0 < number) (small : number < 2 ^ few) where
+module _ (f : Format) (number few places n m : ℕ) (some : 0 < number)
+    (small : number < 2 ^ few) where
   pub both_huge : 1024 + places ≤ n → 1024 + places ≤ m
       → round f false (number * 2 ^ n) (2 ^ places) ≡ round f false (number * 2 ^ m) (2 ^ places)
   both_huge a b = huge n a ∙ sym (huge m b)
@@ -209,8 +210,8 @@ module _ (f : Format) (number few places n m : ℕ) (some : 0 < number) (small :
       ≡ round f false (number * 2 ^ 0) (2 ^ (places + m))
   both_tiny a b =
       round_within f false 1 0 (omega arith) (number * 2 ^ 0) (2 ^ (places + n)) (number * 2 ^ 0)
-      (2 ^ (places + m)) (pow_pos (places + n)) (pow_pos (places + m)) (above _) (below n a) (above _)
-      (below m b)
+      (2 ^ (places + m)) (pow_pos (places + n)) (pow_pos (places + m)) (above _) (below n a)
+      (above _) (below m b)
     where
       above : (b : ℕ) → 0 * b < number * 2 ^ 0 * (2 ^ (low f + 1) * 1)
       above b = omega (arith, mul-pos some (pow_pos (low f + 1)))

@@ -106,7 +106,8 @@ module _ (f : Format) (q k : ℕ) (few : q ≤ 2 ^ prec f) (many : 0 < k → hid
           infinite : bound ≤ q * 2 ^ k → ones f * hid f ≡ k * hid f + q
           infinite large =
               let most : q * 2 ^ k ≤ 2 ^ (prec f + k) =
-              subst (λ z. q * 2 ^ k ≤ z) (sym (pow-add 2 (prec f) k)) (mul-le-mul_right (2 ^ k) few) in
+              subst (λ z. q * 2 ^ k ≤ z) (sym (pow-add 2 (prec f) k))
+              (mul-le-mul_right (2 ^ k) few) in
               let scale : 2 * emax f ≤ k + 1 =
               omega (
                 arith,
@@ -119,7 +120,8 @@ module _ (f : Format) (q k : ℕ) (few : q ≤ 2 ^ prec f) (many : 0 < k → hid
               (subst (λ z. z ≤ q * 2 ^ k) (ap (λ z. 2 ^ z) e ∙ pow-add 2 (prec f) k) large)
               (pow_pos k) in
               let digits : ones f ≡ k + 2 = omega arith in
-              ap (λ z. z * hid f) digits ∙ omega (arith, few, full, two_of (prec f) q k prec_pos few many)
+              let two : 2 ^ prec f ≡ hid f * 2 = two_of (prec f) q k prec_pos few many in
+              ap (λ z. z * hid f) digits ∙ omega (arith, few, full, two)
 
   pub units_fit : T (fits f (units f false q k))
   unfolding units

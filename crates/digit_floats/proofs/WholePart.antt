@@ -138,7 +138,8 @@ module _ (f : Format) (s : Bool) (num den v : ℕ) (more : Bool) (i j k t w : �
       above m h =
           le_of_mul-le-mul_right {k = 2 ^ j}
           (le_trans (subst (λ z. z ≤ 2 ^ (w - 1) * (2 ^ i * den)) (sym (turn m))
-          (subst (λ z. 2 ^ (m + j) * den ≤ z) (sym (flat (w - 1))) (mul-le-mul_right den (pow_mono h))))
+          (subst (λ z. 2 ^ (m + j) * den ≤ z) (sym (flat (w - 1)))
+          (mul-le-mul_right den (pow_mono h))))
           (le_trans (mul-le-mul_right (2 ^ i * den) first) is.least)) (pow_pos j)
 
       by : (k : ℕ) → k ≡ w + i - (j + prec f) → size (n / den) ≤ k + prec f

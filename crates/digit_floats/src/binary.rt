@@ -1,6 +1,6 @@
 //! The float nearest to a whole number times a power of two.
 
-ghost use Rattle.std.specs.Prelude.{◌≡◌, false, ◌+◌, ◌-◌, ◌*◌, ◌/◌, ◌%◌, ◌^◌, ◌<◌, ◌≤◌, ℕ};
+ghost use Rattle.std.specs.Prelude.{◌≡◌, false, ◌+◌, ◌-◌, ◌*◌, ◌/◌, ◌^◌, ◌<◌, ◌≤◌, ℕ};
 ghost use Rattle.std.specs.Float.Ieee.{round, low};
 ghost use Rattle.digit_floats.specs.Binary.{IsWholePart, shifted};
 
@@ -16,8 +16,8 @@ fn bit_length(digits: u128) -> u128
     128 - digits.leading_zeros() as u128
 }
 
-/// The power of two of the units in which a number of so many binary digits is rounded, and how many
-/// digits it loses there.
+/// The power of two of the units in which a number of so many binary digits is rounded, and how
+/// many digits it loses there.
 fn scale_of(size: u128, above: u128, below: u128, precision: u128) -> (u128, u128)
     requires size { (53 < size) × (size ≤ 128) }
     requires above { above < 2 ^ 72 }
@@ -59,8 +59,8 @@ fn shift_digits(digits: u128, shift: u128, more: bool) -> u64
     whole + whole % 2
 }
 
-/// The float nearest to a number whose whole part, in units of 2 to `above` over 2 to `below` of the
-/// least floats above 0, is the digits; `more` says whether the number is above that.
+/// The float nearest to a number whose whole part is the digits, in units of 2 to `above` over 2 to
+/// `below` of the least floats above 0; `more` says whether the number is above that.
 pub fn round_binary<F: Float>(digits: u128, more: bool, above: u128, below: u128) -> F
     requires many { 2 ^ 53 ≤ digits }
     requires few { digits < 2 ^ 119 }

@@ -1,6 +1,6 @@
 //! Numbers of hexadecimal digits and a power of two, such as `1.8p3`, and the nearest float.
 
-ghost use Rattle.std.specs.Prelude.{◌≡◌, ◌+◌, ◌-◌, ◌*◌, ◌/◌, ◌%◌, ◌^◌, ◌<◌, ◌≤◌, ◌++◌, ℕ, min, length, filter, if◌then◌else◌, IsTrue, IfOk, Ok, Err, MatchResult, true, false};
+ghost use Rattle.std.specs.Prelude.{◌≡◌, ◌+◌, ◌-◌, ◌*◌, ◌^◌, ◌<◌, ◌≤◌, ◌++◌, ℕ, min, length, filter, if◌then◌else◌, IsTrue, IfOk, Ok, Err, MatchResult, true, false};
 ghost use Rattle.std.specs.Char.{is_ascii_digit, is_ascii_hexdigit, digit_value};
 ghost use Rattle.std.specs.Float.{NotNan};
 ghost use Rattle.std.specs.Float.Ieee.{round};
@@ -240,9 +240,10 @@ pub fn round_hex<F: Float>(text: &[u8], negative: bool, mantissa: HexMantissa, p
 }
 
 /// The float of hexadecimal digits that begins at a position of a text, and the position after it:
-/// digits with a point before, among or after them, and a power of two in decimal after its mark, as
-/// `1.8p3`. A sign and a prefix such as `0x` are before this position; `negative` is the sign.
-/// Requires that the word is supported, that its mantissa is hexadecimal, and its exponent decimal.
+/// digits with a point before, among or after them, and a power of two in decimal after its mark.
+/// `1.8p3` by the marks `.` and `p` is 12.0. A sign and a prefix such as `0x` are before this
+/// position; `negative` is the sign. Requires that the word is supported, that its mantissa is
+/// hexadecimal, and its exponent decimal.
 pub fn read_hex_float_from<F: Float>(
     text: &[u8],
     word: u128,

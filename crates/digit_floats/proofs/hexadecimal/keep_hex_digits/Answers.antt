@@ -14,7 +14,11 @@ loop-byte-preserved c =
           let digit : is_ascii_hexdigit (get_or text i 0) ≡ true = cc in
           record {
             keeps = λ number is.
-                rw (w.now-is, value_more 16 is_ascii_hexdigit text i number within digit, ← w.hex_value.ensures.value)
+                rw (
+                  w.now-is,
+                  value_more 16 is_ascii_hexdigit text i number within digit,
+                  ← w.hex_value.ensures.value,
+                )
                 (w.keep_hex-now.ensures.keeps _ (c.loop-byte.invariant.keeps number is));
             few = rw w.now-is (omega (arith, w.keep_hex-now.ensures.few));
           }
