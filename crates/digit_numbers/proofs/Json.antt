@@ -1,5 +1,7 @@
 -- What is read by JSON is the longest number of RFC 8259.
-use Rattle.std.proofs.Common.{◌≡◌, ℕ, ◌+◌, ◌-◌, ◌^◌, ◌<◌, ◌≤◌, Bool, true, false, Option, Some, None, List, [], ◌∷◌, length, take, drop, refl, sym, subst, ◌∙◌, ◌⊎◌, inl, inr, arith, slice_get, slice_index, length-drop, zero, suc}
+use Rattle.std.proofs.Common.{◌≡◌, ℕ, ◌+◌, ◌-◌, ◌^◌, ◌<◌, ◌≤◌, Bool, true, false, Option, Some}
+use Rattle.std.proofs.Common.{None, List, [], ◌∷◌, length, take, drop, refl, sym, subst, ◌∙◌, ◌⊎◌}
+use Rattle.std.proofs.Common.{inl, inr, arith, slice_get, slice_index, length-drop, zero, suc}
 use Rattle.std.specs.Prelude.{not, filter, get_or, ◌&&◌, ◌||◌, if◌then◌else◌, nat_lt, is_some, Err}
 use Rattle.std.specs.Char.{is_ascii_digit}
 use Rattle.std.specs.Float.{Float, Format}
@@ -9,22 +11,26 @@ use Rattle.std.proofs.lemmas.List.{get_or-drop}
 use Rattle.std.proofs.lemmas.List.Filters.{length-filter_more}
 use Rattle.lexical_format.specs.Digits as words
 use Rattle.lexical_digits.specs.declared.skip.rule.Rule.{Rule}
-use Rattle.lexical_digits.specs.declared.skip.component.Component.TheVariants.{Integer, Fraction, Exponent}
+use Rattle.lexical_digits.specs.declared.skip.component.Component.TheVariants.{Integer, Fraction}
+use Rattle.lexical_digits.specs.declared.skip.component.Component.TheVariants.{Exponent}
 use Rattle.lexical_digits.specs.declared.skip.rule.Class.TheVariants.{Digit, Separator, Other}
 use Rattle.lexical_digits.specs.Cursor.{holds_of}
-use Rattle.lexical_digits.specs.Separators.{class, is_digit, is_dropped, is_kept, is_separator, is_separator_class, holds_separator}
+use Rattle.lexical_digits.specs.Separators.{class, is_digit, is_dropped, is_kept, is_separator}
+use Rattle.lexical_digits.specs.Separators.{is_separator_class, holds_separator}
 use Rattle.lexical_digits.specs.State.{rule_of}
 use Rattle.lexical_digits.specs.Stop.{stop}
 use Rattle.lexical_digits.proofs.Calls.FirstOther.{stop_is_first}
 use Rattle.digit_literals.specs.After.{digits_between}
 use Rattle.digit_floats.specs.Bytes.{stands, is_point, is_minus, is_sign}
 use Rattle.digit_floats.specs.Float as floats
-use Rattle.digit_floats.specs.Float.{digits_end, digits_from, fraction_digits, fraction_end, mantissa_end, exponent_digits, exponent_end}
+use Rattle.digit_floats.specs.Float.{digits_end, digits_from, fraction_digits, fraction_end}
+use Rattle.digit_floats.specs.Float.{mantissa_end, exponent_digits, exponent_end}
 use Rattle.digit_literals.specs.Integers.{integer_at, value_to}
 use Rattle.digit_literals.specs.declared.LiteralError.TheVariants.{Overflow}
 use Rattle.digit_literals.specs.Numbers.{has_byte}
 use Rattle.digit_languages.specs.declared.language.Language.{Language}
-use Rattle.digit_languages.specs.Literals.{has_prefix, prefix_word, plain_word, word_or, word_at, digits_at}
+use Rattle.digit_languages.specs.Literals.{has_prefix, prefix_word, plain_word, word_or, word_at}
+use Rattle.digit_languages.specs.Literals.{digits_at}
 use Rattle.digit_numbers.specs.declared.forms.TheConstants.{JSON}
 use Rattle.digit_numbers.specs.declared.number.Number.{Number}
 use Rattle.digit_numbers.specs.declared.number.Number.TheVariants as numbers
@@ -33,9 +39,13 @@ use Rattle.digit_numbers.specs.declared.number.NumberError.TheVariants as errors
 use Rattle.std.specs.Str.Parse.{digits_value}
 use Rattle.digit_numbers.specs.Forms.{is_plus_of, unprefixed}
 use Rattle.digit_numbers.specs.Json.{is_e, is_zero, IsJsonInteger, IsJsonNumber, IsLongest}
-use Rattle.digit_numbers.specs.Numbers.{IsNumber, IsWholeFault, HasNone, IsFault, IsLarge, IsLargeAt, IsFloat, IsInteger, IsIntegerAt, HasNoIntegerAt, is_float, past_sign, has_sign, has_exponent, is_zero_alone, literal_end, literal_digits, language, special_here}
+use Rattle.digit_numbers.specs.Numbers.{IsNumber, IsWholeFault, HasNone, IsFault, IsLarge}
+use Rattle.digit_numbers.specs.Numbers.{IsLargeAt, IsFloat, IsInteger, IsIntegerAt, HasNoIntegerAt}
+use Rattle.digit_numbers.specs.Numbers.{is_float, past_sign, has_sign, has_exponent, is_zero_alone}
+use Rattle.digit_numbers.specs.Numbers.{literal_end, literal_digits, language, special_here}
 use Rattle.digit_numbers.specs.Specials.{special_at}
-use Rattle.digit_numbers.proofs.JsonBytes.{IsRun, IsScan, minus_is, none, zero_alone, integer_is, whole, float}
+use Rattle.digit_numbers.proofs.JsonBytes.{IsRun, IsScan, minus_is, none, zero_alone, integer_is}
+use Rattle.digit_numbers.proofs.JsonBytes.{whole, float}
 use Rattle.digit_numbers.proofs.Large.{has_value, has_digits}
 
 abbrev word : ℕ

@@ -1,11 +1,13 @@
 -- A number of RFC 8259 and the digits of a text: how far one can reach.
-use Rattle.std.proofs.Common.{◌≡◌, ℕ, ◌+◌, ◌<◌, ◌≤◌, Bool, true, false, Option, Some, None, List, refl, sym, subst, ◌∙◌, ◌⊎◌, inl, inr, arith, slice_get}
+use Rattle.std.proofs.Common.{◌≡◌, ℕ, ◌+◌, ◌<◌, ◌≤◌, Bool, true, false, Option, Some, None, List}
+use Rattle.std.proofs.Common.{refl, sym, subst, ◌∙◌, ◌⊎◌, inl, inr, arith, slice_get}
 use Rattle.std.specs.Char.{is_ascii_digit}
 use Rattle.std.proofs.lemmas.Bool.{cases_lt}
 use Rattle.std.proofs.lemmas.Bool.Decides.{nat_tests}
 use Rattle.lexical_digits.specs.Cursor.{holds_of}
 use Rattle.digit_floats.specs.Bytes.{stands, is_point, is_minus, is_sign}
-use Rattle.digit_numbers.specs.Json.{is_digit1_9, is_e, is_zero, IsOptional, IsDigits, IsInt, IsFrac, IsExp, IsJsonNumber, IsLongest}
+use Rattle.digit_numbers.specs.Json.{is_digit1_9, is_e, is_zero, IsOptional, IsDigits, IsInt}
+use Rattle.digit_numbers.specs.Json.{IsFrac, IsExp, IsJsonNumber, IsLongest}
 
 -- ---- what a byte isn't, if it is something else
 

@@ -3,5 +3,5 @@ pub mod Few
 pub mod Json
 pub mod JsonBytes
 pub mod Large
-pub mod Names
+pub mod NamesAt
 pub mod Zeros

@@ -10,7 +10,8 @@ use Rattle.digit_numbers.specs.declared.form.Signs.TheVariants.{Absent, Minus, E
 use Rattle.digit_numbers.specs.declared.form.Whole.{Whole}
 use Rattle.digit_numbers.specs.declared.form.Whole.TheVariants.{Integer, LargeIsFloat, Float}
 use Rattle.digit_numbers.specs.declared.form.AfterPoint.{AfterPoint}
-use Rattle.digit_numbers.specs.declared.form.AfterPoint.TheVariants.{Anything, NoPoint, NoPointOrName}
+use Rattle.digit_numbers.specs.declared.form.AfterPoint.TheVariants.{Anything, NoPoint}
+use Rattle.digit_numbers.specs.declared.form.AfterPoint.TheVariants.{NoPointOrName}
 
 -- its words are supported, and its floats are decimal
 pub record IsForm (f : Form) : Type 0 where

@@ -1,5 +1,6 @@
 -- The number of RFC 8259: its rules, each of the bytes of a text from a position to another.
-use Rattle.std.specs.Prelude.{◌≡◌, ℕ, ◌+◌, ◌<◌, ◌≤◌, Bool, true, ◌&&◌, ◌||◌, ◌==◌, nat_le, List, ◌⊎◌}
+use Rattle.std.specs.Prelude.{◌≡◌, ℕ, ◌+◌, ◌<◌, ◌≤◌, Bool, true, ◌&&◌, ◌||◌, ◌==◌, nat_le, List}
+use Rattle.std.specs.Prelude.{◌⊎◌}
 use Rattle.std.specs.Char.{is_ascii_digit}
 use Rattle.digit_floats.specs.Bytes.{stands, is_point, is_minus, is_sign}
 

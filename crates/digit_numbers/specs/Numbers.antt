@@ -1,7 +1,9 @@
 -- The number at a position of a text by a form, in layers. After any sign it is a special value if
 -- one is there. Otherwise it is the longest prefix of the rest that is a number in digits, where a
 -- first `0` that the language refuses before more digits is a number by itself.
-use Rattle.std.specs.Prelude.{◌≡◌, ℕ, ◌+◌, ◌-◌, ◌^◌, ◌<◌, ◌==◌, Bool, true, false, not, if◌then◌else◌, ◌&&◌, ◌||◌, nat_lt, List, Err, [], ◌++◌, length, codes, decimal, is_some, ⊤, Option, None, Some}
+use Rattle.std.specs.Prelude.{◌≡◌, ℕ, ◌+◌, ◌-◌, ◌^◌, ◌<◌, ◌==◌, Bool, true, false, not}
+use Rattle.std.specs.Prelude.{if◌then◌else◌, ◌&&◌, ◌||◌, nat_lt, List, Err, [], ◌++◌, length, codes}
+use Rattle.std.specs.Prelude.{decimal, is_some, ⊤, Option, None, Some}
 use Rattle.std.specs.Float.{Float, Format, NotNan}
 use Rattle.std.specs.Float.Numeral.{Parts, nearest_float}
 use Rattle.std.specs.Str.Parse.{digits_value}
@@ -13,7 +15,8 @@ use Rattle.digit_literals.specs.Integers.{integer_at}
 use Rattle.digit_literals.specs.declared.LiteralError.TheVariants as integers
 use Rattle.digit_literals.specs.Numbers.{has_byte}
 use Rattle.digit_floats.specs.Bytes.{stands, is_point, is_mark}
-use Rattle.digit_floats.specs.Float.{digits_end, digits_from, fraction_digits, mantissa_end, exponent_digits, number_end, parts_at}
+use Rattle.digit_floats.specs.Float.{digits_end, digits_from, fraction_digits, mantissa_end}
+use Rattle.digit_floats.specs.Float.{exponent_digits, number_end, parts_at}
 use Rattle.digit_languages.specs.declared.language.Language.{Language}
 use Rattle.digit_languages.specs.Literals.{prefix_word, word_at, digits_at, refuses}
 use Rattle.digit_numbers.specs.declared.form.Form.{Form}
@@ -22,7 +25,8 @@ use Rattle.digit_numbers.specs.declared.number.Number.{Number}
 use Rattle.digit_numbers.specs.declared.number.Number.TheVariants as numbers
 use Rattle.digit_numbers.specs.declared.number.NumberError.{NumberError}
 use Rattle.digit_numbers.specs.declared.number.NumberError.TheVariants as errors
-use Rattle.digit_numbers.specs.Forms.{is_minus_of, is_plus_of, is_barred, is_always_float, may_be_float, unprefixed}
+use Rattle.digit_numbers.specs.Forms.{is_minus_of, is_plus_of, is_barred, is_always_float}
+use Rattle.digit_numbers.specs.Forms.{may_be_float, unprefixed}
 use Rattle.digit_numbers.specs.Specials.{special_at, special_float, name_end}
 
 -- ---- an integer by a language
@@ -233,7 +237,8 @@ module _ (f : Form) (text : List ℕ) where
       pub digits : IsPlainFault error
 
     -- a number is here, and the text goes on after it
-    pub record IsFollowed {T : Type 0} (format : Format) (value : T → Float) (end : ℕ) : Type 0 where
+    pub record IsFollowed {T : Type 0} (format : Format) (value : T → Float) (end : ℕ)
+        : Type 0 where
       pub number : Number T
       pub is : IsNumber format value number end
       pub before_end : end < length text
@@ -260,4 +265,5 @@ position (errors.Invalid at) = at
 abbrev pub message : NumberError → List ℕ
 message (errors.Empty at) = codes "there is no number at " ++ decimal at
 message (errors.Overflow at) = codes "the number is too large with the digit at " ++ decimal at
-message (errors.Invalid at) = codes "the byte at " ++ decimal at ++ codes " is no part of the number"
+message (errors.Invalid at) =
+    codes "the byte at " ++ decimal at ++ codes " is no part of the number"

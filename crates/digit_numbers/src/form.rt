@@ -1,7 +1,8 @@
 //! What a form says of its numbers.
 
 ghost use Rattle.std.specs.Prelude.{◌≡◌, IsTrue};
-ghost use Rattle.digit_numbers.specs.Forms.{IsForm, is_minus_of, is_plus_of, is_barred, begins_name, is_always_float, may_be_float};
+ghost use Rattle.digit_numbers.specs.Forms.{IsForm, is_minus_of, is_plus_of, is_barred};
+ghost use Rattle.digit_numbers.specs.Forms.{begins_name, is_always_float, may_be_float};
 
 use digit_floats::Marks;
 use digit_languages::{Language, is_language};

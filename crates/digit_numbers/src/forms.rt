@@ -1,10 +1,14 @@
-//! Forms by name: data formats, and the source code of languages.
+//! Forms by name: data formats, the source code of languages, and the strings that a function of a
+//! language takes for a float.
 
 ghost use Rattle.digit_numbers.specs.Forms.{IsForm};
 
 use super::form::{AfterPoint, Form, Signs, Whole};
+use super::names::{ANY_CASE, ANY_CASE_UNSIGNED_NAN, CAPITALIZED, LOWER_CASE, YAML_NAMES};
 use digit_floats::Marks;
-use digit_languages::languages;
+use digit_languages::{FirstZero, Language, languages};
+use lexical_format::STANDARD;
+use lexical_format::words::{HEXADECIMAL, OCTAL, PYTHON_LITERAL};
 
 /// JSON, by RFC 8259. An integer above 128 bits is a float.
 pub const JSON: Form = Form {
@@ -20,7 +24,35 @@ pub const JSON: Form = Form {
     specials: None,
 };
 
-/// TOML 1.0, except for `inf` and `nan`. A sign is before no prefix.
+/// JSON5. A sign may be before `Infinity`, `NaN` and `0x`. An integer above 128 bits is a float.
+pub const JSON5: Form = Form {
+    signs: Signs::Either,
+    integers: JSON5_INTEGER,
+    signed_prefix: true,
+    whole: Whole::LargeIsFloat,
+    marks: Marks::PLAIN,
+    needs_integer: false,
+    needs_fraction: false,
+    after_point: AfterPoint::Anything,
+    float_zeros: false,
+    specials: Some(CAPITALIZED),
+};
+
+/// YAML, by the core schema of 1.2. No sign is before `0o`, `0x` and `.nan`.
+pub const YAML: Form = Form {
+    signs: Signs::Either,
+    integers: YAML_INTEGER,
+    signed_prefix: false,
+    whole: Whole::Integer,
+    marks: Marks::PLAIN,
+    needs_integer: false,
+    needs_fraction: false,
+    after_point: AfterPoint::Anything,
+    float_zeros: true,
+    specials: Some(YAML_NAMES),
+};
+
+/// TOML 1.0. A sign is before no prefix.
 pub const TOML: Form = Form {
     signs: Signs::Either,
     integers: languages::TOML,
@@ -31,7 +63,7 @@ pub const TOML: Form = Form {
     needs_fraction: true,
     after_point: AfterPoint::Anything,
     float_zeros: false,
-    specials: None,
+    specials: Some(LOWER_CASE),
 };
 
 /// Rust's source code. A point that a second one or a name follows is none: `1..2`, `1.max(2)`.
@@ -217,10 +249,125 @@ pub const PERL: Form = Form {
     specials: None,
 };
 
+/// What Rust's `str::parse::<f64>` takes.
+pub const RUST_PARSE: Form = Form {
+    signs: Signs::Either,
+    integers: DIGITS,
+    signed_prefix: false,
+    whole: Whole::Float,
+    marks: Marks::PLAIN,
+    needs_integer: false,
+    needs_fraction: false,
+    after_point: AfterPoint::Anything,
+    float_zeros: true,
+    specials: Some(ANY_CASE),
+};
+
+/// What Python's `float` takes, without blanks around it and digits beyond ASCII.
+pub const PYTHON_FLOAT: Form = Form {
+    signs: Signs::Either,
+    integers: PYTHON_DIGITS,
+    signed_prefix: false,
+    whole: Whole::Float,
+    marks: Marks::PLAIN,
+    needs_integer: false,
+    needs_fraction: false,
+    after_point: AfterPoint::Anything,
+    float_zeros: true,
+    specials: Some(ANY_CASE),
+};
+
+/// What Java's `Double.parseDouble` takes, without blanks around it and a suffix such as `d`, and
+/// except for hexadecimal floats.
+pub const JAVA_PARSE_DOUBLE: Form = Form {
+    signs: Signs::Either,
+    integers: DIGITS,
+    signed_prefix: false,
+    whole: Whole::Float,
+    marks: Marks::PLAIN,
+    needs_integer: false,
+    needs_fraction: false,
+    after_point: AfterPoint::Anything,
+    float_zeros: true,
+    specials: Some(CAPITALIZED),
+};
+
+/// What Go's `strconv.ParseFloat` takes, except for hexadecimal floats. A sign is before no `nan`.
+/// Where Go says that a value is out of range, it is infinite here.
+pub const GO_PARSE_FLOAT: Form = Form {
+    signs: Signs::Either,
+    integers: PYTHON_DIGITS,
+    signed_prefix: false,
+    whole: Whole::Float,
+    marks: Marks::PLAIN,
+    needs_integer: false,
+    needs_fraction: false,
+    after_point: AfterPoint::Anything,
+    float_zeros: true,
+    specials: Some(ANY_CASE_UNSIGNED_NAN),
+};
+
+/// What C's `strtod` takes in the locale `C`, without blanks before it, and except for hexadecimal
+/// floats and for what follows `nan` in parentheses.
+pub const STRTOD: Form = Form {
+    signs: Signs::Either,
+    integers: DIGITS,
+    signed_prefix: false,
+    whole: Whole::Float,
+    marks: Marks::PLAIN,
+    needs_integer: false,
+    needs_fraction: false,
+    after_point: AfterPoint::Anything,
+    float_zeros: true,
+    specials: Some(ANY_CASE),
+};
+
+/// Digits without a prefix and separators.
+const DIGITS: Language = Language {
+    decimal: STANDARD,
+    binary: None,
+    octal: None,
+    hexadecimal: None,
+    upper: false,
+    first_zero: FirstZero::Plain,
+};
+
+/// Digits without a prefix, and with one `_` between two digits.
+const PYTHON_DIGITS: Language = Language {
+    decimal: PYTHON_LITERAL,
+    binary: None,
+    octal: None,
+    hexadecimal: None,
+    upper: false,
+    first_zero: FirstZero::Plain,
+};
+
+/// JSON5: `0x`, in either case. No digit follows a first `0`.
+const JSON5_INTEGER: Language = Language {
+    decimal: STANDARD,
+    binary: None,
+    octal: None,
+    hexadecimal: Some(HEXADECIMAL),
+    upper: true,
+    first_zero: FirstZero::Alone,
+};
+
+/// YAML: `0o`, `0x`.
+const YAML_INTEGER: Language = Language {
+    decimal: STANDARD,
+    binary: None,
+    octal: Some(OCTAL),
+    hexadecimal: Some(HEXADECIMAL),
+    upper: false,
+    first_zero: FirstZero::Plain,
+};
+
 /// The words of each form of this file are supported, and its floats are decimal.
 #[tactic(auto, unfolding(lexical_format::proofs::OnLiterals::lexical_on_literals))]
 pub fn forms_serve()
     ensures json { IsForm JSON }
+    ensures json5 { IsForm JSON5 }
+    ensures yaml { IsForm YAML }
     ensures toml { IsForm TOML }
     ensures rust { IsForm RUST }
     ensures python { IsForm PYTHON }
@@ -235,4 +382,9 @@ pub fn forms_serve()
     ensures ocaml { IsForm OCAML }
     ensures swift { IsForm SWIFT }
     ensures perl { IsForm PERL }
+    ensures rust_parse { IsForm RUST_PARSE }
+    ensures python_float { IsForm PYTHON_FLOAT }
+    ensures java_parse_double { IsForm JAVA_PARSE_DOUBLE }
+    ensures go_parse_float { IsForm GO_PARSE_FLOAT }
+    ensures strtod { IsForm STRTOD }
 {}

@@ -6,6 +6,7 @@ mod form;
 pub mod forms;
 mod integer;
 pub mod laws;
+pub mod names;
 mod number;
 mod special;
 #[cfg(test)]

@@ -1,8 +1,11 @@
 //! The number at a position.
 
-ghost use Rattle.std.specs.Prelude.{◌≡◌, ◌+◌, ◌<◌, ◌≤◌, ◌&&◌, not, if◌then◌else◌, Some, None, length, false, IfOk, IfErr, IfSome, MatchOption};
+ghost use Rattle.std.specs.Prelude.{◌≡◌, ◌+◌, ◌<◌, ◌≤◌, ◌&&◌, not, if◌then◌else◌, Some, None};
+ghost use Rattle.std.specs.Prelude.{length, false, IfOk, IfErr, IfSome, MatchOption};
 ghost use Rattle.digit_numbers.specs.Forms.{IsForm, unprefixed};
-ghost use Rattle.digit_numbers.specs.Numbers.{past_sign, is_negative, is_float, special_here, IsNumber, IsPlainNumber, IsPlainFault, IsNoNan, IsFault, IsWholeFault, position, message};
+ghost use Rattle.digit_numbers.specs.Numbers.{past_sign, is_negative, is_float, special_here};
+ghost use Rattle.digit_numbers.specs.Numbers.{IsNumber, IsPlainNumber, IsPlainFault, IsNoNan};
+ghost use Rattle.digit_numbers.specs.Numbers.{IsFault, IsWholeFault, position, message};
 ghost use Rattle.digit_languages.specs.Words.{IsLanguage};
 ghost use Rattle.digit_numbers.specs.Reads.{IsMantissaAt, IsSign};
 ghost use Rattle.digit_numbers.specs.Specials.{special_float, name_end};
@@ -219,7 +222,8 @@ pub fn read_number_of<F: Float>(
     requires form { IsForm form }
     ensures ok { IfOk result (λ r. IsNumber form text.now start F.format F.value r.0 r.1) }
     ensures none { IfErr result (IsFault form text.now start) }
-    ensures no_nan { special_here form text.now start ≡ None → IfOk result (λ r. IsNoNan F.value r.0) }
+    ensures no_nan { special_here form text.now start ≡ None →
+        IfOk result (λ r. IsNoNan F.value r.0) }
     ensures end { IfOk result (λ r. (start < r.1) × (r.1 ≤ length text.now)) }
 {
     let sign = read_sign(text, form, start);

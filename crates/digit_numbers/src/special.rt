@@ -1,6 +1,8 @@
 // The special value at a position, by a form.
 
-ghost use Rattle.std.specs.Prelude.{◌≡◌, ◌+◌, ◌<◌, ◌≤◌, ◌&&◌, ◌||◌, not, if◌then◌else◌, nat_lt, false, true, length, Some, None, IsTrue, IfSome, MatchOption, slice_index_or, slice_index};
+ghost use Rattle.std.specs.Prelude.{◌≡◌, ◌+◌, ◌<◌, ◌≤◌, ◌&&◌, ◌||◌, not, if◌then◌else◌, nat_lt};
+ghost use Rattle.std.specs.Prelude.{false, true, length, Some, None, IsTrue, IfSome, MatchOption};
+ghost use Rattle.std.specs.Prelude.{slice_index_or, slice_index};
 ghost use Rattle.std.specs.List.{starts_with};
 ghost use Rattle.std.specs.Float.{Float as IeeeFloat};
 ghost use Rattle.lexical_format.specs.Word.{is_supported};
@@ -8,7 +10,8 @@ ghost use Rattle.lexical_digits.specs.declared.skip.component.Component.TheVaria
 ghost use Rattle.lexical_digits.specs.Separators.{place, drain, kept_positions};
 ghost use Rattle.lexical_digits.specs.State.{rule_of};
 ghost use Rattle.digit_numbers.specs.Forms.{IsForm};
-ghost use Rattle.digit_numbers.specs.Specials.{begins, bytes_of, end_of, is_here, name_end, same_by, special_at, special_float};
+ghost use Rattle.digit_numbers.specs.Specials.{begins, bytes_of, end_of, is_here, name_end};
+ghost use Rattle.digit_numbers.specs.Specials.{same_by, special_at, special_float};
 
 use super::form::{Form, Special, SpecialValue, Specials};
 use digit_floats::Float;
@@ -35,7 +38,7 @@ impl SpecialValue {
 
 /// The first position from `at` on whose byte the special component of a word keeps, or the length.
 #[inline(always)]
-#[tactic(auto, using(crate::proofs::Names::places))]
+#[tactic(auto, using(crate::proofs::NamesAt::places))]
 fn kept_from(text: &[u8], word: u128, at: usize) -> usize
     requires supported { IsTrue (is_supported word) }
     requires within { at ≤ length text.now }
@@ -53,7 +56,8 @@ fn kept_from(text: &[u8], word: u128, at: usize) -> usize
 /// Whether a byte is at a position that is the same in a name.
 #[inline(always)]
 fn has_same(text: &[u8], specials: Option<Specials>, at: usize, wanted: u8) -> bool
-    ensures { result ≡ (nat_lt at (length text.now) && same_by specials wanted (slice_index text.now at)) }
+    ensures { result
+        ≡ (nat_lt at (length text.now) && same_by specials wanted (slice_index text.now at)) }
 {
     match (text.get(at), specials) {
         (Some(byte), Some(specials)) if specials.any_case => wanted.eq_ignore_ascii_case(byte),
@@ -71,7 +75,8 @@ fn end_of(text: &[u8], form: Form, at: usize, name: &[u8]) -> Option<usize>
     ensures is { MatchOption result (begins form text.now at name.now ≡ false)
         (λ end. begins form text.now at name.now ≡ true) }
     ensures end { IfSome result (λ end. end ≡ end_of form text.now at name.now) }
-    ensures onward { IfSome result (λ end. nat_lt 0 (length (bytes_of name.now)) ≡ true → at < end) }
+    ensures onward { IfSome result (λ end.
+        nat_lt 0 (length (bytes_of name.now)) ≡ true → at < end) }
     ensures within { IfSome result (λ end. end ≤ length text.now) }
 {
     let word = form.integers.decimal;
@@ -115,7 +120,8 @@ fn special_end(
 #[inline(always)]
 fn later(special: Special, end: usize, found: Option<(Special, usize)>) -> (Special, usize)
     ensures none { found ≡ None → result ≡ (special, end) }
-    ensures some { IfSome found (λ other. result ≡ (if nat_lt end other.1 then other else (special, end))) }
+    ensures some { IfSome found (λ other.
+        result ≡ (if nat_lt end other.1 then other else (special, end))) }
 {
     match found {
         Some((other, other_end)) if end < other_end => (other, other_end),

@@ -1,9 +1,21 @@
 //! Numbers as RFC 8259 and the grammars of languages have them. Values are worked out by hand, and
 //! of whole literals by g++ 12.2.0 and CPython 3.11.7. Ends of JSON's numbers are compared with a
-//! state machine, written from the RFC.
+//! state machine, written from the RFC. What a function takes as a float is from that function:
+//! of rustc 1.95.0, CPython 3.11.7, OpenJDK 17.0.15, Go 1.19.8 and glibc 2.36; TOML's values are
+//! from CPython's tomllib. Those of JSON5 and YAML are worked out by hand from their pages.
 
-use super::forms::{CXX17, JSON, PYTHON, RUST};
-use super::{Form, Number, NumberError, is_form, parse_number_of, read_number_of};
+use super::forms::{
+    CXX17, GO_PARSE_FLOAT, JAVA_PARSE_DOUBLE, JSON, JSON5, PYTHON, PYTHON_FLOAT, RUST, RUST_PARSE,
+    STRTOD, TOML, YAML,
+};
+use super::names::{ANY_CASE, LOWER_CASE};
+use super::{
+    Form, Number, NumberError, Special, SpecialValue, Specials, is_form, parse_number_of,
+    read_number_of,
+};
+use digit_languages::Language;
+use lexical_format::SPECIAL_DIGIT_SEPARATOR;
+use lexical_format::words::PYTHON_LITERAL;
 use std::process::Abort;
 
 /// An integer's sign and magnitude, or a float.
@@ -11,38 +23,102 @@ use std::process::Abort;
 enum Value {
     Int(bool, u128),
     Real(f64),
+    Nan,
     Fault(NumberError),
 }
 
-use Value::{Fault, Int, Real};
+use Value::{Fault, Int, Nan, Real};
 
-/// A form, a text, and the number that it begins with and its end.
-static NUMBERS: [(Form, &[u8], Value, usize); 24] = [
-    (JSON, b"0", Int(false, 0), 1),
-    (JSON, b"-0", Int(true, 0), 2),
-    (JSON, b"-0.0", Real(-0.0), 4),
-    (JSON, b"-122.4194155,", Real(-122.4194155), 12),
-    (JSON, b"1e3", Real(1000.0), 3),
-    (JSON, b"1E+3]", Real(1000.0), 4),
-    (JSON, b"01", Int(false, 0), 1),
-    (JSON, b"00.5", Int(false, 0), 1),
-    (JSON, b"0.5", Real(0.5), 3),
-    (JSON, b"1.", Int(false, 1), 1),
-    (JSON, b"1.e1", Int(false, 1), 1),
-    (JSON, b"1e", Int(false, 1), 1),
-    (JSON, b"1.5e+", Real(1.5), 3),
-    (JSON, b".5", Fault(NumberError::Empty(0)), 0),
-    (JSON, b"+1", Fault(NumberError::Empty(0)), 0),
-    (JSON, b"-", Fault(NumberError::Empty(1)), 0),
-    (RUST, b"1..2", Int(false, 1), 1),
-    (RUST, b"1.max(2)", Int(false, 1), 1),
-    (RUST, b"1.;", Real(1.0), 2),
-    (RUST, b"0xff.5", Int(false, 255), 4),
-    (PYTHON, b"01.5", Real(1.5), 4),
-    (PYTHON, b"012", Int(false, 0), 1),
-    (PYTHON, b"0x", Int(false, 0), 1),
-    (PYTHON, b".5j", Real(0.5), 2),
+const INFINITE: f64 = f64::INFINITY;
+
+/// A text, and the number of JSON that it begins with and its end.
+static JSON_ENDS: [(&[u8], Value, usize); 18] = [
+    (b"0", Int(false, 0), 1),
+    (b"-0", Int(true, 0), 2),
+    (b"-0.0", Real(-0.0), 4),
+    (b"-122.4194155,", Real(-122.4194155), 12),
+    (b"1e3", Real(1000.0), 3),
+    (b"1E+3]", Real(1000.0), 4),
+    (b"01", Int(false, 0), 1),
+    (b"00.5", Int(false, 0), 1),
+    (b"0.5", Real(0.5), 3),
+    (b"1.", Int(false, 1), 1),
+    (b"1.e1", Int(false, 1), 1),
+    (b"1e", Int(false, 1), 1),
+    (b"1.5e+", Real(1.5), 3),
+    (b".5", Fault(NumberError::Empty(0)), 0),
+    (b"+1", Fault(NumberError::Empty(0)), 0),
+    (b"-", Fault(NumberError::Empty(1)), 0),
+    (b"inf", Fault(NumberError::Empty(0)), 0),
+    (b"-NaN", Fault(NumberError::Empty(1)), 0),
 ];
+
+/// The same of Rust's source code.
+static RUST_ENDS: [(&[u8], Value, usize); 4] = [
+    (b"1..2", Int(false, 1), 1),
+    (b"1.max(2)", Int(false, 1), 1),
+    (b"1.;", Real(1.0), 2),
+    (b"0xff.5", Int(false, 255), 4),
+];
+
+/// The same of Python's source code.
+static PYTHON_ENDS: [(&[u8], Value, usize); 4] = [
+    (b"01.5", Real(1.5), 4),
+    (b"012", Int(false, 0), 1),
+    (b"0x", Int(false, 0), 1),
+    (b".5j", Real(0.5), 2),
+];
+
+/// The same of `strtod`, from glibc.
+static STRTOD_ENDS: [(&[u8], Value, usize); 6] = [
+    (b"infinit", Real(INFINITE), 3),
+    (b"infinite", Real(INFINITE), 3),
+    (b"nan(", Nan, 3),
+    (b"1_0", Real(1.0), 1),
+    (b"1e+", Real(1.0), 1),
+    (b"1..2", Real(1.0), 2),
+];
+
+/// The same of JSON5.
+static JSON5_ENDS: [(&[u8], Value, usize); 10] = [
+    (b"Infinity,", Real(INFINITE), 8),
+    (b"-Infinity", Real(-INFINITE), 9),
+    (b"-NaN", Nan, 4),
+    (b"infinity", Fault(NumberError::Empty(0)), 0),
+    (b"-0xFf", Int(true, 255), 5),
+    (b"+0XA]", Int(false, 10), 4),
+    (b"-.5", Real(-0.5), 3),
+    (b"5.}", Real(5.0), 2),
+    (b"08.5", Int(false, 0), 1),
+    (b"0b1", Int(false, 0), 1),
+];
+
+/// The same of YAML.
+static YAML_ENDS: [(&[u8], Value, usize); 20] = [
+    (b".inf", Real(INFINITE), 4),
+    (b"-.Inf", Real(-INFINITE), 5),
+    (b"+.INF", Real(INFINITE), 5),
+    (b".iNF", Fault(NumberError::Empty(0)), 0),
+    (b".nan", Nan, 4),
+    (b".NaN", Nan, 4),
+    (b".NAN", Nan, 4),
+    (b".nAN", Fault(NumberError::Empty(0)), 0),
+    (b"-.nan", Fault(NumberError::Empty(1)), 0),
+    (b".5", Real(0.5), 2),
+    (b"5.", Real(5.0), 2),
+    (b".", Fault(NumberError::Empty(0)), 0),
+    (b"1.e3", Real(1000.0), 4),
+    (b"010", Int(false, 10), 3),
+    (b"0o17", Int(false, 15), 4),
+    (b"0x1F", Int(false, 31), 4),
+    (b"0X1F", Int(false, 0), 1),
+    (b"-0x1F", Int(true, 0), 2),
+    (b"0b1", Int(false, 0), 1),
+    (b"1_000", Int(false, 1), 1),
+];
+
+/// The same of TOML.
+static TOML_ENDS: [(&[u8], Value, usize); 1] = [(b"inf_", Real(INFINITE), 3)];
 
 /// A literal of C++, and its value by g++.
 static OF_CXX: [(&[u8], Value); 26] = [
@@ -107,6 +183,109 @@ static OF_PYTHON: [(&[u8], Value); 23] = [
     (b"123_456.789_012", Real(123456.789012)),
 ];
 
+/// What Rust's `parse` takes, and its value.
+static RUST_PARSE_TAKES: [(&[u8], Value); 12] = [
+    (b"inf", Real(INFINITE)),
+    (b"Infinity", Real(INFINITE)),
+    (b"+INF", Real(INFINITE)),
+    (b"-inf", Real(-INFINITE)),
+    (b"nAn", Nan),
+    (b"-nan", Nan),
+    (b"+nan", Nan),
+    (b"1.e5", Real(100000.0)),
+    (b"+.5", Real(0.5)),
+    (b"5.", Real(5.0)),
+    (b"01.5", Real(1.5)),
+    (b"1e400", Real(INFINITE)),
+];
+
+/// What Rust's `parse` refuses.
+static RUST_PARSE_REFUSES: [&[u8]; 5] = [b"infinit", b"1_0", b".", b".e5", b"1e"];
+
+/// What Python's `float` takes, and its value.
+static PYTHON_FLOAT_TAKES: [(&[u8], Value); 9] = [
+    (b"inf", Real(INFINITE)),
+    (b"Infinity", Real(INFINITE)),
+    (b"+INF", Real(INFINITE)),
+    (b"-nan", Nan),
+    (b"nAn", Nan),
+    (b"1_0.5_0e1_0", Real(105000000000.0)),
+    (b"1.e5", Real(100000.0)),
+    (b".5", Real(0.5)),
+    (b"01.5", Real(1.5)),
+];
+
+/// What Python's `float` refuses.
+static PYTHON_FLOAT_REFUSES: [&[u8]; 8] = [
+    b"infinit", b".", b"1_", b"1__0", b"_1", b"in_f", b"1._5", b"1e",
+];
+
+/// What Java's `parseDouble` takes, and its value.
+static JAVA_PARSE_DOUBLE_TAKES: [(&[u8], Value); 7] = [
+    (b"Infinity", Real(INFINITE)),
+    (b"+Infinity", Real(INFINITE)),
+    (b"-Infinity", Real(-INFINITE)),
+    (b"NaN", Nan),
+    (b"-NaN", Nan),
+    (b"1.e5", Real(100000.0)),
+    (b"5.", Real(5.0)),
+];
+
+/// What Java's `parseDouble` refuses.
+static JAVA_PARSE_DOUBLE_REFUSES: [&[u8]; 5] = [b"inf", b"INFINITY", b"1_0", b".", b"1e"];
+
+/// What Go's `ParseFloat` takes, and its value.
+static GO_PARSE_FLOAT_TAKES: [(&[u8], Value); 10] = [
+    (b"inf", Real(INFINITE)),
+    (b"Infinity", Real(INFINITE)),
+    (b"+INF", Real(INFINITE)),
+    (b"-inf", Real(-INFINITE)),
+    (b"NaN", Nan),
+    (b"nAn", Nan),
+    (b"1_0.5_0e1_0", Real(105000000000.0)),
+    (b"1_000", Real(1000.0)),
+    (b".5", Real(0.5)),
+    (b"01.5", Real(1.5)),
+];
+
+/// What Go's `ParseFloat` refuses.
+static GO_PARSE_FLOAT_REFUSES: [&[u8]; 11] = [
+    b"-nan",
+    b"+NaN",
+    b"infinit",
+    b"infinityx",
+    b".",
+    b"1_",
+    b"1__0",
+    b"_1",
+    b"in_f",
+    b"1._5",
+    b"1e",
+];
+
+/// What `strtod` takes, and its value.
+static STRTOD_TAKES: [(&[u8], Value); 3] = [
+    (b"Infinity", Real(INFINITE)),
+    (b"-inf", Real(-INFINITE)),
+    (b"-nan", Nan),
+];
+
+/// What `strtod` refuses.
+static STRTOD_REFUSES: [&[u8]; 1] = [b"."];
+
+/// What tomllib takes, and its value.
+static TOML_TAKES: [(&[u8], Value); 6] = [
+    (b"inf", Real(INFINITE)),
+    (b"+inf", Real(INFINITE)),
+    (b"-inf", Real(-INFINITE)),
+    (b"nan", Nan),
+    (b"-nan", Nan),
+    (b"+nan", Nan),
+];
+
+/// What tomllib refuses.
+static TOML_REFUSES: [&[u8]; 4] = [b"Inf", b"NAN", b"infinity", b"in_f"];
+
 fn value_of(read: Result<(Number<f64>, usize), NumberError>) -> (Value, usize) {
     match read {
         Ok(
@@ -119,6 +298,7 @@ fn value_of(read: Result<(Number<f64>, usize), NumberError>) -> (Value, usize) {
                 end,
             ),
         ) => (Int(negative, magnitude), end),
+        Ok((Number::Float(x), end)) if x.is_nan() => (Nan, end),
         Ok((Number::Float(x), end)) => (Real(x), end),
         Err(error) => (Fault(error), 0),
     }
@@ -127,10 +307,21 @@ fn value_of(read: Result<(Number<f64>, usize), NumberError>) -> (Value, usize) {
 #[test]
 #[tactic(auto, unfolding(lexical_format::proofs::OnLiterals::lexical_on_literals))]
 fn a_number_ends_where_its_form_says(rt: HostRuntime) {
-    for (form, text, value, end) in NUMBERS {
-        assert!(&rt; is_form(form));
+    assert_ends(&rt, JSON, &JSON_ENDS);
+    assert_ends(&rt, RUST, &RUST_ENDS);
+    assert_ends(&rt, PYTHON, &PYTHON_ENDS);
+    assert_ends(&rt, STRTOD, &STRTOD_ENDS);
+    assert_ends(&rt, JSON5, &JSON5_ENDS);
+    assert_ends(&rt, YAML, &YAML_ENDS);
+    assert_ends(&rt, TOML, &TOML_ENDS);
+}
+
+/// Each text begins with that number of the form, which ends there.
+fn assert_ends(rt: &impl Abort, form: Form, rows: &[(&[u8], Value, usize)]) {
+    assert!(rt; is_form(form));
+    for (text, value, end) in rows {
         let read = value_of(read_number_of::<f64>(text, 0, form));
-        assert!(&rt; read == (value, end), "{text:?}: {read:?}");
+        assert!(rt; read == (*value, *end), "{text:?}: {read:?}");
     }
 }
 
@@ -147,6 +338,104 @@ fn assert_values(rt: &impl Abort, form: Form, rows: &[(&[u8], Value)]) {
 fn literals_have_the_values_of_their_tools(rt: HostRuntime) {
     assert_values(&rt, CXX17, &OF_CXX);
     assert_values(&rt, PYTHON, &OF_PYTHON);
+}
+
+/// No text is a number of the form.
+fn assert_refused(rt: &impl Abort, form: Form, texts: &[&[u8]]) {
+    assert!(rt; is_form(form));
+    for text in texts {
+        let read = parse_number_of::<f64>(text, form);
+        assert!(rt; read.is_err(), "{text:?}");
+    }
+}
+
+#[test]
+fn strings_are_floats_as_their_functions_take_them(rt: HostRuntime) {
+    assert_values(&rt, RUST_PARSE, &RUST_PARSE_TAKES);
+    assert_refused(&rt, RUST_PARSE, &RUST_PARSE_REFUSES);
+    assert_values(&rt, PYTHON_FLOAT, &PYTHON_FLOAT_TAKES);
+    assert_refused(&rt, PYTHON_FLOAT, &PYTHON_FLOAT_REFUSES);
+    assert_values(&rt, JAVA_PARSE_DOUBLE, &JAVA_PARSE_DOUBLE_TAKES);
+    assert_refused(&rt, JAVA_PARSE_DOUBLE, &JAVA_PARSE_DOUBLE_REFUSES);
+    assert_values(&rt, GO_PARSE_FLOAT, &GO_PARSE_FLOAT_TAKES);
+    assert_refused(&rt, GO_PARSE_FLOAT, &GO_PARSE_FLOAT_REFUSES);
+    assert_values(&rt, STRTOD, &STRTOD_TAKES);
+    assert_refused(&rt, STRTOD, &STRTOD_REFUSES);
+    assert_values(&rt, TOML, &TOML_TAKES);
+    assert_refused(&rt, TOML, &TOML_REFUSES);
+}
+
+/// A name of one's own.
+fn special(name: [u8; 8], value: SpecialValue, signed: bool) -> Special {
+    Special {
+        name,
+        value,
+        signed,
+    }
+}
+
+/// TOML with names of one's own: the longer one of two is last, and the last two are the same.
+fn own_names() -> Form {
+    let inf = special(*b"inf\0\0\0\0\0", SpecialValue::Infinity, true);
+    let infinite = special(*b"infinite", SpecialValue::Infinity, true);
+    let sign = special(*b"\xe2\x88\x9e\0\0\0\0\0", SpecialValue::Infinity, false);
+    let none = special(*b"n/a\0\0\0\0\0", SpecialValue::NotANumber, false);
+    let first = special(*b"same\0\0\0\0", SpecialValue::NotANumber, true);
+    let second = special(*b"same\0\0\0\0", SpecialValue::Infinity, true);
+    let no = Special::ABSENT;
+    Form {
+        specials: Some(Specials {
+            names: [inf, infinite, sign, none, first, second, no, no],
+            any_case: false,
+        }),
+        ..TOML
+    }
+}
+
+#[test]
+fn names_of_ones_own_are_read(rt: HostRuntime) {
+    let rows: [(&[u8], Value, usize); 9] = [
+        (b"-inf", Real(-INFINITE), 4),
+        (b"infinit", Real(INFINITE), 3),
+        (b"infinite", Real(INFINITE), 8),
+        (b"\xe2\x88\x9e", Real(INFINITE), 3),
+        (b"-\xe2\x88\x9e", Fault(NumberError::Empty(1)), 0),
+        (b"n/a", Nan, 3),
+        (b"+n/a", Fault(NumberError::Empty(1)), 0),
+        (b"same", Nan, 4),
+        (b"nan", Fault(NumberError::Empty(0)), 0),
+    ];
+    assert_ends(&rt, own_names(), &rows);
+}
+
+#[test]
+fn separators_in_a_name_are_those_of_the_special_flag(rt: HostRuntime) {
+    let word = PYTHON_LITERAL | SPECIAL_DIGIT_SEPARATOR;
+    let plain = Form {
+        specials: Some(ANY_CASE),
+        ..TOML
+    };
+    let flagged = Form {
+        integers: Language {
+            decimal: word,
+            ..TOML.integers
+        },
+        specials: Some(LOWER_CASE),
+        ..TOML
+    };
+    let without: [(&[u8], Value, usize); 2] = [
+        (b"in_f", Fault(NumberError::Empty(0)), 0),
+        (b"INFINITY_", Real(INFINITE), 8),
+    ];
+    assert_ends(&rt, plain, &without);
+    let with: [(&[u8], Value, usize); 5] = [
+        (b"in_f", Real(INFINITE), 4),
+        (b"-__i_n__f_;", Real(-INFINITE), 10),
+        (b"INF", Fault(NumberError::Empty(0)), 0),
+        (b"1_000", Int(false, 1000), 5),
+        (b"1_", Int(false, 1), 1),
+    ];
+    assert_ends(&rt, flagged, &with);
 }
 
 #[test]

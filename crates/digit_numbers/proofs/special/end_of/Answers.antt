@@ -1,6 +1,8 @@
 use Rattle.std.proofs.Common.{◌≡◌, ◌+◌, ◌≤◌, ◌∙◌, length, sym, refl, arith, rules}
 use Rattle.std.proofs.lemmas.Bool.Decides.{nat_tests}
-use Rattle.digit_numbers.proofs.Names.{place_again, place_low_here, place_high_here, starts_first, ends_first, starts_same, ends_same, starts_not, bytes_none, bytes_past, ends_done}
+use Rattle.digit_numbers.proofs.NamesAt.{place_again, place_low_here, place_high_here, starts_first}
+use Rattle.digit_numbers.proofs.NamesAt.{ends_first, starts_same, ends_same, starts_not, bytes_none}
+use Rattle.digit_numbers.proofs.NamesAt.{bytes_past, ends_done}
 use Rattle.digit_numbers.proofs.special.end_of.Goals as goal
 
 pub loop-n-init : goal.loop-n-init

@@ -3,7 +3,7 @@ use Rattle.lexical_digits.specs.declared.skip.component.Component.TheVariants as
 use Rattle.lexical_digits.specs.Separators.{place}
 use Rattle.lexical_digits.specs.State.{rule_of}
 use Rattle.digit_numbers.specs.Specials.{begins, end_of}
-use Rattle.digit_numbers.proofs.Names.{starts, ends}
+use Rattle.digit_numbers.proofs.NamesAt.{starts, ends}
 use Rattle.digit_numbers.proofs.special.end_of.Given as goal
 
 -- what is left of the name is at the position reached

@@ -1,5 +1,7 @@
 -- How a name is found at a position.
-use Rattle.std.proofs.Common.{◌≡◌, ℕ, ◌+◌, ◌<◌, ◌≤◌, Bool, true, false, not, List, [], ◌∷◌, length, drop, map, refl, sym, ap, ◌∙◌, arith, inl, inr, ◌⊎◌, IsTrue, get_or, Option}
+use Rattle.std.proofs.Common.{◌≡◌, ℕ, ◌+◌, ◌<◌, ◌≤◌, Bool, true, false, not, List, [], ◌∷◌, length}
+use Rattle.std.proofs.Common.{drop, map, refl, sym, ap, ◌∙◌, arith, inl, inr, ◌⊎◌, IsTrue, get_or}
+use Rattle.std.proofs.Common.{Option}
 use Rattle.std.specs.Prelude.{◌&&◌, ◌==◌, nat_lt, take_while}
 use Rattle.std.specs.List.{starts_with}
 use Rattle.std.proofs.lemmas.Bool.{cases_lt}
@@ -10,10 +12,13 @@ use Rattle.std.proofs.lemmas.Option.{gets}
 use Rattle.lexical_format.specs.Word.{bit, is_supported}
 use Rattle.lexical_digits.specs.declared.skip.rule.Rule.{Rule}
 use Rattle.lexical_digits.specs.declared.skip.component.Component.TheVariants.{Special}
-use Rattle.lexical_digits.specs.Separators.{place, kept_positions, drain, is_kept, is_separator, holds_separator, GrantsAll, GrantsNone}
+use Rattle.lexical_digits.specs.Separators.{place, kept_positions, drain, is_kept, is_separator}
+use Rattle.lexical_digits.specs.Separators.{holds_separator, GrantsAll, GrantsNone}
 use Rattle.lexical_digits.specs.State.{rule_of}
-use Rattle.lexical_digits.specs.Laws.Kept.{place_kept, place_dropped, place_end, positions_kept, positions_dropped, positions_end}
-use Rattle.lexical_digits.specs.Laws.Place.{by_steps, kept_if_none, place_low, place_high, place_settled}
+use Rattle.lexical_digits.specs.Laws.Kept.{place_kept, place_dropped, place_end, positions_kept}
+use Rattle.lexical_digits.specs.Laws.Kept.{positions_dropped, positions_end}
+use Rattle.lexical_digits.specs.Laws.Place.{by_steps, kept_if_none, place_low, place_high}
+use Rattle.lexical_digits.specs.Laws.Place.{place_settled}
 use Rattle.digit_numbers.specs.declared.form.Specials.{Specials}
 use Rattle.digit_numbers.specs.Specials.{bytes_of, same_by}
 use Rattle.lexical_digits.proofs.Rule.Supported.{supported_rule}
@@ -44,13 +49,15 @@ module _ (word : ℕ) (text : List ℕ) where
   holds_is supported i l =
       grind (arith, gets, separator_class rule text (supported_rule word Special supported))
 
-  pub place_here : IsTrue (is_supported word) → (i : ℕ) → i < length text → is_passed i ≡ false → place rule text i 0 ≡ i
+  pub place_here : IsTrue (is_supported word) → (i : ℕ) → i < length text
+      → is_passed i ≡ false → place rule text i 0 ≡ i
   place_here supported i l h = by (even word)
     where
       by : GrantsNone rule ⊎ GrantsAll rule → place rule text i 0 ≡ i
       by (inl n) = place_kept rule text i 0 l (kept_if_none rule text n i 0 i)
       by (inr a) =
-          place_after_run rule text i 0 (holds_is supported i l ∙ (let e = a.0 in grind arith)) (omega arith)
+          place_after_run rule text i 0
+          (holds_is supported i l ∙ (let e = a.0 in grind arith)) (omega arith)
 
   pub place_past : IsTrue (is_supported word) → (i : ℕ) → i < length text → is_passed i ≡ true
       → place rule text i 0 ≡ place rule text (i + 1) 0
