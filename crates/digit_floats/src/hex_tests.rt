@@ -1,6 +1,5 @@
 //! The nearest floats of hexadecimal digits, by `CXX14_HEX_LITERAL`: one `'` between two digits of
-//! each component. All values are by `strtod` and `strtof` of C (glibc), of the text after `0x`
-//! without separators.
+//! each component.
 
 use super::{Float, FloatError, Marks, read_hex_float_from};
 use lexical_format::words::CXX14_HEX_LITERAL;
@@ -11,7 +10,8 @@ const P: Marks = Marks {
     exponent: b'p',
 };
 
-/// The bits of the nearest `f64` and `f32`.
+/// The bits of the nearest `f64` and `f32`, by `strtod` and `strtof` of C (glibc), which read no
+/// separators.
 const FLOATS: [(&[u8], u64, u32); 67] = [
     (b"1.8p3", 0x4028000000000000, 0x41400000),
     (b"0", 0x0000000000000000, 0x00000000),
@@ -140,9 +140,9 @@ fn single(text: &[u8], negative: bool) -> Result<(u32, usize), FloatError> {
 
 #[test]
 fn floats_are_nearest(rt: HostRuntime) {
-    for (text, bits, half) in FLOATS {
-        assert!(&rt; double(text, false) == Ok((bits, text.len())), "{text:?}");
-        assert!(&rt; single(text, false) == Ok((half, text.len())), "{text:?}");
+    for (text, bits64, bits32) in FLOATS {
+        assert!(&rt; double(text, false) == Ok((bits64, text.len())), "{text:?}");
+        assert!(&rt; single(text, false) == Ok((bits32, text.len())), "{text:?}");
     }
     assert!(&rt; double(b"1.8p1", true) == Ok((0xc008000000000000, 5)));
     assert!(&rt; single(b"0p9", true) == Ok((0x80000000, 3)));
