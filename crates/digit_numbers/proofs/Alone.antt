@@ -8,6 +8,7 @@ use Rattle.std.specs.Str.Parse.{digits_value}
 use Rattle.std.proofs.lemmas.Bool.Decides.{nat_tests}
 use Rattle.std.proofs.lemmas.List.{nil_from_length}
 use Rattle.digit_floats.specs.Bytes.{stands, is_point, is_mark}
+use Rattle.digit_floats.specs.Hexadecimal.{nearest_hex}
 use Rattle.digit_floats.specs.Float.{fraction_digits, exponent_digits, digits_from, past_sign}
 use Rattle.lexical_digits.specs.declared.skip.component.Component.TheVariants.{Exponent}
 
@@ -48,5 +49,11 @@ pub no_fraction : (word : ℕ) (text : List ℕ) (point at : ℕ)
     → stands (is_point point) text at ≡ false → fraction_digits word text point at ≡ []
 unfolding fraction_digits
 no_fraction word text point at h = rw h refl
+
+pub hex_alone : (f : Format) (negative : Bool) (digits : List ℕ) (places : ℕ) (down : Bool) (n : ℕ)
+    → n ≡ 0 → nearest_hex f negative digits places down n
+    ≡ nearest_hex f negative digits places false 0
+hex_alone f negative digits places true n none = rw none refl
+hex_alone f negative digits places false n none = rw none refl
 
 pub ruleset alone = (nearest_alone, no_exponent)

@@ -43,6 +43,7 @@ use Rattle.digit_numbers.specs.Numbers.{IsNumber, IsWholeFault, HasNone, IsFault
 use Rattle.digit_numbers.specs.Numbers.{IsLargeAt, IsFloat, IsInteger, IsIntegerAt, HasNoIntegerAt}
 use Rattle.digit_numbers.specs.Numbers.{is_float, past_sign, has_sign, has_exponent, is_zero_alone}
 use Rattle.digit_numbers.specs.Numbers.{literal_end, literal_digits, language, special_here}
+use Rattle.digit_numbers.specs.Numbers.{hex_word_here, hex_word_at}
 use Rattle.digit_numbers.specs.Specials.{special_at}
 use Rattle.digit_numbers.proofs.JsonBytes.{IsRun, IsScan, minus_is, none, zero_alone, integer_is}
 use Rattle.digit_numbers.proofs.JsonBytes.{whole, float}
@@ -549,12 +550,16 @@ module _ (text : List ℕ) (start : ℕ) (l : start ≤ length text) where
   unfolding special_at
   no_special = refl
 
+  no_hex : hex_word_here JSON text start ≡ None
+  unfolding hex_word_at
+  no_hex = refl
+
   pub number_of : {T : Type 0} (format : Format) (value : T → Float) (n : Number T) (end : ℕ)
       → IsNumber JSON text start format value n end → IsLongest text start end
   number_of format value (numbers.Integer negative magnitude said) end h =
-      (integer_of negative magnitude said end (h.digits no_special)).0
+      (integer_of negative magnitude said end (h.digits no_special no_hex)).0
   number_of format value (numbers.Float x) end h =
-      float_of format (value x) end (h.digits no_special)
+      float_of format (value x) end (h.digits no_special no_hex)
 
   pub none_of_whole : {T : Type 0} (format : Format) (value : T → Float) (error : NumberError)
       → IsWholeFault JSON text start format value error

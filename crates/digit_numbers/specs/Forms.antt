@@ -1,10 +1,13 @@
 -- What a form says.
-use Rattle.std.specs.Prelude.{ℕ, Bool, true, false, ◌==◌, ◌||◌, nat_le, None}
+use Rattle.std.specs.Prelude.{ℕ, Bool, true, false, ◌==◌, ◌||◌, nat_le, None, ◌≡◌, IfSome}
 use Rattle.std.specs.Char.{is_ascii_alphabetic}
 use Rattle.digit_floats.specs.Float.{IsDecimal}
+use Rattle.digit_floats.specs.Hexadecimal.{IsHexadecimal}
 use Rattle.digit_languages.specs.Words.{IsLanguage}
 use Rattle.digit_languages.specs.declared.language.Language.{Language}
 use Rattle.digit_numbers.specs.declared.form.Form.{Form}
+use Rattle.digit_numbers.specs.declared.form.HexFloats.{HexFloats}
+use Rattle.digit_numbers.specs.declared.form.HexFloats.TheVariants as hex
 use Rattle.digit_numbers.specs.declared.form.Signs.{Signs}
 use Rattle.digit_numbers.specs.declared.form.Signs.TheVariants.{Absent, Minus, Either}
 use Rattle.digit_numbers.specs.declared.form.Whole.{Whole}
@@ -13,10 +16,30 @@ use Rattle.digit_numbers.specs.declared.form.AfterPoint.{AfterPoint}
 use Rattle.digit_numbers.specs.declared.form.AfterPoint.TheVariants.{Anything, NoPoint}
 use Rattle.digit_numbers.specs.declared.form.AfterPoint.TheVariants.{NoPointOrName}
 
--- its words are supported, and its floats are decimal
+-- whether there are hexadecimal floats; with a point and no exponent; and without both
+abbrev pub has_hex : HexFloats → Bool
+has_hex hex.Absent = false
+has_hex hex.Exponent = true
+has_hex hex.PointOrExponent = true
+has_hex hex.Always = true
+
+abbrev pub is_pointed_hex : HexFloats → Bool
+is_pointed_hex hex.Absent = false
+is_pointed_hex hex.Exponent = false
+is_pointed_hex hex.PointOrExponent = true
+is_pointed_hex hex.Always = true
+
+abbrev pub is_always_hex : HexFloats → Bool
+is_always_hex hex.Absent = false
+is_always_hex hex.Exponent = false
+is_always_hex hex.PointOrExponent = false
+is_always_hex hex.Always = true
+
+-- Its words are supported. Its floats are decimal, or in hexadecimal digits with a decimal exponent.
 pub record IsForm (f : Form) : Type 0 where
   pub language : IsLanguage f.integers
   pub decimal : IsDecimal f.integers.decimal
+  pub hexadecimal : has_hex f.hex_floats ≡ true → IfSome f.integers.hexadecimal IsHexadecimal
 
 -- whether a byte is a sign that a number may have
 abbrev pub is_minus_of : Signs → ℕ → Bool
@@ -50,6 +73,16 @@ may_be_float Integer = false
 may_be_float LargeIsFloat = true
 may_be_float Float = true
 
--- a language without its prefixes
+-- a language without its prefixes, and with that of hexadecimal digits only
 abbrev pub unprefixed : Language → Language
 unprefixed l = record l { binary = None; octal = None; hexadecimal = None }
+
+abbrev pub with_hex_only : Language → Language
+with_hex_only l = record l { binary = None; octal = None }
+
+-- a form in the digits of a word, with exponents after a `p`
+abbrev pub hex_form : Form → ℕ → Form
+hex_form f word = record f {
+  integers = record f.integers { decimal = word };
+  marks = record f.marks { exponent = 112 };
+}

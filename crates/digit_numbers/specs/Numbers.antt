@@ -1,6 +1,7 @@
 -- The number at a position of a text by a form, in layers. After any sign it is a special value if
--- one is there. Otherwise it is the longest prefix of the rest that is a number in digits, where a
--- first `0` that the language refuses before more digits is a number by itself.
+-- one is there, or a hexadecimal float. Otherwise it is the longest prefix of the rest that is an
+-- integer or a decimal float, where a first `0` that the language refuses before more digits is a
+-- number by itself.
 use Rattle.std.specs.Prelude.{◌≡◌, ℕ, ◌+◌, ◌-◌, ◌^◌, ◌<◌, ◌==◌, Bool, true, false, not}
 use Rattle.std.specs.Prelude.{if◌then◌else◌, ◌&&◌, ◌||◌, nat_lt, List, Err, [], ◌++◌, length, codes}
 use Rattle.std.specs.Prelude.{decimal, is_some, ⊤, Option, None, Some}
@@ -16,7 +17,8 @@ use Rattle.digit_literals.specs.declared.LiteralError.TheVariants as integers
 use Rattle.digit_literals.specs.Numbers.{has_byte}
 use Rattle.digit_floats.specs.Bytes.{stands, is_point, is_mark}
 use Rattle.digit_floats.specs.Float.{digits_end, digits_from, fraction_digits, mantissa_end}
-use Rattle.digit_floats.specs.Float.{exponent_digits, number_end, parts_at}
+use Rattle.digit_floats.specs.Float.{exponent_digits, exponent_end, number_end, parts_at}
+use Rattle.digit_floats.specs.Hexadecimal.{hex_float_at}
 use Rattle.digit_languages.specs.declared.language.Language.{Language}
 use Rattle.digit_languages.specs.Literals.{prefix_word, word_at, digits_at, refuses}
 use Rattle.digit_numbers.specs.declared.form.Form.{Form}
@@ -26,7 +28,8 @@ use Rattle.digit_numbers.specs.declared.number.Number.TheVariants as numbers
 use Rattle.digit_numbers.specs.declared.number.NumberError.{NumberError}
 use Rattle.digit_numbers.specs.declared.number.NumberError.TheVariants as errors
 use Rattle.digit_numbers.specs.Forms.{is_minus_of, is_plus_of, is_barred, is_always_float}
-use Rattle.digit_numbers.specs.Forms.{may_be_float, unprefixed}
+use Rattle.digit_numbers.specs.Forms.{may_be_float, has_hex, is_pointed_hex, is_always_hex}
+use Rattle.digit_numbers.specs.Forms.{unprefixed, with_hex_only, hex_form}
 use Rattle.digit_numbers.specs.Specials.{special_at, special_float, name_end}
 
 -- ---- an integer by a language
@@ -167,7 +170,7 @@ module _ (f : Form) (text : List ℕ) where
       pub value : x ≡ nearest_float format negative whole_parts
       pub ends : end ≡ whole_end
 
-  -- ---- the number in digits at a start, after any sign
+  -- ---- the plain number at a start: an integer or a decimal float
 
   module _ (start : ℕ) where
     abbrev pub at : ℕ
@@ -214,40 +217,91 @@ module _ (f : Form) (text : List ℕ) where
     IsPlainFault (errors.Overflow over) = IsLarge over
     IsPlainFault (errors.Invalid end) = ⊥
 
-    -- ---- the number at a start: a special value, or one in digits
+-- ---- a hexadecimal float at a position, after a prefix, such as `1.8p3`
 
-    -- the special value here
-    abbrev pub special_here : Option Special
-    special_here = special_at f text at (has_sign start)
+module _ (f : Form) (digit_word : ℕ) (text : List ℕ) (at : ℕ) where
+  abbrev pub in_hex : Form
+  in_hex = hex_form f digit_word
 
-    -- it is the float that a name stands for
-    abbrev pub IsSpecial : {T : Type 0} → (T → Float) → Special → Number T → ℕ → Type 0
-    IsSpecial value s (numbers.Integer negative magnitude said) end = ⊥
-    IsSpecial value s (numbers.Float x) end =
-        (value x ≡ special_float s.value (is_negative start)) × (end ≡ name_end f text at s)
+  -- digits with a point and an exponent, as far as the form asks for them
+  unfoldable pub is_hex_float : Bool
+  is_hex_float =
+      nat_lt 0 (length (whole_digits in_hex text at) + length (fraction in_hex text at))
+      && (if has_point in_hex text at
+      then allows_point in_hex text at
+      && (has_exponent in_hex text at || is_pointed_hex f.hex_floats)
+      else (has_exponent in_hex text at || is_always_hex f.hex_floats))
 
-    pub record IsNumber {T : Type 0} (format : Format) (value : T → Float) (number : Number T)
-        (end : ℕ) : Type 0 where
-      pub special : (s : Special) → special_here ≡ Some s → IsSpecial value s number end
-      pub digits : special_here ≡ None → IsPlainNumber format value number end
+  abbrev pub hex_end : ℕ
+  hex_end =
+      if has_exponent in_hex text at
+      then exponent_end digit_word text 112 (mark_at in_hex text at)
+      else mark_at in_hex text at
 
-    -- why there is none: no prefix of the rest is one, or it would be an integer above 128 bits
-    pub record IsFault (error : NumberError) : Type 0 where
-      pub no_special : special_here ≡ None
-      pub digits : IsPlainFault error
+-- the word of the digits, if a hexadecimal float is at a position, after any sign
+abbrev pub if_hex : Form → List ℕ → ℕ → Option ℕ → Option ℕ
+if_hex f text at None = None
+if_hex f text at (Some digit_word) =
+    if is_hex_float f digit_word text at then Some digit_word else None
 
-    -- a number is here, and the text goes on after it
-    pub record IsFollowed {T : Type 0} (format : Format) (value : T → Float) (end : ℕ)
-        : Type 0 where
-      pub number : Number T
-      pub is : IsNumber format value number end
-      pub before_end : end < length text
+unfoldable pub hex_word_at : Form → Language → List ℕ → ℕ → Option ℕ
+hex_word_at f l text at =
+    if has_hex f.hex_floats
+    then if_hex f text (at + 2) (prefix_word (with_hex_only l) text at)
+    else None
 
-    -- of a text that is to be one number
-    abbrev pub IsWholeFault : {T : Type 0} → Format → (T → Float) → NumberError → Type 0
-    IsWholeFault format value (errors.Empty stops) = IsFault (errors.Empty stops)
-    IsWholeFault format value (errors.Overflow over) = IsFault (errors.Overflow over)
-    IsWholeFault {T} format value (errors.Invalid end) = IsFollowed format value end
+-- ---- the number at a start: a special value, a hexadecimal float, or a plain number
+
+module _ (f : Form) (text : List ℕ) (start : ℕ) where
+  -- the special value here, and the word of the hexadecimal float here
+  abbrev pub special_here : Option Special
+  special_here = special_at f text (past_sign f text start) (has_sign f text start)
+
+  abbrev pub hex_word_here : Option ℕ
+  hex_word_here = hex_word_at f (language f text start) text (past_sign f text start)
+
+  -- it is the float that a name stands for
+  abbrev pub IsSpecial : {T : Type 0} → (T → Float) → Special → Number T → ℕ → Type 0
+  IsSpecial value s (numbers.Integer negative magnitude said) end = ⊥
+  IsSpecial value s (numbers.Float x) end =
+      (value x ≡ special_float s.value (is_negative f text start))
+      × (end ≡ name_end f text (past_sign f text start) s)
+
+  -- it is the float nearest to hexadecimal digits and a power of two
+  abbrev pub IsHexFloat : {T : Type 0} → Format → (T → Float) → ℕ → Number T → ℕ → Type 0
+  IsHexFloat format value digit_word (numbers.Integer negative magnitude said) end = ⊥
+  IsHexFloat format value digit_word (numbers.Float x) end =
+      let at = past_sign f text start + 2 in
+      (value x ≡ hex_float_at digit_word text (hex_form f digit_word).marks format
+      (is_negative f text start) at)
+      × (end ≡ hex_end f digit_word text at)
+
+  pub record IsNumber {T : Type 0} (format : Format) (value : T → Float) (number : Number T)
+      (end : ℕ) : Type 0 where
+    pub special : (s : Special) → special_here ≡ Some s → IsSpecial value s number end
+    pub hexadecimal : special_here ≡ None → (digit_word : ℕ) → hex_word_here ≡ Some digit_word
+        → IsHexFloat format value digit_word number end
+    pub digits : special_here ≡ None → hex_word_here ≡ None
+        → IsPlainNumber f text start format value number end
+
+  -- why there is none: no prefix of the rest is one, or it would be an integer above 128 bits
+  pub record IsFault (error : NumberError) : Type 0 where
+    pub no_special : special_here ≡ None
+    pub no_hexadecimal : hex_word_here ≡ None
+    pub digits : IsPlainFault f text start error
+
+  -- a number is here, and the text goes on after it
+  pub record IsFollowed {T : Type 0} (format : Format) (value : T → Float) (end : ℕ)
+      : Type 0 where
+    pub number : Number T
+    pub is : IsNumber format value number end
+    pub before_end : end < length text
+
+  -- of a text that is to be one number
+  abbrev pub IsWholeFault : {T : Type 0} → Format → (T → Float) → NumberError → Type 0
+  IsWholeFault format value (errors.Empty stops) = IsFault (errors.Empty stops)
+  IsWholeFault format value (errors.Overflow over) = IsFault (errors.Overflow over)
+  IsWholeFault {T} format value (errors.Invalid end) = IsFollowed format value end
 
 -- a number that isn't NaN
 abbrev pub IsNoNan : {T : Type 0} → (T → Float) → Number T → Type 0

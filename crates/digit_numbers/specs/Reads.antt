@@ -4,6 +4,8 @@ use Rattle.std.specs.Prelude.{◌≡◌, ℕ, ◌+◌, ◌≤◌, true, List, le
 use Rattle.lexical_digits.specs.declared.skip.component.Component.TheVariants.{Integer}
 use Rattle.digit_floats.specs.Float.{IsDecimal, digits_from, digits_end, fraction_digits, mantissa_end}
 use Rattle.digit_floats.specs.Parts.{integer_of, fraction_of, IsMantissa}
+use Rattle.digit_floats.specs.Hexadecimal.{IsHexMantissa, hex_integer_of, hex_fraction_of}
+use Rattle.digit_floats.specs.declared.hexadecimal.HexMantissa.{HexMantissa}
 use Rattle.digit_floats.specs.declared.parts.Mantissa.{Mantissa}
 use Rattle.lexical_format.specs.Word.{is_supported}
 use Rattle.digit_languages.specs.declared.language.Language.{Language}
@@ -21,6 +23,15 @@ pub record IsMantissaAt (f : Form) (text : List ℕ) (m : Mantissa) : Type 0 whe
       (digits_end f.integers.decimal text Integer m.start)
   pub whole_end : m.whole_end ≡ digits_end f.integers.decimal text Integer m.start
   pub ends : m.end ≡ mantissa_end f.integers.decimal text f.marks.point m.start
+
+-- the same of hexadecimal digits, by a word
+pub record IsHexAt (f : Form) (word : ℕ) (text : List ℕ) (m : HexMantissa) : Type 0 where
+  pub is : IsHexMantissa text m
+  pub integer : hex_integer_of text m ≡ digits_from word text Integer m.start
+  pub fraction : hex_fraction_of text m ≡ fraction_digits word text f.marks.point
+      (digits_end word text Integer m.start)
+  pub whole_end : m.whole_end ≡ digits_end word text Integer m.start
+  pub ends : m.end ≡ mantissa_end word text f.marks.point m.start
 
 -- the digits of a mantissa before a point are those of a language without prefixes
 pub record IsWholeOf (l : Language) (text : List ℕ) (m : Mantissa) : Type 0 where

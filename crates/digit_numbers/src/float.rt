@@ -22,7 +22,7 @@ use digit_floats::{Float, Mantissa, Power, read_exponent, read_mantissa, round_p
 
 /// Whether a byte is at a position.
 #[inline(always)]
-fn has_byte(text: &[u8], at: usize, byte: u8) -> bool
+pub(super) fn has_byte(text: &[u8], at: usize, byte: u8) -> bool
     ensures is { result ≡ stands (is_point byte) text.now at }
 {
     match text.get(at) {
@@ -33,7 +33,7 @@ fn has_byte(text: &[u8], at: usize, byte: u8) -> bool
 
 /// Whether the mark of an exponent is at a position.
 #[inline(always)]
-fn has_mark(text: &[u8], at: usize, mark: u8) -> bool
+pub(super) fn has_mark(text: &[u8], at: usize, mark: u8) -> bool
     ensures is { result ≡ stands (is_mark mark) text.now at }
 {
     match text.get(at) {
@@ -44,7 +44,7 @@ fn has_mark(text: &[u8], at: usize, mark: u8) -> bool
 
 /// Whether a byte is at a position that may not follow a point.
 #[inline(always)]
-fn has_barred(text: &[u8], form: Form, at: usize) -> bool
+pub(super) fn has_barred(text: &[u8], form: Form, at: usize) -> bool
     ensures is { result ≡ stands (is_barred form.after_point) text.now at }
 {
     match text.get(at) {

@@ -1,8 +1,10 @@
 //! What a form says of its numbers.
 
-ghost use Rattle.std.specs.Prelude.{◌≡◌, IsTrue};
+ghost use Rattle.std.specs.Prelude.{◌≡◌, IsTrue, IfSome, if◌then◌else◌, true};
+ghost use Rattle.digit_floats.specs.Hexadecimal.{IsHexadecimal};
 ghost use Rattle.digit_numbers.specs.Forms.{IsForm, is_minus_of, is_plus_of, is_barred};
 ghost use Rattle.digit_numbers.specs.Forms.{begins_name, is_always_float, may_be_float};
+ghost use Rattle.digit_numbers.specs.Forms.{has_hex, is_pointed_hex, is_always_hex};
 
 use digit_floats::Marks;
 use digit_languages::{Language, is_language};
@@ -31,6 +33,8 @@ pub struct Form {
     pub float_zeros: bool,
     /// The values that have a name, such as `inf`, if there are any.
     pub specials: Option<Specials>,
+    /// Which hexadecimal digits after their prefix are a float.
+    pub hex_floats: HexFloats,
 }
 
 /// Values that have a name. Where a name is, after any sign, it is read before digits: the longest
@@ -76,6 +80,21 @@ impl Special {
     };
 }
 
+/// Which hexadecimal digits are a float, by the hexadecimal word of the form's integers. Where a
+/// point needs digits and what may not follow it is as for decimal ones, and an exponent is a
+/// decimal number after `p` or `P`.
+#[derive(Clone, Copy, Debug, PartialEq, Eq)]
+pub enum HexFloats {
+    /// None.
+    Absent,
+    /// Those with an exponent: `0x1.8p3`.
+    Exponent,
+    /// Those with a point or an exponent: also `0x1.8`.
+    PointOrExponent,
+    /// All: also `0x18`.
+    Always,
+}
+
 /// The signs that a number may begin with.
 #[derive(Clone, Copy, Debug, PartialEq, Eq)]
 pub enum Signs {
@@ -107,6 +126,31 @@ pub enum AfterPoint {
     NoPoint,
     /// A second point, or what begins a name, as in `1.max(2)`: `_`, a letter, a byte above ASCII.
     NoPointOrName,
+}
+
+impl HexFloats {
+    /// Whether there are any.
+    #[inline(always)]
+    pub(crate) fn exist(self) -> bool
+        ensures { result ≡ has_hex self }
+    {
+        match self {
+            HexFloats::Absent => false,
+            HexFloats::Exponent | HexFloats::PointOrExponent | HexFloats::Always => true,
+        }
+    }
+
+    /// Whether digits without an exponent are one, by whether they have a point.
+    #[inline(always)]
+    pub(crate) fn take_no_exponent(self, is_pointed: bool) -> bool
+        ensures { result ≡ (if is_pointed then is_pointed_hex self else is_always_hex self) }
+    {
+        match self {
+            HexFloats::Absent | HexFloats::Exponent => false,
+            HexFloats::PointOrExponent => is_pointed,
+            HexFloats::Always => true,
+        }
+    }
 }
 
 impl Signs {
@@ -179,13 +223,33 @@ impl AfterPoint {
     }
 }
 
-/// Whether the words of a form are supported, and its floats are decimal, as
-/// [`read_number_of`](crate::read_number_of) requires.
+/// Whether a form's hexadecimal floats have a hexadecimal mantissa and a decimal exponent.
+#[inline(always)]
+fn serves_hex(form: Form) -> bool
+    ensures is { IsTrue result → has_hex form.hex_floats ≡ true
+        → IfSome form.integers.hexadecimal IsHexadecimal }
+    ensures only { (has_hex form.hex_floats ≡ true → IfSome form.integers.hexadecimal IsHexadecimal)
+        → IsTrue result }
+{
+    match form.integers.hexadecimal {
+        Some(word) if form.hex_floats.exist() => {
+            let format = NumberFormat::new(word);
+            format.mantissa_radix() == 16 && format.exponent_radix() == 10
+        }
+        _ => true,
+    }
+}
+
+/// Whether the words of a form are supported, and its floats are decimal, or hexadecimal with a
+/// decimal exponent, as [`read_number_of`](crate::read_number_of) requires.
 #[inline(always)]
 pub fn is_form(form: Form) -> bool
     ensures is { IsTrue result → IsForm form }
     ensures only { IsForm form → IsTrue result }
 {
     let format = NumberFormat::new(form.integers.decimal);
-    is_language(form.integers) && format.mantissa_radix() == 10 && format.exponent_radix() == 10
+    is_language(form.integers)
+        && format.mantissa_radix() == 10
+        && format.exponent_radix() == 10
+        && serves_hex(form)
 }

@@ -3,12 +3,14 @@
 
 ghost use Rattle.digit_numbers.specs.Forms.{IsForm};
 
-use super::form::{AfterPoint, Form, Signs, Whole};
+use super::form::{AfterPoint, Form, HexFloats, Signs, Whole};
 use super::names::{ANY_CASE, ANY_CASE_UNSIGNED_NAN, CAPITALIZED, LOWER_CASE, YAML_NAMES};
 use digit_floats::Marks;
 use digit_languages::{FirstZero, Language, languages};
 use lexical_format::STANDARD;
-use lexical_format::words::{HEXADECIMAL, OCTAL, PYTHON_LITERAL};
+use lexical_format::words::{
+    GO_HEX_LITERAL, GO_LITERAL, HEXADECIMAL, HEXADECIMAL_FLOAT, OCTAL, PYTHON_LITERAL,
+};
 
 /// JSON, by RFC 8259. An integer above 128 bits is a float.
 pub const JSON: Form = Form {
@@ -22,6 +24,7 @@ pub const JSON: Form = Form {
     after_point: AfterPoint::Anything,
     float_zeros: false,
     specials: None,
+    hex_floats: HexFloats::Absent,
 };
 
 /// JSON5. A sign may be before `Infinity`, `NaN` and `0x`. An integer above 128 bits is a float.
@@ -36,6 +39,7 @@ pub const JSON5: Form = Form {
     after_point: AfterPoint::Anything,
     float_zeros: false,
     specials: Some(CAPITALIZED),
+    hex_floats: HexFloats::Absent,
 };
 
 /// YAML, by the core schema of 1.2. No sign is before `0o`, `0x` and `.nan`.
@@ -50,6 +54,7 @@ pub const YAML: Form = Form {
     after_point: AfterPoint::Anything,
     float_zeros: true,
     specials: Some(YAML_NAMES),
+    hex_floats: HexFloats::Absent,
 };
 
 /// TOML 1.0. A sign is before no prefix.
@@ -64,6 +69,7 @@ pub const TOML: Form = Form {
     after_point: AfterPoint::Anything,
     float_zeros: false,
     specials: Some(LOWER_CASE),
+    hex_floats: HexFloats::Absent,
 };
 
 /// Rust's source code. A point that a second one or a name follows is none: `1..2`, `1.max(2)`.
@@ -78,6 +84,7 @@ pub const RUST: Form = Form {
     after_point: AfterPoint::NoPointOrName,
     float_zeros: true,
     specials: None,
+    hex_floats: HexFloats::Absent,
 };
 
 /// Python's source code. Python refuses `001`; here it is `0`, and then `01`.
@@ -92,6 +99,7 @@ pub const PYTHON: Form = Form {
     after_point: AfterPoint::Anything,
     float_zeros: true,
     specials: None,
+    hex_floats: HexFloats::Absent,
 };
 
 /// JavaScript's source code, in strict mode and in modules. An integer above 128 bits is a float.
@@ -106,6 +114,7 @@ pub const JAVASCRIPT: Form = Form {
     after_point: AfterPoint::Anything,
     float_zeros: false,
     specials: None,
+    hex_floats: HexFloats::Absent,
 };
 
 /// Kotlin's source code.
@@ -120,6 +129,7 @@ pub const KOTLIN: Form = Form {
     after_point: AfterPoint::Anything,
     float_zeros: true,
     specials: None,
+    hex_floats: HexFloats::Absent,
 };
 
 /// Haskell's source code.
@@ -134,6 +144,7 @@ pub const HASKELL: Form = Form {
     after_point: AfterPoint::Anything,
     float_zeros: true,
     specials: None,
+    hex_floats: HexFloats::Absent,
 };
 
 /// Ruby's source code.
@@ -148,6 +159,7 @@ pub const RUBY: Form = Form {
     after_point: AfterPoint::Anything,
     float_zeros: false,
     specials: None,
+    hex_floats: HexFloats::Absent,
 };
 
 /// PHP's source code. An integer above 128 bits is a float.
@@ -162,9 +174,10 @@ pub const PHP: Form = Form {
     after_point: AfterPoint::Anything,
     float_zeros: true,
     specials: None,
+    hex_floats: HexFloats::Absent,
 };
 
-/// C++17 and C23, except for hexadecimal floats: `0x1p3` is `0x1`, and then `p3`.
+/// C++17 and C23.
 pub const CXX17: Form = Form {
     signs: Signs::Absent,
     integers: languages::CXX14,
@@ -176,9 +189,10 @@ pub const CXX17: Form = Form {
     after_point: AfterPoint::Anything,
     float_zeros: true,
     specials: None,
+    hex_floats: HexFloats::Exponent,
 };
 
-/// Java, except for hexadecimal floats.
+/// Java's source code.
 pub const JAVA: Form = Form {
     signs: Signs::Absent,
     integers: languages::JAVA,
@@ -190,9 +204,10 @@ pub const JAVA: Form = Form {
     after_point: AfterPoint::Anything,
     float_zeros: true,
     specials: None,
+    hex_floats: HexFloats::Exponent,
 };
 
-/// Go, except for hexadecimal floats.
+/// Go's source code.
 pub const GO: Form = Form {
     signs: Signs::Absent,
     integers: languages::GO,
@@ -204,9 +219,10 @@ pub const GO: Form = Form {
     after_point: AfterPoint::Anything,
     float_zeros: true,
     specials: None,
+    hex_floats: HexFloats::Exponent,
 };
 
-/// OCaml, except for hexadecimal floats.
+/// OCaml's source code.
 pub const OCAML: Form = Form {
     signs: Signs::Absent,
     integers: languages::OCAML,
@@ -218,9 +234,10 @@ pub const OCAML: Form = Form {
     after_point: AfterPoint::Anything,
     float_zeros: true,
     specials: None,
+    hex_floats: HexFloats::PointOrExponent,
 };
 
-/// Swift, except for hexadecimal floats.
+/// Swift's source code.
 pub const SWIFT: Form = Form {
     signs: Signs::Absent,
     integers: languages::SWIFT,
@@ -232,10 +249,11 @@ pub const SWIFT: Form = Form {
     after_point: AfterPoint::Anything,
     float_zeros: true,
     specials: None,
+    hex_floats: HexFloats::Exponent,
 };
 
-/// Perl, except for hexadecimal floats. A point that a second one follows is none: `1..2`. An
-/// integer above 128 bits is a float.
+/// Perl's source code, except for floats in binary or octal digits. A point that a second one
+/// follows is none: `1..2`. An integer above 128 bits is a float.
 pub const PERL: Form = Form {
     signs: Signs::Absent,
     integers: languages::PERL,
@@ -247,6 +265,7 @@ pub const PERL: Form = Form {
     after_point: AfterPoint::NoPoint,
     float_zeros: false,
     specials: None,
+    hex_floats: HexFloats::Exponent,
 };
 
 /// What Rust's `str::parse::<f64>` takes.
@@ -261,6 +280,7 @@ pub const RUST_PARSE: Form = Form {
     after_point: AfterPoint::Anything,
     float_zeros: true,
     specials: Some(ANY_CASE),
+    hex_floats: HexFloats::Absent,
 };
 
 /// What Python's `float` takes, without blanks around it and digits beyond ASCII.
@@ -275,14 +295,14 @@ pub const PYTHON_FLOAT: Form = Form {
     after_point: AfterPoint::Anything,
     float_zeros: true,
     specials: Some(ANY_CASE),
+    hex_floats: HexFloats::Absent,
 };
 
-/// What Java's `Double.parseDouble` takes, without blanks around it and a suffix such as `d`, and
-/// except for hexadecimal floats.
+/// What Java's `Double.parseDouble` takes, without blanks around it and a suffix such as `d`.
 pub const JAVA_PARSE_DOUBLE: Form = Form {
     signs: Signs::Either,
-    integers: DIGITS,
-    signed_prefix: false,
+    integers: HEX_DIGITS,
+    signed_prefix: true,
     whole: Whole::Float,
     marks: Marks::PLAIN,
     needs_integer: false,
@@ -290,14 +310,14 @@ pub const JAVA_PARSE_DOUBLE: Form = Form {
     after_point: AfterPoint::Anything,
     float_zeros: true,
     specials: Some(CAPITALIZED),
+    hex_floats: HexFloats::Exponent,
 };
 
-/// What Go's `strconv.ParseFloat` takes, except for hexadecimal floats. A sign is before no `nan`.
-/// Where Go says that a value is out of range, it is infinite here.
+/// What Go's `strconv.ParseFloat` takes. A sign is before no `nan`. Where Go says that a value is out of range, it is infinite here.
 pub const GO_PARSE_FLOAT: Form = Form {
     signs: Signs::Either,
-    integers: PYTHON_DIGITS,
-    signed_prefix: false,
+    integers: GO_DIGITS,
+    signed_prefix: true,
     whole: Whole::Float,
     marks: Marks::PLAIN,
     needs_integer: false,
@@ -305,14 +325,15 @@ pub const GO_PARSE_FLOAT: Form = Form {
     after_point: AfterPoint::Anything,
     float_zeros: true,
     specials: Some(ANY_CASE_UNSIGNED_NAN),
+    hex_floats: HexFloats::Exponent,
 };
 
-/// What C's `strtod` takes in the locale `C`, without blanks before it, and except for hexadecimal
-/// floats and for what follows `nan` in parentheses.
+/// What C's `strtod` takes in the locale `C`, without blanks before it and what follows `nan` in
+/// parentheses.
 pub const STRTOD: Form = Form {
     signs: Signs::Either,
-    integers: DIGITS,
-    signed_prefix: false,
+    integers: HEX_DIGITS,
+    signed_prefix: true,
     whole: Whole::Float,
     marks: Marks::PLAIN,
     needs_integer: false,
@@ -320,6 +341,7 @@ pub const STRTOD: Form = Form {
     after_point: AfterPoint::Anything,
     float_zeros: true,
     specials: Some(ANY_CASE),
+    hex_floats: HexFloats::Always,
 };
 
 /// Digits without a prefix and separators.
@@ -339,6 +361,26 @@ const PYTHON_DIGITS: Language = Language {
     octal: None,
     hexadecimal: None,
     upper: false,
+    first_zero: FirstZero::Plain,
+};
+
+/// Digits without separators. Hexadecimal ones follow `0x`, in either case.
+const HEX_DIGITS: Language = Language {
+    decimal: STANDARD,
+    binary: None,
+    octal: None,
+    hexadecimal: Some(HEXADECIMAL_FLOAT),
+    upper: true,
+    first_zero: FirstZero::Plain,
+};
+
+/// The same with one `_` between two digits, and after `0x`.
+const GO_DIGITS: Language = Language {
+    decimal: GO_LITERAL,
+    binary: None,
+    octal: None,
+    hexadecimal: Some(GO_HEX_LITERAL),
+    upper: true,
     first_zero: FirstZero::Plain,
 };
 

@@ -4,6 +4,7 @@
 mod float;
 mod form;
 pub mod forms;
+mod hexadecimal;
 mod integer;
 pub mod laws;
 pub mod names;
@@ -12,5 +13,7 @@ mod special;
 #[cfg(test)]
 mod tests;
 
-pub use self::form::{AfterPoint, Form, Signs, Special, SpecialValue, Specials, Whole, is_form};
+pub use self::form::{
+    AfterPoint, Form, HexFloats, Signs, Special, SpecialValue, Specials, Whole, is_form,
+};
 pub use self::number::{Number, NumberError, parse_number_of, read_number_of};

@@ -1,9 +1,10 @@
 //! The number at a position.
 
 ghost use Rattle.std.specs.Prelude.{◌≡◌, ◌+◌, ◌<◌, ◌≤◌, ◌&&◌, not, if◌then◌else◌, Some, None};
-ghost use Rattle.std.specs.Prelude.{length, false, IfOk, IfErr, IfSome, MatchOption};
-ghost use Rattle.digit_numbers.specs.Forms.{IsForm, unprefixed};
-ghost use Rattle.digit_numbers.specs.Numbers.{past_sign, is_negative, is_float, special_here};
+ghost use Rattle.std.specs.Prelude.{length, true, false, IfOk, IfErr, IfSome, MatchOption};
+ghost use Rattle.digit_numbers.specs.Forms.{IsForm, has_hex, unprefixed};
+ghost use Rattle.digit_floats.specs.Hexadecimal.{IsHexadecimal, hex_float_at};
+ghost use Rattle.digit_numbers.specs.Numbers.{past_sign, is_negative, is_float, special_here, hex_word_here};
 ghost use Rattle.digit_numbers.specs.Numbers.{IsNumber, IsPlainNumber, IsPlainFault, IsNoNan};
 ghost use Rattle.digit_numbers.specs.Numbers.{IsFault, IsWholeFault, position, message};
 ghost use Rattle.digit_languages.specs.Words.{IsLanguage};
@@ -12,6 +13,7 @@ ghost use Rattle.digit_numbers.specs.Specials.{special_float, name_end};
 
 use super::float::{read_float, read_large, round_whole};
 use super::form::Form;
+use super::hexadecimal::read_hex;
 use super::integer::{is_zero, read_integer, unprefixed};
 use super::special::read_special;
 use digit_floats::{Float, Mantissa, read_mantissa};
@@ -112,6 +114,7 @@ fn language_of(form: Form, is_signed: bool) -> Language
     ensures is { result
         ≡ (if is_signed && not form.signed_prefix then unprefixed form.integers else form.integers) }
     ensures decimal { result.decimal ≡ form.integers.decimal }
+    ensures hexadecimal { has_hex form.hex_floats ≡ true → IfSome result.hexadecimal IsHexadecimal }
     ensures serves { IsLanguage result }
 {
     if is_signed && !form.signed_prefix {
@@ -201,8 +204,8 @@ fn read_plain<F: Float>(
 }
 
 /// The number of a form that begins at `start`, and the position after it. After any sign it is
-/// the form's special value there, if there is one. Otherwise it is the longest prefix of the rest
-/// of the text that is a number in digits. Only an integer that the language refuses for its first
+/// the form's special value there, if there is one, or a hexadecimal float. Otherwise it is the
+/// longest prefix of the rest of the text that is an integer or a decimal float. Only an integer that the language refuses for its first
 /// zeros is the first `0`, although more zeros may be a number: `001` of Python is `0`, and ends at
 /// 1. A point or an exponent that is no part of a number ends it: `1.` and `1e` of JSON are `1`.
 /// Requires that `start` is within the text, and that the form's words serve
@@ -229,6 +232,10 @@ pub fn read_number_of<F: Float>(
     let sign = read_sign(text, form, start);
     if let Some((special, end)) = read_special(text, form, sign.end, sign.is_there) {
         let x = special.value.float::<F>(sign.is_minus);
+        return Ok((Number::Float(x), end));
+    }
+    let language = language_of(form, sign.is_there);
+    if let Some((x, end)) = read_hex::<F>(text, form, language, sign.is_minus, sign.end) {
         return Ok((Number::Float(x), end));
     }
     read_plain::<F>(text, start, form, sign)

@@ -5,8 +5,8 @@
 //! from CPython's tomllib. Those of JSON5 and YAML are worked out by hand from their pages.
 
 use super::forms::{
-    CXX17, GO_PARSE_FLOAT, JAVA_PARSE_DOUBLE, JSON, JSON5, PYTHON, PYTHON_FLOAT, RUST, RUST_PARSE,
-    STRTOD, TOML, YAML,
+    CXX17, GO_PARSE_FLOAT, JAVA_PARSE_DOUBLE, JSON, JSON5, OCAML, PYTHON, PYTHON_FLOAT, RUST,
+    RUST_PARSE, STRTOD, SWIFT, TOML, YAML,
 };
 use super::names::{ANY_CASE, LOWER_CASE};
 use super::{
@@ -69,8 +69,41 @@ static PYTHON_ENDS: [(&[u8], Value, usize); 4] = [
     (b".5j", Real(0.5), 2),
 ];
 
+/// The same of hexadecimal digits in C++'s source code: values by g++.
+static CXX_HEX_ENDS: [(&[u8], Value, usize); 8] = [
+    (b"0x1.8p3", Real(12.0), 7),
+    (b"0x.8p1;", Real(1.0), 6),
+    (b"0X1.P3", Real(8.0), 6),
+    (b"0x1'8p-1'0", Real(0.0234375), 10),
+    (b"0x1.8", Int(false, 1), 3),
+    (b"0x1p", Int(false, 1), 3),
+    (b"0x.p1", Int(false, 0), 1),
+    (b"0x1e2", Int(false, 482), 5),
+];
+
+/// The same of OCaml's, with the values of its compiler.
+static OCAML_HEX_ENDS: [(&[u8], Value, usize); 4] = [
+    (b"0x1.", Real(1.0), 4),
+    (b"0x1.8", Real(1.5), 5),
+    (b"0x1p3", Real(8.0), 5),
+    (b"0x18", Int(false, 24), 4),
+];
+
+/// The same of Swift's, by its grammar.
+static SWIFT_HEX_ENDS: [(&[u8], Value, usize); 3] = [
+    (b"0x1.8p3", Real(12.0), 7),
+    (b"0x1.p3", Int(false, 1), 3),
+    (b"0x.8p3", Int(false, 0), 1),
+];
+
 /// The same of `strtod`, from glibc.
-static STRTOD_ENDS: [(&[u8], Value, usize); 6] = [
+static STRTOD_ENDS: [(&[u8], Value, usize); 12] = [
+    (b"0x1F", Real(31.0), 4),
+    (b"-0x.8", Real(-0.5), 5),
+    (b"0x", Real(0.0), 1),
+    (b"0x1.", Real(1.0), 4),
+    (b"0x1p", Real(1.0), 3),
+    (b"+0x1.8P-3x", Real(0.1875), 9),
     (b"infinit", Real(INFINITE), 3),
     (b"infinite", Real(INFINITE), 3),
     (b"nan(", Nan, 3),
@@ -221,7 +254,9 @@ static PYTHON_FLOAT_REFUSES: [&[u8]; 8] = [
 ];
 
 /// What Java's `parseDouble` takes, and its value.
-static JAVA_PARSE_DOUBLE_TAKES: [(&[u8], Value); 7] = [
+static JAVA_PARSE_DOUBLE_TAKES: [(&[u8], Value); 9] = [
+    (b"-0x1p3", Real(-8.0)),
+    (b"0x1.8p-1", Real(0.75)),
     (b"Infinity", Real(INFINITE)),
     (b"+Infinity", Real(INFINITE)),
     (b"-Infinity", Real(-INFINITE)),
@@ -232,10 +267,12 @@ static JAVA_PARSE_DOUBLE_TAKES: [(&[u8], Value); 7] = [
 ];
 
 /// What Java's `parseDouble` refuses.
-static JAVA_PARSE_DOUBLE_REFUSES: [&[u8]; 5] = [b"inf", b"INFINITY", b"1_0", b".", b"1e"];
+static JAVA_PARSE_DOUBLE_REFUSES: [&[u8]; 6] = [b"0x1.8", b"inf", b"INFINITY", b"1_0", b".", b"1e"];
 
 /// What Go's `ParseFloat` takes, and its value.
-static GO_PARSE_FLOAT_TAKES: [(&[u8], Value); 10] = [
+static GO_PARSE_FLOAT_TAKES: [(&[u8], Value); 12] = [
+    (b"0x_1.8p1", Real(3.0)),
+    (b"-0X1P-2", Real(-0.25)),
     (b"inf", Real(INFINITE)),
     (b"Infinity", Real(INFINITE)),
     (b"+INF", Real(INFINITE)),
@@ -314,6 +351,14 @@ fn a_number_ends_where_its_form_says(rt: HostRuntime) {
     assert_ends(&rt, JSON5, &JSON5_ENDS);
     assert_ends(&rt, YAML, &YAML_ENDS);
     assert_ends(&rt, TOML, &TOML_ENDS);
+}
+
+#[test]
+#[tactic(auto, unfolding(lexical_format::proofs::OnLiterals::lexical_on_literals))]
+fn hexadecimal_digits_are_floats_as_their_form_says(rt: HostRuntime) {
+    assert_ends(&rt, CXX17, &CXX_HEX_ENDS);
+    assert_ends(&rt, OCAML, &OCAML_HEX_ENDS);
+    assert_ends(&rt, SWIFT, &SWIFT_HEX_ENDS);
 }
 
 /// Each text begins with that number of the form, which ends there.

@@ -1,0 +1,178 @@
+//! The hexadecimal float at a position, by a form.
+
+ghost use Rattle.std.specs.Prelude.{◌≡◌, ◌+◌, ◌-◌, ◌<◌, ◌≤◌, length, false, true, Some, None, is_some, ℕ, IsTrue, IfSome, MatchOption};
+ghost use Rattle.std.specs.Float.{NotNan};
+ghost use Rattle.std.specs.Str.Parse.{digits_value};
+ghost use Rattle.lexical_format.specs.Word.{is_supported};
+ghost use Rattle.digit_floats.specs.Float.{exponent_digits, exponent_end, exponent_negative};
+ghost use Rattle.digit_floats.specs.Parts.{IsPower, exponent_of};
+ghost use Rattle.digit_floats.specs.Hexadecimal.{IsHexadecimal, hex_float_at};
+ghost use Rattle.digit_languages.specs.Words.{IsLanguage};
+ghost use Rattle.digit_languages.specs.Literals.{prefix_word};
+ghost use Rattle.digit_numbers.specs.Forms.{IsForm, has_hex, hex_form, with_hex_only};
+ghost use Rattle.digit_numbers.specs.Numbers.{allows_point, has_exponent, hex_end, hex_word_at, is_hex_float, mark_at};
+ghost use Rattle.digit_numbers.specs.Reads.{IsHexAt};
+
+use super::float::{has_barred, has_byte, has_mark};
+use super::form::Form;
+use digit_floats::{Float, HexMantissa, Power, read_exponent, read_hex_mantissa, round_hex};
+use digit_languages::{Language, prefix_word};
+
+/// A language with no prefix but that of hexadecimal digits.
+#[inline(always)]
+fn with_hex_only(language: Language) -> Language
+    requires { IsLanguage language }
+    ensures is { result ≡ with_hex_only language }
+    ensures serves { IsLanguage result }
+{
+    Language {
+        binary: None,
+        octal: None,
+        ..language
+    }
+}
+
+/// The word of hexadecimal digits, if their prefix is at a position.
+#[inline(always)]
+fn hex_word(text: &[u8], language: Language, at: usize) -> Option<u128>
+    requires language { IsLanguage language }
+    requires hexadecimal { IfSome language.hexadecimal IsHexadecimal }
+    requires within { at ≤ length text.now }
+    ensures is { result ≡ prefix_word (with_hex_only language) text.now at }
+    ensures hexadecimal { IfSome result IsHexadecimal }
+    ensures supported { IfSome result (λ word. IsTrue (is_supported word)) }
+    ensures within { IfSome result (λ _. at + 2 ≤ length text.now) }
+{
+    prefix_word(with_hex_only(language), text, at)
+}
+
+/// Whether a point that follows the integer counts.
+#[inline(always)]
+fn allows_point(text: &[u8], form: Form, word: u128, mantissa: HexMantissa) -> bool
+    requires is { IsHexAt form word text.now mantissa }
+    ensures { result ≡ allows_point (hex_form form word) text.now mantissa.start }
+{
+    if mantissa.digits == mantissa.places && form.needs_integer {
+        return false;
+    }
+    mantissa.places > 0 || !(form.needs_fraction || has_barred(text, form, mantissa.whole_end + 1))
+}
+
+/// The exponent after a mantissa, if there is one.
+#[inline(always)]
+fn read_power(text: &[u8], form: Form, word: u128, mantissa: HexMantissa) -> Option<Power>
+    requires supported { IsTrue (is_supported word) }
+    requires hexadecimal { IsHexadecimal word }
+    requires is { IsHexAt form word text.now mantissa }
+    ensures is { MatchOption result
+        (has_exponent (hex_form form word) text.now mantissa.start ≡ false)
+        (λ p. has_exponent (hex_form form word) text.now mantissa.start ≡ true) }
+    ensures power { IfSome result (IsPower text.now mantissa.end) }
+    ensures digits { IfSome result (λ p.
+        exponent_of text.now mantissa.end p ≡ exponent_digits word text.now 112 mantissa.end) }
+    ensures negative { IfSome result (λ p.
+        p.negative ≡ exponent_negative word text.now 112 mantissa.end) }
+    ensures end { IfSome result (λ p. p.end ≡ exponent_end word text.now 112 mantissa.end) }
+    ensures within { IfSome result (λ p. (mantissa.end ≤ p.end) × (p.end ≤ length text.now)) }
+{
+    if !has_mark(text, mantissa.end, b'p') {
+        return None;
+    }
+    read_exponent(text, word, mantissa.end, b'p').ok()
+}
+
+/// The float of a mantissa that no exponent follows.
+#[inline(always)]
+#[tactic(auto, using(crate::proofs::Alone::no_exponent, crate::proofs::Alone::hex_alone))]
+fn round_alone<F: Float>(
+    text: &[u8],
+    form: Form,
+    word: u128,
+    negative: bool,
+    mantissa: HexMantissa,
+) -> F
+    requires is { IsHexAt form word text.now mantissa }
+    requires none { has_exponent (hex_form form word) text.now mantissa.start ≡ false }
+    ensures value { F.value result
+        ≡ hex_float_at word text.now (hex_form form word).marks F.format negative mantissa.start }
+    ensures number { NotNan (F.value result) }
+{
+    let power = Power {
+        negative: false,
+        value: 0,
+        end: mantissa.end,
+    };
+    round_hex::<F>(text, negative, mantissa, power)
+}
+
+/// The float of hexadecimal digits at a position, after a prefix, and where it ends, if there is
+/// one.
+#[inline(always)]
+#[tactic(auto, unfolding(crate::specs::Numbers::is_hex_float))]
+fn read_digits<F: Float>(
+    text: &[u8],
+    form: Form,
+    word: u128,
+    negative: bool,
+    at: usize,
+) -> Option<(F, usize)>
+    requires form { IsForm form }
+    requires supported { IsTrue (is_supported word) }
+    requires hexadecimal { IsHexadecimal word }
+    requires within { at ≤ length text.now }
+    ensures is { MatchOption result (is_hex_float form word text.now at ≡ false)
+        (λ r. is_hex_float form word text.now at ≡ true) }
+    ensures value { IfSome result (λ r. F.value r.0
+        ≡ hex_float_at word text.now (hex_form form word).marks F.format negative at) }
+    ensures ends { IfSome result (λ r. r.1 ≡ hex_end form word text.now at) }
+    ensures number { IfSome result (λ r. NotNan (F.value r.0)) }
+    ensures within { IfSome result (λ r. (at < r.1) × (r.1 ≤ length text.now)) }
+{
+    let mantissa = read_hex_mantissa(text, word, at, form.marks.point);
+    if mantissa.digits == 0 {
+        return None;
+    }
+    let is_pointed = has_byte(text, mantissa.whole_end, form.marks.point);
+    if is_pointed && !allows_point(text, form, word, mantissa) {
+        return None;
+    }
+    if let Some(power) = read_power(text, form, word, mantissa) {
+        let x = round_hex::<F>(text, negative, mantissa, power);
+        return Some((x, power.end));
+    }
+    if !form.hex_floats.take_no_exponent(is_pointed) {
+        return None;
+    }
+    let x = round_alone::<F>(text, form, word, negative, mantissa);
+    Some((x, mantissa.end))
+}
+
+/// The hexadecimal float at a position, after any sign, and where it ends, if there is one.
+#[inline(always)]
+#[tactic(auto, unfolding(crate::specs::Numbers::hex_word_at))]
+pub fn read_hex<F: Float>(
+    text: &[u8],
+    form: Form,
+    language: Language,
+    negative: bool,
+    at: usize,
+) -> Option<(F, usize)>
+    requires form { IsForm form }
+    requires language { IsLanguage language }
+    requires hexadecimal { has_hex form.hex_floats ≡ true → IfSome language.hexadecimal IsHexadecimal }
+    requires within { at ≤ length text.now }
+    ensures is { MatchOption result (hex_word_at form language text.now at ≡ None)
+        (λ r. is_some (hex_word_at form language text.now at) ≡ true) }
+    ensures reads { IfSome result (λ r. (word : ℕ) →
+        hex_word_at form language text.now at ≡ Some word → (F.value r.0
+        ≡ hex_float_at word text.now (hex_form form word).marks F.format negative (at + 2))
+        × (r.1 ≡ hex_end form word text.now (at + 2))) }
+    ensures number { IfSome result (λ r. NotNan (F.value r.0)) }
+    ensures within { IfSome result (λ r. (at < r.1) × (r.1 ≤ length text.now)) }
+{
+    if !form.hex_floats.exist() {
+        return None;
+    }
+    let word = hex_word(text, language, at)?;
+    read_digits::<F>(text, form, word, negative, at + 2)
+}
