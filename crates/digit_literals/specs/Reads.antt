@@ -54,7 +54,7 @@ module _ (rule : Rule) (text : List ℕ) (start before : ℕ) (most : Option ℕ
     pub reads : (own : ℕ) → ReadsTo own
     pub wrapped : IfNone most
         (read.value ≡ digits_value_after rule.radix before
-            (digits_between rule text start read.end) % 2 ^ 64)
+        (digits_between rule text start read.end) % 2 ^ 64)
     pub other : separator_at rule.separator text read.end ≡ false
     pub below : start + read.count ≤ read.end
     pub dense : read.end ≤ start + 2 * read.count
