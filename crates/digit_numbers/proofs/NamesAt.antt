@@ -1,8 +1,8 @@
 -- How a name is found at a position.
-use Rattle.std.proofs.Common.{◌≡◌, ℕ, ◌+◌, ◌<◌, ◌≤◌, Bool, true, false, not, List, [], ◌∷◌, length}
-use Rattle.std.proofs.Common.{drop, map, refl, sym, ap, ◌∙◌, arith, inl, inr, ◌⊎◌, IsTrue, get_or}
+use Rattle.std.proofs.Common.{◌≡◌, ℕ, ◌+◌, ◌<◌, ◌≤◌, Bool, true, false, List, [], ◌∷◌, length}
+use Rattle.std.proofs.Common.{drop, refl, ◌∙◌, arith, inl, inr, ◌⊎◌, IsTrue, get_or}
 use Rattle.std.proofs.Common.{Option}
-use Rattle.std.specs.Prelude.{◌&&◌, ◌==◌, nat_lt, take_while}
+use Rattle.std.specs.Prelude.{◌&&◌, ◌==◌, nat_lt}
 use Rattle.std.specs.List.{starts_with}
 use Rattle.std.proofs.lemmas.Bool.{cases_lt}
 use Rattle.std.proofs.lemmas.Bool.Decides.{nat_tests}
@@ -15,7 +15,7 @@ use Rattle.lexical_digits.specs.declared.skip.component.Component.TheVariants.{S
 use Rattle.lexical_digits.specs.Separators.{place, kept_positions, drain, is_kept, is_separator}
 use Rattle.lexical_digits.specs.Separators.{holds_separator, GrantsAll, GrantsNone}
 use Rattle.lexical_digits.specs.State.{rule_of}
-use Rattle.lexical_digits.specs.Laws.Kept.{place_kept, place_dropped, place_end, positions_kept}
+use Rattle.lexical_digits.specs.Laws.Kept.{place_kept, place_dropped, place_end}
 use Rattle.lexical_digits.specs.Laws.Kept.{positions_dropped, positions_end}
 use Rattle.lexical_digits.specs.Laws.Place.{by_steps, kept_if_none, place_low, place_high}
 use Rattle.lexical_digits.specs.Laws.Place.{place_settled}

@@ -1,5 +1,5 @@
 -- The special value at a position of a text: the longest name of a form that is there.
-use Rattle.std.specs.Prelude.{◌≡◌, ℕ, Bool, false, not, ◌&&◌, ◌||◌, ◌==◌, if◌then◌else◌, nat_lt}
+use Rattle.std.specs.Prelude.{ℕ, Bool, not, ◌&&◌, ◌||◌, ◌==◌, if◌then◌else◌, nat_lt}
 use Rattle.std.specs.Prelude.{List, [], ◌∷◌, length, filter, take_while, slice_index_or, Option}
 use Rattle.std.specs.Prelude.{None, Some}
 use Rattle.std.specs.Char.{eq_ignore_ascii_case}

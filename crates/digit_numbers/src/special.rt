@@ -1,13 +1,11 @@
 // The special value at a position, by a form.
 
-ghost use Rattle.std.specs.Prelude.{◌≡◌, ◌+◌, ◌<◌, ◌≤◌, ◌&&◌, ◌||◌, not, if◌then◌else◌, nat_lt};
+ghost use Rattle.std.specs.Prelude.{◌≡◌, ◌+◌, ◌<◌, ◌≤◌, ◌&&◌, ◌||◌, if◌then◌else◌, nat_lt};
 ghost use Rattle.std.specs.Prelude.{false, true, length, Some, None, IsTrue, IfSome, MatchOption};
-ghost use Rattle.std.specs.Prelude.{slice_index_or, slice_index};
-ghost use Rattle.std.specs.List.{starts_with};
-ghost use Rattle.std.specs.Float.{Float as IeeeFloat};
+ghost use Rattle.std.specs.Prelude.{slice_index};
 ghost use Rattle.lexical_format.specs.Word.{is_supported};
 ghost use Rattle.lexical_digits.specs.declared.skip.component.Component.TheVariants as components;
-ghost use Rattle.lexical_digits.specs.Separators.{place, drain, kept_positions};
+ghost use Rattle.lexical_digits.specs.Separators.{place};
 ghost use Rattle.lexical_digits.specs.State.{rule_of};
 ghost use Rattle.digit_numbers.specs.Forms.{IsForm};
 ghost use Rattle.digit_numbers.specs.Specials.{begins, bytes_of, end_of, is_here, name_end};

@@ -1,4 +1,4 @@
-use Rattle.std.proofs.Common.{◌≡◌, ◌+◌, ◌≤◌, ◌∙◌, length, sym, refl, arith, rules}
+use Rattle.std.proofs.Common.{◌+◌, ◌≤◌, ◌∙◌, length, sym, arith}
 use Rattle.std.proofs.lemmas.Bool.Decides.{nat_tests}
 use Rattle.digit_numbers.proofs.NamesAt.{place_again, place_low_here, place_high_here, starts_first}
 use Rattle.digit_numbers.proofs.NamesAt.{ends_first, starts_same, ends_same, starts_not, bytes_none}
