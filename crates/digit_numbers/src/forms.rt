@@ -27,7 +27,8 @@ pub const JSON: Form = Form {
     hex_floats: HexFloats::Absent,
 };
 
-/// JSON5. A sign may be before `Infinity`, `NaN` and `0x`. An integer above 128 bits is a float.
+/// JSON5. A sign may be before `Infinity`, `NaN` and `0x`. A decimal integer above 128 bits is a
+/// float.
 pub const JSON5: Form = Form {
     signs: Signs::Either,
     integers: JSON5_INTEGER,
@@ -102,7 +103,8 @@ pub const PYTHON: Form = Form {
     hex_floats: HexFloats::Absent,
 };
 
-/// JavaScript's source code, in strict mode and in modules. An integer above 128 bits is a float.
+/// JavaScript's source code, in strict mode and in modules. A decimal integer above 128 bits is a
+/// float.
 pub const JAVASCRIPT: Form = Form {
     signs: Signs::Absent,
     integers: languages::JAVASCRIPT,
@@ -132,7 +134,8 @@ pub const KOTLIN: Form = Form {
     hex_floats: HexFloats::Absent,
 };
 
-/// Haskell's source code.
+/// Haskell's source code, except for hexadecimal floats, which are an extension. GHC also reads
+/// `1_e5`; here it is `1`, and then `_e5`.
 pub const HASKELL: Form = Form {
     signs: Signs::Absent,
     integers: languages::HASKELL,
@@ -147,7 +150,7 @@ pub const HASKELL: Form = Form {
     hex_floats: HexFloats::Absent,
 };
 
-/// Ruby's source code.
+/// Ruby's source code, except for the prefix `0d`.
 pub const RUBY: Form = Form {
     signs: Signs::Absent,
     integers: languages::RUBY,
@@ -162,7 +165,7 @@ pub const RUBY: Form = Form {
     hex_floats: HexFloats::Absent,
 };
 
-/// PHP's source code. An integer above 128 bits is a float.
+/// PHP's source code. A decimal integer above 128 bits is a float.
 pub const PHP: Form = Form {
     signs: Signs::Absent,
     integers: languages::PHP,
@@ -253,7 +256,8 @@ pub const SWIFT: Form = Form {
 };
 
 /// Perl's source code, except for floats in binary or octal digits. A point that a second one
-/// follows is none: `1..2`. An integer above 128 bits is a float.
+/// follows is none: `1..2`. A decimal integer above 128 bits is a float. Perl refuses `._1`, which
+/// is 0.1 here, and reads `1e_+5`, which is `1` here, and then `e_+5`.
 pub const PERL: Form = Form {
     signs: Signs::Absent,
     integers: languages::PERL,
@@ -313,7 +317,8 @@ pub const JAVA_PARSE_DOUBLE: Form = Form {
     hex_floats: HexFloats::Exponent,
 };
 
-/// What Go's `strconv.ParseFloat` takes. A sign is before no `nan`. Where Go says that a value is out of range, it is infinite here.
+/// What Go's `strconv.ParseFloat` takes. A sign is before no `nan`. Where Go says that a value is
+/// out of range, it is infinite here.
 pub const GO_PARSE_FLOAT: Form = Form {
     signs: Signs::Either,
     integers: GO_DIGITS,
