@@ -1,5 +1,5 @@
 -- A number without an exponent.
-use Rattle.std.proofs.Common.{◌≡◌, ℕ, ◌+◌, ◌*◌, ◌^◌, Bool, true, false, List, [], ◌++◌, length, refl, arith}
+use Rattle.std.proofs.Common.{◌≡◌, ℕ, zero, suc, ◌+◌, ◌*◌, ◌^◌, ◌<◌, Bool, true, false, List, [], ◌++◌, length, refl, arith}
 use Rattle.std.specs.Prelude.{◌&&◌, nat_lt, if◌then◌else◌}
 use Rattle.std.specs.Float.{Format}
 use Rattle.std.specs.Float.Ieee.{round}
@@ -26,6 +26,17 @@ nearest_alone f negative p none = by p.exponent_negative
         ≡ round f negative (digits_value 10 (p.whole ++ p.fraction)) (10 ^ length p.fraction)
     by true = rw none (grind arith)
     by false = rw none (grind arith)
+
+-- of the exponent 0 the sign says nothing
+pub same_sign : (f : Format) (negative : Bool) (digits places n : ℕ) (a b : Bool)
+    → (0 < n → a ≡ b)
+    → round f negative (digits * 10 ^ (if a then 0 else n)) (10 ^ (places + (if a then n else 0)))
+    ≡ round f negative (digits * 10 ^ (if b then 0 else n)) (10 ^ (places + (if b then n else 0)))
+same_sign f negative digits places zero true true h = refl
+same_sign f negative digits places zero true false h = refl
+same_sign f negative digits places zero false true h = refl
+same_sign f negative digits places zero false false h = refl
+same_sign f negative digits places (suc n) a b h = rw (h (omega arith)) refl
 
 none : (ds : List ℕ) → length ds ≡ 0 → digits_value 10 ds ≡ 0
 none ds h = rw (nil_from_length ds h) refl

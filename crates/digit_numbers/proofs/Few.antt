@@ -8,7 +8,6 @@ use Rattle.digit_literals.specs.Significant.{significant, IsOfFirstDigits}
 use Rattle.digit_floats.specs.Float.{digits_from}
 use Rattle.digit_floats.specs.Parts.{integer_of, fraction_of}
 use Rattle.digit_floats.specs.declared.parts.Mantissa.{Mantissa}
-use Rattle.digit_languages.specs.declared.language.Language.{Language}
 use Rattle.digit_numbers.specs.Reads.{IsWholeOf}
 
 -- zeros that lead are worth nothing
@@ -32,16 +31,16 @@ value_of_few ds value more of none =
     let few : length (significant ds) ≤ 19 = omega (arith, of.after, none) in
     of.is ∙ ap (λ t. digits_value 10 t) (take_all 19 (significant ds) few) ∙ worth_same ds
 
-module _ (l : Language) (text : List ℕ) (m : Mantissa) (is : IsWholeOf l text m)
+module _ (word : ℕ) (text : List ℕ) (m : Mantissa) (is : IsWholeOf word text m)
     (none : m.places ≡ 0) where
   no_fraction : fraction_of text m ≡ []
   no_fraction = nil_from_length _ (sym is.is.places ∙ none)
 
-  pub digits_of_whole : m.digits ≡ length (digits_from l.decimal text Integer m.start)
+  pub digits_of_whole : m.digits ≡ length (digits_from word text Integer m.start)
   digits_of_whole = rw (← is.integer) (omega (arith, is.is.digits, is.is.places, none))
 
   pub value_of_whole : m.dropped ≡ 0
-      → m.value ≡ digits_value 10 (digits_from l.decimal text Integer m.start)
+      → m.value ≡ digits_value 10 (digits_from word text Integer m.start)
   value_of_whole few =
       let all : integer_of text m ++ fraction_of text m ≡ integer_of text m =
       rw no_fraction (append-nil (integer_of text m)) in

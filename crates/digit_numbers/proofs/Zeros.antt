@@ -1,6 +1,8 @@
 -- When an integer is the `0` at its start alone.
-use Rattle.std.proofs.Common.{◌≡◌, ℕ, ◌-◌, ◌^◌, ◌<◌, true, false, List, length, arith}
-use Rattle.std.specs.Prelude.{Err, is_some}
+use Rattle.std.proofs.Common.{◌≡◌, ℕ, ◌+◌, ◌-◌, ◌^◌, ◌<◌, Bool, true, false, List, length, refl, arith}
+use Rattle.std.specs.Prelude.{Err, is_some, Option, Some, None, slice_get, ◌==◌, ◌&&◌, ◌||◌, if◌then◌else◌}
+use Rattle.std.specs.Char.{is_ascii_alphabetic}
+use Rattle.lexical_digits.specs.Cursor.{holds_of}
 use Rattle.std.proofs.lemmas.Bool.Decides.{nat_tests}
 use Rattle.digit_languages.specs.declared.language.Language.{Language}
 use Rattle.digit_languages.specs.Literals.{prefix_word, word_at, digits_at, refuses}
@@ -12,6 +14,38 @@ use Rattle.digit_literals.specs.declared.LiteralError.TheVariants.{Overflow}
 use Rattle.digit_literals.specs.Numbers.{has_byte}
 use Rattle.digit_numbers.proofs.Large.{has_value, has_digits}
 use Rattle.digit_numbers.specs.Numbers.{literal_digits, literal_value, literal_end, is_zero_alone}
+
+-- another byte than a letter is no letter of a prefix
+no_letter : (text : List ℕ) (at letter : ℕ)
+    → holds_of is_ascii_alphabetic (slice_get text at) ≡ false → is_ascii_alphabetic letter ≡ true
+    → stands text at letter ≡ false
+no_letter text at letter h is = by (slice_get text at) h
+  where
+    by : (o : Option ℕ) → holds_of is_ascii_alphabetic o ≡ false → holds_of (λ b. b == letter) o ≡ false
+    by None h = refl
+    by (Some b) h = grind (arith, nat_tests, is)
+
+pub no_prefix : (l : Language) (text : List ℕ) (at : ℕ)
+    → holds_of is_ascii_alphabetic (slice_get text (at + 1)) ≡ false → prefix_word l text at ≡ None
+no_prefix l text at h =
+    rw (
+      no_letter text (at + 1) 98 h refl,
+      no_letter text (at + 1) 66 h refl,
+      no_letter text (at + 1) 111 h refl,
+      no_letter text (at + 1) 79 h refl,
+      no_letter text (at + 1) 120 h refl,
+      no_letter text (at + 1) 88 h refl,
+    )
+    (by (stands text at 48) l.upper)
+  where
+    by : (first upper : Bool)
+        → (if first && (false || (upper && false)) then l.binary else
+        if first && (false || (upper && false)) then l.octal else
+        if first && (false || (upper && false)) then l.hexadecimal else None) ≡ None
+    by true true = refl
+    by true false = refl
+    by false true = refl
+    by false false = refl
 
 module _ (l : Language) (text : List ℕ) (at : ℕ) where
   pub after_prefix : is_some (prefix_word l text at) ≡ true → 0 < length (literal_digits l text at)

@@ -1,19 +1,22 @@
 -- Of functions that no caller sees: the digits of a number that were read. No public clause uses
 -- these words.
-use Rattle.std.specs.Prelude.{◌≡◌, ℕ, ◌+◌, ◌≤◌, true, List, length, is_some, IsTrue}
+use Rattle.std.specs.Prelude.{◌≡◌, ℕ, ◌+◌, ◌-◌, ◌^◌, min, ◌<◌, ◌≤◌, true, false, if◌then◌else◌, List, [], length, is_some, IsTrue}
+use Rattle.std.specs.Float.Numeral.{Parts}
+use Rattle.std.specs.Str.Parse.{digits_value}
 use Rattle.lexical_digits.specs.declared.skip.component.Component.TheVariants.{Integer}
-use Rattle.digit_floats.specs.Float.{IsDecimal, digits_from, digits_end, fraction_digits, mantissa_end}
+use Rattle.digit_floats.specs.Float.{IsDecimal, digits_from, digits_end, fraction_digits, mantissa_end, exponent_digits, exponent_negative, number_end}
 use Rattle.digit_floats.specs.Parts.{integer_of, fraction_of, IsMantissa}
 use Rattle.digit_floats.specs.Hexadecimal.{IsHexMantissa, hex_integer_of, hex_fraction_of}
 use Rattle.digit_floats.specs.declared.hexadecimal.HexMantissa.{HexMantissa}
 use Rattle.digit_floats.specs.declared.parts.Mantissa.{Mantissa}
+use Rattle.digit_floats.specs.declared.parts.Power.{Power}
 use Rattle.lexical_format.specs.Word.{is_supported}
 use Rattle.digit_languages.specs.declared.language.Language.{Language}
 use Rattle.digit_languages.specs.Literals.{prefix_word, word_at, digits_at}
 use Rattle.digit_numbers.specs.declared.form.Form.{Form}
 use Rattle.digit_numbers.specs.declared.integer.Head.{Head}
 use Rattle.digit_numbers.specs.declared.number.Sign.{Sign}
-use Rattle.digit_numbers.specs.Numbers.{has_sign, is_negative, past_sign}
+use Rattle.digit_numbers.specs.Numbers.{has_sign, is_negative, past_sign, is_float, has_exponent, mark_at}
 
 -- a mantissa is that of a form at its start
 pub record IsMantissaAt (f : Form) (text : List ℕ) (m : Mantissa) : Type 0 where
@@ -33,12 +36,40 @@ pub record IsHexAt (f : Form) (word : ℕ) (text : List ℕ) (m : HexMantissa) :
   pub whole_end : m.whole_end ≡ digits_end word text Integer m.start
   pub ends : m.end ≡ mantissa_end word text f.marks.point m.start
 
--- the digits of a mantissa before a point are those of a language without prefixes
-pub record IsWholeOf (l : Language) (text : List ℕ) (m : Mantissa) : Type 0 where
+-- the digits of a mantissa before a point are those of a decimal word at its start
+pub record IsWholeOf (word : ℕ) (text : List ℕ) (m : Mantissa) : Type 0 where
   pub is : IsMantissa text m
-  pub decimal : IsDecimal l.decimal
-  pub integer : integer_of text m ≡ digits_from l.decimal text Integer m.start
-  pub ends : m.whole_end ≡ digits_end l.decimal text Integer m.start
+  pub decimal : IsDecimal word
+  pub integer : integer_of text m ≡ digits_from word text Integer m.start
+  pub ends : m.whole_end ≡ digits_end word text Integer m.start
+
+-- digits by themselves, in std's word
+abbrev pub whole_of : ℕ → List ℕ → ℕ → Parts
+whole_of word text at = record {
+  whole = digits_from word text Integer at;
+  point = false;
+  fraction = [];
+  exponent_negative = false;
+  exponent = [];
+  len = digits_end word text Integer at - at;
+}
+
+-- a power is that of the float at a position, or 0 if it has no exponent
+pub record IsPowerAt (f : Form) (text : List ℕ) (at : ℕ) (p : Power) : Type 0 where
+  pub is : is_float f text at ≡ true
+  pub value : p.value
+      ≡ min
+      (digits_value 10
+      (exponent_digits f.integers.decimal text f.marks.exponent (mark_at f text at)))
+      (2 ^ 64 - 1)
+  pub negative : 0
+      < digits_value 10
+      (exponent_digits f.integers.decimal text f.marks.exponent (mark_at f text at))
+      → p.negative
+      ≡ exponent_negative f.integers.decimal text f.marks.exponent (mark_at f text at)
+  pub ends : p.end
+      ≡ (if has_exponent f text at
+      then number_end f.integers.decimal text f.marks at else mark_at f text at)
 
 -- a sign is that of a form at a start
 pub record IsSign (f : Form) (text : List ℕ) (start : ℕ) (sign : Sign) : Type 0 where
@@ -57,3 +88,9 @@ pub record IsHead (l : Language) (text : List ℕ) (at : ℕ) (head : Head) : Ty
   pub onward : at ≤ head.digits
   pub after : head.is_prefixed ≡ true → at + 2 ≤ head.digits
   pub within : head.digits ≤ length text
+
+-- an integer of a language here has no prefix, and is decimal
+pub record IsPlain (l : Language) (text : List ℕ) (at : ℕ) : Type 0 where
+  pub none : is_some (prefix_word l text at) ≡ false
+  pub word : word_at l text at ≡ l.decimal
+  pub digits : digits_at l text at ≡ at

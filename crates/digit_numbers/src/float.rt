@@ -1,20 +1,21 @@
 // The float at a position, by a form.
 
-ghost use Rattle.std.specs.Prelude.{◌≡◌, Err, ◌+◌, ◌-◌, ◌*◌, ◌^◌, ◌++◌, ◌<◌, ◌≤◌, false, true, min, length, [], None, IfSome, MatchOption, ◌&&◌, not};
+ghost use Rattle.std.specs.Prelude.{◌≡◌, Err, ◌+◌, ◌-◌, ◌*◌, ◌^◌, ◌++◌, ◌<◌, ◌≤◌, false, true, min, length, [], None, IfSome, MatchOption, ◌&&◌, not, IsTrue};
 ghost use Rattle.std.specs.Float.{NotNan};
 ghost use Rattle.std.specs.Float.Ieee.{round};
 ghost use Rattle.std.specs.Float.Numeral.{nearest_float};
 ghost use Rattle.std.specs.Str.Parse.{digits_value};
 ghost use Rattle.lexical_digits.specs.declared.skip.component.Component.TheVariants.{Integer};
+ghost use Rattle.lexical_format.specs.Word.{is_supported};
 ghost use Rattle.lexical_digits.specs.State.{rule_of};
 ghost use Rattle.digit_literals.specs.Integers.{integer_at};
 ghost use Rattle.digit_literals.specs.declared.LiteralError.TheVariants.{Overflow};
 ghost use Rattle.digit_floats.specs.Bytes.{stands, is_point, is_mark};
-ghost use Rattle.digit_floats.specs.Float.{digits_from, exponent_digits, exponent_end, exponent_negative, parts_at};
+ghost use Rattle.digit_floats.specs.Float.{digits_from, digits_end, exponent_digits, exponent_end, exponent_negative, parts_at};
 ghost use Rattle.digit_floats.specs.Parts.{integer_of, fraction_of, IsMantissa};
 ghost use Rattle.digit_numbers.specs.Forms.{IsForm, is_barred};
-ghost use Rattle.digit_numbers.specs.Numbers.{allows_point, has_exponent, has_more_zeros, is_float, IsFloatAt, whole_parts, whole_end};
-ghost use Rattle.digit_numbers.specs.Reads.{IsMantissaAt};
+ghost use Rattle.digit_numbers.specs.Numbers.{allows_point, has_exponent, has_more_zeros, is_float, IsFloatAt};
+ghost use Rattle.digit_numbers.specs.Reads.{IsMantissaAt, IsWholeOf, IsPowerAt, whole_of};
 
 use super::form::Form;
 use super::integer::is_zero;
@@ -102,9 +103,52 @@ fn read_power(text: &[u8], form: Form, mantissa: Mantissa) -> Option<Power>
     .ok()
 }
 
+/// The exponent 0 of a float that has none.
+#[inline(always)]
+#[tactic(auto, using(crate::proofs::Alone::no_exponent))]
+fn no_power(text: &[u8], form: Form, mantissa: Mantissa) -> Power
+    requires is { IsMantissaAt form text.now mantissa }
+    requires float { is_float form text.now mantissa.start ≡ true }
+    requires none { has_exponent form text.now mantissa.start ≡ false }
+    ensures is { IsPowerAt form text.now mantissa.start result }
+    ensures end { result.end ≡ mantissa.end }
+{
+    Power {
+        negative: false,
+        value: 0,
+        end: mantissa.end,
+    }
+}
+
+/// The exponent of the float that a mantissa begins, or 0 if it has none. `None` if it begins no
+/// float.
+#[inline(always)]
+#[tactic(auto, unfolding(crate::specs::Numbers::is_float))]
+fn float_power(text: &[u8], form: Form, mantissa: Mantissa) -> Option<Power>
+    requires form { IsForm form }
+    requires is { IsMantissaAt form text.now mantissa }
+    ensures is { MatchOption result (is_float form text.now mantissa.start ≡ false)
+        (IsPowerAt form text.now mantissa.start) }
+    ensures within { IfSome result (λ p. (mantissa.end ≤ p.end) × (p.end ≤ length text.now)) }
+    ensures some { IfSome result (λ _. 0 < mantissa.digits) }
+{
+    if mantissa.digits == 0 || has_more_zeros(text, form, mantissa) {
+        return None;
+    }
+    let is_pointed = has_byte(text, mantissa.whole_end, form.marks.point);
+    if is_pointed && !allows_point(text, form, mantissa) {
+        return None;
+    }
+    match read_power(text, form, mantissa) {
+        Some(power) => Some(power),
+        None if is_pointed => Some(no_power(text, form, mantissa)),
+        None => None,
+    }
+}
+
 /// The float of a mantissa that is at a position, and where it ends, if there is one.
 #[inline(always)]
-#[tactic(auto, using(digit_floats::proofs::Numbers::round_number, crate::proofs::Alone::alone), unfolding(crate::specs::Numbers::is_float))]
+#[tactic(auto, using(digit_floats::proofs::Numbers::round_number))]
 pub fn read_float<F: Float>(
     text: &[u8],
     form: Form,
@@ -118,24 +162,29 @@ pub fn read_float<F: Float>(
     ensures number { IfSome result (λ r. NotNan (F.value r.0)) }
     ensures end { IfSome result (λ r. (mantissa.start < r.1) × (r.1 ≤ length text.now)) }
 {
-    if mantissa.digits == 0 || has_more_zeros(text, form, mantissa) {
-        return None;
-    }
-    let is_pointed = has_byte(text, mantissa.whole_end, form.marks.point);
-    if is_pointed && !allows_point(text, form, mantissa) {
-        return None;
-    }
-    match read_power(text, form, mantissa) {
-        Some(power) => {
-            let x = round_parts::<F>(text, negative, mantissa, power);
-            Some((x, power.end))
-        }
-        None if is_pointed => {
-            let x = round_pointed::<F>(text, form, negative, mantissa);
-            Some((x, mantissa.end))
-        }
-        None => None,
-    }
+    let power = float_power(text, form, mantissa)?;
+    // the only place, so that rounding is inlined once
+    let x = round_at::<F>(text, form, negative, mantissa, power);
+    Some((x, power.end))
+}
+
+/// The float of a mantissa and its power.
+#[inline(always)]
+#[tactic(auto, using(digit_floats::proofs::Numbers::round_number))]
+fn round_at<F: Float>(
+    text: &[u8],
+    form: Form,
+    negative: bool,
+    mantissa: Mantissa,
+    power: Power,
+) -> F
+    requires is { IsMantissaAt form text.now mantissa }
+    requires power { IsPowerAt form text.now mantissa.start power }
+    ensures value { F.value result ≡ nearest_float F.format negative
+        (parts_at form.integers.decimal text.now form.marks mantissa.start) }
+    ensures number { NotNan (F.value result) }
+{
+    round_parts::<F>(text, negative, mantissa, power)
 }
 
 /// The float of a mantissa without an exponent.
@@ -154,19 +203,6 @@ fn round_alone<F: Float>(text: &[u8], negative: bool, mantissa: Mantissa) -> F
     round_parts::<F>(text, negative, mantissa, power)
 }
 
-/// The float of a mantissa that no exponent follows.
-#[inline(always)]
-#[tactic(auto, using(digit_floats::proofs::Numbers::round_number, crate::proofs::Alone::alone))]
-fn round_pointed<F: Float>(text: &[u8], form: Form, negative: bool, mantissa: Mantissa) -> F
-    requires is { IsMantissaAt form text.now mantissa }
-    requires none { has_exponent form text.now mantissa.start ≡ false }
-    ensures value { F.value result ≡ nearest_float F.format negative
-        (parts_at form.integers.decimal text.now form.marks mantissa.start) }
-    ensures number { NotNan (F.value result) }
-{
-    round_alone::<F>(text, negative, mantissa)
-}
-
 /// A byte that isn't at a position.
 #[inline(always)]
 fn other_byte(text: &[u8], at: usize) -> u8
@@ -181,12 +217,12 @@ fn other_byte(text: &[u8], at: usize) -> u8
 /// The digits before a point.
 #[inline(always)]
 #[tactic(auto, using(std::proofs::lemmas::List::nil_from_length, crate::proofs::Alone::no_fraction))]
-fn whole_of(text: &[u8], form: Form, mantissa: Mantissa) -> Mantissa
-    requires form { IsForm form }
-    requires is { IsMantissaAt form text.now mantissa }
+fn whole_of(text: &[u8], word: u128, mantissa: Mantissa) -> Mantissa
+    requires supported { IsTrue (is_supported word) }
+    requires is { IsWholeOf word text.now mantissa }
     ensures is { IsMantissa text.now result }
     ensures integer { integer_of text.now result
-        ≡ digits_from form.integers.decimal text.now Integer mantissa.start }
+        ≡ digits_from word text.now Integer mantissa.start }
     ensures fraction { fraction_of text.now result ≡ [] }
 {
     if mantissa.places == 0 {
@@ -194,44 +230,44 @@ fn whole_of(text: &[u8], form: Form, mantissa: Mantissa) -> Mantissa
     }
     // no point is found
     let other = other_byte(text, mantissa.whole_end);
-    read_mantissa(text, form.integers.decimal, mantissa.start, other)
+    read_mantissa(text, word, mantissa.start, other)
 }
 
-/// The float that digits are by themselves.
-#[inline(always)]
+/// The float that digits are by themselves, in code of its own.
+#[inline(never)]
 #[tactic(auto, using(digit_floats::proofs::Numbers::round_number, crate::proofs::Alone::alone))]
-pub fn round_whole<F: Float>(text: &[u8], form: Form, negative: bool, mantissa: Mantissa) -> F
-    requires form { IsForm form }
-    requires is { IsMantissaAt form text.now mantissa }
+pub fn round_whole<F: Float>(text: &[u8], word: u128, negative: bool, mantissa: Mantissa) -> F
+    requires supported { IsTrue (is_supported word) }
+    requires is { IsWholeOf word text.now mantissa }
     ensures value { F.value result ≡ nearest_float F.format negative
-        (whole_parts form text.now mantissa.start) }
+        (whole_of word text.now mantissa.start) }
     ensures number { NotNan (F.value result) }
 {
-    let whole = whole_of(text, form, mantissa);
+    let whole = whole_of(text, word, mantissa);
     round_alone::<F>(text, negative, whole)
 }
 
 /// The float that large digits are, and where it ends.
 #[cold]
+#[inline(never)]
 #[tactic(auto, using(crate::proofs::Large::has_digits), unfolding(digit_floats::specs::Float::components))]
 pub fn read_large<F: Float>(
     text: &[u8],
-    form: Form,
+    word: u128,
     negative: bool,
     mantissa: Mantissa,
     over: usize,
 ) -> (F, usize)
-    requires form { IsForm form }
-    requires is { IsMantissaAt form text.now mantissa }
-    requires large { integer_at (rule_of form.integers.decimal Integer) text.now mantissa.start
+    requires supported { IsTrue (is_supported word) }
+    requires is { IsWholeOf word text.now mantissa }
+    requires large { integer_at (rule_of word Integer) text.now mantissa.start
         (2 ^ 128 - 1) ≡ Err (Overflow over) }
     ensures value { F.value result.0 ≡ nearest_float F.format negative
-        (whole_parts form text.now mantissa.start) }
-    ensures number { NotNan (F.value result.0) }
-    ensures ends { result.1 ≡ whole_end form text.now mantissa.start }
+        (whole_of word text.now mantissa.start) }
+    ensures ends { result.1 ≡ digits_end word text.now Integer mantissa.start }
     ensures onward { mantissa.start < result.1 }
     ensures within { result.1 ≤ length text.now }
 {
-    let x = round_whole::<F>(text, form, negative, mantissa);
+    let x = round_whole::<F>(text, word, negative, mantissa);
     (x, mantissa.whole_end)
 }

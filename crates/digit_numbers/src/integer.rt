@@ -1,6 +1,8 @@
 // The longest integer of a language at a position.
 
-ghost use Rattle.std.specs.Prelude.{◌≡◌, Err, ◌+◌, ◌-◌, ◌^◌, ◌≤◌, ◌<◌, true, length, IfOk, IfErr, IsTrue};
+ghost use Rattle.std.specs.Prelude.{◌≡◌, Err, ◌+◌, ◌-◌, ◌^◌, ◌≤◌, ◌<◌, true, length, IfOk, IfErr, IfSome, IsTrue, slice_get};
+ghost use Rattle.std.specs.Char.{is_ascii_alphabetic};
+ghost use Rattle.lexical_digits.specs.Cursor.{holds_of};
 ghost use Rattle.lexical_digits.specs.declared.skip.component.Component.TheVariants.{Integer};
 ghost use Rattle.lexical_digits.specs.State.{rule_of};
 ghost use Rattle.digit_literals.specs.Integers.{integer_at, IsIntegerFrom, HasNoDigitFrom};
@@ -12,7 +14,7 @@ ghost use Rattle.digit_languages.specs.Words.{IsLanguage};
 ghost use Rattle.digit_languages.specs.Literals.{prefix_word, word_at, digits_at, refuses};
 ghost use Rattle.digit_numbers.specs.Forms.{unprefixed};
 ghost use Rattle.digit_numbers.specs.Numbers.{IsIntegerAt, IsNoIntegerAt, literal_value, literal_end, literal_digits};
-ghost use Rattle.digit_numbers.specs.Reads.{IsHead, IsWholeOf};
+ghost use Rattle.digit_numbers.specs.Reads.{IsHead, IsPlain, IsWholeOf};
 
 use super::number::NumberError;
 use digit_floats::Mantissa;
@@ -53,6 +55,17 @@ pub fn is_zero(text: &[u8], at: usize) -> bool
 {
     match text.get(at) {
         Some(byte) => *byte == b'0',
+        None => false,
+    }
+}
+
+/// Whether a letter is at a position.
+#[inline(always)]
+fn has_letter(text: &[u8], at: usize) -> bool
+    ensures { result ≡ holds_of is_ascii_alphabetic (slice_get text.now at) }
+{
+    match text.get(at) {
+        Some(byte) => byte.is_ascii_alphabetic(),
         None => false,
     }
 }
@@ -157,91 +170,19 @@ fn read_value(text: &[u8], word: u128, start: usize) -> Result<(u128, usize), Li
     }
 }
 
-/// [`read_value`] in code of its own, of more digits than a mantissa has.
-#[cold]
-#[inline(never)]
-fn read_value_again(text: &[u8], word: u128, start: usize) -> Result<(u128, usize), LiteralError>
-    requires supported { IsTrue (is_supported word) }
-    requires within { start ≤ length text.now }
-    ensures ok { IfOk result (λ r.
-        IsIntegerFrom (rule_of word Integer) text.now start (2 ^ 128 - 1) r.0 r.1) }
-    ensures empty { IfEmpty result (HasNoDigitFrom (rule_of word Integer) text.now start) }
-    ensures overflow { IfOverflow result (λ over.
-        integer_at (rule_of word Integer) text.now start (2 ^ 128 - 1) ≡ Err (Overflow over)) }
-    ensures end { IfOk result (λ r. (start < r.1) × (r.1 ≤ length text.now)) }
-{
-    read_value(text, word, start)
-}
-
-/// The integer whose digits were read as a mantissa, up to 128 bits.
-#[inline(always)]
-#[tactic(auto, using(crate::proofs::Few::few), unfolding(digit_floats::specs::Float::components))]
-fn read_decimal(
-    text: &[u8],
-    language: Language,
-    mantissa: Mantissa,
-) -> Result<(u128, usize), LiteralError>
-    requires language { IsLanguage language }
-    requires is { IsWholeOf language text.now mantissa }
-    ensures ok { IfOk result (λ r. IsIntegerFrom (rule_of language.decimal Integer) text.now
-        mantissa.start (2 ^ 128 - 1) r.0 r.1) }
-    ensures empty { IfEmpty result
-        (HasNoDigitFrom (rule_of language.decimal Integer) text.now mantissa.start) }
-    ensures overflow { IfOverflow result (λ over. integer_at (rule_of language.decimal Integer)
-        text.now mantissa.start (2 ^ 128 - 1) ≡ Err (Overflow over)) }
-    ensures end { IfOk result (λ r. (mantissa.start < r.1) × (r.1 ≤ length text.now)) }
-{
-    if mantissa.places > 0 || mantissa.dropped > 0 || mantissa.digits == 0 {
-        return read_value_again(text, language.decimal, mantissa.start);
-    }
-    Ok((u128::from(mantissa.value), mantissa.whole_end))
-}
-
-/// The integer by the word of a head, up to 128 bits.
-#[inline(always)]
-fn read_by_head(
-    text: &[u8],
-    language: Language,
-    head: Head,
-    mantissa: Mantissa,
-) -> Result<(u128, usize), LiteralError>
-    requires language { IsLanguage language }
-    requires is { IsWholeOf language text.now mantissa }
-    requires head { IsHead language text.now mantissa.start head }
-    ensures ok { IfOk result (λ r. IsIntegerFrom (rule_of head.word Integer) text.now head.digits
-        (2 ^ 128 - 1) r.0 r.1) }
-    ensures empty { IfEmpty result (HasNoDigitFrom (rule_of head.word Integer) text.now
-        head.digits) }
-    ensures overflow { IfOverflow result (λ over. integer_at (rule_of head.word Integer)
-        text.now head.digits (2 ^ 128 - 1) ≡ Err (Overflow over)) }
-    ensures end { IfOk result (λ r. (head.digits < r.1) × (r.1 ≤ length text.now)) }
-{
-    if head.is_prefixed || head.word != language.decimal {
-        return read_value(text, head.word, head.digits);
-    }
-    read_decimal(text, language, mantissa)
-}
-
 /// The longest integer of a language at a position. Where no digit follows a prefix, or the
-/// language refuses the first `0` of more digits, it is that `0`. Its decimal digits were read.
-#[inline(always)]
+/// language refuses the first `0` of more digits, it is that `0`. In code of its own.
+#[inline(never)]
 #[tactic(auto, using(crate::proofs::Zeros::zeros))]
-pub fn read_integer(
-    text: &[u8],
-    language: Language,
-    mantissa: Mantissa,
-) -> Result<Magnitude, NumberError>
+fn read_integer_at(text: &[u8], language: Language, at: usize) -> Result<Magnitude, NumberError>
     requires language { IsLanguage language }
-    requires is { IsWholeOf language text.now mantissa }
-    ensures ok { let at = mantissa.start in
-        IfOk result (λ r. IsIntegerAt language text.now at r.value r.word r.end) }
-    ensures none { IfErr result (IsNoIntegerAt language text.now mantissa.start) }
-    ensures end { let at = mantissa.start in
-        IfOk result (λ r. (at < r.end) × (r.end ≤ length text.now)) }
+    requires within { at ≤ length text.now }
+    ensures ok { IfOk result (λ r. IsIntegerAt language text.now at r.value r.word r.end) }
+    ensures none { IfErr result (IsNoIntegerAt language text.now at) }
+    ensures end { IfOk result (λ r. (at < r.end) × (r.end ≤ length text.now)) }
 {
-    let at = mantissa.start;
     let head = read_head(text, language, at);
-    match read_by_head(text, language, head, mantissa) {
+    match read_value(text, head.word, head.digits) {
         Ok((value, end)) => {
             if !head.is_prefixed && refuses(language, text, at, value, end) {
                 return Ok(zero_alone(language, at));
@@ -266,4 +207,68 @@ pub fn read_integer(
             Err(NumberError::Overflow(over))
         }
     }
+}
+
+/// Whether no prefix begins at a position, and no first `0` that says octal.
+#[inline(always)]
+#[tactic(auto, using(crate::proofs::Zeros::no_prefix))]
+fn is_plain(text: &[u8], language: Language, at: usize) -> bool
+    requires { at ≤ length text.now }
+    ensures { result ≡ true → IsPlain language text.now at }
+{
+    if !is_zero(text, at) {
+        return true;
+    }
+    match language.first_zero {
+        FirstZero::Octal(_) => false,
+        FirstZero::Plain | FirstZero::Alone | FirstZero::Zeros => !has_letter(text, at + 1),
+    }
+}
+
+/// The integer without a prefix whose digits were read as a mantissa, if it has all of them.
+#[inline(always)]
+#[tactic(auto, using(crate::proofs::Few::few), unfolding(digit_floats::specs::Float::components))]
+fn read_few(text: &[u8], word: u128, mantissa: Mantissa) -> Option<(u128, usize)>
+    requires is { IsWholeOf word text.now mantissa }
+    ensures is { let r = rule_of word Integer in IfSome result (λ read.
+        IsIntegerFrom r text.now mantissa.start (2 ^ 128 - 1) read.0 read.1) }
+    ensures end { IfSome result (λ r. (mantissa.start < r.1) × (r.1 ≤ length text.now)) }
+{
+    if mantissa.places > 0 || mantissa.dropped > 0 || mantissa.digits == 0 {
+        return None;
+    }
+    Some((u128::from(mantissa.value), mantissa.whole_end))
+}
+
+/// [`read_integer_at`], where the decimal digits were read.
+#[inline(always)]
+#[tactic(auto, using(crate::proofs::Zeros::zeros))]
+pub fn read_integer(
+    text: &[u8],
+    language: Language,
+    mantissa: Mantissa,
+) -> Result<Magnitude, NumberError>
+    requires language { IsLanguage language }
+    requires is { IsWholeOf language.decimal text.now mantissa }
+    ensures ok { let at = mantissa.start in
+        IfOk result (λ r. IsIntegerAt language text.now at r.value r.word r.end) }
+    ensures none { IfErr result (IsNoIntegerAt language text.now mantissa.start) }
+    ensures end { let at = mantissa.start in
+        IfOk result (λ r. (at < r.end) × (r.end ≤ length text.now)) }
+{
+    let at = mantissa.start;
+    if !is_plain(text, language, at) {
+        return read_integer_at(text, language, at);
+    }
+    let Some((value, end)) = read_few(text, language.decimal, mantissa) else {
+        return read_integer_at(text, language, at);
+    };
+    if refuses(language, text, at, value, end) {
+        return Ok(zero_alone(language, at));
+    }
+    Ok(Magnitude {
+        value,
+        word: language.decimal,
+        end,
+    })
 }

@@ -159,7 +159,7 @@ fn read_whole<F: Float>(
         if mantissa.digits == mantissa.places {
             return Err(NumberError::Empty(sign.end));
         }
-        let x = round_whole::<F>(text, form, sign.is_minus, mantissa);
+        let x = round_whole::<F>(text, form.integers.decimal, sign.is_minus, mantissa);
         return Ok((Number::Float(x), mantissa.whole_end));
     }
     match read_integer(text, language_of(form, sign.is_there), mantissa) {
@@ -173,7 +173,13 @@ fn read_whole<F: Float>(
         }
         Err(NumberError::Overflow(over)) if form.whole.may_be_float() && !is_zero(text, sign.end) =>
             {
-                let (x, end) = read_large::<F>(text, form, sign.is_minus, mantissa, over);
+                let (x, end) = read_large::<F>(
+                    text,
+                    form.integers.decimal,
+                    sign.is_minus,
+                    mantissa,
+                    over,
+                );
                 Ok((Number::Float(x), end))
             }
         Err(error) => Err(error),
