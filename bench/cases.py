@@ -12,6 +12,7 @@ UNITS = {"Instructions": "Instructions for each byte:",
 # Those whose ratios say something
 RATED = {"Instructions": "instructions", "Nanoseconds": "time"}
 TO_FLOOR = 1.1  # the greatest wanted ratio of the library to the floor
+TO_KIND = 1.15  # the greatest wanted ratio of `read_number_of` to the call that reads one kind
 # The greatest wanted ratio of a byte of a kept run to one of a run of so many separators
 FLAT, REFERENCE = 1.2, "1000"
 
@@ -116,6 +117,16 @@ def run_rows(told, unit):
                    *told.spreads(unit, case)]
 
 
+def json_rows(told, unit):
+    """What numbers of JSON take to the call that reads only their kind, with a constant form."""
+    for case in told.cases:
+        name, by, call = case.partition(", by read_")
+        if by and name.startswith("z: JSON"):
+            values = [told.value(unit, it, "Constant") for it in (name, case)]
+            if None not in values:
+                yield [name, f"`read_{call}`", *map(printed, values), at_most(*values, TO_KIND)]
+
+
 def means(told):
     """The geometric means of what the library takes to what the original takes, and the cases with
     the greatest ratios."""
@@ -158,6 +169,10 @@ def main():
         sides = [side for side in told.sides if side != "Constant"]
         head = ["Case", "Separators", "Looks", *sides, "To a run of 1,000"]
         lines += table(words, head + spread[unit], run_rows(told, unit))
+    for unit in RATED:
+        head = ["JSON", "Other", "`read_number_of`", "The other", "Ratio"]
+        lines += table(f"{UNITS[unit][:-1]}, of numbers of JSON with a constant form to the call "
+                       "that reads only their kind:", head, json_rows(told, unit))
     for size in {program[-1] for program in told.programs}:
         lines.append(f"A `Bytes` takes {size} bytes. No export takes an allocator.")
     print("\n".join(lines))

@@ -39,7 +39,7 @@ ROWS = {
     "`f64` in [0, 1), 17 digits": "x: no flags, in [0, 1) with 17 digits",
 }
 # The letters of the cases whose filter is std's `parse` or `from_str_radix`.
-BY_STD = "jtuvwxy"
+BY_STD = "jtuvwxyz"
 
 
 def read(path):
@@ -63,9 +63,11 @@ class Cases:
                 self.means.append(line)
             elif line.startswith("| Case |"):
                 head = cells
+            elif line.startswith("| JSON |"):
+                head = []
             elif line.startswith("| g: "):
                 self.runs[unit][cells[0], int(cells[1])] = dict(zip(head, cells))
-            elif line.startswith("| "):
+            elif line.startswith("| ") and head:
                 self.rows[unit][cells[0]] = dict(zip(head, cells))
 
     def row(self, case, unit="Instructions"):

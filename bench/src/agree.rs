@@ -1,14 +1,17 @@
 //! The sides on many small texts, before anything is timed.
 
-use crate::numbers::Type;
+use crate::library::{self, Format};
+use crate::numbers::{leading_json, Type};
 use crate::texts::Text;
-use crate::word::{in_all, with_flags};
+use crate::word::{in_all, with_flags, NONE};
 use crate::work::{Sides, Work};
 
 /// The longest of the texts.
 const LONGEST: usize = 6;
 /// A zero, another digit, the separator, and a byte that is neither.
-const ALPHABET: [u8; 4] = *b"07_.";
+const ALPHABET: &[u8] = b"07_.";
+/// Two digits, and the bytes that a number of JSON has besides.
+const JSON: &[u8] = b"07.e-+";
 
 /// Checks each of the flag states that are named.
 macro_rules! check_states {
@@ -20,7 +23,24 @@ macro_rules! check_states {
 /// Ends the program unless the sides agree on every text of up to six of four bytes, under each of
 /// the sixteen flag states.
 pub fn check_all() {
-    check_states!(&all_texts(), 0 1 2 3 4 5 6 7 8 9 10 11 12 13 14 15);
+    check_states!(&all_texts(ALPHABET), 0 1 2 3 4 5 6 7 8 9 10 11 12 13 14 15);
+    check_json();
+}
+
+/// Checks the numbers of JSON on every text of up to six of its bytes, by a reader of its grammar
+/// with `str::parse`.
+fn check_json() {
+    for text in all_texts(JSON) {
+        let wanted = leading_json(&text.bytes).unwrap_or_default();
+        for is_constant in [false, true] {
+            let format = Format { word: NONE, is_constant };
+            let export = library::digit_bench_json_numbers;
+            let read = library::call(export, &text.bytes, &text.lengths, format);
+            let name = name_of(NONE, &text);
+            assert_eq!(read.value, wanted.value, "{name}: a number of JSON");
+            assert_eq!(read.count, wanted.count, "{name}: where a number of JSON ends");
+        }
+    }
 }
 
 /// Checks the flag state of a word: in the integer only, and in all three components.
@@ -63,11 +83,11 @@ fn name_of(word: u128, text: &Text) -> String {
     format!("word {word:#x}, {:?}", text.bytes.escape_ascii().to_string())
 }
 
-fn all_texts() -> Vec<Text> {
+fn all_texts(alphabet: &[u8]) -> Vec<Text> {
     let mut texts: Vec<Vec<u8>> = vec![Vec::new()];
     let mut shorter = 0;
     while texts[shorter].len() < LONGEST {
-        for byte in ALPHABET {
+        for &byte in alphabet {
             texts.push([&texts[shorter][..], &[byte]].concat());
         }
         shorter += 1;

@@ -3,7 +3,7 @@
 use crate::library::Outcome;
 use crate::numbers::{self, for_type, of_value};
 use crate::texts::Text;
-use crate::work::{each, float_of, with_digit, with_eight, Way, Work};
+use crate::work::{each, float_of, with_digit, with_eight, Kind, Way, Work};
 
 /// An iterator over the digits of a component of a number.
 pub trait Digits<'a>: Iterator<Item = &'a u8> {
@@ -70,6 +70,12 @@ pub fn drained<B: Buffers>(work: Work, word: u128) -> Way {
         Work::RustLiterals => on_each(numbers::rust_literal::<B, B, B, B>),
         Work::Nearest => on_each(move |text| numbers::nearest::<B, f64>(text, word)),
         Work::NearestF32 => on_each(move |text| numbers::nearest::<B, f32>(text, word)),
+        Work::Json(Kind::Integer) | Work::JsonKind(Kind::Integer) => {
+            on_each(move |text| numbers::read::<B, i64>(text, word))
+        }
+        Work::Json(Kind::Float) | Work::JsonKind(Kind::Float) => {
+            on_each(move |text| numbers::nearest_to_end::<B>(text, word))
+        }
     }
 }
 

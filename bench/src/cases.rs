@@ -3,9 +3,9 @@
 use crate::measure::Job;
 use crate::numbers::Type::{I32, I64, U128, U16, U32, U64, U8};
 use crate::texts::{
-    decimals, digits, each_third, floats, fractions, hex_digits, hex_numbers, lines, literals,
-    numbers, numbers_in, others, runs, rust_literals, signed, stopped, zero_floats, zeros, Text,
-    BASE_36, BINARY, HEX,
+    coordinates, decimals, digits, each_third, floats, fractions, hex_digits, hex_numbers,
+    json_integers, lines, literals, numbers, numbers_in, others, powers, runs, rust_literals, signed,
+    stopped, zero_floats, zeros, Text, BASE_36, BINARY, HEX,
 };
 use crate::word::{
     I, IC, ILTC, I_16, I_2, I_IN_ALL, NONE, NONE_16, NONE_2, NONE_36, RUST,
@@ -15,7 +15,7 @@ use crate::work::Work::{
     Mostly, Nearest, NearestF32, Number, NumberFrom, NumberOf, Numbers, Parts, Peeked,
     RustLiterals, Stopped, Sum, Values, Zeros,
 };
-use crate::work::{Sides, Work};
+use crate::work::{Kind, Sides, Work};
 
 /// What is done with one text.
 struct Case {
@@ -62,6 +62,7 @@ fn all() -> Vec<Case> {
         leading_numbers(),
         other_radices(),
         float_texts(),
+        json_texts(),
     ];
     groups.into_iter().flatten().collect()
 }
@@ -325,4 +326,28 @@ fn float_texts() -> Vec<Case> {
         "x: no flags, f32, in [0, 1) with 17 digits": fractions(), skip::<NONE>(NearestF32);
         "x: I, f32, in [0, 1) with 17 digits": fractions(), skip::<I_IN_ALL>(NearestF32);
     }
+}
+
+/// Numbers of JSON by `read_number_of`, and by the call that reads only their kind.
+fn json_texts() -> Vec<Case> {
+    let texts: [(&str, Kind, fn() -> Text); 5] = [
+        ("integers of 1 to 4 digits", Kind::Integer, || json_integers(1..=4)),
+        ("integers of 8 to 19 digits", Kind::Integer, || json_integers(8..=19)),
+        ("coordinates", Kind::Float, coordinates),
+        ("1 to 3 digits, an exponent", Kind::Float, powers),
+        ("in [0, 1) with 17 digits", Kind::Float, fractions),
+    ];
+    texts.into_iter().flat_map(|(words, kind, text)| of_json(words, kind, text)).collect()
+}
+
+fn of_json(words: &str, kind: Kind, text: fn() -> Text) -> [Case; 2] {
+    let call = match kind {
+        Kind::Integer => "read_literal",
+        Kind::Float => "read_float",
+    };
+    let works = [
+        (format!("z: JSON, {words}"), Work::Json(kind)),
+        (format!("z: JSON, {words}, by {call}"), Work::JsonKind(kind)),
+    ];
+    works.map(|(name, work)| Case { name, text, sides: Sides::skip::<NONE>(work) })
 }

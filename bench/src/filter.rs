@@ -5,7 +5,7 @@ use crate::library::Outcome;
 use crate::numbers::{self, for_type, in_radix, of_value, Type};
 use crate::texts::Text;
 use crate::word::{Class, Rule};
-use crate::work::{each, float_of, with_digit, with_eight, Way, Work};
+use crate::work::{each, float_of, with_digit, with_eight, Kind, Way, Work};
 
 /// The work by a filter, where there is one.
 pub fn filtered<const WORD: u128>(work: Work) -> Option<Way> {
@@ -36,6 +36,12 @@ pub fn filtered<const WORD: u128>(work: Work) -> Option<Way> {
         Work::RustLiterals => Some(Box::new(numbers::each_rust_literal)),
         Work::Nearest => Some(Box::new(numbers::each_nearest::<f64>)),
         Work::NearestF32 => Some(Box::new(numbers::each_nearest::<f32>)),
+        Work::Json(Kind::Integer) | Work::JsonKind(Kind::Integer) => {
+            Some(Box::new(numbers::each_parsed::<i64>))
+        }
+        Work::Json(Kind::Float) | Work::JsonKind(Kind::Float) => {
+            Some(Box::new(numbers::each_nearest::<f64>))
+        }
         Work::Stopped | Work::Digits | Work::Zeros | Work::Mantissas => None,
     }
 }

@@ -76,6 +76,9 @@ exports! {
     digit_bench_languages
     digit_bench_nearest
     digit_bench_nearest_f32
+    digit_bench_json_numbers
+    digit_bench_json_integers
+    digit_bench_json_floats
 }
 
 pub type Export = unsafe extern "C" fn(&Task, &mut Outcome);

@@ -196,6 +196,42 @@ pub fn nearest<B: Buffers, T: Float>(text: &[u8], word: u128) -> Outcome {
     of_value(kept.float().map_or(0, T::bits))
 }
 
+/// The same of an `f64`, and where the text ends.
+#[inline(always)]
+pub fn nearest_to_end<B: Buffers>(text: &[u8], word: u128) -> Outcome {
+    Outcome { count: text.len() as u64, ..nearest::<B, f64>(text, word) }
+}
+
+/// The number of JSON that a text begins with, as its grammar says: an integer or the
+/// bits of a float, and where it ends. `None` if there is none.
+pub fn leading_json(text: &[u8]) -> Option<Outcome> {
+    let digits = |from: usize| {
+        text[from..].iter().position(|byte| !byte.is_ascii_digit()).map_or(text.len(), |at| from + at)
+    };
+    let start = usize::from(text.first() == Some(&b'-'));
+    let integer = if text.get(start) == Some(&b'0') { start + 1 } else { digits(start) };
+    if integer == start {
+        return None;
+    }
+    let mut end = integer;
+    if text.get(end) == Some(&b'.') && digits(end + 1) > end + 1 {
+        end = digits(end + 1);
+    }
+    if matches!(text.get(end), Some(b'e' | b'E')) {
+        let signed = end + 1 + usize::from(matches!(text.get(end + 1), Some(b'+' | b'-')));
+        if signed <= text.len() && digits(signed) > signed {
+            end = digits(signed);
+        }
+    }
+    let number = from_utf8(&text[..end]).ok()?;
+    let value = if end == integer {
+        number.parse::<i64>().ok()?.told()
+    } else {
+        number.parse::<f64>().ok()?.bits()
+    };
+    Some(Outcome { value, count: end as u64, looks: 0 })
+}
+
 // ---- std, on the texts without separators
 
 /// Each number of a type by `parse`.

@@ -87,6 +87,13 @@ impl Random {
         }
     }
 
+    /// An integer of so many digits, without a first zero before others.
+    fn push_integer(&mut self, bytes: &mut Vec<u8>, lengths: &RangeInclusive<u64>) {
+        let length = self.within(lengths);
+        bytes.push(if length == 1 { self.digit() } else { self.one_of(b"12345678") });
+        bytes.extend((1..length).map(|_| self.digit()));
+    }
+
     /// An integer, a point and a fraction.
     fn push_decimal(&mut self, bytes: &mut Vec<u8>, digits: RangeInclusive<u64>, grouped: bool) {
         self.push_component(bytes, digits.clone(), grouped.then_some(3));
@@ -274,6 +281,33 @@ pub fn zero_floats() -> Text {
     numbers_by(|random, bytes| {
         let zeros: [&[u8]; 4] = [b"0", b"0.0", b"-0.0", b"0.000"];
         bytes.extend(zeros[random.below(4) as usize]);
+    })
+}
+
+/// Integers of JSON of so many digits, up to 19 of which `i64` holds.
+pub fn json_integers(lengths: RangeInclusive<u64>) -> Text {
+    numbers_by(|random, bytes| random.push_integer(bytes, &lengths))
+}
+
+/// Coordinates, as `-122.4194155`: some with a minus, up to 3 digits and a fraction of 4 to 7.
+pub fn coordinates() -> Text {
+    numbers_by(|random, bytes| {
+        if random.below(2) == 1 {
+            bytes.push(b'-');
+        }
+        random.push_integer(bytes, &(1..=3));
+        bytes.push(b'.');
+        random.push_component(bytes, 4..=7, None);
+    })
+}
+
+/// Integers of up to 3 digits with an exponent of 1 or 2, as `1e3` and `25E-7`.
+pub fn powers() -> Text {
+    numbers_by(|random, bytes| {
+        random.push_integer(bytes, &(1..=3));
+        bytes.push(random.one_of(b"eE"));
+        bytes.extend(random.sign());
+        random.push_component(bytes, 1..=2, None);
     })
 }
 

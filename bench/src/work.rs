@@ -77,6 +77,19 @@ pub enum Work {
     Nearest,
     /// The same of `f32`.
     NearestF32,
+    /// Reads the number of JSON that each of many texts begins with, all of one kind: the library by
+    /// `read_number_of`. The other sides read an integer as an `i64`, and a float as in `Nearest`;
+    /// in place of the filter stands `str::parse`.
+    Json(Kind),
+    /// The same: the library by the call that reads only this kind, `read_literal` or `read_float`.
+    JsonKind(Kind),
+}
+
+/// A kind of numbers of JSON.
+#[derive(Clone, Copy)]
+pub enum Kind {
+    Integer,
+    Float,
 }
 
 /// One side's way to do the work.
@@ -200,6 +213,9 @@ fn skipping(work: Work, format: Format) -> Way {
         }
         Work::Nearest => library::digit_bench_nearest,
         Work::NearestF32 => library::digit_bench_nearest_f32,
+        Work::Json(_) => library::digit_bench_json_numbers,
+        Work::JsonKind(Kind::Integer) => library::digit_bench_json_integers,
+        Work::JsonKind(Kind::Float) => library::digit_bench_json_floats,
     };
     exported(export, format)
 }
