@@ -18,7 +18,7 @@ use Rattle.digit_numbers.specs.Numbers.{literal_digits, literal_value, literal_e
 -- another byte than a letter is no letter of a prefix
 no_letter : (text : List ℕ) (at letter : ℕ)
     → holds_of is_ascii_alphabetic (slice_get text at) ≡ false → is_ascii_alphabetic letter ≡ true
-    → stands text at letter ≡ false
+    → has_byte text at letter ≡ false
 no_letter text at letter h is = by (slice_get text at) h
   where
     by : (o : Option ℕ) → holds_of is_ascii_alphabetic o ≡ false → holds_of (λ b. b == letter) o ≡ false
@@ -36,7 +36,7 @@ no_prefix l text at h =
       no_letter text (at + 1) 120 h refl,
       no_letter text (at + 1) 88 h refl,
     )
-    (by (stands text at 48) l.upper)
+    (by (has_byte text at 48) l.upper)
   where
     by : (first upper : Bool)
         → (if first && (false || (upper && false)) then l.binary else

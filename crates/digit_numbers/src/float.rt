@@ -1,17 +1,17 @@
 // The float at a position, by a form.
 
-ghost use Rattle.std.specs.Prelude.{◌≡◌, Err, ◌+◌, ◌-◌, ◌*◌, ◌^◌, ◌++◌, ◌<◌, ◌≤◌, false, true, min, length, [], None, IfSome, MatchOption, ◌&&◌, not, IsTrue};
+ghost use Rattle.std.specs.Prelude.{◌≡◌, Err, ◌+◌, ◌-◌, ◌*◌, ◌^◌, ◌++◌, ◌<◌, ◌≤◌, false, true, min, length, [], None, IfSome, IfOk, IfErr, OnOk, MatchOption, ◌&&◌, not, IsTrue};
 ghost use Rattle.std.specs.Float.{NotNan};
 ghost use Rattle.std.specs.Float.Ieee.{round};
 ghost use Rattle.std.specs.Float.Numeral.{nearest_float};
 ghost use Rattle.std.specs.Str.Parse.{digits_value};
 ghost use Rattle.lexical_digits.specs.declared.skip.component.Component.TheVariants.{Integer};
-ghost use Rattle.lexical_format.specs.Word.{is_supported};
+ghost use Rattle.lexical_format.specs.Word.{is_supported, exponent_radix};
 ghost use Rattle.lexical_digits.specs.State.{rule_of};
 ghost use Rattle.digit_literals.specs.Integers.{integer_at};
 ghost use Rattle.digit_literals.specs.declared.LiteralError.TheVariants.{Overflow};
 ghost use Rattle.digit_floats.specs.Bytes.{stands, is_point, is_mark};
-ghost use Rattle.digit_floats.specs.Float.{digits_from, digits_end, exponent_digits, exponent_end, exponent_negative, parts_at};
+ghost use Rattle.digit_floats.specs.Float.{IsDecimal, digits_from, digits_end, exponent_digits, exponent_end, exponent_negative, parts_at};
 ghost use Rattle.digit_floats.specs.Parts.{integer_of, fraction_of, IsMantissa};
 ghost use Rattle.digit_numbers.specs.Forms.{IsForm, is_barred};
 ghost use Rattle.digit_numbers.specs.Numbers.{allows_point, has_exponent, has_more_zeros, is_float, IsFloatAt};
@@ -75,6 +75,24 @@ fn has_more_zeros(text: &[u8], form: Form, mantissa: Mantissa) -> bool
     !form.float_zeros && is_zero(text, mantissa.start) && mantissa.start + 1 < mantissa.whole_end
 }
 
+/// [`read_exponent`] in code of its own: with it more would be inlined than the compiler does.
+#[inline(never)]
+fn read_exponent_apart(text: &[u8], word: u128, at: usize, mark: u8) -> Result<Power, usize>
+    requires supported { IsTrue (is_supported word) }
+    requires decimal { exponent_radix word ≡ 10 }
+    requires within { at ≤ length text.now }
+    ensures value { IfOk result (λ p.
+        p.value ≡ min (digits_value 10 (exponent_digits word text.now mark at)) (2 ^ 64 - 1)) }
+    ensures negative { IfOk result (λ p. p.negative ≡ exponent_negative word text.now mark at) }
+    ensures end { IfOk result (λ p. p.end ≡ exponent_end word text.now mark at) }
+    ensures within { IfOk result (λ p. (at ≤ p.end) × (p.end ≤ length text.now)) }
+    ensures some { OnOk result (stands (is_mark mark) text.now at ≡ true
+        → 0 < length (exponent_digits word text.now mark at)) }
+    ensures none { IfErr result (λ _. length (exponent_digits word text.now mark at) ≡ 0) }
+{
+    read_exponent(text, word, at, mark)
+}
+
 /// The exponent after a mantissa, if there is one.
 #[inline(always)]
 fn read_power(text: &[u8], form: Form, mantissa: Mantissa) -> Option<Power>
@@ -94,7 +112,7 @@ fn read_power(text: &[u8], form: Form, mantissa: Mantissa) -> Option<Power>
     if !has_mark(text, mantissa.end, form.marks.exponent) {
         return None;
     }
-    read_exponent(
+    read_exponent_apart(
         text,
         form.integers.decimal,
         mantissa.end,
@@ -247,7 +265,8 @@ pub fn round_whole<F: Float>(text: &[u8], word: u128, negative: bool, mantissa: 
     round_alone::<F>(text, negative, whole)
 }
 
-/// The float that large digits are, and where it ends.
+/// The float that large digits are, and where it ends. They are read again, so that no mantissa of
+/// the caller need be in memory.
 #[cold]
 #[inline(never)]
 #[tactic(auto, using(crate::proofs::Large::has_digits), unfolding(digit_floats::specs::Float::components))]
@@ -255,19 +274,21 @@ pub fn read_large<F: Float>(
     text: &[u8],
     word: u128,
     negative: bool,
-    mantissa: Mantissa,
+    at: usize,
     over: usize,
 ) -> (F, usize)
     requires supported { IsTrue (is_supported word) }
-    requires is { IsWholeOf word text.now mantissa }
-    requires large { integer_at (rule_of word Integer) text.now mantissa.start
-        (2 ^ 128 - 1) ≡ Err (Overflow over) }
-    ensures value { F.value result.0 ≡ nearest_float F.format negative
-        (whole_of word text.now mantissa.start) }
-    ensures ends { result.1 ≡ digits_end word text.now Integer mantissa.start }
-    ensures onward { mantissa.start < result.1 }
+    requires decimal { IsDecimal word }
+    requires within { at ≤ length text.now }
+    requires large { integer_at (rule_of word Integer) text.now at (2 ^ 128 - 1)
+        ≡ Err (Overflow over) }
+    ensures value { F.value result.0 ≡ nearest_float F.format negative (whole_of word text.now at) }
+    ensures number { NotNan (F.value result.0) }
+    ensures ends { result.1 ≡ digits_end word text.now Integer at }
+    ensures onward { at < result.1 }
     ensures within { result.1 ≤ length text.now }
 {
+    let mantissa = read_mantissa(text, word, at, b'.');
     let x = round_whole::<F>(text, word, negative, mantissa);
     (x, mantissa.whole_end)
 }

@@ -147,8 +147,9 @@ fn read_digits<F: Float>(
     Some((x, mantissa.end))
 }
 
-/// The hexadecimal float at a position, after any sign, and where it ends, if there is one.
-#[inline(always)]
+/// The hexadecimal float at a position, after any sign, and where it ends, if there is one. In code
+/// of its own.
+#[inline(never)]
 #[tactic(auto, unfolding(crate::specs::Numbers::hex_word_at))]
 pub fn read_hex<F: Float>(
     text: &[u8],

@@ -174,7 +174,7 @@ fn read_value(text: &[u8], word: u128, start: usize) -> Result<(u128, usize), Li
 /// language refuses the first `0` of more digits, it is that `0`. In code of its own.
 #[inline(never)]
 #[tactic(auto, using(crate::proofs::Zeros::zeros))]
-fn read_integer_at(text: &[u8], language: Language, at: usize) -> Result<Magnitude, NumberError>
+pub fn read_integer(text: &[u8], language: Language, at: usize) -> Result<Magnitude, NumberError>
     requires language { IsLanguage language }
     requires within { at ≤ length text.now }
     ensures ok { IfOk result (λ r. IsIntegerAt language text.now at r.value r.word r.end) }
@@ -228,7 +228,7 @@ fn is_plain(text: &[u8], language: Language, at: usize) -> bool
 /// The integer without a prefix whose digits were read as a mantissa, if it has all of them.
 #[inline(always)]
 #[tactic(auto, using(crate::proofs::Few::few), unfolding(digit_floats::specs::Float::components))]
-fn read_few(text: &[u8], word: u128, mantissa: Mantissa) -> Option<(u128, usize)>
+fn read_decimal(text: &[u8], word: u128, mantissa: Mantissa) -> Option<(u128, usize)>
     requires is { IsWholeOf word text.now mantissa }
     ensures is { let r = rule_of word Integer in IfSome result (λ read.
         IsIntegerFrom r text.now mantissa.start (2 ^ 128 - 1) read.0 read.1) }
@@ -240,33 +240,26 @@ fn read_few(text: &[u8], word: u128, mantissa: Mantissa) -> Option<(u128, usize)
     Some((u128::from(mantissa.value), mantissa.whole_end))
 }
 
-/// [`read_integer_at`], where the decimal digits were read.
+/// The longest integer of a language whose decimal digits were read as a mantissa: if it has no
+/// prefix, and at most 19 significant digits.
 #[inline(always)]
 #[tactic(auto, using(crate::proofs::Zeros::zeros))]
-pub fn read_integer(
-    text: &[u8],
-    language: Language,
-    mantissa: Mantissa,
-) -> Result<Magnitude, NumberError>
-    requires language { IsLanguage language }
+pub fn read_few(text: &[u8], language: Language, mantissa: Mantissa) -> Option<Magnitude>
     requires is { IsWholeOf language.decimal text.now mantissa }
-    ensures ok { let at = mantissa.start in
-        IfOk result (λ r. IsIntegerAt language text.now at r.value r.word r.end) }
-    ensures none { IfErr result (IsNoIntegerAt language text.now mantissa.start) }
+    ensures is { let at = mantissa.start in
+        IfSome result (λ r. IsIntegerAt language text.now at r.value r.word r.end) }
     ensures end { let at = mantissa.start in
-        IfOk result (λ r. (at < r.end) × (r.end ≤ length text.now)) }
+        IfSome result (λ r. (at < r.end) × (r.end ≤ length text.now)) }
 {
     let at = mantissa.start;
     if !is_plain(text, language, at) {
-        return read_integer_at(text, language, at);
+        return None;
     }
-    let Some((value, end)) = read_few(text, language.decimal, mantissa) else {
-        return read_integer_at(text, language, at);
-    };
+    let (value, end) = read_decimal(text, language.decimal, mantissa)?;
     if refuses(language, text, at, value, end) {
-        return Ok(zero_alone(language, at));
+        return Some(zero_alone(language, at));
     }
-    Ok(Magnitude {
+    Some(Magnitude {
         value,
         word: language.decimal,
         end,

@@ -2,19 +2,22 @@
 
 ghost use Rattle.std.specs.Prelude.{◌≡◌, ◌+◌, ◌<◌, ◌≤◌, ◌&&◌, not, if◌then◌else◌, Some, None};
 ghost use Rattle.std.specs.Prelude.{length, true, false, IfOk, IfErr, IfSome, MatchOption};
-ghost use Rattle.digit_numbers.specs.Forms.{IsForm, has_hex, unprefixed};
+ghost use Rattle.std.specs.Prelude.{ℕ, is_some};
+ghost use Rattle.std.specs.Float.{NotNan};
+ghost use Rattle.digit_numbers.specs.Forms.{IsForm, has_hex, hex_form, is_always_float, unprefixed};
 ghost use Rattle.digit_floats.specs.Hexadecimal.{IsHexadecimal, hex_float_at};
-ghost use Rattle.digit_numbers.specs.Numbers.{past_sign, is_negative, is_float, special_here, hex_word_here};
+ghost use Rattle.digit_numbers.specs.declared.number.Number.TheVariants.{Integer};
+ghost use Rattle.digit_numbers.specs.Numbers.{past_sign, is_negative, is_float, special_here, hex_word_here, hex_word_at, hex_end};
 ghost use Rattle.digit_numbers.specs.Numbers.{IsNumber, IsPlainNumber, IsPlainFault, IsNoNan};
 ghost use Rattle.digit_numbers.specs.Numbers.{IsFault, IsWholeFault, position, message};
 ghost use Rattle.digit_languages.specs.Words.{IsLanguage};
 ghost use Rattle.digit_numbers.specs.Reads.{IsMantissaAt, IsSign};
-ghost use Rattle.digit_numbers.specs.Specials.{special_float, name_end};
+ghost use Rattle.digit_numbers.specs.Specials.{special_at, special_float, name_end};
 
 use super::float::{read_float, read_large, round_whole};
-use super::form::Form;
+use super::form::{Form, Special};
 use super::hexadecimal::read_hex;
-use super::integer::{is_zero, read_integer, unprefixed};
+use super::integer::{Magnitude, is_zero, read_few, read_integer, unprefixed};
 use super::special::read_special;
 use digit_floats::{Float, Mantissa, read_mantissa};
 use digit_languages::Language;
@@ -162,28 +165,99 @@ fn read_whole<F: Float>(
         let x = round_whole::<F>(text, form.integers.decimal, sign.is_minus, mantissa);
         return Ok((Number::Float(x), mantissa.whole_end));
     }
-    match read_integer(text, language_of(form, sign.is_there), mantissa) {
-        Ok(read) => {
-            let number = Number::Integer {
-                negative: sign.is_minus,
-                magnitude: read.value,
-                word: read.word,
-            };
-            Ok((number, read.end))
+    // this language and the one below are two, so that this one need not be in memory
+    if let Some(read) = read_few(text, language_of(form, sign.is_there), mantissa) {
+        return Ok((integer_of(sign, read), read.end));
+    }
+    read_other::<F>(text, start, form, sign)
+}
+
+/// An integer with a sign.
+#[inline(always)]
+fn integer_of<F: Float>(sign: Sign, read: Magnitude) -> Number<F>
+    ensures { result ≡ Integer sign.is_minus read.value read.word }
+{
+    Number::Integer {
+        negative: sign.is_minus,
+        magnitude: read.value,
+        word: read.word,
+    }
+}
+
+/// The number that digits are without a point and an exponent, if they aren't always a float: any
+/// integer of the language.
+#[inline(always)]
+fn read_other<F: Float>(
+    text: &[u8],
+    start: usize,
+    form: Form,
+    sign: Sign,
+) -> Result<(Number<F>, usize), NumberError>
+    requires within { start ≤ length text.now }
+    requires form { IsForm form }
+    requires sign { IsSign form text.now start sign }
+    requires exact { is_always_float form.whole ≡ false }
+    requires no_float { is_float form text.now sign.end ≡ false }
+    ensures ok { IfOk result (λ r. IsPlainNumber form text.now start F.format F.value r.0 r.1) }
+    ensures none { IfErr result (IsPlainFault form text.now start) }
+    ensures no_nan { IfOk result (λ r. IsNoNan F.value r.0) }
+    ensures end { IfOk result (λ r. (start < r.1) × (r.1 ≤ length text.now)) }
+{
+    let at = sign.end;
+    match read_integer(text, language_of(form, sign.is_there), at) {
+        Ok(read) => Ok((integer_of(sign, read), read.end)),
+        Err(NumberError::Overflow(over)) if form.whole.may_be_float() && !is_zero(text, at) => {
+            let (x, end) = read_large::<F>(text, form.integers.decimal, sign.is_minus, at, over);
+            Ok((Number::Float(x), end))
         }
-        Err(NumberError::Overflow(over)) if form.whole.may_be_float() && !is_zero(text, sign.end) =>
-            {
-                let (x, end) = read_large::<F>(
-                    text,
-                    form.integers.decimal,
-                    sign.is_minus,
-                    mantissa,
-                    over,
-                );
-                Ok((Number::Float(x), end))
-            }
         Err(error) => Err(error),
     }
+}
+
+/// The special value of a form at a position, if the form has any.
+#[inline(always)]
+#[tactic(auto, unfolding(crate::specs::Specials::special_at))]
+fn special_of(text: &[u8], form: Form, at: usize, is_signed: bool) -> Option<(Special, usize)>
+    requires form { IsForm form }
+    requires within { at ≤ length text.now }
+    ensures is { MatchOption result (special_at form text.now at is_signed ≡ None)
+        (λ r. special_at form text.now at is_signed ≡ Some r.0) }
+    ensures end { IfSome result (λ r. r.1 ≡ name_end form text.now at r.0) }
+    ensures within { IfSome result (λ r. (at < r.1) × (r.1 ≤ length text.now)) }
+{
+    match form.specials {
+        Some(_) => read_special(text, form, at, is_signed),
+        None => None,
+    }
+}
+
+/// The hexadecimal float at a position, if the form has any.
+#[inline(always)]
+#[tactic(auto, unfolding(crate::specs::Numbers::hex_word_at))]
+fn hex_of<F: Float>(
+    text: &[u8],
+    form: Form,
+    language: Language,
+    negative: bool,
+    at: usize,
+) -> Option<(F, usize)>
+    requires form { IsForm form }
+    requires language { IsLanguage language }
+    requires hexadecimal { has_hex form.hex_floats ≡ true → IfSome language.hexadecimal IsHexadecimal }
+    requires within { at ≤ length text.now }
+    ensures is { MatchOption result (hex_word_at form language text.now at ≡ None)
+        (λ r. is_some (hex_word_at form language text.now at) ≡ true) }
+    ensures reads { IfSome result (λ r. (word : ℕ) →
+        hex_word_at form language text.now at ≡ Some word → (F.value r.0
+        ≡ hex_float_at word text.now (hex_form form word).marks F.format negative (at + 2))
+        × (r.1 ≡ hex_end form word text.now (at + 2))) }
+    ensures number { IfSome result (λ r. NotNan (F.value r.0)) }
+    ensures within { IfSome result (λ r. (at < r.1) × (r.1 ≤ length text.now)) }
+{
+    if !form.hex_floats.exist() {
+        return None;
+    }
+    read_hex::<F>(text, form, language, negative, at)
 }
 
 /// The number in digits that begins at a start, and the position after it.
@@ -236,12 +310,12 @@ pub fn read_number_of<F: Float>(
     ensures end { IfOk result (λ r. (start < r.1) × (r.1 ≤ length text.now)) }
 {
     let sign = read_sign(text, form, start);
-    if let Some((special, end)) = read_special(text, form, sign.end, sign.is_there) {
+    if let Some((special, end)) = special_of(text, form, sign.end, sign.is_there) {
         let x = special.value.float::<F>(sign.is_minus);
         return Ok((Number::Float(x), end));
     }
     let language = language_of(form, sign.is_there);
-    if let Some((x, end)) = read_hex::<F>(text, form, language, sign.is_minus, sign.end) {
+    if let Some((x, end)) = hex_of::<F>(text, form, language, sign.is_minus, sign.end) {
         return Ok((Number::Float(x), end));
     }
     read_plain::<F>(text, start, form, sign)

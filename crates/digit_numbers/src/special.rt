@@ -127,8 +127,9 @@ fn later(special: Special, end: usize, found: Option<(Special, usize)>) -> (Spec
     }
 }
 
-/// The special value of a form at a position, and where it ends, if there is one.
-#[inline(always)]
+/// The special value of a form at a position, and where it ends, if there is one. In code of its
+/// own.
+#[inline(never)]
 #[tactic(auto, unfolding(crate::specs::Specials::special_at))]
 pub fn read_special(text: &[u8], form: Form, at: usize, is_signed: bool) -> Option<(Special, usize)>
     requires form { IsForm form }

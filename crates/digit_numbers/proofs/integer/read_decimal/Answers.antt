@@ -2,7 +2,7 @@ use Rattle.std.proofs.Common.{◌≡◌, arith}
 use Rattle.std.proofs.lemmas.Bool.Decides.{nat_tests}
 use Rattle.digit_floats.specs.Float.{digits_from, digits_end}
 use Rattle.digit_numbers.proofs.Few.{digits_of_whole, value_of_whole}
-use Rattle.digit_numbers.proofs.integer.read_few.Goals as goal
+use Rattle.digit_numbers.proofs.integer.read_decimal.Goals as goal
 
 pub returns-clause-is : goal.returns-clause-is
 unfolding digits_from digits_end
