@@ -6,6 +6,7 @@
 mod components;
 mod drains;
 mod format;
+mod forms;
 mod json;
 mod languages;
 mod literals;

@@ -160,7 +160,8 @@ pub fn read_hex<F: Float>(
 ) -> Option<(F, usize)>
     requires form { IsForm form }
     requires language { IsLanguage language }
-    requires hexadecimal { has_hex form.hex_floats ≡ true → IfSome language.hexadecimal IsHexadecimal }
+    requires hexadecimal { has_hex form.hex_floats ≡ true
+        → IfSome language.hexadecimal IsHexadecimal }
     requires within { at ≤ length text.now }
     ensures is { MatchOption result (hex_word_at form language text.now at ≡ None)
         (λ r. is_some (hex_word_at form language text.now at) ≡ true) }

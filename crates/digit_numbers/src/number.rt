@@ -114,10 +114,11 @@ fn read_sign(text: &[u8], form: Form, start: usize) -> Sign
 #[inline(always)]
 fn language_of(form: Form, is_signed: bool) -> Language
     requires { IsForm form }
-    ensures is { result
-        ≡ (if is_signed && not form.signed_prefix then unprefixed form.integers else form.integers) }
+    ensures is { result ≡ (if is_signed && not form.signed_prefix
+        then unprefixed form.integers else form.integers) }
     ensures decimal { result.decimal ≡ form.integers.decimal }
-    ensures hexadecimal { has_hex form.hex_floats ≡ true → IfSome result.hexadecimal IsHexadecimal }
+    ensures hexadecimal { has_hex form.hex_floats ≡ true
+        → IfSome result.hexadecimal IsHexadecimal }
     ensures serves { IsLanguage result }
 {
     if is_signed && !form.signed_prefix {
@@ -243,7 +244,8 @@ fn hex_of<F: Float>(
 ) -> Option<(F, usize)>
     requires form { IsForm form }
     requires language { IsLanguage language }
-    requires hexadecimal { has_hex form.hex_floats ≡ true → IfSome language.hexadecimal IsHexadecimal }
+    requires hexadecimal { has_hex form.hex_floats ≡ true
+        → IfSome language.hexadecimal IsHexadecimal }
     requires within { at ≤ length text.now }
     ensures is { MatchOption result (hex_word_at form language text.now at ≡ None)
         (λ r. is_some (hex_word_at form language text.now at) ≡ true) }
@@ -285,10 +287,10 @@ fn read_plain<F: Float>(
 
 /// The number of a form that begins at `start`, and the position after it. After any sign it is
 /// the form's special value there, if there is one, or a hexadecimal float. Otherwise it is the
-/// longest prefix of the rest of the text that is an integer or a decimal float. Only an integer that the language refuses for its first
-/// zeros is the first `0`, although more zeros may be a number: `001` of Python is `0`, and ends at
-/// 1. A point or an exponent that is no part of a number ends it: `1.` and `1e` of JSON are `1`.
-/// Requires that `start` is within the text, and that the form's words serve
+/// longest prefix of the rest of the text that is an integer or a decimal float. Only an integer
+/// that the language refuses for its first zeros is the first `0`, although more zeros may be a
+/// number: `001` of Python is `0`, and ends at 1. A point or an exponent that is no part of a number
+/// ends it: `1.` and `1e` of JSON are `1`. Requires that `start` is within the text, and that the form's words serve
 /// ([`is_form`](crate::is_form)).
 ///
 /// ```text
