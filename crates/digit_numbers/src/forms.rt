@@ -409,7 +409,7 @@ const YAML_INTEGER: Language = Language {
     first_zero: FirstZero::Plain,
 };
 
-/// The words of each form of this file are supported, and its floats are decimal.
+/// The words of each form of this file serve, as [`is_form`](crate::is_form) tests.
 #[tactic(auto, unfolding(lexical_format::proofs::OnLiterals::lexical_on_literals))]
 pub fn forms_serve()
     ensures json { IsForm JSON }

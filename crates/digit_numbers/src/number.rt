@@ -262,7 +262,7 @@ fn hex_of<F: Float>(
     read_hex::<F>(text, form, language, negative, at)
 }
 
-/// The number in digits that begins at a start, and the position after it.
+/// The integer or decimal float that begins at a start, and the position after it.
 #[inline(always)]
 fn read_plain<F: Float>(
     text: &[u8],
@@ -290,8 +290,8 @@ fn read_plain<F: Float>(
 /// longest prefix of the rest of the text that is an integer or a decimal float. Only an integer
 /// that the language refuses for its first zeros is the first `0`, although more zeros may be a
 /// number: `001` of Python is `0`, and ends at 1. A point or an exponent that is no part of a number
-/// ends it: `1.` and `1e` of JSON are `1`. Requires that `start` is within the text, and that the form's words serve
-/// ([`is_form`](crate::is_form)).
+/// ends it: `1.` and `1e` of JSON are `1`. Requires that `start` is within the text, and that the
+/// form's words serve ([`is_form`](crate::is_form)).
 ///
 /// ```text
 /// of JSON, `-1.5e3,`: Float(-1500.0), 6      `01`: Integer 0, 1      `.5`: Err(Empty(0))
