@@ -37,6 +37,8 @@ ROWS = {
     "`f64`, 8 to 14 digits, grouped": "x: I, grouped, 8 to 14 digits, a point",
     "`f64`, 18 to 40 digits": "x: no flags, 18 to 40 digits",
     "`f64` in [0, 1), 17 digits": "x: no flags, in [0, 1) with 17 digits",
+    "Integers of JSON, 1 to 4 digits": "z: JSON, integers of 1 to 4 digits",
+    "Coordinates of JSON": "z: JSON, coordinates",
 }
 # The letters of the cases whose filter is std's `parse` or `from_str_radix`.
 BY_STD = "jtuvwxyz"
