@@ -171,7 +171,8 @@ many as `from_str_radix`.
 with separators.
 
 The slow ones are grouped floats (up to {most_of(cases, "x:", "Constant", "Filter")} times \
-std), runs of dropped separators ({most_of(cases, "e:", "Constant")} times lexical-util), \
+std), numbers of JSON ({most_of(cases, "z:", "Constant", "Filter")}), runs of dropped separators \
+({most_of(cases, "e:", "Constant")} times lexical-util), \
 letters ({most_of(cases, "k:", "Constant")}), and a word that is known only at run time (up to \
 {most_of(cases, "", "Library")}). No text makes it quadratic: a kept run of separators takes \
 {cases.run("IC", 100, "Library")} instructions a byte at 100 separators and \
