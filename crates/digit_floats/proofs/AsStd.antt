@@ -1,5 +1,5 @@
 -- On a text without separators the float is that of std's `parse`.
-use Rattle.std.proofs.Common.{◌≡◌, ℕ, zero, suc, ◌+◌, ◌-◌, ◌<◌, ◌≤◌, Bool, true, false, List, [], ◌∷◌, length, take, drop, get_or, slice_index, refl, sym, ap, subst, ◌∙◌, length-drop, arith}
+use Rattle.std.proofs.Common.{◌≡◌, ℕ, suc, ◌+◌, ◌-◌, ◌<◌, ◌≤◌, Bool, true, false, List, [], ◌∷◌, length, take, drop, get_or, slice_index, refl, sym, ap, subst, ◌∙◌, length-drop, arith}
 use Rattle.std.specs.Prelude.{not, filter, slice_range, Some, Ok, Result, if◌then◌else◌, ◌==◌, ◌||◌, ◌&&◌}
 use Rattle.std.specs.Char.{is_ascii_digit}
 use Rattle.std.specs.List.{prefix_len}
@@ -21,6 +21,7 @@ use Rattle.digit_literals.specs.After.{digits_between}
 use Rattle.digit_floats.specs.Bytes.{stands, is_sign, is_minus, is_point, is_mark}
 use Rattle.digit_floats.specs.Float.{IsDecimal, plain_marks, past_sign, digits_end, digits_from, fraction_digits, fraction_end, exponent_digits, exponent_end, exponent_negative, mantissa_end, number_end, float_end, float_at, parts_at, mantissa_count, parse_at}
 use Rattle.digit_floats.specs.Separators.{HasNoSeparator}
+use Rattle.digit_floats.proofs.Bytes.{stands_is, stands_within}
 use Rattle.digit_floats.proofs.Decimals.{same_digit, digits_are}
 
 -- there is a digit, and one after any mark
@@ -91,19 +92,6 @@ module _ (rule : Rule) (text : List ℕ) (ten : rule.radix ≡ 10)
       let same : at + n - at ≡ n = omega arith in
       rw (stop_is at l, same, ← digits_are rule (take n (drop at text)) ten)
       (front is_ascii_digit (drop at text))
-
--- ---- a byte
-
-stands_is : (p : ℕ → Bool) (text : List ℕ) (i : ℕ) → p 0 ≡ false
-    → stands p text i ≡ p (slice_index text i)
-stands_is p [] i z = sym z
-stands_is p (x ∷ xs) zero z = refl
-stands_is p (x ∷ xs) (suc i) z = stands_is p xs i z
-
-stands_within : (p : ℕ → Bool) (text : List ℕ) (i : ℕ) → stands p text i ≡ true → i < length text
-stands_within p [] i e = cc
-stands_within p (x ∷ xs) zero e = omega arith
-stands_within p (x ∷ xs) (suc i) e = let h = stands_within p xs i e in omega arith
 
 -- ---- the components from a position on, in std's words for the rest of the text
 

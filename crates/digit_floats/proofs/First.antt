@@ -1,12 +1,12 @@
 -- What the first significant digits say of the whole number.
-use Rattle.std.proofs.Common.{◌≡◌, ℕ, zero, suc, ◌+◌, ◌-◌, ◌*◌, ◌^◌, ◌<◌, ◌≤◌, Bool, true, false, T, eqb, if◌then◌else◌, List, [], ◌∷◌, ◌++◌, length, take, drop, refl, ap, sym, ◌∙◌, arith, one-add}
+use Rattle.std.proofs.Common.{◌≡◌, ℕ, zero, suc, ◌+◌, ◌*◌, ◌^◌, ◌<◌, ◌≤◌, List, [], ◌∷◌, ◌++◌, length, take, drop, refl, ap, sym, ◌∙◌, arith}
 use Rattle.std.specs.Prelude.{min}
-use lib.Dec.{eqb→eq}
 use Rattle.std.specs.Str.Parse.{AllDigits, digits_value}
 use Rattle.std.proofs.lemmas.Int.Digits.{digits_value-lt}
 use Rattle.std.proofs.lemmas.List.{length-drop}
 use Rattle.digit_literals.specs.Significant.{significant, IsOfFirstDigits}
 use Rattle.digit_literals.proofs.ForCallers.{value_of_both, value_of_pieces}
+use Rattle.digit_literals.proofs.Significant.{worth_same}
 use Rattle.digit_floats.specs.Near.{IsCutAt}
 
 split : (n : ℕ) (xs : List ℕ) → take n xs ++ drop n xs ≡ xs
@@ -19,26 +19,6 @@ drop_digits zero xs h = h
 drop_digits (suc n) [] h = h
 drop_digits (suc n) (x ∷ xs) h = drop_digits n xs h.1
 
-of_one_more : (d : ℕ) (ds : List ℕ)
-    → significant (d ∷ ds) ≡ (if eqb d 48 then significant ds else d ∷ ds)
-unfolding significant
-of_one_more d ds = grind (arith, one-add)
-
-of_none : significant [] ≡ []
-unfolding significant
-of_none = refl
-
-worth_same : (ds : List ℕ) → digits_value 10 (significant ds) ≡ digits_value 10 ds
-worth_same [] = ap (λ t. digits_value 10 t) of_none
-worth_same (d ∷ ds) = by (eqb d 48) (eqb→eq d 48) (of_one_more d ds) (worth_same ds)
-  where
-    by : (b : Bool) → (T b → d ≡ 48)
-        → significant (d ∷ ds) ≡ (if b then significant ds else d ∷ ds)
-        → digits_value 10 (significant ds) ≡ digits_value 10 ds
-        → digits_value 10 (significant (d ∷ ds)) ≡ digits_value 10 (d ∷ ds)
-    by true e is same = rw (is, e tt) same
-    by false e is same = rw is refl
-
 significant_digits : (ds : List ℕ) → AllDigits 10 ds → AllDigits 10 (significant ds)
 unfolding significant
 significant_digits ds h = drop_digits _ ds h
@@ -50,7 +30,7 @@ module _ (digits : List ℕ) (value more : ℕ) (h : IsOfFirstDigits 10 19 digit
   whole : digits_value 10 digits
       ≡ digits_value 10 (take 19 s) * 10 ^ length (drop 19 s) + digits_value 10 (drop 19 s)
   whole =
-      sym (worth_same digits) ∙ ap (λ t. digits_value 10 t) (sym (split 19 s))
+      sym (worth_same 10 digits) ∙ ap (λ t. digits_value 10 t) (sym (split 19 s))
       ∙ sym (value_of_both 10 (take 19 s) (drop 19 s))
       ∙ value_of_pieces 10 (digits_value 10 (take 19 s)) (drop 19 s)
 

@@ -1,8 +1,9 @@
 mod AsStd
 mod Between
+pub mod Bytes
 mod Cut
 mod CutOff
-mod Decimals
+pub mod Decimals
 mod Exponents
 mod First
 mod HexDigits

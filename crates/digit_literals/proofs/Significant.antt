@@ -47,16 +47,22 @@ all_both radix [] es h i = i
 all_both radix (d ∷ ds) es h i = (h.0, all_both radix ds es h.1 i)
 
 -- a zero at the head is no significant digit
-of_none : significant [] ≡ []
+pub of_none : significant [] ≡ []
 unfolding significant
 of_none = refl
 
-of_one_more : (d : ℕ) (ds : List ℕ)
+pub of_one_more : (d : ℕ) (ds : List ℕ)
     → significant (d ∷ ds) ≡ (if eqb d 48 then significant ds else d ∷ ds)
 unfolding significant
 of_one_more d ds = grind (arith, one-add)
 
 ruleset heads = (of_none, of_one_more)
+
+-- zeros that lead are worth nothing
+pub worth_same : (radix : ℕ) (ds : List ℕ)
+    → digits_value radix (significant ds) ≡ digits_value radix ds
+worth_same radix [] = rw of_none refl
+worth_same radix (d ∷ ds) = rw (of_one_more d ds) (grind (arith, nat_tests, worth_same radix ds))
 
 -- after others, the first of which is no zero
 after_significant : (radix p k d v more : ℕ) (os ds : List ℕ) → 1 ≤ radix → eqb d 48 ≡ false

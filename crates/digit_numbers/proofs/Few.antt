@@ -1,35 +1,21 @@
 -- The value of an integer whose digits are at most 19 significant ones.
-use Rattle.std.proofs.Common.{◌≡◌, ℕ, ◌≤◌, eqb, if◌then◌else◌, List, [], ◌∷◌, ◌++◌, length, refl, sym, ◌∙◌, ap, arith, one-add}
-use Rattle.std.proofs.lemmas.Bool.Decides.{nat_tests}
+use Rattle.std.proofs.Common.{◌≡◌, ℕ, ◌≤◌, List, [], ◌++◌, length, sym, ◌∙◌, ap, arith}
 use Rattle.std.proofs.lemmas.List.{append-nil, take_all, nil_from_length}
 use Rattle.std.specs.Str.Parse.{digits_value}
 use Rattle.lexical_digits.specs.declared.skip.component.Component.TheVariants.{Integer}
 use Rattle.digit_literals.specs.Significant.{significant, IsOfFirstDigits}
+use Rattle.digit_literals.proofs.Significant.{worth_same}
 use Rattle.digit_floats.specs.Float.{digits_from}
 use Rattle.digit_floats.specs.Parts.{integer_of, fraction_of}
 use Rattle.digit_floats.specs.declared.parts.Mantissa.{Mantissa}
 use Rattle.digit_numbers.specs.Reads.{IsWholeOf}
-
--- zeros that lead are worth nothing
-none_significant : significant [] ≡ []
-unfolding significant
-none_significant = refl
-
-one_more : (d : ℕ) (ds : List ℕ)
-    → significant (d ∷ ds) ≡ (if eqb d 48 then significant ds else d ∷ ds)
-unfolding significant
-one_more d ds = grind (arith, one-add)
-
-worth_same : (ds : List ℕ) → digits_value 10 (significant ds) ≡ digits_value 10 ds
-worth_same [] = rw none_significant refl
-worth_same (d ∷ ds) = rw (one_more d ds) (grind (arith, nat_tests, worth_same ds))
 
 -- none was dropped
 value_of_few : (ds : List ℕ) (value more : ℕ) → IsOfFirstDigits 10 19 ds value more → more ≡ 0
     → value ≡ digits_value 10 ds
 value_of_few ds value more of none =
     let few : length (significant ds) ≤ 19 = omega (arith, of.after, none) in
-    of.is ∙ ap (λ t. digits_value 10 t) (take_all 19 (significant ds) few) ∙ worth_same ds
+    of.is ∙ ap (λ t. digits_value 10 t) (take_all 19 (significant ds) few) ∙ worth_same 10 ds
 
 module _ (word : ℕ) (text : List ℕ) (m : Mantissa) (is : IsWholeOf word text m)
     (none : m.places ≡ 0) where

@@ -9,7 +9,6 @@ use Rattle.std.proofs.lemmas.Bool.{cases_lt}
 use Rattle.std.proofs.lemmas.Bool.Decides.{nat_tests}
 use Rattle.std.proofs.lemmas.List.{get_or-drop}
 use Rattle.std.proofs.lemmas.List.Filters.{length-filter_more}
-use Rattle.lexical_format.specs.Digits as words
 use Rattle.lexical_digits.specs.declared.skip.rule.Rule.{Rule}
 use Rattle.lexical_digits.specs.declared.skip.component.Component.TheVariants.{Integer, Fraction}
 use Rattle.lexical_digits.specs.declared.skip.component.Component.TheVariants.{Exponent}
@@ -22,6 +21,8 @@ use Rattle.lexical_digits.specs.Stop.{stop}
 use Rattle.lexical_digits.proofs.Calls.FirstOther.{stop_is_first}
 use Rattle.digit_literals.specs.After.{digits_between}
 use Rattle.digit_floats.specs.Bytes.{stands, is_point, is_minus, is_sign}
+use Rattle.digit_floats.proofs.Bytes.{stands_is, stands_within}
+use Rattle.digit_floats.proofs.Decimals.{same_digit}
 use Rattle.digit_floats.specs.Float as floats
 use Rattle.digit_floats.specs.Float.{digits_end, digits_from, fraction_digits, fraction_end}
 use Rattle.digit_floats.specs.Float.{mantissa_end, exponent_digits, exponent_end}
@@ -54,17 +55,6 @@ word = JSON.integers.decimal
 
 -- ---- a byte
 
-stands_is : (p : ℕ → Bool) (text : List ℕ) (i : ℕ) → p 0 ≡ false
-    → stands p text i ≡ p (slice_index text i)
-stands_is p [] i z = sym z
-stands_is p (x ∷ xs) zero z = refl
-stands_is p (x ∷ xs) (suc i) z = stands_is p xs i z
-
-stands_within : (p : ℕ → Bool) (text : List ℕ) (i : ℕ) → stands p text i ≡ true → i < length text
-stands_within p [] i e = cc
-stands_within p (x ∷ xs) zero e = omega arith
-stands_within p (x ∷ xs) (suc i) e = let h = stands_within p xs i e in omega arith
-
 none_past : (p : ℕ → Bool) (text : List ℕ) (i : ℕ) → length text ≤ i → stands p text i ≡ false
 none_past p text i l = by (stands p text i) refl
   where
@@ -85,10 +75,6 @@ never None = refl
 never (Some b) = refl
 
 -- ---- digits
-
-same_digit : (rule : Rule) (byte : ℕ) → rule.radix ≡ 10 → is_digit rule byte ≡ is_ascii_digit byte
-unfolding is_digit words.digit_value
-same_digit rule byte e = grind (arith, nat_tests)
 
 all_pass : (p : ℕ → Bool) (xs : List ℕ) (n : ℕ) → n ≤ length xs
     → ((k : ℕ) → k < n → p (get_or xs k 0) ≡ true) → length (filter p (take n xs)) ≡ n
