@@ -1,5 +1,5 @@
 -- Digits and those that follow them, as bounds on the whole number.
-use Rattle.std.proofs.Common.{◌≡◌, ℕ, ◌+◌, ◌-◌, ◌*◌, ◌^◌, ◌≤◌, sym, ap, ◌∙◌, arith, mul_assoc, mul-le-mul_right}
+use Rattle.std.proofs.Common.{◌≡◌, ℕ, ◌+◌, ◌-◌, ◌*◌, ◌^◌, sym, ap, ◌∙◌, arith, mul_assoc, mul-le-mul_right}
 use lib.Pow.{pow-add}
 use Rattle.std.specs.Prelude.{min}
 use Rattle.digit_floats.specs.Near.{IsBetween, IsCutAt}

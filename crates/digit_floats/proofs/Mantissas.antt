@@ -1,5 +1,5 @@
 -- What a mantissa says of its digits.
-use Rattle.std.proofs.Common.{◌≡◌, ℕ, ◌+◌, ◌*◌, ◌-◌, ◌^◌, List, [], refl, arith}
+use Rattle.std.proofs.Common.{◌≡◌, ℕ, ◌-◌, List, [], refl, arith}
 use Rattle.std.specs.Prelude.{filter, slice_range}
 use Rattle.std.specs.Char.{is_ascii_digit}
 use Rattle.digit_floats.specs.Near.{IsCutAt}

@@ -1,6 +1,6 @@
 -- The product of the digits and the row of a power of ten bounds the number.
-use Rattle.std.proofs.Common.{◌≡◌, ℕ, zero, suc, ◌+◌, ◌-◌, ◌*◌, ◌/◌, ◌%◌, ◌^◌, ◌<◌, ◌≤◌, Bool, true, T, refl, sym, ap, subst, ◌∙◌, arith, mul-le-mul_right}
-use native.Mathlib.Nat.{mul-le-mul_left, mul-lt-mul_of_pos_right, le_of_mul-le-mul_right, le_trans, lt_of_le_of_lt, le_of_lt, mul-pos, div-mul-le_self}
+use Rattle.std.proofs.Common.{◌≡◌, ℕ, zero, suc, ◌+◌, ◌-◌, ◌*◌, ◌/◌, ◌^◌, ◌<◌, ◌≤◌, Bool, true, T, refl, sym, ap, subst, ◌∙◌, arith, mul-le-mul_right}
+use native.Mathlib.Nat.{mul-le-mul_left, le_of_mul-le-mul_right, le_of_lt, mul-pos, div-mul-le_self}
 use lib.Pow.{pow-add, pow_pos}
 use Rattle.digit_floats.specs.Near.{power_scale, IsRow, IsBetween}
 use Rattle.digit_floats.proofs.Tens.{ten_pos}

@@ -1,5 +1,5 @@
 -- Each row of the table is its power of ten cut off, by computing it.
-use Rattle.std.proofs.Common.{◌≡◌, ℕ, zero, suc, ◌+◌, ◌-◌, ◌*◌, ◌/◌, ◌%◌, ◌^◌, ◌<◌, ◌≤◌, Bool, true, false, ◌&&◌, T, ltb, List, [], ◌∷◌, length, subst, arith}
+use Rattle.std.proofs.Common.{◌≡◌, ℕ, zero, suc, ◌+◌, ◌-◌, ◌*◌, ◌/◌, ◌%◌, ◌^◌, ◌<◌, ◌≤◌, Bool, true, ◌&&◌, T, ltb, List, [], ◌∷◌, length, subst, arith}
 use Rattle.std.specs.Prelude.{get_or}
 use lib.Dec.{leb, leb→le, ltb→lt}
 use lib.Ieee.Fits.{and_l, and_r}

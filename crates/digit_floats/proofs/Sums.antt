@@ -1,15 +1,14 @@
 -- A sum of two exact products rounds once.
-use Rattle.std.proofs.Common.{◌≡◌, ℕ, zero, suc, ◌+◌, ◌-◌, ◌*◌, ◌%◌, ◌/◌, ◌^◌, ◌<◌, ◌≤◌, Bool, true, false, cond, T, eqb, leb, refl, sym, ap, subst, subst₂, ◌∙◌, arith, true≢false}
+use Rattle.std.proofs.Common.{◌≡◌, ℕ, zero, suc, ◌+◌, ◌-◌, ◌*◌, ◌%◌, ◌/◌, ◌^◌, ◌<◌, ◌≤◌, Bool, true, false, cond, T, eqb, refl, sym, ap, subst, subst₂, ◌∙◌, arith, true≢false}
 use Rattle.std.specs.Prelude.{pos}
-use native.Mathlib.Nat.{mul-pos, mul-le-mul_right, mul-lt-mul_of_pos_right, mul_comm, mul-div_cancel, mul-mod_left, mod-eq_of_lt, lt_of_lt_of_le, le_of_lt}
+use native.Mathlib.Nat.{mul-pos, mul-lt-mul_of_pos_right, mul_comm, mul-div_cancel, mul-mod_left, mod-eq_of_lt, lt_of_lt_of_le, le_of_lt}
 use lib.Pow.{pow-add, pow_pos, pow_mono, shl_lt}
-use lib.Ieee.{Float, Format, nan, inf, fin, binary64, prec, emax, low, hid, ones, top, round, sum, add, mul, le, of_int, of_bits, of_fields, odd, up, down, is_nan, nan_bits}
+use lib.Ieee.{Float, Format, nan, inf, fin, prec, emax, low, hid, ones, top, round, sum, add, mul, le, of_int, of_bits, of_fields, odd, up, down, is_nan, nan_bits}
 use lib.Ieee.Bits.{nan_bits_is}
 use mathlib.Core.Bool.{not}
 use lib.Ieee.Exact.{HasValue, odd_sign, round_exact}
 use lib.Ieee.Fits.{down_pos}
 use lib.Ieee.Scale.{round_same}
-use lib.Arith.{digits_div, digits_mod}
 use borrow.Author.Tests.{lt-leb, ne_eqb}
 use Rattle.digit_floats.specs.Near.{IsTwoTo}
 use Rattle.digit_floats.proofs.Squeeze.{rounds_alike}

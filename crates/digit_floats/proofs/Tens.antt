@@ -9,7 +9,7 @@ use lib.Ieee.{Float, Format, nan, inf, fin, prec, round, mul, div, of_int, up, d
 use lib.Ieee.Back.{round_whole}
 use lib.Ieee.Exact.{HasValue}
 use lib.Ieee.Fits.{up_pos, down_pos, and_l, and_r}
-use lib.Ieee.Positive.{positive, positive_of_value, mul_at, num, den, den_pos, value→cross}
+use lib.Ieee.Positive.{positive, positive_of_value, num, den, den_pos, value→cross}
 use lib.Ieee.Scale.{round_same}
 use Rattle.digit_floats.specs.Exact.{IsTenTo}
 

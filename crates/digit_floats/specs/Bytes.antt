@@ -1,5 +1,5 @@
 -- Which byte stands at a position.
-use Rattle.std.specs.Prelude.{◌≡◌, ℕ, ◌<◌, ◌≤◌, Bool, ◌==◌, ◌||◌, List, [], ◌∷◌, ◌++◌, length, slice_get}
+use Rattle.std.specs.Prelude.{ℕ, Bool, ◌==◌, ◌||◌, List, slice_get}
 use Rattle.std.specs.Char.{to_ascii_uppercase}
 use Rattle.lexical_digits.specs.Cursor.{holds_of}
 

@@ -1,4 +1,4 @@
-use Rattle.std.proofs.Common.{◌≡◌, ℕ, Bool, true, false, ◌+◌, ◌-◌, ◌*◌, ◌/◌, ◌%◌, ◌^◌, ◌<◌, ◌≤◌, T, le→leb, subst, subst₂, sym, ap, ◌∙◌, refl, arith, mul-le-mul_left}
+use Rattle.std.proofs.Common.{◌≡◌, ℕ, false, ◌+◌, ◌-◌, ◌*◌, ◌/◌, ◌%◌, ◌^◌, ◌<◌, ◌≤◌, le→leb, subst, ap, ◌∙◌, refl, arith, mul-le-mul_left}
 use lib.Ieee.{binary32, round, in_float}
 use Rattle.digit_floats.specs.Near.{IsTwoTo, power_scale}
 use Rattle.digit_floats.proofs.Sums.{of_parts, nearest_is}

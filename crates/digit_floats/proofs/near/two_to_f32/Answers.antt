@@ -1,4 +1,4 @@
-use Rattle.std.proofs.Common.{◌≡◌, ◌*◌, ◌%◌, ◌^◌, ◌<◌, ℕ, subst, arith}
+use Rattle.std.proofs.Common.{◌≡◌, ◌*◌, ◌%◌, ◌^◌, ℕ, subst, arith}
 use native.Mathlib.Nat.{mod-eq_of_lt}
 use lib.Ieee.{binary32, of_bits}
 use Rattle.digit_floats.specs.Near.{IsTwoTo}
