@@ -1,17 +1,13 @@
 -- What a read owes: a run that it scans lies behind what was scanned before.
-use Rattle.std.proofs.Common.{◌&&◌, ap, ◌≡◌, ℕ, ◌+◌, ◌-◌, ◌^◌, ◌≤◌, min, Bool, true, false, not, ltb, Option, Some, None, List, length, refl, sym, ◌∙◌, arith, pos, ◌≤ℤ◌, ◌+ℤ◌, ◌*◌, is_some, slice_get}
+use Rattle.std.proofs.Common.{◌&&◌, ap, ◌≡◌, ℕ, ◌+◌, ◌-◌, ◌^◌, ◌≤◌, min, Bool, true, false, not, ltb, Option, Some, None, List, length, refl, sym, ◌∙◌, arith, pos, ◌≤ℤ◌, ◌+ℤ◌, ◌*◌, is_some}
 use Rattle.std.proofs.Math.Bool.{and-not_self}
-use Rattle.lexical_digits.specs.Laws.Terms.{Component, separator, State, rule, rule_of, own, saturating, byte_at_place, settled, separator_at, IsRunOrNone, run_holds, run_length, scans, Finds, one_if, far, owed_by, Held, owed, Costs, NoLooks, Remembers, has_scanned, needs_run, FollowsDigit, SettlesOf, LooksBetween, not-true, false≢true, and_left, and_parts, nat_tests, ints, slice_get_cases}
+use Rattle.lexical_digits.specs.Laws.Terms.{Component, separator, State, rule, rule_of, own, saturating, byte_at_place, settled, separator_at, IsRunOrNone, run_holds, run_length, scans, Finds, one_if, far, owed_by, Held, owed, Costs, NoLooks, Remembers, has_scanned, needs_run, FollowsDigit, SettlesOf, LooksBetween, not-true, false≢true, and_left, and_parts, nat_tests, ints}
 use Rattle.lexical_digits.specs.declared.skip.decision.Run.{Run}
 use Rattle.lexical_digits.specs.Laws.Table.{place_from}
 
 -- all components have the separator of the word
 pub separator_of : (k : Component) (word : ℕ) → (rule_of word k).separator ≡ separator word
 separator_of k word = grind arith
-
--- a byte is answered exactly where the place is within the buffer
-answered_by : (xs : List ℕ) (i : ℕ) → is_some (slice_get xs i) ≡ ltb i (length xs)
-answered_by xs i = grind (arith, nat_tests, slice_get_cases xs i)
 
 -- a cursor that moves on owes no more
 pub owed_onward : (run : Option Run) (looks c d : ℕ) → c ≤ d
