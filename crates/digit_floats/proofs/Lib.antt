@@ -4,7 +4,6 @@ pub mod Bytes
 mod Cut
 mod CutOff
 pub mod Decimals
-mod Exponents
 mod First
 mod HexDigits
 mod Huge

@@ -27,7 +27,6 @@ pub struct Decimal {
 
 /// An exponent, more by the digits that were dropped and less by those that follow the point.
 #[inline(always)]
-#[tactic(auto, using(crate::proofs::Exponents::capped))]
 fn exponent_of(power: Power, dropped: usize, places: usize) -> i64
     requires dropped { dropped < 2 ^ 63 }
     requires places { places < 2 ^ 63 }

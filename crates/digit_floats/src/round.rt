@@ -15,7 +15,6 @@ use super::parts::{Mantissa, Power};
 /// `mantissa` and `power` are what [`read_mantissa`](crate::read_mantissa) and
 /// [`read_exponent`](crate::read_exponent) answered of this text.
 #[inline(always)]
-#[tactic(auto, using(crate::proofs::First::cut_at))]
 pub fn round_parts<F: Float>(text: &[u8], negative: bool, mantissa: Mantissa, power: Power) -> F
     requires { IsMantissa text.now mantissa }
     ensures { (n : ℕ) → power.value ≡ min n (2 ^ 64 - 1) → F.value result ≡ round F.format negative
