@@ -246,7 +246,6 @@ fn add_wide(value: u128, radix: u32, digit: u32, most: u128) -> Option<u128>
 
 /// The value of the digits between two positions, or the position of the first with which it is
 /// above `most`.
-#[tactic(auto, using(crate::proofs::ForCallers::value_more, crate::proofs::ForCallers::same_more, crate::proofs::Between::none_between))]
 fn value_between(
     text: &[u8],
     rule: Rule,

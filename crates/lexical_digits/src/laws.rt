@@ -150,7 +150,6 @@ pub fn items_are_drain()
 /// the drain without those zeros, the digits that lead without them, and the same stop. After the
 /// digits that lead: the drain without them, no digit that leads, and the same stop. The last two
 /// leave the cursor at the place, so that a `peek` changes nothing.
-#[tactic(auto, using(crate::proofs::Calls::Rest::rests))]
 pub fn rest_is_left()
     ensures peek { (k : Component) (s : State) → IsState s →
         drain_of k (settled k s) ≡ drain_of k s }
