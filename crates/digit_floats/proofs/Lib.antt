@@ -10,6 +10,7 @@ mod Huge
 mod Kept
 mod Mantissas
 pub mod Numbers
+mod Outcomes
 mod Product
 mod Rows
 mod Signs

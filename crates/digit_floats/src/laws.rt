@@ -1,12 +1,14 @@
-//! Laws: std reads the same where there is no separator, and a zero keeps its sign.
+//! Laws: what an outcome says, std reads the same where there is no separator, and a zero keeps its
+//! sign.
 
-ghost use Rattle.std.specs.Prelude.{◌≡◌, ℕ, Some, Ok};
+ghost use Rattle.std.specs.Prelude.{◌≡◌, ℕ, ◌↔◌, Some, Ok, Err, length};
 ghost use Rattle.std.specs.Float.{Float, Format};
 ghost use Rattle.std.specs.Float.Ieee.{round};
 ghost use Rattle.std.specs.Float.Numeral.{numeral_digits};
 ghost use Rattle.std.specs.Float.Parse.{parse_float as std_float};
-ghost use Rattle.digit_floats.specs.Float.{IsDecimal, plain_marks, past_sign, parts_at, float_at, parse_at};
+ghost use Rattle.digit_floats.specs.Float.{IsDecimal, plain_marks, past_sign, parts_at, float_at, end_at, read_at, parse_at};
 ghost use Rattle.digit_floats.specs.Bytes.{stands, is_minus};
+ghost use Rattle.digit_floats.specs.declared.error.FloatError.{FloatError};
 ghost use Rattle.digit_floats.specs.declared.parts.Marks.{Marks};
 ghost use Rattle.digit_floats.specs.Separators.{HasNoSeparator};
 
@@ -25,4 +27,19 @@ pub fn zeros_keep_their_sign(text: &[u8], word: u128)
     ensures { (marks : Marks) (f : Format) (at : ℕ) →
         numeral_digits (parts_at word text.now marks (past_sign text.now at)) ≡ 0 →
         float_at word text.now marks f at ≡ round f (stands is_minus text.now at) 0 1 }
+{}
+
+/// What each outcome says: the float that [`read_float_from`](crate::read_float_from) or
+/// [`parse_float_from`](crate::parse_float_from) answers is the nearest one, and where it ends or
+/// why there is none doesn't depend on its type. So a text has an `f32` exactly if it has an `f64`.
+pub fn float_outcomes_say(text: &[u8], word: u128)
+    ensures reads { (marks : Marks) (f : Format) (at end : ℕ) (x : Float) →
+        read_at word text.now marks f at ≡ Ok (x, end) ↔
+        ((x ≡ float_at word text.now marks f at) × (end_at word text.now marks at ≡ Ok end)) }
+    ensures parses { (marks : Marks) (f : Format) (at : ℕ) (x : Float) →
+        parse_at word text.now marks f at ≡ Ok x ↔ ((x ≡ float_at word text.now marks f at)
+        × (end_at word text.now marks at ≡ Ok (length text.now))) }
+    ensures none { (marks : Marks) (f : Format) (at : ℕ) (error : FloatError) →
+        read_at word text.now marks f at ≡ Err error ↔
+        end_at word text.now marks at ≡ Err error }
 {}
