@@ -7,6 +7,7 @@ ghost use Rattle.std.specs.Float.Ieee.{round};
 ghost use Rattle.std.specs.Str.Parse.{digits_value, digits_value_after};
 ghost use Rattle.lexical_format.specs.Word.{is_supported};
 ghost use Rattle.lexical_digits.specs.declared.skip.component.Component.TheVariants.{Integer};
+ghost use Rattle.digit_floats.specs.Bytes.{stands, is_point};
 ghost use Rattle.digit_floats.specs.Float.{digits_from, digits_end, fraction_digits, mantissa_end};
 ghost use Rattle.digit_floats.specs.Parts.{exponent_of, IsPower};
 ghost use Rattle.digit_floats.specs.Hexadecimal.{IsHexadecimal, IsHexMantissa, IsHexKept, hex_integer_of, hex_fraction_of, nearest_hex, read_hex_at};
@@ -49,6 +50,8 @@ pub fn read_hex_mantissa(text: &[u8], word: u128, at: usize, point: u8) -> HexMa
         hex_fraction_of text.now result ≡ fraction_digits word text.now point e }
     ensures start { result.start ≡ at }
     ensures whole_end { result.whole_end ≡ digits_end word text.now Integer at }
+    ensures fraction_start { let e = digits_end word text.now Integer at in result.fraction_start
+        ≡ (if stands (is_point point) text.now e then e + 1 else e) }
     ensures end { result.end ≡ mantissa_end word text.now point at }
 {
     let (integer, whole_end) = read_part(text, word, Component::Integer, at, 0, 0);

@@ -1,6 +1,6 @@
 //! Sign, mantissa and exponent of a number, each component from where it begins.
 
-ghost use Rattle.std.specs.Prelude.{◌≡◌, true, ◌+◌, ◌-◌, ◌^◌, ◌<◌, ◌≤◌, min, length, filter, slice_range, IsTrue, IfOk, IfErr, OnOk, Ok, Err, MatchResult};
+ghost use Rattle.std.specs.Prelude.{◌≡◌, true, ◌+◌, ◌-◌, ◌^◌, ◌<◌, ◌≤◌, min, if◌then◌else◌, length, filter, slice_range, IsTrue, IfOk, IfErr, OnOk, Ok, Err, MatchResult};
 ghost use Rattle.std.specs.Char.{is_ascii_digit, is_ascii_hexdigit};
 ghost use Rattle.std.specs.Str.Parse.{digits_value, digits_value_after};
 ghost use Rattle.lexical_format.specs.Word.{exponent_radix, is_supported};
@@ -148,6 +148,8 @@ pub fn read_mantissa(text: &[u8], word: u128, at: usize, point: u8) -> Mantissa
         fraction_of text.now result ≡ fraction_digits word text.now point e }
     ensures start { result.start ≡ at }
     ensures whole_end { result.whole_end ≡ digits_end word text.now Integer at }
+    ensures fraction_start { let e = digits_end word text.now Integer at in result.fraction_start
+        ≡ (if stands (is_point point) text.now e then e + 1 else e) }
     ensures end { result.end ≡ mantissa_end word text.now point at }
 {
     let (integer, whole_end) = read_part(text, word, Component::Integer, at, 0, MOST);
