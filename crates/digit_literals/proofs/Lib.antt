@@ -1,3 +1,5 @@
+pub mod WordOfDigits
+pub mod Plain
 pub mod Peeks
 pub mod States
 pub mod Passed

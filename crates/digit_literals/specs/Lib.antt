@@ -2,6 +2,7 @@ pub mod Peeks
 pub mod Outcomes
 pub mod After
 pub mod Reads
+pub mod Eight
 pub mod Integers
 pub mod Rest
 pub mod Significant

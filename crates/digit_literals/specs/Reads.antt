@@ -5,7 +5,7 @@ use Rattle.std.specs.Str.Parse.{digits_value_after}
 use Rattle.lexical_format.specs.Digits.{digit_of_radix}
 use Rattle.lexical_digits.specs.declared.skip.rule.Rule.{Rule}
 use Rattle.lexical_digits.specs.declared.skip.component.Component.{Component}
-use Rattle.lexical_digits.specs.Separators.{zeros, past_zeros}
+use Rattle.lexical_digits.specs.Separators.{zeros, past_zeros, is_digit}
 use Rattle.lexical_digits.specs.State.{rule, own}
 use Rattle.lexical_digits.specs.Looks.{Held, owed, needs_run, separator_at}
 use Rattle.lexical_digits.specs.Stop.{stop, past_digits_of}
@@ -58,6 +58,18 @@ module _ (rule : Rule) (text : List ℕ) (start before : ℕ) (most : Option ℕ
     pub other : separator_at rule.separator text read.end ≡ false
     pub below : start + read.count ≤ read.end
     pub dense : read.end ≤ start + 2 * read.count
+
+module _ (rule : Rule) (text : List ℕ) (start before : ℕ) (most : Option ℕ) where
+  -- The bytes from the start up to an end are digits. The value is that of the digits before them
+  -- and of these.
+  pub record ArePlain (end value : ℕ) : Type 0 where
+    pub onward : start ≤ end
+    pub within : end ≤ length text
+    pub digits : (q : ℕ) → start ≤ q → q < end → is_digit rule (slice_index text q) ≡ true
+    pub worth : IfSome most
+        (IsWorth rule.radix before (digits_between rule text start end) value)
+    pub wrapped : IfNone most (value ≡ digits_value_after rule.radix before
+        (digits_between rule text start end) % 2 ^ 64)
 
 -- The bytes `0` from the start on were passed, whatever was counted before, with at most one
 -- separator for each, and none at the end.

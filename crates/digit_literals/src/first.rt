@@ -8,11 +8,12 @@ ghost use Rattle.lexical_digits.specs.Looks.{owed, needs_run};
 ghost use Rattle.lexical_digits.specs.Stop.{stop, leading_digits_of, past_digits_of};
 ghost use Rattle.digit_literals.specs.After.{digits_between};
 ghost use Rattle.digit_literals.specs.First.{ReadsFirst};
-ghost use Rattle.digit_literals.specs.Reads.{IsOffSlice, PassesAll};
+ghost use Rattle.digit_literals.specs.Reads.{IsOffSlice, PassesAll, ArePlain};
 
 use super::component::{pass_digits, read_digits_up_to};
+use super::eight::{Plain, read_eights};
 use super::reading::Digits;
-use super::slice::{ReadTo, first_digit, read_radix};
+use super::slice::{ReadTo, begin, first_digit, read_on, read_radix};
 use super::wide::ten_to;
 use lexical_digits::iterator::Iter;
 use lexical_digits::skip::{Bytes, Component, Rule};
@@ -101,7 +102,7 @@ pub fn read_first_digits_from(
     ensures end { result.1 ≤ length text.now }
 {
     let rule = Rule::of(word, component);
-    if let Some(read) = decimals_slice(text, rule, start, before, most) {
+    if let Some(read) = decimals_slice(text, rule, start, before, most, is_long(component)) {
         let all = FirstDigits {
             value: read.value,
             count: read.count,
@@ -109,7 +110,16 @@ pub fn read_first_digits_from(
         };
         return (all, read.end);
     }
-    read_first_again(text, word, component, start, before, most)
+    let read = read_first_again(text, word, component, start, before, most);
+    (read.digits, read.end)
+}
+
+/// The first digits of a component, and where its digits end. A struct, and no tuple: the place of
+/// the answer isn't set to 0 before the call.
+#[derive(Clone, Copy)]
+struct FirstRead {
+    digits: FirstDigits,
+    end: usize,
 }
 
 /// [`read_first_digits_from`] again, where a digit may be too large: the others are counted.
@@ -122,49 +132,44 @@ fn read_first_again(
     start: usize,
     before: u64,
     most: u64,
-) -> (FirstDigits, usize)
+) -> FirstRead
     requires supported { IsTrue (is_supported word) }
     requires within { start ≤ length text.now }
     requires fits { before ≤ most }
     ensures first { let r = rule_of word component in
         let digits = digits_between r text.now start (stop r text.now start 0) in
-        ReadsFirst r.radix most before digits result.0 }
-    ensures stops { result.1 ≡ stop (rule_of word component) text.now start 0 }
-    ensures onward { start + result.0.count ≤ result.1 }
-    ensures end { result.1 ≤ length text.now }
+        ReadsFirst r.radix most before digits result.digits }
+    ensures stops { result.end ≡ stop (rule_of word component) text.now start 0 }
+    ensures onward { start + result.digits.count ≤ result.end }
+    ensures end { result.end ≤ length text.now }
 {
     let rule = Rule::of(word, component);
     if rule.radix == 10 {
         let first = first_digit(text, rule, start, before, u128::from(most));
         if let Some(read) = read_radix(text, rule, 10, start, before, first, Some(most)) {
             if !read.is_too_large {
-                let all = FirstDigits {
-                    value: read.value,
-                    count: read.count,
-                    dropped: 0,
+                return FirstRead {
+                    digits: FirstDigits {
+                        value: read.value,
+                        count: read.count,
+                        dropped: 0,
+                    },
+                    end: read.end,
                 };
-                return (all, read.end);
             }
             if let Some(rest) = count_rest(text, rule, read.end) {
-                let all = FirstDigits {
-                    value: read.value,
-                    count: read.count + rest.count,
-                    dropped: rest.count,
+                return FirstRead {
+                    digits: FirstDigits {
+                        value: read.value,
+                        count: read.count + rest.count,
+                        dropped: rest.count,
+                    },
+                    end: rest.end,
                 };
-                return (all, rest.end);
             }
         }
     }
-    let first = read_first_fresh_bytes(text, word, component, start, before, most);
-    (first.digits, first.end)
-}
-
-/// The first digits of a component, and where its digits end. A struct, and no tuple: the place of
-/// the answer isn't set to 0 before the call.
-#[derive(Clone, Copy)]
-struct FirstRead {
-    digits: FirstDigits,
-    end: usize,
+    read_first_fresh_bytes(text, word, component, start, before, most)
 }
 
 /// [`read_first_digits_from`] by a `Bytes`, whatever separators are met and however many digits
@@ -236,10 +241,39 @@ fn are_few(before: u64, count: usize) -> bool
     before == 0 || is_below(before, count)
 }
 
+/// Whether a component of a float often has eight digits or more.
+#[inline(always)]
+fn is_long(component: Component) -> bool {
+    component == Component::Fraction
+}
+
+/// The digits that are read before the loop: by eights, or the first, if it is known.
+#[inline(always)]
+fn read_plain(text: &[u8], rule: Rule, start: usize, before: u64, by_eights: bool) -> Plain
+    requires radix { rule.radix ≡ 10 }
+    requires within { start ≤ length text.now }
+    ensures { ArePlain rule text.now start before None result.end result.value }
+{
+    // where separators are dropped between digits, few numbers have eight in a row
+    if by_eights && !rule.internal {
+        read_eights(text, rule, start, before)
+    } else {
+        let first = first_digit(text, rule, start, before, u128::from(u64::MAX));
+        begin(text, rule, 10, start, before, first, None)
+    }
+}
+
 /// Reads the digits of a rule with radix 10 from `start` on, where the slice is enough, and 19
 /// digits fit and no more are there.
 #[inline(always)]
-fn decimals_slice(text: &[u8], rule: Rule, start: usize, before: u64, most: u64) -> Option<ReadTo>
+fn decimals_slice(
+    text: &[u8],
+    rule: Rule,
+    start: usize,
+    before: u64,
+    most: u64,
+    by_eights: bool,
+) -> Option<ReadTo>
     requires supported { IsSupported rule }
     requires within { start ≤ length text.now }
     requires fits { before ≤ most }
@@ -250,8 +284,8 @@ fn decimals_slice(text: &[u8], rule: Rule, start: usize, before: u64, most: u64)
         return None;
     }
     // no digit is tested for being too large: 19 never are
-    let first = first_digit(text, rule, start, before, u128::from(most));
-    let read = read_radix(text, rule, 10, start, before, first, None)?;
+    let plain = read_plain(text, rule, start, before, by_eights);
+    let read = read_on(text, rule, 10, start, before, plain, None)?;
     if are_few(before, read.count) {
         Some(read)
     } else {
@@ -273,7 +307,14 @@ fn read_first_slice(
     ensures leaves { IfNone result (bytes.new ≡ bytes.old) }
 {
     let rule = bytes.rule(component);
-    let read = decimals_slice(bytes.get_buffer(), rule, bytes.cursor(), before, most)?;
+    let read = decimals_slice(
+        bytes.get_buffer(),
+        rule,
+        bytes.cursor(),
+        before,
+        most,
+        is_long(component),
+    )?;
     bytes.pass_read(component, read.end, read.count);
     Some(Digits {
         value: read.value,

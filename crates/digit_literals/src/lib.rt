@@ -14,6 +14,7 @@ ghost use Rattle.digit_literals.specs.Errors.{literal_position};
 ghost use Rattle.digit_literals.specs.Outcomes.{ReadsAll, FindsNone, PassesMost};
 
 mod component;
+mod eight;
 pub mod equality;
 mod first;
 mod integer;

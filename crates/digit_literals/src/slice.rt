@@ -7,8 +7,9 @@ ghost use Rattle.lexical_digits.specs.Separators.{is_digit, IsSupported};
 ghost use Rattle.lexical_digits.specs.CallTable.{byte_at_place, settled};
 ghost use Rattle.lexical_digits.specs.Looks.{Costs};
 ghost use Rattle.digit_literals.specs.Numbers.{has_byte};
-ghost use Rattle.digit_literals.specs.Reads.{IsMore, IsFirst, IsOffSlice, Passes, outcome};
+ghost use Rattle.digit_literals.specs.Reads.{IsMore, IsFirst, IsOffSlice, ArePlain, Passes, outcome};
 
+use super::eight::Plain;
 use super::reading::{Digits, TooLarge, add_digit};
 use lexical_digits::iterator::Iter;
 use lexical_digits::skip::{Bytes, Component, Rule};
@@ -134,9 +135,38 @@ pub(super) fn read_slice(
     }
 }
 
+/// The first digit, if it is known, or none.
+#[inline(always)]
+#[tactic(auto, using(crate::proofs::Plain::none_plain))]
+pub(super) fn begin(
+    text: &[u8],
+    rule: Rule,
+    radix: u32,
+    start: usize,
+    before: u64,
+    first: Option<u32>,
+    most: Option<u64>,
+) -> Plain
+    requires radix { radix ≡ rule.radix }
+    requires within { start ≤ length text.now }
+    requires fits { IfSome most (λ m. before ≤ m) }
+    requires first { IfSome first (IsFirst rule text.now start before most) }
+    ensures { ArePlain rule text.now start before most result.end result.value }
+{
+    match first {
+        Some(digit) => Plain {
+            value: before * u64::from(radix) + u64::from(digit),
+            end: start + 1,
+        },
+        None => Plain {
+            value: before,
+            end: start,
+        },
+    }
+}
+
 /// [`read_slice`], where `radix` is the rule's.
 #[inline(always)]
-#[tactic(auto, using(crate::proofs::Passed::reading))]
 pub(super) fn read_radix(
     text: &[u8],
     rule: Rule,
@@ -153,12 +183,31 @@ pub(super) fn read_radix(
     requires first { IfSome first (IsFirst rule text.now start before most) }
     ensures { IfSome result (IsOffSlice rule text.now start before most) }
 {
-    let (from, mut value) = match first {
-        Some(digit) => (start + 1, before * u64::from(radix) + u64::from(digit)),
-        None => (start, before),
-    };
+    let plain = begin(text, rule, radix, start, before, first, most);
+    read_on(text, rule, radix, start, before, plain, most)
+}
+
+/// [`read_radix`] after the digits that were read before.
+#[inline(always)]
+#[tactic(auto, using(crate::proofs::Passed::reading))]
+pub(super) fn read_on(
+    text: &[u8],
+    rule: Rule,
+    radix: u32,
+    start: usize,
+    before: u64,
+    plain: Plain,
+    most: Option<u64>,
+) -> Option<ReadTo>
+    requires supported { IsSupported rule }
+    requires radix { radix ≡ rule.radix }
+    requires within { start ≤ length text.now }
+    requires plain { ArePlain rule text.now start before most plain.end plain.value }
+    ensures { IfSome result (IsOffSlice rule text.now start before most) }
+{
+    let mut value = plain.value;
     let mut separators = 0;
-    for at in from..text.len() {
+    for at in plain.end..text.len() {
         let byte = text[at];
         if let Some(digit) = char_to_digit_const(byte, radix) {
             let Some(more) = add_if(value, radix, digit, most) else {

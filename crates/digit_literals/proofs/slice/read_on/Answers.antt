@@ -1,9 +1,17 @@
 use Rattle.std.proofs.Common.{arith}
 use Rattle.digit_literals.proofs.Passed.{reading}
-use Rattle.digit_literals.proofs.slice.read_radix.Goals as goal
+use Rattle.digit_literals.proofs.Plain.{passed, counted}
+use Rattle.digit_literals.proofs.slice.read_on.Goals as goal
 
 pub loop-at-init : goal.loop-at-init
-loop-at-init c = grind (arith, reading)
+loop-at-init c =
+    let plain = c.requires.plain in
+    record {
+      passed = passed _ _ _ plain;
+      all = omega (arith, counted _ _ _ plain);
+      worth = plain.worth;
+      wrapped = plain.wrapped;
+    }
 
 pub loop-at-preserved : goal.loop-at-preserved
 loop-at-preserved c = grind (arith, reading)

@@ -4,7 +4,7 @@ use Rattle.std.specs.Str.Parse.{digits_value_after}
 use Rattle.digit_literals.specs.After.{digits_between}
 use Rattle.digit_literals.specs.Reads.{IsWorth}
 use Rattle.digit_literals.proofs.Passed.{HasPassed}
-use Rattle.digit_literals.proofs.slice.read_radix.Given as goal
+use Rattle.digit_literals.proofs.slice.read_on.Given as goal
 
 abbrev pub invariant-loop-at : goal.invariant-loop-at
 invariant-loop-at l =

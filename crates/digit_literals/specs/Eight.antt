@@ -1,0 +1,31 @@
+-- Of functions that no caller sees: eight decimal digits that are read as one word, whose lowest
+-- byte is the first of them. No public clause uses these words.
+use Rattle.std.specs.Prelude.{◌≡◌, ℕ, zero, suc, ◌+◌, ◌-◌, ◌*◌, ◌/◌, ◌%◌, ◌<◌, ◌≤◌, List, length, slice_index}
+
+-- a byte of a word, from the lowest on
+abbrev pub byte_of : ℕ → ℕ → ℕ
+byte_of word zero = word % 256
+byte_of word (suc i) = byte_of (word / 256) i
+
+-- so many bytes of a word are below a bound, and the word has no more
+abbrev pub AreBelow : ℕ → ℕ → ℕ → Type 0
+AreBelow bound zero word = word ≡ 0
+AreBelow bound (suc n) word = (word % 256 < bound) × AreBelow bound n (word / 256)
+
+-- so many bytes as a word
+abbrev pub spelt : ℕ → (ℕ → ℕ) → ℕ
+spelt zero b = 0
+spelt (suc n) b = b 0 + 256 * spelt n (λ i. b (suc i))
+
+-- the number that eight digits write
+abbrev pub number_of : (ℕ → ℕ) → ℕ
+number_of d =
+    ((((((d 0 * 10 + d 1) * 10 + d 2) * 10 + d 3) * 10 + d 4) * 10 + d 5) * 10 + d 6) * 10 + d 7
+
+module _ (text : List ℕ) (at : ℕ) where
+  -- the eight bytes from a position on are digits, and write a number
+  pub record AreEight (value : ℕ) : Type 0 where
+    pub within : at + 8 ≤ length text
+    pub digits : (i : ℕ) → i < 8
+        → (48 ≤ slice_index text (at + i)) × (slice_index text (at + i) < 58)
+    pub is : value ≡ number_of (λ i. slice_index text (at + i) - 48)

@@ -1,0 +1,94 @@
+//! Eight decimal digits at a time: one load, one test and three multiplications.
+
+ghost use Rattle.std.specs.Prelude.{◌≡◌, ◌+◌, ◌≤◌, length, slice_index, None, IfSome};
+ghost use Rattle.digit_literals.specs.Eight.{AreBelow, byte_of, spelt, number_of, AreEight};
+ghost use Rattle.digit_literals.specs.Reads.{ArePlain};
+
+use lexical_digits::skip::Rule;
+
+/// The digits of eight bytes, the first in the lowest byte, if all are decimal.
+#[inline(always)]
+fn digits_of(word: u64) -> Option<u64>
+    ensures below { IfSome result (AreBelow 10 8) }
+    ensures is { IfSome result (λ digits. word ≡ digits + 0x3030_3030_3030_3030) }
+{
+    let digits = word.wrapping_sub(0x3030_3030_3030_3030);
+    // no sum carries into the next byte, where the first test holds
+    let low = digits & 0x8080_8080_8080_8080;
+    let high = digits.wrapping_add(0x7676_7676_7676_7676) & 0x8080_8080_8080_8080;
+    if low == 0 && high == 0 {
+        Some(digits)
+    } else {
+        None
+    }
+}
+
+/// The number that eight digits write, the first in the lowest byte.
+#[inline(always)]
+fn value_of(digits: u64) -> u64
+    requires { AreBelow 10 8 digits }
+    ensures { result ≡ number_of (byte_of digits) }
+{
+    let pairs = digits.wrapping_mul(10).wrapping_add(digits >> 8);
+    let first = (pairs & 0x0000_00ff_0000_00ff).wrapping_mul(100 + (1_000_000 << 32));
+    let second = ((pairs >> 16) & 0x0000_00ff_0000_00ff).wrapping_mul(1 + (10_000 << 32));
+    first.wrapping_add(second) >> 32
+}
+
+/// The eight bytes from a position on as a word, the first in the lowest byte.
+#[inline(always)]
+fn word_at(text: &[u8], at: usize) -> u64
+    requires { at + 8 ≤ length text.now }
+    ensures { result ≡ spelt 8 (λ i. slice_index text.now (at + i)) }
+{
+    // a compiler makes one load of these
+    u64::from_le_bytes([
+        text[at],
+        text[at + 1],
+        text[at + 2],
+        text[at + 3],
+        text[at + 4],
+        text[at + 5],
+        text[at + 6],
+        text[at + 7],
+    ])
+}
+
+/// The number that the eight bytes from a position on write, if they are there, and digits.
+#[inline]
+fn eight_at(text: &[u8], at: usize) -> Option<u64>
+    requires { at ≤ length text.now }
+    ensures { IfSome result (AreEight text.now at) }
+{
+    if text.len() - at < 8 {
+        return None;
+    }
+    Some(value_of(digits_of(word_at(text, at))?))
+}
+
+/// Digits with no separator among them.
+#[derive(Clone, Copy)]
+pub(super) struct Plain {
+    /// The value of the digits before them and of these; its lowest 64 bits, if no greatest value
+    /// was asked for.
+    pub(super) value: u64,
+    /// The position after them.
+    pub(super) end: usize,
+}
+
+/// Digits from `start` on by eights, after the value `before`, as long as eight are there. All
+/// others are left.
+#[inline(always)]
+pub(super) fn read_eights(text: &[u8], rule: Rule, start: usize, before: u64) -> Plain
+    requires radix { rule.radix ≡ 10 }
+    requires within { start ≤ length text.now }
+    ensures { ArePlain rule text.now start before None result.end result.value }
+{
+    let mut value = before;
+    let mut end = start;
+    while let Some(next) = eight_at(text, end) {
+        value = value.wrapping_mul(100_000_000).wrapping_add(next);
+        end += 8;
+    }
+    Plain { value, end }
+}
