@@ -1,22 +1,22 @@
 -- Digits and those that follow them, as bounds on the whole number.
-use Rattle.std.proofs.Common.{◌≡◌, ℕ, ◌+◌, ◌-◌, ◌*◌, ◌^◌, sym, ap, ◌∙◌, arith, mul_assoc, mul-le-mul_right}
+use Rattle.std.proofs.Common.{◌≡◌, ℕ, ◌+◌, ◌-◌, ◌*◌, ◌^◌, sym, ap, subst, ◌∙◌, arith, mul_assoc, mul-le-mul_right}
 use lib.Pow.{pow-add}
 use Rattle.std.specs.Prelude.{min}
-use Rattle.digit_floats.specs.Near.{IsBetween, IsCutAt}
+use Rattle.digit_floats.specs.Near.{IsBetween, IsScaled, IsCutAt}
 
 module _ (digits cut n up below power : ℕ) where
-  pub is_between : power + below ≡ cut + 288 + up → IsCutAt n digits cut
-      → IsBetween (n * 10 ^ up) (10 ^ below) digits (digits + min cut 1) power
+  pub is_between : power + below ≡ cut + 342 + up → IsCutAt n digits cut
+      → IsScaled (n * 10 ^ up) (10 ^ below) digits (digits + min cut 1) power
   is_between e is =
-      let A : ℕ = 10 ^ (power - 288) in
+      let A : ℕ = 10 ^ (power - 342) in
       let B : ℕ = 10 ^ below in
       let U : ℕ = 10 ^ up in
-      let V : ℕ = 10 ^ (288 - power) in
-      let places_are : power - 288 + below ≡ cut + (up + (288 - power)) = omega arith in
+      let V : ℕ = 10 ^ (342 - power) in
+      let places_are : power - 342 + below ≡ cut + (up + (342 - power)) = omega arith in
       let E : A * B ≡ 10 ^ cut * (U * V) =
-      sym (pow-add 10 (power - 288) below) ∙ ap (λ t. 10 ^ t) places_are
-      ∙ pow-add 10 cut (up + (288 - power))
-      ∙ ap (λ t. 10 ^ cut * t) (pow-add 10 up (288 - power)) in
+      sym (pow-add 10 (power - 342) below) ∙ ap (λ t. 10 ^ t) places_are
+      ∙ pow-add 10 cut (up + (342 - power))
+      ∙ ap (λ t. 10 ^ cut * t) (pow-add 10 up (342 - power)) in
       let left : (d : ℕ) → d * A * B ≡ d * 10 ^ cut * (U * V) =
       λ d. mul_assoc d A B ∙ ap (λ t. d * t) E ∙ sym (mul_assoc d (10 ^ cut) (U * V)) in
       let right : n * U * V ≡ n * (U * V) = mul_assoc n U V in
@@ -24,3 +24,14 @@ module _ (digits cut n up below power : ℕ) where
         from = rw (left digits, right) (mul-le-mul_right (U * V) is.from);
         to = rw (left (digits + min cut 1), right) (mul-le-mul_right (U * V) is.to);
       }
+
+-- the same number by the longer table
+pub scaled : (num den a b q : ℕ) → IsBetween num den a b q → IsScaled num den a b (q + 54)
+scaled num den a b q between =
+    let up : q - 288 ≡ q + 54 - 342 = omega arith in
+    let down : 288 - q ≡ 342 - (q + 54) = omega arith in
+    record { from = rw (← up, ← down) between.from; to = rw (← up, ← down) between.to }
+
+-- no digit was cut off
+pub none_cut : {n value cut : ℕ} → cut ≡ 0 → IsCutAt n value cut → IsCutAt n value 0
+none_cut {n = n} {value = value} e is = subst (λ (k : ℕ). IsCutAt n value k) e is

@@ -15,7 +15,6 @@ mod Product
 mod Rows
 mod Signs
 mod Squeeze
-mod Sums
 mod Tens
 mod Units
 mod WholePart

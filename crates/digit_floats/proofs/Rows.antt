@@ -1,5 +1,5 @@
 -- Each row of the table is its power of ten cut off, by computing it.
-use Rattle.std.proofs.Common.{◌≡◌, ℕ, zero, suc, ◌+◌, ◌-◌, ◌*◌, ◌/◌, ◌%◌, ◌^◌, ◌<◌, ◌≤◌, Bool, true, ◌&&◌, T, ltb, List, [], ◌∷◌, length, subst, arith}
+use Rattle.std.proofs.Common.{◌≡◌, ℕ, zero, suc, ◌+◌, ◌-◌, ◌*◌, ◌^◌, ◌<◌, Bool, true, ◌&&◌, T, ltb, List, [], ◌∷◌, length, subst, arith}
 use Rattle.std.specs.Prelude.{get_or}
 use lib.Dec.{leb, leb→le, ltb→lt}
 use lib.Ieee.Fits.{and_l, and_r}
@@ -7,10 +7,10 @@ use Rattle.digit_floats.specs.Near.{power_scale, IsRow}
 use Rattle.digit_floats.specs.declared.powers.TheConstants.{ROWS}
 
 abbrev power_den : ℕ → ℕ
-power_den q = 2 ^ power_scale q * 10 ^ (288 - q)
+power_den q = 2 ^ power_scale q * 10 ^ (342 - q)
 
 abbrev power_num : ℕ → ℕ
-power_num q = 10 ^ (q - 288) * 2 ^ 1020
+power_num q = 10 ^ (q - 342) * 2 ^ 1200
 
 abbrev is_row : ℕ → ℕ → Bool
 is_row q t =
@@ -29,25 +29,9 @@ row (t ∷ ts) q zero j h l e =
 row (t ∷ ts) q (suc i) j h l e =
     row ts (suc q) i j (and_r (is_row q t) _ h) (omega arith) (omega arith)
 
-abbrev are_pairs_from : ℕ → List (List ℕ) → Bool
-are_pairs_from q [] = true
-are_pairs_from q (r ∷ rs) =
-    (are_rows_from q r && leb 2 (length r)) && are_pairs_from (q + 2) rs
-
-pair : (rs : List (List ℕ)) (q i k j : ℕ) → T (are_pairs_from q rs) → i < length rs → k < 2
-    → j ≡ q + 2 * i + k → T (is_row j (get_or (get_or rs i []) k 0))
-pair [] q i k j h l m e = absurd (omega arith)
-pair (r ∷ rs) q zero k j h l m e =
-    let a = and_l _ _ h in
-    let two : 2 ≤ length r = leb→le _ _ (and_r (are_rows_from q r) _ a) in
-    row r q k j (and_l _ _ a) (omega arith) (omega arith)
-pair (r ∷ rs) q (suc i) k j h l m e =
-    pair rs (q + 2) i k j (and_r (are_rows_from q r && leb 2 (length r)) _ h)
-    (omega arith) m (omega arith)
-
-pub row_at : (q : ℕ) → q < 577 → IsRow q (get_or (get_or ROWS (q / 2) []) (q % 2) 0)
+pub row_at : (q : ℕ) → q < 651 → IsRow q (get_or ROWS q 0)
 row_at q h =
-    let r = pair ROWS 0 (q / 2) (q % 2) q tt (omega arith) (omega arith) (omega arith) in
+    let r = row ROWS 0 q q tt (omega arith) (omega arith) in
     let a = and_l _ _ r in
     let b = and_r _ _ r in
     record {

@@ -29,6 +29,14 @@ emax_pos : (f : Format) → 0 < emax f
 emax_pos binary32 = omega arith
 emax_pos binary64 = omega arith
 
+pub prec_few : (f : Format) → prec f ≤ low f
+prec_few binary32 = omega arith
+prec_few binary64 = omega arith
+
+pub low_few : (f : Format) → low f ≤ 1074
+low_few binary32 = omega arith
+low_few binary64 = omega arith
+
 -- how many digits q * 2 ^ k has beyond p, and what it is without them
 module _ (p q k : ℕ) (P : 0 < p) (few : q ≤ 2 ^ p) (many : 0 < k → 2 ^ (p - 1) ≤ q) where
   abbrev without : ℕ → ℕ

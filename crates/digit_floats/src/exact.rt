@@ -60,20 +60,10 @@ pub fn round_exact<F: Float>(
         (10 ^ (places + (if down then power else 0)))) }
 {
     if down {
-        let x: F = magnitude(digits, 0, places + power)?;
+        let x: F = F::over_ten_to(digits, places + power)?;
         Some(signed(negative, x))
     } else {
         let x: F = magnitude(digits, power, places)?;
         Some(signed(negative, x))
     }
-}
-
-/// A zero with a sign, which a zero times any power of ten is.
-#[inline(always)]
-pub fn zero<F: Float>(negative: bool) -> Option<F>
-    ensures { IfSome result (λ x. (up down : ℕ) →
-        F.value x ≡ round F.format negative (0 * 10 ^ up) (10 ^ down)) }
-{
-    let x: F = magnitude(0, 0, 0)?;
-    Some(signed(negative, x))
 }

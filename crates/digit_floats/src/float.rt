@@ -8,7 +8,7 @@ ghost use Rattle.std.specs.Float.Parse.{parse_float as std_float};
 ghost use Rattle.digit_floats.specs.Near.{IsBetween};
 
 use super::exact::{ten_to_f32, ten_to_f64};
-use super::near::{nearest_f32, nearest_f64};
+use super::near::nearest_units;
 
 /// `f64` and `f32`.
 pub trait Float: Copy {
@@ -101,7 +101,8 @@ impl Float for f64 {
 
     #[inline(always)]
     fn nearest(digits: u64, more: u64, power: u64) -> Option<f64> {
-        nearest_f64(digits, more, power)
+        let (count, scale) = nearest_units(digits, more, power + 54, 53, 1074)?;
+        Some(f64::of_units(count, scale as u128))
     }
 
     #[inline(always)]
@@ -169,7 +170,8 @@ impl Float for f32 {
 
     #[inline(always)]
     fn nearest(digits: u64, more: u64, power: u64) -> Option<f32> {
-        nearest_f32(digits, more, power)
+        let (count, scale) = nearest_units(digits, more, power + 54, 24, 149)?;
+        Some(f32::of_units(count, scale as u128))
     }
 
     #[inline(always)]

@@ -1,30 +1,12 @@
 //! A float by one product of its digits with the 64 leading bits of a power of ten.
 
-ghost use Rattle.std.specs.Prelude.{◌≡◌, false, ◌+◌, ◌*◌, ◌^◌, ◌<◌, ◌≤◌, ℕ, IfSome, if◌then◌else◌};
-ghost use Rattle.std.specs.Float.{binary32, binary64};
-ghost use Rattle.std.specs.Float.Ieee.{round};
-ghost use Rattle.digit_floats.specs.Near.{IsBetween, IsCutAt, IsTwoTo};
+ghost use Rattle.std.specs.Prelude.{◌≡◌, false, ◌+◌, ◌-◌, ◌*◌, ◌^◌, ◌<◌, ◌≤◌, ℕ, IfSome, if◌then◌else◌};
+ghost use Rattle.std.specs.Float.{Format};
+ghost use Rattle.std.specs.Float.Ieee.{prec, low, units, round};
+ghost use Rattle.digit_floats.specs.Near.{IsScaled, IsCutAt};
 
 use super::float::{Float, signed};
 use super::powers::{row, scale};
-
-/// 2 ^ (field - 1023).
-#[inline(always)]
-fn two_to_f64(field: u64) -> f64
-    requires { (0 < field) × (field < 2047) }
-    ensures { IsTwoTo binary64 (field + 51) result }
-{
-    f64::from_bits(field << 52)
-}
-
-/// 2 ^ (field - 127).
-#[inline(always)]
-fn two_to_f32(field: u64) -> f32
-    requires { (0 < field) × (field < 255) }
-    ensures { IsTwoTo binary32 (field + 22) result }
-{
-    f32::from_bits((field as u32) << 23)
-}
 
 /// The digits shifted up until the top bit is set, and by how much.
 #[inline(always)]
@@ -32,65 +14,96 @@ fn normalized(digits: u64) -> (u64, u64)
     requires { 0 < digits }
     ensures shifted { result.0 ≡ digits * 2 ^ result.1 }
     ensures top { (2 ^ 63 ≤ result.0) × (result.1 ≤ 63) }
-    ensures few { 2 ^ 58 ≤ digits → result.1 ≤ 5 }
 {
     let zeros = digits.leading_zeros();
     (digits << zeros, zeros as u64)
 }
 
-/// The float nearest to all numbers from the digits to the digits and `more`, times
-/// 10 ^ (power - 288), if the product of 128 bits says which it is: both ends of its error round
-/// alike. The 63 leading bits are added by 31 and 32, which a float holds.
+/// The upper digits of a product, one more than a float has; the others, how much they lack of the
+/// next, and whether the product has its top bit.
 #[inline(always)]
-pub fn nearest_f64(digits: u64, more: u64, power: u64) -> Option<f64>
-    requires digits { 0 < digits }
-    requires more { (more ≤ 1) × (more * 2 ^ 58 ≤ digits) }
-    requires power { power < 577 }
-    ensures { IfSome result (λ x. (num den : ℕ) → 0 < den
-        → IsBetween num den digits (digits + more) power → x ≡ round binary64 false num den) }
+fn halves_of(high: u64, precision: u64) -> (u64, u64, u64, u64)
+    requires high { 2 ^ 62 ≤ high }
+    requires precision { (0 < precision) × (precision ≤ 53) }
+    ensures top { result.3 ≤ 1 }
+    ensures parts { high ≡ result.0 * 2 ^ (62 - precision + result.3) + result.1 }
+    ensures room { result.1 + result.2 ≡ 2 ^ (62 - precision + result.3) }
+    ensures many { 2 ^ precision ≤ result.0 }
+    ensures few { result.0 < 2 ^ (precision + 1) }
 {
-    let (shifted, zeros) = normalized(digits);
-    let high = ((shifted as u128 * row(power) as u128) >> 65) as u64;
-    let width = 2 + (more << zeros);
-    let field = scale(power) + 68 - zeros;
-    let unit = two_to_f64(field);
-    let upper = (high >> 32) as f64 * two_to_f64(field + 32);
-    let lower = high % (1 << 32);
-    let x = upper + lower as f64 * unit;
-    let y = upper + (lower + width) as f64 * unit;
-    if y <= x { Some(x) } else { None }
+    let top = high >> 63;
+    let drop = 62 - precision + top;
+    let halves = high >> drop;
+    let unit = 1 << drop;
+    let rest = high % unit;
+    (halves, rest, unit - rest, top)
 }
 
-/// [`nearest_f64`] of an `f32`, by 23 and 23 bits. Its powers of two end earlier than the table.
+/// How many units of the least float above 0, times 2 to a scale, are nearest to all numbers from
+/// the digits to the digits and `more`, times 10 ^ (power - 342), if the product of 128 bits says
+/// it. Its upper digits are kept, one more than the float has, so the last says half a unit. Where
+/// all these numbers are above what is kept, and below the next, that and an even last digit decide.
 #[inline(always)]
-pub fn nearest_f32(digits: u64, more: u64, power: u64) -> Option<f32>
+pub fn nearest_units(
+    digits: u64,
+    more: u64,
+    power: u64,
+    precision: u64,
+    least: u64,
+) -> Option<(u64, u64)>
     requires digits { 0 < digits }
-    requires more { (more ≤ 1) × (more * 2 ^ 58 ≤ digits) }
-    requires power { power < 577 }
-    ensures { IfSome result (λ x. (num den : ℕ) → 0 < den
-        → IsBetween num den digits (digits + more) power → x ≡ round binary32 false num den) }
+    requires more { more ≤ 1 }
+    requires power { power < 651 }
+    requires precision { (0 < precision) × (precision ≤ 53) }
+    requires least { (precision ≤ least) × (least ≤ 1074) }
+    ensures is { IfSome result (λ r. (f : Format) → prec f ≡ precision → low f ≡ least
+        → (num den : ℕ) → 0 < den → IsScaled num den digits (digits + more) power
+        → units f false r.0 r.1 ≡ round f false num den) }
+    ensures many { IfSome result (λ r. 2 ^ (precision - 1) ≤ r.0) }
+    ensures few { IfSome result (λ r. r.0 ≤ 2 ^ precision) }
 {
     let (shifted, zeros) = normalized(digits);
-    let scale = scale(power);
-    if scale < 812 + zeros || scale > 1020 + zeros {
+    let product = shifted as u128 * row(power) as u128;
+    let (halves, rest, room, top) = halves_of((product >> 64) as u64, precision);
+    let above = scale(power) + least + 126 + top;
+    let below = 1200 + precision + zeros;
+    // no subnormal and no infinite float: the least scale is 1, and the greatest this bound
+    let scale = above.wrapping_sub(below);
+    if scale >= 2 * (least + 2 - precision) - 1 {
         return None;
     }
-    let high = ((shifted as u128 * row(power) as u128) >> 82) as u64;
-    let field = scale - 811 - zeros;
-    let unit = two_to_f32(field);
-    let upper = (high >> 23) as f32 * two_to_f32(field + 23);
-    let lower = high % (1 << 23);
-    let x = upper + lower as f32 * unit;
-    let y = upper + (lower + 2) as f32 * unit;
-    if y <= x { Some(x) } else { None }
+    if room < 2 + (more << zeros) {
+        return None;
+    }
+    // in the middle between two floats, or just above it
+    if rest == 0 && halves % 2 == 1 && product % (1 << 64) == 0 {
+        return None;
+    }
+    Some(((halves + 1) / 2, scale + 1))
+}
+
+/// The float nearest to all numbers from the digits to the digits and `more`, times
+/// 10 ^ (power - 342), if one product tells.
+#[inline(always)]
+#[tactic(auto, using(crate::proofs::Units::low_few, crate::proofs::Units::prec_few))]
+fn nearest<F: Float>(digits: u64, more: u64, power: u64) -> Option<F>
+    requires digits { 0 < digits }
+    requires more { more ≤ 1 }
+    requires power { power < 651 }
+    ensures { IfSome result (λ x. (num den : ℕ) → 0 < den
+        → IsScaled num den digits (digits + more) power
+        → F.value x ≡ round F.format false num den) }
+{
+    let (count, scale) = nearest_units(digits, more, power, F::precision(), F::least())?;
+    Some(F::of_units(count, scale as u128))
 }
 
 /// The float nearest to all numbers from the digits to the digits and one, if any were cut off
 /// behind them, of which the last `places` follow the point, times ten to a power, if one product
 /// tells.
-#[inline(never)]
+#[inline(always)]
 #[tactic(auto, using(crate::proofs::Between::is_between, crate::proofs::Tens::ten_pos))]
-pub fn round_near<F: Float>(
+fn round_from<F: Float>(
     negative: bool,
     digits: u64,
     cut: u64,
@@ -98,6 +111,7 @@ pub fn round_near<F: Float>(
     down: bool,
     power: u64,
 ) -> Option<F>
+    requires digits { 0 < digits }
     requires cut { cut < 2 ^ 63 }
     requires places { places < 2 ^ 63 }
     requires power { power < 2 ^ 32 }
@@ -105,16 +119,57 @@ pub fn round_near<F: Float>(
         → F.value x ≡ round F.format negative
         (n * 10 ^ (if down then 0 else power)) (10 ^ (places + (if down then power else 0)))) }
 {
-    let (up, under) = if down { (0, power) } else { (power, 0) };
-    let above = cut + 288 + up;
-    let below = places + under;
-    if above < below || above - below >= 577 || digits == 0 {
+    let exponent = if down {
+        0u64.wrapping_sub(power)
+    } else {
+        power
+    };
+    // one test for both ends: what is below 0 wraps
+    let row = (cut + 342).wrapping_sub(places).wrapping_add(exponent);
+    if row >= 651 {
         return None;
     }
-    let more = cut.min(1);
-    if more << 58 > digits {
-        return None;
-    }
-    let x: F = F::nearest(digits, more, above - below)?;
+    let x: F = nearest(digits, cut.min(1), row)?;
     Some(signed(negative, x))
+}
+
+/// [`round_from`] of all digits of a number.
+#[inline(never)]
+pub fn round_near<F: Float>(
+    negative: bool,
+    digits: u64,
+    places: u64,
+    down: bool,
+    power: u64,
+) -> Option<F>
+    requires digits { 0 < digits }
+    requires places { places < 2 ^ 63 }
+    requires power { power < 2 ^ 32 }
+    ensures { IfSome result (λ x. (n : ℕ) → IsCutAt n digits 0
+        → F.value x ≡ round F.format negative
+        (n * 10 ^ (if down then 0 else power)) (10 ^ (places + (if down then power else 0)))) }
+{
+    round_from(negative, digits, 0, places, down, power)
+}
+
+/// [`round_from`] of digits behind which others were cut off.
+#[cold]
+#[inline(never)]
+pub fn round_cut<F: Float>(
+    negative: bool,
+    digits: u64,
+    cut: u64,
+    places: u64,
+    down: bool,
+    power: u64,
+) -> Option<F>
+    requires digits { 0 < digits }
+    requires cut { cut < 2 ^ 63 }
+    requires places { places < 2 ^ 63 }
+    requires power { power < 2 ^ 32 }
+    ensures { IfSome result (λ x. (n : ℕ) → IsCutAt n digits cut
+        → F.value x ≡ round F.format negative
+        (n * 10 ^ (if down then 0 else power)) (10 ^ (places + (if down then power else 0)))) }
+{
+    round_from(negative, digits, cut, places, down, power)
 }

@@ -5,11 +5,20 @@ ghost use Rattle.std.specs.Float.Ieee.{round};
 ghost use Rattle.std.specs.Str.Parse.{digits_value};
 ghost use Rattle.digit_floats.specs.Parts.{integer_of, fraction_of, IsMantissa};
 
-use super::exact::{round_exact, zero};
-use super::float::Float;
+use super::exact::round_exact;
+use super::float::{Float, signed};
 use super::long::round_digits;
-use super::near::round_near;
+use super::near::{round_cut, round_near};
 use super::parts::{Mantissa, Power};
+
+/// A zero with a sign, which a zero times any power of ten is.
+#[inline(always)]
+fn zero<F: Float>(negative: bool) -> F
+    ensures { (up down : ℕ) →
+        F.value result ≡ round F.format negative (0 * 10 ^ up) (10 ^ down) }
+{
+    signed(negative, F::of_units(0, 0))
+}
 
 /// The float nearest to the number that integer, fraction and exponent of a text make, with a sign.
 /// `mantissa` and `power` are what [`read_mantissa`](crate::read_mantissa) and
@@ -24,40 +33,32 @@ pub fn round_parts<F: Float>(text: &[u8], negative: bool, mantissa: Mantissa, po
 {
     // One multiplication or division decides digits and a power of ten that a float holds: up to
     // 2^53 (of an `f32` 2^24) and 10^22 (10^10). Otherwise one product of 64 bits with a power of
-    // ten decides; of random numbers with 16 digits and more it leaves 1 in 200 undecided, of `f32`
-    // 1 in 2,000, and also powers beyond its table. These go the long way, by a text for std.
+    // ten decides; of random numbers with 16 digits and more it leaves 1 in 400 undecided, and also
+    // powers beyond its table. These go the long way, by a text for std.
     let places = mantissa.places as u64;
     let cut = mantissa.dropped as u64;
-    let few = power.value <= 0xffff_ffff;
-    if few && cut == 0 {
-        let found = round_exact::<F>(
-            negative,
-            mantissa.value,
-            places,
-            power.negative,
-            power.value,
-        );
-        if let Some(x) = found {
-            return x;
+    let value = mantissa.value;
+    if power.value <= 0xffff_ffff {
+        if cut == 0 {
+            let exact = round_exact::<F>(negative, value, places, power.negative, power.value);
+            if let Some(x) = exact {
+                return x;
+            }
+            if value > 0 {
+                let near = round_near::<F>(negative, value, places, power.negative, power.value);
+                if let Some(x) = near {
+                    return x;
+                }
+            }
+        } else if value > 0 {
+            let near = round_cut::<F>(negative, value, cut, places, power.negative, power.value);
+            if let Some(x) = near {
+                return x;
+            }
         }
     }
-    if mantissa.value == 0 && cut == 0 {
-        if let Some(x) = zero::<F>(negative) {
-            return x;
-        }
-    }
-    if few {
-        let found = round_near::<F>(
-            negative,
-            mantissa.value,
-            cut,
-            places,
-            power.negative,
-            power.value,
-        );
-        if let Some(x) = found {
-            return x;
-        }
+    if value == 0 && cut == 0 {
+        return zero(negative);
     }
     round_digits::<F>(
         negative,

@@ -1,6 +1,5 @@
-use Rattle.std.proofs.Common.{◌≡◌, suc, ◌+◌, ◌*◌, ◌%◌, ◌^◌, ◌<◌, sym, ap, ◌∙◌, arith, mul-le-mul_right}
-use native.Mathlib.Nat.{lt_of_not-le}
-use lib.Pow.{pow_mono, pow-add, shl_exact}
+use Rattle.std.proofs.Common.{◌≡◌, suc, ◌+◌, ◌*◌, ◌%◌, ◌^◌, sym, ap, ◌∙◌, arith, mul-le-mul_right}
+use lib.Pow.{pow-add, shl_exact}
 use lib.Count.{leading_top, count_leading_zeros}
 use Rattle.digit_floats.proofs.near.normalized.Goals as goal
 
@@ -16,6 +15,4 @@ returns c =
     record {
       shifted = exact;
       top = (omega (arith, mul-le-mul_right (2 ^ z) t.2), omega arith);
-      few = λ h.
-          let l : 58 < suc t.0 = lt_of_not-le (λ g. omega (arith, pow_mono g, t.3)) in omega arith;
     }
