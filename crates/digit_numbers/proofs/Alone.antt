@@ -1,16 +1,15 @@
 -- A number without an exponent.
 use Rattle.std.proofs.Common.{◌≡◌, ℕ, zero, suc, ◌+◌, ◌*◌, ◌^◌, ◌<◌, Bool, true, false, List, [], ◌++◌, length, refl, arith}
-use Rattle.std.specs.Prelude.{◌&&◌, nat_lt, if◌then◌else◌}
+use Rattle.std.specs.Prelude.{nat_lt, if◌then◌else◌}
 use Rattle.std.specs.Float.{Format}
 use Rattle.std.specs.Float.Ieee.{round}
 use Rattle.std.specs.Float.Numeral.{Parts, nearest_float}
 use Rattle.std.specs.Str.Parse.{digits_value}
 use Rattle.std.proofs.lemmas.Bool.Decides.{nat_tests}
 use Rattle.std.proofs.lemmas.List.{nil_from_length}
-use Rattle.digit_floats.specs.Bytes.{stands, is_point, is_mark}
+use Rattle.digit_floats.specs.Bytes.{stands, is_point}
 use Rattle.digit_floats.specs.Hexadecimal.{nearest_hex}
-use Rattle.digit_floats.specs.Float.{fraction_digits, exponent_digits, digits_from, past_sign}
-use Rattle.lexical_digits.specs.declared.skip.component.Component.TheVariants.{Exponent}
+use Rattle.digit_floats.specs.Float.{fraction_digits}
 
 -- the exponent 0 changes nothing
 pub nearest_alone : (f : Format) (negative : Bool) (p : Parts) → digits_value 10 p.exponent ≡ 0
@@ -38,22 +37,12 @@ same_sign f negative digits places zero false true h = refl
 same_sign f negative digits places zero false false h = refl
 same_sign f negative digits places (suc n) a b h = rw (h (omega arith)) refl
 
-none : (ds : List ℕ) → length ds ≡ 0 → digits_value 10 ds ≡ 0
-none ds h = rw (nil_from_length ds h) refl
+pub no_length : (ds : List ℕ) → length ds ≡ 0 → digits_value 10 ds ≡ 0
+no_length ds h = rw (nil_from_length ds h) refl
 
--- a mark that no digit follows says 0
-pub no_exponent : (word : ℕ) (text : List ℕ) (mark at : ℕ)
-    → stands (is_mark mark) text at && nat_lt 0 (length (exponent_digits word text mark at)) ≡ false
-    → digits_value 10 (exponent_digits word text mark at) ≡ 0
-unfolding exponent_digits
-no_exponent word text mark at h = by (stands (is_mark mark) text at) h
-  where
-    by : (b : Bool)
-        → b && nat_lt 0 (length (if b then digits_from word text Exponent (past_sign text (at + 1)) else [])) ≡ false
-        → digits_value 10 (if b then digits_from word text Exponent (past_sign text (at + 1)) else []) ≡ 0
-    by true h =
-        none (digits_from word text Exponent (past_sign text (at + 1))) (grind (arith, nat_tests))
-    by false h = refl
+-- an exponent without digits says 0
+pub no_exponent : (ds : List ℕ) → nat_lt 0 (length ds) ≡ false → digits_value 10 ds ≡ 0
+no_exponent ds h = no_length ds (grind (arith, nat_tests))
 
 -- no fraction follows a byte that is no point
 pub no_fraction : (word : ℕ) (text : List ℕ) (point at : ℕ)

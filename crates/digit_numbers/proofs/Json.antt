@@ -1,10 +1,13 @@
 -- What is read by JSON is the longest number of RFC 8259.
 use Rattle.std.proofs.Common.{◌≡◌, ℕ, ◌+◌, ◌-◌, ◌^◌, ◌<◌, ◌≤◌, Bool, true, false, Option, Some}
 use Rattle.std.proofs.Common.{None, List, [], ◌∷◌, length, take, drop, refl, sym, subst, ◌∙◌, ◌⊎◌}
-use Rattle.std.proofs.Common.{inl, inr, arith, slice_get, slice_index, length-drop, zero, suc}
-use Rattle.std.specs.Prelude.{not, filter, get_or, ◌&&◌, ◌||◌, if◌then◌else◌, nat_lt, is_some, Err}
+use Rattle.std.proofs.Common.{inl, inr, arith, slice_get, slice_index, length-drop, zero, suc, ap}
+use Rattle.std.specs.Prelude.{not, filter, get_or, ◌&&◌, ◌||◌, ◌==◌, if◌then◌else◌, nat_lt, Result}
+use Rattle.std.specs.Prelude.{Ok, Err}
 use Rattle.std.specs.Char.{is_ascii_digit}
 use Rattle.std.specs.Float.{Float, Format}
+use Rattle.std.specs.Float.Numeral.{has_digits}
+use Rattle.std.specs.Str.Parse.{digits_value}
 use Rattle.std.proofs.lemmas.Bool.{cases_lt}
 use Rattle.std.proofs.lemmas.Bool.Decides.{nat_tests}
 use Rattle.std.proofs.lemmas.List.{get_or-drop}
@@ -20,35 +23,36 @@ use Rattle.lexical_digits.specs.State.{rule_of}
 use Rattle.lexical_digits.specs.Stop.{stop}
 use Rattle.lexical_digits.proofs.Calls.FirstOther.{stop_is_first}
 use Rattle.digit_literals.specs.After.{digits_between}
+use Rattle.digit_literals.specs.Integers.{first_over, integer_at, value_to}
+use Rattle.digit_literals.specs.declared.LiteralError.{LiteralError}
+use Rattle.digit_literals.specs.declared.LiteralError.TheVariants as integers
+use Rattle.digit_literals.specs.Numbers.{has_byte}
 use Rattle.digit_floats.specs.Bytes.{stands, is_point, is_minus, is_sign}
 use Rattle.digit_floats.proofs.Bytes.{stands_is, stands_within}
 use Rattle.digit_floats.proofs.Decimals.{same_digit}
 use Rattle.digit_floats.specs.Float as floats
 use Rattle.digit_floats.specs.Float.{digits_end, digits_from, fraction_digits, fraction_end}
 use Rattle.digit_floats.specs.Float.{mantissa_end, exponent_digits, exponent_end}
-use Rattle.digit_literals.specs.Integers.{integer_at, value_to}
-use Rattle.digit_literals.specs.declared.LiteralError.TheVariants.{Overflow}
-use Rattle.digit_literals.specs.Numbers.{has_byte}
 use Rattle.digit_languages.specs.declared.language.Language.{Language}
-use Rattle.digit_languages.specs.Literals.{has_prefix, prefix_word, plain_word, word_or, word_at}
-use Rattle.digit_languages.specs.Literals.{digits_at}
+use Rattle.digit_languages.specs.Literals.{has_prefix, prefix_word, plain_word, word_at, digits_at}
 use Rattle.digit_numbers.specs.declared.forms.TheConstants.{JSON}
 use Rattle.digit_numbers.specs.declared.number.Number.{Number}
 use Rattle.digit_numbers.specs.declared.number.Number.TheVariants as numbers
 use Rattle.digit_numbers.specs.declared.number.NumberError.{NumberError}
 use Rattle.digit_numbers.specs.declared.number.NumberError.TheVariants as errors
-use Rattle.std.specs.Str.Parse.{digits_value}
 use Rattle.digit_numbers.specs.Forms.{is_plus_of, unprefixed}
-use Rattle.digit_numbers.specs.Json.{is_e, is_zero, IsJsonInteger, IsJsonNumber, IsLongest}
-use Rattle.digit_numbers.specs.Numbers.{IsNumber, IsWholeFault, HasNone, IsFault, IsLarge}
-use Rattle.digit_numbers.specs.Numbers.{IsLargeAt, IsFloat, IsInteger, IsIntegerAt, HasNoIntegerAt}
-use Rattle.digit_numbers.specs.Numbers.{is_float, past_sign, has_sign, has_exponent, is_zero_alone}
-use Rattle.digit_numbers.specs.Numbers.{literal_end, literal_digits, language, special_here}
-use Rattle.digit_numbers.specs.Numbers.{hex_word_here, hex_word_at}
+use Rattle.digit_numbers.specs.Json.{is_e, is_zero, IsDigits, IsExp, IsFrac, IsJsonInteger}
+use Rattle.digit_numbers.specs.Json.{IsJsonNumber, IsLongest}
+use Rattle.digit_numbers.specs.Numbers.{Outcome, is_float, past_sign, has_sign, has_exponent}
+use Rattle.digit_numbers.specs.Numbers.{is_zero_alone, literal_end, literal_digits, language, parts}
+use Rattle.digit_numbers.specs.Numbers.{has_more_zeros, has_point, allows_point, mark_at, fraction}
+use Rattle.digit_numbers.specs.Numbers.{whole_digits, digits_stop, hex_word_at, magnitude_at}
+use Rattle.digit_numbers.specs.Numbers.{of_digits, float_here, integer_here, plain_at, number_of_at}
+use Rattle.digit_numbers.specs.Numbers.{to_end}
 use Rattle.digit_numbers.specs.Specials.{special_at}
+use Rattle.digit_numbers.proofs.Digits.{refused, counts_end, no_point, no_power, alone_stop, no_zeros}
 use Rattle.digit_numbers.proofs.JsonBytes.{IsRun, IsScan, minus_is, none, zero_alone, integer_is}
-use Rattle.digit_numbers.proofs.JsonBytes.{whole, float}
-use Rattle.digit_numbers.proofs.Large.{has_value, has_digits}
+use Rattle.digit_numbers.proofs.JsonBytes.{whole, float, int_digits, int_some}
 
 abbrev word : ℕ
 word = JSON.integers.decimal
@@ -61,6 +65,31 @@ none_past p text i l = by (stands p text i) refl
     by : (b : Bool) → stands p text i ≡ b → stands p text i ≡ false
     by true h = let m = stands_within p text i h in let f : ⊥ = omega (arith, l, m) in absurd f
     by false h = h
+
+-- a number ends within the text
+last_within : (text : List ℕ) (from to : ℕ) → IsDigits text from to → from < to
+    → to ≤ length text
+last_within text from to ds l =
+    let h = stands_within is_ascii_digit text (to - 1)
+    (ds.all (to - 1) (omega (arith, l)) (omega (arith, l))) in
+    omega (arith, h)
+
+json_within : (text : List ℕ) (start end : ℕ) → IsJsonNumber text start end → end ≤ length text
+json_within text start end n = by n.fraction n.exponent
+  where
+    by : (n.exp ≡ n.frac) ⊎ IsFrac text n.frac n.exp → (end ≡ n.exp) ⊎ IsExp text n.exp end
+        → end ≤ length text
+    by f (inr x) = last_within text x.first end x.digits x.some
+    by (inr f) (inl x) =
+        omega (arith, x, last_within text (n.frac + 1) n.exp f.digits f.some)
+    by (inl f) (inl x) =
+        omega (
+          arith,
+          x,
+          f,
+          last_within text n.int n.frac
+              (int_digits text n.int n.frac n.integer) (int_some text n.int n.frac n.integer),
+        )
 
 yes : (b : Bool) → not b ≡ false → b ≡ true
 yes true e = refl
@@ -167,6 +196,21 @@ more n l = grind (arith, nat_tests)
 no_more : (n : ℕ) → n ≡ 0 → nat_lt 0 n ≡ false
 no_more n l = grind (arith, nat_tests)
 
+is_none : (n : ℕ) → (n == 0) ≡ true → n ≡ 0
+is_none n e = grind (arith, nat_tests)
+
+is_some : (n : ℕ) → (n == 0) ≡ false → 0 < n
+is_some n e = grind (arith, nat_tests)
+
+is_less : (a b : ℕ) → nat_lt a b ≡ true → a < b
+is_less a b e = grind (arith, nat_tests)
+
+same_number : (a b : ℕ) → (a == b) ≡ true → a ≡ b
+same_number a b e = grind (arith, nat_tests)
+
+other_number : (a b : ℕ) → (a == b) ≡ false → a ≤ b → a < b
+other_number a b e l = grind (arith, nat_tests)
+
 zero_says : (n at w : ℕ) (z : Bool) → (nat_lt 0 n && (z && nat_lt (at + 1) w)) ≡ true
     → (z ≡ true) × (at + 1 < w)
 zero_says n at w z h = (grind (arith, nat_tests), grind (arith, nat_tests))
@@ -175,31 +219,19 @@ no_zero_says : (at w : ℕ) (z : Bool)
     → (nat_lt 0 (w - at) && (z && nat_lt (at + 1) w)) ≡ false → at < w → z ≡ true → w ≡ at + 1
 no_zero_says at w z h some e = grind (arith, nat_tests)
 
-module _ (nw nf ne at w : ℕ) (z p k : Bool) where
-  abbrev float_test : Bool
-  float_test =
-      nat_lt 0 (nw + nf) && not (z && nat_lt (at + 1) w)
-      && (if p then (nat_lt 0 nw || false) && (nat_lt 0 nf || false) else (k && nat_lt 0 ne))
+point_says : (nw nf : ℕ) (p : Bool)
+    → p && ((nat_lt 0 nw || false) && (nat_lt 0 nf || false)) ≡ true
+    → (p ≡ true) × (0 < nw) × (0 < nf)
+point_says nw nf p h = (grind (arith, nat_tests), grind (arith, nat_tests), grind (arith, nat_tests))
 
-  record SaysFloat : Type 0 where
-    zero : z ≡ true → w ≤ at + 1
-    point : p ≡ true → (0 < nw) × (0 < nf)
-    no_point : p ≡ false → (k ≡ true) × (0 < nw + nf) × (0 < ne)
+is_point_of : (nw nf : ℕ) (p : Bool) → p ≡ true → 0 < nw → 0 < nf
+    → p && ((nat_lt 0 nw || false) && (nat_lt 0 nf || false)) ≡ true
+is_point_of nw nf p h w f = grind (arith, nat_tests)
 
-  float_says : float_test ≡ true → SaysFloat
-  float_says h = record {
-    zero = λ e. grind (arith, nat_tests);
-    point = λ e. (grind (arith, nat_tests), grind (arith, nat_tests));
-    no_point = λ e. (grind (arith, nat_tests), grind (arith, nat_tests), grind (arith, nat_tests));
-  }
-
-  abbrev SaysNoFloat : Type 0
-  SaysNoFloat = 0 < nw → (z ≡ true → w ≤ at + 1)
-      → (p ≡ true → nf ≡ 0) × (p ≡ false → k ≡ true → ne ≡ 0)
-
-  no_float_says : float_test ≡ false → SaysNoFloat
-  no_float_says h some alone =
-      (λ e. grind (arith, nat_tests, alone), λ e m. grind (arith, nat_tests, alone))
+all_of : (a b c : Bool) → a && b && c ≡ true → (a ≡ true) × (b ≡ true) × (c ≡ true)
+all_of true true c h = (refl, refl, h)
+all_of true false c h = cc
+all_of false b c h = cc
 
 -- ---- of a text, from a start on
 
@@ -353,205 +385,272 @@ module _ (text : List ℕ) (start : ℕ) (l : start ≤ length text) where
 
   -- ---- a float
 
-  float_is : is_float JSON text at ≡ true
-      → SaysFloat (length (digits_from word text Integer at))
-      (length (fraction_digits word text 46 w)) (length (exponent_digits word text 101 m)) at w
-      (stands is_zero text at) (stands (is_point 46) text w) (stands is_e text m)
-  unfolding is_float
-  float_is h =
-      float_says (length (digits_from word text Integer at))
-      (length (fraction_digits word text 46 w)) (length (exponent_digits word text 101 m)) at w
-      (stands is_zero text at) (stands (is_point 46) text w) (stands is_e text m) h
+  abbrev p : Bool
+  p = stands (is_point 46) text w
 
-  no_float_is : is_float JSON text at ≡ false
-      → SaysNoFloat (length (digits_from word text Integer at))
-      (length (fraction_digits word text 46 w)) (length (exponent_digits word text 101 m)) at w
-      (stands is_zero text at) (stands (is_point 46) text w) (stands is_e text m)
+  -- digits before a point, if one is there, and after it
+  record SaysFloat : Type 0 where
+    zero : stands is_zero text at ≡ true → w ≡ at + 1
+    some : at < w
+    frac : p ≡ true → w + 1 < m
+    allows : p ≡ true → allows_point JSON text at ≡ true
+
+  float_says : is_float JSON text at ≡ true → SaysFloat
   unfolding is_float
-  no_float_is h =
-      no_float_says (length (digits_from word text Integer at))
-      (length (fraction_digits word text 46 w)) (length (exponent_digits word text 101 m)) at w
-      (stands is_zero text at) (stands (is_point 46) text w) (stands is_e text m) h
+  float_says h = by (has_point JSON text at) refl
+    where
+      all : (has_digits (parts JSON text at) ≡ true) × (not (has_more_zeros JSON text at) ≡ true)
+          × (has_point JSON text at || has_exponent JSON text at ≡ true)
+      all =
+          all_of (has_digits (parts JSON text at)) (not (has_more_zeros JSON text at))
+          (has_point JSON text at || has_exponent JSON text at) h
+
+      zero : at < w → stands is_zero text at ≡ true → w ≡ at + 1
+      zero some z = no_zero (stands is_zero text at) z all.1
+        where
+          no_zero : (z : Bool) → z ≡ true → not (z && nat_lt (at + 1) w) ≡ true → w ≡ at + 1
+          no_zero z e n = grind (arith, nat_tests, some)
+
+      by : (b : Bool) → has_point JSON text at ≡ b → SaysFloat
+      by true e =
+          let is = point_says (length (whole_digits JSON text at))
+          (length (fraction JSON text at)) p e in
+          let some : at < w = omega (arith, is.1, whole_count) in
+          record {
+            zero = zero some;
+            some = some;
+            frac = λ h. omega (arith, is.2, fraction_count h);
+            allows = λ h. grind (arith, e);
+          }
+      by false e =
+          let no : p ≡ true → ⊥ = λ h. grind (arith, refused JSON text at refl refl h, all.2, e) in
+          let some : at < w = grind (arith, nat_tests, all.0, e, whole_count) in
+          record {
+            zero = zero some;
+            some = some;
+            frac = λ h. absurd (no h);
+            allows = λ h. absurd (no h);
+          }
+
+  -- where an exponent ends, if there is one
+  abbrev stop_at : ℕ → ℕ
+  stop_at q = if nat_lt 0 (length (exponent_digits word text 101 q))
+      then exponent_end word text 101 q else q
+
+  abbrev Exp : ℕ → Type 0
+  Exp end = (stands is_e text m ≡ true) × (x < e) × (end ≡ e)
+      ⊎ (stands is_e text m ≡ true → x < e → ⊥) × (end ≡ m)
+
+  exp_at : Exp (stop_at m)
+  unfolding exponent_end exponent_digits
+  exp_at = by (stands is_e text m) refl
+    where
+      marked : stands is_e text m ≡ true → (x < e) ⊎ (e ≤ x) → Exp (stop_at m)
+      marked h (inl l) =
+          let n = length (exponent_digits word text 101 m) in
+          inl (h, l, rw (more n (omega (arith, exponent_count h, l)), h) refl)
+      marked h (inr l) =
+          let n = length (exponent_digits word text 101 m) in
+          inr (
+            λ y k. omega (arith, l, k),
+            rw (no_more n (omega (arith, exponent_count h, l))) refl,
+          )
+
+      by : (b : Bool) → stands is_e text m ≡ b → Exp (stop_at m)
+      by true h = marked h (cases_lt x e)
+      by false h = inr (λ y k. cc, rw h refl)
+
+  float_of : is_float JSON text at ≡ true → IsLongest text start (digits_stop JSON text at)
+  float_of h =
+      let is = float_says h in
+      let same : m ≡ mark_at JSON text at = counts_end JSON text at is.allows in
+      float text start at w m x e scan is.some is.zero (digits_stop JSON text at) is.frac
+      (subst Exp (ap stop_at same) exp_at)
 
   -- digits without a fraction and an exponent
   digits_alone : is_float JSON text at ≡ false → at < w
       → (stands is_zero text at ≡ true → w ≡ at + 1) → IsLongest text start w
   digits_alone h some alone =
-      let says = no_float_is h in
-      let is = says (omega (arith, whole_count, some)) (λ z. omega (arith, alone z)) in
       whole text start at w m x e scan some alone
-      (λ p l. let n = fraction_count p in omega (arith, is.0 p, n, l))
-      (λ p k l. let n = exponent_count k in omega (arith, is.1 p k, n, l))
-
-  exponent_is : stands is_e text m ≡ true → floats.number_end word text JSON.marks at ≡ e
-  unfolding exponent_end
-  exponent_is h = rw h refl
-
-  float_end : (end : ℕ)
-      → end
-      ≡ (if has_exponent JSON text at then floats.number_end word text JSON.marks at else m)
-      → (stands is_e text m ≡ true) × (x < e) × (end ≡ e)
-      ⊎ (stands is_e text m ≡ true → x < e → ⊥) × (end ≡ m)
-  float_end end is = by (stands is_e text m) refl
+      (λ e l. absurd (point e l))
+      (λ e k l. absurd (power e k l))
     where
-      marked : stands is_e text m ≡ true → (x < e) ⊎ (e ≤ x)
-          → (stands is_e text m ≡ true) × (x < e) × (end ≡ e)
-          ⊎ (stands is_e text m ≡ true → x < e → ⊥) × (end ≡ m)
-      marked h (inl l) =
-          let n = length (exponent_digits word text 101 m) in
-          let some = more n (omega (arith, exponent_count h, l)) in
-          inl (h, l, is ∙ rw (h, some) (exponent_is h))
-      marked h (inr l) =
-          let n = length (exponent_digits word text 101 m) in
-          let none = no_more n (omega (arith, exponent_count h, l)) in
-          inr (λ y k. omega (arith, l, k), is ∙ rw (h, none) refl)
+      few : has_more_zeros JSON text at ≡ false
+      few = no_zero (stands is_zero text at) alone
+        where
+          no_zero : (z : Bool) → (z ≡ true → w ≡ at + 1) → z && nat_lt (at + 1) w ≡ false
+          no_zero true l = let n = l refl in grind (arith, nat_tests, n)
+          no_zero false l = refl
 
-      by : (b : Bool) → stands is_e text m ≡ b
-          → (stands is_e text m ≡ true) × (x < e) × (end ≡ e)
-          ⊎ (stands is_e text m ≡ true → x < e → ⊥) × (end ≡ m)
-      by true h = marked h (cases_lt x e)
-      by false h = inr (λ y k. cc, is ∙ rw h refl)
+      digits : 0 < length (whole_digits JSON text at)
+      digits = omega (arith, whole_count, some)
 
-  some_of : is_float JSON text at ≡ true → at < w
-  some_of h = by (stands (is_point 46) text w) refl
-    where
-      by : (b : Bool) → stands (is_point 46) text w ≡ b → at < w
-      by true p = omega (arith, ((float_is h).point p).0, whole_count)
-      by false p =
-          omega (arith, ((float_is h).no_point p).1, whole_count, no_fraction_count p)
+      point : p ≡ true → w + 1 < m → ⊥
+      point e l =
+          let n = fraction_count e in
+          let yes = is_point_of (length (whole_digits JSON text at))
+          (length (fraction JSON text at)) p e digits (omega (arith, n, l)) in
+          let no = no_point JSON text at h few digits in
+          cc (yes, no)
 
-  large_some : (over : ℕ)
-      → integer_at (rule_of word Integer) text at (2 ^ 128 - 1) ≡ Err (Overflow over) → at < w
-  unfolding digits_end
-  large_some over h =
-      omega (
-        arith,
-        has_digits (rule_of word Integer) text at (2 ^ 128 - 1) over h,
-        count (rule_of word Integer) text refl refl at at_within,
-      )
-
-  w_is : stop (rule_of word Integer) text at 0 ≡ w
-  unfolding digits_end
-  w_is = refl
-
-  large_here : (over : ℕ)
-      → integer_at (rule_of (word_at JSON.integers text at) Integer) text
-      (digits_at JSON.integers text at) (2 ^ 128 - 1)
-      ≡ Err (Overflow over)
-      → integer_at (rule_of word Integer) text at (2 ^ 128 - 1) ≡ Err (Overflow over)
-  large_here over h =
-      by (prefix_word JSON.integers text at) (plain_word JSON.integers text at) no_prefix plain_is h
-    where
-      by : (p : Option ℕ) (plain : ℕ) → p ≡ None → plain ≡ word
-          → integer_at (rule_of (word_or p plain) Integer) text
-          (if is_some p then at + 2 else at) (2 ^ 128 - 1)
-          ≡ Err (Overflow over)
-          → integer_at (rule_of word Integer) text at (2 ^ 128 - 1) ≡ Err (Overflow over)
-      by None plain e f h =
-          subst
-          (λ (v : ℕ).
-          integer_at (rule_of v Integer) text at (2 ^ 128 - 1) ≡ Err (Overflow over)) f h
-      by (Some v) plain e f h = cc
+      power : p ≡ false → stands is_e text m ≡ true → x < e → ⊥
+      power e k l =
+          let n = exponent_count k in
+          let same : m ≡ mark_at JSON text at = counts_end JSON text at (λ q. cc) in
+          let yes = more (length (exponent_digits word text 101 m)) (omega (arith, n, l)) in
+          let no = no_power JSON text at h few digits in
+          let there : nat_lt 0 (length (exponent_digits word text 101 m)) ≡ false = rw same no in
+          cc (yes, there)
 
   -- ---- the law
 
-  is_first : (b : Bool) → true && not b ≡ false → b ≡ true
-  is_first true h = refl
-  is_first false h = cc
+  -- what the outcome says of the text
+  abbrev pub Says : Outcome → Type 0
+  Says (Ok (numbers.Integer negative magnitude said, end)) =
+      IsLongest text start end × IsJsonInteger text start end
+  Says (Ok (numbers.Float x, end)) = IsLongest text start end
+  Says (Err error) = (end : ℕ) → IsJsonNumber text start end → ⊥
 
-  -- a number is never too large
-  no_large : (over : ℕ) → IsLarge JSON text start over → ⊥
-  no_large over h =
-      let i = subst (λ (q : Language). IsLargeAt q text at over) language_is h.large in
-      let z = is_first (stands is_zero text at) h.exact in
-      let large = large_here over i.large in
-      let end = not_alone i.zero (large_some over large) z in
-      let value = has_value (rule_of word Integer) text at (2 ^ 128 - 1) over large in
-      let stops = stop (rule_of word Integer) text at 0 in
-      let none = zero_value (rule_of word Integer) text at stops refl z (w_is ∙ end) in
-      omega (arith, value, none)
+  module _ (format : Format) where
+    abbrev of_integer : Result (ℕ × ℕ × ℕ) NumberError → Outcome
+    of_integer = integer_here JSON text start format
 
-  none_at : (stops end : ℕ) → HasNone JSON text start stops → IsJsonNumber text start end → ⊥
-  none_at stops end h n =
-      let i = subst (λ (q : Language). HasNoIntegerAt q text at) language_is (h.no_integer refl) in
-      let same : at ≡ w = omega (arith, i.none, literal_count, whole_run.digits.onward) in
-      none text start at w m x e scan same end n
+    -- the digits here are an integer, if they are no float
+    module _ (h : is_float JSON text at ≡ false)
+        (z : is_zero_alone JSON.integers text at ≡ false) where
+      abbrev r : Rule
+      r = rule_of word Integer
 
-  pub none_of : (error : NumberError) (end : ℕ) → IsFault JSON text start error
-      → IsJsonNumber text start end → ⊥
-  none_of (errors.Empty stops) end h n = none_at stops end h.digits n
-  none_of (errors.Overflow over) end h n = no_large over h.digits
-  none_of (errors.Invalid _) end h n = h.digits
+      w_is : stop r text at 0 ≡ w
+      unfolding digits_end
+      w_is = refl
 
-  pub integer_of : (negative : Bool) (magnitude said end : ℕ)
-      → IsInteger JSON text start negative magnitude said end
-      → IsLongest text start end × IsJsonInteger text start end
-  integer_of negative magnitude said end h = by (is_zero_alone JSON.integers text at) refl
-    where
-      i : IsIntegerAt JSON.integers text at magnitude said end
-      i = subst (λ (q : Language). IsIntegerAt q text at magnitude said end) language_is h.integer
+      large : at < w → 2 ^ 128 - 1 < value_to r text at (stop r text at 0) → (over : ℕ)
+          → Says (of_integer (Err (errors.Overflow over)))
+      large some value over = by (has_byte text at 48) refl
+        where
+          by : (b : Bool) → has_byte text at 48 ≡ b
+              → Says (if true && not b then float_here JSON text start format
+              else Err (errors.Overflow over))
+          by true e =
+              let end = not_alone z some e in
+              let none = zero_value r text at (stop r text at 0) refl e (w_is ∙ end) in
+              absurd (omega (arith, value, none))
+          by false e =
+              let digits : 0 < length (whole_digits JSON text at) =
+              omega (arith, whole_count, some) in
+              rw (alone_stop JSON text at h (no_zeros JSON text at e) digits)
+              (digits_alone h some (λ q. cc (q, e)))
 
-      by : (b : Bool) → is_zero_alone JSON.integers text at ≡ b
-          → IsLongest text start end × IsJsonInteger text start end
-      by true k =
-          let z = alone k in
-          let same : end ≡ at + 1 = i.ends ∙ rw k refl in
-          rw same (
-            zero_alone text start at w m x e scan z.0 z.1,
+      abbrev digits : List ℕ
+      digits = digits_between r text at (stop r text at 0)
+
+      abbrev value : ℕ
+      value = value_to r text at (stop r text at 0)
+
+      digits_count : length digits ≡ w - at
+      unfolding digits_end
+      digits_count = count (rule_of word Integer) text refl refl at at_within
+
+      outcome : (none over : Bool) → (length digits == 0) ≡ none → nat_lt (2 ^ 128 - 1) value ≡ over
+          → Says (of_integer (of_digits JSON.integers text at
+          (if none then Err (integers.Empty (stop r text at 0)) else
+          if over then Err (integers.Overflow (first_over r text at (2 ^ 128 - 1))) else
+          Ok (value, stop r text at 0))))
+      unfolding digits_end
+      outcome true over n k =
+          λ end j.
+          let same : at ≡ w = omega (
+            arith,
+            is_none (length digits) n,
+            digits_count,
+            whole_run.digits.onward,
+          ) in
+          none text start at w m x e scan same end j
+      outcome false true n k =
+          large (omega (arith, is_some (length digits) n, digits_count))
+          (is_less (2 ^ 128 - 1) value k)
+          (first_over r text at (2 ^ 128 - 1))
+      outcome false false n k =
+          let some : at < w = omega (arith, is_some (length digits) n, digits_count) in (
+            digits_alone h some (not_alone z some),
             record {
               int = at;
               minus = minus_is text start at w m x e scan;
-              integer = inl (z.0, refl);
-            },
-          )
-      by false k =
-          let some : at < w = omega (arith, i.some k, literal_count) in
-          let same : end ≡ w = i.ends ∙ rw k end_is in
-          rw same (
-            digits_alone h.no_float some (not_alone k some),
-            record {
-              int = at;
-              minus = minus_is text start at w m x e scan;
-              integer = integer_is text start at w m x e scan some (not_alone k some);
+              integer = integer_is text start at w m x e scan some (not_alone z some);
             },
           )
 
-  pub float_of : (f : Format) (v : Float) (end : ℕ) → IsFloat JSON text start f v end
-      → IsLongest text start end
-  float_of f v end h = by (is_float JSON text at) refl
-    where
-      by : (b : Bool) → is_float JSON text at ≡ b → IsLongest text start end
-      by true k =
-          let some = some_of k in
-          float text start at w m x e scan some (λ z. omega (arith, some, (float_is k).zero z)) end
-          (λ p. omega (arith, ((float_is k).point p).1, fraction_count p))
-          (float_end end (h.pointed k).ends)
-      by false k =
-          let r = h.whole k in
-          let large = r.large refl in
-          let first = large.first in
-          rw r.ends (digits_alone k (large_some large.over large.large) (λ z. cc))
+    integer_says : is_float JSON text at ≡ false
+        → Says (of_integer (magnitude_at JSON.integers text at))
+    unfolding magnitude_at integer_at
+    integer_says h = by (is_zero_alone JSON.integers text at) refl
+      where
+        here : integer_at (rule_of (word_at JSON.integers text at) Integer) text
+            (digits_at JSON.integers text at) (2 ^ 128 - 1)
+            ≡ integer_at (rule_of word Integer) text at (2 ^ 128 - 1)
+        here = rw (no_prefix, plain_is) refl
 
-  no_special : special_here JSON text start ≡ None
-  unfolding special_at
-  no_special = refl
+        by : (b : Bool) → is_zero_alone JSON.integers text at ≡ b
+            → Says (of_integer (if b then Ok (0, word, at + 1) else
+            of_digits JSON.integers text at
+            (integer_at (rule_of (word_at JSON.integers text at) Integer) text
+            (digits_at JSON.integers text at) (2 ^ 128 - 1))))
+        by true k =
+            let z = alone k in (
+              zero_alone text start at w m x e scan z.0 z.1,
+              record {
+                int = at;
+                minus = minus_is text start at w m x e scan;
+                integer = inl (z.0, refl);
+              },
+            )
+        by false k =
+            subst
+            (λ (o : Result (ℕ × ℕ) LiteralError).
+            Says (of_integer (of_digits JSON.integers text at o))) (sym here)
+            (outcome h k _ _ refl refl)
 
-  no_hex : hex_word_here JSON text start ≡ None
-  unfolding hex_word_at
-  no_hex = refl
+    pub says : Says (number_of_at JSON text start format)
+    unfolding number_of_at plain_at special_at hex_word_at
+    says = by (is_float JSON text at) refl
+      where
+        by : (b : Bool) → is_float JSON text at ≡ b
+            → Says (if b then float_here JSON text start format else
+            of_integer (magnitude_at (language JSON text start) text at))
+        by true h = float_of h
+        by false h =
+            subst (λ (l : Language). Says (of_integer (magnitude_at l text at))) (sym language_is)
+            (integer_says h)
 
-  pub number_of : {T : Type 0} (format : Format) (value : T → Float) (n : Number T) (end : ℕ)
-      → IsNumber JSON text start format value n end → IsLongest text start end
-  number_of format value (numbers.Integer negative magnitude said) end h =
-      (integer_of negative magnitude said end (h.digits no_special no_hex)).0
-  number_of format value (numbers.Float x) end h =
-      float_of format (value x) end (h.digits no_special no_hex)
+    -- the same of a text that is to be one number
+    abbrev pub SaysWhole : Result (Number Float) NumberError → Type 0
+    SaysWhole (Ok number) = IsJsonNumber text start (length text)
+    SaysWhole (Err error) = IsJsonNumber text start (length text) → ⊥
 
-  pub none_of_whole : {T : Type 0} (format : Format) (value : T → Float) (error : NumberError)
-      → IsWholeFault JSON text start format value error
-      → IsJsonNumber text start (length text) → ⊥
-  none_of_whole format value (errors.Empty stops) h n = none_at stops (length text) h.digits n
-  none_of_whole format value (errors.Overflow over) h n = no_large over h.digits
-  none_of_whole format value (errors.Invalid end) h n =
-      let l = (number_of format value h.number end h.is).longest (length text) n in
-      omega (arith, l, h.before_end)
+    pub says_whole : SaysWhole (to_end text (number_of_at JSON text start format))
+    says_whole = by (number_of_at JSON text start format) says
+      where
+        ends : (n : Number Float) (end : ℕ) (b : Bool) → (end == length text) ≡ b
+            → IsLongest text start end
+            → SaysWhole (if b then Ok n else Err (errors.Invalid end))
+        ends n end true e l =
+            subst (λ (q : ℕ). IsJsonNumber text start q) (same_number end (length text) e) l.is
+        ends n end false e l =
+            λ j. omega (
+              arith,
+              other_number end (length text) e (json_within text start end l.is),
+              l.longest (length text) j,
+            )
+
+        by : (o : Outcome) → Says o → SaysWhole (to_end text o)
+        by (Ok (numbers.Integer negative magnitude said, end)) l =
+            ends (numbers.Integer negative magnitude said) end (end == length text) refl l.0
+        by (Ok (numbers.Float x, end)) l =
+            ends (numbers.Float x) end (end == length text) refl l
+        by (Err error) none = none (length text)
+
+    pub number_of : (n : Number Float) (end : ℕ)
+        → number_of_at JSON text start format ≡ Ok (n, end) → IsLongest text start end
+    number_of (numbers.Integer negative magnitude said) end h = (subst Says h says).0
+    number_of (numbers.Float x) end h = subst Says h says

@@ -84,7 +84,7 @@ module _ (text : List ℕ) where
   int_first from to (inl h) = into is_zero is_ascii_digit text from digit_of_zero h.0
   int_first from to (inr h) = into is_digit1_9 is_ascii_digit text from digit_of_nine h.0
 
-  int_some : (from to : ℕ) → IsInt text from to → from < to
+  pub int_some : (from to : ℕ) → IsInt text from to → from < to
   int_some from to (inl h) = omega (arith, h.1)
   int_some from to (inr h) = omega (arith, h.1.onward)
 
@@ -99,7 +99,7 @@ module _ (text : List ℕ) where
       by (inl e) (inl h) = let f : ⊥ = omega (arith, e, m, h.1) in absurd f
       by (inl e) (inr h) = h.1.all at (omega (arith, e)) m
 
-  int_digits : (from to : ℕ) → IsInt text from to → IsDigits text from to
+  pub int_digits : (from to : ℕ) → IsInt text from to → IsDigits text from to
   int_digits from to h = record {
     onward = omega (arith, int_some from to h);
     all = λ at l m. int_all from to at h l m;

@@ -1,6 +1,6 @@
 -- When an integer is the `0` at its start alone.
-use Rattle.std.proofs.Common.{◌≡◌, ℕ, ◌+◌, ◌-◌, ◌^◌, ◌<◌, Bool, true, false, List, length, refl, arith}
-use Rattle.std.specs.Prelude.{Err, is_some, Option, Some, None, slice_get, ◌==◌, ◌&&◌, ◌||◌, if◌then◌else◌}
+use Rattle.std.proofs.Common.{◌≡◌, ℕ, ◌+◌, ◌-◌, ◌^◌, ◌<◌, Bool, true, false, List, length, refl, sym, subst, ◌∙◌, ap, arith}
+use Rattle.std.specs.Prelude.{Result, Ok, Err, is_some, Option, Some, None, slice_get, ◌==◌, ◌&&◌, ◌||◌, if◌then◌else◌}
 use Rattle.std.specs.Char.{is_ascii_alphabetic}
 use Rattle.lexical_digits.specs.Cursor.{holds_of}
 use Rattle.std.proofs.lemmas.Bool.Decides.{nat_tests}
@@ -10,10 +10,13 @@ use Rattle.digit_languages.specs.declared.language.FirstZero.TheVariants.{Zeros}
 use Rattle.lexical_digits.specs.declared.skip.component.Component.TheVariants.{Integer}
 use Rattle.lexical_digits.specs.State.{rule_of}
 use Rattle.digit_literals.specs.Integers.{integer_at}
-use Rattle.digit_literals.specs.declared.LiteralError.TheVariants.{Overflow}
+use Rattle.digit_literals.specs.declared.LiteralError.{LiteralError}
+use Rattle.digit_literals.specs.declared.LiteralError.TheVariants.{Empty, Overflow}
+use Rattle.digit_numbers.specs.declared.number.NumberError.TheVariants as errors
 use Rattle.digit_literals.specs.Numbers.{has_byte}
 use Rattle.digit_numbers.proofs.Large.{has_value, has_digits}
 use Rattle.digit_numbers.specs.Numbers.{literal_digits, literal_value, literal_end, is_zero_alone}
+use Rattle.digit_numbers.specs.Numbers.{magnitude_at, of_digits}
 
 -- another byte than a letter is no letter of a prefix
 no_letter : (text : List ℕ) (at letter : ℕ)
@@ -89,6 +92,37 @@ module _ (l : Language) (text : List ℕ) (at : ℕ) where
   pub refuses_more : (value end : ℕ) → l.first_zero ≡ Zeros → has_byte text at 48 ≡ true → 0 < value
       → refuses l text at value end ≡ true
   refuses_more value end z first some = rw (first, z) (grind (arith, nat_tests))
+
+-- digits that begin with another byte than `0` are decimal
+module _ (l : Language) (text : List ℕ) (at over : ℕ) (other : has_byte text at 48 ≡ false) where
+  of_large : (o : Result (ℕ × ℕ) LiteralError)
+      → of_digits l text at o ≡ Err (errors.Overflow over) → o ≡ Err (Overflow over)
+  of_large (Ok r) h = cc
+  of_large (Err (Empty e)) h = cc
+  of_large (Err (Overflow o)) h = cc h
+
+  not_alone : is_zero_alone l text at ≡ false
+  unfolding is_zero_alone
+  not_alone = rw other (grind (arith, nat_tests))
+
+  pub large_plain : (word : ℕ) → l.decimal ≡ word
+      → magnitude_at l text at ≡ Err (errors.Overflow over)
+      → integer_at (rule_of word Integer) text at (2 ^ 128 - 1) ≡ Err (Overflow over)
+  unfolding magnitude_at
+  large_plain word same h =
+      let plain : word_at l text at ≡ word = rw other same in
+      let here : digits_at l text at ≡ at = rw other refl in
+      let digits = of_large
+      (integer_at (rule_of (word_at l text at) Integer) text (digits_at l text at) (2 ^ 128 - 1))
+      (ap (λ b. if b then Ok (0, l.decimal, at + 1) else of_digits l text at
+      (integer_at (rule_of (word_at l text at) Integer) text (digits_at l text at) (2 ^ 128 - 1)))
+      (sym not_alone) ∙ h) in
+      subst
+      (λ (v : ℕ). integer_at (rule_of v Integer) text at (2 ^ 128 - 1) ≡ Err (Overflow over)) plain
+      (subst
+      (λ (p : ℕ).
+      integer_at (rule_of (word_at l text at) Integer) text p (2 ^ 128 - 1)
+      ≡ Err (Overflow over)) here digits)
 
 pub ruleset zeros = (after_prefix, bare_prefix, refused, allowed, no_digit)
 

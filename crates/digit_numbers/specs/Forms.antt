@@ -1,6 +1,9 @@
 -- What a form says.
-use Rattle.std.specs.Prelude.{ℕ, Bool, true, false, ◌==◌, ◌||◌, nat_le, None, ◌≡◌, IfSome}
-use Rattle.std.specs.Char.{is_ascii_alphabetic}
+use Rattle.std.specs.Prelude.{ℕ, Bool, true, false, not, ◌==◌, ◌&&◌, ◌||◌, nat_le, None, ◌≡◌, IfSome}
+use Rattle.std.specs.Char.{is_ascii_alphabetic, is_ascii_alphanumeric}
+use Rattle.lexical_format.specs.Word.{separator}
+use Rattle.digit_floats.specs.Bytes.{is_mark, is_sign}
+use Rattle.digit_floats.specs.declared.parts.Marks.{Marks}
 use Rattle.digit_floats.specs.Float.{IsDecimal}
 use Rattle.digit_floats.specs.Hexadecimal.{IsHexadecimal}
 use Rattle.digit_languages.specs.Words.{IsLanguage}
@@ -35,11 +38,21 @@ is_always_hex hex.Exponent = false
 is_always_hex hex.PointOrExponent = false
 is_always_hex hex.Always = true
 
+-- whether the point is no letter, digit, sign or separator, and the exponent's mark is a letter that
+-- is no separator
+abbrev pub are_apart : Marks → ℕ → Bool
+are_apart marks separator =
+    is_ascii_alphabetic marks.exponent && not (is_mark marks.exponent separator)
+    && not (is_ascii_alphanumeric marks.point) && not (is_sign marks.point)
+    && not (marks.point == separator)
+
 -- Its words are supported. Its floats are decimal, or in hexadecimal digits with a decimal exponent.
+-- No byte of a number has two meanings.
 pub record IsForm (f : Form) : Type 0 where
   pub language : IsLanguage f.integers
   pub decimal : IsDecimal f.integers.decimal
   pub hexadecimal : has_hex f.hex_floats ≡ true → IfSome f.integers.hexadecimal IsHexadecimal
+  pub marks : are_apart f.marks (separator f.integers.decimal) ≡ true
 
 -- whether a byte is a sign that a number may have
 abbrev pub is_minus_of : Signs → ℕ → Bool

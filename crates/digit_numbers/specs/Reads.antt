@@ -1,10 +1,10 @@
 -- Of functions that no caller sees: the digits of a number that were read. No public clause uses
 -- these words.
-use Rattle.std.specs.Prelude.{◌≡◌, ℕ, ◌+◌, ◌-◌, ◌^◌, min, ◌<◌, ◌≤◌, true, false, if◌then◌else◌, List, [], length, is_some, IsTrue}
+use Rattle.std.specs.Prelude.{◌≡◌, ℕ, ◌+◌, ◌-◌, ◌^◌, min, ◌<◌, ◌≤◌, true, false, List, [], length, is_some, IsTrue}
 use Rattle.std.specs.Float.Numeral.{Parts}
 use Rattle.std.specs.Str.Parse.{digits_value}
 use Rattle.lexical_digits.specs.declared.skip.component.Component.TheVariants.{Integer}
-use Rattle.digit_floats.specs.Float.{IsDecimal, digits_from, digits_end, fraction_digits, mantissa_end, exponent_digits, exponent_negative, number_end}
+use Rattle.digit_floats.specs.Float.{IsDecimal, digits_from, digits_end, fraction_digits, mantissa_end}
 use Rattle.digit_floats.specs.Parts.{integer_of, fraction_of, IsMantissa}
 use Rattle.digit_floats.specs.Hexadecimal.{IsHexMantissa, hex_integer_of, hex_fraction_of}
 use Rattle.digit_floats.specs.declared.hexadecimal.HexMantissa.{HexMantissa}
@@ -16,7 +16,7 @@ use Rattle.digit_languages.specs.Literals.{prefix_word, word_at, digits_at}
 use Rattle.digit_numbers.specs.declared.form.Form.{Form}
 use Rattle.digit_numbers.specs.declared.integer.Head.{Head}
 use Rattle.digit_numbers.specs.declared.number.Sign.{Sign}
-use Rattle.digit_numbers.specs.Numbers.{has_sign, is_negative, past_sign, is_float, has_exponent, mark_at}
+use Rattle.digit_numbers.specs.Numbers.{has_sign, is_negative, past_sign, is_float, fraction, exponent, parts, digits_stop}
 
 -- a mantissa is that of a form at its start
 pub record IsMantissaAt (f : Form) (text : List ℕ) (m : Mantissa) : Type 0 where
@@ -54,22 +54,15 @@ whole_of word text at = record {
   len = digits_end word text Integer at - at;
 }
 
--- a power is that of the float at a position, or 0 if it has no exponent
+-- a power is that of the float at a position, or 0 if it has no exponent; and a point counts there,
+-- if one stands
 pub record IsPowerAt (f : Form) (text : List ℕ) (at : ℕ) (p : Power) : Type 0 where
   pub is : is_float f text at ≡ true
-  pub value : p.value
-      ≡ min
-      (digits_value 10
-      (exponent_digits f.integers.decimal text f.marks.exponent (mark_at f text at)))
-      (2 ^ 64 - 1)
-  pub negative : 0
-      < digits_value 10
-      (exponent_digits f.integers.decimal text f.marks.exponent (mark_at f text at))
-      → p.negative
-      ≡ exponent_negative f.integers.decimal text f.marks.exponent (mark_at f text at)
-  pub ends : p.end
-      ≡ (if has_exponent f text at
-      then number_end f.integers.decimal text f.marks at else mark_at f text at)
+  pub fraction : fraction f text at ≡ (parts f text at).fraction
+  pub value : p.value ≡ min (digits_value 10 (exponent f text at)) (2 ^ 64 - 1)
+  pub negative : 0 < digits_value 10 (exponent f text at)
+      → p.negative ≡ (parts f text at).exponent_negative
+  pub ends : p.end ≡ digits_stop f text at
 
 -- a sign is that of a form at a start
 pub record IsSign (f : Form) (text : List ℕ) (start : ℕ) (sign : Sign) : Type 0 where

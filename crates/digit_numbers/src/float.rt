@@ -11,10 +11,10 @@ ghost use Rattle.lexical_digits.specs.State.{rule_of};
 ghost use Rattle.digit_literals.specs.Integers.{integer_at};
 ghost use Rattle.digit_literals.specs.declared.LiteralError.TheVariants.{Overflow};
 ghost use Rattle.digit_floats.specs.Bytes.{stands, is_point, is_mark};
-ghost use Rattle.digit_floats.specs.Float.{IsDecimal, digits_from, digits_end, exponent_digits, exponent_end, exponent_negative, parts_at};
+ghost use Rattle.digit_floats.specs.Float.{IsDecimal, digits_from, digits_end, exponent_digits, exponent_end, exponent_negative};
 ghost use Rattle.digit_floats.specs.Parts.{integer_of, fraction_of, IsMantissa};
 ghost use Rattle.digit_numbers.specs.Forms.{IsForm, is_barred};
-ghost use Rattle.digit_numbers.specs.Numbers.{allows_point, has_exponent, has_more_zeros, is_float, IsFloatAt};
+ghost use Rattle.digit_numbers.specs.Numbers.{allows_point, digits_stop, exponent, fraction, has_exponent, has_more_zeros, has_point, is_float, mark_at, parts, whole_end};
 ghost use Rattle.digit_numbers.specs.Reads.{IsMantissaAt, IsWholeOf, IsPowerAt, whole_of};
 
 use super::form::Form;
@@ -68,7 +68,7 @@ fn allows_point(text: &[u8], form: Form, mantissa: Mantissa) -> bool
 
 /// Whether more digits follow a first `0`, which the form refuses.
 #[inline(always)]
-fn has_more_zeros(text: &[u8], form: Form, mantissa: Mantissa) -> bool
+pub fn has_more_zeros(text: &[u8], form: Form, mantissa: Mantissa) -> bool
     requires is { IsMantissaAt form text.now mantissa }
     ensures { result ≡ has_more_zeros form text.now mantissa.start }
 {
@@ -95,18 +95,18 @@ fn read_exponent_apart(text: &[u8], word: u128, at: usize, mark: u8) -> Result<P
 
 /// The exponent after a mantissa, if there is one.
 #[inline(always)]
+#[tactic(auto, unfolding(digit_floats::specs::Float::exponents))]
 fn read_power(text: &[u8], form: Form, mantissa: Mantissa) -> Option<Power>
     requires form { IsForm form }
     requires is { IsMantissaAt form text.now mantissa }
+    requires mark { mantissa.end ≡ mark_at form text.now mantissa.start }
     ensures is { MatchOption result (has_exponent form text.now mantissa.start ≡ false)
         (λ p. has_exponent form text.now mantissa.start ≡ true) }
-    ensures value { IfSome result (λ p. p.value ≡ min (digits_value 10
-        (exponent_digits form.integers.decimal text.now form.marks.exponent mantissa.end))
-        (2 ^ 64 - 1)) }
+    ensures value { IfSome result (λ p. p.value
+        ≡ min (digits_value 10 (exponent form text.now mantissa.start)) (2 ^ 64 - 1)) }
     ensures negative { IfSome result (λ p. p.negative
-        ≡ exponent_negative form.integers.decimal text.now form.marks.exponent mantissa.end) }
-    ensures end { IfSome result (λ p. p.end
-        ≡ exponent_end form.integers.decimal text.now form.marks.exponent mantissa.end) }
+        ≡ (parts form text.now mantissa.start).exponent_negative) }
+    ensures end { IfSome result (λ p. p.end ≡ digits_stop form text.now mantissa.start) }
     ensures within { IfSome result (λ p. (mantissa.end ≤ p.end) × (p.end ≤ length text.now)) }
 {
     if !has_mark(text, mantissa.end, form.marks.exponent) {
@@ -127,6 +127,9 @@ fn read_power(text: &[u8], form: Form, mantissa: Mantissa) -> Option<Power>
 fn no_power(text: &[u8], form: Form, mantissa: Mantissa) -> Power
     requires is { IsMantissaAt form text.now mantissa }
     requires float { is_float form text.now mantissa.start ≡ true }
+    requires mark { mantissa.end ≡ mark_at form text.now mantissa.start }
+    requires fraction { fraction form text.now mantissa.start
+        ≡ (parts form text.now mantissa.start).fraction }
     requires none { has_exponent form text.now mantissa.start ≡ false }
     ensures is { IsPowerAt form text.now mantissa.start result }
     ensures end { result.end ≡ mantissa.end }
@@ -141,7 +144,7 @@ fn no_power(text: &[u8], form: Form, mantissa: Mantissa) -> Power
 /// The exponent of the float that a mantissa begins, or 0 if it has none. `None` if it begins no
 /// float.
 #[inline(always)]
-#[tactic(auto, unfolding(crate::specs::Numbers::is_float))]
+#[tactic(auto, using(crate::proofs::Digits::floats))]
 fn float_power(text: &[u8], form: Form, mantissa: Mantissa) -> Option<Power>
     requires form { IsForm form }
     requires is { IsMantissaAt form text.now mantissa }
@@ -176,7 +179,10 @@ pub fn read_float<F: Float>(
     requires form { IsForm form }
     requires is { IsMantissaAt form text.now mantissa }
     ensures is { MatchOption result (is_float form text.now mantissa.start ≡ false)
-        (λ r. IsFloatAt form text.now mantissa.start negative F.format (F.value r.0) r.1) }
+        (λ r. is_float form text.now mantissa.start ≡ true) }
+    ensures value { IfSome result (λ r. F.value r.0
+        ≡ nearest_float F.format negative (parts form text.now mantissa.start)) }
+    ensures ends { IfSome result (λ r. r.1 ≡ digits_stop form text.now mantissa.start) }
     ensures number { IfSome result (λ r. NotNan (F.value r.0)) }
     ensures end { IfSome result (λ r. (mantissa.start < r.1) × (r.1 ≤ length text.now)) }
 {
@@ -199,7 +205,7 @@ fn round_at<F: Float>(
     requires is { IsMantissaAt form text.now mantissa }
     requires power { IsPowerAt form text.now mantissa.start power }
     ensures value { F.value result ≡ nearest_float F.format negative
-        (parts_at form.integers.decimal text.now form.marks mantissa.start) }
+        (parts form text.now mantissa.start) }
     ensures number { NotNan (F.value result) }
 {
     round_parts::<F>(text, negative, mantissa, power)
@@ -251,6 +257,27 @@ fn whole_of(text: &[u8], word: u128, mantissa: Mantissa) -> Mantissa
     read_mantissa(text, word, mantissa.start, other)
 }
 
+/// The zero that a first `0` is by itself.
+#[cold]
+#[tactic(auto, using(digit_floats::proofs::Numbers::round_number, crate::proofs::Few::zero))]
+pub fn zero_alone<F: Float>(text: &[u8], negative: bool, at: usize) -> F
+    requires { at ≤ length text.now }
+    ensures value { F.value result ≡ round F.format negative 0 1 }
+    ensures number { NotNan (F.value result) }
+{
+    let none = Mantissa {
+        value: 0,
+        digits: 0,
+        places: 0,
+        dropped: 0,
+        start: at,
+        whole_end: at,
+        fraction_start: at,
+        end: at,
+    };
+    round_alone::<F>(text, negative, none)
+}
+
 /// The float that digits are by themselves, in code of its own.
 #[inline(never)]
 #[tactic(auto, using(digit_floats::proofs::Numbers::round_number, crate::proofs::Alone::alone))]
@@ -269,7 +296,7 @@ pub fn round_whole<F: Float>(text: &[u8], word: u128, negative: bool, mantissa: 
 /// the caller need be in memory.
 #[cold]
 #[inline(never)]
-#[tactic(auto, using(crate::proofs::Large::has_digits), unfolding(digit_floats::specs::Float::components))]
+#[tactic(auto, using(crate::proofs::Large::has_digits, crate::proofs::Large::large_some), unfolding(digit_floats::specs::Float::components))]
 pub fn read_large<F: Float>(
     text: &[u8],
     word: u128,
@@ -284,6 +311,7 @@ pub fn read_large<F: Float>(
         ≡ Err (Overflow over) }
     ensures value { F.value result.0 ≡ nearest_float F.format negative (whole_of word text.now at) }
     ensures number { NotNan (F.value result.0) }
+    ensures some { 0 < length (digits_from word text.now Integer at) }
     ensures ends { result.1 ≡ digits_end word text.now Integer at }
     ensures onward { at < result.1 }
     ensures within { result.1 ≤ length text.now }

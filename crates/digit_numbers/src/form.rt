@@ -2,7 +2,7 @@
 
 ghost use Rattle.std.specs.Prelude.{◌≡◌, IsTrue, IfSome, if◌then◌else◌, true};
 ghost use Rattle.digit_floats.specs.Hexadecimal.{IsHexadecimal};
-ghost use Rattle.digit_numbers.specs.Forms.{IsForm, is_minus_of, is_plus_of, is_barred};
+ghost use Rattle.digit_numbers.specs.Forms.{IsForm, are_apart, is_minus_of, is_plus_of, is_barred};
 ghost use Rattle.digit_numbers.specs.Forms.{begins_name, is_always_float, may_be_float};
 ghost use Rattle.digit_numbers.specs.Forms.{has_hex, is_pointed_hex, is_always_hex};
 
@@ -21,7 +21,8 @@ pub struct Form {
     pub signed_prefix: bool,
     /// What digits without a point and an exponent are.
     pub whole: Whole,
-    /// The byte of the point, and the letter of the exponent.
+    /// The byte of the point, and the letter of the exponent. They are no other part of a number:
+    /// see [`is_form`].
     pub marks: Marks,
     /// Whether a point needs a digit before it.
     pub needs_integer: bool,
@@ -29,7 +30,8 @@ pub struct Form {
     pub needs_fraction: bool,
     /// What may not follow a point that no digit follows.
     pub after_point: AfterPoint,
-    /// Whether more digits may follow the first `0` of a float.
+    /// Whether more digits, or separators, may follow the first `0` of a float. Otherwise that `0`
+    /// is a number by itself.
     pub float_zeros: bool,
     /// The values that have a name, such as `inf`, if there are any.
     pub specials: Option<Specials>,
@@ -240,8 +242,25 @@ fn serves_hex(form: Form) -> bool
     }
 }
 
-/// Whether the words of a form are supported, and its floats are decimal, or hexadecimal with a
-/// decimal exponent, as [`read_number_of`](crate::read_number_of) requires.
+/// Whether the point is no letter, digit, sign or separator, and the exponent's mark is a letter
+/// that is no separator.
+#[inline(always)]
+fn are_apart(marks: Marks, separator: u8) -> bool
+    ensures { result ≡ are_apart marks separator }
+{
+    marks.exponent.is_ascii_alphabetic()
+        && separator != marks.exponent
+        && separator != marks.exponent.to_ascii_uppercase()
+        && !marks.point.is_ascii_alphanumeric()
+        && marks.point != b'+'
+        && marks.point != b'-'
+        && marks.point != separator
+}
+
+/// Whether the words of a form are supported, its floats are decimal, or hexadecimal with a decimal
+/// exponent, and its marks are no other part of a number, as
+/// [`read_number_of`](crate::read_number_of) requires: the point is no letter, digit, sign or
+/// separator, and the exponent's mark is a letter that is no separator.
 #[inline(always)]
 pub fn is_form(form: Form) -> bool
     ensures is { IsTrue result → IsForm form }
@@ -252,4 +271,5 @@ pub fn is_form(form: Form) -> bool
         && format.mantissa_radix() == 10
         && format.exponent_radix() == 10
         && serves_hex(form)
+        && are_apart(form.marks, format.digit_separator())
 }

@@ -2,15 +2,13 @@
 
 ghost use Rattle.std.specs.Prelude.{◌≡◌, ◌+◌, ◌-◌, ◌<◌, ◌≤◌, length, false, true, Some, None, is_some, ℕ, IsTrue, IfSome, MatchOption};
 ghost use Rattle.std.specs.Float.{NotNan};
-ghost use Rattle.std.specs.Str.Parse.{digits_value};
 ghost use Rattle.lexical_format.specs.Word.{is_supported};
-ghost use Rattle.digit_floats.specs.Float.{exponent_digits, exponent_end, exponent_negative};
 ghost use Rattle.digit_floats.specs.Parts.{IsPower, exponent_of};
-ghost use Rattle.digit_floats.specs.Hexadecimal.{IsHexadecimal, hex_float_at};
+ghost use Rattle.digit_floats.specs.Hexadecimal.{IsHexadecimal};
 ghost use Rattle.digit_languages.specs.Words.{IsLanguage};
 ghost use Rattle.digit_languages.specs.Literals.{prefix_word};
 ghost use Rattle.digit_numbers.specs.Forms.{IsForm, has_hex, hex_form, with_hex_only};
-ghost use Rattle.digit_numbers.specs.Numbers.{allows_point, has_exponent, hex_end, hex_word_at, is_hex_float, mark_at};
+ghost use Rattle.digit_numbers.specs.Numbers.{allows_point, digits_stop, exponent, fraction, has_exponent, hex_stop, hex_value, hex_word_at, is_hex_float, mark_at, parts};
 ghost use Rattle.digit_numbers.specs.Reads.{IsHexAt};
 
 use super::float::{has_barred, has_byte, has_mark};
@@ -60,19 +58,22 @@ fn allows_point(text: &[u8], form: Form, word: u128, mantissa: HexMantissa) -> b
 
 /// The exponent after a mantissa, if there is one.
 #[inline(always)]
+#[tactic(auto, unfolding(digit_floats::specs::Float::exponents))]
 fn read_power(text: &[u8], form: Form, word: u128, mantissa: HexMantissa) -> Option<Power>
     requires supported { IsTrue (is_supported word) }
     requires hexadecimal { IsHexadecimal word }
     requires is { IsHexAt form word text.now mantissa }
+    requires mark { mantissa.end ≡ mark_at (hex_form form word) text.now mantissa.start }
     ensures is { MatchOption result
         (has_exponent (hex_form form word) text.now mantissa.start ≡ false)
         (λ p. has_exponent (hex_form form word) text.now mantissa.start ≡ true) }
     ensures power { IfSome result (IsPower text.now mantissa.end) }
-    ensures digits { IfSome result (λ p.
-        exponent_of text.now mantissa.end p ≡ exponent_digits word text.now 112 mantissa.end) }
-    ensures negative { IfSome result (λ p.
-        p.negative ≡ exponent_negative word text.now 112 mantissa.end) }
-    ensures end { IfSome result (λ p. p.end ≡ exponent_end word text.now 112 mantissa.end) }
+    ensures digits { IfSome result (λ p. exponent_of text.now mantissa.end p
+        ≡ exponent (hex_form form word) text.now mantissa.start) }
+    ensures negative { IfSome result (λ p. p.negative
+        ≡ (parts (hex_form form word) text.now mantissa.start).exponent_negative) }
+    ensures end { IfSome result (λ p.
+        p.end ≡ digits_stop (hex_form form word) text.now mantissa.start) }
     ensures within { IfSome result (λ p. (mantissa.end ≤ p.end) × (p.end ≤ length text.now)) }
 {
     if !has_mark(text, mantissa.end, b'p') {
@@ -93,8 +94,10 @@ fn round_alone<F: Float>(
 ) -> F
     requires is { IsHexAt form word text.now mantissa }
     requires none { has_exponent (hex_form form word) text.now mantissa.start ≡ false }
+    requires fraction { let h = hex_form form word in fraction h text.now mantissa.start
+        ≡ (parts h text.now mantissa.start).fraction }
     ensures value { F.value result
-        ≡ hex_float_at word text.now (hex_form form word).marks F.format negative mantissa.start }
+        ≡ hex_value form word text.now mantissa.start F.format negative }
     ensures number { NotNan (F.value result) }
 {
     let power = Power {
@@ -108,7 +111,7 @@ fn round_alone<F: Float>(
 /// The float of hexadecimal digits at a position, after a prefix, and where it ends, if there is
 /// one.
 #[inline(always)]
-#[tactic(auto, unfolding(crate::specs::Numbers::is_hex_float))]
+#[tactic(auto, using(crate::proofs::Digits::hexes))]
 fn read_digits<F: Float>(
     text: &[u8],
     form: Form,
@@ -122,9 +125,9 @@ fn read_digits<F: Float>(
     requires within { at ≤ length text.now }
     ensures is { MatchOption result (is_hex_float form word text.now at ≡ false)
         (λ r. is_hex_float form word text.now at ≡ true) }
-    ensures value { IfSome result (λ r. F.value r.0
-        ≡ hex_float_at word text.now (hex_form form word).marks F.format negative at) }
-    ensures ends { IfSome result (λ r. r.1 ≡ hex_end form word text.now at) }
+    ensures value { IfSome result (λ r.
+        F.value r.0 ≡ hex_value form word text.now at F.format negative) }
+    ensures ends { IfSome result (λ r. r.1 ≡ hex_stop form word text.now at) }
     ensures number { IfSome result (λ r. NotNan (F.value r.0)) }
     ensures within { IfSome result (λ r. (at < r.1) × (r.1 ≤ length text.now)) }
 {
@@ -166,9 +169,9 @@ pub fn read_hex<F: Float>(
     ensures is { MatchOption result (hex_word_at form language text.now at ≡ None)
         (λ r. is_some (hex_word_at form language text.now at) ≡ true) }
     ensures reads { IfSome result (λ r. (word : ℕ) →
-        hex_word_at form language text.now at ≡ Some word → (F.value r.0
-        ≡ hex_float_at word text.now (hex_form form word).marks F.format negative (at + 2))
-        × (r.1 ≡ hex_end form word text.now (at + 2))) }
+        hex_word_at form language text.now at ≡ Some word →
+        (F.value r.0 ≡ hex_value form word text.now (at + 2) F.format negative)
+        × (r.1 ≡ hex_stop form word text.now (at + 2))) }
     ensures number { IfSome result (λ r. NotNan (F.value r.0)) }
     ensures within { IfSome result (λ r. (at < r.1) × (r.1 ≤ length text.now)) }
 {

@@ -1,6 +1,6 @@
 // The longest integer of a language at a position.
 
-ghost use Rattle.std.specs.Prelude.{◌≡◌, Err, ◌+◌, ◌-◌, ◌^◌, ◌≤◌, ◌<◌, true, length, IfOk, IfErr, IfSome, IsTrue, slice_get};
+ghost use Rattle.std.specs.Prelude.{◌≡◌, Ok, Err, MatchResult, ◌+◌, ◌-◌, ◌^◌, ◌≤◌, ◌<◌, true, length, IfOk, IfErr, IfSome, IsTrue, slice_get};
 ghost use Rattle.std.specs.Char.{is_ascii_alphabetic};
 ghost use Rattle.lexical_digits.specs.Cursor.{holds_of};
 ghost use Rattle.lexical_digits.specs.declared.skip.component.Component.TheVariants.{Integer};
@@ -13,7 +13,7 @@ ghost use Rattle.digit_literals.specs.Numbers.{has_byte};
 ghost use Rattle.digit_languages.specs.Words.{IsLanguage};
 ghost use Rattle.digit_languages.specs.Literals.{prefix_word, word_at, digits_at, refuses};
 ghost use Rattle.digit_numbers.specs.Forms.{unprefixed};
-ghost use Rattle.digit_numbers.specs.Numbers.{IsIntegerAt, IsNoIntegerAt, literal_value, literal_end, literal_digits};
+ghost use Rattle.digit_numbers.specs.Numbers.{magnitude_at, literal_value, literal_end, literal_digits};
 ghost use Rattle.digit_numbers.specs.Reads.{IsHead, IsPlain, IsWholeOf};
 
 use super::number::NumberError;
@@ -156,6 +156,7 @@ fn refuses_large(language: Language, text: &[u8], at: usize, head: Head, over: u
 fn read_value(text: &[u8], word: u128, start: usize) -> Result<(u128, usize), LiteralError>
     requires supported { IsTrue (is_supported word) }
     requires within { start ≤ length text.now }
+    ensures is { result ≡ integer_at (rule_of word Integer) text.now start (2 ^ 128 - 1) }
     ensures ok { IfOk result (λ r.
         IsIntegerFrom (rule_of word Integer) text.now start (2 ^ 128 - 1) r.0 r.1) }
     ensures empty { IfEmpty result (HasNoDigitFrom (rule_of word Integer) text.now start) }
@@ -173,12 +174,13 @@ fn read_value(text: &[u8], word: u128, start: usize) -> Result<(u128, usize), Li
 /// The longest integer of a language at a position. Where no digit follows a prefix, or the
 /// language refuses the first `0` of more digits, it is that `0`. In code of its own.
 #[inline(never)]
-#[tactic(auto, using(crate::proofs::Zeros::zeros))]
+#[tactic(auto, using(crate::proofs::Zeros::zeros), unfolding(crate::specs::Numbers::magnitude_at))]
 pub fn read_integer(text: &[u8], language: Language, at: usize) -> Result<Magnitude, NumberError>
     requires language { IsLanguage language }
     requires within { at ≤ length text.now }
-    ensures ok { IfOk result (λ r. IsIntegerAt language text.now at r.value r.word r.end) }
-    ensures none { IfErr result (IsNoIntegerAt language text.now at) }
+    ensures is { MatchResult result
+        (λ r. magnitude_at language text.now at ≡ Ok (r.value, r.word, r.end))
+        (λ error. magnitude_at language text.now at ≡ Err error) }
     ensures end { IfOk result (λ r. (at < r.end) × (r.end ≤ length text.now)) }
 {
     let head = read_head(text, language, at);
@@ -243,11 +245,11 @@ fn read_decimal(text: &[u8], word: u128, mantissa: Mantissa) -> Option<(u128, us
 /// The longest integer of a language whose decimal digits were read as a mantissa: if it has no
 /// prefix, and at most 19 significant digits.
 #[inline(always)]
-#[tactic(auto, using(crate::proofs::Zeros::zeros))]
+#[tactic(auto, using(crate::proofs::Zeros::zeros, crate::proofs::Few::integer_is), unfolding(crate::specs::Numbers::magnitude_at))]
 pub fn read_few(text: &[u8], language: Language, mantissa: Mantissa) -> Option<Magnitude>
     requires is { IsWholeOf language.decimal text.now mantissa }
     ensures is { let at = mantissa.start in
-        IfSome result (λ r. IsIntegerAt language text.now at r.value r.word r.end) }
+        IfSome result (λ r. magnitude_at language text.now at ≡ Ok (r.value, r.word, r.end)) }
     ensures end { let at = mantissa.start in
         IfSome result (λ r. (at < r.end) × (r.end ≤ length text.now)) }
 {

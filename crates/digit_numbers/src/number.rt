@@ -1,20 +1,20 @@
 //! The number at a position.
 
 ghost use Rattle.std.specs.Prelude.{◌≡◌, ◌+◌, ◌<◌, ◌≤◌, ◌&&◌, not, if◌then◌else◌, Some, None};
-ghost use Rattle.std.specs.Prelude.{length, true, false, IfOk, IfErr, IfSome, MatchOption};
+ghost use Rattle.std.specs.Prelude.{length, true, false, Ok, Err, IfOk, IfSome, MatchOption, MatchResult};
 ghost use Rattle.std.specs.Prelude.{ℕ, is_some};
 ghost use Rattle.std.specs.Float.{NotNan};
 ghost use Rattle.digit_numbers.specs.Forms.{IsForm, has_hex, hex_form, is_always_float, unprefixed};
-ghost use Rattle.digit_floats.specs.Hexadecimal.{IsHexadecimal, hex_float_at};
+ghost use Rattle.digit_floats.specs.Hexadecimal.{IsHexadecimal};
 ghost use Rattle.digit_numbers.specs.declared.number.Number.TheVariants.{Integer};
-ghost use Rattle.digit_numbers.specs.Numbers.{past_sign, is_negative, is_float, special_here, hex_word_here, hex_word_at, hex_end};
-ghost use Rattle.digit_numbers.specs.Numbers.{IsNumber, IsPlainNumber, IsPlainFault, IsNoNan};
-ghost use Rattle.digit_numbers.specs.Numbers.{IsFault, IsWholeFault, position, message};
+ghost use Rattle.digit_numbers.specs.Numbers.{past_sign, is_negative, is_float, special_here, hex_word_at, hex_value, hex_stop};
+ghost use Rattle.digit_numbers.specs.Numbers.{plain_at, number_of_at, to_end, with_value, IsNoNan};
+ghost use Rattle.digit_numbers.specs.Numbers.{position, message};
 ghost use Rattle.digit_languages.specs.Words.{IsLanguage};
 ghost use Rattle.digit_numbers.specs.Reads.{IsMantissaAt, IsSign};
 ghost use Rattle.digit_numbers.specs.Specials.{special_at, special_float, name_end};
 
-use super::float::{read_float, read_large, round_whole};
+use super::float::{has_more_zeros, read_float, read_large, round_whole, zero_alone};
 use super::form::{Form, Special};
 use super::hexadecimal::read_hex;
 use super::integer::{Magnitude, is_zero, read_few, read_integer, unprefixed};
@@ -141,6 +141,7 @@ fn read_digits(text: &[u8], form: Form, at: usize) -> Mantissa
 
 /// The number that digits are without a point and an exponent.
 #[inline(always)]
+#[tactic(auto, using(crate::proofs::Digits::wholes), unfolding(crate::specs::Numbers::plain_at))]
 fn read_whole<F: Float>(
     text: &[u8],
     start: usize,
@@ -154,12 +155,17 @@ fn read_whole<F: Float>(
     requires digits { IsMantissaAt form text.now mantissa }
     requires start { mantissa.start ≡ sign.end }
     requires no_float { is_float form text.now sign.end ≡ false }
-    ensures ok { IfOk result (λ r. IsPlainNumber form text.now start F.format F.value r.0 r.1) }
-    ensures none { IfErr result (IsPlainFault form text.now start) }
+    ensures is { MatchResult result
+        (λ r. plain_at form text.now start F.format ≡ Ok (with_value F.value r.0, r.1))
+        (λ error. plain_at form text.now start F.format ≡ Err error) }
     ensures no_nan { IfOk result (λ r. IsNoNan F.value r.0) }
     ensures end { IfOk result (λ r. (start < r.1) × (r.1 ≤ length text.now)) }
 {
     if form.whole.is_float() {
+        if has_more_zeros(text, form, mantissa) {
+            let zero = zero_alone::<F>(text, sign.is_minus, sign.end);
+            return Ok((Number::Float(zero), sign.end + 1));
+        }
         if mantissa.digits == mantissa.places {
             return Err(NumberError::Empty(sign.end));
         }
@@ -188,6 +194,7 @@ fn integer_of<F: Float>(sign: Sign, read: Magnitude) -> Number<F>
 /// The number that digits are without a point and an exponent, if they aren't always a float: any
 /// integer of the language.
 #[inline(always)]
+#[tactic(auto, using(crate::proofs::Digits::wholes), unfolding(crate::specs::Numbers::plain_at))]
 fn read_other<F: Float>(
     text: &[u8],
     start: usize,
@@ -199,8 +206,9 @@ fn read_other<F: Float>(
     requires sign { IsSign form text.now start sign }
     requires exact { is_always_float form.whole ≡ false }
     requires no_float { is_float form text.now sign.end ≡ false }
-    ensures ok { IfOk result (λ r. IsPlainNumber form text.now start F.format F.value r.0 r.1) }
-    ensures none { IfErr result (IsPlainFault form text.now start) }
+    ensures is { MatchResult result
+        (λ r. plain_at form text.now start F.format ≡ Ok (with_value F.value r.0, r.1))
+        (λ error. plain_at form text.now start F.format ≡ Err error) }
     ensures no_nan { IfOk result (λ r. IsNoNan F.value r.0) }
     ensures end { IfOk result (λ r. (start < r.1) × (r.1 ≤ length text.now)) }
 {
@@ -250,9 +258,9 @@ fn hex_of<F: Float>(
     ensures is { MatchOption result (hex_word_at form language text.now at ≡ None)
         (λ r. is_some (hex_word_at form language text.now at) ≡ true) }
     ensures reads { IfSome result (λ r. (word : ℕ) →
-        hex_word_at form language text.now at ≡ Some word → (F.value r.0
-        ≡ hex_float_at word text.now (hex_form form word).marks F.format negative (at + 2))
-        × (r.1 ≡ hex_end form word text.now (at + 2))) }
+        hex_word_at form language text.now at ≡ Some word →
+        (F.value r.0 ≡ hex_value form word text.now (at + 2) F.format negative)
+        × (r.1 ≡ hex_stop form word text.now (at + 2))) }
     ensures number { IfSome result (λ r. NotNan (F.value r.0)) }
     ensures within { IfSome result (λ r. (at < r.1) × (r.1 ≤ length text.now)) }
 {
@@ -264,6 +272,7 @@ fn hex_of<F: Float>(
 
 /// The integer or decimal float that begins at a start, and the position after it.
 #[inline(always)]
+#[tactic(auto, using(crate::proofs::Digits::wholes), unfolding(crate::specs::Numbers::plain_at))]
 fn read_plain<F: Float>(
     text: &[u8],
     start: usize,
@@ -273,8 +282,9 @@ fn read_plain<F: Float>(
     requires within { start ≤ length text.now }
     requires form { IsForm form }
     requires sign { IsSign form text.now start sign }
-    ensures ok { IfOk result (λ r. IsPlainNumber form text.now start F.format F.value r.0 r.1) }
-    ensures none { IfErr result (IsPlainFault form text.now start) }
+    ensures is { MatchResult result
+        (λ r. plain_at form text.now start F.format ≡ Ok (with_value F.value r.0, r.1))
+        (λ error. plain_at form text.now start F.format ≡ Err error) }
     ensures no_nan { IfOk result (λ r. IsNoNan F.value r.0) }
     ensures end { IfOk result (λ r. (start < r.1) × (r.1 ≤ length text.now)) }
 {
@@ -287,17 +297,18 @@ fn read_plain<F: Float>(
 
 /// The number of a form that begins at `start`, and the position after it. After any sign it is
 /// the form's special value there, if there is one, or a hexadecimal float. Otherwise it is the
-/// longest prefix of the rest of the text that is an integer or a decimal float. Only an integer
-/// that the language refuses for its first zeros is the first `0`, although more zeros may be a
+/// longest prefix of the rest of the text that is an integer or a decimal float. Only where more
+/// digits follow a first `0` that may not be there, it is that `0`, although more zeros may be a
 /// number: `001` of Python is `0`, and ends at 1. A point or an exponent that is no part of a number
 /// ends it: `1.` and `1e` of JSON are `1`. Requires that `start` is within the text, and that the
-/// form's words serve ([`is_form`](crate::is_form)).
+/// form is one ([`is_form`](crate::is_form)).
 ///
 /// ```text
 /// of JSON, `-1.5e3,`: Float(-1500.0), 6      `01`: Integer 0, 1      `.5`: Err(Empty(0))
 /// of TOML, `-inf,`: Float(-inf), 4
 /// ```
 #[inline(always)]
+#[tactic(auto, unfolding(crate::specs::Numbers::number_of_at))]
 pub fn read_number_of<F: Float>(
     text: &[u8],
     start: usize,
@@ -305,8 +316,9 @@ pub fn read_number_of<F: Float>(
 ) -> Result<(Number<F>, usize), NumberError>
     requires within { start ≤ length text.now }
     requires form { IsForm form }
-    ensures ok { IfOk result (λ r. IsNumber form text.now start F.format F.value r.0 r.1) }
-    ensures none { IfErr result (IsFault form text.now start) }
+    ensures is { MatchResult result
+        (λ r. number_of_at form text.now start F.format ≡ Ok (with_value F.value r.0, r.1))
+        (λ error. number_of_at form text.now start F.format ≡ Err error) }
     ensures no_nan { special_here form text.now start ≡ None →
         IfOk result (λ r. IsNoNan F.value r.0) }
     ensures end { IfOk result (λ r. (start < r.1) × (r.1 ≤ length text.now)) }
@@ -327,8 +339,9 @@ pub fn read_number_of<F: Float>(
 #[inline(always)]
 pub fn parse_number_of<F: Float>(text: &[u8], form: Form) -> Result<Number<F>, NumberError>
     requires { IsForm form }
-    ensures ok { IfOk result (λ n. IsNumber form text.now 0 F.format F.value n (length text.now)) }
-    ensures none { IfErr result (IsWholeFault form text.now 0 F.format F.value) }
+    ensures is { let read = to_end text.now (number_of_at form text.now 0 F.format) in
+        MatchResult result (λ n. read ≡ Ok (with_value F.value n)) (λ error. read ≡ Err error) }
+    ensures no_nan { special_here form text.now 0 ≡ None → IfOk result (IsNoNan F.value) }
 {
     let (number, end) = read_number_of::<F>(text, 0, form)?;
     if end < text.len() {

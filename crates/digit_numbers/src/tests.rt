@@ -10,9 +10,10 @@ use super::forms::{
 };
 use super::names::{ANY_CASE, LOWER_CASE};
 use super::{
-    Form, Number, NumberError, Special, SpecialValue, Specials, is_form, parse_number_of,
+    Form, Number, NumberError, Special, SpecialValue, Specials, Whole, is_form, parse_number_of,
     read_number_of,
 };
+use digit_floats::Marks;
 use digit_languages::Language;
 use lexical_format::SPECIAL_DIGIT_SEPARATOR;
 use lexical_format::words::PYTHON_LITERAL;
@@ -481,6 +482,51 @@ fn separators_in_a_name_are_those_of_the_special_flag(rt: HostRuntime) {
         (b"1_", Int(false, 1), 1),
     ];
     assert_ends(&rt, flagged, &with);
+}
+
+/// The same of JSON's grammar where each number is a float.
+static JSON_FLOAT_ENDS: [(&[u8], Value, usize); 9] = [
+    (b"0", Real(0.0), 1),
+    (b"10", Real(10.0), 2),
+    (b"0.5", Real(0.5), 3),
+    (b"00", Real(0.0), 1),
+    (b"007", Real(0.0), 1),
+    (b"-01", Real(-0.0), 2),
+    (b"00.5", Real(0.0), 1),
+    (b"01e5", Real(0.0), 1),
+    (b"-", Fault(NumberError::Empty(1)), 0),
+];
+
+#[test]
+#[tactic(auto, unfolding(lexical_format::proofs::OnLiterals::lexical_on_literals))]
+fn a_first_zero_is_alone_of_floats_too(rt: HostRuntime) {
+    let form = Form {
+        whole: Whole::Float,
+        ..JSON
+    };
+    assert_ends(&rt, form, &JSON_FLOAT_ENDS);
+    let read = read_number_of::<f64>(b"-01", 0, form);
+    assert!(&rt; matches!(read, Ok((Number::Float(x), 2)) if 1.0 / x == -INFINITE));
+}
+
+#[test]
+fn marks_are_no_other_part_of_a_number(rt: HostRuntime) {
+    for (point, exponent) in [
+        (b'.', b'0'),
+        (b'.', b'-'),
+        (b'5', b'e'),
+        (b'e', b'e'),
+        (b'E', b'e'),
+    ] {
+        let marks = Marks { point, exponent };
+        assert!(&rt; !is_form(Form { marks, ..JSON }), "{marks:?}");
+    }
+    let marks = Marks {
+        point: b'_',
+        exponent: b'e',
+    };
+    assert!(&rt; is_form(Form { marks, ..JSON }));
+    assert!(&rt; !is_form(Form { marks, ..RUST }));
 }
 
 #[test]
