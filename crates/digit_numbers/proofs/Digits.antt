@@ -16,7 +16,7 @@ use Rattle.digit_literals.specs.Numbers.{has_byte}
 use Rattle.digit_floats.specs.Float.{digits_end, exponent_digits, fraction_digits, fraction_end}
 use Rattle.digit_floats.specs.Float.{mantissa_end}
 use Rattle.digit_numbers.specs.declared.form.Form.{Form}
-use Rattle.digit_numbers.specs.Forms.{IsForm, are_apart, hex_form, is_always_hex}
+use Rattle.digit_numbers.specs.Forms.{IsForm, allows_exponent, are_apart, hex_form, is_always_hex}
 use Rattle.digit_numbers.specs.Forms.{is_pointed_hex}
 use Rattle.digit_numbers.specs.Numbers.{word, whole_digits, whole_end, fraction, allows_point}
 use Rattle.digit_numbers.specs.Numbers.{has_point, mark_at, exponent, has_exponent, parts}
@@ -110,10 +110,21 @@ module _ (f : Form) (text : List ℕ) (at : ℕ) where
         by None e = refl
         by (Some b) e = point_no_mark f.marks.point f.marks.exponent b point mark e
 
+    -- what has no digits has none, whether the form allows it or not
+    unmarked : length (exponent_digits (word f text) text f.marks.exponent (mark_at f text at)) ≡ 0
+        → has_exponent f text at ≡ false
+    unmarked none = by (allows_exponent f.exponents (nat_lt 0 (length (fraction f text at))))
+      where
+        by : (b : Bool)
+            → nat_lt 0 (length (if b then
+            exponent_digits (word f text) text f.marks.exponent (mark_at f text at) else [])) ≡ false
+        by true = rw none refl
+        by false = refl
+
     pub refused : allows_point f text at ≡ false
         → (has_point f text at ≡ false) × (has_exponent f text at ≡ false)
     unfolding exponent_digits
-    refused a = (rw (s, a) refl, rw (s, a, no_mark) refl)
+    refused a = (rw (s, a) refl, unmarked (rw (s, a, no_mark) refl))
 
   -- ---- what is a float
 

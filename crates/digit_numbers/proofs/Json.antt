@@ -12,6 +12,7 @@ use Rattle.std.proofs.lemmas.Bool.{cases_lt}
 use Rattle.std.proofs.lemmas.Bool.Decides.{nat_tests}
 use Rattle.std.proofs.lemmas.List.{get_or-drop}
 use Rattle.std.proofs.lemmas.List.Filters.{length-filter_more}
+use Rattle.lexical_format.specs.Word.{separator}
 use Rattle.lexical_digits.specs.declared.skip.rule.Rule.{Rule}
 use Rattle.lexical_digits.specs.declared.skip.component.Component.TheVariants.{Integer, Fraction}
 use Rattle.lexical_digits.specs.declared.skip.component.Component.TheVariants.{Exponent}
@@ -98,6 +99,11 @@ yes false e = cc
 no : (b : Bool) → not b ≡ true → b ≡ false
 no true e = cc
 no false e = refl
+
+no_separator_of : (o : Option ℕ) → holds_of (is_separator (separator word)) o ≡ false
+unfolding is_separator
+no_separator_of None = refl
+no_separator_of (Some b) = refl
 
 never : (o : Option ℕ) → holds_of (is_plus_of JSON.signs) o ≡ false
 never None = refl
@@ -613,7 +619,7 @@ module _ (text : List ℕ) (start : ℕ) (l : start ≤ length text) where
 
     pub says : Says (number_of_at JSON text start format)
     unfolding number_of_at plain_at special_at hex_word_at
-    says = by (is_float JSON text at) refl
+    says = rw (no_separator_of (slice_get text at)) (by (is_float JSON text at) refl)
       where
         by : (b : Bool) → is_float JSON text at ≡ b
             → Says (if b then float_here JSON text start format else

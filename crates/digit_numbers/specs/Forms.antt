@@ -9,6 +9,8 @@ use Rattle.digit_floats.specs.Hexadecimal.{IsHexadecimal}
 use Rattle.digit_languages.specs.Words.{IsLanguage}
 use Rattle.digit_languages.specs.declared.language.Language.{Language}
 use Rattle.digit_numbers.specs.declared.form.Form.{Form}
+use Rattle.digit_numbers.specs.declared.form.Exponents.{Exponents}
+use Rattle.digit_numbers.specs.declared.form.Exponents.TheVariants as exponents
 use Rattle.digit_numbers.specs.declared.form.HexFloats.{HexFloats}
 use Rattle.digit_numbers.specs.declared.form.HexFloats.TheVariants as hex
 use Rattle.digit_numbers.specs.declared.form.Signs.{Signs}
@@ -86,6 +88,12 @@ may_be_float Integer = false
 may_be_float LargeIsFloat = true
 may_be_float Float = true
 
+-- whether an exponent may follow, by whether the digits have a fraction
+abbrev pub allows_exponent : Exponents → Bool → Bool
+allows_exponent exponents.Absent has_fraction = false
+allows_exponent exponents.AfterFraction has_fraction = has_fraction
+allows_exponent exponents.Anywhere has_fraction = true
+
 -- a language without its prefixes, and with that of hexadecimal digits only
 abbrev pub unprefixed : Language → Language
 unprefixed l = record l { binary = None; octal = None; hexadecimal = None }
@@ -98,4 +106,5 @@ abbrev pub hex_form : Form → ℕ → Form
 hex_form f word = record f {
   integers = record f.integers { decimal = word };
   marks = record f.marks { exponent = 112 };
+  exponents = exponents.Anywhere;
 }

@@ -8,7 +8,9 @@ use Rattle.std.specs.Float.{Float, Format, NotNan}
 use Rattle.std.specs.Float.Ieee.{round}
 use Rattle.std.specs.Float.Numeral.{Parts, has_digits, nearest_float}
 use Rattle.std.specs.Str.Parse.{digits_value}
+use Rattle.lexical_format.specs.Word.{separator}
 use Rattle.lexical_digits.specs.declared.skip.component.Component.TheVariants.{Integer}
+use Rattle.lexical_digits.specs.Separators.{is_separator}
 use Rattle.lexical_digits.specs.State.{rule_of}
 use Rattle.lexical_digits.specs.Stop.{stop}
 use Rattle.digit_literals.specs.After.{digits_between}
@@ -29,6 +31,7 @@ use Rattle.digit_numbers.specs.declared.number.Number.TheVariants as numbers
 use Rattle.digit_numbers.specs.declared.number.NumberError.{NumberError}
 use Rattle.digit_numbers.specs.declared.number.NumberError.TheVariants as errors
 use Rattle.digit_numbers.specs.Forms.{is_minus_of, is_plus_of, is_barred, is_always_float}
+use Rattle.digit_numbers.specs.Forms.{allows_exponent}
 use Rattle.digit_numbers.specs.Forms.{may_be_float, has_hex, is_pointed_hex, is_always_hex}
 use Rattle.digit_numbers.specs.Forms.{unprefixed, with_hex_only, hex_form}
 use Rattle.digit_numbers.specs.Specials.{special_at, special_float, name_end}
@@ -112,12 +115,14 @@ module _ (f : Form) (text : List ℕ) where
     abbrev pub has_point : Bool
     has_point = stands (is_point f.marks.point) text whole_end && allows_point
 
-    -- an exponent counts if a digit follows its mark, and a sign after it
+    -- an exponent counts if a digit follows its mark, and a sign after it, as far as the form has any
     abbrev pub mark_at : ℕ
     mark_at = if has_point then fraction_end word text f.marks.point whole_end else whole_end
 
     abbrev pub exponent : List ℕ
-    exponent = exponent_digits word text f.marks.exponent mark_at
+    exponent =
+        if allows_exponent f.exponents (nat_lt 0 (length fraction))
+        then exponent_digits word text f.marks.exponent mark_at else []
 
     abbrev pub has_exponent : Bool
     has_exponent = nat_lt 0 (length exponent)
@@ -229,12 +234,15 @@ module _ (f : Form) (text : List ℕ) (start : ℕ) where
         if is_float f text at then float_here else
         if is_always_float f.whole then whole_here else integer_here (magnitude_at language text at)
 
+    -- it never begins with a separator
     abbrev pub or_hex : Option ℕ → Outcome
     or_hex (Some said) = Ok (
       numbers.Float (hex_value f said text (at + 2) format is_minus),
       hex_stop f said text (at + 2),
     )
-    or_hex None = plain_at
+    or_hex None =
+        if stands (is_separator (separator (word f text))) text at
+        then Err (errors.Empty at) else plain_at
 
     abbrev pub or_special : Option Special → Outcome
     or_special (Some s) = Ok (

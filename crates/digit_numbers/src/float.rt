@@ -109,7 +109,9 @@ fn read_power(text: &[u8], form: Form, mantissa: Mantissa) -> Option<Power>
     ensures end { IfSome result (λ p. p.end ≡ digits_stop form text.now mantissa.start) }
     ensures within { IfSome result (λ p. (mantissa.end ≤ p.end) × (p.end ≤ length text.now)) }
 {
-    if !has_mark(text, mantissa.end, form.marks.exponent) {
+    if !form.exponents.allow(mantissa.places > 0)
+        || !has_mark(text, mantissa.end, form.marks.exponent)
+    {
         return None;
     }
     read_exponent_apart(

@@ -3,7 +3,7 @@
 ghost use Rattle.std.specs.Prelude.{◌≡◌, IsTrue, IfSome, if◌then◌else◌, true};
 ghost use Rattle.digit_floats.specs.Hexadecimal.{IsHexadecimal};
 ghost use Rattle.digit_numbers.specs.Forms.{IsForm, are_apart, is_minus_of, is_plus_of, is_barred};
-ghost use Rattle.digit_numbers.specs.Forms.{begins_name, is_always_float, may_be_float};
+ghost use Rattle.digit_numbers.specs.Forms.{allows_exponent, begins_name, is_always_float, may_be_float};
 ghost use Rattle.digit_numbers.specs.Forms.{has_hex, is_pointed_hex, is_always_hex};
 
 use digit_floats::Marks;
@@ -24,6 +24,8 @@ pub struct Form {
     /// The byte of the point, and the letter of the exponent. They are no other part of a number:
     /// see [`is_form`].
     pub marks: Marks,
+    /// Where an exponent of a decimal float may be.
+    pub exponents: Exponents,
     /// Whether a point needs a digit before it.
     pub needs_integer: bool,
     /// Whether a point needs a digit after it.
@@ -97,6 +99,17 @@ pub enum HexFloats {
     Always,
 }
 
+/// Where an exponent of a decimal float may be.
+#[derive(Clone, Copy, Debug, PartialEq, Eq)]
+pub enum Exponents {
+    /// Nowhere: an amount of money, or a version.
+    Absent,
+    /// After a digit of a fraction: `1.0e5` of Erlang, and not `1e5`.
+    AfterFraction,
+    /// After any digits.
+    Anywhere,
+}
+
 /// The signs that a number may begin with.
 #[derive(Clone, Copy, Debug, PartialEq, Eq)]
 pub enum Signs {
@@ -151,6 +164,20 @@ impl HexFloats {
             HexFloats::Absent | HexFloats::Exponent => false,
             HexFloats::PointOrExponent => is_pointed,
             HexFloats::Always => true,
+        }
+    }
+}
+
+impl Exponents {
+    /// Whether one may follow digits, by whether they have a fraction.
+    #[inline(always)]
+    pub(crate) fn allow(self, has_fraction: bool) -> bool
+        ensures { result ≡ allows_exponent self has_fraction }
+    {
+        match self {
+            Exponents::Absent => false,
+            Exponents::AfterFraction => has_fraction,
+            Exponents::Anywhere => true,
         }
     }
 }

@@ -14,6 +14,6 @@ mod special;
 mod tests;
 
 pub use self::form::{
-    AfterPoint, Form, HexFloats, Signs, Special, SpecialValue, Specials, Whole, is_form,
+    AfterPoint, Exponents, Form, HexFloats, Signs, Special, SpecialValue, Specials, Whole, is_form,
 };
 pub use self::number::{Number, NumberError, parse_number_of, read_number_of};

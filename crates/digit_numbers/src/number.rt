@@ -4,6 +4,9 @@ ghost use Rattle.std.specs.Prelude.{◌≡◌, ◌+◌, ◌<◌, ◌≤◌, ◌&
 ghost use Rattle.std.specs.Prelude.{length, true, false, Ok, Err, IfOk, IfSome, MatchOption, MatchResult};
 ghost use Rattle.std.specs.Prelude.{ℕ, is_some};
 ghost use Rattle.std.specs.Float.{NotNan};
+ghost use Rattle.lexical_format.specs.Word.{separator};
+ghost use Rattle.lexical_digits.specs.Separators.{is_separator};
+ghost use Rattle.digit_floats.specs.Bytes.{stands};
 ghost use Rattle.digit_numbers.specs.Forms.{IsForm, has_hex, hex_form, is_always_float, unprefixed};
 ghost use Rattle.digit_floats.specs.Hexadecimal.{IsHexadecimal};
 ghost use Rattle.digit_numbers.specs.declared.number.Number.TheVariants.{Integer};
@@ -21,6 +24,7 @@ use super::integer::{Magnitude, is_zero, read_few, read_integer, unprefixed};
 use super::special::read_special;
 use digit_floats::{Float, Mantissa, read_mantissa};
 use digit_languages::Language;
+use lexical_format::NumberFormat;
 use std::error::Error;
 use std::fmt;
 
@@ -270,6 +274,19 @@ fn hex_of<F: Float>(
     read_hex::<F>(text, form, language, negative, at)
 }
 
+/// Whether the separator of a word is at a position.
+#[inline(always)]
+#[tactic(auto, unfolding(lexical_digits::specs::Separators::is_separator))]
+fn has_separator(text: &[u8], word: u128, at: usize) -> bool
+    ensures { result ≡ stands (is_separator (separator word)) text.now at }
+{
+    let separator = NumberFormat::new(word).digit_separator();
+    match text.get(at) {
+        Some(byte) => separator != 0 && *byte == separator,
+        None => false,
+    }
+}
+
 /// The integer or decimal float that begins at a start, and the position after it.
 #[inline(always)]
 #[tactic(auto, using(crate::proofs::Digits::wholes), unfolding(crate::specs::Numbers::plain_at))]
@@ -300,7 +317,8 @@ fn read_plain<F: Float>(
 /// longest prefix of the rest of the text that is an integer or a decimal float. Only where more
 /// digits follow a first `0` that may not be there, it is that `0`, although more zeros may be a
 /// number: `001` of Python is `0`, and ends at 1. A point or an exponent that is no part of a number
-/// ends it: `1.` and `1e` of JSON are `1`. Requires that `start` is within the text, and that the
+/// ends it: `1.` and `1e` of JSON are `1`. A number never begins with a separator: of `0_7` of Python
+/// none begins at 1. Requires that `start` is within the text, and that the
 /// form is one ([`is_form`](crate::is_form)).
 ///
 /// ```text
@@ -331,6 +349,9 @@ pub fn read_number_of<F: Float>(
     let language = language_of(form, sign.is_there);
     if let Some((x, end)) = hex_of::<F>(text, form, language, sign.is_minus, sign.end) {
         return Ok((Number::Float(x), end));
+    }
+    if has_separator(text, form.integers.decimal, sign.end) {
+        return Err(NumberError::Empty(sign.end));
     }
     read_plain::<F>(text, start, form, sign)
 }

@@ -5,13 +5,13 @@
 //! from CPython's tomllib. Those of JSON5 and YAML are worked out by hand from their pages.
 
 use super::forms::{
-    CXX17, GO_PARSE_FLOAT, JAVA_PARSE_DOUBLE, JSON, JSON5, OCAML, PYTHON, PYTHON_FLOAT, RUST,
+    CXX17, GO_PARSE_FLOAT, JAVA_PARSE_DOUBLE, JSON, JSON5, OCAML, PERL, PYTHON, PYTHON_FLOAT, RUST,
     RUST_PARSE, STRTOD, SWIFT, TOML, YAML,
 };
 use super::names::{ANY_CASE, LOWER_CASE};
 use super::{
-    Form, Number, NumberError, Special, SpecialValue, Specials, Whole, is_form, parse_number_of,
-    read_number_of,
+    Exponents, Form, Number, NumberError, Special, SpecialValue, Specials, Whole, is_form,
+    parse_number_of, read_number_of,
 };
 use digit_floats::Marks;
 use digit_languages::Language;
@@ -507,6 +507,46 @@ fn a_first_zero_is_alone_of_floats_too(rt: HostRuntime) {
     assert_ends(&rt, form, &JSON_FLOAT_ENDS);
     let read = read_number_of::<f64>(b"-01", 0, form);
     assert!(&rt; matches!(read, Ok((Number::Float(x), 2)) if 1.0 / x == -INFINITE));
+}
+
+/// A text, a start, and the number of Python that begins there, and its end.
+static PYTHON_STARTS: [(&[u8], usize, Value, usize); 4] = [
+    (b"0_7", 0, Int(false, 0), 1),
+    (b"0_7", 1, Fault(NumberError::Empty(1)), 0),
+    (b"0_7", 2, Int(false, 7), 3),
+    (b"9_.5", 1, Fault(NumberError::Empty(1)), 0),
+];
+
+#[test]
+#[tactic(auto, unfolding(lexical_format::proofs::OnLiterals::lexical_on_literals))]
+fn a_number_begins_with_no_separator(rt: HostRuntime) {
+    for (text, start, value, end) in &PYTHON_STARTS {
+        let read = value_of(read_number_of::<f64>(text, *start, PYTHON));
+        assert!(&rt; read == (*value, *end), "{text:?} {start}: {read:?}");
+    }
+    let read = read_number_of::<f64>(b"_.5", 0, PERL);
+    assert!(&rt; read == Err(NumberError::Empty(0)));
+}
+
+/// The same of JSON's grammar where an exponent needs a fraction, and where there is none.
+static AFTER_FRACTION_ENDS: [(&[u8], Value, usize); 3] = [
+    (b"1e5", Int(false, 1), 1),
+    (b"1.0e5", Real(100000.0), 5),
+    (b"1.e5", Int(false, 1), 1),
+];
+
+static NO_EXPONENT_ENDS: [(&[u8], Value, usize); 3] = [
+    (b"1e5", Int(false, 1), 1),
+    (b"1.5e5", Real(1.5), 3),
+    (b"-0.25", Real(-0.25), 5),
+];
+
+#[test]
+fn exponents_are_where_the_form_has_them(rt: HostRuntime) {
+    let exponents = Exponents::AfterFraction;
+    assert_ends(&rt, Form { exponents, ..JSON }, &AFTER_FRACTION_ENDS);
+    let exponents = Exponents::Absent;
+    assert_ends(&rt, Form { exponents, ..JSON }, &NO_EXPONENT_ENDS);
 }
 
 #[test]
