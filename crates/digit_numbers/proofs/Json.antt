@@ -1,7 +1,7 @@
 -- What is read by JSON is the longest number of RFC 8259.
 use Rattle.std.proofs.Common.{◌≡◌, ℕ, ◌+◌, ◌-◌, ◌^◌, ◌<◌, ◌≤◌, Bool, true, false, Option, Some}
 use Rattle.std.proofs.Common.{None, List, [], ◌∷◌, length, take, drop, refl, sym, subst, ◌∙◌, ◌⊎◌}
-use Rattle.std.proofs.Common.{inl, inr, arith, slice_get, slice_index, length-drop, zero, suc, ap}
+use Rattle.std.proofs.Common.{inl, inr, arith, slice_get, slice_index, length-drop, zero, suc}
 use Rattle.std.specs.Prelude.{not, filter, get_or, ◌&&◌, ◌||◌, ◌==◌, if◌then◌else◌, nat_lt, Result}
 use Rattle.std.specs.Prelude.{Ok, Err}
 use Rattle.std.specs.Char.{is_ascii_digit}
@@ -42,18 +42,18 @@ use Rattle.digit_numbers.specs.declared.number.Number.TheVariants as numbers
 use Rattle.digit_numbers.specs.declared.number.NumberError.{NumberError}
 use Rattle.digit_numbers.specs.declared.number.NumberError.TheVariants as errors
 use Rattle.digit_numbers.specs.Forms.{is_plus_of, unprefixed}
-use Rattle.digit_numbers.specs.Json.{is_e, is_zero, IsDigits, IsExp, IsFrac, IsJsonInteger}
+use Rattle.digit_numbers.specs.Json.{is_e, is_zero, IsDigits, IsExp, IsFrac, IsJsonInteger, IsOptional}
 use Rattle.digit_numbers.specs.Json.{IsJsonNumber, IsLongest}
 use Rattle.digit_numbers.specs.Numbers.{Outcome, is_float, past_sign, has_sign, has_exponent}
-use Rattle.digit_numbers.specs.Numbers.{is_zero_alone, literal_end, literal_digits, language, parts}
-use Rattle.digit_numbers.specs.Numbers.{has_more_zeros, has_point, allows_point, mark_at, fraction}
+use Rattle.digit_numbers.specs.Numbers.{is_zero_alone, language, parts}
+use Rattle.digit_numbers.specs.Numbers.{has_more_zeros, has_point, mark_at, fraction}
 use Rattle.digit_numbers.specs.Numbers.{whole_digits, digits_stop, hex_word_at, magnitude_at}
 use Rattle.digit_numbers.specs.Numbers.{of_digits, float_here, integer_here, plain_at, number_of_at}
 use Rattle.digit_numbers.specs.Numbers.{to_end}
 use Rattle.digit_numbers.specs.Specials.{special_at}
-use Rattle.digit_numbers.proofs.Digits.{refused, counts_end, no_point, no_power, alone_stop, no_zeros}
-use Rattle.digit_numbers.proofs.JsonBytes.{IsRun, IsScan, minus_is, none, zero_alone, integer_is}
-use Rattle.digit_numbers.proofs.JsonBytes.{whole, float, int_digits, int_some}
+use Rattle.digit_numbers.proofs.Digits.{alone_stop, no_zeros}
+use Rattle.digit_numbers.proofs.JsonBytes.{IsRun, IsScan, IsPartOrNone, apart, int_digits, int_some}
+use Rattle.digit_numbers.proofs.JsonBytes.{integer_is, longest, minus_is, no_sign, none, zero_alone}
 
 abbrev word : ℕ
 word = JSON.integers.decimal
@@ -248,11 +248,12 @@ module _ (text : List ℕ) (start : ℕ) (l : start ≤ length text) where
   abbrev w : ℕ
   w = digits_end word text Integer at
 
-  abbrev m : ℕ
-  m = mantissa_end word text 46 at
+  -- where an exponent may be, its digits would begin, and these would end
+  abbrev q : ℕ
+  q = mark_at JSON text at
 
   abbrev x : ℕ
-  x = floats.past_sign text (m + 1)
+  x = floats.past_sign text (q + 1)
 
   abbrev e : ℕ
   e = digits_end word text Exponent x
@@ -278,60 +279,14 @@ module _ (text : List ℕ) (start : ℕ) (l : start ≤ length text) where
   unfolding digits_end
   whole_run = run (rule_of word Integer) text refl refl at at_within
 
-  fraction_run : stands (is_point 46) text w ≡ true → IsRun text (w + 1) m
-  unfolding fraction_end digits_end
-  fraction_run h =
-      let n = stands_within (is_point 46) text w h in
-      rw h (run (rule_of word Fraction) text refl refl (w + 1) (omega (arith, n)))
-
-  no_fraction : stands (is_point 46) text w ≡ false → m ≡ w
-  unfolding fraction_end
-  no_fraction h = rw h refl
-
-  x_within : stands is_e text m ≡ true → x ≤ length text
-  x_within h = by (stands is_sign text (m + 1)) refl
-    where
-      by : (b : Bool) → stands is_sign text (m + 1) ≡ b → x ≤ length text
-      by true h = let n = stands_within is_sign text (m + 1) h in rw h (omega (arith, n))
-      by false k = let n = stands_within is_e text m h in rw k (omega (arith, n))
-
-  exponent_run : stands is_e text m ≡ true → IsRun text x e
-  unfolding digits_end
-  exponent_run h = run (rule_of word Exponent) text refl refl x (x_within h)
-
-  scan : IsScan text start at w m x e
-  scan = record {
-    minus = after_minus;
-    plain = no_minus;
-    whole = whole_run;
-    fraction = fraction_run;
-    no_fraction = no_fraction;
-    sign = λ h. rw h refl;
-    no_sign = λ h. rw h refl;
-    exponent = exponent_run;
-  }
+  scan : IsScan text start at w
+  scan = record { minus = after_minus; plain = no_minus; whole = whole_run }
 
   -- ---- how many digits there are
 
   whole_count : length (digits_from word text Integer at) ≡ w - at
   unfolding digits_from digits_end
   whole_count = count (rule_of word Integer) text refl refl at at_within
-
-  fraction_count : stands (is_point 46) text w ≡ true
-      → length (fraction_digits word text 46 w) ≡ m - (w + 1)
-  unfolding fraction_digits fraction_end digits_from digits_end
-  fraction_count h =
-      let n = stands_within (is_point 46) text w h in
-      rw h (count (rule_of word Fraction) text refl refl (w + 1) (omega (arith, n)))
-
-  no_fraction_count : stands (is_point 46) text w ≡ false
-      → length (fraction_digits word text 46 w) ≡ 0
-  unfolding fraction_digits
-  no_fraction_count h = rw h refl
-
-  exponent_count : stands is_e text m ≡ true → length (exponent_digits word text 101 m) ≡ e - x
-  unfolding exponent_digits digits_from digits_end
-  exponent_count h = rw h (count (rule_of word Exponent) text refl refl x (x_within h))
 
   -- ---- an integer
 
@@ -366,15 +321,6 @@ module _ (text : List ℕ) (start : ℕ) (l : start ≤ length text) where
       by true = refl
       by false = refl
 
-  end_is : literal_end JSON.integers text at ≡ w
-  unfolding digits_end
-  end_is = rw (no_prefix, plain_is) refl
-
-  literal_count : length (literal_digits JSON.integers text at) ≡ w - at
-  unfolding digits_end
-  literal_count =
-      rw (no_prefix, plain_is) (count (rule_of word Integer) text refl refl at at_within)
-
   alone_is : is_zero_alone JSON.integers text at
       ≡ (nat_lt 0 (w - at) && (stands is_zero text at && nat_lt (at + 1) w))
   unfolding is_zero_alone digits_end
@@ -389,21 +335,119 @@ module _ (text : List ℕ) (start : ℕ) (l : start ≤ length text) where
       → stands is_zero text at ≡ true → w ≡ at + 1
   not_alone h some z = no_zero_says at w (stands is_zero text at) (sym alone_is ∙ h) some z
 
+  -- ---- what follows digits
+
+  -- if a point is there, how many digits follow it
+  fraction_count : stands (is_point 46) text w ≡ true
+      → IsRun text (w + 1) (fraction_end word text 46 w)
+      × (length (fraction JSON text at) ≡ fraction_end word text 46 w - (w + 1))
+  unfolding fraction_digits fraction_end digits_from digits_end
+  fraction_count h =
+      let n = stands_within (is_point 46) text w h in
+      let r = rule_of word Fraction in
+      rw h (
+        run r text refl refl (w + 1) (omega (arith, n)),
+        count r text refl refl (w + 1) (omega (arith, n)),
+      )
+
+  fraction_is : at < w → IsPartOrNone text (w + 1) q (is_point 46) w
+  fraction_is some = by (has_point JSON text at) refl
+    where
+      nw : ℕ
+      nw = length (whole_digits JSON text at)
+
+      nf : ℕ
+      nf = length (fraction JSON text at)
+
+      p : Bool
+      p = stands (is_point 46) text w
+
+      none : has_point JSON text at ≡ false → p ≡ true
+          → (w + 1 < fraction_end word text 46 w) ⊎ (fraction_end word text 46 w ≤ w + 1)
+          → stands is_ascii_digit text (w + 1) ≡ false
+      none e h (inl k) =
+          let n = fraction_count h in
+          let yes = is_point_of nw nf p h (omega (arith, whole_count, some)) (omega (arith, n.1, k)) in
+          cc (e, yes)
+      none e h (inr k) =
+          let n = fraction_count h in
+          let end : fraction_end word text 46 w ≡ w + 1 = omega (arith, k, n.0.digits.onward) in
+          subst (λ (z : ℕ). stands is_ascii_digit text z ≡ false) end n.0.stops
+
+      by : (b : Bool) → has_point JSON text at ≡ b → IsPartOrNone text (w + 1) q (is_point 46) w
+      by true e =
+          let is = point_says nw nf p e in
+          let n = fraction_count is.0 in
+          rw e (inl (record { mark = is.0; run = n.0; some = omega (arith, n.1, is.2) }))
+      by false e =
+          inr (record {
+            ends = rw e refl;
+            none = λ h. none e h (cases_lt (w + 1) (fraction_end word text 46 w));
+          })
+
+  x_within : stands is_e text q ≡ true → x ≤ length text
+  x_within h = by (stands is_sign text (q + 1)) refl
+    where
+      by : (b : Bool) → stands is_sign text (q + 1) ≡ b → x ≤ length text
+      by true h = let n = stands_within is_sign text (q + 1) h in rw h (omega (arith, n))
+      by false k = let n = stands_within is_e text q h in rw k (omega (arith, n))
+
+  exponent_is : IsPartOrNone text x (digits_stop JSON text at) is_e q
+  unfolding exponent_end exponent_digits digits_from digits_end
+  exponent_is = by (stands is_e text q) refl
+    where
+      r : Rule
+      r = rule_of word Exponent
+
+      marked : stands is_e text q ≡ true → (x < e) ⊎ (e ≤ x)
+          → IsPartOrNone text x (digits_stop JSON text at) is_e q
+      marked h (inl k) =
+          let n = count r text refl refl x (x_within h) in
+          let some = more (e - x) (omega (arith, k)) in
+          let ends : digits_stop JSON text at ≡ e = rw (h, n, some) refl in
+          rw ends (inl (record { mark = h; run = run r text refl refl x (x_within h); some = k }))
+      marked h (inr k) =
+          let n = count r text refl refl x (x_within h) in
+          let there = run r text refl refl x (x_within h) in
+          let none = no_more (e - x) (omega (arith, k)) in
+          inr (record {
+            ends = rw (h, n, none) refl;
+            none = λ y.
+                subst (λ (z : ℕ). stands is_ascii_digit text z ≡ false)
+                (omega (arith, k, there.digits.onward)) there.stops;
+          })
+
+      by : (b : Bool) → stands is_e text q ≡ b
+          → IsPartOrNone text x (digits_stop JSON text at) is_e q
+      by true h = marked h (cases_lt x e)
+      by false h = inr (record { ends = rw h refl; none = λ y. cc (h, y) })
+
+  sign_is : IsOptional text is_sign (q + 1) x
+  sign_is = by (stands is_sign text (q + 1)) refl
+    where
+      by : (b : Bool) → stands is_sign text (q + 1) ≡ b → IsOptional text is_sign (q + 1) x
+      by true h = inr (h, rw h refl)
+      by false h = inl (rw h refl)
+
+  same_first : (first : ℕ) → IsOptional text is_sign (q + 1) first
+      → stands is_ascii_digit text first ≡ true → first ≡ x
+  same_first first (inl h) d =
+      let there = subst (λ (z : ℕ). stands is_ascii_digit text z ≡ true) h d in
+      h ∙ sym (rw (apart is_ascii_digit is_sign text (q + 1) no_sign there) refl)
+  same_first first (inr h) d = h.1 ∙ sym (rw h.0 refl)
+
+  -- digits, and what follows them
+  digits_longest : at < w → (stands is_zero text at ≡ true → w ≡ at + 1)
+      → IsLongest text start (digits_stop JSON text at)
+  digits_longest some alone =
+      longest text start at w scan some alone q x (digits_stop JSON text at) sign_is same_first
+      (fraction_is some) exponent_is
+
   -- ---- a float
 
-  abbrev p : Bool
-  p = stands (is_point 46) text w
-
-  -- digits before a point, if one is there, and after it
-  record SaysFloat : Type 0 where
-    zero : stands is_zero text at ≡ true → w ≡ at + 1
-    some : at < w
-    frac : p ≡ true → w + 1 < m
-    allows : p ≡ true → allows_point JSON text at ≡ true
-
-  float_says : is_float JSON text at ≡ true → SaysFloat
+  float_of : is_float JSON text at ≡ true → IsLongest text start (digits_stop JSON text at)
   unfolding is_float
-  float_says h = by (has_point JSON text at) refl
+  float_of h = digits_longest some (zero (stands is_zero text at) all.1)
     where
       all : (has_digits (parts JSON text at) ≡ true) × (not (has_more_zeros JSON text at) ≡ true)
           × (has_point JSON text at || has_exponent JSON text at ≡ true)
@@ -411,102 +455,33 @@ module _ (text : List ℕ) (start : ℕ) (l : start ≤ length text) where
           all_of (has_digits (parts JSON text at)) (not (has_more_zeros JSON text at))
           (has_point JSON text at || has_exponent JSON text at) h
 
-      zero : at < w → stands is_zero text at ≡ true → w ≡ at + 1
-      zero some z = no_zero (stands is_zero text at) z all.1
-        where
-          no_zero : (z : Bool) → z ≡ true → not (z && nat_lt (at + 1) w) ≡ true → w ≡ at + 1
-          no_zero z e n = grind (arith, nat_tests, some)
-
-      by : (b : Bool) → has_point JSON text at ≡ b → SaysFloat
-      by true e =
-          let is = point_says (length (whole_digits JSON text at))
-          (length (fraction JSON text at)) p e in
-          let some : at < w = omega (arith, is.1, whole_count) in
-          record {
-            zero = zero some;
-            some = some;
-            frac = λ h. omega (arith, is.2, fraction_count h);
-            allows = λ h. grind (arith, e);
-          }
-      by false e =
-          let no : p ≡ true → ⊥ = λ h. grind (arith, refused JSON text at refl refl h, all.2, e) in
-          let some : at < w = grind (arith, nat_tests, all.0, e, whole_count) in
-          record {
-            zero = zero some;
-            some = some;
-            frac = λ h. absurd (no h);
-            allows = λ h. absurd (no h);
-          }
-
-  -- where an exponent ends, if there is one
-  abbrev stop_at : ℕ → ℕ
-  stop_at q = if nat_lt 0 (length (exponent_digits word text 101 q))
-      then exponent_end word text 101 q else q
-
-  abbrev Exp : ℕ → Type 0
-  Exp end = (stands is_e text m ≡ true) × (x < e) × (end ≡ e)
-      ⊎ (stands is_e text m ≡ true → x < e → ⊥) × (end ≡ m)
-
-  exp_at : Exp (stop_at m)
-  unfolding exponent_end exponent_digits
-  exp_at = by (stands is_e text m) refl
-    where
-      marked : stands is_e text m ≡ true → (x < e) ⊎ (e ≤ x) → Exp (stop_at m)
-      marked h (inl l) =
-          let n = length (exponent_digits word text 101 m) in
-          inl (h, l, rw (more n (omega (arith, exponent_count h, l)), h) refl)
-      marked h (inr l) =
-          let n = length (exponent_digits word text 101 m) in
-          inr (
-            λ y k. omega (arith, l, k),
-            rw (no_more n (omega (arith, exponent_count h, l))) refl,
+      some_by : (b : Bool) → has_point JSON text at ≡ b → at < w
+      some_by true e =
+          omega (
+            arith,
+            whole_count,
+            (point_says (length (whole_digits JSON text at)) (length (fraction JSON text at))
+                (stands (is_point 46) text w) e).1,
           )
+      some_by false e = grind (arith, nat_tests, all.0, e, whole_count)
 
-      by : (b : Bool) → stands is_e text m ≡ b → Exp (stop_at m)
-      by true h = marked h (cases_lt x e)
-      by false h = inr (λ y k. cc, rw h refl)
+      some : at < w
+      some = some_by (has_point JSON text at) refl
 
-  float_of : is_float JSON text at ≡ true → IsLongest text start (digits_stop JSON text at)
-  float_of h =
-      let is = float_says h in
-      let same : m ≡ mark_at JSON text at = counts_end JSON text at is.allows in
-      float text start at w m x e scan is.some is.zero (digits_stop JSON text at) is.frac
-      (subst Exp (ap stop_at same) exp_at)
+      zero : (z : Bool) → not (z && nat_lt (at + 1) w) ≡ true → z ≡ true → w ≡ at + 1
+      zero z n e = grind (arith, nat_tests, some)
 
   -- digits without a fraction and an exponent
   digits_alone : is_float JSON text at ≡ false → at < w
       → (stands is_zero text at ≡ true → w ≡ at + 1) → IsLongest text start w
   digits_alone h some alone =
-      whole text start at w m x e scan some alone
-      (λ e l. absurd (point e l))
-      (λ e k l. absurd (power e k l))
+      subst (λ (z : ℕ). IsLongest text start z)
+      (alone_stop JSON text at h (few (stands is_zero text at) alone)
+      (omega (arith, whole_count, some))) (digits_longest some alone)
     where
-      few : has_more_zeros JSON text at ≡ false
-      few = no_zero (stands is_zero text at) alone
-        where
-          no_zero : (z : Bool) → (z ≡ true → w ≡ at + 1) → z && nat_lt (at + 1) w ≡ false
-          no_zero true l = let n = l refl in grind (arith, nat_tests, n)
-          no_zero false l = refl
-
-      digits : 0 < length (whole_digits JSON text at)
-      digits = omega (arith, whole_count, some)
-
-      point : p ≡ true → w + 1 < m → ⊥
-      point e l =
-          let n = fraction_count e in
-          let yes = is_point_of (length (whole_digits JSON text at))
-          (length (fraction JSON text at)) p e digits (omega (arith, n, l)) in
-          let no = no_point JSON text at h few digits in
-          cc (yes, no)
-
-      power : p ≡ false → stands is_e text m ≡ true → x < e → ⊥
-      power e k l =
-          let n = exponent_count k in
-          let same : m ≡ mark_at JSON text at = counts_end JSON text at (λ q. cc) in
-          let yes = more (length (exponent_digits word text 101 m)) (omega (arith, n, l)) in
-          let no = no_power JSON text at h few digits in
-          let there : nat_lt 0 (length (exponent_digits word text 101 m)) ≡ false = rw same no in
-          cc (yes, there)
+      few : (z : Bool) → (z ≡ true → w ≡ at + 1) → z && nat_lt (at + 1) w ≡ false
+      few true l = let n = l refl in grind (arith, nat_tests, n)
+      few false l = refl
 
   -- ---- the law
 
@@ -572,7 +547,7 @@ module _ (text : List ℕ) (start : ℕ) (l : start ≤ length text) where
             digits_count,
             whole_run.digits.onward,
           ) in
-          none text start at w m x e scan same end j
+          none text start at w scan same end j
       outcome false true n k =
           large (omega (arith, is_some (length digits) n, digits_count))
           (is_less (2 ^ 128 - 1) value k)
@@ -582,8 +557,8 @@ module _ (text : List ℕ) (start : ℕ) (l : start ≤ length text) where
             digits_alone h some (not_alone z some),
             record {
               int = at;
-              minus = minus_is text start at w m x e scan;
-              integer = integer_is text start at w m x e scan some (not_alone z some);
+              minus = minus_is text start at w scan;
+              integer = integer_is text start at w scan some (not_alone z some);
             },
           )
 
@@ -604,10 +579,10 @@ module _ (text : List ℕ) (start : ℕ) (l : start ≤ length text) where
             (digits_at JSON.integers text at) (2 ^ 128 - 1))))
         by true k =
             let z = alone k in (
-              zero_alone text start at w m x e scan z.0 z.1,
+              zero_alone text start at w scan z.0 z.1,
               record {
                 int = at;
-                minus = minus_is text start at w m x e scan;
+                minus = minus_is text start at w scan;
                 integer = inl (z.0, refl);
               },
             )

@@ -12,7 +12,7 @@ use Rattle.digit_numbers.specs.Json.{IsFrac, IsExp, IsJsonNumber, IsLongest}
 -- ---- what a byte isn't, if it is something else
 
 module _ (p q : ℕ → Bool) (text : List ℕ) (at : ℕ) where
-  apart : ((b : ℕ) → p b ≡ true → q b ≡ false) → stands p text at ≡ true → stands q text at ≡ false
+  pub apart : ((b : ℕ) → p b ≡ true → q b ≡ false) → stands p text at ≡ true → stands q text at ≡ false
   apart h = by (slice_get text at)
     where
       by : (o : Option ℕ) → holds_of p o ≡ true → holds_of q o ≡ false
@@ -38,7 +38,7 @@ no_zero b h = grind (arith, nat_tests)
 no_minus : (b : ℕ) → is_ascii_digit b ≡ true → is_minus b ≡ false
 no_minus b h = grind (arith, nat_tests)
 
-no_sign : (b : ℕ) → is_ascii_digit b ≡ true → is_sign b ≡ false
+pub no_sign : (b : ℕ) → is_ascii_digit b ≡ true → is_sign b ≡ false
 no_sign b h = grind (arith, nat_tests)
 
 no_point : (b : ℕ) → is_ascii_digit b ≡ true → is_point 46 b ≡ false
@@ -139,19 +139,27 @@ module _ (text : List ℕ) where
       no_exp_at q end (apart is_ascii_digit is_e text q no_e d)
       (subst (λ (z : ℕ). (end ≡ z) ⊎ IsExp text z end) (no_frac_at q exp d f) x)
 
-  -- ---- what is found of a number: its sign, its digits, and those after a point and an `e`
+  -- ---- what is found of a number: its sign and its digits; then a fraction or none, and an
+  -- exponent or none
 
-  pub record IsScan (start at w m x e : ℕ) : Type 0 where
+  pub record IsScan (start at w : ℕ) : Type 0 where
     pub minus : stands is_minus text start ≡ true → at ≡ start + 1
     pub plain : stands is_minus text start ≡ false → at ≡ start
     pub whole : IsRun at w
-    pub fraction : stands (is_point 46) text w ≡ true → IsRun (w + 1) m
-    pub no_fraction : stands (is_point 46) text w ≡ false → m ≡ w
-    pub sign : stands is_sign text (m + 1) ≡ true → x ≡ m + 1 + 1
-    pub no_sign : stands is_sign text (m + 1) ≡ false → x ≡ m + 1
-    pub exponent : stands is_e text m ≡ true → IsRun x e
 
-  module _ (start at w m x e : ℕ) (s : IsScan start at w m x e) where
+  pub record IsPart (first to : ℕ) (begins : ℕ → Bool) (from : ℕ) : Type 0 where
+    pub mark : stands begins text from ≡ true
+    pub run : IsRun first to
+    pub some : first < to
+
+  pub record IsNoPart (first to : ℕ) (begins : ℕ → Bool) (from : ℕ) : Type 0 where
+    pub ends : to ≡ from
+    pub none : stands begins text from ≡ true → stands is_ascii_digit text first ≡ false
+
+  abbrev pub IsPartOrNone : ℕ → ℕ → (ℕ → Bool) → ℕ → Type 0
+  IsPartOrNone first to begins from = IsPart first to begins from ⊎ IsNoPart first to begins from
+
+  module _ (start at w : ℕ) (s : IsScan start at w) where
     pub minus_is : IsOptional text is_minus start at
     minus_is = by (stands is_minus text start) refl
       where
@@ -159,46 +167,12 @@ module _ (text : List ℕ) where
         by true h = inr (h, s.minus h)
         by false h = inl (s.plain h)
 
-    sign_is : IsOptional text is_sign (m + 1) x
-    sign_is = by (stands is_sign text (m + 1)) refl
-      where
-        by : (b : Bool) → stands is_sign text (m + 1) ≡ b → IsOptional text is_sign (m + 1) x
-        by true h = inr (h, s.sign h)
-        by false h = inl (s.no_sign h)
-
-    w_m : w ≤ m
-    w_m = by (stands (is_point 46) text w) refl
-      where
-        by : (b : Bool) → stands (is_point 46) text w ≡ b → w ≤ m
-        by true h = let l = (s.fraction h).digits.onward in omega (arith, l)
-        by false h = let l = s.no_fraction h in omega (arith, l)
-
-    m_x : m < x
-    m_x = by sign_is
-      where
-        by : IsOptional text is_sign (m + 1) x → m < x
-        by (inl h) = omega (arith, h)
-        by (inr h) = omega (arith, h.1)
-
     same_int : (int : ℕ) → IsOptional text is_minus start int
         → stands is_ascii_digit text int ≡ true → int ≡ at
     same_int int (inl h) d =
         let there = subst (λ (z : ℕ). stands is_ascii_digit text z ≡ true) h d in
         h ∙ sym (s.plain (apart is_ascii_digit is_minus text start no_minus there))
     same_int int (inr h) d = h.1 ∙ sym (s.minus h.0)
-
-    same_first : (first : ℕ) → IsOptional text is_sign (m + 1) first
-        → stands is_ascii_digit text first ≡ true → first ≡ x
-    same_first first (inl h) d =
-        let there = subst (λ (z : ℕ). stands is_ascii_digit text z ≡ true) h d in
-        h ∙ sym (s.no_sign (apart is_ascii_digit is_sign text (m + 1) no_sign there))
-    same_first first (inr h) d = h.1 ∙ sym (s.sign h.0)
-
-    exp_within : (end : ℕ) → IsExp text m end → (x < end) × (end ≤ e)
-    exp_within end h =
-        let same = same_first h.first h.sign (h.digits.all h.first (omega arith) h.some) in
-        let ds = subst (λ (z : ℕ). IsDigits text z end) same h.digits in
-        (omega (arith, same, h.some), run_within x e end (s.exponent h.mark) ds)
 
     module _ (other : ℕ) (n : IsJsonNumber text start other) where
       int_is : n.int ≡ at
@@ -248,160 +222,119 @@ module _ (text : List ℕ) where
             let no = apart is_digit1_9 is_zero text at no_zero h.0 in
             cc
 
-    -- ---- digits
+    -- ---- digits, and what follows them
 
     module _ (some : at < w) (zero : stands is_zero text at ≡ true → w ≡ at + 1) where
       pub integer_is : IsInt text at w
       integer_is = int_of at w s.whole some zero
 
-      -- no fraction and no exponent follow
-      pub whole : (stands (is_point 46) text w ≡ true → w + 1 < m → ⊥)
-          → (stands (is_point 46) text w ≡ false → stands is_e text m ≡ true → x < e → ⊥)
-          → IsLongest text start w
-      whole no_frac no_exp = record {
-        is = record {
-          int = at;
-          frac = w;
-          exp = w;
-          minus = minus_is;
-          integer = integer_is;
-          fraction = inl refl;
-          exponent = inl refl;
-        };
-        longest = λ other n. by other n (cases_lt n.frac w);
-      }
-        where
-          ends : (other : ℕ) → (other ≡ w) ⊎ IsExp text w other → other ≤ w
-          ends other (inl h) = omega (arith, h)
-          ends other (inr h) = by (stands (is_point 46) text w) refl
-            where
-              by : (b : Bool) → stands (is_point 46) text w ≡ b → other ≤ w
-              by true p =
-                  let no = apart (is_point 46) is_e text w point_no_e p in
-                  let yes = h.mark in
-                  cc
-              by false p =
-                  let k = subst (λ (z : ℕ). IsExp text z other) (sym (s.no_fraction p)) h in
-                  let r = exp_within other k in
-                  absurd (no_exp p k.mark (omega (arith, r.0, r.1)))
+      module _ (q x end : ℕ) (sign : IsOptional text is_sign (q + 1) x)
+          (same_first : (first : ℕ) → IsOptional text is_sign (q + 1) first
+          → stands is_ascii_digit text first ≡ true → first ≡ x)
+          (fraction : IsPartOrNone (w + 1) q (is_point 46) w)
+          (exponent : IsPartOrNone x end is_e q) where
+        frac_is : (q ≡ w) ⊎ IsFrac text w q
+        frac_is = by fraction
+          where
+            by : IsPartOrNone (w + 1) q (is_point 46) w → (q ≡ w) ⊎ IsFrac text w q
+            by (inl h) = inr (record { point = h.mark; digits = h.run.digits; some = h.some })
+            by (inr h) = inl h.ends
 
-          at_w : (exp other : ℕ) → (exp ≡ w) ⊎ IsFrac text w exp
-              → (other ≡ exp) ⊎ IsExp text exp other → other ≤ w
-          at_w exp other (inl h) k =
-              ends other (subst (λ (z : ℕ). (other ≡ z) ⊎ IsExp text z other) h k)
-          at_w exp other (inr h) k =
-              let r = run_within (w + 1) m exp (s.fraction h.point) h.digits in
-              absurd (no_frac h.point (omega (arith, r, h.some)))
+        exp_is : (end ≡ q) ⊎ IsExp text q end
+        exp_is = by exponent
+          where
+            by : IsPartOrNone x end is_e q → (end ≡ q) ⊎ IsExp text q end
+            by (inl h) = inr (record {
+              first = x;
+              mark = h.mark;
+              sign = sign;
+              digits = h.run.digits;
+              some = h.some;
+            })
+            by (inr h) = inl h.ends
 
-          by : (other : ℕ) (n : IsJsonNumber text start other) → (n.frac < w) ⊎ (w ≤ n.frac)
-              → other ≤ w
-          by other n (inl l) = let end = before_w other n l in omega (arith, end, l)
-          by other n (inr l) =
-              let same : n.frac ≡ w = omega (arith, l, frac_within other n) in
-              at_w n.exp other
-              (subst (λ (z : ℕ). (n.exp ≡ z) ⊎ IsFrac text z n.exp) same n.fraction) n.exponent
+        onward : (w ≤ q) × (q ≤ end)
+        onward = (by_frac frac_is, by_exp sign exp_is)
+          where
+            by_frac : (q ≡ w) ⊎ IsFrac text w q → w ≤ q
+            by_frac (inl h) = omega (arith, h)
+            by_frac (inr h) = omega (arith, h.some)
 
-      -- a fraction or an exponent follows
-      module _ (end : ℕ) (frac : stands (is_point 46) text w ≡ true → w + 1 < m)
-          (exp : (stands is_e text m ≡ true) × (x < e) × (end ≡ e)
-          ⊎ (stands is_e text m ≡ true → x < e → ⊥) × (end ≡ m))
-        where
-          frac_is : (m ≡ w) ⊎ IsFrac text w m
-          frac_is = by (stands (is_point 46) text w) refl
-            where
-              by : (b : Bool) → stands (is_point 46) text w ≡ b → (m ≡ w) ⊎ IsFrac text w m
-              by true h = inr (record {
-                point = h;
-                digits = (s.fraction h).digits;
-                some = frac h;
-              })
-              by false h = inl (s.no_fraction h)
+            by_exp : IsOptional text is_sign (q + 1) x → (end ≡ q) ⊎ IsExp text q end → q ≤ end
+            by_exp o (inl h) = omega (arith, h)
+            by_exp o (inr h) = sign_first h.sign
+              where
+                sign_first : IsOptional text is_sign (q + 1) h.first → q ≤ end
+                sign_first (inl f) = omega (arith, f, h.some)
+                sign_first (inr f) = omega (arith, f.1, h.some)
 
-          exp_is : (end ≡ m) ⊎ IsExp text m end
-          exp_is = by exp
-            where
-              by : (stands is_e text m ≡ true) × (x < e) × (end ≡ e)
-                  ⊎ (stands is_e text m ≡ true → x < e → ⊥) × (end ≡ m)
-                  → (end ≡ m) ⊎ IsExp text m end
-              by (inl h) = inr (record {
-                first = x;
-                mark = h.0;
-                sign = sign_is;
-                digits = subst (λ (z : ℕ). IsDigits text x z) (sym h.2) (s.exponent h.0).digits;
-                some = omega (arith, h.1, h.2);
-              })
-              by (inr h) = inl h.1
+        tail : (other : ℕ) → (other ≡ q) ⊎ IsExp text q other → other ≤ end
+        tail other (inl h) = omega (arith, h, onward.1)
+        tail other (inr h) = by exponent
+          where
+            digit : stands is_ascii_digit text h.first ≡ true
+            digit = h.digits.all h.first (omega arith) h.some
 
-          m_end : m ≤ end
-          m_end = by exp_is
-            where
-              by : (end ≡ m) ⊎ IsExp text m end → m ≤ end
-              by (inl h) = omega (arith, h)
-              by (inr h) = let r = exp_within end h in omega (arith, r.0, m_x)
+            same : h.first ≡ x
+            same = same_first h.first h.sign digit
 
-          tail : (other : ℕ) → (other ≡ m) ⊎ IsExp text m other → other ≤ end
-          tail other (inl h) = omega (arith, h, m_end)
-          tail other (inr h) = by exp
-            where
-              by : (stands is_e text m ≡ true) × (x < e) × (end ≡ e)
-                  ⊎ (stands is_e text m ≡ true → x < e → ⊥) × (end ≡ m) → other ≤ end
-              by (inl k) = let r = exp_within other h in omega (arith, r.1, k.2)
-              by (inr k) =
-                  let r = exp_within other h in
-                  absurd (k.0 h.mark (omega (arith, r.0, r.1)))
+            by : IsPartOrNone x end is_e q → other ≤ end
+            by (inl k) =
+                run_within x end other k.run
+                (subst (λ (z : ℕ). IsDigits text z other) same h.digits)
+            by (inr k) =
+                let here = subst (λ (z : ℕ). stands is_ascii_digit text z ≡ true) same digit in
+                let no = k.none h.mark in
+                cc
 
-          at_w : (exp other : ℕ) → (exp ≡ w) ⊎ IsFrac text w exp
-              → (other ≡ exp) ⊎ IsExp text exp other → other ≤ end
-          at_w exp other (inl h) k = by (stands (is_point 46) text w) refl
-            where
-              at_this : (other ≡ w) ⊎ IsExp text w other
-              at_this = subst (λ (z : ℕ). (other ≡ z) ⊎ IsExp text z other) h k
+        at_w : (exp other : ℕ) → (exp ≡ w) ⊎ IsFrac text w exp
+            → (other ≡ exp) ⊎ IsExp text exp other → other ≤ end
+        at_w exp other f k = by fraction f
+          where
+            at_this : (z : ℕ) → exp ≡ z → (other ≡ z) ⊎ IsExp text z other
+            at_this z e = subst (λ (z : ℕ). (other ≡ z) ⊎ IsExp text z other) e k
 
-              by : (b : Bool) → stands (is_point 46) text w ≡ b → other ≤ end
-              by true p =
-                  let same =
-                  no_exp_at w other (apart (is_point 46) is_e text w point_no_e p) at_this in
-                  omega (arith, same, w_m, m_end)
-              by false p =
-                  tail other
-                  (subst (λ (z : ℕ). (other ≡ z) ⊎ IsExp text z other) (sym (s.no_fraction p))
-                  at_this)
-          at_w exp other (inr h) k = by (cases_lt exp m)
-            where
-              run : IsRun (w + 1) m
-              run = s.fraction h.point
+            within : (exp < q) ⊎ (q ≤ exp) → IsFrac text w exp → IsRun (w + 1) q → other ≤ end
+            within (inl l) g run =
+                let d = run.digits.all exp g.digits.onward l in
+                let same = no_exp_at exp other (apart is_ascii_digit is_e text exp no_e d) k in
+                omega (arith, same, l, onward.1)
+            within (inr l) g run =
+                let r = run_within (w + 1) q exp run g.digits in
+                tail other (at_this q (omega (arith, r, l)))
 
-              by : (exp < m) ⊎ (m ≤ exp) → other ≤ end
-              by (inl l) =
-                  let d = run.digits.all exp h.digits.onward l in
-                  let same = no_exp_at exp other (apart is_ascii_digit is_e text exp no_e d) k in
-                  omega (arith, same, l, m_end)
-              by (inr l) =
-                  let r = run_within (w + 1) m exp run h.digits in
-                  let same : exp ≡ m = omega (arith, r, l) in
-                  tail other (subst (λ (z : ℕ). (other ≡ z) ⊎ IsExp text z other) same k)
+            by : IsPartOrNone (w + 1) q (is_point 46) w → (exp ≡ w) ⊎ IsFrac text w exp
+                → other ≤ end
+            by (inl h) (inl e) =
+                let same =
+                no_exp_at w other (apart (is_point 46) is_e text w point_no_e h.mark)
+                (at_this w e) in
+                omega (arith, same, onward)
+            by (inl h) (inr g) = within (cases_lt exp q) g h.run
+            by (inr h) (inl e) = tail other (at_this q (e ∙ sym h.ends))
+            by (inr h) (inr g) =
+                let d = g.digits.all (w + 1) (omega arith) g.some in
+                let no = h.none g.point in
+                cc
 
-          pub float : IsLongest text start end
-          float = record {
-            is = record {
-              int = at;
-              frac = w;
-              exp = m;
-              minus = minus_is;
-              integer = integer_is;
-              fraction = frac_is;
-              exponent = exp_is;
-            };
-            longest = λ other n. by other n (cases_lt n.frac w);
-          }
-            where
-              by : (other : ℕ) (n : IsJsonNumber text start other)
-                  → (n.frac < w) ⊎ (w ≤ n.frac) → other ≤ end
-              by other n (inl l) =
-                  let same = before_w other n l in
-                  omega (arith, same, l, w_m, m_end)
-              by other n (inr l) =
-                  let same : n.frac ≡ w = omega (arith, l, frac_within other n) in
-                  at_w n.exp other
-                  (subst (λ (z : ℕ). (n.exp ≡ z) ⊎ IsFrac text z n.exp) same n.fraction)
-                  n.exponent
+        pub longest : IsLongest text start end
+        longest = record {
+          is = record {
+            int = at;
+            frac = w;
+            exp = q;
+            minus = minus_is;
+            integer = integer_is;
+            fraction = frac_is;
+            exponent = exp_is;
+          };
+          longest = λ other n. by other n (cases_lt n.frac w);
+        }
+          where
+            by : (other : ℕ) (n : IsJsonNumber text start other)
+                → (n.frac < w) ⊎ (w ≤ n.frac) → other ≤ end
+            by other n (inl l) = let same = before_w other n l in omega (arith, same, l, onward)
+            by other n (inr l) =
+                let same : n.frac ≡ w = omega (arith, l, frac_within other n) in
+                at_w n.exp other
+                (subst (λ (z : ℕ). (n.exp ≡ z) ⊎ IsFrac text z n.exp) same n.fraction) n.exponent
