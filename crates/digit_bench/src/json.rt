@@ -11,7 +11,7 @@ use super::format::Format;
 use super::work::{Task, Work, run_each};
 use digit_floats::read_float;
 use digit_languages::{Language, languages, read_literal};
-use digit_numbers::{Form, Number, forms, read_number_of};
+use digit_numbers::{Form, Number, forms, is_form, read_number_of};
 use lexical_format::NumberFormat;
 use std::num::f64_to_bits_with_nan;
 
@@ -32,8 +32,7 @@ fn language_of(word: u128) -> Language
 #[inline(always)]
 fn form_of(word: u128) -> Form
     requires supported { IsTrue (is_supported word) }
-    requires decimal { IsDecimal word }
-    ensures { IsForm result }
+    ensures { result.integers.decimal ≡ word }
 {
     Form {
         integers: language_of(word),
@@ -64,10 +63,11 @@ impl Work for Numbers {
     #[inline(always)]
     fn on<F: Format>(text: &[u8], format: F) -> Outcome {
         let word = format.word();
-        if !is_decimal(word) {
+        let form = form_of(word);
+        if !is_form(form) {
             return Outcome::nothing();
         }
-        match read_number_of::<f64>(text, 0, form_of(word)) {
+        match read_number_of::<f64>(text, 0, form) {
             Ok(
                 (
                     Number::Integer {
