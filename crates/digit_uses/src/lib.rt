@@ -10,6 +10,7 @@ pub mod ends;
 pub mod figures;
 pub mod geometry;
 pub mod groups;
+pub mod json;
 pub mod lexer;
 pub mod literal;
 pub mod loops;
