@@ -9,3 +9,4 @@ pub mod Significant
 pub mod First
 pub mod Errors
 pub mod Numbers
+pub mod Bytes

@@ -13,6 +13,7 @@ ghost use Rattle.std.specs.Prelude.{◌≡◌, ℕ, ◌≤◌};
 ghost use Rattle.digit_literals.specs.Errors.{literal_position};
 ghost use Rattle.digit_literals.specs.Outcomes.{ReadsAll, FindsNone, PassesMost};
 
+mod bytes;
 mod component;
 mod eight;
 pub mod equality;
@@ -26,6 +27,7 @@ mod slice;
 mod wide;
 mod zeros;
 
+pub use self::bytes::{BLANKS, byte_at, expect_byte, has_byte, past_bytes};
 pub use self::component::{pass_digits, pass_zeros, read_digits_of, read_digits_up_to};
 pub use self::first::{FirstDigits, read_first_digits, read_first_digits_from};
 pub use self::integer::{count_digits, read_integer, read_integer_from, stop_from};
