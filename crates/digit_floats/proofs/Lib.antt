@@ -5,6 +5,7 @@ mod Cut
 mod CutOff
 pub mod Decimals
 mod First
+mod Firsts
 mod HexDigits
 mod Huge
 mod Kept

@@ -9,3 +9,4 @@ pub mod Hexadecimal
 pub mod Near
 pub mod Parts
 pub mod Separators
+pub mod Scaled

@@ -16,6 +16,7 @@ mod parts;
 mod powers;
 mod read;
 mod round;
+mod scaled;
 #[cfg(test)]
 mod tests;
 
@@ -26,3 +27,4 @@ pub use self::hexadecimal::{HexMantissa, read_hex_float_from, read_hex_mantissa,
 pub use self::parts::{Mantissa, Marks, Power, read_exponent, read_mantissa};
 pub use self::read::{parse_float, parse_float_from, read_float, read_float_from};
 pub use self::round::round_parts;
+pub use self::scaled::{ScaledError, parse_scaled, read_scaled_from, read_scaled_up_to};
