@@ -4,7 +4,7 @@ ghost use Rattle.std.specs.Prelude.{◌≡◌, false, ◌+◌, ◌-◌, ◌*◌,
 ghost use Rattle.std.specs.Float.Ieee.{round, low};
 ghost use Rattle.digit_floats.specs.Binary.{IsWholePart, shifted};
 
-use super::float::Float;
+use super::float::{Float, signed};
 
 /// How many binary digits a number has.
 fn bit_length(digits: u128) -> u128
@@ -73,4 +73,27 @@ pub fn round_binary<F: Float>(digits: u128, more: bool, above: u128, below: u128
     let size = bit_length(digits);
     let (scale, shift) = scale_of(size, above, below, F::precision() as u128);
     F::of_units(shift_digits(digits, shift, more), scale)
+}
+
+/// The float nearest to a whole number.
+fn round_magnitude<F: Float>(magnitude: u128) -> F
+    ensures { F.value result ≡ round F.format false magnitude 1 }
+{
+    let least = F::least() as u128;
+    if magnitude == 0 {
+        F::of_units(0, 0)
+    } else if magnitude < 1 << 53 {
+        round_binary(magnitude << 53, false, least, 53)
+    } else if magnitude < 1 << 118 {
+        round_binary(magnitude, false, least, 0)
+    } else {
+        round_binary(magnitude >> 12, magnitude % (1 << 12) != 0, least + 12, 0)
+    }
+}
+
+/// The float nearest to an integer, by its sign and its magnitude. A zero keeps its sign.
+pub fn round_integer<F: Float>(negative: bool, magnitude: u128) -> F
+    ensures { F.value result ≡ round F.format negative magnitude 1 }
+{
+    signed(negative, round_magnitude::<F>(magnitude))
 }

@@ -20,6 +20,7 @@ mod scaled;
 #[cfg(test)]
 mod tests;
 
+pub use self::binary::round_integer;
 pub use self::decimal::{Decimal, read_decimal_from};
 pub use self::error::FloatError;
 pub use self::float::Float;

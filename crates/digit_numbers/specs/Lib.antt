@@ -3,3 +3,4 @@ pub mod Json
 pub mod Numbers
 pub mod Reads
 pub mod Specials
+pub mod Values

@@ -15,6 +15,7 @@ ghost use Rattle.digit_numbers.specs.Numbers.{plain_at, number_of_at, to_end, wi
 ghost use Rattle.digit_numbers.specs.Numbers.{position, message};
 ghost use Rattle.digit_languages.specs.Words.{IsLanguage};
 ghost use Rattle.digit_numbers.specs.Reads.{IsMantissaAt, IsSign};
+ghost use Rattle.digit_numbers.specs.Values.{integer_in, float_in};
 ghost use Rattle.digit_numbers.specs.Specials.{special_at, special_float, name_end};
 
 use super::float::{has_more_zeros, read_float, read_large, round_whole, zero_alone};
@@ -22,8 +23,9 @@ use super::form::{Form, Special};
 use super::hexadecimal::read_hex;
 use super::integer::{Magnitude, is_zero, read_few, read_integer, unprefixed};
 use super::special::read_special;
-use digit_floats::{Float, Mantissa, read_mantissa};
+use digit_floats::{Float, Mantissa, read_mantissa, round_integer};
 use digit_languages::Language;
+use digit_literals::Integer;
 use lexical_format::NumberFormat;
 use std::error::Error;
 use std::fmt;
@@ -40,6 +42,51 @@ pub enum Number<F> {
     },
     /// The nearest float. `-0.0` is the negative zero, and what is too large is infinite.
     Float(F),
+}
+
+impl<F: Float> Number<F> {
+    /// The integer as a value of a type, if the number is an integer and the type has it. `-0` is
+    /// the integer 0. `1.0` is a float by most forms, and no integer.
+    ///
+    /// ```text
+    /// `as_integer::<i8>`: `-128` is Some(-128); `128` and `1.5` are None
+    /// ```
+    #[inline]
+    pub fn as_integer<T: Integer>(self) -> Option<T>
+        ensures { let integer = integer_in T.MIN_MAGNITUDE T.MAX self in
+            MatchOption result (integer ≡ None) (λ value. integer ≡ Some (T.number value)) }
+    {
+        match self {
+            Number::Integer {
+                negative,
+                magnitude,
+                word: _,
+            } => {
+                let most = if negative { T::MIN_MAGNITUDE } else { T::MAX };
+                if magnitude <= most {
+                    Some(T::of_magnitude(negative, magnitude))
+                } else {
+                    None
+                }
+            }
+            Number::Float(_) => None,
+        }
+    }
+
+    /// The float, or the one nearest to the integer: `-0` is the negative zero.
+    #[inline]
+    pub fn to_float(self) -> F
+        ensures { F.value result ≡ float_in F.format F.value self }
+    {
+        match self {
+            Number::Integer {
+                negative,
+                magnitude,
+                word: _,
+            } => round_integer::<F>(negative, magnitude),
+            Number::Float(x) => x,
+        }
+    }
 }
 
 /// Why there is no number. A position counts bytes from the start of the text, from 0.
