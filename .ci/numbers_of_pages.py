@@ -4,7 +4,7 @@ import os
 import re
 import sys
 
-from sources import TOP, crates, difference, files_below, libraries, read
+from sources import DOOR, TOP, crates, difference, files_below, libraries, read
 
 sys.path.append(os.path.join(TOP, "bench"))
 import pages as speed  # noqa: E402
@@ -67,7 +67,7 @@ def counted(it):
                                number(m[1].lower()), there)
     listed = re.search(r"## Use it\n(.*?)\n## ", read("README.md"), re.S)
     first = read("README.md").count("\n", 0, listed.start()) + 1 if listed else 1
-    names = re.findall(r"`([a-z]+_[a-z]+)`", listed[1]) if listed else []
+    names = re.findall(rf"`([a-z]+_[a-z]+|{DOOR})`", listed[1]) if listed else []
     order = list(crates())
     for crate, below in crates().items():
         late = [name for name in below if name not in order[:order.index(crate)]]
@@ -153,7 +153,8 @@ def names(it):
     listed = {"CHANGELOG.md": (line, re.findall(r"`(\w+)`", text)),
               "README.md": (1, re.findall(r"docs/reference/(\w+)\.md", read("README.md")))}
     for page, (line, names) in listed.items():
-        it.compare(page, line, "the list of libraries", sorted(set(names)), sorted(libraries()))
+        there = [name for name in libraries() + [DOOR] if name != DOOR or page == "CHANGELOG.md"]
+        it.compare(page, line, "the list of libraries", sorted(set(names)), sorted(there))
     for line, text in it.lines("HANDLES"):
         if text:
             it.compare("HANDLES", line, "the promise of no handle", text, "Handles allowed: none.")

@@ -40,10 +40,32 @@ def crates():
 # The crates that no caller uses: examples, the program, tests, the benchmark.
 INNER = ("digit_hello", "digit_uses", "digit_drain", "digit_vectors", "digit_bench")
 
+# The crate that only passes on what the others have.
+DOOR = "digits"
+
 
 def libraries():
     """The crates for callers. Each has a page in docs/reference."""
-    return [name for name in crates() if name not in INNER]
+    return [name for name in crates() if name not in INNER and name != DOOR]
+
+
+def passed_on():
+    """What DOOR passes on: {name: (crate, path)} of its items, {name: (module, name)} of its
+    words."""
+    items = {name: (crate, path + name) for crate, path, name in names_of(
+        re.findall(r"^pub use (\w+)::((?:\w+::)*)(?:(\w+)|\{([^}]*)\});",
+                   read(f"crates/{DOOR}/src/lib.rt"), re.M))}
+    words = {name: (module, name) for module, _, name in names_of(
+        (module, "", "", names) for module, names in re.findall(
+            r"^(?:unfoldable )?pub use ([\w.]+)\.\{([^}]*)\}$",
+            read(f"crates/{DOOR}/specs/Words.antt"), re.M))}
+    return items, words
+
+
+def names_of(imports):
+    """(crate, path, name) of each name of some imports."""
+    return [(crate, path, part.strip()) for crate, path, name, names in imports
+            for part in (name or names).split(",") if part.strip()]
 
 
 def slug_of(heading):

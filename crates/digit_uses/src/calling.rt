@@ -1,34 +1,20 @@
 //! The blocks of the page CALLING.md, in its order. `.ci/pages` compares the two.
+#![tactic(auto, unfolding(digits::proofs::Literals::lexical_on_literals))]
 
 ghost use Rattle.std.specs.Prelude.{◌≡◌, ℕ, ◌+◌, ◌-◌, ◌^◌, ◌≤◌, length, Ok, Err, IfOk, IfErr, IfSome, IsTrue, MatchResult};
-ghost use Rattle.std.specs.Float.{binary64};
-ghost use Rattle.lexical_format.specs.Word.{is_supported};
-ghost use Rattle.lexical_digits.specs.State.{rule_of};
-ghost use Rattle.lexical_digits.specs.Stop.{stop};
-ghost use Rattle.lexical_digits.specs.declared.skip.component.Component.TheVariants.{Integer};
-ghost use Rattle.digit_literals.specs.After.{digits_between};
-ghost use Rattle.digit_literals.specs.Integers.{integer_at};
-ghost use Rattle.digit_literals.specs.Numbers.{number_at, to_end};
-ghost use Rattle.digit_floats.specs.Float.{plain_marks, parse_at};
-ghost use Rattle.digit_languages.specs.Literals.{literal_at};
+ghost use Rattle.digits.specs.Words.{Integer, binary64, digits_between, integer_at, is_supported, literal_at, number_at, parse_at, plain_marks, rule_of, stop, to_end};
 
-use digit_floats::{FloatError, parse_float};
-use digit_languages::languages::RUST;
-use digit_languages::{LanguageError, Literal, read_literal};
-use digit_literals::{
-    LiteralError, ParseError, parse_number, read_integer_from, read_number, read_number_from,
-    stop_from,
-};
-use lexical_digits::skip::{Component, Rule};
-use lexical_format::words::PYTHON_LITERAL;
-use lexical_format::{
-    DECIMAL, DigitSeparatorFlags, INTEGER_INTERNAL_DIGIT_SEPARATOR, NO_FLAGS, NumberFormatBuilder,
-    is_supported,
+use digits::languages::RUST;
+use digits::words::PYTHON_LITERAL;
+use digits::{
+    Component, DECIMAL, DigitSeparatorFlags, FloatError, INTEGER_INTERNAL_DIGIT_SEPARATOR,
+    LanguageError, Literal, LiteralError, NO_FLAGS, NumberFormatBuilder, ParseError, Rule,
+    is_supported, parse_float, parse_number, read_integer_from, read_literal, read_number,
+    read_number_from, stop_from,
 };
 use std::alloc::{AllocError, Global};
 
 /// The height that a text is: `-1_000` gives -1000, and `1_000m` gives `Invalid(5)`.
-#[tactic(auto, unfolding(lexical_format::proofs::OnLiterals::lexical_on_literals))]
 pub fn parse_height(text: &[u8]) -> Result<i32, ParseError>
     ensures { let r = rule_of PYTHON_LITERAL Integer in
         result ≡ to_end text.now (number_at (2 ^ 31) (2 ^ 31 - 1) r text.now 0) }
@@ -37,7 +23,6 @@ pub fn parse_height(text: &[u8]) -> Result<i32, ParseError>
 }
 
 /// The rate that a text is, as the nearest `f64`: `1_234.5e-1` gives 123.45.
-#[tactic(auto, unfolding(lexical_format::proofs::OnLiterals::lexical_on_literals))]
 pub fn parse_rate(text: &[u8]) -> Result<f64, FloatError>
     ensures { let parsed = parse_at PYTHON_LITERAL text.now plain_marks binary64 0 in
         MatchResult result (λ x. parsed ≡ Ok x) (λ error. parsed ≡ Err error) }
@@ -46,7 +31,6 @@ pub fn parse_rate(text: &[u8]) -> Result<f64, FloatError>
 }
 
 /// The size that a text begins with, and where it ends: `1_920x1_080 px` gives `(1920, 1080, 11)`.
-#[tactic(auto, unfolding(lexical_format::proofs::OnLiterals::lexical_on_literals))]
 pub fn read_size(text: &[u8]) -> Result<(u32, u32, usize), LiteralError>
     ensures { let r = rule_of PYTHON_LITERAL Integer in IfOk result (λ size. (end : ℕ)
         × (integer_at r text.now 0 (2 ^ 32 - 1) ≡ Ok (size.0, end))
@@ -62,7 +46,6 @@ pub fn read_size(text: &[u8]) -> Result<(u32, u32, usize), LiteralError>
 
 /// The literal of Rust that a text begins with, up to `u16::MAX`: `0xff_u8` gives 255, and 5 as
 /// its end, where the suffix begins.
-#[tactic(auto, unfolding(lexical_format::proofs::OnLiterals::lexical_on_literals))]
 pub fn read_mask(text: &[u8]) -> Result<Literal, LanguageError>
     ensures { result ≡ literal_at RUST text.now 0 (2 ^ 16 - 1) }
 {
@@ -77,7 +60,6 @@ pub enum PercentError {
 }
 
 /// The percentage that begins at `start`, and where it ends: `1_00%` gives `(100, 4)`.
-#[tactic(auto, unfolding(lexical_format::proofs::OnLiterals::lexical_on_literals))]
 pub fn read_percent(line: &[u8], start: usize) -> Result<(u8, usize), PercentError>
     requires { start ≤ length line.now }
     ensures ok { let r = rule_of PYTHON_LITERAL Integer in

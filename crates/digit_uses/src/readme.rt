@@ -1,13 +1,10 @@
 //! The first block of the page README.md. `.ci/pages` compares the two.
 
-use digit_languages::languages::RUST; // `0b`, `0o`, `0x`, and `_` among the digits
-use digit_floats::parse_float;
-use digit_languages::read_literal;
-use digit_literals::{parse_number, read_number};
-use digit_numbers::{forms, parse_number_of};
-use lexical_format::words::PYTHON_LITERAL; // radix 10, one `_` between two digits
+use digits::languages::RUST; // `0b`, `0o`, `0x`, and `_` among the digits
+use digits::words::PYTHON_LITERAL; // radix 10, one `_` between two digits
+use digits::{forms, parse_float, parse_number, parse_number_of, read_literal, read_number};
 
-#[tactic(auto, unfolding(lexical_format::proofs::OnLiterals::lexical_on_literals))]
+#[tactic(auto, unfolding(digits::proofs::Literals::lexical_on_literals))]
 pub fn first_reads() {
     let rate = parse_float::<f64>(b"1_234.5e-1", PYTHON_LITERAL); // Ok(123.45)
     let debt = parse_number::<i32>(b"-1_000", PYTHON_LITERAL); // Ok(-1000)

@@ -1,0 +1,35 @@
+-- The words of contracts over a text, under one name.
+pub use Rattle.std.specs.Float.{binary32, binary64}
+-- the format word, its components and separators
+pub use Rattle.lexical_format.specs.declared.TheConstants.{STANDARD}
+pub use Rattle.lexical_format.specs.Word.{is_supported}
+pub use Rattle.lexical_digits.specs.State.{rule_of}
+unfoldable pub use Rattle.lexical_digits.specs.Separators.{is_digit}
+unfoldable pub use Rattle.lexical_digits.specs.Stop.{stop}
+pub use Rattle.lexical_digits.specs.ByteSet.{accepts}
+pub use Rattle.lexical_digits.specs.declared.skip.component.Component.TheVariants.{Integer, Fraction, Exponent}
+-- integers
+pub use Rattle.digit_literals.specs.declared.LiteralError.{LiteralError}
+pub use Rattle.digit_literals.specs.declared.parse.ParseError.{ParseError}
+pub use Rattle.digit_languages.specs.declared.literal.LanguageError.{LanguageError}
+pub use Rattle.digit_literals.specs.After.{digits_between}
+pub use Rattle.digit_literals.specs.Bytes.{expect_byte}
+unfoldable pub use Rattle.digit_literals.specs.Bytes.{past_bytes}
+unfoldable pub use Rattle.digit_literals.specs.Integers.{integer_at}
+pub use Rattle.digit_literals.specs.Numbers.{has_byte, number_at, signed, to_end}
+pub use Rattle.digit_languages.specs.Literals.{literal_at, typed}
+-- floats and decimal numbers
+pub use Rattle.digit_floats.specs.declared.decimal.Decimal.{Decimal}
+pub use Rattle.digit_floats.specs.declared.error.FloatError.{FloatError}
+pub use Rattle.digit_floats.specs.declared.scaled.ScaledError.{ScaledError}
+pub use Rattle.digit_floats.specs.Decimals.{read_decimal_at}
+pub use Rattle.digit_floats.specs.Float.{IsDecimal, parse_at, plain_marks, read_at}
+pub use Rattle.digit_floats.specs.Scaled.{read_scaled_at}
+unfoldable pub use Rattle.digit_floats.specs.Scaled.{scaled_at}
+-- numbers by a form
+pub use Rattle.digit_numbers.specs.declared.form.Form.{Form}
+pub use Rattle.digit_numbers.specs.declared.number.Number.{Number}
+pub use Rattle.digit_numbers.specs.declared.number.NumberError.{NumberError}
+pub use Rattle.digit_numbers.specs.Forms.{IsForm}
+pub use Rattle.digit_numbers.specs.Numbers.{IsFault, IsNumber, IsWholeFault}
+pub use Rattle.digit_numbers.specs.Values.{float_in, integer_in}
