@@ -1,12 +1,8 @@
 -- A length of time in parts, as `1h30m`: each an integer and a unit.
 use Rattle.std.specs.Prelude.{◌≡◌, ℕ, ◌+◌, ◌-◌, ◌*◌, ◌^◌, ◌<◌, if◌then◌else◌, List, Option, Some, None, Result, Ok, Err, IsOkAnd}
-use Rattle.lexical_digits.specs.State.{rule_of}
-use Rattle.lexical_digits.specs.declared.skip.component.Component.TheVariants.{Integer}
-use Rattle.lexical_format.specs.declared.words.TheConstants.{PYTHON_LITERAL}
-use Rattle.digit_literals.specs.declared.LiteralError.{LiteralError}
-use Rattle.digit_literals.specs.declared.LiteralError.TheVariants as literals
-use Rattle.digit_literals.specs.Integers.{integer_at}
-use Rattle.digit_literals.specs.Numbers.{has_byte}
+use Rattle.digits.specs.Formats.{PYTHON_LITERAL}
+use Rattle.digits.specs.LiteralErrors as literals
+use Rattle.digits.specs.Words.{Integer, LiteralError, has_byte, integer_at, rule_of}
 use Rattle.digit_uses.specs.declared.durations.Fault.{Fault}
 use Rattle.digit_uses.specs.declared.durations.Cause.{Cause}
 use Rattle.digit_uses.specs.declared.durations.Cause.TheVariants.{Empty, TooLarge, NoUnit}

@@ -1,3 +1,4 @@
+pub mod Arrays
 pub mod Bytes
 pub mod Durations
 pub mod Geometry
@@ -5,4 +6,3 @@ pub mod Groups
 pub mod Lexer
 pub mod Literal
 pub mod Loops
-pub mod Money

@@ -4,11 +4,10 @@
 //! Proof by hand: 4 lines, an invariant and a measure.
 
 ghost use Rattle.std.specs.Prelude.{◌≡◌, ◌<◌, ◌≤◌, true, length, IfOk, IfErr, IfSome};
-ghost use Rattle.digit_literals.specs.Numbers.{has_byte};
 ghost use Rattle.digit_uses.specs.Durations.{unit_at, IsPart, Sums, IsCause, IsFault};
 
-use digit_literals::{LiteralError, read_number_from};
-use lexical_format::words::PYTHON_LITERAL;
+use digits::words::PYTHON_LITERAL;
+use digits::{LiteralError, has_byte, read_number_from};
 
 /// Why a text is no length of time. It has where the part at fault begins.
 #[derive(Clone, Copy, Debug, PartialEq, Eq)]
@@ -29,14 +28,6 @@ pub enum Cause {
     NoUnit(usize),
 }
 
-/// Whether a byte is at a position.
-fn has(text: &[u8], at: usize, byte: u8) -> bool
-    ensures is { result ≡ has_byte text.now at byte }
-    ensures within { result ≡ true → at < length text.now }
-{
-    at < text.len() && text[at] == byte
-}
-
 /// The milliseconds of the unit here, and where it ends.
 fn unit_at(text: &[u8], at: usize) -> Option<(u64, usize)>
     requires { at ≤ length text.now }
@@ -45,15 +36,15 @@ fn unit_at(text: &[u8], at: usize) -> Option<(u64, usize)>
     ensures within { IfSome result (λ unit. unit.1 ≤ length text.now) }
     ensures few { IfSome result (λ unit. unit.0 ≤ 3_600_000) }
 {
-    if has(text, at, b'h') {
+    if has_byte(text, at, b'h') {
         Some((3_600_000, at + 1))
-    } else if has(text, at, b'm') {
-        if has(text, at + 1, b's') {
+    } else if has_byte(text, at, b'm') {
+        if has_byte(text, at + 1, b's') {
             Some((1, at + 2))
         } else {
             Some((60_000, at + 1))
         }
-    } else if has(text, at, b's') {
+    } else if has_byte(text, at, b's') {
         Some((1000, at + 1))
     } else {
         None
@@ -61,7 +52,7 @@ fn unit_at(text: &[u8], at: usize) -> Option<(u64, usize)>
 }
 
 /// The value of the part that begins here, and where it ends.
-#[tactic(auto, unfolding(lexical_format::proofs::OnLiterals::lexical_on_literals))]
+#[tactic(auto, unfolding(digits::proofs::Literals::lexical_on_literals))]
 fn read_part(text: &[u8], start: usize) -> Result<(u64, usize), Cause>
     requires { start ≤ length text.now }
     ensures part { IfOk result (λ part. IsPart text.now start part.0 part.1) }

@@ -1,6 +1,7 @@
 //! Uses of the digit iterators, each proved, in a file of its own.
 #![tactic(auto)]
 
+pub mod arrays;
 pub mod back;
 pub mod calling;
 pub mod calls;

@@ -36,6 +36,7 @@ mod spaced;
 mod steps;
 mod table;
 mod uses;
+mod values;
 mod views;
 
 use self::steps::{Part, Step, assert_goes};

@@ -24,12 +24,12 @@ pub use Rattle.digit_floats.specs.declared.error.FloatError.{FloatError}
 pub use Rattle.digit_floats.specs.declared.scaled.ScaledError.{ScaledError}
 pub use Rattle.digit_floats.specs.Decimals.{read_decimal_at}
 pub use Rattle.digit_floats.specs.Float.{IsDecimal, parse_at, plain_marks, read_at}
-pub use Rattle.digit_floats.specs.Scaled.{read_scaled_at}
+pub use Rattle.digit_floats.specs.Scaled.{read_scaled_at, whole_of}
 unfoldable pub use Rattle.digit_floats.specs.Scaled.{scaled_at}
 -- numbers by a form
 pub use Rattle.digit_numbers.specs.declared.form.Form.{Form}
 pub use Rattle.digit_numbers.specs.declared.number.Number.{Number}
 pub use Rattle.digit_numbers.specs.declared.number.NumberError.{NumberError}
 pub use Rattle.digit_numbers.specs.Forms.{IsForm}
-pub use Rattle.digit_numbers.specs.Numbers.{IsFault, IsNumber, IsWholeFault}
+pub use Rattle.digit_numbers.specs.Numbers.{number_of_at, position, with_value}
 pub use Rattle.digit_numbers.specs.Values.{float_in, integer_in}
