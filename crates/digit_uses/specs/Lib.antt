@@ -6,3 +6,4 @@ pub mod Groups
 pub mod Lexer
 pub mod Literal
 pub mod Loops
+pub mod Values

@@ -23,3 +23,4 @@ pub mod readme;
 pub mod remainder;
 pub mod rest;
 pub mod validate;
+pub mod values;
