@@ -1,2 +1,3 @@
 mod Remainders
 mod Tokens
+pub mod Elements

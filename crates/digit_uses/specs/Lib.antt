@@ -7,3 +7,4 @@ pub mod Lexer
 pub mod Literal
 pub mod Loops
 pub mod Values
+pub mod Lists

@@ -13,6 +13,7 @@ pub mod geometry;
 pub mod groups;
 pub mod json;
 pub mod lexer;
+pub mod lists;
 pub mod literal;
 pub mod loops;
 pub mod money;

@@ -4,6 +4,7 @@ use digit_floats::round_integer;
 use digit_literals::{BLANKS, byte_at, expect_byte, past_bytes};
 use digit_numbers::{Number, forms, parse_number_of};
 use digit_uses::arrays::{ArrayError, parse_array};
+use digit_uses::lists::{ListError, parse_list};
 
 /// The number of JSON that a text is: as an `i64`, and as a float.
 #[tactic(auto, unfolding(lexical_format::proofs::OnLiterals::lexical_on_literals))]
@@ -86,6 +87,12 @@ fn an_array_has_numbers_and_commas(rt: HostRuntime) {
         }
         Err(error) => assert!(rt; false, "{error:?}"),
     }
+    match parse_list(rt.alloc(), b" [1, -2.5 ,3e1]\n") {
+        Ok(numbers) => {
+            assert!(rt; numbers.len() == 3 && numbers[2] == Number::Float(30.0));
+        }
+        Err(error) => assert!(rt; false, "{error:?}"),
+    }
     let rows: [(&[u8], usize); 8] = [
         (b"", 0),
         (b"1", 0),
@@ -100,6 +107,11 @@ fn an_array_has_numbers_and_commas(rt: HostRuntime) {
         match parse_array(rt.alloc(), text) {
             Ok(_) => assert!(rt; false, "{text:?}"),
             Err(error) => assert!(rt; error == ArrayError::Fault(at), "{text:?}: {error:?}"),
+        }
+        match parse_list(rt.alloc(), text) {
+            Ok(_) => assert!(rt; false, "{text:?}"),
+            Err(ListError::Fault(_)) => {}
+            Err(error) => assert!(rt; false, "{error:?}"),
         }
     }
 }
