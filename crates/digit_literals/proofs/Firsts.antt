@@ -6,6 +6,7 @@ use Rattle.lexical_digits.specs.Stop.{stop, stop_of}
 use Rattle.lexical_digits.specs.Laws.Table.{with_own_buffer, with_own_word}
 use native.Mathlib.Nat.{mod-eq_of_lt, mul-le-mul_right}
 use lib.Pow.{pow-add}
+use Rattle.std.proofs.Math.Nat.{pow-le-pow_right}
 use Rattle.std.specs.Prelude.{Some, None}
 use Rattle.std.specs.Str.Parse.{AllDigits, digits_value, digits_value_after}
 use Rattle.std.proofs.lemmas.Int.Digits.{digits_value-lt}
@@ -195,3 +196,33 @@ has_room before count bound few is less =
     let l : (before + 1) * 10 ^ count ≤ 10 ^ (19 - count) * 10 ^ count =
     mul-le-mul_right (10 ^ count) (omega arith) in
     omega arith
+
+-- after a value of so many digits
+module _ (before counted count : ℕ) (less : before < 10 ^ counted) where
+  less_with : (before + 1) * 10 ^ count ≤ 10 ^ (counted + count)
+  less_with =
+      let l : (before + 1) * 10 ^ count ≤ 10 ^ counted * 10 ^ count =
+      mul-le-mul_right (10 ^ count) (omega (arith, less)) in
+      rw (pow-add 10 counted count) l
+
+  pub has_room_after : counted + count ≤ 19 → (before + 1) * 10 ^ count ≤ 10 ^ 19
+  has_room_after few =
+      let ten : 0 < 10 = omega arith in
+      let most : 10 ^ (counted + count) ≤ 10 ^ 19 = pow-le-pow_right ten few in
+      omega (arith, less_with, most)
+
+  -- digits after it
+  pub below_after : (r : Rule) (text : List ℕ) (at : ℕ) (read : ReadTo) (most : ℕ)
+      → r.radix ≡ 10 → read.count ≡ count → IsOffSlice r text at before (Some most) read
+      → read.value < 10 ^ (counted + count)
+  below_after r text at read most ten same h =
+      let digits = digits_between r text at read.end in
+      let many : length digits ≡ count = sym (h.reads 0).digits ∙ same in
+      let below : digits_value 10 digits < 10 ^ count =
+      rw (← many) (digits_value-lt 10 digits (subst (λ (n : ℕ). AllDigits n digits) ten (all_digits r _))) in
+      let pieces : digits_value_after 10 before digits ≡ before * 10 ^ count + digits_value 10 digits =
+      rw (← many) (value_of_pieces 10 before digits) in
+      let more : (before + 1) * 10 ^ count ≡ before * 10 ^ count + 10 ^ count = grind arith in
+      let is : read.value ≡ digits_value_after 10 before digits =
+      subst (λ (n : ℕ). read.value ≡ digits_value_after n before digits) ten (h.reads 0).worth.is in
+      omega (arith, less_with, below, pieces, more, is)

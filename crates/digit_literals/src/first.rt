@@ -1,22 +1,25 @@
 //! The first digits of a number, where it may have more than a `u64` holds.
 
-ghost use Rattle.std.specs.Prelude.{◌≡◌, Some, None, ◌+◌, ◌*◌, ◌^◌, ◌-◌, ◌≤◌, min, true, false, length, pos, ◌≤ℤ◌, ◌+ℤ◌, IfSome, IfNone, IsTrue};
+ghost use Rattle.std.specs.Prelude.{◌≡◌, Some, None, ◌+◌, ◌*◌, ◌^◌, ◌-◌, ◌<◌, ◌≤◌, min, true, false, length, slice_get, pos, ◌≤ℤ◌, ◌+ℤ◌, IfSome, IfNone, IsTrue};
+ghost use Rattle.std.specs.Char.{is_ascii_digit};
 ghost use Rattle.lexical_format.specs.Word.{is_supported};
+ghost use Rattle.lexical_digits.specs.Cursor.{holds_of};
 ghost use Rattle.lexical_digits.specs.State.{rule, rule_of};
 ghost use Rattle.lexical_digits.specs.Separators.{IsSupported};
 ghost use Rattle.lexical_digits.specs.Looks.{owed, needs_run};
 ghost use Rattle.lexical_digits.specs.Stop.{stop, leading_digits_of, past_digits_of};
 ghost use Rattle.digit_literals.specs.After.{digits_between};
 ghost use Rattle.digit_literals.specs.First.{ReadsFirst};
-ghost use Rattle.digit_literals.specs.Reads.{IsOffSlice, PassesAll, ArePlain};
+ghost use Rattle.digit_literals.specs.Reads.{ArePlain, IsFirst, IsOffSlice, PassesAll};
 
 use super::component::{pass_digits, read_digits_up_to};
 use super::eight::{Plain, read_eights};
 use super::reading::Digits;
-use super::slice::{ReadTo, begin, first_digit, read_on, read_radix};
+use super::slice::{ReadTo, begin, first_digit, read_bare, read_on, read_radix};
 use super::wide::ten_to;
 use lexical_digits::iterator::Iter;
 use lexical_digits::skip::{Bytes, Component, Rule};
+use lexical_format::char_to_digit_const;
 
 /// The digits of a component, of which the first were read after a value, and the others passed.
 #[derive(Clone, Copy, Debug, PartialEq, Eq)]
@@ -261,6 +264,122 @@ fn read_plain(text: &[u8], rule: Rule, start: usize, before: u64, by_eights: boo
         let first = first_digit(text, rule, start, before, u128::from(u64::MAX));
         begin(text, rule, 10, start, before, first, None)
     }
+}
+
+/// The decimal digit at a position, if one is there.
+#[inline(always)]
+#[tactic(auto, using(std::proofs::lemmas::Option::gets), unfolding(lexical_format::specs::Digits::digit_value))]
+fn decimal_at(text: &[u8], rule: Rule, at: usize) -> Option<u32>
+    requires radix { rule.radix ≡ 10 }
+    ensures first { IfSome result (IsFirst rule text.now at 0 None) }
+    ensures digit { IfSome result (λ _. holds_of is_ascii_digit (slice_get text.now at) ≡ true) }
+{
+    char_to_digit_const(*text.get(at)?, 10)
+}
+
+/// Reads the decimal digits of a component that begins at `start`, where there are 1 to 19, and no
+/// separator is met. Otherwise it answers `None`, and [`read_first_digits_from`] reads them. It is
+/// small, and calls nothing.
+#[inline(always)]
+pub fn read_some_digits_from(
+    text: &[u8],
+    word: u128,
+    component: Component,
+    start: usize,
+) -> Option<(FirstDigits, usize)>
+    requires supported { IsTrue (is_supported word) }
+    requires decimal { (rule_of word component).radix ≡ 10 }
+    requires within { start ≤ length text.now }
+    ensures first { let r = rule_of word component in
+        let digits = digits_between r text.now start (stop r text.now start 0) in
+        IfSome result (λ read. ReadsFirst r.radix (10 ^ 19 - 1) 0 digits read.0) }
+    ensures stops { IfSome result (λ read.
+        read.1 ≡ stop (rule_of word component) text.now start 0) }
+    ensures all { IfSome result (λ read. read.0.dropped ≡ 0) }
+    ensures few { IfSome result (λ read. read.0.count ≤ 19) }
+    ensures below { IfSome result (λ read. read.0.value < 10 ^ read.0.count) }
+    ensures onward { IfSome result (λ read. start + read.0.count ≤ read.1) }
+    ensures end { IfSome result (λ read. read.1 ≤ length text.now) }
+    ensures some { IfSome result (λ read. 0 < read.0.count) }
+    ensures digit { IfSome result (λ _. holds_of is_ascii_digit (slice_get text.now start) ≡ true) }
+{
+    let rule = Rule::of(word, component);
+    let first = decimal_at(text, rule, start)?;
+    let read = few_slice(text, rule, start, 0, 0, Some(first))?;
+    let all = FirstDigits {
+        value: read.value,
+        count: read.count,
+        dropped: 0,
+    };
+    Some((all, read.end))
+}
+
+/// Reads the decimal digits of a component that begins at `start`, after a value of so many digits,
+/// where there are at most 19 in all, and no separator is met. Otherwise it answers `None`, and
+/// [`read_first_digits_from`] reads them.
+#[inline(always)]
+pub fn read_few_digits_from(
+    text: &[u8],
+    word: u128,
+    component: Component,
+    start: usize,
+    before: u64,
+    counted: usize,
+) -> Option<(FirstDigits, usize)>
+    requires supported { IsTrue (is_supported word) }
+    requires decimal { (rule_of word component).radix ≡ 10 }
+    requires within { start ≤ length text.now }
+    requires before { before < 10 ^ counted }
+    requires counted { counted ≤ 19 }
+    ensures first { let r = rule_of word component in
+        let digits = digits_between r text.now start (stop r text.now start 0) in
+        IfSome result (λ read. ReadsFirst r.radix (10 ^ 19 - 1) before digits read.0) }
+    ensures stops { IfSome result (λ read.
+        read.1 ≡ stop (rule_of word component) text.now start 0) }
+    ensures all { IfSome result (λ read. read.0.dropped ≡ 0) }
+    ensures few { IfSome result (λ read. counted + read.0.count ≤ 19) }
+    ensures below { IfSome result (λ read. read.0.value < 10 ^ (counted + read.0.count)) }
+    ensures onward { IfSome result (λ read. start + read.0.count ≤ read.1) }
+    ensures end { IfSome result (λ read. read.1 ≤ length text.now) }
+{
+    let rule = Rule::of(word, component);
+    let read = few_slice(text, rule, start, before, counted, None)?;
+    let all = FirstDigits {
+        value: read.value,
+        count: read.count,
+        dropped: 0,
+    };
+    Some((all, read.end))
+}
+
+/// Reads the digits of a rule with radix 10 from `start` on, where no separator is met, and with
+/// those before at most 19 are there. The digit at `start` may be known.
+#[inline(always)]
+fn few_slice(
+    text: &[u8],
+    rule: Rule,
+    start: usize,
+    before: u64,
+    counted: usize,
+    first: Option<u32>,
+) -> Option<ReadTo>
+    requires supported { IsSupported rule }
+    requires radix { rule.radix ≡ 10 }
+    requires within { start ≤ length text.now }
+    requires before { before < 10 ^ counted }
+    requires counted { counted ≤ 19 }
+    requires first { IfSome first (IsFirst rule text.now start before None) }
+    ensures reads { IfSome result (IsOffSlice rule text.now start before (Some (10 ^ 19 - 1))) }
+    ensures all { IfSome result (λ read. read.is_too_large ≡ false) }
+    ensures few { IfSome result (λ read. counted + read.count ≤ 19) }
+    ensures below { IfSome result (λ read. read.value < 10 ^ (counted + read.count)) }
+    ensures some { IfSome first (λ _. IfSome result (λ read. 0 < read.count)) }
+{
+    let read = read_bare(text, rule, start, before, first)?;
+    if read.count > 19 - counted {
+        return None;
+    }
+    Some(read)
 }
 
 /// Reads the digits of a rule with radix 10 from `start` on, where the slice is enough, and 19

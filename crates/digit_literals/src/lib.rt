@@ -29,7 +29,10 @@ mod zeros;
 
 pub use self::bytes::{BLANKS, byte_at, expect_byte, has_byte, past_bytes};
 pub use self::component::{pass_digits, pass_zeros, read_digits_of, read_digits_up_to};
-pub use self::first::{FirstDigits, read_first_digits, read_first_digits_from};
+pub use self::first::{
+    FirstDigits, read_few_digits_from, read_first_digits, read_first_digits_from,
+    read_some_digits_from,
+};
 pub use self::integer::{count_digits, read_integer, read_integer_from, stop_from};
 pub use self::number::{Integer, parse_number, parse_number_from, read_number, read_number_from};
 pub use self::parse::ParseError;

@@ -242,6 +242,53 @@ pub(super) fn read_on(
     })
 }
 
+/// [`read_radix`] in radix 10, where no separator is met. It is small, as what is inlined in many
+/// places must be.
+#[inline(always)]
+#[tactic(auto, using(crate::proofs::Passed::reading))]
+pub(super) fn read_bare(
+    text: &[u8],
+    rule: Rule,
+    start: usize,
+    before: u64,
+    first: Option<u32>,
+) -> Option<ReadTo>
+    requires supported { IsSupported rule }
+    requires radix { rule.radix ≡ 10 }
+    requires within { start ≤ length text.now }
+    requires first { IfSome first (IsFirst rule text.now start before None) }
+    ensures reads { IfSome result (IsOffSlice rule text.now start before None) }
+    ensures all { IfSome result (λ read. read.is_too_large ≡ false) }
+    ensures some { IfSome first (λ _. IfSome result (λ read. 0 < read.count)) }
+{
+    let (from, mut value) = match first {
+        Some(digit) => (start + 1, before * 10 + u64::from(digit)),
+        None => (start, before),
+    };
+    for at in from..text.len() {
+        let byte = text[at];
+        let Some(digit) = char_to_digit_const(byte, 10) else {
+            if rule.is_separator(byte) {
+                return None;
+            }
+            return Some(ReadTo {
+                value,
+                count: at - start,
+                end: at,
+                is_too_large: false,
+            });
+        };
+        value = value.wrapping_mul(10).wrapping_add(u64::from(digit));
+    }
+    let end = text.len();
+    Some(ReadTo {
+        value,
+        count: end - start,
+        end,
+        is_too_large: false,
+    })
+}
+
 /// The digit at the place of a component, if one is there.
 #[inline(always)]
 fn peek_digit_of(bytes: &mut Bytes, component: Component, radix: u32) -> Option<u32>

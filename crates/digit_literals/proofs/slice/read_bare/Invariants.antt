@@ -1,0 +1,16 @@
+use Rattle.std.proofs.Common.{◌≡◌, ◌+◌, ◌%◌, ◌^◌, ◌≤◌, length}
+use Rattle.std.specs.Prelude.{IfSome}
+use Rattle.std.specs.Str.Parse.{digits_value_after}
+use Rattle.digit_literals.specs.After.{digits_between}
+use Rattle.digit_literals.proofs.Passed.{HasPassed}
+use Rattle.digit_literals.proofs.slice.read_bare.Given as goal
+
+abbrev pub invariant-loop-at : goal.invariant-loop-at
+invariant-loop-at l =
+    let digits = digits_between l.rule l.text l.start l.at in
+    record {
+      passed : HasPassed l.rule l.text l.start l.at;
+      all : l.at ≡ l.start + length digits;
+      some : IfSome l.fn.first (λ _. l.start + 1 ≤ l.at);
+      wrapped : l.value ≡ digits_value_after l.rule.radix l.before digits % 2 ^ 64;
+    }
