@@ -31,6 +31,17 @@ pub record IsMantissa (text : List ℕ) (m : Mantissa) : Type 0 where
   pub long : m.start + m.digits ≤ m.end
   pub within : m.end ≤ length text
 
+-- it is the integer alone of that at its start, and few digits
+pub record IsShort (word : ℕ) (text : List ℕ) (m : Mantissa) : Type 0 where
+  pub is : IsMantissa text m
+  pub integer : integer_of text m ≡ digits_from word text Integer m.start
+  pub ends : m.whole_end ≡ digits_end word text Integer m.start
+  pub end : m.end ≡ m.whole_end
+  pub places : m.places ≡ 0
+  pub dropped : m.dropped ≡ 0
+  pub few : m.digits ≤ 19
+  pub below : m.value < 10 ^ m.digits
+
 -- the digits of an exponent, of which the mark is at a position
 abbrev pub exponent_of : List ℕ → ℕ → Power → List ℕ
 exponent_of text at p = filter is_ascii_digit (slice_range text (past_sign text (at + 1)) p.end)

@@ -25,7 +25,10 @@ pub use self::decimal::{Decimal, read_decimal_from};
 pub use self::error::FloatError;
 pub use self::float::Float;
 pub use self::hexadecimal::{HexMantissa, read_hex_float_from, read_hex_mantissa, round_hex};
-pub use self::parts::{Mantissa, Marks, Power, read_exponent, read_mantissa};
+pub use self::parts::{
+    Mantissa, Marks, Power, read_exponent, read_mantissa, read_short_exponent, read_short_fraction,
+    read_short_whole,
+};
 pub use self::read::{parse_float, parse_float_from, read_float, read_float_from};
-pub use self::round::round_parts;
+pub use self::round::{round_few, round_parts};
 pub use self::scaled::{ScaledError, parse_scaled, read_scaled_from, read_scaled_up_to};

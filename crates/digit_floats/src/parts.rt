@@ -1,19 +1,21 @@
 //! Sign, mantissa and exponent of a number, each component from where it begins.
 
-ghost use Rattle.std.specs.Prelude.{◌≡◌, true, ◌+◌, ◌-◌, ◌^◌, ◌<◌, ◌≤◌, min, if◌then◌else◌, length, filter, slice_range, IsTrue, IfOk, IfErr, OnOk, Ok, Err, MatchResult};
+ghost use Rattle.std.specs.Prelude.{◌≡◌, true, ◌+◌, ◌-◌, ◌^◌, ◌<◌, ◌≤◌, min, if◌then◌else◌, length, filter, slice_range, IsTrue, IfSome, IfOk, IfErr, OnOk, Ok, Err, MatchResult};
 ghost use Rattle.std.specs.Char.{is_ascii_digit, is_ascii_hexdigit};
 ghost use Rattle.std.specs.Str.Parse.{digits_value, digits_value_after};
 ghost use Rattle.lexical_format.specs.Word.{exponent_radix, is_supported};
 ghost use Rattle.lexical_digits.specs.State.{rule_of};
-ghost use Rattle.lexical_digits.specs.declared.skip.component.Component.TheVariants.{Integer};
+ghost use Rattle.lexical_digits.specs.declared.skip.component.Component.TheVariants.{Integer, Fraction, Exponent};
 ghost use Rattle.digit_literals.specs.First.{ReadsFirst};
 ghost use Rattle.digit_floats.specs.Bytes.{stands, is_minus, is_point, is_mark};
 ghost use Rattle.digit_floats.specs.Float.{IsDecimal, past_sign, digits_from, digits_end, fraction_digits, mantissa_end, exponent_digits, exponent_end, exponent_negative};
 ghost use Rattle.digit_floats.specs.Float.{end_at};
-ghost use Rattle.digit_floats.specs.Parts.{integer_of, fraction_of, exponent_of, IsMantissa, IsPower, IsParts};
+ghost use Rattle.digit_floats.specs.Parts.{integer_of, fraction_of, exponent_of, IsMantissa, IsShort, IsPower, IsParts};
 
 use super::error::FloatError;
-use digit_literals::{FirstDigits, read_first_digits_from};
+use digit_literals::{
+    FirstDigits, read_few_digits_from, read_first_digits_from, read_some_digits_from,
+};
 use lexical_digits::skip::Component;
 
 /// The bytes that begin a fraction and an exponent.
@@ -185,6 +187,123 @@ pub fn read_mantissa(text: &[u8], word: u128, at: usize, point: u8) -> Mantissa
     }
 }
 
+/// The digits of an integer, if there are 1 to 19, and no separator is met.
+#[inline(always)]
+#[tactic(auto, using(crate::proofs::Decimals::digits_of_radix, digit_literals::proofs::ForCallers::dropped), unfolding(crate::specs::Float::digits_from, crate::specs::Float::digits_end))]
+fn read_some_part(text: &[u8], word: u128, at: usize) -> Option<(FirstDigits, usize)>
+    requires supported { IsTrue (is_supported word) }
+    requires decimal { IsDecimal word }
+    requires within { at ≤ length text.now }
+    ensures count { IfSome result (λ r.
+        r.0.count ≡ length (digits_from word text.now Integer at)) }
+    ensures bytes { IfSome result (λ r. filter is_ascii_digit (slice_range text.now at r.1)
+        ≡ digits_from word text.now Integer at) }
+    ensures first { IfSome result (λ r. ReadsFirst 10 (10 ^ 19 - 1)
+        0 (digits_from word text.now Integer at) r.0) }
+    ensures few { IfSome result (λ r. r.0.count ≤ 19) }
+    ensures all { IfSome result (λ r. r.0.dropped ≡ 0) }
+    ensures end { IfSome result (λ r. r.1 ≡ digits_end word text.now Integer at) }
+    ensures onward { IfSome result (λ r. at + r.0.count ≤ r.1) }
+    ensures within { IfSome result (λ r. r.1 ≤ length text.now) }
+    ensures below { IfSome result (λ r. r.0.value < 10 ^ r.0.count) }
+    ensures some { IfSome result (λ r. 0 < r.0.count) }
+    ensures digit { IfSome result (λ _. stands is_ascii_digit text.now at ≡ true) }
+{
+    read_some_digits_from(text, word, Component::Integer, at)
+}
+
+/// The digits of a fraction, after so many of an integer, if there are at most 19 in all, and no
+/// separator is met.
+#[inline(always)]
+#[tactic(auto, using(crate::proofs::Decimals::digits_of_radix, digit_literals::proofs::ForCallers::dropped), unfolding(crate::specs::Float::digits_from, crate::specs::Float::digits_end))]
+fn read_few_part(
+    text: &[u8],
+    word: u128,
+    at: usize,
+    before: u64,
+    counted: usize,
+) -> Option<(FirstDigits, usize)>
+    requires supported { IsTrue (is_supported word) }
+    requires decimal { IsDecimal word }
+    requires within { at ≤ length text.now }
+    requires before { before < 10 ^ counted }
+    requires counted { counted ≤ 19 }
+    ensures count { IfSome result (λ r.
+        r.0.count ≡ length (digits_from word text.now Fraction at)) }
+    ensures bytes { IfSome result (λ r. filter is_ascii_digit (slice_range text.now at r.1)
+        ≡ digits_from word text.now Fraction at) }
+    ensures first { IfSome result (λ r. ReadsFirst 10 (10 ^ 19 - 1)
+        before (digits_from word text.now Fraction at) r.0) }
+    ensures few { IfSome result (λ r. counted + r.0.count ≤ 19) }
+    ensures all { IfSome result (λ r. r.0.dropped ≡ 0) }
+    ensures end { IfSome result (λ r. r.1 ≡ digits_end word text.now Fraction at) }
+    ensures onward { IfSome result (λ r. at + r.0.count ≤ r.1) }
+    ensures within { IfSome result (λ r. r.1 ≤ length text.now) }
+{
+    read_few_digits_from(text, word, Component::Fraction, at, before, counted)
+}
+
+/// The integer of a mantissa from a position on, where it has 1 to 19 digits, and no separator is
+/// met. Otherwise it answers `None`, and [`read_mantissa`] reads it. It is small, and calls nothing.
+#[inline(always)]
+pub fn read_short_whole(text: &[u8], word: u128, at: usize) -> Option<Mantissa>
+    requires supported { IsTrue (is_supported word) }
+    requires decimal { IsDecimal word }
+    requires within { at ≤ length text.now }
+    ensures is { IfSome result (IsShort word text.now) }
+    ensures start { IfSome result (λ m. m.start ≡ at) }
+    ensures some { IfSome result (λ m. 0 < m.digits) }
+    ensures digit { IfSome result (λ _. stands is_ascii_digit text.now at ≡ true) }
+{
+    let (integer, whole_end) = read_some_part(text, word, at)?;
+    Some(Mantissa {
+        value: integer.value,
+        digits: integer.count,
+        places: 0,
+        dropped: 0,
+        start: at,
+        whole_end,
+        fraction_start: whole_end,
+        end: whole_end,
+    })
+}
+
+/// The mantissa whose integer was read by [`read_short_whole`], where it has at most 19 digits, and
+/// no separator is met. Otherwise it answers `None`, and [`read_mantissa`] reads it.
+#[inline(always)]
+#[tactic(auto, unfolding(crate::specs::Float::mantissas))]
+pub fn read_short_fraction(text: &[u8], word: u128, whole: Mantissa, point: u8) -> Option<Mantissa>
+    requires supported { IsTrue (is_supported word) }
+    requires decimal { IsDecimal word }
+    requires is { IsShort word text.now whole }
+    ensures is { IfSome result (IsMantissa text.now) }
+    ensures integer { IfSome result (λ m.
+        integer_of text.now m ≡ digits_from word text.now Integer whole.start) }
+    ensures fraction { let e = digits_end word text.now Integer whole.start in
+        IfSome result (λ m. fraction_of text.now m ≡ fraction_digits word text.now point e) }
+    ensures start { IfSome result (λ m. m.start ≡ whole.start) }
+    ensures whole_end { IfSome result (λ m. m.whole_end ≡ whole.whole_end) }
+    ensures end { IfSome result (λ m. m.end ≡ mantissa_end word text.now point whole.start) }
+    ensures digits { IfSome result (λ m. m.digits ≡ whole.digits + m.places) }
+    ensures few { IfSome result (λ m. m.dropped ≡ 0) }
+{
+    if !has_point(text, whole.whole_end, point) {
+        return Some(whole);
+    }
+    let at = whole.whole_end + 1;
+    let (fraction, end) = read_few_part(text, word, at, whole.value, whole.digits)?;
+    Some(Mantissa {
+        value: fraction.value,
+        digits: whole.digits + fraction.count,
+        places: fraction.count,
+        dropped: 0,
+        start: whole.start,
+        whole_end: whole.whole_end,
+        fraction_start: at,
+        end,
+    })
+}
+
 /// An exponent.
 #[derive(Clone, Copy, Debug, PartialEq, Eq)]
 pub struct Power {
@@ -239,6 +358,49 @@ pub fn read_exponent(text: &[u8], word: u128, at: usize, mark: u8) -> Result<Pow
     Ok(Power {
         negative,
         value,
+        end,
+    })
+}
+
+/// The digits of an exponent, if there are 1 to 19, and no separator is met.
+#[inline(always)]
+#[tactic(auto, unfolding(crate::specs::Float::digits_from, crate::specs::Float::digits_end))]
+fn read_power_digits(text: &[u8], word: u128, at: usize) -> Option<(FirstDigits, usize)>
+    requires supported { IsTrue (is_supported word) }
+    requires decimal { exponent_radix word ≡ 10 }
+    requires within { at ≤ length text.now }
+    ensures first { IfSome result (λ r. ReadsFirst 10 (10 ^ 19 - 1) 0
+        (digits_from word text.now Exponent at) r.0) }
+    ensures all { IfSome result (λ r. r.0.dropped ≡ 0) }
+    ensures end { IfSome result (λ r. r.1 ≡ digits_end word text.now Exponent at) }
+    ensures onward { IfSome result (λ r. at + r.0.count ≤ r.1) }
+    ensures within { IfSome result (λ r. r.1 ≤ length text.now) }
+    ensures some { IfSome result (λ r. 0 < r.0.count) }
+{
+    read_some_digits_from(text, word, Component::Exponent, at)
+}
+
+/// [`read_exponent`] where its mark is at a position, if 1 to 19 digits follow, and no separator is
+/// met. Otherwise it answers `None`.
+#[inline(always)]
+#[tactic(auto, unfolding(crate::specs::Float::exponents))]
+pub fn read_short_exponent(text: &[u8], word: u128, at: usize, mark: u8) -> Option<Power>
+    requires supported { IsTrue (is_supported word) }
+    requires decimal { exponent_radix word ≡ 10 }
+    requires mark { stands (is_mark mark) text.now at ≡ true }
+    requires within { at < length text.now }
+    ensures value { IfSome result (λ p.
+        p.value ≡ min (digits_value 10 (exponent_digits word text.now mark at)) (2 ^ 64 - 1)) }
+    ensures negative { IfSome result (λ p. p.negative ≡ exponent_negative word text.now mark at) }
+    ensures end { IfSome result (λ p. p.end ≡ exponent_end word text.now mark at) }
+    ensures within { IfSome result (λ p. (at ≤ p.end) × (p.end ≤ length text.now)) }
+    ensures some { IfSome result (λ _. 0 < length (exponent_digits word text.now mark at)) }
+{
+    let (negative, start) = read_sign(text, at + 1);
+    let (part, end) = read_power_digits(text, word, start)?;
+    Some(Power {
+        negative,
+        value: part.value,
         end,
     })
 }

@@ -1,6 +1,6 @@
 //! The float nearest to a number that was read.
 
-ghost use Rattle.std.specs.Prelude.{◌≡◌, ◌+◌, ◌*◌, ◌-◌, ◌^◌, ◌++◌, ℕ, min, if◌then◌else◌};
+ghost use Rattle.std.specs.Prelude.{◌≡◌, ◌+◌, ◌*◌, ◌-◌, ◌^◌, ◌++◌, ℕ, min, if◌then◌else◌, IfSome};
 ghost use Rattle.std.specs.Float.Ieee.{round};
 ghost use Rattle.std.specs.Str.Parse.{digits_value};
 ghost use Rattle.digit_floats.specs.Parts.{integer_of, fraction_of, IsMantissa};
@@ -67,4 +67,26 @@ pub fn round_parts<F: Float>(text: &[u8], negative: bool, mantissa: Mantissa, po
         places,
         power,
     )
+}
+
+/// [`round_parts`] of a mantissa with few digits that no exponent follows, if one division or one
+/// product tells. It is small.
+#[inline(always)]
+pub fn round_few<F: Float>(text: &[u8], negative: bool, mantissa: Mantissa) -> Option<F>
+    requires is { IsMantissa text.now mantissa }
+    requires few { mantissa.dropped ≡ 0 }
+    ensures { IfSome result (λ x. F.value x ≡ round F.format negative
+        (digits_value 10 (integer_of text.now mantissa ++ fraction_of text.now mantissa))
+        (10 ^ mantissa.places)) }
+{
+    let places = mantissa.places as u64;
+    let value = mantissa.value;
+    match F::over_ten_to(value, places) {
+        Some(x) => Some(signed(negative, x)),
+        None if value == 0 => None,
+        None => match round_near::<F>(negative, value, places, false, 0) {
+            Some(x) => Some(x),
+            None => None,
+        },
+    }
 }
