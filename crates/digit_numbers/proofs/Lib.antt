@@ -5,4 +5,5 @@ pub mod Json
 pub mod JsonBytes
 pub mod Large
 pub mod NamesAt
+pub mod Short
 pub mod Zeros

@@ -15,6 +15,7 @@ use Rattle.digit_literals.specs.declared.LiteralError.TheVariants.{Empty, Overfl
 use Rattle.digit_numbers.specs.declared.number.NumberError.TheVariants as errors
 use Rattle.digit_literals.specs.Numbers.{has_byte}
 use Rattle.digit_numbers.proofs.Large.{has_value, has_digits}
+use Rattle.digit_numbers.specs.Forms.{with_hex_only}
 use Rattle.digit_numbers.specs.Numbers.{literal_digits, literal_value, literal_end, is_zero_alone}
 use Rattle.digit_numbers.specs.Numbers.{magnitude_at, of_digits}
 
@@ -49,6 +50,11 @@ no_prefix l text at h =
     by true false = refl
     by false true = refl
     by false false = refl
+
+-- another byte than a `0` begins no prefix
+pub no_hex : (l : Language) (text : List ℕ) (at : ℕ) → has_byte text at 48 ≡ false
+    → prefix_word (with_hex_only l) text at ≡ None
+no_hex l text at h = rw h refl
 
 module _ (l : Language) (text : List ℕ) (at : ℕ) where
   pub after_prefix : is_some (prefix_word l text at) ≡ true → 0 < length (literal_digits l text at)

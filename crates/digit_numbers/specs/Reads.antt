@@ -1,7 +1,8 @@
 -- Of functions that no caller sees: the digits of a number that were read. No public clause uses
 -- these words.
-use Rattle.std.specs.Prelude.{◌≡◌, ℕ, ◌+◌, ◌-◌, ◌^◌, min, ◌<◌, ◌≤◌, true, false, List, [], length, is_some, IsTrue}
-use Rattle.std.specs.Float.Numeral.{Parts}
+use Rattle.std.specs.Prelude.{◌≡◌, ℕ, ◌+◌, ◌-◌, ◌^◌, min, ◌<◌, ◌≤◌, Bool, true, false, List, [], length, is_some, IsTrue}
+use Rattle.std.specs.Float.{Float, Format}
+use Rattle.std.specs.Float.Numeral.{Parts, nearest_float}
 use Rattle.std.specs.Str.Parse.{digits_value}
 use Rattle.lexical_digits.specs.declared.skip.component.Component.TheVariants.{Integer}
 use Rattle.digit_floats.specs.Float.{IsDecimal, digits_from, digits_end, fraction_digits, mantissa_end}
@@ -18,14 +19,18 @@ use Rattle.digit_numbers.specs.declared.integer.Head.{Head}
 use Rattle.digit_numbers.specs.declared.number.Sign.{Sign}
 use Rattle.digit_numbers.specs.Numbers.{has_sign, is_negative, past_sign, is_float, fraction, exponent, parts, digits_stop}
 
--- a mantissa is that of a form at its start
-pub record IsMantissaAt (f : Form) (text : List ℕ) (m : Mantissa) : Type 0 where
+-- a mantissa is that of a word at its start, by the byte of the point
+pub record IsMantissaOf (word point : ℕ) (text : List ℕ) (m : Mantissa) : Type 0 where
   pub is : IsMantissa text m
-  pub integer : integer_of text m ≡ digits_from f.integers.decimal text Integer m.start
-  pub fraction : fraction_of text m ≡ fraction_digits f.integers.decimal text f.marks.point
-      (digits_end f.integers.decimal text Integer m.start)
-  pub whole_end : m.whole_end ≡ digits_end f.integers.decimal text Integer m.start
-  pub ends : m.end ≡ mantissa_end f.integers.decimal text f.marks.point m.start
+  pub integer : integer_of text m ≡ digits_from word text Integer m.start
+  pub fraction : fraction_of text m
+      ≡ fraction_digits word text point (digits_end word text Integer m.start)
+  pub whole_end : m.whole_end ≡ digits_end word text Integer m.start
+  pub ends : m.end ≡ mantissa_end word text point m.start
+
+-- the same of a form
+abbrev pub IsMantissaAt : Form → List ℕ → Mantissa → Type 0
+IsMantissaAt f text m = IsMantissaOf f.integers.decimal f.marks.point text m
 
 -- the same of hexadecimal digits, by a word
 pub record IsHexAt (f : Form) (word : ℕ) (text : List ℕ) (m : HexMantissa) : Type 0 where
@@ -63,6 +68,13 @@ pub record IsPowerAt (f : Form) (text : List ℕ) (at : ℕ) (p : Power) : Type 
   pub negative : 0 < digits_value 10 (exponent f text at)
       → p.negative ≡ (parts f text at).exponent_negative
   pub ends : p.end ≡ digits_stop f text at
+
+-- a float is that at a position, and ends there
+pub record IsFloatAt (f : Form) (text : List ℕ) (at : ℕ) (negative : Bool) (format : Format)
+    (x : Float) (end : ℕ) : Type 0 where
+  pub is : is_float f text at ≡ true
+  pub value : x ≡ nearest_float format negative (parts f text at)
+  pub ends : end ≡ digits_stop f text at
 
 -- a sign is that of a form at a start
 pub record IsSign (f : Form) (text : List ℕ) (start : ℕ) (sign : Sign) : Type 0 where

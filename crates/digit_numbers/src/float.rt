@@ -1,6 +1,6 @@
 // The float at a position, by a form.
 
-ghost use Rattle.std.specs.Prelude.{◌≡◌, Err, ◌+◌, ◌-◌, ◌*◌, ◌^◌, ◌++◌, ◌<◌, ◌≤◌, false, true, min, length, [], None, IfSome, IfOk, IfErr, OnOk, MatchOption, ◌&&◌, not, IsTrue};
+ghost use Rattle.std.specs.Prelude.{◌≡◌, Err, ◌+◌, ◌-◌, ◌*◌, ◌^◌, ◌++◌, ◌<◌, ◌≤◌, false, true, min, length, [], None, IfSome, IfOk, IfErr, OnOk, MatchOption, ◌&&◌, not, nat_lt, IsTrue};
 ghost use Rattle.std.specs.Float.{NotNan};
 ghost use Rattle.std.specs.Float.Ieee.{round};
 ghost use Rattle.std.specs.Float.Numeral.{nearest_float};
@@ -11,15 +11,18 @@ ghost use Rattle.lexical_digits.specs.State.{rule_of};
 ghost use Rattle.digit_literals.specs.Integers.{integer_at};
 ghost use Rattle.digit_literals.specs.declared.LiteralError.TheVariants.{Overflow};
 ghost use Rattle.digit_floats.specs.Bytes.{stands, is_point, is_mark};
-ghost use Rattle.digit_floats.specs.Float.{IsDecimal, digits_from, digits_end, exponent_digits, exponent_end, exponent_negative};
-ghost use Rattle.digit_floats.specs.Parts.{integer_of, fraction_of, IsMantissa};
-ghost use Rattle.digit_numbers.specs.Forms.{IsForm, is_barred};
+ghost use Rattle.digit_floats.specs.Float.{IsDecimal, digits_from, digits_end, exponent_digits, exponent_end, exponent_negative, parts_at};
+ghost use Rattle.digit_floats.specs.Parts.{integer_of, fraction_of, IsMantissa, IsShort};
+ghost use Rattle.digit_numbers.specs.Forms.{IsForm, allows_exponent, is_barred};
 ghost use Rattle.digit_numbers.specs.Numbers.{allows_point, digits_stop, exponent, fraction, has_exponent, has_more_zeros, has_point, is_float, mark_at, parts, whole_end};
-ghost use Rattle.digit_numbers.specs.Reads.{IsMantissaAt, IsWholeOf, IsPowerAt, whole_of};
+ghost use Rattle.digit_numbers.specs.Reads.{IsMantissaAt, IsMantissaOf, IsWholeOf, IsPowerAt, IsFloatAt, whole_of};
 
 use super::form::Form;
 use super::integer::is_zero;
-use digit_floats::{Float, Mantissa, Power, read_exponent, read_mantissa, round_parts};
+use digit_floats::{
+    Float, Mantissa, Marks, Power, read_exponent, read_mantissa, read_short_exponent,
+    read_short_fraction, round_few, round_parts,
+};
 
 /// Whether a byte is at a position.
 #[inline(always)]
@@ -211,6 +214,206 @@ fn round_at<F: Float>(
     ensures number { NotNan (F.value result) }
 {
     round_parts::<F>(text, negative, mantissa, power)
+}
+
+/// [`read_exponent_apart`], whose answer in memory belongs to this function.
+#[inline(always)]
+fn long_power_at(text: &[u8], word: u128, at: usize, mark: u8) -> Option<Power>
+    requires supported { IsTrue (is_supported word) }
+    requires decimal { exponent_radix word ≡ 10 }
+    requires within { at ≤ length text.now }
+    ensures value { IfSome result (λ p.
+        p.value ≡ min (digits_value 10 (exponent_digits word text.now mark at)) (2 ^ 64 - 1)) }
+    ensures negative { IfSome result (λ p. p.negative ≡ exponent_negative word text.now mark at) }
+    ensures end { IfSome result (λ p. p.end ≡ exponent_end word text.now mark at) }
+    ensures within { IfSome result (λ p. (at ≤ p.end) × (p.end ≤ length text.now)) }
+    ensures some { IfSome result (λ _. stands (is_mark mark) text.now at ≡ true
+        → 0 < length (exponent_digits word text.now mark at)) }
+{
+    match read_exponent_apart(text, word, at, mark) {
+        Ok(power) => Some(power),
+        Err(_) => None,
+    }
+}
+
+/// The exponent at a position, which is 0 without a mark, if digits follow any mark.
+#[inline(always)]
+#[tactic(auto, using(std::proofs::lemmas::Option::gets))]
+fn power_at(text: &[u8], word: u128, at: usize, mark: u8) -> Option<Power>
+    requires supported { IsTrue (is_supported word) }
+    requires decimal { exponent_radix word ≡ 10 }
+    requires within { at ≤ length text.now }
+    ensures value { IfSome result (λ p.
+        p.value ≡ min (digits_value 10 (exponent_digits word text.now mark at)) (2 ^ 64 - 1)) }
+    ensures negative { IfSome result (λ p. p.negative ≡ exponent_negative word text.now mark at) }
+    ensures end { IfSome result (λ p. p.end ≡ exponent_end word text.now mark at) }
+    ensures within { IfSome result (λ p. (at ≤ p.end) × (p.end ≤ length text.now)) }
+    ensures some { IfSome result (λ _. stands (is_mark mark) text.now at ≡ true
+        → 0 < length (exponent_digits word text.now mark at)) }
+{
+    if at < text.len() && has_mark(text, at, mark) {
+        if let Some(power) = read_short_exponent(text, word, at, mark) {
+            return Some(power);
+        }
+    }
+    long_power_at(text, word, at, mark)
+}
+
+/// The float of a mantissa, and of its exponent, if one follows, and where it ends: if digits follow
+/// the mark of an exponent. In code of its own.
+#[inline(never)]
+fn read_powered<F: Float>(
+    text: &[u8],
+    word: u128,
+    marks: Marks,
+    negative: bool,
+    mantissa: Mantissa,
+) -> Option<(F, usize)>
+    requires supported { IsTrue (is_supported word) }
+    requires decimal { IsDecimal word }
+    requires is { IsMantissaOf word marks.point text.now mantissa }
+    ensures value { IfSome result (λ r. F.value r.0
+        ≡ nearest_float F.format negative (parts_at word text.now marks mantissa.start)) }
+    ensures number { IfSome result (λ r. NotNan (F.value r.0)) }
+    ensures ends { IfSome result (λ r. r.1 ≡ exponent_end word text.now marks.exponent mantissa.end) }
+    ensures some { IfSome result (λ _. stands (is_mark marks.exponent) text.now mantissa.end ≡ true
+        → 0 < length (exponent_digits word text.now marks.exponent mantissa.end)) }
+    ensures within { IfSome result (λ r. (mantissa.end ≤ r.1) × (r.1 ≤ length text.now)) }
+{
+    let power = power_at(text, word, mantissa.end, marks.exponent)?;
+    let x = round_parts::<F>(text, negative, mantissa, power);
+    Some((x, power.end))
+}
+
+/// The float of a mantissa, if a fraction follows its point, or else a mark follows it, and digits
+/// follow any mark. What the call of [`read_powered`] takes and answers in memory belongs to this
+/// function, so it is set only where that is called.
+#[inline(always)]
+fn read_apart<F: Float>(
+    text: &[u8],
+    form: Form,
+    negative: bool,
+    mantissa: Mantissa,
+) -> Option<(F, usize)>
+    requires form { IsForm form }
+    requires is { IsMantissaAt form text.now mantissa }
+    requires some { mantissa.places < mantissa.digits }
+    requires zeros { has_more_zeros form text.now mantissa.start ≡ false }
+    requires pointed { stands (is_point form.marks.point) text.now mantissa.whole_end ≡ true
+        → 0 < mantissa.places }
+    requires marked { stands (is_point form.marks.point) text.now mantissa.whole_end ≡ false
+        → stands (is_mark form.marks.exponent) text.now mantissa.end ≡ true }
+    requires exponents { allows_exponent form.exponents (nat_lt 0 mantissa.places) ≡ true }
+    ensures is { IfSome result (λ r.
+        IsFloatAt form text.now mantissa.start negative F.format (F.value r.0) r.1) }
+    ensures number { IfSome result (λ r. NotNan (F.value r.0)) }
+    ensures within { IfSome result (λ r. (mantissa.end ≤ r.1) × (r.1 ≤ length text.now)) }
+{
+    match read_powered::<F>(text, form.integers.decimal, form.marks, negative, mantissa) {
+        Some((x, end)) => Some((x, end)),
+        None => None,
+    }
+}
+
+/// The mantissa after its integer, if it is short.
+#[inline(always)]
+#[tactic(auto, using(crate::proofs::Short::no_point_end))]
+fn read_fraction(text: &[u8], form: Form, whole: Mantissa) -> Option<Mantissa>
+    requires form { IsForm form }
+    requires is { IsShort form.integers.decimal text.now whole }
+    ensures is { IfSome result (IsMantissaAt form text.now) }
+    ensures start { IfSome result (λ m. m.start ≡ whole.start) }
+    ensures whole_end { IfSome result (λ m. m.whole_end ≡ whole.whole_end) }
+    ensures digits { IfSome result (λ m. m.digits ≡ whole.digits + m.places) }
+    ensures few { IfSome result (λ m. m.dropped ≡ 0) }
+    ensures none { stands (is_point form.marks.point) text.now whole.whole_end ≡ false
+        → IfSome result (λ m. m.end ≡ whole.whole_end) }
+{
+    read_short_fraction(text, form.integers.decimal, whole, form.marks.point)
+}
+
+/// The float of a mantissa that no mark of an exponent follows, if one division tells.
+#[inline(always)]
+fn round_short<F: Float>(text: &[u8], form: Form, negative: bool, mantissa: Mantissa) -> Option<F>
+    requires is { IsMantissaAt form text.now mantissa }
+    requires few { mantissa.dropped ≡ 0 }
+    ensures value { IfSome result (λ x. F.value x ≡ nearest_float F.format negative
+        (parts_at form.integers.decimal text.now form.marks mantissa.start)) }
+    ensures number { IfSome result (λ x. NotNan (F.value x)) }
+    ensures none { IfSome result (λ _.
+        stands (is_mark form.marks.exponent) text.now mantissa.end ≡ false) }
+{
+    if has_mark(text, mantissa.end, form.marks.exponent) {
+        return None;
+    }
+    match round_few::<F>(text, negative, mantissa) {
+        Some(x) => Some(x),
+        None => None,
+    }
+}
+
+/// Whether more digits follow a first `0`, which the form refuses: of the digits before a point.
+#[inline(always)]
+pub fn has_short_zeros(text: &[u8], form: Form, whole: Mantissa) -> bool
+    requires is { IsShort form.integers.decimal text.now whole }
+    ensures { result ≡ has_more_zeros form text.now whole.start }
+{
+    !form.float_zeros && is_zero(text, whole.start) && whole.start + 1 < whole.whole_end
+}
+
+/// The float of the digits before a point, if it is short: digits follow the point or the mark of an
+/// exponent, which the form has there, and it refuses no first `0`.
+#[inline(always)]
+pub fn read_short_float<F: Float>(
+    text: &[u8],
+    form: Form,
+    negative: bool,
+    whole: Mantissa,
+) -> Option<(F, usize)>
+    requires form { IsForm form }
+    requires is { IsShort form.integers.decimal text.now whole }
+    requires some { 0 < whole.digits }
+    requires follows { stands (is_point form.marks.point) text.now whole.whole_end ≡ false
+        → stands (is_mark form.marks.exponent) text.now whole.whole_end ≡ true }
+    ensures is { IfSome result (λ r.
+        IsFloatAt form text.now whole.start negative F.format (F.value r.0) r.1) }
+    ensures number { IfSome result (λ r. NotNan (F.value r.0)) }
+    ensures end { IfSome result (λ r. (whole.start < r.1) × (r.1 ≤ length text.now)) }
+{
+    if has_short_zeros(text, form, whole) {
+        return None;
+    }
+    let mantissa = read_fraction(text, form, whole)?;
+    if has_byte(text, mantissa.whole_end, form.marks.point) {
+        if mantissa.places == 0 {
+            return None;
+        }
+        if let Some(x) = round_short::<F>(text, form, negative, mantissa) {
+            return Some((x, mantissa.end));
+        }
+    }
+    let has_fraction = mantissa.places > 0;
+    if !form.exponents.allow(has_fraction) {
+        return None;
+    }
+    read_apart::<F>(text, form, negative, mantissa)
+}
+
+/// The float that few digits are by themselves, if one division tells.
+#[inline(always)]
+#[tactic(auto, using(digit_floats::proofs::Numbers::round_number))]
+pub fn round_short_whole<F: Float>(
+    text: &[u8],
+    word: u128,
+    negative: bool,
+    whole: Mantissa,
+) -> Option<F>
+    requires is { IsShort word text.now whole }
+    ensures value { IfSome result (λ x. F.value x ≡ nearest_float F.format negative
+        (whole_of word text.now whole.start)) }
+    ensures number { IfSome result (λ x. NotNan (F.value x)) }
+{
+    round_few::<F>(text, negative, whole)
 }
 
 /// The float of a mantissa without an exponent.

@@ -254,12 +254,14 @@ pub fn read_few(text: &[u8], language: Language, mantissa: Mantissa) -> Option<M
         IfSome result (λ r. (at < r.end) × (r.end ≤ length text.now)) }
 {
     let at = mantissa.start;
-    if !is_plain(text, language, at) {
-        return None;
-    }
     let (value, end) = read_decimal(text, language.decimal, mantissa)?;
-    if refuses(language, text, at, value, end) {
-        return Some(zero_alone(language, at));
+    if is_zero(text, at) {
+        if !is_plain(text, language, at) {
+            return None;
+        }
+        if refuses(language, text, at, value, end) {
+            return Some(zero_alone(language, at));
+        }
     }
     Some(Magnitude {
         value,

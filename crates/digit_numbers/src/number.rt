@@ -6,11 +6,12 @@ ghost use Rattle.std.specs.Prelude.{ℕ, is_some};
 ghost use Rattle.std.specs.Float.{NotNan};
 ghost use Rattle.lexical_format.specs.Word.{separator};
 ghost use Rattle.lexical_digits.specs.Separators.{is_separator};
-ghost use Rattle.digit_floats.specs.Bytes.{stands};
+ghost use Rattle.digit_floats.specs.Bytes.{stands, is_point, is_mark};
 ghost use Rattle.digit_numbers.specs.Forms.{IsForm, has_hex, hex_form, is_always_float, unprefixed};
+ghost use Rattle.digit_floats.specs.Parts.{IsShort};
 ghost use Rattle.digit_floats.specs.Hexadecimal.{IsHexadecimal};
 ghost use Rattle.digit_numbers.specs.declared.number.Number.TheVariants.{Integer};
-ghost use Rattle.digit_numbers.specs.Numbers.{past_sign, is_negative, is_float, special_here, hex_word_at, hex_value, hex_stop};
+ghost use Rattle.digit_numbers.specs.Numbers.{past_sign, is_negative, is_float, special_here, hex_word_here, hex_word_at, hex_value, hex_stop};
 ghost use Rattle.digit_numbers.specs.Numbers.{plain_at, number_of_at, to_end, with_value, IsNoNan};
 ghost use Rattle.digit_numbers.specs.Numbers.{position, message};
 ghost use Rattle.digit_languages.specs.Words.{IsLanguage};
@@ -18,12 +19,15 @@ ghost use Rattle.digit_numbers.specs.Reads.{IsMantissaAt, IsSign};
 ghost use Rattle.digit_numbers.specs.Values.{integer_in, float_in};
 ghost use Rattle.digit_numbers.specs.Specials.{special_at, special_float, name_end};
 
-use super::float::{has_more_zeros, read_float, read_large, round_whole, zero_alone};
+use super::float::{
+    has_more_zeros, has_short_zeros, read_float, read_large, read_short_float, round_short_whole,
+    round_whole, zero_alone,
+};
 use super::form::{Form, Special};
 use super::hexadecimal::read_hex;
 use super::integer::{Magnitude, is_zero, read_few, read_integer, unprefixed};
 use super::special::read_special;
-use digit_floats::{Float, Mantissa, read_mantissa, round_integer};
+use digit_floats::{Float, Mantissa, read_mantissa, read_short_whole, round_integer};
 use digit_languages::Language;
 use digit_literals::Integer;
 use lexical_format::NumberFormat;
@@ -274,6 +278,22 @@ fn read_other<F: Float>(
     }
 }
 
+/// [`read_special`], whose form and answer in memory belong to this function.
+#[inline(always)]
+fn special_in(text: &[u8], form: Form, at: usize, is_signed: bool) -> Option<(Special, usize)>
+    requires form { IsForm form }
+    requires within { at ≤ length text.now }
+    ensures is { MatchOption result (special_at form text.now at is_signed ≡ None)
+        (λ r. special_at form text.now at is_signed ≡ Some r.0) }
+    ensures end { IfSome result (λ r. r.1 ≡ name_end form text.now at r.0) }
+    ensures within { IfSome result (λ r. (at < r.1) × (r.1 ≤ length text.now)) }
+{
+    match read_special(text, form, at, is_signed) {
+        Some((special, end)) => Some((special, end)),
+        None => None,
+    }
+}
+
 /// The special value of a form at a position, if the form has any.
 #[inline(always)]
 #[tactic(auto, unfolding(crate::specs::Specials::special_at))]
@@ -286,7 +306,7 @@ fn special_of(text: &[u8], form: Form, at: usize, is_signed: bool) -> Option<(Sp
     ensures within { IfSome result (λ r. (at < r.1) × (r.1 ≤ length text.now)) }
 {
     match form.specials {
-        Some(_) => read_special(text, form, at, is_signed),
+        Some(_) => special_in(text, form, at, is_signed),
         None => None,
     }
 }
@@ -359,6 +379,161 @@ fn read_plain<F: Float>(
     read_whole::<F>(text, start, form, sign, mantissa)
 }
 
+/// Whether no hexadecimal float is after the sign, as far as its first byte tells.
+#[inline(always)]
+#[tactic(auto, using(crate::proofs::Zeros::no_hex), unfolding(crate::specs::Numbers::hex_word_at))]
+fn has_no_hex(text: &[u8], start: usize, form: Form, sign: Sign) -> bool
+    requires sign { IsSign form text.now start sign }
+    ensures { result ≡ true → hex_word_here form text.now start ≡ None }
+{
+    !form.hex_floats.exist() || !is_zero(text, sign.end)
+}
+
+/// Whether neither a point nor the mark of an exponent is at a position.
+#[inline(always)]
+fn is_whole_end(text: &[u8], form: Form, at: usize) -> bool
+    ensures point { result ≡ true → stands (is_point form.marks.point) text.now at ≡ false }
+    ensures mark { result ≡ true → stands (is_mark form.marks.exponent) text.now at ≡ false }
+    ensures follows { result ≡ false → stands (is_point form.marks.point) text.now at ≡ false
+        → stands (is_mark form.marks.exponent) text.now at ≡ true }
+{
+    match text.get(at) {
+        Some(byte) => {
+            let mark = form.marks.exponent;
+            *byte != form.marks.point && *byte != mark && *byte != mark.to_ascii_uppercase()
+        }
+        None => true,
+    }
+}
+
+/// The digits of a number before a point, after any sign, if they are few.
+#[inline(always)]
+#[tactic(auto, using(crate::proofs::Short::no_separator))]
+fn read_some(text: &[u8], form: Form, at: usize) -> Option<Mantissa>
+    requires form { IsForm form }
+    requires within { at ≤ length text.now }
+    ensures is { IfSome result (IsShort form.integers.decimal text.now) }
+    ensures start { IfSome result (λ m. m.start ≡ at) }
+    ensures some { IfSome result (λ m. 0 < m.digits) }
+    ensures no_separator { IfSome result (λ _.
+        stands (is_separator (separator form.integers.decimal)) text.now at ≡ false) }
+{
+    read_short_whole(text, form.integers.decimal, at)
+}
+
+/// The number that few digits are without a point and an exponent, if nothing is rare about them.
+#[inline(always)]
+#[tactic(auto, using(crate::proofs::Short::no_float, crate::proofs::Digits::wholes), unfolding(crate::specs::Numbers::plain_at))]
+fn short_whole<F: Float>(
+    text: &[u8],
+    start: usize,
+    form: Form,
+    sign: Sign,
+    whole: Mantissa,
+) -> Option<(Number<F>, usize)>
+    requires form { IsForm form }
+    requires sign { IsSign form text.now start sign }
+    requires is { IsShort form.integers.decimal text.now whole }
+    requires start { whole.start ≡ sign.end }
+    requires some { 0 < whole.digits }
+    requires point { stands (is_point form.marks.point) text.now whole.whole_end ≡ false }
+    requires mark { stands (is_mark form.marks.exponent) text.now whole.whole_end ≡ false }
+    ensures is { IfSome result (λ r.
+        plain_at form text.now start F.format ≡ Ok (with_value F.value r.0, r.1)) }
+    ensures no_nan { IfSome result (λ r. IsNoNan F.value r.0) }
+    ensures end { IfSome result (λ r. (start < r.1) × (r.1 ≤ length text.now)) }
+{
+    if form.whole.is_float() {
+        if has_short_zeros(text, form, whole) {
+            return None;
+        }
+        let x = round_short_whole::<F>(text, form.integers.decimal, sign.is_minus, whole)?;
+        return Some((Number::Float(x), whole.whole_end));
+    }
+    let read = read_few(text, language_of(form, sign.is_there), whole)?;
+    Some((integer_of(sign, read), read.end))
+}
+
+/// The integer or decimal float that begins at a start, and the position after it, if it has few
+/// digits, and nothing is rare about it. It is small, so that it is inlined where it is called; what
+/// it leaves is read again by [`read_long`].
+#[inline(always)]
+#[tactic(auto, unfolding(crate::specs::Numbers::plain_at))]
+fn read_short<F: Float>(
+    text: &[u8],
+    start: usize,
+    form: Form,
+    sign: Sign,
+) -> Option<(Number<F>, usize)>
+    requires within { start ≤ length text.now }
+    requires form { IsForm form }
+    requires sign { IsSign form text.now start sign }
+    ensures is { IfSome result (λ r.
+        plain_at form text.now start F.format ≡ Ok (with_value F.value r.0, r.1)) }
+    ensures no_nan { IfSome result (λ r. IsNoNan F.value r.0) }
+    ensures end { IfSome result (λ r. (start < r.1) × (r.1 ≤ length text.now)) }
+    ensures no_separator { IfSome result (λ _.
+        stands (is_separator (separator form.integers.decimal)) text.now sign.end ≡ false) }
+{
+    let whole = read_some(text, form, sign.end)?;
+    if is_whole_end(text, form, whole.whole_end) {
+        return short_whole::<F>(text, start, form, sign, whole);
+    }
+    let (x, end) = read_short_float::<F>(text, form, sign.is_minus, whole)?;
+    Some((Number::Float(x), end))
+}
+
+/// [`read_number_of`], whatever the number is, where no special value is. In code of its own.
+#[inline(never)]
+#[tactic(auto, unfolding(crate::specs::Numbers::number_of_at))]
+fn read_long<F: Float>(
+    text: &[u8],
+    start: usize,
+    form: Form,
+) -> Result<(Number<F>, usize), NumberError>
+    requires within { start ≤ length text.now }
+    requires form { IsForm form }
+    requires no_special { special_here form text.now start ≡ None }
+    ensures is { MatchResult result
+        (λ r. number_of_at form text.now start F.format ≡ Ok (with_value F.value r.0, r.1))
+        (λ error. number_of_at form text.now start F.format ≡ Err error) }
+    ensures no_nan { IfOk result (λ r. IsNoNan F.value r.0) }
+    ensures end { IfOk result (λ r. (start < r.1) × (r.1 ≤ length text.now)) }
+{
+    let sign = read_sign(text, form, start);
+    let language = language_of(form, sign.is_there);
+    if let Some((x, end)) = hex_of::<F>(text, form, language, sign.is_minus, sign.end) {
+        return Ok((Number::Float(x), end));
+    }
+    if has_separator(text, form.integers.decimal, sign.end) {
+        return Err(NumberError::Empty(sign.end));
+    }
+    read_plain::<F>(text, start, form, sign)
+}
+
+/// [`read_long`]. What its call takes and answers in memory belongs to this function, so it is set
+/// only where that is called.
+#[inline(always)]
+fn read_rest<F: Float>(
+    text: &[u8],
+    start: usize,
+    form: Form,
+) -> Result<(Number<F>, usize), NumberError>
+    requires within { start ≤ length text.now }
+    requires form { IsForm form }
+    requires no_special { special_here form text.now start ≡ None }
+    ensures is { MatchResult result
+        (λ r. number_of_at form text.now start F.format ≡ Ok (with_value F.value r.0, r.1))
+        (λ error. number_of_at form text.now start F.format ≡ Err error) }
+    ensures no_nan { IfOk result (λ r. IsNoNan F.value r.0) }
+    ensures end { IfOk result (λ r. (start < r.1) × (r.1 ≤ length text.now)) }
+{
+    match read_long::<F>(text, start, form) {
+        Ok((number, end)) => Ok((number, end)),
+        Err(error) => Err(error),
+    }
+}
+
 /// The number of a form that begins at `start`, and the position after it. After any sign it is
 /// the form's special value there, if there is one, or a hexadecimal float. Otherwise it is the
 /// longest prefix of the rest of the text that is an integer or a decimal float. Only where more
@@ -393,14 +568,12 @@ pub fn read_number_of<F: Float>(
         let x = special.value.float::<F>(sign.is_minus);
         return Ok((Number::Float(x), end));
     }
-    let language = language_of(form, sign.is_there);
-    if let Some((x, end)) = hex_of::<F>(text, form, language, sign.is_minus, sign.end) {
-        return Ok((Number::Float(x), end));
+    if has_no_hex(text, start, form, sign) {
+        if let Some((number, end)) = read_short::<F>(text, start, form, sign) {
+            return Ok((number, end));
+        }
     }
-    if has_separator(text, form.integers.decimal, sign.end) {
-        return Err(NumberError::Empty(sign.end));
-    }
-    read_plain::<F>(text, start, form, sign)
+    read_rest::<F>(text, start, form)
 }
 
 /// The number of a form that a text is, as by [`read_number_of`].

@@ -1,0 +1,21 @@
+use Rattle.std.proofs.Common.{◌≡◌, ◌<◌, length, arith}
+use Rattle.digit_numbers.specs.Numbers.{whole_digits}
+use Rattle.digit_numbers.proofs.Short.{powered_float}
+use Rattle.digit_numbers.proofs.float.read_apart.Goals as goal
+
+pub returns-in-Some-clause-is : goal.returns-in-Some-clause-is
+returns-in-Some-clause-is g c =
+    let e = c.in-Some.ensures in
+    let f = c.args.form in
+    let text = c.args.text.now in
+    let m = c.args.mantissa in
+    let is = c.requires.is in
+    let digits = rw (is.integer, is.fraction) at is.is.digits in
+    let places = rw is.fraction at is.is.places in
+    let whole : 0 < length (whole_digits f text m.start) = omega (arith, digits, places, c.requires.some) in
+    let pointed = rw (is.whole_end, places) at c.requires.pointed in
+    let follows = rw is.ends at e.some in
+    let marked = rw (is.whole_end, is.ends) at c.requires.marked in
+    let allowed = rw places at c.requires.exponents in
+    rw (e.ends, is.ends) (powered_float f text m.start whole pointed c.requires.zeros
+    g.F.Float.format c.args.negative _ e.value allowed follows marked)

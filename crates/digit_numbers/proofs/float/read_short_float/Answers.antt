@@ -1,0 +1,22 @@
+use Rattle.std.proofs.Common.{◌≡◌, ◌<◌, length, sym, arith}
+use Rattle.digit_numbers.specs.Numbers.{whole_digits, fraction}
+use Rattle.digit_numbers.proofs.Short.{pointed_float}
+use Rattle.digit_numbers.proofs.float.read_short_float.Goals as goal
+
+pub returns-in-Some-clause-is : goal.returns-in-Some-clause-is
+returns-in-Some-clause-is g c =
+    let f = c.args.form in
+    let text = c.args.text.now in
+    let m = c.in_ok-mantissa.mantissa in
+    let e = c.in_ok-mantissa.ensures in
+    let is = e.is in
+    let digits = rw (is.integer, is.fraction) at is.is.digits in
+    let places = rw is.fraction at is.is.places in
+    let whole : 0 < length (whole_digits f text m.start) =
+    omega (arith, digits, places, e.digits, c.requires.some) in
+    let more : 0 < length (fraction f text m.start) = omega (arith, places) in
+    let zeros = rw (← e.start) at (sym c.if-has_short_zeros.ensures) in
+    let point = rw is.whole_end at c.if-has_byte.ensures.is in
+    let no_mark = rw is.ends at c.in-Some.ensures.none in
+    rw (← e.start, is.ends) (pointed_float f text m.start whole (λ _. more) zeros
+    g.F.Float.format c.args.negative _ c.in-Some.ensures.value (sym point) no_mark)
