@@ -17,3 +17,4 @@ pub mod Significant
 pub mod Firsts
 pub mod Fresh
 pub mod MoreFlags
+pub mod WhatFollows

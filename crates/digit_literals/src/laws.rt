@@ -17,6 +17,7 @@ ghost use Rattle.digit_literals.specs.Outcomes.{ReadsAll, FindsNone, PassesMost}
 ghost use Rattle.digit_literals.specs.declared.LiteralError.TheVariants.{Empty, Overflow};
 
 pub mod flags;
+pub mod follows;
 
 use super::first::FirstDigits;
 

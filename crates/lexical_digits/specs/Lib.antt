@@ -1,5 +1,6 @@
 pub mod Separators
 pub mod Stop
+pub mod Follows
 pub mod Texts
 pub mod State
 pub mod Cursor

@@ -1,7 +1,7 @@
 //! Where the digits of a component end: laws of its iterator. Each law is the contract of a
 //! function.
 
-ghost use Rattle.std.specs.Prelude.{◌≡◌, ℕ, ◌<◌, ◌≤◌, false, List, [], length, take, filter, slice_range};
+ghost use Rattle.std.specs.Prelude.{◌≡◌, ℕ, ◌+◌, ◌<◌, ◌≤◌, false, List, [], length, take, filter, slice_range};
 ghost use Rattle.std.specs.Fn.{iterate};
 ghost use Rattle.lexical_format.specs.Digits.{is_digit_of_radix};
 ghost use Rattle.lexical_digits.specs.declared.skip.rule.Rule.{Rule};
@@ -9,6 +9,7 @@ ghost use Rattle.lexical_digits.specs.Separators.{is_digit, IsSupported, GrantsA
 ghost use Rattle.lexical_digits.specs.State.{State, IsState, rule};
 ghost use Rattle.lexical_digits.specs.CallTable.{place_of, settled, taken};
 ghost use Rattle.lexical_digits.specs.Looks.{separator_at};
+ghost use Rattle.lexical_digits.specs.Follows.{Ends, AreSameUpTo};
 ghost use Rattle.lexical_digits.specs.Stop.{leading, after_leading, stop, leading_digits, stop_of, leading_digits_of, past_digits_of, IsNthDigit};
 ghost use Rattle.lexical_digits.specs.declared.skip.component.Component.{Component};
 
@@ -76,4 +77,28 @@ pub fn more_flags_read_on()
         IsSupported lesser → GrantsAtLeast lesser greater →
         separator_at lesser.separator buffer (stop lesser buffer start count) ≡ false →
         leading_digits greater buffer start count ≡ leading_digits lesser buffer start count }
+{}
+
+/// What follows makes no difference. Where two texts have the same bytes up to a position, and each
+/// ends there, or goes on with a byte that is neither a digit nor the separator, the stop from any
+/// start up to there is the same, and no later than that position.
+///
+/// So a number is read in a longer text as it is read alone.
+#[tactic(auto, using(crate::proofs::Calls::WhatFollows::follows))]
+pub fn what_follows_changes_no_stop()
+    ensures upto { (rule : Rule) (one other : List ℕ) (at start count : ℕ) →
+        AreSameUpTo rule one other at → start ≤ at →
+        stop rule one start count ≤ at }
+    ensures same_stop { (rule : Rule) (one other : List ℕ) (at start count : ℕ) →
+        AreSameUpTo rule one other at → start ≤ at →
+        stop rule one start count ≡ stop rule other start count }
+    ensures same_digits { (rule : Rule) (one other : List ℕ) (at start count : ℕ) →
+        AreSameUpTo rule one other at → start ≤ at →
+        leading_digits rule one start count ≡ leading_digits rule other start count }
+    // a text is the same as itself cut where a number ends, and as one with that byte there too
+    ensures cut { (rule : Rule) (text : List ℕ) (at : ℕ) →
+        at ≤ length text → Ends rule text at → AreSameUpTo rule (take at text) text at }
+    ensures through { (rule : Rule) (one other : List ℕ) (at : ℕ) →
+        at < length one → at < length other → take (at + 1) one ≡ take (at + 1) other →
+        Ends rule one at → AreSameUpTo rule one other at }
 {}

@@ -4,6 +4,7 @@ use super::steps::{Part, Step, assert_part};
 use super::{CONSECUTIVE, INTERNAL, LEADING, TRAILING, UNFLAGGED, bytes_of};
 use crate::slow::is_kept;
 use digit_literals::laws::flags::more_flags_read_the_same;
+use digit_literals::laws::follows::what_follows_changes_no_number;
 use digit_literals::laws::{
     first_are_significant, first_go_on, greater_reads_more, outcomes_say, too_large_leaves_the_rest,
 };
@@ -21,7 +22,7 @@ use lexical_digits::laws::{
     special_drops_all, ungranted_keeps_all, zeros_unroll,
 };
 use lexical_digits::skip::{Bytes, Class, Rule, Run, Sight};
-use lexical_digits::stop::{digits_end, more_flags_read_on};
+use lexical_digits::stop::{digits_end, more_flags_read_on, what_follows_changes_no_stop};
 use lexical_format::laws::{constants_are, flags_are_bits, masks_are_flags, words_say};
 use lexical_format::{
     EXPONENT_INTERNAL_DIGIT_SEPARATOR, FRACTION_INTERNAL_DIGIT_SEPARATOR, SPECIAL_DIGIT_SEPARATOR,
@@ -253,6 +254,8 @@ fn laws_over_definitions_may_be_called(rt: HostRuntime) {
     digits_end();
     more_flags_read_on();
     more_flags_read_the_same();
+    what_follows_changes_no_stop();
+    what_follows_changes_no_number();
     rest_is_left();
     digits_are_rows();
     assert!(rt; is_supported(STANDARD));
