@@ -18,5 +18,6 @@ mod Signs
 mod Squeeze
 mod Tens
 mod Units
+mod WhatFollows
 mod WholePart
 mod Written

@@ -5,6 +5,7 @@ pub mod Decimals
 pub mod Errors
 pub mod Exact
 pub mod Float
+pub mod Follows
 pub mod Hexadecimal
 pub mod Near
 pub mod Parts

@@ -1,7 +1,7 @@
 //! Laws: what an outcome says, std reads the same where there is no separator, and a zero keeps its
 //! sign.
 
-ghost use Rattle.std.specs.Prelude.{◌≡◌, ℕ, ◌↔◌, Some, Ok, Err, length};
+ghost use Rattle.std.specs.Prelude.{◌≡◌, ℕ, ◌≤◌, ◌↔◌, List, Some, Ok, Err, length};
 ghost use Rattle.std.specs.Float.{Float, Format};
 ghost use Rattle.std.specs.Float.Ieee.{round};
 ghost use Rattle.std.specs.Float.Numeral.{numeral_digits};
@@ -10,6 +10,7 @@ ghost use Rattle.digit_floats.specs.Float.{IsDecimal, plain_marks, past_sign, pa
 ghost use Rattle.digit_floats.specs.Bytes.{stands, is_minus};
 ghost use Rattle.digit_floats.specs.declared.error.FloatError.{FloatError};
 ghost use Rattle.digit_floats.specs.declared.parts.Marks.{Marks};
+ghost use Rattle.digit_floats.specs.Follows.{IsSameFloatUpTo};
 ghost use Rattle.digit_floats.specs.Separators.{HasNoSeparator};
 
 /// On a text without separators, all of which is a float, std's `parse` answers the same float.
@@ -42,4 +43,14 @@ pub fn float_outcomes_say(text: &[u8], word: u128)
     ensures none { (marks : Marks) (f : Format) (at : ℕ) (error : FloatError) →
         read_at word text.now marks f at ≡ Err error ↔
         end_at word text.now marks at ≡ Err error }
+{}
+
+/// What follows a float makes no difference to it. Where two texts have the same bytes up to a
+/// position, and each ends there, or goes on with a byte that is no digit of the word, no
+/// separator, point, mark or sign, the float from each start up to there is the same: the same
+/// float and end, or the same fault.
+pub fn what_follows_changes_no_float()
+    ensures { (word : ℕ) (marks : Marks) (one other : List ℕ) (at start : ℕ) (f : Format) →
+        IsSameFloatUpTo word marks one other at → start ≤ at →
+        read_at word one marks f start ≡ read_at word other marks f start }
 {}

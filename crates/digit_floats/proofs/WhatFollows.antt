@@ -1,0 +1,190 @@
+-- What stands behind the end of a float makes no difference to the float.
+use Rattle.std.proofs.Common.{◌≡◌, ℕ, ◌+◌, ◌<◌, ◌≤◌, Bool, true, false, cond, List, refl, ap, ◌∙◌, arith, inl, inr}
+use Rattle.std.proofs.lemmas.Bool.{cases_lt}
+use Rattle.std.proofs.lemmas.Bool.Decides.{nat_tests}
+use Rattle.std.specs.Prelude.{Result}
+use Rattle.std.specs.Float.{Format}
+use Rattle.std.specs.Float.Numeral.{Parts, nearest_float}
+use Rattle.digit_floats.specs.declared.error.FloatError.{FloatError}
+use Rattle.lexical_digits.specs.declared.skip.component.Component.{Component}
+use Rattle.lexical_digits.specs.declared.skip.component.Component.TheVariants.{Integer, Fraction, Exponent}
+use Rattle.lexical_digits.specs.State.{rule_of}
+use Rattle.lexical_digits.proofs.Calls.WhatFollows.{same_there, same_stop, stop_upto}
+use Rattle.digit_literals.proofs.WhatFollows.{same_between}
+use Rattle.digit_floats.specs.declared.parts.Marks.{Marks}
+use Rattle.digit_floats.specs.Bytes.{stands, is_sign, is_minus, is_point, is_mark}
+use Rattle.digit_floats.specs.Float.{past_sign, digits_end, digits_from, fraction_digits, fraction_end, exponent_digits, exponent_end, exponent_negative, parts_at, mantissa_end, end_from, with_end, read_at}
+use Rattle.digit_floats.specs.Follows.{IsSameFloatUpTo}
+
+module _ (word : ℕ) (marks : Marks) (one other : List ℕ) (at : ℕ)
+    (upto : IsSameFloatUpTo word marks one other at) where
+  -- what stands before the end is the same, and what is at the end has no part in it
+  stands_same : (p : ℕ → Bool) (i : ℕ) → i ≤ at → stands p one at ≡ false
+      → stands p other at ≡ false → stands p one i ≡ stands p other i
+  stands_same p i l here there = elim (cases_lt i at) [
+    | inl m ↦ rw (same_there (rule_of word Integer) one other at (upto.digits Integer) i m) refl
+    | inr m ↦ let e : i ≡ at = omega arith in rw (e, here, there) refl
+  ]
+
+  no_minus : (text : List ℕ) → stands is_sign text at ≡ false → stands is_minus text at ≡ false
+  no_minus text h = grind (arith, nat_tests)
+
+  -- what stands there is before the end
+  stands_before : (p : ℕ → Bool) (text : List ℕ) (i : ℕ) → i ≤ at → stands p text at ≡ false
+      → stands p text i ≡ true → i < at
+  stands_before p text i l none is = elim (cases_lt i at) [
+    | inl m ↦ m
+    | inr m ↦ let e : i ≡ at = omega arith in let h : stands p text at ≡ true = rw (← e) is in cc
+  ]
+
+  -- ---- the digits of a component
+
+  ends_same : (k : Component) (i : ℕ) → i ≤ at → digits_end word one k i ≡ digits_end word other k i
+  unfolding digits_end
+  ends_same k i l = same_stop (rule_of word k) one other at (upto.digits k) i 0 l
+
+  ends_upto : (k : Component) (i : ℕ) → i ≤ at → digits_end word one k i ≤ at
+  unfolding digits_end
+  ends_upto k i l = stop_upto (rule_of word k) one other at (upto.digits k) i 0 l
+
+  digits_same : (k : Component) (i : ℕ) → i ≤ at
+      → digits_from word one k i ≡ digits_from word other k i
+  unfolding digits_from
+  digits_same k i l =
+      rw (← ends_same k i l)
+      (same_between (rule_of word k) one other at (upto.digits k) i _ (ends_upto k i l))
+
+  -- ---- after a sign
+
+  sign_same : (i : ℕ) → i ≤ at → past_sign one i ≡ past_sign other i
+  sign_same i l = rw (stands_same is_sign i l upto.one_ends.sign upto.other_ends.sign) refl
+
+  sign_upto : (i : ℕ) → i ≤ at → past_sign one i ≤ at
+  sign_upto i l = grind (arith, nat_tests, stands_before is_sign one i l upto.one_ends.sign)
+
+  minus_same : (i : ℕ) → i ≤ at → stands is_minus one i ≡ stands is_minus other i
+  minus_same i l =
+      stands_same is_minus i l (no_minus one upto.one_ends.sign)
+      (no_minus other upto.other_ends.sign)
+
+  -- ---- after a point
+
+  abbrev point : ℕ → Bool
+  point i = stands (is_point marks.point) one i
+
+  point_same : (i : ℕ) → i ≤ at → point i ≡ stands (is_point marks.point) other i
+  point_same i l =
+      stands_same (is_point marks.point) i l upto.one_ends.point upto.other_ends.point
+
+  point_before : (i : ℕ) → i ≤ at → point i ≡ true → i + 1 ≤ at
+  point_before i l is =
+      omega (arith, stands_before (is_point marks.point) one i l upto.one_ends.point is)
+
+  -- by whether a test holds
+  if_same : {A : Type 0} (b c : Bool) (x y z : A) → b ≡ c → (b ≡ true → x ≡ y)
+      → cond b x z ≡ cond c y z
+  if_same true c x y z e h = rw (← e) (h refl)
+  if_same false c x y z e h = rw (← e) refl
+
+  fraction_same : (i : ℕ) → i ≤ at
+      → fraction_digits word one marks.point i ≡ fraction_digits word other marks.point i
+  unfolding fraction_digits
+  fraction_same i l =
+      if_same _ _ _ _ _ (point_same i l)
+      (λ is. digits_same Fraction (i + 1) (point_before i l is))
+
+  fraction_end_same : (i : ℕ) → i ≤ at
+      → fraction_end word one marks.point i ≡ fraction_end word other marks.point i
+  unfolding fraction_end
+  fraction_end_same i l =
+      if_same _ _ _ _ _ (point_same i l)
+      (λ is. ends_same Fraction (i + 1) (point_before i l is))
+
+  fraction_end_upto : (i : ℕ) → i ≤ at → fraction_end word one marks.point i ≤ at
+  unfolding fraction_end
+  fraction_end_upto i l = grind (arith, point_before i l, ends_upto Fraction (i + 1))
+
+  -- ---- after the mark of an exponent
+
+  abbrev mark : ℕ → Bool
+  mark i = stands (is_mark marks.exponent) one i
+
+  mark_same : (i : ℕ) → i ≤ at → mark i ≡ stands (is_mark marks.exponent) other i
+  mark_same i l =
+      stands_same (is_mark marks.exponent) i l upto.one_ends.mark upto.other_ends.mark
+
+  mark_before : (i : ℕ) → i ≤ at → mark i ≡ true → i + 1 ≤ at
+  mark_before i l is =
+      omega (arith, stands_before (is_mark marks.exponent) one i l upto.one_ends.mark is)
+
+  exponent_same : (i : ℕ) → i ≤ at
+      → exponent_digits word one marks.exponent i ≡ exponent_digits word other marks.exponent i
+  unfolding exponent_digits
+  exponent_same i l =
+      if_same _ _ _ _ _ (mark_same i l) (λ is.
+      let low = mark_before i l is in
+      rw (← sign_same (i + 1) low) (digits_same Exponent _ (sign_upto (i + 1) low)))
+
+  exponent_end_same : (i : ℕ) → i ≤ at
+      → exponent_end word one marks.exponent i ≡ exponent_end word other marks.exponent i
+  unfolding exponent_end
+  exponent_end_same i l =
+      if_same _ _ _ _ _ (mark_same i l) (λ is.
+      let low = mark_before i l is in
+      rw (← sign_same (i + 1) low) (ends_same Exponent _ (sign_upto (i + 1) low)))
+
+  negative_same : (i : ℕ) → i ≤ at
+      → exponent_negative word one marks.exponent i ≡ exponent_negative word other marks.exponent i
+  unfolding exponent_negative
+  negative_same i l =
+      grind (arith, mark_same i l, mark_before i l, minus_same (i + 1))
+
+  -- ---- the number, and the float
+
+  module _ (i : ℕ) (from : i ≤ at) where
+    whole_upto : digits_end word one Integer i ≤ at
+    whole_upto = ends_upto Integer i from
+
+    mantissa_same : mantissa_end word one marks.point i ≡ mantissa_end word other marks.point i
+    mantissa_same = fraction_end_same _ whole_upto ∙ ap (fraction_end word other marks.point) (ends_same Integer i from)
+
+    mantissa_upto : mantissa_end word one marks.point i ≤ at
+    mantissa_upto = fraction_end_upto _ whole_upto
+
+    parts_same : parts_at word one marks i ≡ parts_at word other marks i
+    parts_same =
+        rw (
+          digits_same Integer i from,
+          point_same (digits_end word one Integer i) whole_upto,
+          fraction_same (digits_end word one Integer i) whole_upto,
+          negative_same (mantissa_end word one marks.point i) mantissa_upto,
+          exponent_same (mantissa_end word one marks.point i) mantissa_upto,
+          exponent_end_same (mantissa_end word one marks.point i) mantissa_upto,
+          fraction_end_same (digits_end word one Integer i) whole_upto,
+          ends_same Integer i from,
+        ) refl
+
+    end_same : end_from word one marks i ≡ end_from word other marks i
+    end_same =
+        rw (
+          digits_same Integer i from,
+          fraction_same (digits_end word one Integer i) whole_upto,
+          mark_same (mantissa_end word one marks.point i) mantissa_upto,
+          exponent_same (mantissa_end word one marks.point i) mantissa_upto,
+          exponent_end_same (mantissa_end word one marks.point i) mantissa_upto,
+          fraction_end_same (digits_end word one Integer i) whole_upto,
+          ends_same Integer i from,
+        ) refl
+
+  with_same : (f : Format) (a b : Bool) (p q : Parts) (e d : Result ℕ FloatError) → a ≡ b → p ≡ q
+      → e ≡ d → with_end (nearest_float f a p) e ≡ with_end (nearest_float f b q) d
+  with_same f a b p q e d minus parts end = rw (minus, parts, end) refl
+
+  pub same_float : (i : ℕ) → i ≤ at → (f : Format)
+      → read_at word one marks f i ≡ read_at word other marks f i
+  same_float i from f =
+      let past = sign_upto i from in
+      let sign = sign_same i from in
+      with_same f _ _ _ _ _ _ (minus_same i from)
+      (parts_same (past_sign one i) past ∙ ap (parts_at word other marks) sign)
+      (end_same (past_sign one i) past ∙ ap (end_from word other marks) sign)
