@@ -4,7 +4,7 @@ use Rattle.lexical_format.specs.Word.{is_supported}
 use Rattle.lexical_digits.specs.State.{rule_of, start, with_cursor}
 use Rattle.lexical_digits.specs.Stop.{stop, stop_of}
 use Rattle.lexical_digits.specs.Laws.Table.{with_own_buffer, with_own_word}
-use native.Mathlib.Nat.{mod-eq_of_lt, mul-le-mul_right}
+use native.Mathlib.Nat.{mod-eq_of_lt, mul-le-mul_right, pow-le-pow_right}
 use lib.Pow.{pow-add}
 use Rattle.std.proofs.Math.Nat.{pow-le-pow_right}
 use Rattle.std.specs.Prelude.{Some, None}
@@ -154,17 +154,17 @@ module _ (word : ℕ) (k : Component) (text : List ℕ) (at before most over : �
 
 -- ---- off a slice, where no digit was tested for being too large
 
-pub few_fit : (r : Rule) (text : List ℕ) (at before most : ℕ) (read : ReadTo)
-    → r.radix ≡ 10 → (before + 1) * 10 ^ read.count ≤ 10 ^ 19 → 10 ^ 19 ≤ most + 1
+pub fit_below : (r : Rule) (text : List ℕ) (at before most bound : ℕ) (read : ReadTo)
+    → r.radix ≡ 10 → (before + 1) * 10 ^ read.count ≤ bound → bound ≤ 2 ^ 64 → bound ≤ most + 1
     → IsOffSlice r text at before None read → IsOffSlice r text at before (Some most) read
-few_fit r text at before most read ten room top h =
+fit_below r text at before most bound read ten room small top h =
     let digits = digits_between r text at read.end in
     let below : digits_value 10 digits < 10 ^ read.count =
     rw (h.reads 0).digits (digits_value-lt 10 digits (subst (λ (n : ℕ). AllDigits n digits) ten (all_digits r _))) in
     let pieces : digits_value_after 10 before digits ≡ before * 10 ^ read.count + digits_value 10 digits =
     rw (h.reads 0).digits (value_of_pieces 10 before digits) in
     let more : (before + 1) * 10 ^ read.count ≡ before * 10 ^ read.count + 10 ^ read.count = grind arith in
-    let less : digits_value_after 10 before digits < 10 ^ 19 = omega arith in
+    let less : digits_value_after 10 before digits < bound = omega arith in
     let is : read.value ≡ digits_value_after 10 before digits =
     subst (λ (n : ℕ). read.value ≡ digits_value_after n before digits % 2 ^ 64) ten h.wrapped
     ∙ mod-eq_of_lt (omega arith) in
@@ -187,6 +187,20 @@ few_fit r text at before most read ten room top h =
       below = h.below;
       dense = h.dense;
     }
+
+pub few_fit : (r : Rule) (text : List ℕ) (at before most : ℕ) (read : ReadTo)
+    → r.radix ≡ 10 → (before + 1) * 10 ^ read.count ≤ 10 ^ 19 → 10 ^ 19 ≤ most + 1
+    → IsOffSlice r text at before None read → IsOffSlice r text at before (Some most) read
+few_fit r text at before most read ten room top h =
+    fit_below r text at before most (10 ^ 19) read ten room (omega arith) top h
+
+-- at most seven digits
+pub seven_fit : (r : Rule) (text : List ℕ) (at most : ℕ) (read : ReadTo)
+    → r.radix ≡ 10 → read.count ≤ 7 → 9999999 ≤ most
+    → IsOffSlice r text at 0 None read → IsOffSlice r text at 0 (Some most) read
+seven_fit r text at most read ten few top h =
+    let room : 10 ^ read.count ≤ 10 ^ 7 = pow-le-pow_right (omega arith) few in
+    fit_below r text at 0 most (10 ^ 7) read ten (omega (arith, room)) (omega arith) (omega (arith, top)) h
 
 pub has_room : (before count bound : ℕ) → count ≤ 19 → bound ≡ 10 ^ (19 - count) → before < bound
     → (before + 1) * 10 ^ count ≤ 10 ^ 19

@@ -1,5 +1,7 @@
 pub mod WordOfDigits
 pub mod Plain
+pub mod Joined
+pub mod Whole
 pub mod Peeks
 pub mod States
 pub mod Passed
@@ -15,6 +17,10 @@ pub mod ForCallers
 pub mod Rest
 pub mod Significant
 pub mod Firsts
+pub mod InGroups
 pub mod Fresh
 pub mod MoreFlags
 pub mod WhatFollows
+pub mod Lists
+pub mod Counts
+pub mod Written

@@ -68,7 +68,7 @@ module _ (rule : Rule) (text : List ℕ) (start before : ℕ) (most : Option ℕ
 -- ---- eight more
 
 -- a decimal digit
-decimal : (b : ℕ) → 48 ≤ b → b < 58 → digit_of_radix 10 b ≡ Some (b - 48)
+pub decimal : (b : ℕ) → 48 ≤ b → b < 58 → digit_of_radix 10 b ≡ Some (b - 48)
 unfolding words.digit_value
 decimal b low up = grind (arith, nat_tests)
 
@@ -133,7 +133,7 @@ module _ (rule : Rule) (text : List ℕ) (start before : ℕ) (ten : rule.radix 
   none_more None value more a b = b ∙ wrapped_more value (worth_to at) (10 ^ 8) next a ∙ ap (λ k. k % 2 ^ 64) (sym eight_worth)
   none_more (Some m) value more a b = tt
 
-lt_or_le : (a b : ℕ) → (a < b) ⊎ (b ≤ a)
+pub lt_or_le : (a b : ℕ) → (a < b) ⊎ (b ≤ a)
 lt_or_le a zero = inr (omega arith)
 lt_or_le zero (suc b) = inl (omega arith)
 lt_or_le (suc a) (suc b) =
@@ -162,7 +162,7 @@ eight_plain rule text start before most at value more ten plain eight =
     below_or q f g = elim (lt_or_le q at) [ inl l ↦ f l | inr l ↦ g l ]
 
 -- eight digits write a number of eight digits
-below_eight : (text : List ℕ) (at next : ℕ) → AreEight text at next → next < 10 ^ 8
+pub below_eight : (text : List ℕ) (at next : ℕ) → AreEight text at next → next < 10 ^ 8
 below_eight text at next eight =
     let d : ℕ → ℕ = λ i. slice_index text (at + i) - 48 in
     let low : (i : ℕ) → i < 8 → d i < 10 = λ i l. omega (arith, eight.digits i l) in

@@ -1,8 +1,8 @@
 -- Eight decimal digits in a word: their test, and the number that they write.
-use Rattle.std.proofs.Common.{◌≡◌, ℕ, zero, suc, ◌+◌, ◌-◌, ◌*◌, ◌/◌, ◌%◌, ◌^◌, ◌<◌, ◌≤◌, bit_and, sym, ap, ◌∙◌, arith}
+use Rattle.std.proofs.Common.{◌≡◌, ℕ, zero, suc, ◌+◌, ◌-◌, ◌*◌, ◌/◌, ◌%◌, ◌^◌, ◌<◌, ◌≤◌, bit_and, refl, sym, ap, ◌∙◌, arith}
 use Rattle.std.proofs.Math.Nat.{mod-eq_of_lt}
 use Rattle.std.proofs.lemmas.Nat.{and_block, and_mask}
-use Rattle.digit_literals.specs.Eight.{byte_of, AreBelow, spelt, number_of}
+use Rattle.digit_literals.specs.Eight.{byte_of, AreBelow, spelt, number_of, written}
 
 -- ---- the test
 
@@ -172,3 +172,97 @@ same_number b d h =
     let e6 = e 6 (omega arith) in
     let e7 = e 7 (omega arith) in
     λ j. ((((((e0 j * 10 + e1 j) * 10 + e2 j) * 10 + e3 j) * 10 + e4 j) * 10 + e5 j) * 10 + e6 j) * 10 + e7 j
+
+-- digits that are the same write the same number
+pub same_written : (d e : ℕ → ℕ) (n : ℕ) → ((i : ℕ) → i < n → d i ≡ e i) → written d n ≡ written e n
+same_written d e zero h = refl
+same_written d e (suc n) h =
+    omega (arith, same_written d e n (λ i l. h i (omega arith)), h n (omega arith))
+
+-- ---- the last of eight digits
+
+-- each byte of it
+byte_at : (y a b c d e f g h : ℕ)
+    → a < 10 → b < 10 → c < 10 → d < 10 → e < 10 → f < 10 → g < 10 → h < 10
+    → y ≡ a + 256 * (b + 256 * (c + 256 * (d + 256 * (e + 256 * (f + 256 * (g + 256 * h))))))
+    → (byte_of y 0 ≡ a) × (byte_of y 1 ≡ b) × (byte_of y 2 ≡ c) × (byte_of y 3 ≡ d)
+    × (byte_of y 4 ≡ e) × (byte_of y 5 ≡ f) × (byte_of y 6 ≡ g) × (byte_of y 7 ≡ h)
+byte_at y a b c d e f g h A B C D E F G H is =
+    let r1 : y / 256 ≡ b + 256 * (c + 256 * (d + 256 * (e + 256 * (f + 256 * (g + 256 * h))))) = omega (arith, is, A) in
+    let r2 : y / 256 / 256 ≡ c + 256 * (d + 256 * (e + 256 * (f + 256 * (g + 256 * h)))) = omega (arith, r1, B) in
+    let r3 : y / 256 / 256 / 256 ≡ d + 256 * (e + 256 * (f + 256 * (g + 256 * h))) = omega (arith, r2, C) in
+    let r4 : y / 256 / 256 / 256 / 256 ≡ e + 256 * (f + 256 * (g + 256 * h)) = omega (arith, r3, D) in
+    let r5 : y / 256 / 256 / 256 / 256 / 256 ≡ f + 256 * (g + 256 * h) = omega (arith, r4, E) in
+    let r6 : y / 256 / 256 / 256 / 256 / 256 / 256 ≡ g + 256 * h = omega (arith, r5, F) in
+    let r7 : y / 256 / 256 / 256 / 256 / 256 / 256 / 256 ≡ h = omega (arith, r6, G) in
+    (omega (arith, is, A), omega (arith, r1, B), omega (arith, r2, C), omega (arith, r3, D), omega (arith, r4, E), omega (arith, r5, F), omega (arith, r6, G), omega (arith, r7, H))
+
+-- a word of eight digits
+bytes_from : (y a b c d e f g h : ℕ)
+    → a < 10 → b < 10 → c < 10 → d < 10 → e < 10 → f < 10 → g < 10 → h < 10
+    → y ≡ a + 256 * (b + 256 * (c + 256 * (d + 256 * (e + 256 * (f + 256 * (g + 256 * h))))))
+    → AreBelow 10 8 y × (number_of (byte_of y) ≡ ((((((a * 10 + b) * 10 + c) * 10 + d) * 10 + e) * 10 + f) * 10 + g) * 10 + h)
+bytes_from y a b c d e f g h A B C D E F G H is =
+    let each = byte_at y a b c d e f g h A B C D E F G H is in
+    let end : y / 256 / 256 / 256 / 256 / 256 / 256 / 256 / 256 ≡ 0 = omega (arith, each.7, is, A, B, C, D, E, F, G, H) in
+    let b0 = each.0 in
+    let b1 = each.1 in
+    let b2 = each.2 in
+    let b3 = each.3 in
+    let b4 = each.4 in
+    let b5 = each.5 in
+    let b6 = each.6 in
+    let b7 = each.7 in (
+      (omega (arith, b0, A), (omega (arith, b1, B), (omega (arith, b2, C), (omega (arith, b3, D), (omega (arith, b4, E), (omega (arith, b5, F), (omega (arith, b6, G), (omega (arith, b7, H), end)))))))),
+      omega (arith, b0, b1, b2, b3, b4, b5, b6, b7),
+    )
+
+-- the bytes of a word
+pub bytes_are : (x : ℕ) → AreBelow 10 8 x
+    → x ≡ byte_of x 0 + 256 * (byte_of x 1 + 256 * (byte_of x 2 + 256 * (byte_of x 3 + 256 * (byte_of x 4 + 256 * (byte_of x 5 + 256 * (byte_of x 6 + 256 * byte_of x 7))))))
+bytes_are x k =
+    let none : x / 256 / 256 / 256 / 256 / 256 / 256 / 256 / 256 ≡ 0 = k.1.1.1.1.1.1.1.1 in
+    omega (arith, none)
+
+-- the others are 0
+last_parts : (n y x a b c d e f g h : ℕ) → 0 < n → n < 8
+    → a < 10 → b < 10 → c < 10 → d < 10 → e < 10 → f < 10 → g < 10 → h < 10
+    → x ≡ a + 256 * (b + 256 * (c + 256 * (d + 256 * (e + 256 * (f + 256 * (g + 256 * h))))))
+    → y ≡ x / 2 ^ (64 - 8 * n) * 2 ^ (64 - 8 * n)
+    → AreBelow 10 8 y × (number_of (byte_of y) ≡ written (λ i. byte_of x (8 - n + i)) n)
+last_parts zero y x a b c d e f g h some few A B C D E F G H is masked = absurd (omega arith)
+last_parts (suc zero) y x a b c d e f g h some few A B C D E F G H is masked =
+    let both = bytes_from y 0 0 0 0 0 0 0 h (omega arith) (omega arith) (omega arith) (omega arith) (omega arith) (omega arith) (omega arith) H (omega (arith, is, masked, A, B, C, D, E, F, G, H)) in
+    (both.0, omega (arith, both.1, (byte_at x a b c d e f g h A B C D E F G H is).7))
+last_parts (suc (suc zero)) y x a b c d e f g h some few A B C D E F G H is masked =
+    let both = bytes_from y 0 0 0 0 0 0 g h (omega arith) (omega arith) (omega arith) (omega arith) (omega arith) (omega arith) G H (omega (arith, is, masked, A, B, C, D, E, F, G, H)) in
+    (both.0, omega (arith, both.1, (byte_at x a b c d e f g h A B C D E F G H is).6, (byte_at x a b c d e f g h A B C D E F G H is).7))
+last_parts (suc (suc (suc zero))) y x a b c d e f g h some few A B C D E F G H is masked =
+    let both = bytes_from y 0 0 0 0 0 f g h (omega arith) (omega arith) (omega arith) (omega arith) (omega arith) F G H (omega (arith, is, masked, A, B, C, D, E, F, G, H)) in
+    (both.0, omega (arith, both.1, (byte_at x a b c d e f g h A B C D E F G H is).5, (byte_at x a b c d e f g h A B C D E F G H is).6, (byte_at x a b c d e f g h A B C D E F G H is).7))
+last_parts (suc (suc (suc (suc zero)))) y x a b c d e f g h some few A B C D E F G H is masked =
+    let both = bytes_from y 0 0 0 0 e f g h (omega arith) (omega arith) (omega arith) (omega arith) E F G H (omega (arith, is, masked, A, B, C, D, E, F, G, H)) in
+    (both.0, omega (arith, both.1, (byte_at x a b c d e f g h A B C D E F G H is).4, (byte_at x a b c d e f g h A B C D E F G H is).5, (byte_at x a b c d e f g h A B C D E F G H is).6, (byte_at x a b c d e f g h A B C D E F G H is).7))
+last_parts (suc (suc (suc (suc (suc zero))))) y x a b c d e f g h some few A B C D E F G H is masked =
+    let both = bytes_from y 0 0 0 d e f g h (omega arith) (omega arith) (omega arith) D E F G H (omega (arith, is, masked, A, B, C, D, E, F, G, H)) in
+    (both.0, omega (arith, both.1, (byte_at x a b c d e f g h A B C D E F G H is).3, (byte_at x a b c d e f g h A B C D E F G H is).4, (byte_at x a b c d e f g h A B C D E F G H is).5, (byte_at x a b c d e f g h A B C D E F G H is).6, (byte_at x a b c d e f g h A B C D E F G H is).7))
+last_parts (suc (suc (suc (suc (suc (suc zero)))))) y x a b c d e f g h some few A B C D E F G H is masked =
+    let both = bytes_from y 0 0 c d e f g h (omega arith) (omega arith) C D E F G H (omega (arith, is, masked, A, B, C, D, E, F, G, H)) in
+    (both.0, omega (arith, both.1, (byte_at x a b c d e f g h A B C D E F G H is).2, (byte_at x a b c d e f g h A B C D E F G H is).3, (byte_at x a b c d e f g h A B C D E F G H is).4, (byte_at x a b c d e f g h A B C D E F G H is).5, (byte_at x a b c d e f g h A B C D E F G H is).6, (byte_at x a b c d e f g h A B C D E F G H is).7))
+last_parts (suc (suc (suc (suc (suc (suc (suc zero))))))) y x a b c d e f g h some few A B C D E F G H is masked =
+    let both = bytes_from y 0 b c d e f g h (omega arith) B C D E F G H (omega (arith, is, masked, A, B, C, D, E, F, G, H)) in
+    (both.0, omega (arith, both.1, (byte_at x a b c d e f g h A B C D E F G H is).1, (byte_at x a b c d e f g h A B C D E F G H is).2, (byte_at x a b c d e f g h A B C D E F G H is).3, (byte_at x a b c d e f g h A B C D E F G H is).4, (byte_at x a b c d e f g h A B C D E F G H is).5, (byte_at x a b c d e f g h A B C D E F G H is).6, (byte_at x a b c d e f g h A B C D E F G H is).7))
+last_parts (suc (suc (suc (suc (suc (suc (suc (suc n)))))))) y x a b c d e f g h some few A B C D E F G H is masked = absurd (omega arith)
+
+-- the two shifts of `last_of`
+pub last_is : (n y x : ℕ) → 0 < n → n < 8 → AreBelow 10 8 x
+    → y ≡ x / 2 ^ (64 - 8 * n) * 2 ^ (64 - 8 * n)
+    → AreBelow 10 8 y × (number_of (byte_of y) ≡ written (λ i. byte_of x (8 - n + i)) n)
+last_is n y x some few k masked =
+    last_parts n y x (byte_of x 0) (byte_of x 1) (byte_of x 2) (byte_of x 3) (byte_of x 4) (byte_of x 5) (byte_of x 6) (byte_of x 7) some few
+    k.0 k.1.0 k.1.1.0 k.1.1.1.0 k.1.1.1.1.0 k.1.1.1.1.1.0 k.1.1.1.1.1.1.0 k.1.1.1.1.1.1.1.0 (bytes_are x k) masked
+
+-- shifted down and up again, a word loses nothing above
+pub not_wrapped : (x k : ℕ) → x < 2 ^ 64
+    → x / 2 ^ k * 2 ^ k % 2 ^ 64 ≡ x / 2 ^ k * 2 ^ k
+not_wrapped x k l = mod-eq_of_lt (grind arith)

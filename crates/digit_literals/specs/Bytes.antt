@@ -1,8 +1,13 @@
 -- Single bytes of a text, beside its numbers.
-use Rattle.std.specs.Prelude.{ℕ, ◌+◌, if◌then◌else◌, List, length, drop, take_while, Result, Ok, Err}
+use Rattle.std.specs.Prelude.{ℕ, ◌+◌, ◌==◌, ◌||◌, nat_le, if◌then◌else◌, Bool, List, length, drop, take_while, Result, Ok, Err}
+use Rattle.std.specs.Char.{is_ascii_alphanumeric}
 use Rattle.lexical_digits.specs.ByteSet.{accepts}
 use Rattle.lexical_digits.specs.declared.ops.ByteSet.{ByteSet}
 use Rattle.digit_literals.specs.Numbers.{has_byte}
+
+-- whether a byte may be part of a name
+abbrev pub is_name_byte : ℕ → Bool
+is_name_byte byte = is_ascii_alphanumeric byte || byte == 95 || nat_le 128 byte
 
 module _ (text : List ℕ) (at : ℕ) where
   -- the position after a byte that is to be here, or else this one
@@ -12,3 +17,7 @@ module _ (text : List ℕ) (at : ℕ) where
   -- the first position from here on whose byte isn't in a set, or the length
   unfoldable pub past_bytes : ByteSet → ℕ
   past_bytes set = at + length (take_while (accepts set) (drop at text))
+
+  -- where the bytes of a name end that begin here
+  unfoldable pub name_end : ℕ
+  name_end = at + length (take_while is_name_byte (drop at text))

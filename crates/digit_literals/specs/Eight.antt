@@ -22,10 +22,28 @@ abbrev pub number_of : (ℕ → ℕ) → ℕ
 number_of d =
     ((((((d 0 * 10 + d 1) * 10 + d 2) * 10 + d 3) * 10 + d 4) * 10 + d 5) * 10 + d 6) * 10 + d 7
 
+-- the number that so many digits write
+abbrev pub written : (ℕ → ℕ) → ℕ → ℕ
+written d zero = 0
+written d (suc n) = written d n * 10 + d n
+
 module _ (text : List ℕ) (at : ℕ) where
+  -- the eight bytes from a position on are these digits
+  pub record AreDigits (digits : ℕ) : Type 0 where
+    pub below : AreBelow 10 8 digits
+    pub is : (i : ℕ) → i < 8
+        → (slice_index text (at + i) ≡ byte_of digits i + 48) × (byte_of digits i < 10)
+
   -- the eight bytes from a position on are digits, and write a number
   pub record AreEight (value : ℕ) : Type 0 where
     pub within : at + 8 ≤ length text
     pub digits : (i : ℕ) → i < 8
         → (48 ≤ slice_index text (at + i)) × (slice_index text (at + i) < 58)
     pub is : value ≡ number_of (λ i. slice_index text (at + i) - 48)
+
+  -- so many bytes from a position on are digits, and write a number
+  pub record IsWritten (count value : ℕ) : Type 0 where
+    pub within : at + count ≤ length text
+    pub digits : (i : ℕ) → i < count
+        → (48 ≤ slice_index text (at + i)) × (slice_index text (at + i) < 58)
+    pub is : value ≡ written (λ i. slice_index text (at + i) - 48) count

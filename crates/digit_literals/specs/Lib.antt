@@ -3,6 +3,7 @@ pub mod Outcomes
 pub mod After
 pub mod Reads
 pub mod Eight
+pub mod Groups
 pub mod Integers
 pub mod Rest
 pub mod Significant
@@ -10,3 +11,6 @@ pub mod First
 pub mod Errors
 pub mod Numbers
 pub mod Bytes
+pub mod Lists
+pub mod Exactly
+pub mod Written

@@ -3,7 +3,7 @@
 ghost use Rattle.std.specs.Prelude.{◌≡◌, ◌+◌, ◌<◌, ◌≤◌, true, length, take_while, slice_get, IfOk, IfErr, IfSome};
 ghost use Rattle.lexical_digits.specs.ByteSet.{accepts};
 ghost use Rattle.digit_literals.specs.Numbers.{has_byte};
-ghost use Rattle.digit_literals.specs.Bytes.{expect_byte, past_bytes};
+ghost use Rattle.digit_literals.specs.Bytes.{expect_byte, is_name_byte, name_end, past_bytes};
 
 use lexical_digits::ops::ByteSet;
 
@@ -74,4 +74,43 @@ pub fn past_bytes(text: &[u8], at: usize, set: ByteSet) -> usize
     ensures within { result ≤ length text.now }
 {
     at + count_bytes(&text[at..], set)
+}
+
+/// Whether a byte may be part of a name: an ASCII letter or digit, `_`, or a byte above ASCII.
+#[inline(always)]
+fn is_name_byte(byte: u8) -> bool
+    ensures { result ≡ is_name_byte byte }
+{
+    byte.is_ascii_alphanumeric() || byte == b'_' || byte >= 128
+}
+
+/// How many bytes of a name a text begins with.
+#[inline(always)]
+fn count_name_bytes(text: &[u8]) -> usize
+    ensures is { result ≡ length (take_while is_name_byte text.now) }
+    ensures within { result ≤ length text.now }
+{
+    text.iter().take_while(|byte| is_name_byte(**byte)).count()
+}
+
+/// Where the bytes of a name end that begin at a position: ASCII letters and digits, `_`, and bytes
+/// above ASCII. After a number these are its suffix, `&text[end..name_end(text, end)]`. Nothing
+/// that a name could be follows it if `name_end(text, end) == end`. A position after the end of the
+/// text is answered itself.
+///
+/// ```text
+/// `1.5f;` from 3: 4      `10px` from 2: 4      `10 px` from 2: 2
+/// ```
+#[inline(always)]
+#[tactic(auto, unfolding(crate::specs::Bytes::name_end))]
+pub fn name_end(text: &[u8], at: usize) -> usize
+    ensures is { result ≡ name_end text.now at }
+    ensures onward { at ≤ result }
+    ensures within { at ≤ length text.now → result ≤ length text.now }
+{
+    if at < text.len() {
+        at + count_name_bytes(&text[at..])
+    } else {
+        at
+    }
 }

@@ -1,9 +1,10 @@
 //! Eight decimal digits at a time: one load, one test and three multiplications.
 
-ghost use Rattle.std.specs.Prelude.{◌≡◌, ◌+◌, ◌≤◌, length, slice_index, None, IfSome};
-ghost use Rattle.digit_literals.specs.Eight.{AreBelow, byte_of, spelt, number_of, AreEight};
+ghost use Rattle.std.specs.Prelude.{◌≡◌, ℕ, ◌+◌, ◌-◌, ◌*◌, ◌^◌, ◌<◌, ◌≤◌, length, slice_index, true, None, IfSome};
+ghost use Rattle.digit_literals.specs.Eight.{AreBelow, byte_of, spelt, number_of, written, AreDigits, AreEight, IsWritten};
 ghost use Rattle.digit_literals.specs.Reads.{ArePlain};
 
+use super::wide::ten_to;
 use lexical_digits::skip::Rule;
 
 /// The digits of eight bytes, the first in the lowest byte, if all are decimal.
@@ -35,6 +36,18 @@ fn value_of(digits: u64) -> u64
     first.wrapping_add(second) >> 32
 }
 
+/// The number that the last of eight digits write.
+#[inline(always)]
+fn last_of(digits: u64, count: u32) -> u64
+    requires below { AreBelow 10 8 digits }
+    requires some { 0 < count }
+    requires few { count < 8 }
+    ensures { result ≡ written (λ i. byte_of digits (8 - count + i)) count }
+{
+    let others = 64 - 8 * count;
+    value_of((digits >> others) << others)
+}
+
 /// The eight bytes from a position on as a word, the first in the lowest byte.
 #[inline(always)]
 fn word_at(text: &[u8], at: usize) -> u64
@@ -54,7 +67,27 @@ fn word_at(text: &[u8], at: usize) -> u64
     ])
 }
 
-/// The number that the eight bytes from a position on write, if they are there, and digits.
+/// The digits of the eight bytes from a position on, if all are decimal.
+#[inline(always)]
+fn digits_at(text: &[u8], at: usize) -> Option<u64>
+    requires { at + 8 ≤ length text.now }
+    ensures { IfSome result (AreDigits text.now at) }
+{
+    digits_of(word_at(text, at))
+}
+
+/// The number that the eight bytes from a position on write, if they are digits.
+#[inline(always)]
+fn eight_from(text: &[u8], at: usize) -> Option<u64>
+    requires { at + 8 ≤ length text.now }
+    ensures eight { IfSome result (AreEight text.now at) }
+    ensures is { IfSome result (IsWritten text.now at 8) }
+    ensures few { IfSome result (λ value. value < 10 ^ 8) }
+{
+    Some(value_of(digits_at(text, at)?))
+}
+
+/// [`eight_from`], if eight bytes are there.
 #[inline]
 fn eight_at(text: &[u8], at: usize) -> Option<u64>
     requires { at ≤ length text.now }
@@ -63,7 +96,7 @@ fn eight_at(text: &[u8], at: usize) -> Option<u64>
     if text.len() - at < 8 {
         return None;
     }
-    Some(value_of(digits_of(word_at(text, at))?))
+    eight_from(text, at)
 }
 
 /// Digits with no separator among them.
@@ -91,4 +124,75 @@ pub(super) fn read_eights(text: &[u8], rule: Rule, start: usize, before: u64) ->
         end += 8;
     }
     Plain { value, end }
+}
+
+/// A number that a text is from a position on to its end.
+#[derive(Clone, Copy)]
+pub(super) struct Whole {
+    /// The number, if there is one.
+    pub(super) value: u64,
+    /// Whether there is one: all bytes are decimal digits, and it fits.
+    pub(super) is_whole: bool,
+}
+
+/// No number.
+pub(super) const NONE: Whole = Whole {
+    value: 0,
+    is_whole: false,
+};
+
+/// The number that a text is: `value`, and then the digits from `at` on.
+#[inline(always)]
+fn end_whole(text: &[u8], at: usize, value: u64) -> Whole
+    requires some { 8 ≤ at }
+    requires within { at ≤ length text.now }
+    requires few { length text.now < at + 8 }
+    requires written { IsWritten text.now 0 at value }
+    ensures { result.is_whole ≡ true → IsWritten text.now 0 (length text.now) result.value }
+{
+    let count = text.len() - at;
+    if count == 0 {
+        return Whole {
+            value,
+            is_whole: true,
+        };
+    }
+    let Some(digits) = digits_at(text, text.len() - 8) else {
+        return NONE;
+    };
+    let next = last_of(digits, count as u32);
+    let Some(scale) = ten_to(count) else {
+        return NONE;
+    };
+    let Some(scaled) = value.checked_mul(scale) else {
+        return NONE;
+    };
+    match scaled.checked_add(next) {
+        Some(value) => Whole {
+            value,
+            is_whole: true,
+        },
+        None => NONE,
+    }
+}
+
+/// The number that a text of at least 8 bytes is.
+#[inline(never)]
+pub(super) fn read_whole(text: &[u8]) -> Whole
+    requires { 8 ≤ length text.now }
+    ensures { result.is_whole ≡ true → IsWritten text.now 0 (length text.now) result.value }
+{
+    if text.len() > 20 {
+        return NONE;
+    }
+    let Some(first) = eight_from(text, 0) else {
+        return NONE;
+    };
+    if text.len() < 16 {
+        return end_whole(text, 8, first);
+    }
+    let Some(second) = eight_from(text, 8) else {
+        return NONE;
+    };
+    end_whole(text, 16, first * 100_000_000 + second)
 }

@@ -1,7 +1,7 @@
 //! The integer that a text begins with, how many digits it has, and where the digits of a component
 //! end. No `Bytes` is made where the slice is enough.
 
-ghost use Rattle.std.specs.Prelude.{◌≡◌, ◌==◌, ◌-◌, ◌^◌, ◌<◌, ◌≤◌, None, Some, length, filter, IfSome, IfOk, IfErr, IsTrue};
+ghost use Rattle.std.specs.Prelude.{◌≡◌, ℕ, ◌==◌, ◌+◌, ◌-◌, ◌^◌, ◌<◌, ◌≤◌, None, Some, Ok, true, false, length, filter, IfSome, IfOk, IfErr, IsTrue};
 ghost use Rattle.lexical_format.specs.Word.{is_supported};
 ghost use Rattle.lexical_digits.specs.declared.skip.component.Component.TheVariants.{Integer};
 ghost use Rattle.lexical_digits.specs.Separators.{is_digit};
@@ -12,7 +12,9 @@ ghost use Rattle.digit_literals.specs.Integers.{integer_at};
 ghost use Rattle.digit_literals.specs.Reads.{ReadsTo, IsFirst, integer_of};
 
 use super::LiteralError;
-use super::slice::{ReadTo, first_digit, read_bytes, read_slice};
+use super::eight::{Whole, read_whole};
+use super::groups::read_grouped;
+use super::slice::{ReadTo, first_digit, read_bare, read_bytes, read_slice};
 use lexical_digits::iterator::Iter;
 use lexical_digits::skip::{Bytes, Component, Rule};
 
@@ -105,6 +107,74 @@ pub(super) fn read_integer_known(
             let read = read_fresh_bytes(text, word, Component::Integer, start, Some(most));
             integer_of(read, read.count == 0)
         }
+    }
+}
+
+/// The value of the integer that a text is from `start` on to its end, where the radix is 10 and at
+/// most seven bytes are left, if all of them are digits and their value is at most `most`. No digit
+/// is tested for being too large. The digit at `start` may be known.
+#[inline(always)]
+pub(super) fn read_few_integer(
+    text: &[u8],
+    word: u128,
+    start: usize,
+    first: Option<u32>,
+    most: u128,
+) -> Option<u64>
+    requires supported { IsTrue (is_supported word) }
+    requires ten { (rule_of word Integer).radix ≡ 10 }
+    requires within { start ≤ length text.now }
+    requires few { length text.now < start + 8 }
+    requires first { let r = rule_of word Integer in
+        IfSome first (IsFirst r text.now start 0 (Some most)) }
+    ensures is { IfSome result (λ value.
+        integer_at (rule_of word Integer) text.now start most ≡ Ok (value, length text.now)) }
+    ensures fits { IfSome result (λ value. value ≤ most) }
+{
+    let read = read_bare(text, Rule::of(word, Component::Integer), start, 0, first)?;
+    if read.end > start && read.end == text.len() && u128::from(read.value) <= most {
+        Some(read.value)
+    } else {
+        None
+    }
+}
+
+/// The integer that a text is from `start` on to its end, where the radix is 10: by groups if lone
+/// separators between digits are dropped, and otherwise by words.
+#[inline(never)]
+fn read_long(text: &[u8], word: u128, start: usize) -> Whole
+    requires supported { IsTrue (is_supported word) }
+    requires ten { (rule_of word Integer).radix ≡ 10 }
+    requires within { start ≤ length text.now }
+    requires some { (rule_of word Integer).internal ≡ false → start + 8 ≤ length text.now }
+    ensures { let r = rule_of word Integer in
+        result.is_whole ≡ true → (most : ℕ) → result.value ≤ most
+        → integer_at r text.now start most ≡ Ok (result.value, length text.now) }
+{
+    if Rule::of(word, Component::Integer).internal {
+        read_grouped(text, word, start)
+    } else {
+        read_whole(&text[start..])
+    }
+}
+
+/// The value of the integer that a text is from `start` on to its end, where the radix is 10, if
+/// [`read_long`] reads it, and it is at most `most`.
+#[inline(always)]
+pub(super) fn read_long_integer(text: &[u8], word: u128, start: usize, most: u128) -> Option<u64>
+    requires supported { IsTrue (is_supported word) }
+    requires ten { (rule_of word Integer).radix ≡ 10 }
+    requires within { start ≤ length text.now }
+    requires some { (rule_of word Integer).internal ≡ false → start + 8 ≤ length text.now }
+    ensures is { IfSome result (λ value.
+        integer_at (rule_of word Integer) text.now start most ≡ Ok (value, length text.now)) }
+    ensures fits { IfSome result (λ value. value ≤ most) }
+{
+    let whole = read_long(text, word, start);
+    if whole.is_whole && u128::from(whole.value) <= most {
+        Some(whole.value)
+    } else {
+        None
     }
 }
 
@@ -215,7 +285,7 @@ pub(super) fn read_component(
 /// value if one is asked for. There is no digit exactly if no byte was passed. The digit at `start`
 /// may be known.
 #[inline(always)]
-fn read_component_slice(
+pub(super) fn read_component_slice(
     text: &[u8],
     word: u128,
     component: Component,
@@ -238,7 +308,7 @@ fn read_component_slice(
 /// a greatest value if one is asked for.
 #[cold]
 #[inline(never)]
-fn read_fresh_bytes(
+pub(super) fn read_fresh_bytes(
     text: &[u8],
     word: u128,
     component: Component,

@@ -18,6 +18,8 @@ ghost use Rattle.digit_literals.specs.declared.LiteralError.TheVariants.{Empty, 
 
 pub mod flags;
 pub mod follows;
+pub mod lists;
+pub mod written;
 
 use super::first::FirstDigits;
 

@@ -17,9 +17,12 @@ mod bytes;
 mod component;
 mod eight;
 pub mod equality;
+mod exactly;
 mod first;
+mod groups;
 mod integer;
 pub mod laws;
+mod list;
 mod number;
 mod parse;
 mod reading;
@@ -27,13 +30,17 @@ mod slice;
 mod wide;
 mod zeros;
 
-pub use self::bytes::{BLANKS, byte_at, expect_byte, has_byte, past_bytes};
+pub use self::bytes::{BLANKS, byte_at, expect_byte, has_byte, name_end, past_bytes};
 pub use self::component::{pass_digits, pass_zeros, read_digits_of, read_digits_up_to};
+pub use self::exactly::{read_at_most, read_exactly};
 pub use self::first::{
     FirstDigits, read_few_digits_from, read_first_digits, read_first_digits_from,
     read_some_digits_from,
 };
 pub use self::integer::{count_digits, read_integer, read_integer_from, stop_from};
+pub use self::list::{
+    COMMAS, COMMAS_IN_LINE, Gap, LINES, ListEnd, ListRead, SPACES_IN_LINE, WHITESPACE, read_list,
+};
 pub use self::number::{Integer, parse_number, parse_number_from, read_number, read_number_from};
 pub use self::parse::ParseError;
 pub use self::reading::{Digits, TooLarge, read_digits, read_digits_after, take_digits};

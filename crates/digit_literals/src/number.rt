@@ -1,18 +1,21 @@
 //! Numbers of any integer type.
 
-ghost use Rattle.std.specs.Prelude.{◌≡◌, ℕ, ℤ, ◌+◌, ◌^◌, ◌-◌, ◌<◌, ◌≤◌, pos, if◌then◌else◌, Some, Ok, Err, length, false, IfSome, IfOk, IfErr, MatchResult, IsTrue};
+ghost use Rattle.std.specs.Prelude.{◌≡◌, ℕ, ℤ, ◌+◌, ◌^◌, ◌-◌, ◌<◌, ◌≤◌, pos, if◌then◌else◌, Some, Ok, Err, length, false, IfSome, IfOk, IfErr, MatchResult, IsTrue, true};
 ghost use Rattle.lexical_format.specs.Word.{is_supported};
 ghost use Rattle.lexical_digits.specs.declared.skip.component.Component.TheVariants.{Integer};
 ghost use Rattle.lexical_digits.specs.State.{rule_of};
 ghost use Rattle.digit_literals.specs.Outcomes.{IfEmpty, IfOverflow};
 ghost use Rattle.digit_literals.specs.Errors.{position};
-ghost use Rattle.digit_literals.specs.Numbers.{number_at, to_end, digits_from, is_negative_from, signed};
+ghost use Rattle.digit_literals.specs.Integers.{integer_at};
+ghost use Rattle.digit_literals.specs.Numbers.{number_at, to_end, with_sign, digits_from, is_negative_from, signed};
 ghost use Rattle.digit_literals.specs.Reads.{IsFirst};
 
+use super::integer::{read_few_integer, read_long_integer};
 use super::slice::first_digit;
-use super::wide::read_wide_known;
+use super::wide::{read_again, read_wide_known};
 use super::{LiteralError, ParseError};
 use lexical_digits::skip::{Component, Rule};
+use lexical_format::NumberFormat;
 
 /// A type of integers: `u8` to `u128`, `i8` to `i128`, `usize` and `isize`.
 pub trait Integer: Copy {
@@ -274,6 +277,14 @@ struct Head {
     first: Option<u32>,
 }
 
+/// The greatest magnitude of a type, with or without a `-`.
+#[inline(always)]
+fn greatest<T: Integer>(has_minus: bool) -> u128
+    ensures { result ≡ (if has_minus then T.MIN_MAGNITUDE else T.MAX) }
+{
+    if has_minus { T::MIN_MAGNITUDE } else { T::MAX }
+}
+
 /// What a number begins with at a position.
 #[inline(always)]
 fn read_sign<T: Integer>(text: &[u8], word: u128, start: usize) -> Head
@@ -340,13 +351,164 @@ pub fn read_number_from<T: Integer>(
         IfOverflow result (λ at. (start ≤ at) × (at < n)) }
 {
     let head = read_sign::<T>(text, word, start);
-    let most = if head.is_negative {
-        T::MIN_MAGNITUDE
-    } else {
-        T::MAX
-    };
+    let most = greatest::<T>(head.is_negative);
     let (magnitude, end) = read_wide_known(text, word, head.begin, head.first, most)?;
     Ok((T::of_magnitude(head.is_negative, magnitude), end))
+}
+
+/// Whether a number of so many bytes is read by words: the radix is 10, and there are at most 20
+/// bytes if the type has numbers of more.
+#[inline(always)]
+fn is_by_words<T: Integer>(word: u128, bytes: usize) -> bool
+    ensures { result ≡ true → (rule_of word Integer).radix ≡ 10 }
+{
+    T::MIN_MAGNITUDE == 0
+        && NumberFormat::new(word).mantissa_radix() == 10
+        && (T::MAX <= u128::from(u64::MAX) || bytes <= 20)
+}
+
+/// The value of the integer that a text is from `start` on to its end, where the radix is 10, if it
+/// is at most `most` and nothing else is there than digits, or digits in groups if lone separators
+/// between them are dropped. Few bytes are read one by one, and none is tested for being too large;
+/// eight and more, and groups, are read in code of their own.
+#[inline(always)]
+fn read_to_end(text: &[u8], word: u128, start: usize, first: Option<u32>, most: u128) -> Option<u64>
+    requires supported { IsTrue (is_supported word) }
+    requires ten { (rule_of word Integer).radix ≡ 10 }
+    requires within { start ≤ length text.now }
+    requires first { let r = rule_of word Integer in
+        IfSome first (IsFirst r text.now start 0 (Some most)) }
+    ensures is { IfSome result (λ value.
+        integer_at (rule_of word Integer) text.now start most ≡ Ok (value, length text.now)) }
+    ensures fits { IfSome result (λ value. value ≤ most) }
+{
+    let bytes = text.len() - start;
+    let internal = Rule::of(word, Component::Integer).internal;
+    // the compiler writes the short loop out, since at most seven bytes are left
+    if bytes >= 8 || (bytes >= 5 && internal) {
+        read_long_integer(text, word, start, most)
+    } else {
+        read_few_integer(text, word, start, first, most)
+    }
+}
+
+/// [`parse_number_from`] after the sign, by code of its own.
+#[cold]
+#[inline(never)]
+fn parse_again<T: Integer>(
+    text: &[u8],
+    word: u128,
+    start: usize,
+    is_negative: bool,
+) -> Result<T, ParseError>
+    requires supported { IsTrue (is_supported word) }
+    requires within { start ≤ length text.now }
+    requires sign { is_negative ≡ true → 0 < T.MIN_MAGNITUDE }
+    ensures is { let most = if is_negative then T.MIN_MAGNITUDE else T.MAX in
+        let read = to_end text.now (with_sign is_negative
+        (integer_at (rule_of word Integer) text.now start most)) in
+        MatchResult result (λ value. read ≡ Ok (T.number value)) (λ error. read ≡ Err error) }
+    ensures fault_at { let n = length text.now in
+        IfErr result (λ error. (start ≤ position error) × (position error ≤ n)) }
+{
+    let read = read_again(text, word, start, greatest::<T>(is_negative));
+    if read.is_empty {
+        if read.end == text.len() {
+            return Err(ParseError::Empty(read.end));
+        }
+        return Err(ParseError::Invalid(read.end));
+    }
+    if read.is_too_large {
+        return Err(ParseError::Overflow(read.end));
+    }
+    if read.end == text.len() {
+        Ok(T::of_magnitude(is_negative, read.value))
+    } else {
+        Err(ParseError::Invalid(read.end))
+    }
+}
+
+/// [`parse_again`], alone: the place of its answer isn't set to 0 before it is needed.
+#[inline(always)]
+fn parse_the_rest<T: Integer>(
+    text: &[u8],
+    word: u128,
+    start: usize,
+    is_negative: bool,
+) -> Result<T, ParseError>
+    requires supported { IsTrue (is_supported word) }
+    requires within { start ≤ length text.now }
+    requires sign { is_negative ≡ true → 0 < T.MIN_MAGNITUDE }
+    ensures is { let most = if is_negative then T.MIN_MAGNITUDE else T.MAX in
+        let read = to_end text.now (with_sign is_negative
+        (integer_at (rule_of word Integer) text.now start most)) in
+        MatchResult result (λ value. read ≡ Ok (T.number value)) (λ error. read ≡ Err error) }
+    ensures fault_at { let n = length text.now in
+        IfErr result (λ error. (start ≤ position error) × (position error ≤ n)) }
+{
+    parse_again::<T>(text, word, start, is_negative)
+}
+
+/// [`parse_number_from`], where it is by words. What isn't read to the end is read again.
+#[inline]
+fn parse_by_words<T: Integer>(text: &[u8], word: u128, start: usize) -> Result<T, ParseError>
+    requires supported { IsTrue (is_supported word) }
+    requires within { start ≤ length text.now }
+    requires ten { (rule_of word Integer).radix ≡ 10 }
+    ensures is { let r = rule_of word Integer in
+        let read = to_end text.now (number_at T.MIN_MAGNITUDE T.MAX r text.now start) in
+        MatchResult result (λ value. read ≡ Ok (T.number value)) (λ error. read ≡ Err error) }
+    ensures fault_at { let n = length text.now in
+        IfErr result (λ error. (start ≤ position error) × (position error ≤ n)) }
+{
+    let head = read_sign::<T>(text, word, start);
+    let most = greatest::<T>(head.is_negative);
+    if let Some(value) = read_to_end(text, word, head.begin, head.first, most) {
+        return Ok(T::of_magnitude(head.is_negative, u128::from(value)));
+    }
+    parse_the_rest::<T>(text, word, head.begin, head.is_negative)
+}
+
+/// What [`parse_number_from`] answers, by the number that begins at `start`.
+#[inline(always)]
+fn to_the_end<T: Integer>(
+    text: &[u8],
+    word: u128,
+    start: usize,
+    number: Result<(T, usize), LiteralError>,
+) -> Result<T, ParseError>
+    requires number { let r = rule_of word Integer in MatchResult number
+        (λ read. number_at T.MIN_MAGNITUDE T.MAX r text.now start ≡ Ok (T.number read.0, read.1))
+        (λ error. number_at T.MIN_MAGNITUDE T.MAX r text.now start ≡ Err error) }
+    requires end { let n = length text.now in
+        IfOk number (λ read. (start < read.1) × (read.1 ≤ n)) }
+    requires empty_at { let n = length text.now in
+        IfEmpty number (λ at. (start ≤ at) × (at ≤ n)) }
+    requires overflow_at { let n = length text.now in
+        IfOverflow number (λ at. (start ≤ at) × (at < n)) }
+    ensures is { let r = rule_of word Integer in
+        let read = to_end text.now (number_at T.MIN_MAGNITUDE T.MAX r text.now start) in
+        MatchResult result (λ value. read ≡ Ok (T.number value)) (λ error. read ≡ Err error) }
+    ensures fault_at { let n = length text.now in
+        IfErr result (λ error. (start ≤ position error) × (position error ≤ n)) }
+{
+    match number {
+        Ok((value, stop)) => {
+            if stop == text.len() {
+                Ok(value)
+            } else {
+                Err(ParseError::Invalid(stop))
+            }
+        }
+        Err(LiteralError::Empty(at)) => {
+            if at == text.len() {
+                Err(ParseError::Empty(at))
+            } else {
+                Err(ParseError::Invalid(at))
+            }
+        }
+        Err(LiteralError::Overflow(at)) => Err(ParseError::Overflow(at)),
+    }
 }
 
 /// The number of a type that a text is from `start` on to its end. Otherwise the first fault; its
@@ -366,23 +528,16 @@ pub fn parse_number_from<T: Integer>(text: &[u8], word: u128, start: usize) -> R
     ensures fault_at { let n = length text.now in
         IfErr result (λ error. (start ≤ position error) × (position error ≤ n)) }
 {
-    match read_number_from::<T>(text, word, start) {
-        Ok((value, end)) => {
-            if end == text.len() {
-                Ok(value)
-            } else {
-                Err(ParseError::Invalid(end))
-            }
-        }
-        Err(LiteralError::Empty(at)) => {
-            if at == text.len() {
-                Err(ParseError::Empty(at))
-            } else {
-                Err(ParseError::Invalid(at))
-            }
-        }
-        Err(LiteralError::Overflow(at)) => Err(ParseError::Overflow(at)),
+    if is_by_words::<T>(word, text.len() - start) {
+        return parse_by_words::<T>(text, word, start);
     }
+    let head = read_sign::<T>(text, word, start);
+    let most = greatest::<T>(head.is_negative);
+    let number = match read_wide_known(text, word, head.begin, head.first, most) {
+        Ok((magnitude, end)) => Ok((T::of_magnitude(head.is_negative, magnitude), end)),
+        Err(error) => Err(error),
+    };
+    to_the_end::<T>(text, word, start, number)
 }
 
 /// The number of a type that a text is: `u8` to `u128`, `i8` to `i128`, `usize`, `isize`. Otherwise

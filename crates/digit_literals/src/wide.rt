@@ -10,7 +10,7 @@ ghost use Rattle.digit_literals.specs.After.{digits_between, ExceedsAt};
 ghost use Rattle.digit_literals.specs.Outcomes.{IfEmpty, IfOverflow};
 ghost use Rattle.digit_literals.specs.Integers.{integer_at};
 ghost use Rattle.digit_literals.specs.Reads.{IsFirst};
-ghost use Rattle.digit_literals.specs.declared.LiteralError.TheVariants.{Overflow};
+ghost use Rattle.digit_literals.specs.declared.LiteralError.TheVariants.{Empty, Overflow};
 
 use super::LiteralError;
 use super::integer::{integer_of, read_integer_known, read_known, stop_from};
@@ -144,6 +144,59 @@ fn read_beyond(text: &[u8], word: u128, start: usize, at: usize, before: u64, mo
     }
 }
 
+/// What [`read_again`] answers. A struct, and no `Result`, as [`Wide`].
+#[derive(Clone, Copy)]
+pub(super) struct Again {
+    /// The value, if there is one.
+    pub(super) value: u128,
+    /// Where the integer ends, or the position of the fault.
+    pub(super) end: usize,
+    /// Whether there is no digit.
+    pub(super) is_empty: bool,
+    /// Whether the value is above the greatest.
+    pub(super) is_too_large: bool,
+}
+
+/// [`read_wide_from`] in code of its own.
+#[cold]
+#[inline(never)]
+pub(super) fn read_again(text: &[u8], word: u128, start: usize, most: u128) -> Again
+    requires supported { IsTrue (is_supported word) }
+    requires within { start ≤ length text.now }
+    ensures ok { let r = rule_of word Integer in
+        result.is_empty ≡ false → result.is_too_large ≡ false →
+        integer_at r text.now start most ≡ Ok (result.value, result.end) }
+    ensures fits { result.is_empty ≡ false → result.is_too_large ≡ false → result.value ≤ most }
+    ensures empty { let r = rule_of word Integer in result.is_empty ≡ true →
+        integer_at r text.now start most ≡ Err (Empty result.end) }
+    ensures overflow { let r = rule_of word Integer in
+        result.is_empty ≡ false → result.is_too_large ≡ true →
+        integer_at r text.now start most ≡ Err (Overflow result.end) }
+    ensures onward { start ≤ result.end }
+    ensures within { result.end ≤ length text.now }
+{
+    match read_wide_from(text, word, start, most) {
+        Ok((value, end)) => Again {
+            value,
+            end,
+            is_empty: false,
+            is_too_large: false,
+        },
+        Err(LiteralError::Empty(at)) => Again {
+            value: 0,
+            end: at,
+            is_empty: true,
+            is_too_large: false,
+        },
+        Err(LiteralError::Overflow(at)) => Again {
+            value: 0,
+            end: at,
+            is_empty: false,
+            is_too_large: true,
+        },
+    }
+}
+
 /// 10 to the power of `n`, if that fits 64 bits.
 #[inline(always)]
 pub(super) fn ten_to(n: usize) -> Option<u64>
@@ -235,7 +288,7 @@ fn read_pieces(
 
 /// The value with one digit more, if it is at most `most`.
 #[inline(always)]
-fn add_wide(value: u128, radix: u32, digit: u32, most: u128) -> Option<u128>
+pub(super) fn add_wide(value: u128, radix: u32, digit: u32, most: u128) -> Option<u128>
     ensures { SomeIff result (value * radix + digit ≤ most) (value * radix + digit) }
 {
     let more = value

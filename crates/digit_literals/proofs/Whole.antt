@@ -1,0 +1,84 @@
+-- A text whose bytes from a start on are all decimal digits: its integer is the number that they
+-- write, and ends at the end.
+use Rattle.std.proofs.Common.{◌≡◌, ℕ, zero, suc, ◌+◌, ◌-◌, ◌<◌, ◌≤◌, true, false, List, length, sym, ap, ◌∙◌, arith}
+use Rattle.std.specs.Prelude.{slice_index, Some, Ok}
+use Rattle.std.specs.Str.Parse.{digits_value_after}
+use Rattle.std.proofs.lemmas.Bool.Decides.{nat_tests}
+use Rattle.lexical_format.specs.Digits.{digit_of_radix}
+use Rattle.lexical_digits.specs.declared.skip.rule.Rule.{Rule}
+use Rattle.lexical_digits.specs.Separators.{is_digit}
+use Rattle.lexical_digits.specs.Stop.{stop}
+use Rattle.lexical_digits.proofs.Calls.FirstOther.{stop_is_first}
+use Rattle.digit_literals.specs.declared.slice.ReadTo.{ReadTo}
+use Rattle.digit_literals.specs.After.{digits_between}
+use Rattle.digit_literals.specs.Integers.{integer_at}
+use Rattle.digit_literals.specs.Reads.{ReadsTo}
+use Rattle.digit_literals.specs.Eight.{written, IsWritten}
+use Rattle.digit_literals.proofs.Plain.{decimal}
+use Rattle.digit_literals.proofs.Between.{none_between, one_more}
+use Rattle.digit_literals.proofs.ForCallers.{value_more}
+use Rattle.digit_literals.proofs.Texts.{integer_is}
+
+module _ (rule : Rule) (text : List ℕ) (start : ℕ) (ten : rule.radix ≡ 10) (count value : ℕ) (all : IsWritten text start count value) where
+  abbrev digit : ℕ → ℕ
+  digit i = slice_index text (start + i) - 48
+
+  of_radix : (i : ℕ) → i < count
+      → digit_of_radix rule.radix (slice_index text (start + i)) ≡ Some (digit i)
+  of_radix i l =
+      let byte = all.digits i l in
+      ap (λ r. digit_of_radix r (slice_index text (start + i))) ten ∙ decimal _ byte.0 byte.1
+
+  are_digits : (i : ℕ) → i < count → is_digit rule (slice_index text (start + i)) ≡ true
+  unfolding is_digit
+  are_digits i l = grind (arith, of_radix i l)
+
+  -- as many digits as bytes
+  counted : (n : ℕ) → n ≤ count → length (digits_between rule text start (start + n)) ≡ n
+  counted zero l =
+      ap (λ k. length (digits_between rule text start k)) {y = start} (omega arith)
+      ∙ ap length (none_between rule text start)
+  counted (suc n) l =
+      let next : start + suc n ≡ start + n + 1 = omega arith in
+      let more = one_more rule text start (start + n) (omega arith) (omega (arith, all.within, l)) in
+      ap (λ k. length (digits_between rule text start k)) next
+      ∙ grind (arith, more, counted n (omega (arith, l)), are_digits n (omega (arith, l)))
+
+  -- and the number that they write
+  worth : (n : ℕ) → n ≤ count
+      → digits_value_after rule.radix 0 (digits_between rule text start (start + n)) ≡ written digit n
+  worth zero l =
+      ap (λ k. digits_value_after rule.radix 0 (digits_between rule text start k)) {y = start} (omega arith)
+      ∙ ap (digits_value_after rule.radix 0) (none_between rule text start)
+  worth (suc n) l =
+      let next : start + suc n ≡ start + n + 1 = omega arith in
+      let rest = worth n (omega (arith, l)) in
+      let more = value_more rule text start 0 (start + n) 10 (digit n) (omega arith) (omega (arith, all.within, l)) (sym ten) (ap (λ r. digit_of_radix r (slice_index text (start + n))) (sym ten) ∙ of_radix n (omega (arith, l))) in
+      ap (λ k. digits_value_after rule.radix 0 (digits_between rule text start k)) next
+      ∙ omega (arith, more, rest)
+
+  -- the stop is the end
+  ends : start + count ≡ length text → (own : ℕ) → length text ≡ stop rule text start own
+  ends there own =
+      let first = stop_is_first rule text start own (omega (arith, there)) in
+      let at = stop rule text start own in
+      let same : start + (at - start) ≡ at = omega (arith, first.onward) in
+      grind (arith, first.within, first.onward, first.at, there, ap (slice_index text) same, are_digits (at - start))
+
+  pub whole_is : start + count ≡ length text → 0 < count → (most : ℕ) → value ≤ most
+      → integer_at rule text start most ≡ Ok (value, length text)
+  whole_is there some most fits =
+      let read : ReadTo = record { value = value; count = count; end = length text; is_too_large = false } in
+      let reads : ReadsTo rule text start 0 (Some value) read 0 =
+      record {
+        onward = omega (arith, there);
+        within = omega arith;
+        digits = sym (counted count (omega arith)) ∙ ap (λ k. length (digits_between rule text start k)) there;
+        worth = record {
+          is = all.is ∙ sym (worth count (omega arith)) ∙ ap (λ k. digits_value_after rule.radix 0 (digits_between rule text start k)) there;
+          fits = omega arith;
+        };
+        stops = λ _. ends there 0;
+        exceeds = λ large. grind (arith, large);
+      } in
+      sym (integer_is rule text start value most (omega (arith, ten)) (omega (arith, there)) fits read false reads (grind (arith, nat_tests, some)) (λ large. grind (arith, large)))

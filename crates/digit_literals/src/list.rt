@@ -1,0 +1,277 @@
+//! Lists of numbers, which are read into a slice.
+
+ghost use Rattle.std.specs.Prelude.{◌≡◌, ◌+◌, ◌-◌, ◌<◌, ◌≤◌, length, take_while, true, IfOk, IfErr, IsTrue};
+ghost use Rattle.lexical_format.specs.Word.{is_supported};
+ghost use Rattle.lexical_digits.specs.declared.skip.component.Component.TheVariants.{Integer};
+ghost use Rattle.lexical_digits.specs.ByteSet.{accepts};
+ghost use Rattle.lexical_digits.specs.State.{rule_of};
+ghost use Rattle.digit_literals.specs.Errors.{literal_position};
+ghost use Rattle.digit_literals.specs.Lists.{is_blank, has_blank, has_separator, past_blanks, next_after, no_number, list_at, Fills, IfFull, IfOver};
+ghost use Rattle.digit_literals.specs.Numbers.{number_at};
+
+use super::LiteralError;
+use super::bytes::BLANKS;
+use super::number::{Integer, read_number_from};
+use lexical_digits::ops::ByteSet;
+
+/// What is between two numbers of a list: one separator, with any blanks around it.
+#[derive(Clone, Copy, Debug, PartialEq, Eq)]
+pub struct Gap {
+    /// The bytes that separate: one of them is between two numbers.
+    pub separators: ByteSet,
+    /// The bytes that may be before and after a separator, and before the first number. One that
+    /// separates is no blank.
+    pub blanks: ByteSet,
+    /// Whether blanks separate too: without a separator among them, a run of them counts as one.
+    pub blanks_separate: bool,
+    /// Whether a separator may be last, and the list may be empty: it is over where no number
+    /// begins. Otherwise a number has to follow.
+    pub may_trail: bool,
+}
+
+/// Space and tab.
+const SPACES: ByteSet = ByteSet {
+    low: (1 << 9) | (1 << 32),
+    high: 0,
+};
+
+/// One comma, with any [`BLANKS`] around it: between the numbers of a JSON array.
+pub const COMMAS: Gap = Gap {
+    separators: ByteSet {
+        low: 1 << 44,
+        high: 0,
+    },
+    blanks: BLANKS,
+    blanks_separate: false,
+    may_trail: false,
+};
+
+/// One comma, with any spaces and tabs around it: between the numbers of a line of CSV.
+pub const COMMAS_IN_LINE: Gap = Gap {
+    blanks: SPACES,
+    ..COMMAS
+};
+
+/// Spaces, tabs, and ends of lines: between the numbers of a matrix, or of a file. They may follow
+/// the last number.
+pub const WHITESPACE: Gap = Gap {
+    separators: ByteSet { low: 0, high: 0 },
+    blanks: BLANKS,
+    blanks_separate: true,
+    may_trail: true,
+};
+
+/// Spaces and tabs: between the numbers of a row, or of a line of a log. They may follow the last
+/// number.
+pub const SPACES_IN_LINE: Gap = Gap {
+    blanks: SPACES,
+    ..WHITESPACE
+};
+
+/// One line feed, with any spaces, tabs and carriage returns around it: between the numbers of a
+/// column. The last line may have one too; an empty line is no number.
+pub const LINES: Gap = Gap {
+    separators: ByteSet {
+        low: 1 << 10,
+        high: 0,
+    },
+    blanks: BLANKS,
+    blanks_separate: false,
+    may_trail: true,
+};
+
+/// Why a list was read no further.
+#[derive(Clone, Copy, Debug, PartialEq, Eq)]
+pub enum ListEnd<E> {
+    /// The slice is full. The next number may begin at this position, which is after a separator.
+    Full(usize),
+    /// The list is over. No separator is at this position, past the blanks after the last number;
+    /// or no number begins there.
+    Over(usize),
+    /// Where a number has to be is none.
+    Fault(E),
+}
+
+/// What was read of a list.
+#[derive(Clone, Copy, Debug, PartialEq, Eq)]
+pub struct ListRead<E> {
+    /// How many numbers were written into the slice.
+    pub count: usize,
+    /// Why there are no more.
+    pub end: ListEnd<E>,
+}
+
+/// Whether a set has a byte. For most bytes of a list 64 bits are enough.
+#[inline(always)]
+#[tactic(auto, using(crate::proofs::Lists::low_bit))]
+fn accepts(set: ByteSet, byte: u8) -> bool
+    ensures { result ≡ accepts set byte }
+{
+    if byte < 64 {
+        let low = (set.low % (1 << 64)) as u64;
+        (low >> byte) % 2 == 1
+    } else {
+        set.accepts(byte)
+    }
+}
+
+impl Gap {
+    /// Whether a byte may be around a separator.
+    #[inline(always)]
+    fn is_blank(self, byte: u8) -> bool
+        ensures { result ≡ is_blank self byte }
+    {
+        accepts(self.blanks, byte) && !accepts(self.separators, byte)
+    }
+
+    /// How many blanks a text begins with.
+    #[inline(always)]
+    fn count_blanks(self, text: &[u8]) -> usize
+        ensures is { result ≡ length (take_while (is_blank self) text.now) }
+        ensures within { result ≤ length text.now }
+    {
+        text.iter().take_while(|byte| self.is_blank(**byte)).count()
+    }
+
+    /// Whether a blank is at a position.
+    #[inline(always)]
+    fn has_blank(self, text: &[u8], at: usize) -> bool
+        ensures { result ≡ has_blank self text.now at }
+    {
+        match text.get(at) {
+            Some(byte) => self.is_blank(*byte),
+            None => false,
+        }
+    }
+
+    /// The first position from this one on without a blank, or the end of the text. Requires that
+    /// the position is within the text.
+    #[inline(always)]
+    #[tactic(auto, using(crate::proofs::Lists::no_blank), unfolding(crate::specs::Lists::past_blanks))]
+    pub fn past_blanks(self, text: &[u8], at: usize) -> usize
+        requires { at ≤ length text.now }
+        ensures is { result ≡ past_blanks self text.now at }
+        ensures onward { at ≤ result }
+        ensures within { result ≤ length text.now }
+    {
+        // the usual case, in which none is counted
+        if self.has_blank(text, at) {
+            at + self.count_blanks(&text[at..])
+        } else {
+            at
+        }
+    }
+
+    /// Where the next number may be, if a separator follows the number that ends at a position.
+    /// Otherwise the error is the first position without a blank. Requires that the position is
+    /// within the text.
+    #[inline(always)]
+    #[tactic(auto, using(crate::proofs::Lists::separator_is_no_blank))]
+    pub fn next_after(self, text: &[u8], end: usize) -> Result<usize, usize>
+        requires { end ≤ length text.now }
+        ensures is { result ≡ next_after self text.now end }
+        ensures onward { IfOk result (λ next. end < next) }
+        ensures within { IfOk result (λ next. next ≤ length text.now) }
+        ensures over { IfErr result (λ over. (end ≤ over) × (over ≤ length text.now)) }
+    {
+        // the usual case, in which no blank is looked for
+        if self.has_separator(text, end) {
+            return Ok(end + 1);
+        }
+        let at = self.past_blanks(text, end);
+        if self.has_separator(text, at) {
+            Ok(at + 1)
+        } else if self.blanks_separate && at > end {
+            Ok(at)
+        } else {
+            Err(at)
+        }
+    }
+
+    /// Whether a separator is at a position.
+    #[inline(always)]
+    fn has_separator(self, text: &[u8], at: usize) -> bool
+        ensures is { result ≡ has_separator self text.now at }
+        ensures within { result ≡ true → at < length text.now }
+    {
+        match text.get(at) {
+            Some(byte) => accepts(self.separators, *byte),
+            None => false,
+        }
+    }
+
+    /// Why a list ends where a number may be, if none is there: the error has the position `at`.
+    #[inline(always)]
+    pub fn no_number<E: Copy>(self, place: usize, at: usize, error: E) -> ListEnd<E>
+        ensures { result ≡ no_number self place at error }
+    {
+        if self.may_trail && at == place {
+            ListEnd::Over(place)
+        } else {
+            ListEnd::Fault(error)
+        }
+    }
+}
+
+/// The numbers of a type from `start` on, read into a slice: each as by [`read_number_from`], with
+/// what `gap` says between two of them. It reads until the slice is full, the list is over, or no
+/// number is where one has to be. The front of the slice has the numbers that were read, its rest
+/// isn't touched. Takes no memory. Requires that `start` is within the text and the word is
+/// supported.
+///
+/// Blanks before the first number are passed. A list that fills the slice and has no separator
+/// after its last number is [`Over`](ListEnd::Over), not [`Full`](ListEnd::Full). From the position
+/// of `Full` the next call goes on: the two read what one would
+/// ([`a_list_goes_on`](crate::laws::lists::a_list_goes_on)). No number at all is a
+/// [`Fault`](ListEnd::Fault) at `start`, past any blanks, unless the gap is one that `may_trail`.
+///
+/// ```text
+/// `1, 2 ,3]` with COMMAS, into 3 places: count 3, Over(7)
+/// `1,2,3`, into 2 places: count 2, Full(4)      `1, x`: count 1, Fault(Empty(3))
+/// `1\n2\n` with LINES: count 2, Over(4)         `]` with COMMAS: count 0, Fault(Empty(0))
+/// ```
+#[inline(always)]
+#[tactic(auto, using(crate::proofs::Lists::turns))]
+pub fn read_list<T: Integer>(
+    text: &[u8],
+    start: usize,
+    word: u128,
+    gap: Gap,
+    out: &mut [T],
+) -> ListRead<LiteralError>
+    requires supported { IsTrue (is_supported word) }
+    requires within { start ≤ length text.now }
+    ensures is { let r = rule_of word Integer in
+        let list = list_at (number_at T.MIN_MAGNITUDE T.MAX r text.now) literal_position gap
+        text.now (length out.old) start in
+        Fills T.number list result out.old out.new }
+    ensures count { result.count ≤ length out.old }
+    ensures full { IfFull result.end (λ at. (start ≤ at) × (at ≤ length text.now)) }
+    ensures over { IfOver result.end (λ at. (start ≤ at) × (at ≤ length text.now)) }
+{
+    let mut at = start;
+    for count in 0..out.len() {
+        let place = gap.past_blanks(text, at);
+        let (value, end) = match read_number_from::<T>(text, word, place) {
+            Ok(read) => read,
+            Err(error) => {
+                let end = gap.no_number(place, error.position(), error);
+                return ListRead { count, end };
+            }
+        };
+        out[count] = value;
+        match gap.next_after(text, end) {
+            Ok(next) => at = next,
+            Err(over) => {
+                return ListRead {
+                    count: count + 1,
+                    end: ListEnd::Over(over),
+                };
+            }
+        }
+    }
+    ListRead {
+        count: out.len(),
+        end: ListEnd::Full(at),
+    }
+}
