@@ -18,6 +18,6 @@ mod Signs
 mod Squeeze
 mod Tens
 mod Units
-mod WhatFollows
+pub mod WhatFollows
 mod WholePart
 mod Written

@@ -1,11 +1,15 @@
--- What stands behind the end of a float makes no difference to the float.
+-- What stands behind the end of a float makes no difference to the float, nor to a decimal number.
 use Rattle.std.proofs.Common.{◌≡◌, ℕ, ◌+◌, ◌<◌, ◌≤◌, Bool, true, false, cond, List, refl, ap, ◌∙◌, arith, inl, inr}
 use Rattle.std.proofs.lemmas.Bool.{cases_lt}
 use Rattle.std.proofs.lemmas.Bool.Decides.{nat_tests}
-use Rattle.std.specs.Prelude.{Result}
+use Rattle.std.specs.Prelude.{Result, Ok, Err}
 use Rattle.std.specs.Float.{Format}
 use Rattle.std.specs.Float.Numeral.{Parts, nearest_float}
+use Rattle.digit_literals.specs.Numbers.{is_negative_from}
+use Rattle.digit_literals.specs.Numbers as signs
+use Rattle.digit_floats.specs.declared.decimal.Decimal.{Decimal}
 use Rattle.digit_floats.specs.declared.error.FloatError.{FloatError}
+use Rattle.digit_floats.specs.declared.scaled.ScaledError.{ScaledError}
 use Rattle.lexical_digits.specs.declared.skip.component.Component.{Component}
 use Rattle.lexical_digits.specs.declared.skip.component.Component.TheVariants.{Integer, Fraction, Exponent}
 use Rattle.lexical_digits.specs.State.{rule_of}
@@ -13,13 +17,15 @@ use Rattle.lexical_digits.proofs.Calls.WhatFollows.{same_there, same_stop, stop_
 use Rattle.digit_literals.proofs.WhatFollows.{same_between}
 use Rattle.digit_floats.specs.declared.parts.Marks.{Marks}
 use Rattle.digit_floats.specs.Bytes.{stands, is_sign, is_minus, is_point, is_mark}
-use Rattle.digit_floats.specs.Float.{past_sign, digits_end, digits_from, fraction_digits, fraction_end, exponent_digits, exponent_end, exponent_negative, parts_at, mantissa_end, end_from, with_end, read_at}
+use Rattle.digit_floats.specs.Float.{past_sign, digits_end, digits_from, fraction_digits, fraction_end, exponent_digits, exponent_end, exponent_negative, parts_at, mantissa_end, end_from, end_at, with_end, read_at}
+use Rattle.digit_floats.specs.Decimals.{decimal_at, read_decimal_at}
+use Rattle.digit_floats.specs.Scaled.{scaled_at, with_sign, read_scaled_at}
 use Rattle.digit_floats.specs.Follows.{IsSameFloatUpTo}
 
 module _ (word : ℕ) (marks : Marks) (one other : List ℕ) (at : ℕ)
     (upto : IsSameFloatUpTo word marks one other at) where
   -- what stands before the end is the same, and what is at the end has no part in it
-  stands_same : (p : ℕ → Bool) (i : ℕ) → i ≤ at → stands p one at ≡ false
+  pub stands_same : (p : ℕ → Bool) (i : ℕ) → i ≤ at → stands p one at ≡ false
       → stands p other at ≡ false → stands p one i ≡ stands p other i
   stands_same p i l here there = elim (cases_lt i at) [
     | inl m ↦ rw (same_there (rule_of word Integer) one other at (upto.digits Integer) i m) refl
@@ -39,15 +45,15 @@ module _ (word : ℕ) (marks : Marks) (one other : List ℕ) (at : ℕ)
 
   -- ---- the digits of a component
 
-  ends_same : (k : Component) (i : ℕ) → i ≤ at → digits_end word one k i ≡ digits_end word other k i
+  pub ends_same : (k : Component) (i : ℕ) → i ≤ at → digits_end word one k i ≡ digits_end word other k i
   unfolding digits_end
   ends_same k i l = same_stop (rule_of word k) one other at (upto.digits k) i 0 l
 
-  ends_upto : (k : Component) (i : ℕ) → i ≤ at → digits_end word one k i ≤ at
+  pub ends_upto : (k : Component) (i : ℕ) → i ≤ at → digits_end word one k i ≤ at
   unfolding digits_end
   ends_upto k i l = stop_upto (rule_of word k) one other at (upto.digits k) i 0 l
 
-  digits_same : (k : Component) (i : ℕ) → i ≤ at
+  pub digits_same : (k : Component) (i : ℕ) → i ≤ at
       → digits_from word one k i ≡ digits_from word other k i
   unfolding digits_from
   digits_same k i l =
@@ -72,11 +78,11 @@ module _ (word : ℕ) (marks : Marks) (one other : List ℕ) (at : ℕ)
   abbrev point : ℕ → Bool
   point i = stands (is_point marks.point) one i
 
-  point_same : (i : ℕ) → i ≤ at → point i ≡ stands (is_point marks.point) other i
+  pub point_same : (i : ℕ) → i ≤ at → point i ≡ stands (is_point marks.point) other i
   point_same i l =
       stands_same (is_point marks.point) i l upto.one_ends.point upto.other_ends.point
 
-  point_before : (i : ℕ) → i ≤ at → point i ≡ true → i + 1 ≤ at
+  pub point_before : (i : ℕ) → i ≤ at → point i ≡ true → i + 1 ≤ at
   point_before i l is =
       omega (arith, stands_before (is_point marks.point) one i l upto.one_ends.point is)
 
@@ -86,21 +92,21 @@ module _ (word : ℕ) (marks : Marks) (one other : List ℕ) (at : ℕ)
   if_same true c x y z e h = rw (← e) (h refl)
   if_same false c x y z e h = rw (← e) refl
 
-  fraction_same : (i : ℕ) → i ≤ at
+  pub fraction_same : (i : ℕ) → i ≤ at
       → fraction_digits word one marks.point i ≡ fraction_digits word other marks.point i
   unfolding fraction_digits
   fraction_same i l =
       if_same _ _ _ _ _ (point_same i l)
       (λ is. digits_same Fraction (i + 1) (point_before i l is))
 
-  fraction_end_same : (i : ℕ) → i ≤ at
+  pub fraction_end_same : (i : ℕ) → i ≤ at
       → fraction_end word one marks.point i ≡ fraction_end word other marks.point i
   unfolding fraction_end
   fraction_end_same i l =
       if_same _ _ _ _ _ (point_same i l)
       (λ is. ends_same Fraction (i + 1) (point_before i l is))
 
-  fraction_end_upto : (i : ℕ) → i ≤ at → fraction_end word one marks.point i ≤ at
+  pub fraction_end_upto : (i : ℕ) → i ≤ at → fraction_end word one marks.point i ≤ at
   unfolding fraction_end
   fraction_end_upto i l = grind (arith, point_before i l, ends_upto Fraction (i + 1))
 
@@ -117,7 +123,7 @@ module _ (word : ℕ) (marks : Marks) (one other : List ℕ) (at : ℕ)
   mark_before i l is =
       omega (arith, stands_before (is_mark marks.exponent) one i l upto.one_ends.mark is)
 
-  exponent_same : (i : ℕ) → i ≤ at
+  pub exponent_same : (i : ℕ) → i ≤ at
       → exponent_digits word one marks.exponent i ≡ exponent_digits word other marks.exponent i
   unfolding exponent_digits
   exponent_same i l =
@@ -125,7 +131,7 @@ module _ (word : ℕ) (marks : Marks) (one other : List ℕ) (at : ℕ)
       let low = mark_before i l is in
       rw (← sign_same (i + 1) low) (digits_same Exponent _ (sign_upto (i + 1) low)))
 
-  exponent_end_same : (i : ℕ) → i ≤ at
+  pub exponent_end_same : (i : ℕ) → i ≤ at
       → exponent_end word one marks.exponent i ≡ exponent_end word other marks.exponent i
   unfolding exponent_end
   exponent_end_same i l =
@@ -133,7 +139,7 @@ module _ (word : ℕ) (marks : Marks) (one other : List ℕ) (at : ℕ)
       let low = mark_before i l is in
       rw (← sign_same (i + 1) low) (ends_same Exponent _ (sign_upto (i + 1) low)))
 
-  negative_same : (i : ℕ) → i ≤ at
+  pub negative_same : (i : ℕ) → i ≤ at
       → exponent_negative word one marks.exponent i ≡ exponent_negative word other marks.exponent i
   unfolding exponent_negative
   negative_same i l =
@@ -176,6 +182,14 @@ module _ (word : ℕ) (marks : Marks) (one other : List ℕ) (at : ℕ)
           ends_same Integer i from,
         ) refl
 
+  end_at_same : (i : ℕ) → i ≤ at → end_at word one marks i ≡ end_at word other marks i
+  end_at_same i from =
+      end_same (past_sign one i) (sign_upto i from)
+      ∙ ap (end_from word other marks) (sign_same i from)
+
+  past_other : (i : ℕ) → i ≤ at → past_sign other i ≤ at
+  past_other i from = rw (← sign_same i from) (sign_upto i from)
+
   with_same : (f : Format) (a b : Bool) (p q : Parts) (e d : Result ℕ FloatError) → a ≡ b → p ≡ q
       → e ≡ d → with_end (nearest_float f a p) e ≡ with_end (nearest_float f b q) d
   with_same f a b p q e d minus parts end = rw (minus, parts, end) refl
@@ -187,4 +201,76 @@ module _ (word : ℕ) (marks : Marks) (one other : List ℕ) (at : ℕ)
       let sign = sign_same i from in
       with_same f _ _ _ _ _ _ (minus_same i from)
       (parts_same (past_sign one i) past ∙ ap (parts_at word other marks) sign)
-      (end_same (past_sign one i) past ∙ ap (end_from word other marks) sign)
+      (end_at_same i from)
+
+  -- ---- a decimal number
+
+  same_end : (d e : Decimal) (p q : Result ℕ FloatError) → d ≡ e → p ≡ q
+      → with_end d p ≡ with_end e q
+  same_end d e p q number end = rw (number, end) refl
+
+  decimal_same : (i : ℕ) → i ≤ at → decimal_at word one marks i ≡ decimal_at word other marks i
+  decimal_same i from =
+      let past = past_other i from in
+      let start = past_sign other i in
+      let whole = ends_upto Integer start past in
+      rw (
+        minus_same i from,
+        sign_same i from,
+        digits_same Integer start past,
+        negative_same (mantissa_end word one marks.point start) (mantissa_upto start past),
+        exponent_same (mantissa_end word one marks.point start) (mantissa_upto start past),
+        fraction_same (digits_end word one Integer start) whole,
+        fraction_end_same (digits_end word one Integer start) whole,
+        ends_same Integer start past,
+      ) refl
+
+  pub same_decimal : (i : ℕ) → i ≤ at
+      → read_decimal_at word one marks i ≡ read_decimal_at word other marks i
+  same_decimal i from = same_end _ _ _ _ (decimal_same i from) (end_at_same i from)
+
+  -- ---- a scaled number
+
+  scaled_same : (places most i : ℕ) → i ≤ at
+      → scaled_at word one marks.point places most i
+      ≡ scaled_at word other marks.point places most i
+  unfolding scaled_at
+  scaled_same places most i from =
+      let whole = ends_upto Integer i from in
+      rw (
+        digits_same Integer i from,
+        fraction_same (digits_end word one Integer i) whole,
+        fraction_end_same (digits_end word one Integer i) whole,
+        ends_same Integer i from,
+      ) refl
+
+  -- its sign, if the type has one
+  signs_same : (least i : ℕ) → i ≤ at → signs.digits_from least one i ≡ signs.digits_from least other i
+  signs_same least i from = grind (arith, nat_tests, minus_same i from, sign_same i from)
+
+  signs_upto : (least i : ℕ) → i ≤ at → signs.digits_from least one i ≤ at
+  signs_upto least i from = grind (arith, nat_tests, sign_upto i from, from)
+
+  negative_from_same : (least i : ℕ) → i ≤ at
+      → is_negative_from least one i ≡ is_negative_from least other i
+  negative_from_same least i from = rw (minus_same i from) refl
+
+  signed_same : (places : ℕ) (n m : Bool) (a b : Result (ℕ × ℕ) ScaledError) → n ≡ m → a ≡ b
+      → with_sign word one marks.point places n a ≡ with_sign word other marks.point places m b
+  signed_same places n m a (Ok read) negative same = rw (negative, same) refl
+  signed_same places n m a (Err error) negative same = rw same refl
+
+  most_same : (n m : Bool) (least most d e places : ℕ) → n ≡ m → d ≡ e → d ≤ at
+      → scaled_at word one marks.point places (cond n least most) d
+      ≡ scaled_at word other marks.point places (cond m least most) e
+  most_same n m least most d e places negative digits low =
+      rw (← negative, ← digits) (scaled_same places (cond n least most) d low)
+
+  pub same_scaled : (places least most i : ℕ) → i ≤ at
+      → read_scaled_at word one marks.point places least most i
+      ≡ read_scaled_at word other marks.point places least most i
+  same_scaled places least most i from =
+      let negative = negative_from_same least i from in
+      signed_same places _ _ _ _ negative
+      (most_same _ _ least most _ _ places negative (signs_same least i from)
+      (signs_upto least i from))

@@ -1,6 +1,7 @@
 //! The float nearest to a whole number times a power of two.
 
-ghost use Rattle.std.specs.Prelude.{◌≡◌, false, ◌+◌, ◌-◌, ◌*◌, ◌/◌, ◌^◌, ◌<◌, ◌≤◌, ℕ};
+ghost use Rattle.std.specs.Prelude.{◌≡◌, false, ◌+◌, ◌-◌, ◌*◌, ◌/◌, ◌^◌, ◌<◌, ◌≤◌, ℕ, IfSome};
+ghost use Rattle.std.specs.Float.{NotNan};
 ghost use Rattle.std.specs.Float.Ieee.{round, low};
 ghost use Rattle.digit_floats.specs.Binary.{IsWholePart, shifted};
 
@@ -91,9 +92,25 @@ fn round_magnitude<F: Float>(magnitude: u128) -> F
     }
 }
 
-/// The float nearest to an integer, by its sign and its magnitude. A zero keeps its sign.
-pub fn round_integer<F: Float>(negative: bool, magnitude: u128) -> F
-    ensures { F.value result ≡ round F.format negative magnitude 1 }
+/// The float nearest to a whole number, if it is exactly a float that the processor converts.
+#[inline(always)]
+fn exact_magnitude<F: Float>(magnitude: u128) -> Option<F>
+    ensures { IfSome result (λ x. F.value x ≡ round F.format false magnitude 1) }
 {
-    signed(negative, round_magnitude::<F>(magnitude))
+    if magnitude >= 1 << 53 {
+        return None;
+    }
+    F::times_ten_to(magnitude as u64, 0)
+}
+
+/// The float nearest to an integer, by its sign and its magnitude. A zero keeps its sign.
+#[tactic(auto, using(crate::proofs::Numbers::round_number))]
+pub fn round_integer<F: Float>(negative: bool, magnitude: u128) -> F
+    ensures value { F.value result ≡ round F.format negative magnitude 1 }
+    ensures no_nan { NotNan (F.value result) }
+{
+    match exact_magnitude::<F>(magnitude) {
+        Some(x) => signed(negative, x),
+        None => signed(negative, round_magnitude::<F>(magnitude)),
+    }
 }

@@ -231,7 +231,7 @@ pub fn round_hex<F: Float>(text: &[u8], negative: bool, mantissa: HexMantissa, p
     ensures value { F.value result ≡ nearest_hex F.format negative
         (hex_integer_of text.now mantissa ++ hex_fraction_of text.now mantissa) mantissa.places
         power.negative (digits_value 10 (exponent_of text.now mantissa.end power)) }
-    ensures number { NotNan (F.value result) }
+    ensures no_nan { NotNan (F.value result) }
 {
     let kept = keep_hex_both(
         &text[mantissa.start..mantissa.whole_end],
@@ -260,7 +260,7 @@ pub fn read_hex_float_from<F: Float>(
     ensures reads { MatchResult result
         (λ r. read_hex_at word text.now marks F.format negative start ≡ Ok (F.value r.0, r.1))
         (λ error. read_hex_at word text.now marks F.format negative start ≡ Err error) }
-    ensures number { IfOk result (λ r. NotNan (F.value r.0)) }
+    ensures no_nan { IfOk result (λ r. NotNan (F.value r.0)) }
     ensures onward { IfOk result (λ r. start < r.1) }
     ensures within { IfOk result (λ r. r.1 ≤ length text.now) }
 {

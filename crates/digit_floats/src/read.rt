@@ -27,7 +27,7 @@ pub fn read_float_from<F: Float>(
     ensures reads { MatchResult result
         (λ r. read_at word text.now plain_marks F.format start ≡ Ok (F.value r.0, r.1))
         (λ error. read_at word text.now plain_marks F.format start ≡ Err error) }
-    ensures number { IfOk result (λ r. NotNan (F.value r.0)) }
+    ensures no_nan { IfOk result (λ r. NotNan (F.value r.0)) }
     ensures onward { IfOk result (λ r. start < r.1) }
     ensures within { IfOk result (λ r. r.1 ≤ length text.now) }
 {
@@ -44,7 +44,7 @@ pub fn read_float<F: Float>(text: &[u8], word: u128) -> Result<(F, usize), Float
     ensures reads { MatchResult result
         (λ r. read_at word text.now plain_marks F.format 0 ≡ Ok (F.value r.0, r.1))
         (λ error. read_at word text.now plain_marks F.format 0 ≡ Err error) }
-    ensures number { IfOk result (λ r. NotNan (F.value r.0)) }
+    ensures no_nan { IfOk result (λ r. NotNan (F.value r.0)) }
     ensures onward { IfOk result (λ r. 0 < r.1) }
     ensures within { IfOk result (λ r. r.1 ≤ length text.now) }
 {
@@ -60,7 +60,7 @@ pub fn parse_float_from<F: Float>(text: &[u8], word: u128, start: usize) -> Resu
     ensures parses { MatchResult result
         (λ x. parse_at word text.now plain_marks F.format start ≡ Ok (F.value x))
         (λ error. parse_at word text.now plain_marks F.format start ≡ Err error) }
-    ensures number { IfOk result (λ x. NotNan (F.value x)) }
+    ensures no_nan { IfOk result (λ x. NotNan (F.value x)) }
 {
     let (x, end) = read_float_from::<F>(text, word, start)?;
     if end < text.len() {
@@ -77,7 +77,7 @@ pub fn parse_float<F: Float>(text: &[u8], word: u128) -> Result<F, FloatError>
     ensures parses { MatchResult result
         (λ x. parse_at word text.now plain_marks F.format 0 ≡ Ok (F.value x))
         (λ error. parse_at word text.now plain_marks F.format 0 ≡ Err error) }
-    ensures number { IfOk result (λ x. NotNan (F.value x)) }
+    ensures no_nan { IfOk result (λ x. NotNan (F.value x)) }
 {
     parse_float_from::<F>(text, word, 0)
 }

@@ -1,6 +1,7 @@
 //! The float nearest to a number that was read.
 
 ghost use Rattle.std.specs.Prelude.{◌≡◌, ◌+◌, ◌*◌, ◌-◌, ◌^◌, ◌++◌, ℕ, min, if◌then◌else◌, IfSome};
+ghost use Rattle.std.specs.Float.{NotNan};
 ghost use Rattle.std.specs.Float.Ieee.{round};
 ghost use Rattle.std.specs.Str.Parse.{digits_value};
 ghost use Rattle.digit_floats.specs.Parts.{integer_of, fraction_of, IsMantissa};
@@ -26,10 +27,11 @@ fn zero<F: Float>(negative: bool) -> F
 #[inline(always)]
 pub fn round_parts<F: Float>(text: &[u8], negative: bool, mantissa: Mantissa, power: Power) -> F
     requires { IsMantissa text.now mantissa }
-    ensures { (n : ℕ) → power.value ≡ min n (2 ^ 64 - 1) → F.value result ≡ round F.format negative
+    ensures value { (n : ℕ) → power.value ≡ min n (2 ^ 64 - 1) → F.value result ≡ round F.format negative
         (digits_value 10 (integer_of text.now mantissa ++ fraction_of text.now mantissa)
         * 10 ^ (if power.negative then 0 else n))
         (10 ^ (mantissa.places + (if power.negative then n else 0))) }
+    ensures no_nan { NotNan (F.value result) }
 {
     // One multiplication or division decides digits and a power of ten that a float holds: up to
     // 2^53 (of an `f32` 2^24) and 10^22 (10^10). Otherwise one product of 64 bits with a power of
@@ -75,9 +77,10 @@ pub fn round_parts<F: Float>(text: &[u8], negative: bool, mantissa: Mantissa, po
 pub fn round_few<F: Float>(text: &[u8], negative: bool, mantissa: Mantissa) -> Option<F>
     requires is { IsMantissa text.now mantissa }
     requires few { mantissa.dropped ≡ 0 }
-    ensures { IfSome result (λ x. F.value x ≡ round F.format negative
+    ensures value { IfSome result (λ x. F.value x ≡ round F.format negative
         (digits_value 10 (integer_of text.now mantissa ++ fraction_of text.now mantissa))
         (10 ^ mantissa.places)) }
+    ensures no_nan { IfSome result (λ x. NotNan (F.value x)) }
 {
     let places = mantissa.places as u64;
     let value = mantissa.value;

@@ -1,0 +1,16 @@
+use Rattle.std.proofs.Common.{◌≡◌, ◌≤◌, length}
+use Rattle.digit_literals.proofs.Lists.{SoFar}
+use Rattle.digit_floats.specs.Errors.{position}
+use Rattle.digit_floats.specs.Float.{plain_marks, read_at}
+use Rattle.digit_floats.proofs.list.read_float_list.Given as goal
+
+abbrev pub invariant-loop-count : goal.invariant-loop-count
+invariant-loop-count g l =
+    let f = g.F.Float in
+    record {
+      so : SoFar f.value (read_at l.word l.text plain_marks f.format) position l.gap l.text l.start
+          l.count l.at l.initial.out l.out;
+      onward : l.start ≤ l.at;
+      within : l.at ≤ length l.text;
+      room : l.count-end ≡ length l.initial.out;
+    }

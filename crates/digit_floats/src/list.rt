@@ -1,0 +1,67 @@
+//! Lists of floats, which are read into a slice.
+
+ghost use Rattle.std.specs.Prelude.{◌≤◌, length, IsTrue};
+ghost use Rattle.lexical_format.specs.Word.{is_supported};
+ghost use Rattle.digit_literals.specs.Lists.{list_at, Fills, IfFull, IfOver};
+ghost use Rattle.digit_floats.specs.Errors.{position};
+ghost use Rattle.digit_floats.specs.Float.{IsDecimal, plain_marks, read_at};
+
+use super::error::FloatError;
+use super::float::Float;
+use super::read::read_float_from;
+use digit_literals::{Gap, ListEnd, ListRead};
+
+/// The floats from `start` on, read into a slice: each as by [`read_float_from`], with what `gap`
+/// says between two of them. It is [`read_list`](digit_literals::read_list) of floats, and ends as
+/// that does. Requires that `start` is within the text, that the word is supported, and that its
+/// mantissa and exponent are decimal.
+///
+/// ```text
+/// `1.5, -2e3]` with COMMAS, into 3 places: count 2, Over(9)
+/// `48.2 16.37\n` with WHITESPACE, into 3 places: count 2, Over(11)
+/// ```
+#[inline(always)]
+#[tactic(auto, using(digit_literals::proofs::Lists::turns))]
+pub fn read_float_list<F: Float>(
+    text: &[u8],
+    start: usize,
+    word: u128,
+    gap: Gap,
+    out: &mut [F],
+) -> ListRead<FloatError>
+    requires supported { IsTrue (is_supported word) }
+    requires decimal { IsDecimal word }
+    requires within { start ≤ length text.now }
+    ensures is { let list = list_at (read_at word text.now plain_marks F.format) position gap
+        text.now (length out.old) start in
+        Fills F.value list result out.old out.new }
+    ensures count { result.count ≤ length out.old }
+    ensures full { IfFull result.end (λ at. (start ≤ at) × (at ≤ length text.now)) }
+    ensures over { IfOver result.end (λ at. (start ≤ at) × (at ≤ length text.now)) }
+{
+    let mut at = start;
+    for count in 0..out.len() {
+        let place = gap.past_blanks(text, at);
+        let (x, end) = match read_float_from::<F>(text, word, place) {
+            Ok(read) => read,
+            Err(error) => {
+                let end = gap.no_number(place, error.position(), error);
+                return ListRead { count, end };
+            }
+        };
+        out[count] = x;
+        match gap.next_after(text, end) {
+            Ok(next) => at = next,
+            Err(over) => {
+                return ListRead {
+                    count: count + 1,
+                    end: ListEnd::Over(over),
+                };
+            }
+        }
+    }
+    ListRead {
+        count: out.len(),
+        end: ListEnd::Full(at),
+    }
+}
