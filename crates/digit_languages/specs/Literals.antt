@@ -1,5 +1,5 @@
 -- The integer literals of a language: what says their word, and what they are worth.
-use Rattle.std.specs.Prelude.{ℕ, ℤ, pos, ◌+◌, ◌-◌, Bool, false, ◌&&◌, ◌||◌, nat_lt, if◌then◌else◌, List, ◌++◌, codes, decimal, Option, Some, None, is_some, Result, Ok, Err}
+use Rattle.std.specs.Prelude.{ℕ, ℤ, pos, ◌+◌, ◌-◌, Bool, true, false, ◌&&◌, ◌||◌, nat_lt, if◌then◌else◌, List, ◌++◌, codes, decimal, Option, Some, None, is_some, Result, Ok, Err}
 use Rattle.lexical_digits.specs.State.{rule_of}
 use Rattle.lexical_digits.specs.declared.skip.component.Component.TheVariants.{Integer}
 use Rattle.digit_literals.specs.declared.LiteralError.{LiteralError}
@@ -17,6 +17,13 @@ use Rattle.digit_languages.specs.Words.{octal_of}
 abbrev pub word_or : Option ℕ → ℕ → ℕ
 word_or None other = other
 word_or (Some word) other = word
+
+-- whether a first `0` is refused, by whether more bytes follow it, and a digit that isn't `0`
+abbrev pub refused_by : FirstZero → Bool → Bool → Bool
+refused_by Plain has_more has_other = false
+refused_by (Octal word) has_more has_other = false
+refused_by Alone has_more has_other = has_more
+refused_by Zeros has_more has_other = has_other
 
 -- an integer's error as one of a language
 abbrev pub language_error : LiteralError → LanguageError
@@ -50,28 +57,26 @@ module _ (l : Language) (text : List ℕ) (start : ℕ) where
   abbrev pub digits_at : ℕ
   digits_at = if is_some prefix_word then start + 2 else start
 
-  -- whether a first `0` allows this value and end
-  abbrev pub refused_by : FirstZero → ℕ → ℕ → Bool
-  refused_by Plain value end = false
-  refused_by (Octal word) value end = false
-  refused_by Alone value end = nat_lt (start + 1) end
-  refused_by Zeros value end = nat_lt 0 value
-
   -- whether the language refuses a literal without a prefix for its first `0`
-  abbrev pub refuses : ℕ → ℕ → Bool
-  refuses value end = has_byte text start 48 && refused_by l.first_zero value end
+  abbrev pub refuses : Bool → Bool → Bool
+  refuses has_more has_other =
+      has_byte text start 48 && refused_by l.first_zero has_more has_other
 
   -- whether it refuses the literal here
-  abbrev pub is_refused : ℕ → ℕ → Bool
-  is_refused value end = if is_some prefix_word then false else refuses value end
+  abbrev pub is_refused : Bool → Bool → Bool
+  is_refused has_more has_other =
+      if is_some prefix_word then false else refuses has_more has_other
 
-  -- its digits as a literal: their value and where they end, or why there is none
+  -- Its digits as a literal: their value and where they end, or why there is none. Too large ones
+  -- are more than a first `0`, and not all `0`.
   abbrev pub literal_of : Result (ℕ × ℕ) LiteralError → Result Literal LanguageError
   literal_of (Ok (value, end)) =
-      if is_refused value end
+      if is_refused (nat_lt (start + 1) end) (nat_lt 0 value)
       then Err (Zero start)
       else Ok (record { value = value; word = word_at; digits = digits_at; end = end })
-  literal_of (Err error) = Err (language_error error)
+  literal_of (Err (integers.Overflow over)) =
+      if is_refused true true then Err (Zero start) else Err (Overflow over)
+  literal_of (Err (integers.Empty at)) = Err (Empty at)
 
   -- the literal that begins here, if its value is at most `most`, or why there is none
   abbrev pub literal_at : ℕ → Result Literal LanguageError

@@ -5,21 +5,23 @@ ghost use Rattle.digit_languages.specs.Words.{IsLanguage};
 use super::language::{FirstZero, Language};
 use lexical_format::words::{
     CSHARP_BINARY_LITERAL, CSHARP_HEX_LITERAL, CSHARP_LITERAL, CXX14_BINARY_LITERAL,
-    CXX14_HEX_LITERAL, CXX14_LITERAL, CXX14_OCTAL_LITERAL, ELIXIR_BINARY_LITERAL,
-    ELIXIR_HEX_LITERAL, ELIXIR_LITERAL, ELIXIR_OCTAL_LITERAL, FSHARP_BINARY_LITERAL,
-    FSHARP_HEX_LITERAL, FSHARP_LITERAL, FSHARP_OCTAL_LITERAL, GO_BINARY_LITERAL, GO_HEX_LITERAL,
-    GO_LITERAL, GO_OCTAL_LITERAL, HASKELL_BINARY_LITERAL, HASKELL_HEX_LITERAL, HASKELL_LITERAL,
-    HASKELL_OCTAL_LITERAL, JAVA_BINARY_LITERAL, JAVA_HEX_LITERAL, JAVA_LITERAL, JAVA_OCTAL_LITERAL,
+    CXX14_HEX_LITERAL, CXX14_LITERAL, CXX14_OCTAL_LITERAL, D_BINARY_LITERAL, D_HEX_LITERAL,
+    D_LITERAL, ELIXIR_BINARY_LITERAL, ELIXIR_HEX_LITERAL, ELIXIR_LITERAL, ELIXIR_OCTAL_LITERAL,
+    ERLANG_LITERAL, FSHARP_BINARY_LITERAL, FSHARP_HEX_LITERAL, FSHARP_LITERAL,
+    FSHARP_OCTAL_LITERAL, GO_BINARY_LITERAL, GO_HEX_LITERAL, GO_LITERAL, GO_OCTAL_LITERAL,
+    HASKELL_BINARY_LITERAL, HASKELL_HEX_LITERAL, HASKELL_LITERAL, HASKELL_OCTAL_LITERAL,
+    HEXADECIMAL_FLOAT, JAVA_BINARY_LITERAL, JAVA_HEX_LITERAL, JAVA_LITERAL, JAVA_OCTAL_LITERAL,
     JAVASCRIPT_BINARY_LITERAL, JAVASCRIPT_HEX_LITERAL, JAVASCRIPT_LITERAL,
     JAVASCRIPT_OCTAL_LITERAL, JULIA_BINARY_LITERAL, JULIA_HEX_LITERAL, JULIA_LITERAL,
     JULIA_OCTAL_LITERAL, KOTLIN_BINARY_LITERAL, KOTLIN_HEX_LITERAL, KOTLIN_LITERAL,
-    OCAML_BINARY_LITERAL, OCAML_HEX_LITERAL, OCAML_LITERAL, OCAML_OCTAL_LITERAL,
+    OCAML_BINARY_LITERAL, OCAML_HEX_LITERAL, OCAML_LITERAL, OCAML_OCTAL_LITERAL, OCTAL,
     PERL_BINARY_LITERAL, PERL_HEX_LITERAL, PERL_LITERAL, PERL_OCTAL_LITERAL, PHP_BINARY_LITERAL,
     PHP_HEX_LITERAL, PHP_LITERAL, PHP_OCTAL_LITERAL, PYTHON_BINARY_LITERAL, PYTHON_HEX_LITERAL,
     PYTHON_LITERAL, PYTHON_OCTAL_LITERAL, RUBY_BINARY_LITERAL, RUBY_HEX_LITERAL, RUBY_LITERAL,
     RUBY_OCTAL_LITERAL, RUST_BINARY_LITERAL, RUST_HEX_LITERAL, RUST_LITERAL, RUST_OCTAL_LITERAL,
-    SWIFT_BINARY_LITERAL, SWIFT_HEX_LITERAL, SWIFT_LITERAL, SWIFT_OCTAL_LITERAL, TOML_BINARY,
-    TOML_HEX, TOML_OCTAL, ZIG_BINARY_LITERAL, ZIG_HEX_LITERAL, ZIG_LITERAL, ZIG_OCTAL_LITERAL,
+    SCALA_HEX_LITERAL, SCALA_LITERAL, SWIFT_BINARY_LITERAL, SWIFT_HEX_LITERAL, SWIFT_LITERAL,
+    SWIFT_OCTAL_LITERAL, TOML_BINARY, TOML_HEX, TOML_OCTAL, ZIG_BINARY_LITERAL, ZIG_HEX_LITERAL,
+    ZIG_LITERAL, ZIG_OCTAL_LITERAL,
 };
 use lexical_format::{STANDARD, words};
 
@@ -224,6 +226,66 @@ pub const JSON_NUMBER: Language = Language {
     first_zero: FirstZero::Alone,
 };
 
+/// Decimal digits without separators: no prefix.
+pub const DIGITS: Language = Language {
+    decimal: STANDARD,
+    binary: None,
+    octal: None,
+    hexadecimal: None,
+    upper: false,
+    first_zero: FirstZero::Plain,
+};
+
+/// Digits without separators: `0x`, in either case.
+pub const HEX_DIGITS: Language = Language {
+    decimal: STANDARD,
+    binary: None,
+    octal: None,
+    hexadecimal: Some(HEXADECIMAL_FLOAT),
+    upper: true,
+    first_zero: FirstZero::Plain,
+};
+
+/// C before C23, and C++ before C++14: `0x`, in either case. A first `0` says octal.
+pub const C: Language = Language {
+    decimal: STANDARD,
+    binary: None,
+    octal: None,
+    hexadecimal: Some(HEXADECIMAL_FLOAT),
+    upper: true,
+    first_zero: FirstZero::Octal(OCTAL),
+};
+
+/// Scala: `0x`, in either case. No digit follows a first `0`.
+pub const SCALA: Language = Language {
+    decimal: SCALA_LITERAL,
+    binary: None,
+    octal: None,
+    hexadecimal: Some(SCALA_HEX_LITERAL),
+    upper: true,
+    first_zero: FirstZero::Alone,
+};
+
+/// Erlang: no prefix. A radix and `#`, as in `16#ff`, are the caller's.
+pub const ERLANG: Language = Language {
+    decimal: ERLANG_LITERAL,
+    binary: None,
+    octal: None,
+    hexadecimal: None,
+    upper: false,
+    first_zero: FirstZero::Plain,
+};
+
+/// D: `0b`, `0x`, in either case. A first `0` says octal. D refuses it from `010` on.
+pub const D: Language = Language {
+    decimal: D_LITERAL,
+    binary: Some(D_BINARY_LITERAL),
+    octal: None,
+    hexadecimal: Some(D_HEX_LITERAL),
+    upper: true,
+    first_zero: FirstZero::Octal(RUST_OCTAL_LITERAL),
+};
+
 /// Each language of this file has supported words.
 #[tactic(auto, unfolding(lexical_format::proofs::OnLiterals::lexical_on_literals))]
 pub fn languages_serve()
@@ -247,4 +309,10 @@ pub fn languages_serve()
     ensures elixir { IsLanguage ELIXIR }
     ensures toml { IsLanguage TOML }
     ensures json_number { IsLanguage JSON_NUMBER }
+    ensures digits { IsLanguage DIGITS }
+    ensures hex_digits { IsLanguage HEX_DIGITS }
+    ensures c { IsLanguage C }
+    ensures scala { IsLanguage SCALA }
+    ensures erlang { IsLanguage ERLANG }
+    ensures d { IsLanguage D }
 {}

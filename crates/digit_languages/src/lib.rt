@@ -3,12 +3,11 @@
 
 mod language;
 pub mod languages;
+pub mod laws;
 mod literal;
 
 pub use self::language::{FirstZero, Language, is_language};
-pub use self::literal::{
-    LanguageError, Literal, plain_word, prefix_word, read_literal, read_literal_as,
-};
+pub use self::literal::{LanguageError, Literal, prefix_word, read_literal, read_literal_as};
 
 #[cfg(test)]
 mod tests;

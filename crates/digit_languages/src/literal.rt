@@ -30,7 +30,7 @@ pub enum LanguageError {
     Empty(usize),
     /// With the digit at this position the value is above the greatest one.
     Overflow(usize),
-    /// The language refuses the first `0`, which is at this position.
+    /// The language refuses the first `0`, which is at this position, whatever the greatest value is.
     Zero(usize),
 }
 
@@ -120,9 +120,8 @@ pub fn prefix_word(language: Language, text: &[u8], start: usize) -> Option<u128
 }
 
 /// The word of a literal without a prefix that begins at the start: a first `0` may say octal.
-/// Requires that the language's words are supported.
 #[inline(always)]
-pub fn plain_word(language: Language, text: &[u8], start: usize) -> u128
+fn plain_word(language: Language, text: &[u8], start: usize) -> u128
     requires { IsLanguage language }
     ensures is { result ≡ plain_word language text.now start }
     ensures supported { IsTrue (is_supported result) }
@@ -136,17 +135,17 @@ pub fn plain_word(language: Language, text: &[u8], start: usize) -> u128
     }
 }
 
-/// Whether a language refuses a literal without a prefix for its first `0`.
+/// Whether a language refuses a literal without a prefix for its first `0`, by whether more bytes
+/// follow that, and a digit that isn't `0`.
 #[inline(always)]
-fn refuses(language: Language, text: &[u8], start: usize, value: u128, end: usize) -> bool
-    requires { start ≤ length text.now }
-    ensures { result ≡ refuses language text.now start value end }
+fn refuses(language: Language, text: &[u8], start: usize, has_more: bool, has_other: bool) -> bool
+    ensures { result ≡ refuses language text.now start has_more has_other }
 {
     has_byte(text, start, b'0')
         && match language.first_zero {
             FirstZero::Plain | FirstZero::Octal(_) => false,
-            FirstZero::Alone => start + 1 < end,
-            FirstZero::Zeros => value > 0,
+            FirstZero::Alone => has_more,
+            FirstZero::Zeros => has_other,
         }
 }
 
@@ -179,16 +178,25 @@ pub fn read_literal(
         Some(word) => (word, start + 2),
         None => (plain_word(language, text, start), start),
     };
-    let (value, end) = read_wide_from(text, word, digits, most)?;
-    if prefix.is_none() && refuses(language, text, start, value, end) {
-        return Err(LanguageError::Zero(start));
+    match read_wide_from(text, word, digits, most) {
+        Ok((value, end)) => {
+            if prefix.is_none() && refuses(language, text, start, start + 1 < end, value > 0) {
+                return Err(LanguageError::Zero(start));
+            }
+            Ok(Literal {
+                value,
+                word,
+                digits,
+                end,
+            })
+        }
+        // too large digits are more than a first `0`, and not all `0`
+        Err(LiteralError::Overflow(_))
+            if prefix.is_none() && refuses(language, text, start, true, true) => {
+            Err(LanguageError::Zero(start))
+        }
+        Err(error) => Err(LanguageError::from(error)),
     }
-    Ok(Literal {
-        value,
-        word,
-        digits,
-        end,
-    })
 }
 
 /// The integer literal of a language that begins at `start`, as a number of a type that has it, and
