@@ -1,7 +1,7 @@
 -- Digits with a point and an exponent, and by themselves.
 use Rattle.std.proofs.Common.{◌≡◌, ℕ, ◌+◌, ◌<◌, Bool, true, false, Option, Some, None, List, []}
 use Rattle.std.proofs.Common.{length, refl, sym, ◌∙◌, ap, arith, slice_get}
-use Rattle.std.specs.Prelude.{not, ◌&&◌, ◌||◌, ◌++◌, ◌^◌, nat_lt, if◌then◌else◌}
+use Rattle.std.specs.Prelude.{not, ◌&&◌, ◌||◌, ◌++◌, ◌^◌, nat_lt, if◌then◌else◌, IfSome}
 use Rattle.std.specs.Char.{is_ascii_alphabetic, is_ascii_alphanumeric}
 use Rattle.std.specs.Float.{Format}
 use Rattle.std.specs.Float.Ieee.{round}
@@ -10,16 +10,18 @@ use Rattle.std.specs.Float.Numeral.{has_digits, nearest_float}
 use Rattle.std.proofs.lemmas.Bool.Decides.{nat_tests}
 use Rattle.lexical_digits.specs.Cursor.{holds_of}
 use Rattle.digit_floats.specs.Bytes.{stands, is_point, is_mark}
-use Rattle.digit_floats.specs.declared.parts.Marks.{Marks}
+use Rattle.digit_languages.specs.declared.language.Language.{Language}
 use Rattle.lexical_digits.specs.declared.skip.component.Component.TheVariants.{Integer}
 use Rattle.digit_literals.specs.Numbers.{has_byte}
 use Rattle.digit_floats.specs.Float.{digits_end, exponent_digits, fraction_digits, fraction_end}
 use Rattle.digit_floats.specs.Float.{mantissa_end}
 use Rattle.digit_numbers.specs.declared.form.Form.{Form}
-use Rattle.digit_numbers.specs.Forms.{IsForm, allows_exponent, are_apart, hex_form, is_always_hex}
+use Rattle.digit_numbers.specs.Forms.{IsForm, allows_exponent, hex_form, is_always_hex}
+use Rattle.digit_numbers.specs.Forms.{may_be_point, may_mark}
 use Rattle.digit_numbers.specs.Forms.{is_pointed_hex}
 use Rattle.digit_numbers.specs.Numbers.{word, whole_digits, whole_end, fraction, allows_point}
-use Rattle.digit_numbers.specs.Numbers.{has_point, mark_at, exponent, has_exponent, parts}
+use Rattle.digit_numbers.specs.Numbers.{has_point, mark, mark_at, mark_or, exponent, has_exponent}
+use Rattle.digit_numbers.specs.Numbers.{parts}
 use Rattle.digit_numbers.specs.Numbers.{digits_stop, has_more_zeros, is_float, is_hex_float}
 use Rattle.digit_numbers.specs.Reads.{whole_of}
 use Rattle.digit_numbers.proofs.Zeros.{large_plain}
@@ -30,13 +32,29 @@ point_no_mark : (point mark byte : ℕ) → is_ascii_alphanumeric point ≡ fals
     → is_ascii_alphabetic mark ≡ true → is_point point byte ≡ true → is_mark mark byte ≡ false
 point_no_mark point mark byte p m e = grind (arith, nat_tests)
 
-letter : (marks : Marks) (separator : ℕ) → are_apart marks separator ≡ true
-    → is_ascii_alphabetic marks.exponent ≡ true
-letter marks separator h = grind (arith, nat_tests)
+letter : (l : Language) (mark : ℕ) → may_mark l mark ≡ true → is_ascii_alphabetic mark ≡ true
+letter l mark h = grind (arith, nat_tests)
 
-no_letter : (marks : Marks) (separator : ℕ) → are_apart marks separator ≡ true
-    → is_ascii_alphanumeric marks.point ≡ false
-no_letter marks separator h = grind (arith, nat_tests)
+no_letter : (l : Language) (point : ℕ) → may_be_point l point ≡ true
+    → is_ascii_alphanumeric point ≡ false
+no_letter l point h = grind (arith, nat_tests)
+
+-- each mark of a form is a letter
+letter_of : (f : Form) (text : List ℕ) (i : ℕ) → IsForm f
+    → is_ascii_alphabetic (mark_or f text f.other_mark i) ≡ true
+letter_of f text i form = by f.other_mark form.other_mark
+  where
+    one : is_ascii_alphabetic f.marks.exponent ≡ true
+    one = letter f.integers f.marks.exponent form.mark
+
+    by : (o : Option ℕ) → IfSome o (λ mark. may_mark f.integers mark ≡ true)
+        → is_ascii_alphabetic (mark_or f text o i) ≡ true
+    by None h = one
+    by (Some other) h = or (stands (is_mark other) text i)
+      where
+        or : (b : Bool) → is_ascii_alphabetic (if b then other else f.marks.exponent) ≡ true
+        or true = letter f.integers other h
+        or false = one
 
 -- ---- of truths
 
@@ -100,31 +118,33 @@ module _ (f : Form) (text : List ℕ) (at : ℕ) where
       by false a e h = rw e refl
 
   -- a point that doesn't count has no exponent
-  module _ (mark : is_ascii_alphabetic f.marks.exponent ≡ true)
+  module _ (letters : (i : ℕ) → is_ascii_alphabetic (mark_or f text f.other_mark i) ≡ true)
       (point : is_ascii_alphanumeric f.marks.point ≡ false) (s : stands_point ≡ true) where
-    no_mark : stands (is_mark f.marks.exponent) text (whole_end f text at) ≡ false
-    no_mark = by (slice_get text (whole_end f text at)) s
+    no_mark : (i : ℕ)
+        → stands (is_mark (mark_or f text f.other_mark i)) text (whole_end f text at) ≡ false
+    no_mark i = by (slice_get text (whole_end f text at)) s
       where
         by : (o : Option ℕ) → holds_of (is_point f.marks.point) o ≡ true
-            → holds_of (is_mark f.marks.exponent) o ≡ false
+            → holds_of (is_mark (mark_or f text f.other_mark i)) o ≡ false
         by None e = refl
-        by (Some b) e = point_no_mark f.marks.point f.marks.exponent b point mark e
+        by (Some b) e =
+            point_no_mark f.marks.point (mark_or f text f.other_mark i) b point (letters i) e
 
     -- what has no digits has none, whether the form allows it or not
-    unmarked : length (exponent_digits (word f text) text f.marks.exponent (mark_at f text at)) ≡ 0
+    unmarked : length (exponent_digits (word f text) text (mark f text at) (mark_at f text at)) ≡ 0
         → has_exponent f text at ≡ false
     unmarked none = by (allows_exponent f.exponents (nat_lt 0 (length (fraction f text at))))
       where
         by : (b : Bool)
             → nat_lt 0 (length (if b then
-            exponent_digits (word f text) text f.marks.exponent (mark_at f text at) else [])) ≡ false
+            exponent_digits (word f text) text (mark f text at) (mark_at f text at) else [])) ≡ false
         by true = rw none refl
         by false = refl
 
     pub refused : allows_point f text at ≡ false
         → (has_point f text at ≡ false) × (has_exponent f text at ≡ false)
     unfolding exponent_digits
-    refused a = (rw (s, a) refl, unmarked (rw (s, a, no_mark) refl))
+    refused a = (rw (s, a) refl, unmarked (rw (s, a, no_mark (whole_end f text at)) refl))
 
   -- ---- what is a float
 
@@ -132,7 +152,7 @@ module _ (f : Form) (text : List ℕ) (at : ℕ) where
       → is_float f text at ≡ false
   unfolding is_float
   not_allowed form s a =
-      let none = refused (letter f.marks _ form.marks) (no_letter f.marks _ form.marks) s a in
+      let none = refused (λ i. letter_of f text i form) (no_letter f.integers f.marks.point form.point) s a in
       neither (has_digits (parts f text at)) (not (has_more_zeros f text at))
       (has_point f text at) (has_exponent f text at) none.0 none.1
 
@@ -240,7 +260,7 @@ module _ (f : Form) (said : ℕ) (text : List ℕ) (at : ℕ) where
       → allows_point h text at ≡ false → is_hex_float f said text at ≡ false
   unfolding is_hex_float
   hex_not_allowed form s a =
-      let none = refused h text at refl (no_letter f.marks _ form.marks) s a in
+      let none = refused h text at (λ i. refl) (no_letter f.integers f.marks.point form.point) s a in
       hex_refused (has_digits (parts h text at)) (has_exponent h text at) hex_point
       (allows_point h text at) (is_pointed_hex f.hex_floats) (is_always_hex f.hex_floats) none.1 s a
 

@@ -24,18 +24,24 @@ use Rattle.lexical_digits.specs.State.{rule_of}
 use Rattle.lexical_digits.specs.Stop.{stop}
 use Rattle.lexical_digits.proofs.Calls.FirstOther.{stop_is_first}
 use Rattle.digit_literals.specs.After.{digits_between}
-use Rattle.digit_literals.specs.Integers.{first_over, integer_at, value_to}
+use Rattle.digit_literals.specs.Integers.{first_over, integer_at, value_to, IsIntegerFrom}
 use Rattle.digit_literals.specs.declared.LiteralError.{LiteralError}
 use Rattle.digit_literals.specs.declared.LiteralError.TheVariants as integers
 use Rattle.digit_literals.specs.Numbers.{has_byte}
+use Rattle.digit_literals.proofs.Texts.{says_some, some_at, reads_more}
 use Rattle.digit_floats.specs.Bytes.{stands, is_point, is_minus, is_sign}
 use Rattle.digit_floats.proofs.Bytes.{stands_is, stands_within}
 use Rattle.digit_floats.proofs.Decimals.{same_digit}
 use Rattle.digit_floats.specs.Float as floats
 use Rattle.digit_floats.specs.Float.{digits_end, digits_from, fraction_digits, fraction_end}
 use Rattle.digit_floats.specs.Float.{mantissa_end, exponent_digits, exponent_end}
+use Rattle.digit_floats.specs.Float.{plain_marks, read_at, parse_at}
 use Rattle.digit_languages.specs.declared.language.Language.{Language}
+use Rattle.digit_languages.specs.declared.literal.LanguageError.TheVariants as literals
 use Rattle.digit_languages.specs.Literals.{has_prefix, prefix_word, plain_word, word_at, digits_at}
+use Rattle.digit_languages.specs.declared.literal.Literal.{Literal}
+use Rattle.digit_languages.specs.declared.literal.LanguageError.{LanguageError}
+use Rattle.digit_languages.specs.Literals.{literal_at, literal_of}
 use Rattle.digit_numbers.specs.declared.forms.TheConstants.{JSON}
 use Rattle.digit_numbers.specs.declared.number.Number.{Number}
 use Rattle.digit_numbers.specs.declared.number.Number.TheVariants as numbers
@@ -43,15 +49,16 @@ use Rattle.digit_numbers.specs.declared.number.NumberError.{NumberError}
 use Rattle.digit_numbers.specs.declared.number.NumberError.TheVariants as errors
 use Rattle.digit_numbers.specs.Forms.{is_plus_of, unprefixed}
 use Rattle.digit_numbers.specs.Json.{is_e, is_zero, IsDigits, IsExp, IsFrac, IsJsonInteger, IsOptional}
-use Rattle.digit_numbers.specs.Json.{IsJsonNumber, IsLongest}
+use Rattle.digit_numbers.specs.Json.{IsJsonNumber, IsLongest, IsDelimited, past_minus}
 use Rattle.digit_numbers.specs.Numbers.{Outcome, is_float, past_sign, has_sign, has_exponent}
-use Rattle.digit_numbers.specs.Numbers.{is_zero_alone, language, parts}
+use Rattle.digit_numbers.specs.Numbers.{language, parts}
 use Rattle.digit_numbers.specs.Numbers.{has_more_zeros, has_point, mark_at, fraction}
-use Rattle.digit_numbers.specs.Numbers.{whole_digits, digits_stop, hex_word_at, magnitude_at}
-use Rattle.digit_numbers.specs.Numbers.{of_digits, float_here, integer_here, plain_at, number_of_at}
+use Rattle.digit_numbers.specs.Numbers.{is_negative, whole_digits, digits_stop, hex_word_at}
+use Rattle.digit_numbers.specs.Numbers.{float_here, integer_here, plain_at, number_of_at}
 use Rattle.digit_numbers.specs.Numbers.{to_end}
 use Rattle.digit_numbers.specs.Specials.{special_at}
 use Rattle.digit_numbers.proofs.Digits.{alone_stop, no_zeros}
+use Rattle.digit_numbers.proofs.JsonFloats.{float_read}
 use Rattle.digit_numbers.proofs.JsonBytes.{IsRun, IsScan, IsPartOrNone, apart, int_digits, int_some}
 use Rattle.digit_numbers.proofs.JsonBytes.{integer_is, longest, minus_is, no_sign, none, zero_alone}
 
@@ -211,19 +218,21 @@ is_some n e = grind (arith, nat_tests)
 is_less : (a b : ℕ) → nat_lt a b ≡ true → a < b
 is_less a b e = grind (arith, nat_tests)
 
+is_no_less : (a b : ℕ) → nat_lt a b ≡ false → b ≤ a
+is_no_less a b e = grind (arith, nat_tests)
+
 same_number : (a b : ℕ) → (a == b) ≡ true → a ≡ b
 same_number a b e = grind (arith, nat_tests)
 
 other_number : (a b : ℕ) → (a == b) ≡ false → a ≤ b → a < b
 other_number a b e l = grind (arith, nat_tests)
 
-zero_says : (n at w : ℕ) (z : Bool) → (nat_lt 0 n && (z && nat_lt (at + 1) w)) ≡ true
-    → (z ≡ true) × (at + 1 < w)
-zero_says n at w z h = (grind (arith, nat_tests), grind (arith, nat_tests))
+no_more_digits : (at w : ℕ) → at < w → nat_lt (at + 1) w ≡ false → w ≡ at + 1
+no_more_digits at w some l = grind (arith, nat_tests)
 
-no_zero_says : (at w : ℕ) (z : Bool)
-    → (nat_lt 0 (w - at) && (z && nat_lt (at + 1) w)) ≡ false → at < w → z ≡ true → w ≡ at + 1
-no_zero_says at w z h some e = grind (arith, nat_tests)
+zero_digit : (o : Option ℕ) → holds_of is_zero o ≡ true → holds_of is_ascii_digit o ≡ true
+zero_digit None z = cc
+zero_digit (Some b) z = grind (arith, nat_tests)
 
 point_says : (nw nf : ℕ) (p : Bool)
     → p && ((nat_lt 0 nw || false) && (nat_lt 0 nf || false)) ≡ true
@@ -266,6 +275,13 @@ module _ (text : List ℕ) (start : ℕ) (l : start ≤ length text) where
   unfolding past_sign
   no_minus h = rw (h, never (slice_get text start)) refl
 
+  at_is : at ≡ past_minus text start
+  at_is = by (stands is_minus text start) refl
+    where
+      by : (b : Bool) → stands is_minus text start ≡ b → at ≡ past_minus text start
+      by true h = after_minus h ∙ sym (rw h refl)
+      by false h = no_minus h ∙ sym (rw h refl)
+
   at_within : at ≤ length text
   at_within = by (stands is_minus text start) refl
     where
@@ -278,6 +294,10 @@ module _ (text : List ℕ) (start : ℕ) (l : start ≤ length text) where
   whole_run : IsRun text at w
   unfolding digits_end
   whole_run = run (rule_of word Integer) text refl refl at at_within
+
+  whole_stops : stands is_ascii_digit text (stop (rule_of word Integer) text at 0) ≡ false
+  unfolding digits_end
+  whole_stops = whole_run.stops
 
   scan : IsScan text start at w
   scan = record { minus = after_minus; plain = no_minus; whole = whole_run }
@@ -321,19 +341,13 @@ module _ (text : List ℕ) (start : ℕ) (l : start ≤ length text) where
       by true = refl
       by false = refl
 
-  alone_is : is_zero_alone JSON.integers text at
-      ≡ (nat_lt 0 (w - at) && (stands is_zero text at && nat_lt (at + 1) w))
-  unfolding is_zero_alone digits_end
-  alone_is =
-      rw (no_prefix, plain_is, count (rule_of word Integer) text refl refl at at_within) refl
-
-  alone : is_zero_alone JSON.integers text at ≡ true
-      → (stands is_zero text at ≡ true) × (at + 1 < w)
-  alone h = zero_says (w - at) at w (stands is_zero text at) (sym alone_is ∙ h)
-
-  not_alone : is_zero_alone JSON.integers text at ≡ false → at < w
-      → stands is_zero text at ≡ true → w ≡ at + 1
-  not_alone h some z = no_zero_says at w (stands is_zero text at) (sym alone_is ∙ h) some z
+  -- a `0` is a digit
+  no_zero : at ≡ w → stands is_zero text at ≡ true → ⊥
+  no_zero same z =
+      let digit = zero_digit (slice_get text at) z in
+      let none : stands is_ascii_digit text at ≡ false =
+      subst (λ i. stands is_ascii_digit text i ≡ false) (sym same) whole_run.stops in
+      cc
 
   -- ---- what follows digits
 
@@ -445,9 +459,12 @@ module _ (text : List ℕ) (start : ℕ) (l : start ≤ length text) where
 
   -- ---- a float
 
-  float_of : is_float JSON text at ≡ true → IsLongest text start (digits_stop JSON text at)
+  -- its digits, and that a fraction or an exponent follows them
+  float_some : is_float JSON text at ≡ true
+      → (at < w) × (stands is_zero text at ≡ true → w ≡ at + 1)
+      × (has_point JSON text at || has_exponent JSON text at ≡ true)
   unfolding is_float
-  float_of h = digits_longest some (zero (stands is_zero text at) all.1)
+  float_some h = (some, zero (stands is_zero text at) all.1, all.2)
     where
       all : (has_digits (parts JSON text at) ≡ true) × (not (has_more_zeros JSON text at) ≡ true)
           × (has_point JSON text at || has_exponent JSON text at ≡ true)
@@ -471,6 +488,72 @@ module _ (text : List ℕ) (start : ℕ) (l : start ≤ length text) where
       zero : (z : Bool) → not (z && nat_lt (at + 1) w) ≡ true → z ≡ true → w ≡ at + 1
       zero z n e = grind (arith, nat_tests, some)
 
+  float_of : is_float JSON text at ≡ true → IsLongest text start (digits_stop JSON text at)
+  float_of h = let is = float_some h in digits_longest is.0 is.1
+
+  -- it ends after its whole digits
+  exponent_onward : q ≤ digits_stop JSON text at
+  exponent_onward = by exponent_is sign_is
+    where
+      by : IsPartOrNone text x (digits_stop JSON text at) is_e q
+          → IsOptional text is_sign (q + 1) x → q ≤ digits_stop JSON text at
+      by (inl h) (inl f) = omega (arith, f, h.some)
+      by (inl h) (inr f) = omega (arith, f.1, h.some)
+      by (inr h) f = omega (arith, h.ends)
+
+  exponent_further : has_exponent JSON text at ≡ true → q < digits_stop JSON text at
+  unfolding exponent_end exponent_digits digits_from digits_end
+  exponent_further has = by (stands is_e text q) refl
+    where
+      r : Rule
+      r = rule_of word Exponent
+
+      first : IsOptional text is_sign (q + 1) x → q < x
+      first (inl f) = omega (arith, f)
+      first (inr f) = omega (arith, f.1)
+
+      by : (b : Bool) → stands is_e text q ≡ b → q < digits_stop JSON text at
+      by true h =
+          let n = count r text refl refl x (x_within h) in
+          let long : nat_lt 0 (e - x) ≡ true = rw (h, n) at has in
+          let ends : digits_stop JSON text at ≡ e = rw (h, n, long) refl in
+          omega (arith, first sign_is, is_less 0 (e - x) long, ends)
+      by false h = let none : false ≡ true = rw h at has in cc
+
+  float_further : is_float JSON text at ≡ true → w < digits_stop JSON text at
+  float_further h =
+      by (has_point JSON text at) (has_exponent JSON text at) refl refl (float_some h).2
+    where
+      by : (p x : Bool) → has_point JSON text at ≡ p → has_exponent JSON text at ≡ x
+          → p || x ≡ true → w < digits_stop JSON text at
+      by true x e f k =
+          let is =
+          point_says (length (whole_digits JSON text at)) (length (fraction JSON text at))
+          (stands (is_point 46) text w) e in
+          let n = fraction_count is.0 in
+          let there : q ≡ fraction_end word text 46 w = rw e refl in
+          omega (arith, there, n.0.digits.onward, exponent_onward)
+      by false true e f k =
+          let here : q ≡ w = rw e refl in
+          omega (arith, here, exponent_further f)
+      by false false e f k = cc k
+
+  -- where digits begin, floats pass the same sign
+  past_is : at < w → floats.past_sign text start ≡ at
+  past_is some = by (stands is_minus text start) refl
+    where
+      signed : (o : Option ℕ) → holds_of is_minus o ≡ true → holds_of is_sign o ≡ true
+      signed None h = cc
+      signed (Some b) h = grind (arith, nat_tests)
+
+      by : (b : Bool) → stands is_minus text start ≡ b → floats.past_sign text start ≡ at
+      by true h = rw (signed (slice_get text start) h) (sym (after_minus h))
+      by false h =
+          let digit = whole_run.digits.all at (omega arith) some in
+          let first : stands is_ascii_digit text start ≡ true =
+          subst (λ (i : ℕ). stands is_ascii_digit text i ≡ true) (no_minus h) digit in
+          rw (apart is_ascii_digit is_sign text start no_sign first) (sym (no_minus h))
+
   -- digits without a fraction and an exponent
   digits_alone : is_float JSON text at ≡ false → at < w
       → (stands is_zero text at ≡ true → w ≡ at + 1) → IsLongest text start w
@@ -485,43 +568,36 @@ module _ (text : List ℕ) (start : ℕ) (l : start ≤ length text) where
 
   -- ---- the law
 
-  -- what the outcome says of the text
-  abbrev pub Says : Outcome → Type 0
-  Says (Ok (numbers.Integer negative magnitude said, end)) =
-      IsLongest text start end × IsJsonInteger text start end
-  Says (Ok (numbers.Float x, end)) = IsLongest text start end
-  Says (Err error) = (end : ℕ) → IsJsonNumber text start end → ⊥
-
   module _ (format : Format) where
-    abbrev of_integer : Result (ℕ × ℕ × ℕ) NumberError → Outcome
+    -- where no digit follows, the integer is that of its digits
+    abbrev IntegerSays : Bool → ℕ → ℕ → ℕ → Type 0
+    IntegerSays negative magnitude said end =
+        (negative ≡ stands is_minus text start) × (said ≡ word) × (magnitude ≤ 2 ^ 128 - 1)
+        × (stands is_ascii_digit text end ≡ false → (most : ℕ) → magnitude ≤ most
+        → integer_at (rule_of word Integer) text at most ≡ Ok (magnitude, end))
+
+    -- where nothing goes on with it, the float is that of its text; it is no integer that fits
+    abbrev FloatSays : Float → ℕ → Type 0
+    FloatSays x end =
+        (IsDelimited text end → read_at word text plain_marks format start ≡ Ok (x, end))
+        × ((magnitude : ℕ)
+        → integer_at (rule_of word Integer) text at (2 ^ 128 - 1) ≡ Ok (magnitude, end) → ⊥)
+
+    -- what the outcome says of the text
+    abbrev pub Says : Outcome → Type 0
+    Says (Ok (numbers.Integer negative magnitude said, end)) =
+        IsLongest text start end × IsJsonInteger text start end
+        × IntegerSays negative magnitude said end
+    Says (Ok (numbers.Float x, end)) = IsLongest text start end × FloatSays x end
+    Says (Err error) = (end : ℕ) → IsJsonNumber text start end → ⊥
+
+    abbrev of_integer : Result Literal LanguageError → Outcome
     of_integer = integer_here JSON text start format
 
     -- the digits here are an integer, if they are no float
-    module _ (h : is_float JSON text at ≡ false)
-        (z : is_zero_alone JSON.integers text at ≡ false) where
+    module _ (h : is_float JSON text at ≡ false) where
       abbrev r : Rule
       r = rule_of word Integer
-
-      w_is : stop r text at 0 ≡ w
-      unfolding digits_end
-      w_is = refl
-
-      large : at < w → 2 ^ 128 - 1 < value_to r text at (stop r text at 0) → (over : ℕ)
-          → Says (of_integer (Err (errors.Overflow over)))
-      large some value over = by (has_byte text at 48) refl
-        where
-          by : (b : Bool) → has_byte text at 48 ≡ b
-              → Says (if true && not b then float_here JSON text start format
-              else Err (errors.Overflow over))
-          by true e =
-              let end = not_alone z some e in
-              let none = zero_value r text at (stop r text at 0) refl e (w_is ∙ end) in
-              absurd (omega (arith, value, none))
-          by false e =
-              let digits : 0 < length (whole_digits JSON text at) =
-              omega (arith, whole_count, some) in
-              rw (alone_stop JSON text at h (no_zeros JSON text at e) digits)
-              (digits_alone h some (λ q. cc (q, e)))
 
       abbrev digits : List ℕ
       digits = digits_between r text at (stop r text at 0)
@@ -529,68 +605,142 @@ module _ (text : List ℕ) (start : ℕ) (l : start ≤ length text) where
       abbrev value : ℕ
       value = value_to r text at (stop r text at 0)
 
+      w_is : stop r text at 0 ≡ w
+      unfolding digits_end
+      w_is = refl
+
       digits_count : length digits ≡ w - at
       unfolding digits_end
-      digits_count = count (rule_of word Integer) text refl refl at at_within
+      digits_count = count r text refl refl at at_within
+
+      -- the first `0` by itself, if it is there
+      abbrev zero_of : Bool → Outcome
+      zero_of z =
+          if z then Ok (numbers.Integer (is_negative JSON text start) 0 word, at + 1)
+          else Err (errors.Empty at)
+
+      alone : stands is_zero text at ≡ true → at + 1 < w
+          → Says (zero_of true)
+      alone z more = (
+        zero_alone text start at w scan z more,
+        record {
+          int = at;
+          minus = minus_is text start at w scan;
+          integer = inl (z, refl);
+        },
+        (
+          refl,
+          refl,
+          omega arith,
+          λ none. cc (none, whole_run.digits.all (at + 1) (omega arith) more),
+        ),
+      )
+
+      empty : at ≡ w → (z : Bool) → has_byte text at 48 ≡ z
+          → Says (zero_of z)
+      empty same true e = absurd (no_zero same e)
+      empty same false e = λ end j. none text start at w scan same end j
+
+      -- digits that are too large are more than a first `0`
+      follow : at < w → 2 ^ 128 - 1 < value → stands is_zero text at ≡ true → at + 1 < w
+      follow some over z = by (cases_lt (at + 1) w)
+        where
+          by : (at + 1 < w) ⊎ (w ≤ at + 1) → at + 1 < w
+          by (inl l) = l
+          by (inr l) =
+              let end : w ≡ at + 1 = omega (arith, some, l) in
+              let zero = zero_value r text at (stop r text at 0) refl z (w_is ∙ end) in
+              absurd (omega (arith, over, zero))
+
+      too_large : 2 ^ 128 - 1 < value → (magnitude : ℕ)
+          → integer_at r text at (2 ^ 128 - 1) ≡ Ok (magnitude, digits_stop JSON text at) → ⊥
+      too_large large magnitude is =
+          let said = says_some r text at (2 ^ 128 - 1) magnitude (digits_stop JSON text at) is in
+          let same : value_to r text at (digits_stop JSON text at) ≡ value = rw said.ends refl in
+          omega (arith, large, said.is, said.fits, same)
+
+      large : at < w → 2 ^ 128 - 1 < value → (over : ℕ) (z : Bool) → has_byte text at 48 ≡ z
+          → Says (of_integer
+          (if z && true then Err (literals.Zero at) else Err (literals.Overflow over)))
+      large some value over true e = rw e (alone e (follow some value e))
+      large some value over false e =
+          let digits : 0 < length (whole_digits JSON text at) =
+          omega (arith, whole_count, some) in
+          rw e (
+            digits_longest some (λ q. cc (q, e)),
+            (λ d. float_read text at d start format digits (past_is some), too_large value),
+          )
+
+      abbrev literal : Literal
+      literal = record { value = value; word = word; digits = at; end = w }
+
+      integer_read : at < w → (most : ℕ) → value ≤ most
+          → integer_at r text at most ≡ Ok (value, w)
+      unfolding digits_end
+      integer_read some most fits = some_at r text at most (omega (arith, digits_count, some)) fits
+
+      one : at < w → value ≤ 2 ^ 128 - 1 → (stands is_zero text at ≡ true → w ≡ at + 1)
+          → Says (of_integer (Ok literal))
+      one some fits less = (
+        digits_alone h some less,
+        record {
+          int = at;
+          minus = minus_is text start at w scan;
+          integer = integer_is text start at w scan some less;
+        },
+        (refl, refl, fits, λ none. integer_read some),
+      )
+
+      fitting : at < w → value ≤ 2 ^ 128 - 1 → (z m : Bool) → has_byte text at 48 ≡ z
+          → nat_lt (at + 1) w ≡ m
+          → Says (of_integer (if z && m then Err (literals.Zero at) else Ok literal))
+      fitting some fits true true e l = rw e (alone e (is_less (at + 1) w l))
+      fitting some fits true false e l = one some fits (λ q. no_more_digits at w some l)
+      fitting some fits false m e l = one some fits (λ q. cc (q, e))
 
       outcome : (none over : Bool) → (length digits == 0) ≡ none → nat_lt (2 ^ 128 - 1) value ≡ over
-          → Says (of_integer (of_digits JSON.integers text at
+          → Says (of_integer (literal_of JSON.integers text at
           (if none then Err (integers.Empty (stop r text at 0)) else
           if over then Err (integers.Overflow (first_over r text at (2 ^ 128 - 1))) else
           Ok (value, stop r text at 0))))
       unfolding digits_end
       outcome true over n k =
-          λ end j.
-          let same : at ≡ w = omega (
-            arith,
-            is_none (length digits) n,
-            digits_count,
-            whole_run.digits.onward,
-          ) in
-          none text start at w scan same end j
+          empty (omega (arith, is_none (length digits) n, digits_count, whole_run.digits.onward))
+          (has_byte text at 48) refl
       outcome false true n k =
-          large (omega (arith, is_some (length digits) n, digits_count))
+          rw no_prefix
+          (large (omega (arith, is_some (length digits) n, digits_count))
           (is_less (2 ^ 128 - 1) value k)
-          (first_over r text at (2 ^ 128 - 1))
+          (first_over r text at (2 ^ 128 - 1)) (has_byte text at 48) refl)
       outcome false false n k =
-          let some : at < w = omega (arith, is_some (length digits) n, digits_count) in (
-            digits_alone h some (not_alone z some),
-            record {
-              int = at;
-              minus = minus_is text start at w scan;
-              integer = integer_is text start at w scan some (not_alone z some);
-            },
-          )
+          let some : at < w = omega (arith, is_some (length digits) n, digits_count) in
+          rw (no_prefix, plain_is)
+          (fitting some (is_no_less (2 ^ 128 - 1) value k) (has_byte text at 48)
+          (nat_lt (at + 1) w) refl refl)
 
     integer_says : is_float JSON text at ≡ false
-        → Says (of_integer (magnitude_at JSON.integers text at))
-    unfolding magnitude_at integer_at
-    integer_says h = by (is_zero_alone JSON.integers text at) refl
+        → Says (of_integer (literal_at JSON.integers text at (2 ^ 128 - 1)))
+    unfolding integer_at
+    integer_says h =
+        subst
+        (λ (o : Result (ℕ × ℕ) LiteralError).
+        Says (of_integer (literal_of JSON.integers text at o)))
+        (sym here) (outcome h _ _ refl refl)
       where
         here : integer_at (rule_of (word_at JSON.integers text at) Integer) text
             (digits_at JSON.integers text at) (2 ^ 128 - 1)
             ≡ integer_at (rule_of word Integer) text at (2 ^ 128 - 1)
         here = rw (no_prefix, plain_is) refl
 
-        by : (b : Bool) → is_zero_alone JSON.integers text at ≡ b
-            → Says (of_integer (if b then Ok (0, word, at + 1) else
-            of_digits JSON.integers text at
-            (integer_at (rule_of (word_at JSON.integers text at) Integer) text
-            (digits_at JSON.integers text at) (2 ^ 128 - 1))))
-        by true k =
-            let z = alone k in (
-              zero_alone text start at w scan z.0 z.1,
-              record {
-                int = at;
-                minus = minus_is text start at w scan;
-                integer = inl (z.0, refl);
-              },
-            )
-        by false k =
-            subst
-            (λ (o : Result (ℕ × ℕ) LiteralError).
-            Says (of_integer (of_digits JSON.integers text at o))) (sym here)
-            (outcome h k _ _ refl refl)
+    -- what has a fraction or an exponent ends after the integer
+    no_integer : is_float JSON text at ≡ true → (magnitude : ℕ)
+        → integer_at (rule_of word Integer) text at (2 ^ 128 - 1)
+        ≡ Ok (magnitude, digits_stop JSON text at) → ⊥
+    unfolding digits_end
+    no_integer h magnitude is =
+        let end : ℕ = digits_stop JSON text at in
+        let said = says_some (rule_of word Integer) text at (2 ^ 128 - 1) magnitude end is in
+        omega (arith, said.ends, float_further h)
 
     pub says : Says (number_of_at JSON text start format)
     unfolding number_of_at plain_at special_at hex_word_at
@@ -598,10 +748,16 @@ module _ (text : List ℕ) (start : ℕ) (l : start ≤ length text) where
       where
         by : (b : Bool) → is_float JSON text at ≡ b
             → Says (if b then float_here JSON text start format else
-            of_integer (magnitude_at (language JSON text start) text at))
-        by true h = float_of h
+            of_integer (literal_at (language JSON text start) text at (2 ^ 128 - 1)))
+        by true h =
+            let some = (float_some h).0 in
+            let digits : 0 < length (whole_digits JSON text at) =
+            omega (arith, whole_count, some) in (
+              float_of h,
+              (λ d. float_read text at d start format digits (past_is some), no_integer h),
+            )
         by false h =
-            subst (λ (l : Language). Says (of_integer (magnitude_at l text at))) (sym language_is)
+            subst (λ (l : Language). Says (of_integer (literal_at l text at (2 ^ 128 - 1)))) (sym language_is)
             (integer_says h)
 
     -- the same of a text that is to be one number
@@ -628,10 +784,133 @@ module _ (text : List ℕ) (start : ℕ) (l : start ≤ length text) where
         by (Ok (numbers.Integer negative magnitude said, end)) l =
             ends (numbers.Integer negative magnitude said) end (end == length text) refl l.0
         by (Ok (numbers.Float x, end)) l =
-            ends (numbers.Float x) end (end == length text) refl l
+            ends (numbers.Float x) end (end == length text) refl l.0
         by (Err error) none = none (length text)
 
     pub number_of : (n : Number Float) (end : ℕ)
         → number_of_at JSON text start format ≡ Ok (n, end) → IsLongest text start end
     number_of (numbers.Integer negative magnitude said) end h = (subst Says h says).0
-    number_of (numbers.Float x) end h = subst Says h says
+    number_of (numbers.Float x) end h = (subst Says h says).0
+
+    -- an integer, and a float
+    pub integer_in : (negative : Bool) (magnitude said end : ℕ)
+        → number_of_at JSON text start format
+        ≡ Ok (numbers.Integer negative magnitude said, end)
+        → (negative ≡ stands is_minus text start)
+        × (stands is_ascii_digit text end ≡ false → (most : ℕ) → magnitude ≤ most
+        → integer_at (rule_of word Integer) text (past_minus text start) most
+        ≡ Ok (magnitude, end))
+    integer_in negative magnitude said end h =
+        let is = (subst Says h says).2 in rw (← at_is) (is.0, is.3)
+
+    pub float_in : (f : Float) (end : ℕ) → number_of_at JSON text start format
+        ≡ Ok (numbers.Float f, end)
+        → IsDelimited text end → read_at word text plain_marks format start ≡ Ok (f, end)
+    float_in f end h = (subst Says h says).1.0
+
+    -- a number that ends where its digits do, up to 128 bits, is the integer of these digits
+    pub fits_in : (magnitude end : ℕ) → IsLongest text start end
+        → integer_at (rule_of word Integer) text (past_minus text start) (2 ^ 128 - 1)
+        ≡ Ok (magnitude, end)
+        → number_of_at JSON text start format
+        ≡ Ok (numbers.Integer (stands is_minus text start) magnitude word, end)
+    fits_in magnitude end l fits = by (number_of_at JSON text start format) says
+      where
+        is : integer_at (rule_of word Integer) text at (2 ^ 128 - 1) ≡ Ok (magnitude, end)
+        is = rw at_is fits
+
+        r : Rule
+        r = rule_of word Integer
+
+        ends : IsIntegerFrom r text at (2 ^ 128 - 1) magnitude end
+        ends = says_some r text at (2 ^ 128 - 1) magnitude end is
+
+        none : stands is_ascii_digit text end ≡ false
+        none = subst (λ (z : ℕ). stands is_ascii_digit text z ≡ false) (sym ends.ends) whole_stops
+
+        same_end : (other : ℕ) → IsLongest text start other → other ≡ end
+        same_end other o = omega (arith, l.longest other o.is, o.longest end l.is)
+
+        one : (n : Bool) (m said : ℕ) → IntegerSays n m said end
+            → ◌≡◌ {A = Outcome} (Ok (numbers.Integer n m said, end))
+            (Ok (numbers.Integer (stands is_minus text start) magnitude word, end))
+        one n m said s =
+            let more = s.3 none (m + magnitude) (omega arith) in
+            let also =
+            reads_more r text at (2 ^ 128 - 1) (2 ^ 128 - 1 + (m + magnitude)) magnitude end
+            (omega arith) is in
+            let less = reads_more r text at (m + magnitude) (2 ^ 128 - 1 + (m + magnitude)) m end
+            (omega arith) more in
+            let same : m ≡ magnitude = grind (arith, also, less) in
+            rw (s.0, s.1, same) refl
+
+        by : (o : Outcome) → Says o
+            → o ≡ Ok (numbers.Integer (stands is_minus text start) magnitude word, end)
+        by (Ok (numbers.Integer n m said, other)) s =
+            let same = same_end other s.0 in
+            rw same (one n m said (subst (λ (z : ℕ). IntegerSays n m said z) same s.2))
+        by (Ok (numbers.Float f, other)) s =
+            let same = same_end other s.0 in
+            absurd (s.1.1 magnitude (rw same is))
+        by (Err error) s = absurd (s end l.is)
+
+    -- any other is the float, where nothing goes on with it
+    pub rounds_in : (x : Float) (end : ℕ) → IsLongest text start end → IsDelimited text end
+        → ((magnitude : ℕ) → integer_at (rule_of word Integer) text (past_minus text start)
+        (2 ^ 128 - 1) ≡ Ok (magnitude, end) → ⊥)
+        → read_at word text plain_marks format start ≡ Ok (x, end)
+        → number_of_at JSON text start format ≡ Ok (numbers.Float x, end)
+    rounds_in x end l d none is = by (number_of_at JSON text start format) says
+      where
+        same_end : (other : ℕ) → IsLongest text start other → other ≡ end
+        same_end other o = omega (arith, l.longest other o.is, o.longest end l.is)
+
+        one : (f : Float) → FloatSays f end
+            → ◌≡◌ {A = Outcome} (Ok (numbers.Float f, end)) (Ok (numbers.Float x, end))
+        one f s =
+            let same : f ≡ x = grind (arith, s.0 d, is) in
+            rw same refl
+
+        by : (o : Outcome) → Says o → o ≡ Ok (numbers.Float x, end)
+        by (Ok (numbers.Integer n m said, other)) s =
+            let same = same_end other s.0 in
+            let integer = subst (λ (z : ℕ). IntegerSays n m said z) same s.2 in
+            absurd (none m (rw (← at_is) (integer.3 d.digit (2 ^ 128 - 1) integer.2)))
+        by (Ok (numbers.Float f, other)) s =
+            let same = same_end other s.0 in
+            rw same (one f (subst (λ (z : ℕ). FloatSays f z) same s.1))
+        by (Err error) s = absurd (s end l.is)
+
+    -- ---- of a text that is one number
+
+    ended : (n : Number Float) (o : Outcome) → to_end text o ≡ Ok n → o ≡ Ok (n, length text)
+    ended n (Ok (m, end)) h = grind (arith, nat_tests, h)
+    ended n (Err error) h = cc
+
+    delimited_end : IsDelimited text (length text)
+    delimited_end = record {
+      digit = none_past is_ascii_digit text (length text) (omega arith);
+      point = none_past (is_point 46) text (length text) (omega arith);
+      mark = none_past is_e text (length text) (omega arith);
+    }
+
+    pub whole_integer : (negative : Bool) (magnitude said : ℕ)
+        → to_end text (number_of_at JSON text start format)
+        ≡ Ok (numbers.Integer negative magnitude said)
+        → (negative ≡ stands is_minus text start)
+        × ((most : ℕ) → magnitude ≤ most
+        → integer_at (rule_of word Integer) text (past_minus text start) most
+        ≡ Ok (magnitude, length text))
+    whole_integer negative magnitude said h =
+        let is = ended (numbers.Integer negative magnitude said)
+        (number_of_at JSON text start format) h in
+        let read = integer_in negative magnitude said (length text) is in
+        (read.0, read.1 delimited_end.digit)
+
+    pub whole_float : (x : Float)
+        → to_end text (number_of_at JSON text start format) ≡ Ok (numbers.Float x)
+        → parse_at word text plain_marks format start ≡ Ok x
+    whole_float x h =
+        let is = ended (numbers.Float x) (number_of_at JSON text start format) h in
+        let read = (subst Says is says).1.0 delimited_end in
+        rw read (grind (arith, nat_tests))

@@ -2,8 +2,13 @@ pub mod Alone
 pub mod Digits
 pub mod Few
 pub mod Json
+mod JsonFloats
 pub mod JsonBytes
 pub mod Large
+pub mod Longest
 pub mod NamesAt
+pub mod SameNames
+pub mod SameParts
 pub mod Short
+pub mod WhatFollows
 pub mod Zeros

@@ -28,7 +28,7 @@ use Rattle.lexical_digits.proofs.Rule.Drain.{positions_at_place}
 
 -- ---- the special component
 
-even : (word : ℕ) → GrantsNone (rule_of word Special) ⊎ GrantsAll (rule_of word Special)
+pub even : (word : ℕ) → GrantsNone (rule_of word Special) ⊎ GrantsAll (rule_of word Special)
 even word = by (bit word 44) refl
   where
     by : (b : Bool) → bit word 44 ≡ b

@@ -22,7 +22,7 @@ use Rattle.digit_floats.specs.Float.{exponent_negative, parts_at, IsDecimal}
 use Rattle.digit_floats.proofs.Decimals.{same_digit}
 use Rattle.digit_numbers.specs.declared.form.Form.{Form}
 use Rattle.digit_numbers.specs.Forms.{allows_exponent}
-use Rattle.digit_numbers.specs.Numbers.{word, whole_digits, whole_end, fraction, mark_at, is_float}
+use Rattle.digit_numbers.specs.Numbers.{word, whole_digits, whole_end, fraction, mark, mark_at, is_float}
 use Rattle.digit_numbers.specs.Numbers.{allows_point, has_point, exponent, has_exponent}
 use Rattle.digit_numbers.specs.Numbers.{has_more_zeros, parts, digits_stop}
 use Rattle.digit_numbers.specs.Reads.{IsFloatAt}
@@ -69,7 +69,10 @@ same_digits : (format : Format) (negative : Bool) (whole a b c d : List ℕ) (m 
     (10 ^ (length b + (if n then digits_value 10 d else 0)))
 same_digits format negative whole a b c d m n p q r = rw (p, q, r) refl
 
-module _ (f : Form) (text : List ℕ) (at : ℕ) where
+module _ (f : Form) (text : List ℕ) (at : ℕ) (one : f.other_mark ≡ None) where
+  mark_is : mark f text at ≡ f.marks.exponent
+  mark_is = rw one refl
+
   abbrev stands_point : Bool
   stands_point = stands (is_point f.marks.point) text (whole_end f text at)
 
@@ -85,9 +88,10 @@ module _ (f : Form) (text : List ℕ) (at : ℕ) where
   unfolding exponent_digits
   unmarked h = by (allows_exponent f.exponents (nat_lt 0 (length (fraction f text at))))
     where
-      by : (b : Bool) → (if b then digits_after (mark_at f text at) else [])
+      by : (b : Bool) → (if b then
+          exponent_digits (word f text) text (mark f text at) (mark_at f text at) else [])
           ≡ digits_after (mark_at f text at)
-      by true = refl
+      by true = rw mark_is refl
       by false = rw h refl
 
   none_after : (i : ℕ) → marked_at i ≡ false → nat_lt 0 (length (digits_after i)) ≡ false
@@ -110,8 +114,8 @@ module _ (f : Form) (text : List ℕ) (at : ℕ) where
     counts : stands_point ≡ true → allows_point f text at ≡ true
     counts s = let more = pointed s in grind (arith, nat_tests, some)
 
-    mark_is : mantissa_end (word f text) text f.marks.point at ≡ mark_at f text at
-    mark_is = counts_end f text at counts
+    end_is : mantissa_end (word f text) text f.marks.point at ≡ mark_at f text at
+    end_is = counts_end f text at counts
 
     same : fraction f text at ≡ (parts f text at).fraction
     same = counts_fraction f text at counts
@@ -122,8 +126,9 @@ module _ (f : Form) (text : List ℕ) (at : ℕ) where
         ≡ nearest_float format negative (parts f text at)
     same_float e format negative =
         same_digits format negative (whole_digits f text at) _ _ _ _ _ _ same
-        (ap digits_after mark_is ∙ sym e)
-        (ap (λ i. exponent_negative (word f text) text f.marks.exponent i) mark_is)
+        (ap digits_after end_is ∙ sym e)
+        (ap (λ i. exponent_negative (word f text) text f.marks.exponent i) end_is
+        ∙ ap (λ m. exponent_negative (word f text) text m (mark_at f text at)) (sym mark_is))
 
     stop_is : exponent f text at ≡ digits_after (mark_at f text at)
         → (marked_at (mark_at f text at) ≡ true
@@ -141,7 +146,7 @@ module _ (f : Form) (text : List ℕ) (at : ℕ) where
             grind (arith, nat_tests, l) in
             let has_one : has_exponent f text at ≡ true =
             subst (λ ds. nat_lt 0 (length ds) ≡ true) (sym e) has in
-            rw has_one refl
+            rw (has_one, mark_is) refl
         by false h =
             let none : has_exponent f text at ≡ false =
             subst (λ ds. nat_lt 0 (length ds) ≡ false) (sym e) (none_after _ h) in
@@ -159,7 +164,7 @@ module _ (f : Form) (text : List ℕ) (at : ℕ) where
           → IsFloatAt f text at negative format x (mantissa_end (word f text) text f.marks.point at)
       pointed_float s m =
           let no : marked_at (mark_at f text at) ≡ false =
-          subst (λ i. marked_at i ≡ false) mark_is m in
+          subst (λ i. marked_at i ≡ false) end_is m in
           let e = unmarked no in
           let one = either stands_point (allows_point f text at) (has_exponent f text at) counts
           (λ (n : stands_point ≡ false). let a = sym s ∙ n in cc) in
@@ -169,7 +174,7 @@ module _ (f : Form) (text : List ℕ) (at : ℕ) where
           record {
             is = is f text at positive zeros same one;
             value = value ∙ same_float e format negative;
-            ends = mark_is ∙ last;
+            ends = end_is ∙ last;
           }
 
       -- digits with a fraction or an exponent, where digits follow the mark
@@ -181,18 +186,18 @@ module _ (f : Form) (text : List ℕ) (at : ℕ) where
           → IsFloatAt f text at negative format x (exponent_end (word f text) text f.marks.exponent
           (mantissa_end (word f text) text f.marks.point at))
       powered_float allowed follows marked =
-          let e : exponent f text at ≡ digits_after (mark_at f text at) = rw allowed refl in
-          let more = subst (λ i. marked_at i ≡ true → 0 < length (digits_after i)) mark_is follows in
+          let e : exponent f text at ≡ digits_after (mark_at f text at) = rw (allowed, mark_is) refl in
+          let more = subst (λ i. marked_at i ≡ true → 0 < length (digits_after i)) end_is follows in
           let last = stop_is e more in
           let power : stands_point ≡ false → has_exponent f text at ≡ true =
           λ n. let l = follows (marked n) in
           let has : nat_lt 0 (length (digits_after
           (mantissa_end (word f text) text f.marks.point at))) ≡ true =
           grind (arith, nat_tests, l) in
-          subst (λ ds. nat_lt 0 (length ds) ≡ true) (ap digits_after mark_is ∙ sym e) has in
+          subst (λ ds. nat_lt 0 (length ds) ≡ true) (ap digits_after end_is ∙ sym e) has in
           record {
             is = is f text at positive zeros same
                 (either stands_point (allows_point f text at) (has_exponent f text at) counts power);
             value = value ∙ same_float e format negative;
-            ends = ap (λ i. exponent_end (word f text) text f.marks.exponent i) mark_is ∙ last;
+            ends = ap (λ i. exponent_end (word f text) text f.marks.exponent i) end_is ∙ last;
           }

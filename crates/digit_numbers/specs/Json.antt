@@ -1,6 +1,6 @@
 -- The number of RFC 8259: its rules, each of the bytes of a text from a position to another.
-use Rattle.std.specs.Prelude.{◌≡◌, ℕ, ◌+◌, ◌<◌, ◌≤◌, Bool, true, ◌&&◌, ◌||◌, ◌==◌, nat_le, List}
-use Rattle.std.specs.Prelude.{◌⊎◌}
+use Rattle.std.specs.Prelude.{◌≡◌, ℕ, ◌+◌, ◌<◌, ◌≤◌, Bool, true, false, ◌&&◌, ◌||◌, ◌==◌, nat_le}
+use Rattle.std.specs.Prelude.{◌⊎◌, if◌then◌else◌, List}
 use Rattle.std.specs.Char.{is_ascii_digit}
 use Rattle.digit_floats.specs.Bytes.{stands, is_point, is_minus, is_sign}
 
@@ -67,3 +67,13 @@ module _ (text : List ℕ) where
   pub record IsLongest (start end : ℕ) : Type 0 where
     pub is : IsJsonNumber start end
     pub longest : (other : ℕ) → IsJsonNumber start other → other ≤ end
+
+  -- the position after a minus, if one is at the start
+  abbrev pub past_minus : ℕ → ℕ
+  past_minus start = if stands is_minus text start then start + 1 else start
+
+  -- no byte goes on with a number that ends here
+  pub record IsDelimited (end : ℕ) : Type 0 where
+    pub digit : stands is_ascii_digit text end ≡ false
+    pub point : stands (is_point 46) text end ≡ false
+    pub mark : stands is_e text end ≡ false

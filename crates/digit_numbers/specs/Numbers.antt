@@ -2,9 +2,9 @@
 -- one is there, or a hexadecimal float, or a decimal float: digits with a point or an exponent.
 -- Otherwise it is an integer, or digits that are a float by themselves.
 use Rattle.std.specs.Prelude.{ℕ, ◌+◌, ◌-◌, ◌^◌, ◌==◌, Bool, not, ◌&&◌, ◌||◌, nat_lt}
-use Rattle.std.specs.Prelude.{if◌then◌else◌, List, [], ◌++◌, length, codes, decimal, ⊤}
-use Rattle.std.specs.Prelude.{Option, None, Some, is_some, Result, Ok, Err}
-use Rattle.std.specs.Float.{Float, Format, NotNan}
+use Rattle.std.specs.Prelude.{if◌then◌else◌, List, [], ◌++◌, length}
+use Rattle.std.specs.Prelude.{Option, None, Some, Result, Ok, Err}
+use Rattle.std.specs.Float.{Float, Format}
 use Rattle.std.specs.Float.Ieee.{round}
 use Rattle.std.specs.Float.Numeral.{Parts, has_digits, nearest_float}
 use Rattle.std.specs.Str.Parse.{digits_value}
@@ -12,18 +12,16 @@ use Rattle.lexical_format.specs.Word.{separator}
 use Rattle.lexical_digits.specs.declared.skip.component.Component.TheVariants.{Integer}
 use Rattle.lexical_digits.specs.Separators.{is_separator}
 use Rattle.lexical_digits.specs.State.{rule_of}
-use Rattle.lexical_digits.specs.Stop.{stop}
-use Rattle.digit_literals.specs.After.{digits_between}
-use Rattle.digit_literals.specs.Integers.{integer_at}
-use Rattle.digit_literals.specs.declared.LiteralError.{LiteralError}
-use Rattle.digit_literals.specs.declared.LiteralError.TheVariants as integers
 use Rattle.digit_literals.specs.Numbers.{has_byte}
-use Rattle.digit_floats.specs.Bytes.{stands, is_point}
+use Rattle.digit_floats.specs.Bytes.{stands, is_mark, is_point}
 use Rattle.digit_floats.specs.Float.{digits_end, digits_from, fraction_digits, fraction_end}
 use Rattle.digit_floats.specs.Float.{exponent_digits, exponent_end, exponent_negative}
 use Rattle.digit_floats.specs.Hexadecimal.{nearest_hex}
 use Rattle.digit_languages.specs.declared.language.Language.{Language}
-use Rattle.digit_languages.specs.Literals.{prefix_word, word_at, digits_at, refuses}
+use Rattle.digit_languages.specs.declared.literal.Literal.{Literal}
+use Rattle.digit_languages.specs.declared.literal.LanguageError.{LanguageError}
+use Rattle.digit_languages.specs.declared.literal.LanguageError.TheVariants as literals
+use Rattle.digit_languages.specs.Literals.{literal_at, prefix_word}
 use Rattle.digit_numbers.specs.declared.form.Form.{Form}
 use Rattle.digit_numbers.specs.declared.form.Special.{Special}
 use Rattle.digit_numbers.specs.declared.number.Number.{Number}
@@ -41,41 +39,6 @@ use Rattle.digit_numbers.specs.Specials.{special_at, special_float, name_end}
 abbrev pub Outcome : Type 0
 Outcome = Result (Number Float × ℕ) NumberError
 
--- ---- an integer by a language
-
-module _ (l : Language) (text : List ℕ) (at : ℕ) where
-  -- its digits, after a prefix if there is one, and where they end
-  abbrev pub literal_end : ℕ
-  literal_end = stop (rule_of (word_at l text at) Integer) text (digits_at l text at) 0
-
-  abbrev pub literal_digits : List ℕ
-  literal_digits =
-      digits_between (rule_of (word_at l text at) Integer) text (digits_at l text at) literal_end
-
-  abbrev pub literal_value : ℕ
-  literal_value = digits_value (rule_of (word_at l text at) Integer).radix literal_digits
-
-  -- The integer is the `0` here alone: no digit follows the prefix that it begins, or the language
-  -- refuses it as the first of more digits.
-  unfoldable pub is_zero_alone : Bool
-  is_zero_alone =
-      if is_some (prefix_word l text at)
-      then length literal_digits == 0
-      else (nat_lt 0 (length literal_digits) && refuses l text at literal_value literal_end)
-
-  -- magnitude, word and end of the integer here, up to 128 bits, or why there is none
-  abbrev pub of_digits : Result (ℕ × ℕ) LiteralError → Result (ℕ × ℕ × ℕ) NumberError
-  of_digits (Ok (value, end)) = Ok (value, word_at l text at, end)
-  of_digits (Err (integers.Empty _)) = Err (errors.Empty at)
-  of_digits (Err (integers.Overflow over)) = Err (errors.Overflow over)
-
-  unfoldable pub magnitude_at : Result (ℕ × ℕ × ℕ) NumberError
-  magnitude_at =
-      if is_zero_alone
-      then Ok (0, l.decimal, at + 1)
-      else of_digits
-      (integer_at (rule_of (word_at l text at) Integer) text (digits_at l text at) (2 ^ 128 - 1))
-
 module _ (f : Form) (text : List ℕ) where
   abbrev pub word : ℕ
   word = f.integers.decimal
@@ -90,6 +53,13 @@ module _ (f : Form) (text : List ℕ) where
 
   unfoldable pub past_sign : ℕ → ℕ
   past_sign start = if has_sign start then start + 1 else start
+
+  -- ---- the mark of an exponent at a position: the form's other one, if it has one that is there
+
+  abbrev pub mark_or : Option ℕ → ℕ → ℕ
+  mark_or None at = f.marks.exponent
+  mark_or (Some other) at =
+      if stands (is_mark other) text at then other else f.marks.exponent
 
   -- ---- digits at a position, after any sign
 
@@ -115,14 +85,17 @@ module _ (f : Form) (text : List ℕ) where
     abbrev pub has_point : Bool
     has_point = stands (is_point f.marks.point) text whole_end && allows_point
 
-    -- an exponent counts if a digit follows its mark, and a sign after it, as far as the form has any
+    -- an exponent counts if a digit follows its mark, or a sign after it, and the form has any here
     abbrev pub mark_at : ℕ
     mark_at = if has_point then fraction_end word text f.marks.point whole_end else whole_end
+
+    abbrev pub mark : ℕ
+    mark = mark_or f.other_mark mark_at
 
     abbrev pub exponent : List ℕ
     exponent =
         if allows_exponent f.exponents (nat_lt 0 (length fraction))
-        then exponent_digits word text f.marks.exponent mark_at else []
+        then exponent_digits word text mark mark_at else []
 
     abbrev pub has_exponent : Bool
     has_exponent = nat_lt 0 (length exponent)
@@ -130,14 +103,14 @@ module _ (f : Form) (text : List ℕ) where
     -- where all this ends, and what it is in std's word
     abbrev pub digits_stop : ℕ
     digits_stop =
-        if has_exponent then exponent_end word text f.marks.exponent mark_at else mark_at
+        if has_exponent then exponent_end word text mark mark_at else mark_at
 
     abbrev pub parts : Parts
     parts = record {
       whole = whole_digits;
       point = has_point;
       fraction = if has_point then fraction else [];
-      exponent_negative = exponent_negative word text f.marks.exponent mark_at;
+      exponent_negative = exponent_negative word text mark mark_at;
       exponent = exponent;
       len = digits_stop - at;
     }
@@ -150,7 +123,7 @@ module _ (f : Form) (text : List ℕ) where
     unfoldable pub is_float : Bool
     is_float = has_digits parts && not has_more_zeros && (has_point || has_exponent)
 
--- ---- a hexadecimal float at a position, after its prefix, such as `1.8p3`, in the digits of a word
+-- ---- a hexadecimal float at a position, after its prefix, such as `1.8p3`, by a word
 
 module _ (f : Form) (said : ℕ) (text : List ℕ) (at : ℕ) where
   -- digits with a point and an exponent, as far as the form asks for them
@@ -161,6 +134,17 @@ module _ (f : Form) (said : ℕ) (text : List ℕ) (at : ℕ) where
       || (if stands (is_point f.marks.point) text (whole_end h text at)
       then allows_point h text at && is_pointed_hex f.hex_floats
       else is_always_hex f.hex_floats))
+
+  -- separators without a digit are before its point, and the word drops none after digits
+  abbrev pub is_bare : Bool
+  is_bare =
+      let h = hex_form f said in
+      length (whole_digits h text at) == 0 && nat_lt at (whole_end h text at)
+      && not (rule_of said Integer).trailing
+
+  -- digits with a point and an exponent, that begin with a digit or the point
+  unfoldable pub is_hex_here : Bool
+  is_hex_here = not is_bare && is_hex_float
 
   -- the nearest float, and where it ends
   abbrev pub hex_value : Format → Bool → Float
@@ -175,7 +159,7 @@ module _ (f : Form) (said : ℕ) (text : List ℕ) (at : ℕ) where
 -- the word of the hexadecimal float at a position, with its prefix, if one is there
 abbrev pub if_hex : Form → List ℕ → ℕ → Option ℕ → Option ℕ
 if_hex f text at None = None
-if_hex f text at (Some said) = if is_hex_float f said text at then Some said else None
+if_hex f text at (Some said) = if is_hex_here f said text at then Some said else None
 
 unfoldable pub hex_word_at : Form → Language → List ℕ → ℕ → Option ℕ
 hex_word_at f l text at =
@@ -199,7 +183,7 @@ module _ (f : Form) (text : List ℕ) (start : ℕ) where
       then unprefixed f.integers else f.integers
 
   abbrev pub special_here : Option Special
-  special_here = special_at f text at (has_sign f text start)
+  special_here = special_at f text at (has_sign f text start) is_minus
 
   abbrev pub hex_word_here : Option ℕ
   hex_word_here = hex_word_at f language text at
@@ -219,20 +203,28 @@ module _ (f : Form) (text : List ℕ) (start : ℕ) where
         then Ok (numbers.Float (round format is_minus 0 1), at + 1) else
         if has_digits (parts f text at) then float_here else Err (errors.Empty at)
 
+    -- A `0` that begins no literal is an integer by itself: no digit follows the prefix that it
+    -- begins, or the language refuses it as the first of more digits.
+    abbrev pub zero_here : Outcome
+    zero_here =
+        if has_byte text at 48
+        then Ok (numbers.Integer is_minus 0 (word f text), at + 1) else Err (errors.Empty at)
+
     -- an integer; above 128 bits a float, if the form says so and its first digit isn't 0
-    abbrev pub integer_here : Result (ℕ × ℕ × ℕ) NumberError → Outcome
-    integer_here (Ok (magnitude, said, end)) = Ok (numbers.Integer is_minus magnitude said, end)
-    integer_here (Err (errors.Overflow over)) =
+    abbrev pub integer_here : Result Literal LanguageError → Outcome
+    integer_here (Ok read) = Ok (numbers.Integer is_minus read.value read.word, read.end)
+    integer_here (Err (literals.Overflow over)) =
         if may_be_float f.whole && not (has_byte text at 48)
         then float_here else Err (errors.Overflow over)
-    integer_here (Err (errors.Empty at)) = Err (errors.Empty at)
-    integer_here (Err (errors.Invalid at)) = Err (errors.Invalid at)
+    integer_here (Err (literals.Empty _)) = zero_here
+    integer_here (Err (literals.Zero _)) = zero_here
 
     -- a number in decimal digits, or an integer
     unfoldable pub plain_at : Outcome
     plain_at =
         if is_float f text at then float_here else
-        if is_always_float f.whole then whole_here else integer_here (magnitude_at language text at)
+        if is_always_float f.whole then whole_here else
+        integer_here (literal_at language text at (2 ^ 128 - 1))
 
     -- it never begins with a separator
     abbrev pub or_hex : Option ℕ → Outcome
@@ -259,30 +251,3 @@ module _ (f : Form) (text : List ℕ) (start : ℕ) where
 abbrev pub to_end : List ℕ → Outcome → Result (Number Float) NumberError
 to_end text (Ok (number, end)) = if end == length text then Ok number else Err (errors.Invalid end)
 to_end text (Err error) = Err error
-
--- ---- of a number that was read
-
--- its float in std's word
-abbrev pub with_value : {T : Type 0} → (T → Float) → Number T → Number Float
-with_value value (numbers.Integer negative magnitude said) =
-    numbers.Integer negative magnitude said
-with_value value (numbers.Float x) = numbers.Float (value x)
-
--- it isn't NaN
-abbrev pub IsNoNan : {T : Type 0} → (T → Float) → Number T → Type 0
-IsNoNan value (numbers.Integer negative magnitude said) = ⊤
-IsNoNan value (numbers.Float x) = NotNan (value x)
-
--- ---- an error
-
-abbrev pub position : NumberError → ℕ
-position (errors.Empty at) = at
-position (errors.Overflow at) = at
-position (errors.Invalid at) = at
-
--- what is printed of it
-abbrev pub message : NumberError → List ℕ
-message (errors.Empty at) = codes "there is no number at " ++ decimal at
-message (errors.Overflow at) = codes "the number is too large with the digit at " ++ decimal at
-message (errors.Invalid at) =
-    codes "the byte at " ++ decimal at ++ codes " is no part of the number"

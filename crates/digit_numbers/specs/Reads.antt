@@ -1,6 +1,6 @@
 -- Of functions that no caller sees: the digits of a number that were read. No public clause uses
 -- these words.
-use Rattle.std.specs.Prelude.{◌≡◌, ℕ, ◌+◌, ◌-◌, ◌^◌, min, ◌<◌, ◌≤◌, Bool, true, false, List, [], length, is_some, IsTrue}
+use Rattle.std.specs.Prelude.{◌≡◌, ℕ, ◌-◌, ◌^◌, min, ◌<◌, ◌≤◌, Bool, true, false, List, [], length, is_some}
 use Rattle.std.specs.Float.{Float, Format}
 use Rattle.std.specs.Float.Numeral.{Parts, nearest_float}
 use Rattle.std.specs.Str.Parse.{digits_value}
@@ -11,11 +11,9 @@ use Rattle.digit_floats.specs.Hexadecimal.{IsHexMantissa, hex_integer_of, hex_fr
 use Rattle.digit_floats.specs.declared.hexadecimal.HexMantissa.{HexMantissa}
 use Rattle.digit_floats.specs.declared.parts.Mantissa.{Mantissa}
 use Rattle.digit_floats.specs.declared.parts.Power.{Power}
-use Rattle.lexical_format.specs.Word.{is_supported}
 use Rattle.digit_languages.specs.declared.language.Language.{Language}
 use Rattle.digit_languages.specs.Literals.{prefix_word, word_at, digits_at}
 use Rattle.digit_numbers.specs.declared.form.Form.{Form}
-use Rattle.digit_numbers.specs.declared.integer.Head.{Head}
 use Rattle.digit_numbers.specs.declared.number.Sign.{Sign}
 use Rattle.digit_numbers.specs.Numbers.{has_sign, is_negative, past_sign, is_float, fraction, exponent, parts, digits_stop}
 
@@ -83,16 +81,6 @@ pub record IsSign (f : Form) (text : List ℕ) (start : ℕ) (sign : Sign) : Typ
   pub ends : sign.end ≡ past_sign f text start
   pub onward : start ≤ sign.end
   pub within : sign.end ≤ length text
-
--- what says how the digits of an integer of a language are read
-pub record IsHead (l : Language) (text : List ℕ) (at : ℕ) (head : Head) : Type 0 where
-  pub prefixed : head.is_prefixed ≡ is_some (prefix_word l text at)
-  pub word : head.word ≡ word_at l text at
-  pub digits : head.digits ≡ digits_at l text at
-  pub supported : IsTrue (is_supported head.word)
-  pub onward : at ≤ head.digits
-  pub after : head.is_prefixed ≡ true → at + 2 ≤ head.digits
-  pub within : head.digits ≤ length text
 
 -- an integer of a language here has no prefix, and is decimal
 pub record IsPlain (l : Language) (text : List ℕ) (at : ℕ) : Type 0 where

@@ -1,5 +1,5 @@
 -- The special value at a position of a text: the longest name of a form that is there.
-use Rattle.std.specs.Prelude.{ℕ, Bool, not, ◌&&◌, ◌||◌, ◌==◌, if◌then◌else◌, nat_lt}
+use Rattle.std.specs.Prelude.{ℕ, Bool, not, ◌&&◌, ◌==◌, if◌then◌else◌, nat_lt}
 use Rattle.std.specs.Prelude.{List, [], ◌∷◌, length, filter, take_while, slice_index_or, Option}
 use Rattle.std.specs.Prelude.{None, Some}
 use Rattle.std.specs.Char.{eq_ignore_ascii_case}
@@ -12,7 +12,8 @@ use Rattle.digit_numbers.specs.declared.form.Form.{Form}
 use Rattle.digit_numbers.specs.declared.form.Special.{Special}
 use Rattle.digit_numbers.specs.declared.form.Specials.{Specials}
 use Rattle.digit_numbers.specs.declared.form.SpecialValue.{SpecialValue}
-use Rattle.digit_numbers.specs.declared.form.SpecialValue.TheVariants.{Infinity, NotANumber}
+use Rattle.digit_numbers.specs.declared.form.SpecialValue.TheVariants.{Infinity, NegativeInfinity, NotANumber}
+use Rattle.digit_numbers.specs.Forms.{takes_sign}
 
 -- ---- what a form says
 
@@ -32,6 +33,7 @@ bytes_of name = take_while (λ byte. not (byte == 0)) name
 -- the float that a name stands for, by whether a minus is before it
 abbrev pub special_float : SpecialValue → Bool → Float
 special_float Infinity negative = inf negative
+special_float NegativeInfinity negative = inf (not negative)
 special_float NotANumber negative = nan
 
 -- ---- of some names, each with its end: the one that ends last, and of several the first
@@ -63,10 +65,11 @@ module _ (f : Form) (text : List ℕ) (at : ℕ) where
   name_end s = end_of s.name
 
   -- a name is here that has bytes and, after a sign, takes one
-  abbrev pub is_here : Bool → Special → Bool
-  is_here is_signed s =
-      nat_lt 0 (length (bytes_of s.name)) && begins s.name && (s.signed || not is_signed)
+  unfoldable pub is_here : Bool → Bool → Special → Bool
+  is_here is_signed is_minus s =
+      nat_lt 0 (length (bytes_of s.name)) && begins s.name && takes_sign s.sign is_signed is_minus
 
   -- the longest name here
-  unfoldable pub special_at : Bool → Option Special
-  special_at is_signed = last_of name_end (filter (is_here is_signed) (names_of f.specials))
+  unfoldable pub special_at : Bool → Bool → Option Special
+  special_at is_signed is_minus =
+      last_of name_end (filter (is_here is_signed is_minus) (names_of f.specials))

@@ -1,6 +1,6 @@
 // The float at a position, by a form.
 
-ghost use Rattle.std.specs.Prelude.{◌≡◌, Err, ◌+◌, ◌-◌, ◌*◌, ◌^◌, ◌++◌, ◌<◌, ◌≤◌, false, true, min, length, [], None, IfSome, IfOk, IfErr, OnOk, MatchOption, ◌&&◌, not, nat_lt, IsTrue};
+ghost use Rattle.std.specs.Prelude.{◌≡◌, Err, ◌+◌, ◌-◌, ◌*◌, ◌^◌, ◌++◌, ◌<◌, ◌≤◌, false, true, min, length, [], None, IfSome, IfOk, IfErr, OnOk, MatchOption, ◌&&◌, nat_lt, IsTrue};
 ghost use Rattle.std.specs.Float.{NotNan};
 ghost use Rattle.std.specs.Float.Ieee.{round};
 ghost use Rattle.std.specs.Float.Numeral.{nearest_float};
@@ -14,7 +14,7 @@ ghost use Rattle.digit_floats.specs.Bytes.{stands, is_point, is_mark};
 ghost use Rattle.digit_floats.specs.Float.{IsDecimal, digits_from, digits_end, exponent_digits, exponent_end, exponent_negative, parts_at};
 ghost use Rattle.digit_floats.specs.Parts.{integer_of, fraction_of, IsMantissa, IsShort};
 ghost use Rattle.digit_numbers.specs.Forms.{IsForm, allows_exponent, is_barred};
-ghost use Rattle.digit_numbers.specs.Numbers.{allows_point, digits_stop, exponent, fraction, has_exponent, has_more_zeros, has_point, is_float, mark_at, parts, whole_end};
+ghost use Rattle.digit_numbers.specs.Numbers.{allows_point, digits_stop, exponent, fraction, has_exponent, has_more_zeros, is_float, mark_at, mark_or, parts, whole_end};
 ghost use Rattle.digit_numbers.specs.Reads.{IsMantissaAt, IsMantissaOf, IsWholeOf, IsPowerAt, IsFloatAt, whole_of};
 
 use super::form::Form;
@@ -96,6 +96,17 @@ fn read_exponent_apart(text: &[u8], word: u128, at: usize, mark: u8) -> Result<P
     read_exponent(text, word, at, mark)
 }
 
+/// The mark of an exponent at a position: the form's other one, if it is there.
+#[inline(always)]
+fn mark_at(text: &[u8], form: Form, at: usize) -> u8
+    ensures { result ≡ mark_or form text.now form.other_mark at }
+{
+    match form.other_mark {
+        Some(other) if has_mark(text, at, other) => other,
+        _ => form.marks.exponent,
+    }
+}
+
 /// The exponent after a mantissa, if there is one.
 #[inline(always)]
 #[tactic(auto, unfolding(digit_floats::specs::Float::exponents))]
@@ -112,18 +123,11 @@ fn read_power(text: &[u8], form: Form, mantissa: Mantissa) -> Option<Power>
     ensures end { IfSome result (λ p. p.end ≡ digits_stop form text.now mantissa.start) }
     ensures within { IfSome result (λ p. (mantissa.end ≤ p.end) × (p.end ≤ length text.now)) }
 {
-    if !form.exponents.allow(mantissa.places > 0)
-        || !has_mark(text, mantissa.end, form.marks.exponent)
-    {
+    let mark = mark_at(text, form, mantissa.end);
+    if !form.exponents.allow(mantissa.places > 0) || !has_mark(text, mantissa.end, mark) {
         return None;
     }
-    read_exponent_apart(
-        text,
-        form.integers.decimal,
-        mantissa.end,
-        form.marks.exponent,
-    )
-    .ok()
+    read_exponent_apart(text, form.integers.decimal, mantissa.end, mark).ok()
 }
 
 /// The exponent 0 of a float that has none.
@@ -174,7 +178,6 @@ fn float_power(text: &[u8], form: Form, mantissa: Mantissa) -> Option<Power>
 
 /// The float of a mantissa that is at a position, and where it ends, if there is one.
 #[inline(always)]
-#[tactic(auto, using(digit_floats::proofs::Numbers::round_number))]
 pub fn read_float<F: Float>(
     text: &[u8],
     form: Form,
@@ -199,7 +202,6 @@ pub fn read_float<F: Float>(
 
 /// The float of a mantissa and its power.
 #[inline(always)]
-#[tactic(auto, using(digit_floats::proofs::Numbers::round_number))]
 fn round_at<F: Float>(
     text: &[u8],
     form: Form,
@@ -259,8 +261,8 @@ fn power_at(text: &[u8], word: u128, at: usize, mark: u8) -> Option<Power>
     long_power_at(text, word, at, mark)
 }
 
-/// The float of a mantissa, and of its exponent, if one follows, and where it ends: if digits follow
-/// the mark of an exponent. In code of its own.
+/// The float of a mantissa, and of its exponent, if one follows, and where it ends: if digits
+/// follow the mark of an exponent. In code of its own.
 #[inline(never)]
 fn read_powered<F: Float>(
     text: &[u8],
@@ -275,7 +277,8 @@ fn read_powered<F: Float>(
     ensures value { IfSome result (λ r. F.value r.0
         ≡ nearest_float F.format negative (parts_at word text.now marks mantissa.start)) }
     ensures number { IfSome result (λ r. NotNan (F.value r.0)) }
-    ensures ends { IfSome result (λ r. r.1 ≡ exponent_end word text.now marks.exponent mantissa.end) }
+    ensures ends { IfSome result (λ r.
+        r.1 ≡ exponent_end word text.now marks.exponent mantissa.end) }
     ensures some { IfSome result (λ _. stands (is_mark marks.exponent) text.now mantissa.end ≡ true
         → 0 < length (exponent_digits word text.now marks.exponent mantissa.end)) }
     ensures within { IfSome result (λ r. (mantissa.end ≤ r.1) × (r.1 ≤ length text.now)) }
@@ -296,6 +299,7 @@ fn read_apart<F: Float>(
     mantissa: Mantissa,
 ) -> Option<(F, usize)>
     requires form { IsForm form }
+    requires one_mark { form.other_mark ≡ None }
     requires is { IsMantissaAt form text.now mantissa }
     requires some { mantissa.places < mantissa.digits }
     requires zeros { has_more_zeros form text.now mantissa.start ≡ false }
@@ -361,8 +365,8 @@ pub fn has_short_zeros(text: &[u8], form: Form, whole: Mantissa) -> bool
     !form.float_zeros && is_zero(text, whole.start) && whole.start + 1 < whole.whole_end
 }
 
-/// The float of the digits before a point, if it is short: digits follow the point or the mark of an
-/// exponent, which the form has there, and it refuses no first `0`.
+/// The float of the digits before a point, if it is short: digits follow the point or the mark of
+/// an exponent, which the form has there, and it refuses no first `0`.
 #[inline(always)]
 pub fn read_short_float<F: Float>(
     text: &[u8],
@@ -371,6 +375,7 @@ pub fn read_short_float<F: Float>(
     whole: Mantissa,
 ) -> Option<(F, usize)>
     requires form { IsForm form }
+    requires one_mark { form.other_mark ≡ None }
     requires is { IsShort form.integers.decimal text.now whole }
     requires some { 0 < whole.digits }
     requires follows { stands (is_point form.marks.point) text.now whole.whole_end ≡ false
@@ -401,7 +406,6 @@ pub fn read_short_float<F: Float>(
 
 /// The float that few digits are by themselves, if one division tells.
 #[inline(always)]
-#[tactic(auto, using(digit_floats::proofs::Numbers::round_number))]
 pub fn round_short_whole<F: Float>(
     text: &[u8],
     word: u128,

@@ -2,9 +2,9 @@
 
 ghost use Rattle.std.specs.Prelude.{◌≡◌, IsTrue, IfSome, if◌then◌else◌, true};
 ghost use Rattle.digit_floats.specs.Hexadecimal.{IsHexadecimal};
-ghost use Rattle.digit_numbers.specs.Forms.{IsForm, are_apart, is_minus_of, is_plus_of, is_barred};
+ghost use Rattle.digit_numbers.specs.Forms.{IsForm, is_minus_of, is_plus_of, is_barred, is_prefix_letter, may_be_point, may_mark};
 ghost use Rattle.digit_numbers.specs.Forms.{allows_exponent, begins_name, is_always_float, may_be_float};
-ghost use Rattle.digit_numbers.specs.Forms.{has_hex, is_pointed_hex, is_always_hex};
+ghost use Rattle.digit_numbers.specs.Forms.{has_hex, is_pointed_hex, is_always_hex, takes_sign};
 
 use digit_floats::Marks;
 use digit_languages::{Language, is_language};
@@ -24,6 +24,9 @@ pub struct Form {
     /// The byte of the point, and the letter of the exponent. They are no other part of a number:
     /// see [`is_form`].
     pub marks: Marks,
+    /// Another letter of the exponent of a decimal float, such as the `d` of Fortran, if there is
+    /// one. A form that has one is read a little slower.
+    pub other_mark: Option<u8>,
     /// Where an exponent of a decimal float may be.
     pub exponents: Exponents,
     /// Whether a point needs a digit before it.
@@ -62,8 +65,8 @@ pub struct Special {
     pub name: [u8; 8],
     /// What it stands for.
     pub value: SpecialValue,
-    /// Whether a sign may be before it, if the form has signs.
-    pub signed: bool,
+    /// Which sign is before it.
+    pub sign: NameSign,
 }
 
 /// What a name stands for.
@@ -71,7 +74,9 @@ pub struct Special {
 pub enum SpecialValue {
     /// An infinity. A minus makes it negative.
     Infinity,
-    /// The value that is not a number. A minus changes nothing.
+    /// The negative infinity, as `##-Inf`. A minus makes it positive.
+    NegativeInfinity,
+    /// The value that is not a number, also after a minus. No clause says its bits.
     NotANumber,
 }
 
@@ -80,8 +85,37 @@ impl Special {
     pub const ABSENT: Special = Special {
         name: [0; 8],
         value: SpecialValue::NotANumber,
-        signed: false,
+        sign: NameSign::Absent,
     };
+}
+
+/// Which sign is before a name, of those that the form has.
+#[derive(Clone, Copy, Debug, PartialEq, Eq)]
+pub enum NameSign {
+    /// None: `nan` of Go.
+    Absent,
+    /// A minus, or none: `INF` of XML Schema 1.0.
+    Minus,
+    /// Either, or none.
+    Either,
+    /// One: `+inf.0` of Scheme.
+    Required,
+}
+
+impl NameSign {
+    /// Whether a name may be after a sign, or after none.
+    #[inline(always)]
+    #[tactic(auto, unfolding(crate::specs::Forms::takes_sign))]
+    pub(crate) fn takes(self, is_signed: bool, is_minus: bool) -> bool
+        ensures { result ≡ takes_sign self is_signed is_minus }
+    {
+        match self {
+            NameSign::Absent => !is_signed,
+            NameSign::Minus => !is_signed || is_minus,
+            NameSign::Either => true,
+            NameSign::Required => is_signed,
+        }
+    }
 }
 
 /// Which hexadecimal digits are a float, by the hexadecimal word of the form's integers. Where a
@@ -141,6 +175,8 @@ pub enum AfterPoint {
     NoPoint,
     /// A second point, or what begins a name, as in `1.max(2)`: `_`, a letter, a byte above ASCII.
     NoPointOrName,
+    /// An operator that begins with the point, as in `1./x` of Octave: `*`, `/`, `\`, `^`, `'`.
+    NoOperator,
 }
 
 impl HexFloats {
@@ -248,6 +284,7 @@ impl AfterPoint {
             AfterPoint::Anything => false,
             AfterPoint::NoPoint => byte == b'.',
             AfterPoint::NoPointOrName => byte == b'.' || begins_name(byte),
+            AfterPoint::NoOperator => matches!(byte, b'*' | b'/' | b'\\' | b'^' | b'\''),
         }
     }
 }
@@ -269,25 +306,60 @@ fn serves_hex(form: Form) -> bool
     }
 }
 
-/// Whether the point is no letter, digit, sign or separator, and the exponent's mark is a letter
-/// that is no separator.
+/// Whether a byte is the letter of a prefix that a language has, in either case.
 #[inline(always)]
-fn are_apart(marks: Marks, separator: u8) -> bool
-    ensures { result ≡ are_apart marks separator }
+fn is_prefix_letter(language: Language, byte: u8) -> bool
+    ensures { result ≡ is_prefix_letter language byte }
 {
-    marks.exponent.is_ascii_alphabetic()
-        && separator != marks.exponent
-        && separator != marks.exponent.to_ascii_uppercase()
-        && !marks.point.is_ascii_alphanumeric()
-        && marks.point != b'+'
-        && marks.point != b'-'
-        && marks.point != separator
+    (language.binary.is_some() && byte.eq_ignore_ascii_case(&b'b'))
+        || (language.octal.is_some() && byte.eq_ignore_ascii_case(&b'o'))
+        || (language.hexadecimal.is_some() && byte.eq_ignore_ascii_case(&b'x'))
+}
+
+/// Whether a byte may mark an exponent: a letter that is no separator, and says no prefix.
+#[inline(always)]
+fn may_mark(language: Language, byte: u8) -> bool
+    ensures { result ≡ may_mark language byte }
+{
+    let separator = NumberFormat::new(language.decimal).digit_separator();
+    byte.is_ascii_alphabetic()
+        && separator != byte
+        && separator != byte.to_ascii_uppercase()
+        && !is_prefix_letter(language, byte)
+}
+
+/// Whether a byte may be the point: no letter, digit, sign or separator.
+#[inline(always)]
+fn may_be_point(language: Language, byte: u8) -> bool
+    ensures { result ≡ may_be_point language byte }
+{
+    let separator = NumberFormat::new(language.decimal).digit_separator();
+    !byte.is_ascii_alphanumeric() && byte != b'+' && byte != b'-' && byte != separator
+}
+
+/// Whether the marks of a form are no other part of a number.
+#[inline(always)]
+fn are_apart(form: Form) -> bool
+    ensures is { IsTrue result → (may_be_point form.integers form.marks.point ≡ true)
+        × (may_mark form.integers form.marks.exponent ≡ true)
+        × IfSome form.other_mark (λ mark. may_mark form.integers mark ≡ true) }
+    ensures only { may_be_point form.integers form.marks.point ≡ true →
+        may_mark form.integers form.marks.exponent ≡ true →
+        IfSome form.other_mark (λ mark. may_mark form.integers mark ≡ true) → IsTrue result }
+{
+    let has_other = match form.other_mark {
+        Some(mark) => may_mark(form.integers, mark),
+        None => true,
+    };
+    has_other
+        && may_be_point(form.integers, form.marks.point)
+        && may_mark(form.integers, form.marks.exponent)
 }
 
 /// Whether the words of a form are supported, its floats are decimal, or hexadecimal with a decimal
 /// exponent, and its marks are no other part of a number, as
 /// [`read_number_of`](crate::read_number_of) requires: the point is no letter, digit, sign or
-/// separator, and the exponent's mark is a letter that is no separator.
+/// separator, and a mark of an exponent is a letter that is no separator and says no prefix.
 #[inline(always)]
 pub fn is_form(form: Form) -> bool
     ensures is { IsTrue result → IsForm form }
@@ -298,5 +370,5 @@ pub fn is_form(form: Form) -> bool
         && format.mantissa_radix() == 10
         && format.exponent_radix() == 10
         && serves_hex(form)
-        && are_apart(form.marks, format.digit_separator())
+        && are_apart(form)
 }

@@ -8,13 +8,16 @@ ghost use Rattle.digit_floats.specs.Hexadecimal.{IsHexadecimal};
 ghost use Rattle.digit_languages.specs.Words.{IsLanguage};
 ghost use Rattle.digit_languages.specs.Literals.{prefix_word};
 ghost use Rattle.digit_numbers.specs.Forms.{IsForm, has_hex, hex_form, with_hex_only};
-ghost use Rattle.digit_numbers.specs.Numbers.{allows_point, digits_stop, exponent, fraction, has_exponent, hex_stop, hex_value, hex_word_at, is_hex_float, mark_at, parts};
+ghost use Rattle.digit_numbers.specs.Numbers.{allows_point, digits_stop, exponent, fraction, has_exponent, hex_stop, hex_value, hex_word_at, is_bare, is_hex_here, mark_at, parts};
+ghost use Rattle.lexical_digits.specs.declared.skip.component.Component.TheVariants.{Integer};
+ghost use Rattle.lexical_digits.specs.State.{rule_of};
 ghost use Rattle.digit_numbers.specs.Reads.{IsHexAt};
 
 use super::float::{has_barred, has_byte, has_mark};
 use super::form::Form;
 use digit_floats::{Float, HexMantissa, Power, read_exponent, read_hex_mantissa, round_hex};
 use digit_languages::{Language, prefix_word};
+use lexical_digits::skip::{Component, Rule};
 
 /// A language with no prefix but that of hexadecimal digits.
 #[inline(always)]
@@ -54,6 +57,25 @@ fn allows_point(text: &[u8], form: Form, word: u128, mantissa: HexMantissa) -> b
         return false;
     }
     mantissa.places > 0 || !(form.needs_fraction || has_barred(text, form, mantissa.whole_end + 1))
+}
+
+/// Whether separators without a digit are before a point, and the word drops none after digits.
+#[inline(always)]
+fn is_bare(text: &[u8], form: Form, word: u128, mantissa: HexMantissa) -> bool
+    requires is { IsHexAt form word text.now mantissa }
+    ensures { result ≡ is_bare form word text.now mantissa.start }
+{
+    mantissa.digits == mantissa.places
+        && mantissa.start < mantissa.whole_end
+        && !drops_trailing(word)
+}
+
+/// Whether a word drops separators at the end of the integer's digits.
+#[inline(always)]
+fn drops_trailing(word: u128) -> bool
+    ensures { result ≡ (rule_of word Integer).trailing }
+{
+    Rule::of(word, Component::Integer).trailing
 }
 
 /// The exponent after a mantissa, if there is one.
@@ -111,7 +133,7 @@ fn round_alone<F: Float>(
 /// The float of hexadecimal digits at a position, after a prefix, and where it ends, if there is
 /// one.
 #[inline(always)]
-#[tactic(auto, using(crate::proofs::Digits::hexes))]
+#[tactic(auto, using(crate::proofs::Digits::hexes), unfolding(crate::specs::Numbers::is_hex_here))]
 fn read_digits<F: Float>(
     text: &[u8],
     form: Form,
@@ -123,8 +145,8 @@ fn read_digits<F: Float>(
     requires supported { IsTrue (is_supported word) }
     requires hexadecimal { IsHexadecimal word }
     requires within { at ≤ length text.now }
-    ensures is { MatchOption result (is_hex_float form word text.now at ≡ false)
-        (λ r. is_hex_float form word text.now at ≡ true) }
+    ensures is { MatchOption result (is_hex_here form word text.now at ≡ false)
+        (λ r. is_hex_here form word text.now at ≡ true) }
     ensures value { IfSome result (λ r.
         F.value r.0 ≡ hex_value form word text.now at F.format negative) }
     ensures ends { IfSome result (λ r. r.1 ≡ hex_stop form word text.now at) }
@@ -132,7 +154,7 @@ fn read_digits<F: Float>(
     ensures within { IfSome result (λ r. (at < r.1) × (r.1 ≤ length text.now)) }
 {
     let mantissa = read_hex_mantissa(text, word, at, form.marks.point);
-    if mantissa.digits == 0 {
+    if is_bare(text, form, word, mantissa) || mantissa.digits == 0 {
         return None;
     }
     let is_pointed = has_byte(text, mantissa.whole_end, form.marks.point);

@@ -1,36 +1,19 @@
 // The longest integer of a language at a position.
 
-ghost use Rattle.std.specs.Prelude.{◌≡◌, Ok, Err, MatchResult, ◌+◌, ◌-◌, ◌^◌, ◌≤◌, ◌<◌, true, length, IfOk, IfErr, IfSome, IsTrue, slice_get};
+ghost use Rattle.std.specs.Prelude.{◌≡◌, Ok, ◌+◌, ◌-◌, ◌^◌, ◌≤◌, ◌<◌, true, length, IfOk, IfSome, slice_get};
 ghost use Rattle.std.specs.Char.{is_ascii_alphabetic};
 ghost use Rattle.lexical_digits.specs.Cursor.{holds_of};
 ghost use Rattle.lexical_digits.specs.declared.skip.component.Component.TheVariants.{Integer};
 ghost use Rattle.lexical_digits.specs.State.{rule_of};
-ghost use Rattle.digit_literals.specs.Integers.{integer_at, IsIntegerFrom, HasNoDigitFrom};
-ghost use Rattle.digit_literals.specs.Outcomes.{IfEmpty, IfOverflow};
-ghost use Rattle.lexical_format.specs.Word.{is_supported};
-ghost use Rattle.digit_literals.specs.declared.LiteralError.TheVariants.{Overflow};
+ghost use Rattle.digit_literals.specs.Integers.{IsIntegerFrom};
 ghost use Rattle.digit_literals.specs.Numbers.{has_byte};
 ghost use Rattle.digit_languages.specs.Words.{IsLanguage};
-ghost use Rattle.digit_languages.specs.Literals.{prefix_word, word_at, digits_at, refuses};
+ghost use Rattle.digit_languages.specs.Literals.{literal_at};
 ghost use Rattle.digit_numbers.specs.Forms.{unprefixed};
-ghost use Rattle.digit_numbers.specs.Numbers.{magnitude_at, literal_value, literal_end, literal_digits};
-ghost use Rattle.digit_numbers.specs.Reads.{IsHead, IsPlain, IsWholeOf};
+ghost use Rattle.digit_numbers.specs.Reads.{IsPlain, IsWholeOf};
 
-use super::number::NumberError;
 use digit_floats::Mantissa;
-use digit_languages::{FirstZero, Language, plain_word, prefix_word};
-use digit_literals::{LiteralError, read_wide_from, stop_from};
-use lexical_digits::skip::Component;
-
-/// An integer that was read.
-#[derive(Clone, Copy)]
-pub struct Magnitude {
-    pub value: u128,
-    /// The word by which its digits were read.
-    pub word: u128,
-    /// Where they end.
-    pub end: usize,
-}
+use digit_languages::{FirstZero, Language, LanguageError, Literal, read_literal};
 
 /// A language without its prefixes.
 #[inline(always)]
@@ -70,156 +53,32 @@ fn has_letter(text: &[u8], at: usize) -> bool
     }
 }
 
-/// The `0` at a position.
-#[inline(always)]
-fn zero_alone(language: Language, at: usize) -> Magnitude
-    requires { at < 2 ^ 63 }
-    ensures value { result.value ≡ 0 }
-    ensures word { result.word ≡ language.decimal }
-    ensures end { result.end ≡ at + 1 }
-{
-    Magnitude {
-        value: 0,
-        word: language.decimal,
-        end: at + 1,
-    }
-}
-
-/// Whether a language refuses an integer without a prefix for its first `0`.
-#[inline(always)]
-fn refuses(language: Language, text: &[u8], at: usize, value: u128, end: usize) -> bool
-    requires { at ≤ length text.now }
-    ensures { result ≡ refuses language text.now at value end }
-{
-    is_zero(text, at)
-        && match language.first_zero {
-            FirstZero::Plain | FirstZero::Octal(_) => false,
-            FirstZero::Alone => at + 1 < end,
-            FirstZero::Zeros => value > 0,
-        }
-}
-
-/// What says how the digits of an integer are read.
-#[derive(Clone, Copy)]
-struct Head {
-    is_prefixed: bool,
-    word: u128,
-    /// Where the digits begin.
-    digits: usize,
-}
-
-/// The prefix at a position, if there is one, or a first `0`.
-#[inline(always)]
-fn read_head(text: &[u8], language: Language, at: usize) -> Head
-    requires language { IsLanguage language }
-    requires within { at ≤ length text.now }
-    ensures { IsHead language text.now at result }
-{
-    match prefix_word(language, text, at) {
-        Some(word) => Head {
-            is_prefixed: true,
-            word,
-            digits: at + 2,
-        },
-        None => Head {
-            is_prefixed: false,
-            word: plain_word(language, text, at),
-            digits: at,
-        },
-    }
-}
-
-/// Whether a language refuses an integer above 128 bits for its first `0`.
-#[cold]
-#[tactic(auto, using(crate::proofs::Zeros::larges))]
-fn refuses_large(language: Language, text: &[u8], at: usize, head: Head, over: usize) -> bool
-    requires head { IsHead language text.now at head }
-    requires large { integer_at (rule_of (word_at language text.now at) Integer) text.now
-        (digits_at language text.now at) (2 ^ 128 - 1) ≡ Err (Overflow over) }
-    ensures answer { result ≡ refuses language text.now at (literal_value language text.now at)
-        (literal_end language text.now at) }
-    ensures some { 0 < length (literal_digits language text.now at) }
-{
-    is_zero(text, at)
-        && match language.first_zero {
-            FirstZero::Plain | FirstZero::Octal(_) => false,
-            FirstZero::Alone => {
-                at + 1 < stop_from(text, head.word, Component::Integer, head.digits)
-            }
-            FirstZero::Zeros => true,
-        }
-}
-
-/// The integer at a position by a word, up to 128 bits.
-#[inline(always)]
-#[tactic(auto, using(digit_literals::proofs::Texts::says))]
-fn read_value(text: &[u8], word: u128, start: usize) -> Result<(u128, usize), LiteralError>
-    requires supported { IsTrue (is_supported word) }
-    requires within { start ≤ length text.now }
-    ensures is { result ≡ integer_at (rule_of word Integer) text.now start (2 ^ 128 - 1) }
-    ensures ok { IfOk result (λ r.
-        IsIntegerFrom (rule_of word Integer) text.now start (2 ^ 128 - 1) r.0 r.1) }
-    ensures empty { IfEmpty result (HasNoDigitFrom (rule_of word Integer) text.now start) }
-    ensures overflow { IfOverflow result (λ over.
-        integer_at (rule_of word Integer) text.now start (2 ^ 128 - 1) ≡ Err (Overflow over)) }
-    ensures end { IfOk result (λ r. (start < r.1) × (r.1 ≤ length text.now)) }
-{
-    match read_wide_from(text, word, start, u128::MAX) {
-        Ok((value, end)) => Ok((value, end)),
-        Err(LiteralError::Empty(at)) => Err(LiteralError::Empty(at)),
-        Err(LiteralError::Overflow(over)) => Err(LiteralError::Overflow(over)),
-    }
-}
-
-/// The longest integer of a language at a position. Where no digit follows a prefix, or the
-/// language refuses the first `0` of more digits, it is that `0`. In code of its own.
+/// [`read_literal`] up to 128 bits. In code of its own.
 #[inline(never)]
-#[tactic(auto, using(crate::proofs::Zeros::zeros), unfolding(crate::specs::Numbers::magnitude_at))]
-pub fn read_integer(text: &[u8], language: Language, at: usize) -> Result<Magnitude, NumberError>
+pub fn read_integer(text: &[u8], language: Language, at: usize) -> Result<Literal, LanguageError>
     requires language { IsLanguage language }
     requires within { at ≤ length text.now }
-    ensures is { MatchResult result
-        (λ r. magnitude_at language text.now at ≡ Ok (r.value, r.word, r.end))
-        (λ error. magnitude_at language text.now at ≡ Err error) }
-    ensures end { IfOk result (λ r. (at < r.end) × (r.end ≤ length text.now)) }
+    ensures is { result ≡ literal_at language text.now at (2 ^ 128 - 1) }
+    ensures end { IfOk result (λ read. (at < read.end) × (read.end ≤ length text.now)) }
 {
-    let head = read_head(text, language, at);
-    match read_value(text, head.word, head.digits) {
-        Ok((value, end)) => {
-            if !head.is_prefixed && refuses(language, text, at, value, end) {
-                return Ok(zero_alone(language, at));
-            }
-            Ok(Magnitude {
-                value,
-                word: head.word,
-                end,
-            })
-        }
-        Err(LiteralError::Empty(_)) => {
-            if head.is_prefixed {
-                return Ok(zero_alone(language, at));
-            }
-            Err(NumberError::Empty(at))
-        }
-        Err(LiteralError::Overflow(over)) => {
-            let is_refused = refuses_large(language, text, at, head, over);
-            if !head.is_prefixed && is_refused {
-                return Ok(zero_alone(language, at));
-            }
-            Err(NumberError::Overflow(over))
-        }
-    }
+    read_literal(text, at, language, u128::MAX)
 }
 
-/// Whether no prefix begins at a position, and no first `0` that says octal.
+/// Whether no prefix begins at a position, and no first `0` that says octal, or that more digits
+/// follow, by the value and the end of the digits.
 #[inline(always)]
 #[tactic(auto, using(crate::proofs::Zeros::no_prefix))]
-fn is_plain(text: &[u8], language: Language, at: usize) -> bool
+fn is_plain(text: &[u8], language: Language, at: usize, value: u128, end: usize) -> bool
     requires { at ≤ length text.now }
-    ensures { result ≡ true → IsPlain language text.now at }
+    ensures plain { result ≡ true → IsPlain language text.now at }
+    ensures alone { result ≡ true → has_byte text.now at 48 ≡ true →
+        (value ≡ 0) × (end ≤ at + 1) }
 {
     if !is_zero(text, at) {
         return true;
+    }
+    if value > 0 || at + 1 < end {
+        return false;
     }
     match language.first_zero {
         FirstZero::Octal(_) => false,
@@ -243,29 +102,25 @@ fn read_decimal(text: &[u8], word: u128, mantissa: Mantissa) -> Option<(u128, us
 }
 
 /// The longest integer of a language whose decimal digits were read as a mantissa: if it has no
-/// prefix, and at most 19 significant digits.
+/// prefix, no more digits after a first `0`, and at most 19 significant ones.
 #[inline(always)]
-#[tactic(auto, using(crate::proofs::Zeros::zeros, crate::proofs::Few::integer_is), unfolding(crate::specs::Numbers::magnitude_at))]
-pub fn read_few(text: &[u8], language: Language, mantissa: Mantissa) -> Option<Magnitude>
+#[tactic(auto, using(crate::proofs::Zeros::few_is, crate::proofs::Few::integer_is))]
+pub fn read_few(text: &[u8], language: Language, mantissa: Mantissa) -> Option<Literal>
     requires is { IsWholeOf language.decimal text.now mantissa }
-    ensures is { let at = mantissa.start in
-        IfSome result (λ r. magnitude_at language text.now at ≡ Ok (r.value, r.word, r.end)) }
-    ensures end { let at = mantissa.start in
-        IfSome result (λ r. (at < r.end) × (r.end ≤ length text.now)) }
+    ensures is { IfSome result (λ read.
+        literal_at language text.now mantissa.start (2 ^ 128 - 1) ≡ Ok read) }
+    ensures end { IfSome result (λ read.
+        (mantissa.start < read.end) × (read.end ≤ length text.now)) }
 {
     let at = mantissa.start;
     let (value, end) = read_decimal(text, language.decimal, mantissa)?;
-    if is_zero(text, at) {
-        if !is_plain(text, language, at) {
-            return None;
-        }
-        if refuses(language, text, at, value, end) {
-            return Some(zero_alone(language, at));
-        }
+    if !is_plain(text, language, at, value, end) {
+        return None;
     }
-    Some(Magnitude {
+    Some(Literal {
         value,
         word: language.decimal,
+        digits: at,
         end,
     })
 }

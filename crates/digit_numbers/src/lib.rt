@@ -7,6 +7,7 @@ pub mod forms;
 mod hexadecimal;
 mod integer;
 pub mod laws;
+mod list;
 pub mod names;
 mod number;
 mod special;
@@ -14,6 +15,8 @@ mod special;
 mod tests;
 
 pub use self::form::{
-    AfterPoint, Exponents, Form, HexFloats, Signs, Special, SpecialValue, Specials, Whole, is_form,
+    AfterPoint, Exponents, Form, HexFloats, NameSign, Signs, Special, SpecialValue, Specials,
+    Whole, is_form,
 };
+pub use self::list::read_list_of;
 pub use self::number::{Number, NumberError, parse_number_of, read_number_of};

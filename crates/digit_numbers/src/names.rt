@@ -1,6 +1,6 @@
 //! Names of special values, as forms have them.
 
-use super::form::{Special, SpecialValue, Specials};
+use super::form::{NameSign, Special, SpecialValue, Specials};
 
 /// `inf`, `nan`.
 pub const LOWER_CASE: Specials = Specials {
@@ -59,76 +59,218 @@ pub const YAML_NAMES: Specials = Specials {
     any_case: false,
 };
 
+/// `Inf`, `NaN`.
+pub const R_NAMES: Specials = Specials {
+    names: [
+        CAPITAL_INF,
+        CAPITAL_NAN,
+        ABSENT,
+        ABSENT,
+        ABSENT,
+        ABSENT,
+        ABSENT,
+        ABSENT,
+    ],
+    any_case: false,
+};
+
+/// `inf`, `nan`, in any case.
+pub const SHORT_ANY_CASE: Specials = Specials {
+    any_case: true,
+    ..LOWER_CASE
+};
+
+/// `Infinity`.
+pub const ONLY_INFINITY: Specials = Specials {
+    names: [
+        CAPITAL_INFINITY,
+        ABSENT,
+        ABSENT,
+        ABSENT,
+        ABSENT,
+        ABSENT,
+        ABSENT,
+        ABSENT,
+    ],
+    any_case: false,
+};
+
+/// `INF`, `NaN`. Before the first a minus may be, and before the second no sign.
+pub const XML_NAMES: Specials = Specials {
+    names: [
+        XML_INF,
+        UNSIGNED_CAPITAL_NAN,
+        ABSENT,
+        ABSENT,
+        ABSENT,
+        ABSENT,
+        ABSENT,
+        ABSENT,
+    ],
+    any_case: false,
+};
+
+/// `Infinity`, `NaN`, with the same signs.
+pub const CSHARP_NAMES: Specials = Specials {
+    names: [
+        CSHARP_INFINITY,
+        UNSIGNED_CAPITAL_NAN,
+        ABSENT,
+        ABSENT,
+        ABSENT,
+        ABSENT,
+        ABSENT,
+        ABSENT,
+    ],
+    any_case: false,
+};
+
+/// `##Inf`, `##-Inf`, `##NaN`, without a sign before them.
+pub const EDN_NAMES: Specials = Specials {
+    names: [
+        EDN_INF,
+        EDN_NEGATIVE_INF,
+        EDN_NAN,
+        ABSENT,
+        ABSENT,
+        ABSENT,
+        ABSENT,
+        ABSENT,
+    ],
+    any_case: false,
+};
+
+/// `inf.0`, `nan.0`, in any case, after a sign.
+pub const SCHEME_NAMES: Specials = Specials {
+    names: [
+        SCHEME_INF, SCHEME_NAN, ABSENT, ABSENT, ABSENT, ABSENT, ABSENT, ABSENT,
+    ],
+    any_case: true,
+};
+
 const ABSENT: Special = Special::ABSENT;
 
 const INF: Special = Special {
     name: *b"inf\0\0\0\0\0",
     value: SpecialValue::Infinity,
-    signed: true,
+    sign: NameSign::Either,
+};
+
+const CAPITAL_INF: Special = Special {
+    name: *b"Inf\0\0\0\0\0",
+    ..INF
 };
 
 const INFINITY: Special = Special {
     name: *b"infinity",
     value: SpecialValue::Infinity,
-    signed: true,
+    sign: NameSign::Either,
 };
 
 const CAPITAL_INFINITY: Special = Special {
     name: *b"Infinity",
     value: SpecialValue::Infinity,
-    signed: true,
+    sign: NameSign::Either,
 };
 
 const NAN: Special = Special {
     name: *b"nan\0\0\0\0\0",
     value: SpecialValue::NotANumber,
-    signed: true,
+    sign: NameSign::Either,
 };
 
 const CAPITAL_NAN: Special = Special {
     name: *b"NaN\0\0\0\0\0",
     value: SpecialValue::NotANumber,
-    signed: true,
+    sign: NameSign::Either,
 };
 
 const UNSIGNED_NAN: Special = Special {
     name: *b"nan\0\0\0\0\0",
     value: SpecialValue::NotANumber,
-    signed: false,
+    sign: NameSign::Absent,
 };
 
 const DOT_INF: Special = Special {
     name: *b".inf\0\0\0\0",
     value: SpecialValue::Infinity,
-    signed: true,
+    sign: NameSign::Either,
 };
 
 const DOT_CAPITAL_INF: Special = Special {
     name: *b".Inf\0\0\0\0",
     value: SpecialValue::Infinity,
-    signed: true,
+    sign: NameSign::Either,
 };
 
 const DOT_UPPER_INF: Special = Special {
     name: *b".INF\0\0\0\0",
     value: SpecialValue::Infinity,
-    signed: true,
+    sign: NameSign::Either,
 };
 
 const DOT_NAN: Special = Special {
     name: *b".nan\0\0\0\0",
     value: SpecialValue::NotANumber,
-    signed: false,
+    sign: NameSign::Absent,
 };
 
 const DOT_CAPITAL_NAN: Special = Special {
     name: *b".NaN\0\0\0\0",
     value: SpecialValue::NotANumber,
-    signed: false,
+    sign: NameSign::Absent,
 };
 
 const DOT_UPPER_NAN: Special = Special {
     name: *b".NAN\0\0\0\0",
     value: SpecialValue::NotANumber,
-    signed: false,
+    sign: NameSign::Absent,
+};
+
+const XML_INF: Special = Special {
+    name: *b"INF\0\0\0\0\0",
+    value: SpecialValue::Infinity,
+    sign: NameSign::Minus,
+};
+
+const CSHARP_INFINITY: Special = Special {
+    name: *b"Infinity",
+    value: SpecialValue::Infinity,
+    sign: NameSign::Minus,
+};
+
+const UNSIGNED_CAPITAL_NAN: Special = Special {
+    name: *b"NaN\0\0\0\0\0",
+    value: SpecialValue::NotANumber,
+    sign: NameSign::Absent,
+};
+
+const EDN_INF: Special = Special {
+    name: *b"##Inf\0\0\0",
+    value: SpecialValue::Infinity,
+    sign: NameSign::Absent,
+};
+
+const EDN_NEGATIVE_INF: Special = Special {
+    name: *b"##-Inf\0\0",
+    value: SpecialValue::NegativeInfinity,
+    sign: NameSign::Absent,
+};
+
+const EDN_NAN: Special = Special {
+    name: *b"##NaN\0\0\0",
+    value: SpecialValue::NotANumber,
+    sign: NameSign::Absent,
+};
+
+const SCHEME_INF: Special = Special {
+    name: *b"inf.0\0\0\0",
+    value: SpecialValue::Infinity,
+    sign: NameSign::Required,
+};
+
+const SCHEME_NAN: Special = Special {
+    name: *b"nan.0\0\0\0",
+    value: SpecialValue::NotANumber,
+    sign: NameSign::Required,
 };

@@ -7,17 +7,16 @@ ghost use Rattle.std.specs.Float.{NotNan};
 ghost use Rattle.lexical_format.specs.Word.{separator};
 ghost use Rattle.lexical_digits.specs.Separators.{is_separator};
 ghost use Rattle.digit_floats.specs.Bytes.{stands, is_point, is_mark};
-ghost use Rattle.digit_numbers.specs.Forms.{IsForm, has_hex, hex_form, is_always_float, unprefixed};
+ghost use Rattle.digit_numbers.specs.Forms.{IsForm, has_hex, is_always_float, unprefixed};
 ghost use Rattle.digit_floats.specs.Parts.{IsShort};
 ghost use Rattle.digit_floats.specs.Hexadecimal.{IsHexadecimal};
 ghost use Rattle.digit_numbers.specs.declared.number.Number.TheVariants.{Integer};
-ghost use Rattle.digit_numbers.specs.Numbers.{past_sign, is_negative, is_float, special_here, hex_word_here, hex_word_at, hex_value, hex_stop};
-ghost use Rattle.digit_numbers.specs.Numbers.{plain_at, number_of_at, to_end, with_value, IsNoNan};
-ghost use Rattle.digit_numbers.specs.Numbers.{position, message};
+ghost use Rattle.digit_numbers.specs.Numbers.{past_sign, is_float, special_here, hex_word_here, hex_word_at, hex_value, hex_stop};
+ghost use Rattle.digit_numbers.specs.Numbers.{plain_at, number_of_at, to_end};
 ghost use Rattle.digit_languages.specs.Words.{IsLanguage};
 ghost use Rattle.digit_numbers.specs.Reads.{IsMantissaAt, IsSign};
-ghost use Rattle.digit_numbers.specs.Values.{integer_in, float_in};
-ghost use Rattle.digit_numbers.specs.Specials.{special_at, special_float, name_end};
+ghost use Rattle.digit_numbers.specs.Values.{integer_in, float_in, with_value, IsNoNan, position, message};
+ghost use Rattle.digit_numbers.specs.Specials.{special_at, name_end};
 
 use super::float::{
     has_more_zeros, has_short_zeros, read_float, read_large, read_short_float, round_short_whole,
@@ -25,10 +24,10 @@ use super::float::{
 };
 use super::form::{Form, Special};
 use super::hexadecimal::read_hex;
-use super::integer::{Magnitude, is_zero, read_few, read_integer, unprefixed};
+use super::integer::{is_zero, read_few, read_integer, unprefixed};
 use super::special::read_special;
 use digit_floats::{Float, Mantissa, read_mantissa, read_short_whole, round_integer};
-use digit_languages::Language;
+use digit_languages::{Language, LanguageError, Literal};
 use digit_literals::Integer;
 use lexical_format::NumberFormat;
 use std::error::Error;
@@ -41,7 +40,8 @@ pub enum Number<F> {
         /// Whether a minus is before it: also of `-0`.
         negative: bool,
         magnitude: u128,
-        /// The word by which its digits were read. It has their radix.
+        /// The word by which its digits were read. It has their radix. Of a `0` that begins no
+        /// literal, such as that of `0x`, it is the decimal word.
         word: u128,
     },
     /// The nearest float. `-0.0` is the negative zero, and what is too large is infinite.
@@ -80,7 +80,8 @@ impl<F: Float> Number<F> {
     /// The float, or the one nearest to the integer: `-0` is the negative zero.
     #[inline]
     pub fn to_float(self) -> F
-        ensures { F.value result ≡ float_in F.format F.value self }
+        ensures value { F.value result ≡ float_in F.format F.value self }
+        ensures no_nan { IsNoNan F.value self → NotNan (F.value result) }
     {
         match self {
             Number::Integer {
@@ -236,7 +237,7 @@ fn read_whole<F: Float>(
 
 /// An integer with a sign.
 #[inline(always)]
-fn integer_of<F: Float>(sign: Sign, read: Magnitude) -> Number<F>
+fn integer_of<F: Float>(sign: Sign, read: Literal) -> Number<F>
     ensures { result ≡ Integer sign.is_minus read.value read.word }
 {
     Number::Integer {
@@ -270,25 +271,41 @@ fn read_other<F: Float>(
     let at = sign.end;
     match read_integer(text, language_of(form, sign.is_there), at) {
         Ok(read) => Ok((integer_of(sign, read), read.end)),
-        Err(NumberError::Overflow(over)) if form.whole.may_be_float() && !is_zero(text, at) => {
+        Err(LanguageError::Overflow(over)) if form.whole.may_be_float() && !is_zero(text, at) => {
             let (x, end) = read_large::<F>(text, form.integers.decimal, sign.is_minus, at, over);
             Ok((Number::Float(x), end))
         }
-        Err(error) => Err(error),
+        Err(LanguageError::Overflow(over)) => Err(NumberError::Overflow(over)),
+        Err(LanguageError::Empty(_) | LanguageError::Zero(_)) if is_zero(text, at) => {
+            let zero = Literal {
+                value: 0,
+                word: form.integers.decimal,
+                digits: at,
+                end: at + 1,
+            };
+            Ok((integer_of(sign, zero), zero.end))
+        }
+        Err(LanguageError::Empty(_) | LanguageError::Zero(_)) => Err(NumberError::Empty(at)),
     }
 }
 
 /// [`read_special`], whose form and answer in memory belong to this function.
 #[inline(always)]
-fn special_in(text: &[u8], form: Form, at: usize, is_signed: bool) -> Option<(Special, usize)>
+fn special_in(
+    text: &[u8],
+    form: Form,
+    at: usize,
+    is_signed: bool,
+    is_minus: bool,
+) -> Option<(Special, usize)>
     requires form { IsForm form }
     requires within { at ≤ length text.now }
-    ensures is { MatchOption result (special_at form text.now at is_signed ≡ None)
-        (λ r. special_at form text.now at is_signed ≡ Some r.0) }
+    ensures is { MatchOption result (special_at form text.now at is_signed is_minus ≡ None)
+        (λ r. special_at form text.now at is_signed is_minus ≡ Some r.0) }
     ensures end { IfSome result (λ r. r.1 ≡ name_end form text.now at r.0) }
     ensures within { IfSome result (λ r. (at < r.1) × (r.1 ≤ length text.now)) }
 {
-    match read_special(text, form, at, is_signed) {
+    match read_special(text, form, at, is_signed, is_minus) {
         Some((special, end)) => Some((special, end)),
         None => None,
     }
@@ -297,16 +314,22 @@ fn special_in(text: &[u8], form: Form, at: usize, is_signed: bool) -> Option<(Sp
 /// The special value of a form at a position, if the form has any.
 #[inline(always)]
 #[tactic(auto, unfolding(crate::specs::Specials::special_at))]
-fn special_of(text: &[u8], form: Form, at: usize, is_signed: bool) -> Option<(Special, usize)>
+fn special_of(
+    text: &[u8],
+    form: Form,
+    at: usize,
+    is_signed: bool,
+    is_minus: bool,
+) -> Option<(Special, usize)>
     requires form { IsForm form }
     requires within { at ≤ length text.now }
-    ensures is { MatchOption result (special_at form text.now at is_signed ≡ None)
-        (λ r. special_at form text.now at is_signed ≡ Some r.0) }
+    ensures is { MatchOption result (special_at form text.now at is_signed is_minus ≡ None)
+        (λ r. special_at form text.now at is_signed is_minus ≡ Some r.0) }
     ensures end { IfSome result (λ r. r.1 ≡ name_end form text.now at r.0) }
     ensures within { IfSome result (λ r. (at < r.1) × (r.1 ≤ length text.now)) }
 {
     match form.specials {
-        Some(_) => special_in(text, form, at, is_signed),
+        Some(_) => special_in(text, form, at, is_signed, is_minus),
         None => None,
     }
 }
@@ -432,6 +455,7 @@ fn short_whole<F: Float>(
     whole: Mantissa,
 ) -> Option<(Number<F>, usize)>
     requires form { IsForm form }
+    requires one_mark { form.other_mark ≡ None }
     requires sign { IsSign form text.now start sign }
     requires is { IsShort form.integers.decimal text.now whole }
     requires start { whole.start ≡ sign.end }
@@ -455,8 +479,8 @@ fn short_whole<F: Float>(
 }
 
 /// The integer or decimal float that begins at a start, and the position after it, if it has few
-/// digits, and nothing is rare about it. It is small, so that it is inlined where it is called; what
-/// it leaves is read again by [`read_long`].
+/// digits, and nothing is rare about it. It is small, so that it is inlined where it is called;
+/// what it leaves is read again by [`read_long`].
 #[inline(always)]
 #[tactic(auto, unfolding(crate::specs::Numbers::plain_at))]
 fn read_short<F: Float>(
@@ -475,6 +499,9 @@ fn read_short<F: Float>(
     ensures no_separator { IfSome result (λ _.
         stands (is_separator (separator form.integers.decimal)) text.now sign.end ≡ false) }
 {
+    if form.other_mark.is_some() {
+        return None;
+    }
     let whole = read_some(text, form, sign.end)?;
     if is_whole_end(text, form, whole.whole_end) {
         return short_whole::<F>(text, start, form, sign, whole);
@@ -538,10 +565,10 @@ fn read_rest<F: Float>(
 /// the form's special value there, if there is one, or a hexadecimal float. Otherwise it is the
 /// longest prefix of the rest of the text that is an integer or a decimal float. Only where more
 /// digits follow a first `0` that may not be there, it is that `0`, although more zeros may be a
-/// number: `001` of Python is `0`, and ends at 1. A point or an exponent that is no part of a number
-/// ends it: `1.` and `1e` of JSON are `1`. A number never begins with a separator: of `0_7` of Python
-/// none begins at 1. Requires that `start` is within the text, and that the
-/// form is one ([`is_form`](crate::is_form)).
+/// number: `001` of Python is `0`, and ends at 1. A point or an exponent that is no part of a
+/// number ends it: `1.` and `1e` of JSON are `1`. A number never begins with a separator: of `0_7`
+/// of Python none begins at 1. Requires that `start` is within the text, and that the form is one
+/// ([`is_form`](crate::is_form)).
 ///
 /// ```text
 /// of JSON, `-1.5e3,`: Float(-1500.0), 6      `01`: Integer 0, 1      `.5`: Err(Empty(0))
@@ -564,7 +591,7 @@ pub fn read_number_of<F: Float>(
     ensures end { IfOk result (λ r. (start < r.1) × (r.1 ≤ length text.now)) }
 {
     let sign = read_sign(text, form, start);
-    if let Some((special, end)) = special_of(text, form, sign.end, sign.is_there) {
+    if let Some((special, end)) = special_of(text, form, sign.end, sign.is_there, sign.is_minus) {
         let x = special.value.float::<F>(sign.is_minus);
         return Ok((Number::Float(x), end));
     }

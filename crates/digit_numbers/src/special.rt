@@ -3,6 +3,7 @@
 ghost use Rattle.std.specs.Prelude.{◌≡◌, ◌+◌, ◌<◌, ◌≤◌, ◌&&◌, ◌||◌, if◌then◌else◌, nat_lt};
 ghost use Rattle.std.specs.Prelude.{false, true, length, Some, None, IsTrue, IfSome, MatchOption};
 ghost use Rattle.std.specs.Prelude.{slice_index};
+ghost use Rattle.std.specs.Float.{inf};
 ghost use Rattle.lexical_format.specs.Word.{is_supported};
 ghost use Rattle.lexical_digits.specs.declared.skip.component.Component.TheVariants as components;
 ghost use Rattle.lexical_digits.specs.Separators.{place};
@@ -15,6 +16,18 @@ use super::form::{Form, Special, SpecialValue, Specials};
 use digit_floats::Float;
 use lexical_digits::skip::{Component, Rule};
 
+/// The infinity of a sign.
+#[inline(always)]
+fn infinity<F: Float>(is_negative: bool) -> F
+    ensures { F.value result ≡ inf is_negative }
+{
+    if is_negative {
+        F::infinity().negated()
+    } else {
+        F::infinity()
+    }
+}
+
 impl SpecialValue {
     /// The float that a name stands for, after a minus or without one.
     #[inline(always)]
@@ -22,13 +35,8 @@ impl SpecialValue {
         ensures { F.value result ≡ special_float self is_negative }
     {
         match self {
-            SpecialValue::Infinity => {
-                if is_negative {
-                    F::infinity().negated()
-                } else {
-                    F::infinity()
-                }
-            }
+            SpecialValue::Infinity => infinity::<F>(is_negative),
+            SpecialValue::NegativeInfinity => infinity::<F>(!is_negative),
             SpecialValue::NotANumber => F::not_a_number(),
         }
     }
@@ -94,21 +102,23 @@ fn end_of(text: &[u8], form: Form, at: usize, name: &[u8]) -> Option<usize>
 
 /// Where a special value ends that is at a position, if it is there, and a sign may be before it.
 #[inline(always)]
+#[tactic(auto, unfolding(crate::specs::Specials::is_here))]
 fn special_end(
     text: &[u8],
     form: Form,
     at: usize,
     is_signed: bool,
+    is_minus: bool,
     special: Special,
 ) -> Option<usize>
     requires form { IsForm form }
     requires within { at ≤ length text.now }
-    ensures is { MatchOption result (is_here form text.now at is_signed special ≡ false)
-        (λ end. is_here form text.now at is_signed special ≡ true) }
+    ensures is { MatchOption result (is_here form text.now at is_signed is_minus special ≡ false)
+        (λ end. is_here form text.now at is_signed is_minus special ≡ true) }
     ensures end { IfSome result (λ end. end ≡ name_end form text.now at special) }
     ensures within { IfSome result (λ end. (at < end) × (end ≤ length text.now)) }
 {
-    if (is_signed && !special.signed) || special.name[0] == 0 {
+    if !special.sign.takes(is_signed, is_minus) || special.name[0] == 0 {
         return None;
     }
     end_of(text, form, at, &special.name)
@@ -131,11 +141,17 @@ fn later(special: Special, end: usize, found: Option<(Special, usize)>) -> (Spec
 /// own.
 #[inline(never)]
 #[tactic(auto, unfolding(crate::specs::Specials::special_at))]
-pub fn read_special(text: &[u8], form: Form, at: usize, is_signed: bool) -> Option<(Special, usize)>
+pub fn read_special(
+    text: &[u8],
+    form: Form,
+    at: usize,
+    is_signed: bool,
+    is_minus: bool,
+) -> Option<(Special, usize)>
     requires form { IsForm form }
     requires within { at ≤ length text.now }
-    ensures is { MatchOption result (special_at form text.now at is_signed ≡ None)
-        (λ r. special_at form text.now at is_signed ≡ Some r.0) }
+    ensures is { MatchOption result (special_at form text.now at is_signed is_minus ≡ None)
+        (λ r. special_at form text.now at is_signed is_minus ≡ Some r.0) }
     ensures end { IfSome result (λ r. r.1 ≡ name_end form text.now at r.0) }
     ensures within { IfSome result (λ r. (at < r.1) × (r.1 ≤ length text.now)) }
 {
@@ -145,7 +161,7 @@ pub fn read_special(text: &[u8], form: Form, at: usize, is_signed: bool) -> Opti
     let mut found = None;
     for i in (0..8_usize).rev() {
         let special = specials.names[i];
-        if let Some(end) = special_end(text, form, at, is_signed, special) {
+        if let Some(end) = special_end(text, form, at, is_signed, is_minus, special) {
             found = Some(later(special, end, found));
         }
     }

@@ -10,8 +10,8 @@ use super::forms::{
 };
 use super::names::{ANY_CASE, LOWER_CASE};
 use super::{
-    Exponents, Form, Number, NumberError, Special, SpecialValue, Specials, Whole, is_form,
-    parse_number_of, read_number_of,
+    AfterPoint, Exponents, Form, NameSign, Number, NumberError, Special, SpecialValue, Specials,
+    Whole, is_form, parse_number_of, read_number_of,
 };
 use digit_floats::Marks;
 use digit_languages::Language;
@@ -287,7 +287,8 @@ static GO_PARSE_FLOAT_TAKES: [(&[u8], Value); 12] = [
 ];
 
 /// What Go's `ParseFloat` refuses.
-static GO_PARSE_FLOAT_REFUSES: [&[u8]; 11] = [
+static GO_PARSE_FLOAT_REFUSES: [&[u8]; 12] = [
+    b"0x_.8p1",
     b"-nan",
     b"+NaN",
     b"infinit",
@@ -412,22 +413,26 @@ fn strings_are_floats_as_their_functions_take_them(rt: HostRuntime) {
 }
 
 /// A name of one's own.
-fn special(name: [u8; 8], value: SpecialValue, signed: bool) -> Special {
-    Special {
-        name,
-        value,
-        signed,
-    }
+fn special(name: [u8; 8], value: SpecialValue, sign: NameSign) -> Special {
+    Special { name, value, sign }
 }
 
 /// TOML with names of one's own: the longer one of two is last, and the last two are the same.
 fn own_names() -> Form {
-    let inf = special(*b"inf\0\0\0\0\0", SpecialValue::Infinity, true);
-    let infinite = special(*b"infinite", SpecialValue::Infinity, true);
-    let sign = special(*b"\xe2\x88\x9e\0\0\0\0\0", SpecialValue::Infinity, false);
-    let none = special(*b"n/a\0\0\0\0\0", SpecialValue::NotANumber, false);
-    let first = special(*b"same\0\0\0\0", SpecialValue::NotANumber, true);
-    let second = special(*b"same\0\0\0\0", SpecialValue::Infinity, true);
+    let inf = special(*b"inf\0\0\0\0\0", SpecialValue::Infinity, NameSign::Either);
+    let infinite = special(*b"infinite", SpecialValue::Infinity, NameSign::Either);
+    let sign = special(
+        *b"\xe2\x88\x9e\0\0\0\0\0",
+        SpecialValue::Infinity,
+        NameSign::Absent,
+    );
+    let none = special(
+        *b"n/a\0\0\0\0\0",
+        SpecialValue::NotANumber,
+        NameSign::Absent,
+    );
+    let first = special(*b"same\0\0\0\0", SpecialValue::NotANumber, NameSign::Either);
+    let second = special(*b"same\0\0\0\0", SpecialValue::Infinity, NameSign::Either);
     let no = Special::ABSENT;
     Form {
         specials: Some(Specials {
@@ -452,6 +457,40 @@ fn names_of_ones_own_are_read(rt: HostRuntime) {
         (b"nan", Fault(NumberError::Empty(0)), 0),
     ];
     assert_ends(&rt, own_names(), &rows);
+}
+
+/// Names as XML Schema 1.0, Scheme and EDN have them.
+fn signed_names() -> Form {
+    let minus = special(*b"INF\0\0\0\0\0", SpecialValue::Infinity, NameSign::Minus);
+    let required = special(*b"inf.0\0\0\0", SpecialValue::Infinity, NameSign::Required);
+    let absent = special(
+        *b"##-Inf\0\0",
+        SpecialValue::NegativeInfinity,
+        NameSign::Absent,
+    );
+    let no = Special::ABSENT;
+    Form {
+        specials: Some(Specials {
+            names: [minus, required, absent, no, no, no, no, no],
+            any_case: false,
+        }),
+        ..TOML
+    }
+}
+
+#[test]
+fn a_name_says_which_sign_is_before_it(rt: HostRuntime) {
+    let rows: [(&[u8], Value, usize); 8] = [
+        (b"INF", Real(INFINITE), 3),
+        (b"-INF", Real(-INFINITE), 4),
+        (b"+INF", Fault(NumberError::Empty(1)), 0),
+        (b"inf.0", Fault(NumberError::Empty(0)), 0),
+        (b"+inf.0", Real(INFINITE), 6),
+        (b"-inf.0", Real(-INFINITE), 6),
+        (b"##-Inf", Real(-INFINITE), 6),
+        (b"-##-Inf", Fault(NumberError::Empty(1)), 0),
+    ];
+    assert_ends(&rt, signed_names(), &rows);
 }
 
 #[test]
@@ -526,6 +565,8 @@ fn a_number_begins_with_no_separator(rt: HostRuntime) {
     }
     let read = read_number_of::<f64>(b"_.5", 0, PERL);
     assert!(&rt; read == Err(NumberError::Empty(0)));
+    let read = read_number_of::<f64>(b"0x_.8p1", 0, PERL);
+    assert!(&rt; read == Ok((Number::Float(1.0), 7)));
 }
 
 /// The same of JSON's grammar where an exponent needs a fraction, and where there is none.
@@ -549,6 +590,50 @@ fn exponents_are_where_the_form_has_them(rt: HostRuntime) {
     assert_ends(&rt, Form { exponents, ..JSON }, &NO_EXPONENT_ENDS);
 }
 
+/// The same of JSON's grammar where a point needs no fraction, and is none before an operator.
+static NO_OPERATOR_ENDS: [(&[u8], Value, usize); 5] = [
+    (b"1./x", Int(false, 1), 1),
+    (b"1.'", Int(false, 1), 1),
+    (b"1.;", Real(1.0), 2),
+    (b"1.5/x", Real(1.5), 3),
+    (b"1.e2*x", Real(100.0), 4),
+];
+
+#[test]
+fn a_point_before_an_operator_is_none(rt: HostRuntime) {
+    let form = Form {
+        needs_fraction: false,
+        after_point: AfterPoint::NoOperator,
+        ..JSON
+    };
+    assert_ends(&rt, form, &NO_OPERATOR_ENDS);
+}
+
+/// The same of JSON's grammar where a `d` may mark an exponent too.
+static OTHER_MARK_ENDS: [(&[u8], Value, usize); 7] = [
+    (b"1d5", Real(100000.0), 3),
+    (b"25D-2", Real(0.25), 5),
+    (b"1.5d1;", Real(15.0), 5),
+    (b"2E1", Real(20.0), 3),
+    (b"1d", Int(false, 1), 1),
+    (b"1ed5", Int(false, 1), 1),
+    (b"17", Int(false, 17), 2),
+];
+
+#[test]
+fn an_exponent_may_have_another_mark(rt: HostRuntime) {
+    let form = Form {
+        other_mark: Some(b'd'),
+        ..JSON
+    };
+    assert_ends(&rt, form, &OTHER_MARK_ENDS);
+    let wrong = Form {
+        other_mark: Some(b'x'),
+        ..RUST
+    };
+    assert!(&rt; !is_form(wrong));
+}
+
 #[test]
 fn marks_are_no_other_part_of_a_number(rt: HostRuntime) {
     for (point, exponent) in [
@@ -564,6 +649,12 @@ fn marks_are_no_other_part_of_a_number(rt: HostRuntime) {
     let marks = Marks {
         point: b'_',
         exponent: b'e',
+    };
+    assert!(&rt; is_form(Form { marks, ..JSON }));
+    assert!(&rt; !is_form(Form { marks, ..RUST }));
+    let marks = Marks {
+        point: b'.',
+        exponent: b'X',
     };
     assert!(&rt; is_form(Form { marks, ..JSON }));
     assert!(&rt; !is_form(Form { marks, ..RUST }));

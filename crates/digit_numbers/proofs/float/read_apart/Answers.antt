@@ -1,4 +1,4 @@
-use Rattle.std.proofs.Common.{◌≡◌, ◌<◌, length, arith}
+use Rattle.std.proofs.Common.{◌<◌, length, arith}
 use Rattle.digit_numbers.specs.Numbers.{whole_digits}
 use Rattle.digit_numbers.proofs.Short.{powered_float}
 use Rattle.digit_numbers.proofs.float.read_apart.Goals as goal
@@ -17,5 +17,5 @@ returns-in-Some-clause-is g c =
     let follows = rw is.ends at e.some in
     let marked = rw (is.whole_end, is.ends) at c.requires.marked in
     let allowed = rw places at c.requires.exponents in
-    rw (e.ends, is.ends) (powered_float f text m.start whole pointed c.requires.zeros
+    rw (e.ends, is.ends) (powered_float f text m.start c.requires.one_mark whole pointed c.requires.zeros
     g.F.Float.format c.args.negative _ e.value allowed follows marked)

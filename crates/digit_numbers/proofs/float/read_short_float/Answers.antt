@@ -1,4 +1,4 @@
-use Rattle.std.proofs.Common.{◌≡◌, ◌<◌, length, sym, arith}
+use Rattle.std.proofs.Common.{◌<◌, length, sym, arith}
 use Rattle.digit_numbers.specs.Numbers.{whole_digits, fraction}
 use Rattle.digit_numbers.proofs.Short.{pointed_float}
 use Rattle.digit_numbers.proofs.float.read_short_float.Goals as goal
@@ -18,5 +18,5 @@ returns-in-Some-clause-is g c =
     let zeros = rw (← e.start) at (sym c.if-has_short_zeros.ensures) in
     let point = rw is.whole_end at c.if-has_byte.ensures.is in
     let no_mark = rw is.ends at c.in-Some.ensures.none in
-    rw (← e.start, is.ends) (pointed_float f text m.start whole (λ _. more) zeros
+    rw (← e.start, is.ends) (pointed_float f text m.start c.requires.one_mark whole (λ _. more) zeros
     g.F.Float.format c.args.negative _ c.in-Some.ensures.value (sym point) no_mark)

@@ -9,7 +9,7 @@ returns-clause-value g c =
     let f = c.args.form in
     let text = c.args.text.now in
     let at = c.args.mantissa.start in
-    c.round_parts.ensures (digits_value 10 (exponent f text at)) c.requires.power.value
+    c.round_parts.ensures.value (digits_value 10 (exponent f text at)) c.requires.power.value
     ∙ rw (
       c.requires.is.is.places,
       c.requires.is.integer,

@@ -8,10 +8,10 @@ returns-clause-number g c n end h =
 
 pub returns-clause-integer : goal.returns-clause-integer
 returns-clause-integer g c negative magnitude said end h =
-    (subst (Says c.args.text.now c.args.start c.requires) h
+    (subst (Says c.args.text.now c.args.start c.requires g.F.Float.format) h
     (says c.args.text.now c.args.start c.requires g.F.Float.format)).1
 
 pub returns-clause-none : goal.returns-clause-none
 returns-clause-none g c error end h n =
-    subst (Says c.args.text.now c.args.start c.requires) h
+    subst (Says c.args.text.now c.args.start c.requires g.F.Float.format) h
     (says c.args.text.now c.args.start c.requires g.F.Float.format) end n

@@ -1,8 +1,8 @@
 use Rattle.std.proofs.Common.{refl}
 use Rattle.std.specs.Float.Ieee.{neg}
-use Rattle.digit_numbers.proofs.form.SpecialValue.float.Goals as goal
+use Rattle.digit_numbers.proofs.special.infinity.Goals as goal
 
 pub returns-then-is_negative : goal.returns-then-is_negative
 unfolding neg
 returns-then-is_negative g c =
-    rw (c.negated.ensures, c.infinity.ensures, c.in-Infinity.is, c.if-is_negative.true) refl
+    rw (c.negated.ensures, c.infinity.ensures, c.if-is_negative.true) refl

@@ -1,0 +1,45 @@
+use Rattle.std.proofs.Common.{refl, sym, arith}
+use Rattle.digit_literals.proofs.Lists.{turns_none, turns_next, turns_over}
+use Rattle.digit_numbers.specs.Numbers.{number_of_at}
+use Rattle.digit_numbers.specs.Values.{position, with_value}
+use Rattle.digit_numbers.proofs.list.read_list_of.Goals as goal
+
+pub returns-in-Err-clause-is : goal.returns-in-Err-clause-is
+returns-in-Err-clause-is g c =
+    let f = g.F.Float in
+    rw (c.no_number-end.ensures, c.position.ensures, c.past_blanks-place.ensures.is)
+    (turns_none (with_value f.value) (λ at. number_of_at c.args.form c.args.text.now at f.format) position
+    c.args.gap c.args.text.now c.args.start c.loop-count.count c.loop-count.at
+    c.args.out.now c.loop-count.out c.loop-count.invariant.so (omega arith) c.in-Err.error
+    (rw c.past_blanks-place.ensures.is at c.in-Err.ensures.is))
+
+pub returns-in-Err-next_after-clause-is : goal.returns-in-Err-next_after-clause-is
+returns-in-Err-next_after-clause-is g c =
+    let f = g.F.Float in
+    turns_over (with_value f.value) (λ at. number_of_at c.args.form c.args.text.now at f.format) position
+    c.args.gap c.args.text.now c.args.start c.loop-count.count c.loop-count.at
+    c.args.out.now c.loop-count.out c.loop-count.invariant.so (omega arith) c.in-Ok.read.0
+    c.in-Ok.read.1 c.in-Err-next_after.over
+    (rw c.past_blanks-place.ensures.is at c.in-Ok.ensures.is)
+    (sym c.in-Err-next_after.ensures.is)
+
+pub loop-count-preserved : goal.loop-count-preserved
+loop-count-preserved g c =
+    let f = g.F.Float in
+    record {
+      so = turns_next (with_value f.value) (λ at. number_of_at c.args.form c.args.text.now at f.format) position
+          c.args.gap c.args.text.now c.args.start c.loop-count.count c.loop-count.at
+          c.args.out.now c.loop-count.out c.loop-count.invariant.so (omega arith) c.in-Ok.read.0
+          c.in-Ok.read.1 c.in-Ok-next_after.next
+          (rw c.past_blanks-place.ensures.is at c.in-Ok.ensures.is)
+          (sym c.in-Ok-next_after.ensures.is);
+      onward = omega (
+        arith,
+        c.loop-count.invariant.onward,
+        c.past_blanks-place.ensures.onward,
+        c.in-Ok.ensures.end,
+        c.in-Ok-next_after.ensures.onward,
+      );
+      within = c.in-Ok-next_after.ensures.within;
+      room = refl;
+    }
