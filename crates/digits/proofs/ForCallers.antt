@@ -2,3 +2,4 @@
 pub use Rattle.digit_literals.proofs.ForCallers.{stops, rests, all_is, few_digits_fit, value_is}
 pub use Rattle.digit_literals.proofs.ForCallers.{value_of_both, value_of_pieces, value_more, same_more}
 pub use Rattle.digit_literals.proofs.ForCallers.{dropped, first_digits, first_of_others}
+pub use Rattle.digit_literals.proofs.Lists.{goes_on as list_goes_on}
