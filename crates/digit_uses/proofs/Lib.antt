@@ -1,3 +1,1 @@
-mod Remainders
-mod Tokens
-pub mod Elements
+mod Fields

@@ -1,15 +1,9 @@
 -- A window's size and place, as `1920x1080+0+24`.
 use Rattle.std.specs.Prelude.{ℕ, ◌+◌, ◌-◌, ◌^◌, if◌then◌else◌, List, Result, Ok, Err}
 use Rattle.std.specs.Result.{result_map_both}
-use Rattle.lexical_format.specs.declared.TheConstants.{STANDARD}
-use Rattle.lexical_digits.specs.State.{rule_of}
-use Rattle.lexical_digits.specs.declared.skip.component.Component.TheVariants.{Integer}
-use Rattle.digit_literals.specs.declared.LiteralError.{LiteralError}
-use Rattle.digit_literals.specs.declared.LiteralError.TheVariants as literals
-use Rattle.digit_literals.specs.declared.parse.ParseError.{ParseError}
-use Rattle.digit_literals.specs.declared.parse.ParseError.TheVariants as wholes
-use Rattle.digit_literals.specs.Integers.{integer_at}
-use Rattle.digit_literals.specs.Numbers.{has_byte, to_end}
+use Rattle.digits.specs.LiteralErrors as literals
+use Rattle.digits.specs.ParseErrors as wholes
+use Rattle.digits.specs.Words.{Integer, LiteralError, ParseError, STANDARD, has_byte, integer_at, rule_of, to_end}
 use Rattle.digit_uses.specs.declared.geometry.Geometry.{Geometry}
 use Rattle.digit_uses.specs.declared.geometry.GeometryError.{GeometryError}
 use Rattle.digit_uses.specs.declared.geometry.GeometryError.TheVariants.{NoDigit, TooLarge, Byte}

@@ -1,10 +1,7 @@
-pub mod Arrays
-pub mod Bytes
+pub mod Dates
 pub mod Durations
 pub mod Geometry
-pub mod Groups
 pub mod Lexer
 pub mod Literal
-pub mod Loops
 pub mod Values
 pub mod Lists

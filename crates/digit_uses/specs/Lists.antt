@@ -1,69 +1,45 @@
--- JSON arrays of numbers, from the first element to the last.
-use Rattle.std.specs.Prelude.{◌≡◌, ℕ, ◌+◌, List, [], ◌∷◌, ◌++◌, length, true, false, ⊤, Ok}
+-- JSON arrays of numbers.
+use Rattle.std.specs.Prelude.{ℕ, ◌+◌, ◌==◌, if◌then◌else◌, List, [], length, Result, Ok, Err}
 use Rattle.std.specs.Float.Ieee.{Float}
 use Rattle.digits.specs.Bytes.{BLANKS}
 use Rattle.digits.specs.Forms.{JSON}
-use Rattle.digits.specs.Words.{binary64, Number, has_byte, number_of_at, past_bytes, with_value}
-use Rattle.digit_uses.specs.declared.lists.ListError.{ListError}
-use Rattle.digit_uses.specs.declared.lists.ListError.TheVariants as errors
+use Rattle.digits.specs.Gaps.{COMMAS}
+use Rattle.digits.specs.ListEnds as ends
+use Rattle.digits.specs.Words.{binary64, ListEnd, Number, NumberError, has_byte, list_at, number_of_at, past_bytes, position}
+use Rattle.digit_uses.specs.declared.lists.ArrayError.{ArrayError}
+use Rattle.digit_uses.specs.declared.lists.ArrayError.TheVariants.{Fault, Full}
 
 module _ (text : List ℕ) where
-  -- a number with blanks around it, and where the next byte is
-  pub record IsElement (at : ℕ) (n : Number Float) (next : ℕ) : Type 0 where
-    pub end : ℕ
-    pub is : number_of_at JSON text (past_bytes text at BLANKS) binary64
-        ≡ Ok (with_value (λ x. x) n, end)
-    pub blanks : next ≡ past_bytes text end BLANKS
+  -- the end of the text, if a bracket here ends the array, and nothing follows it
+  abbrev pub closed : ℕ → Result ℕ ArrayError
+  closed at =
+      if has_byte text at 93
+      then if past_bytes text (at + 1) BLANKS == length text then Ok (length text)
+      else Err (Fault (past_bytes text (at + 1) BLANKS))
+      else Err (Fault at)
 
-  -- a bracket here ends the array, and the text
-  pub record Closes (at : ℕ) : Type 0 where
-    pub bracket : has_byte text at 93 ≡ true
-    pub last : past_bytes text (at + 1) BLANKS ≡ length text
+  -- the same of why a list is read no further
+  abbrev pub ended : ListEnd NumberError → Result ℕ ArrayError
+  ended (ends.Over at) = closed at
+  ended (ends.Full at) = Err (Full at)
+  ended (ends.Fault error) = Err (Fault (position error))
 
-  -- the text from an element on is the rest of an array
-  pub data IsRest : ℕ → List (Number Float) → Type 0 where
-    last : (at : ℕ) (n : Number Float) (next : ℕ)
-        → IsElement at n next → Closes next → IsRest at (n ∷ [])
-    more : (at : ℕ) (n : Number Float) (next : ℕ) (others : List (Number Float))
-        → IsElement at n next → has_byte text next 44 ≡ true → IsRest (next + 1) others
-        → IsRest at (n ∷ others)
+  -- the numbers, if the array ends after them
+  abbrev pub if_ended : List (Number Float) → Result ℕ ArrayError
+      → Result (List (Number Float)) ArrayError
+  if_ended numbers (Ok end) = Ok numbers
+  if_ended numbers (Err error) = Err error
 
-  -- after the bracket at the start
-  pub data IsInner : ℕ → List (Number Float) → Type 0 where
-    none : (at : ℕ) → Closes at → IsInner at []
-    some : (at : ℕ) (numbers : List (Number Float)) → has_byte text at 93 ≡ false
-        → IsRest at numbers → IsInner at numbers
+  -- the numbers after the first bracket, if there is room for them
+  abbrev pub inner : ℕ → ℕ → Result (List (Number Float)) ArrayError
+  inner room start =
+      if has_byte text start 93 then if_ended [] (closed start) else
+      let list = list_at (λ at. number_of_at JSON text at binary64) position COMMAS text room start in
+      if_ended list.0 (ended list.1)
 
-  -- the text is an array of these numbers
-  pub record IsArray (numbers : List (Number Float)) : Type 0 where
-    pub bracket : has_byte text (past_bytes text 0 BLANKS) 91 ≡ true
-    pub inner : IsInner (past_bytes text (past_bytes text 0 BLANKS + 1) BLANKS) numbers
-
-  -- with these numbers before it, a rest from here on makes an array
-  abbrev pub Leads : ℕ → List (Number Float) → Type 0
-  Leads at numbers = (rest : List (Number Float)) → IsRest at rest → IsArray (numbers ++ rest)
-
-  -- each array that the text is has a rest from here on
-  pub record HasRest (at : ℕ) : Type 0 where
-    pub rest : List (Number Float)
-    pub is : IsRest at rest
-
-  abbrev pub GoesOn : ℕ → Type 0
-  GoesOn at = (numbers : List (Number Float)) → IsArray numbers → HasRest at
-
-  -- no element is here but one that ends here
-  abbrev pub EndsAt : ℕ → ℕ → Type 0
-  EndsAt at next = (n : Number Float) (other : ℕ) → IsElement at n other → other ≡ next
-
-  -- the text is no array
-  abbrev pub IsNoArray : Type 0
-  IsNoArray = (numbers : List (Number Float)) → IsArray numbers → ⊥
-
-  -- no element is here
-  abbrev pub HasNone : ℕ → Type 0
-  HasNone at = (n : Number Float) (next : ℕ) → IsElement at n next → ⊥
-
-  -- a fault of the text, and none of the memory, means that it is no array
-  abbrev pub IsFault : ListError → Type 0
-  IsFault (errors.Fault at) = IsNoArray
-  IsFault errors.Memory = ⊤
+  -- the numbers of an array that is the text
+  abbrev pub array_of : ℕ → Result (List (Number Float)) ArrayError
+  array_of room =
+      let open_at = past_bytes text 0 BLANKS in
+      if has_byte text open_at 91 then inner room (past_bytes text (open_at + 1) BLANKS)
+      else Err (Fault open_at)

@@ -1,8 +1,7 @@
 -- Rust's integer literals with the name of a type.
 use Rattle.std.specs.Prelude.{◌≡◌, ℕ, ◌-◌, ◌^◌, ◌<◌, ◌≤◌, if◌then◌else◌, List, drop, codes, bytes_eq, Option, Some, None, Ok, Err}
-use Rattle.digit_languages.specs.declared.literal.Literal.{Literal}
-use Rattle.digit_languages.specs.declared.languages.TheConstants.{RUST}
-use Rattle.digit_languages.specs.Literals.{literal_at}
+use Rattle.digits.specs.Languages.{RUST}
+use Rattle.digits.specs.Words.{Literal, literal_at}
 use Rattle.digit_uses.specs.declared.literal.Suffix.{Suffix}
 use Rattle.digit_uses.specs.declared.literal.Suffix.TheVariants.{Absent, U8, U16, U32, U64, U128}
 use Rattle.digit_uses.specs.declared.literal.LiteralFault.{LiteralFault}

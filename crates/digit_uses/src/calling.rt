@@ -1,16 +1,17 @@
 //! The blocks of the page CALLING.md, in its order. `.ci/pages` compares the two.
 #![tactic(auto, unfolding(digits::proofs::Literals::lexical_on_literals))]
 
-ghost use Rattle.std.specs.Prelude.{◌≡◌, ℕ, ◌+◌, ◌-◌, ◌^◌, ◌≤◌, length, Ok, Err, IfOk, IfErr, IfSome, IsTrue, MatchResult};
-ghost use Rattle.digits.specs.Words.{Integer, binary64, digits_between, integer_at, is_supported, literal_at, number_at, parse_at, plain_marks, rule_of, stop, to_end};
+ghost use Rattle.std.specs.Prelude.{◌≡◌, ℕ, ◌+◌, ◌-◌, ◌^◌, ◌<◌, ◌≤◌, length, pos, Ok, Err, IfOk, IfErr, IfSome, IsTrue, MatchResult};
+ghost use Rattle.digits.specs.Words.{Fills, Integer, binary64, digits_between, integer_at, is_supported, list_at, literal_at, literal_position, number_at, number_of_at, parse_at, plain_marks, rule_of, stop, to_end};
 
 use digits::languages::RUST;
 use digits::words::PYTHON_LITERAL;
 use digits::{
-    Component, DECIMAL, DigitSeparatorFlags, FloatError, INTEGER_INTERNAL_DIGIT_SEPARATOR,
-    LanguageError, Literal, LiteralError, NO_FLAGS, NumberFormatBuilder, ParseError, Rule,
-    is_supported, parse_float, parse_number, read_integer_from, read_literal, read_number,
-    read_number_from, stop_from,
+    COMMAS, Component, DECIMAL, DigitSeparatorFlags, FloatError, Form,
+    INTEGER_INTERNAL_DIGIT_SEPARATOR, LanguageError, ListRead, Literal, LiteralError, NO_FLAGS,
+    NumberError, NumberFormatBuilder, ParseError, Rule, STANDARD, forms, is_supported, parse_float,
+    parse_number, read_integer_from, read_list, read_literal, read_number, read_number_from,
+    read_number_of, stop_from,
 };
 use std::alloc::{AllocError, Global};
 
@@ -42,6 +43,16 @@ pub fn read_size(text: &[u8]) -> Result<(u32, u32, usize), LiteralError>
     }
     let (height, end) = read_number_from::<u32>(text, PYTHON_LITERAL, end + 1)?;
     Ok((width, height, end))
+}
+
+/// The ports that a text lists, `80, 443;`, in the front of a slice: how many they are, and why
+/// there are no more.
+pub fn read_ports(text: &[u8], ports: &mut [u16]) -> ListRead<LiteralError>
+    ensures { let port_at = number_at 0 (2 ^ 16 - 1) (rule_of STANDARD Integer) text.now in
+        let list = list_at port_at literal_position COMMAS text.now (length ports.old) 0 in
+        Fills (λ port. pos port) list result ports.old ports.new }
+{
+    read_list::<u16>(text, 0, STANDARD, COMMAS, ports)
 }
 
 /// The literal of Rust that a text begins with, up to `u16::MAX`: `0xff_u8` gives 255, and 5 as
@@ -93,6 +104,22 @@ pub fn underscores(radix: u8) -> Option<u128>
     }
     .build();
     if is_supported(word) { Some(word) } else { None }
+}
+
+/// Numbers of CSS: `+.5e3`, and no `5.`.
+pub const CSS: Form = Form {
+    needs_fraction: true,
+    ..forms::FLOAT
+};
+
+/// The number of CSS that begins at `start`, and where it ends: of `1.5em` 1.5, and 3.
+pub fn read_css(text: &[u8], start: usize) -> Result<(f64, usize), NumberError>
+    requires { start ≤ length text.now }
+    ensures end { IfOk result (λ read. (start < read.1) × (read.1 ≤ length text.now)) }
+    ensures none { IfErr result (λ error. number_of_at CSS text.now start binary64 ≡ Err error) }
+{
+    let (number, end) = read_number_of::<f64>(text, start, CSS)?;
+    Ok((number.to_float(), end))
 }
 
 /// The digits of the integer that a text begins with, at any length, without its separators.

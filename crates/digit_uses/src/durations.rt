@@ -3,7 +3,7 @@
 //!
 //! Proof by hand: 4 lines, an invariant and a measure.
 
-ghost use Rattle.std.specs.Prelude.{◌≡◌, ◌<◌, ◌≤◌, true, length, IfOk, IfErr, IfSome};
+ghost use Rattle.std.specs.Prelude.{◌≡◌, ◌<◌, ◌≤◌, length, IfOk, IfErr, IfSome};
 ghost use Rattle.digit_uses.specs.Durations.{unit_at, IsPart, Sums, IsCause, IsFault};
 
 use digits::words::PYTHON_LITERAL;

@@ -7,8 +7,7 @@
 ghost use Rattle.std.specs.Prelude.{◌≡◌, ◌≤◌, length, IfOk};
 ghost use Rattle.digit_uses.specs.Geometry.{no_number, no_last, field_at, geometry_of};
 
-use digit_literals::{LiteralError, ParseError, parse_number_from, read_number_from};
-use lexical_format::STANDARD;
+use digits::{LiteralError, ParseError, STANDARD, parse_number_from, read_number_from};
 
 /// A size and a place.
 #[derive(Clone, Copy, Debug, PartialEq, Eq)]
@@ -54,7 +53,7 @@ impl From<ParseError> for GeometryError {
 }
 
 /// The field that begins at `start`, and the position after the byte that is to follow it.
-#[tactic(auto, unfolding(lexical_format::proofs::OnLiterals::lexical_on_literals, crate::specs::Geometry::field_at))]
+#[tactic(auto, unfolding(digits::proofs::Literals::lexical_on_literals, crate::specs::Geometry::field_at))]
 fn read_field(text: &[u8], start: usize, mark: u8) -> Result<(u16, usize), GeometryError>
     requires { start ≤ length text.now }
     ensures is { result ≡ field_at text.now start mark }
@@ -69,7 +68,7 @@ fn read_field(text: &[u8], start: usize, mark: u8) -> Result<(u16, usize), Geome
 }
 
 /// The geometry that a text is.
-#[tactic(auto, unfolding(lexical_format::proofs::OnLiterals::lexical_on_literals))]
+#[tactic(auto, unfolding(digits::proofs::Literals::lexical_on_literals))]
 pub fn parse_geometry(text: &[u8]) -> Result<Geometry, GeometryError>
     ensures { result ≡ geometry_of text.now }
 {

@@ -1,153 +1,70 @@
-//! A lexer: the numbers of a line, with spaces or commas between them, read off one `Bytes`.
+//! A lexer of an expression such as `2 * (x + 0x1f) - 1.5e3`: three kinds of tokens, of which
+//! numbers are read by the form of Rust.
 //!
-//! Proof by hand: 17 lines, two invariants and a lemma.
+//! Proof by hand: none.
 
-ghost use Rattle.std.specs.Prelude.{◌≡◌, ◌<◌, ◌≤◌, length, IfOk, IfErr, IfSome, IfNone, MatchOption, IsTrue, slice_index, false};
-ghost use Rattle.lexical_format.specs.Word.{is_supported};
-ghost use Rattle.lexical_digits.specs.State.{rule, rule_of};
-ghost use Rattle.lexical_digits.specs.declared.skip.component.Component.{Component};
-ghost use Rattle.lexical_digits.specs.declared.skip.component.Component.TheVariants.{Integer};
-ghost use Rattle.digit_uses.specs.Lexer.{is_gap, ends_at, AreGaps, IsToken, IsFault, Covers, position_of};
+ghost use Rattle.std.specs.Prelude.{◌≡◌, ◌<◌, ◌≤◌, length, slice_get, Some, Err, IfOk, IfErr, IfSome, MatchOption};
+ghost use Rattle.digits.specs.Words.{binary64, number_of_at, past_bytes};
+ghost use Rattle.digit_uses.specs.Lexer.{IsToken};
 
-use digit_literals::read_digits_of;
-use lexical_digits::iterator::Iter;
-use lexical_digits::skip::{Bytes, Component};
-use std::alloc::{AllocError, Global};
+use digits::forms::RUST;
+use digits::{BLANKS, Number, NumberError, byte_at, name_end, past_bytes, read_number_of};
 
-/// A number, and its span: from its first byte up to the byte after its digits.
-#[derive(Clone, Copy, Debug, PartialEq, Eq)]
-pub struct Token {
-    pub value: u64,
-    pub from: usize,
-    pub to: usize,
+/// What is read at a position.
+#[derive(Clone, Copy, Debug, PartialEq)]
+pub enum Token {
+    Number(Number<f64>),
+    /// Bytes of a name, as `name_end` has them, that begin with no digit.
+    Name,
+    /// Any other byte that is no blank.
+    Sign(u8),
 }
 
-/// Why there is no number: where it would start, and the byte at fault.
-#[derive(Clone, Copy, Debug, PartialEq, Eq)]
-pub enum Fault {
-    /// There is no digit.
-    NoNumber { start: usize, at: usize },
-    /// A byte that is neither a space nor a comma follows the digits.
-    CutOff { start: usize, at: usize },
-    /// With this digit the value is above `u64::MAX`.
-    TooLarge { start: usize, at: usize },
-}
-
-/// Whether a byte separates numbers.
-fn is_gap(byte: u8) -> bool
-    ensures { result ≡ is_gap byte }
-{
-    byte == b' ' || byte == b','
-}
-
-/// Whether a number may end at a position: the line ends there, or a gap follows.
-fn ends_at(line: &[u8], at: usize) -> bool
-    requires { at ≤ length line.now }
-    ensures { result ≡ ends_at line.now at }
-{
-    at == line.len() || is_gap(line[at])
-}
-
-/// The first position from `from` on that holds no gap, or the length.
-fn gaps_end(line: &[u8], from: usize) -> usize
-    requires { from ≤ length line.now }
-    ensures gaps { AreGaps line.now from result }
-    ensures stops { result < length line.now → is_gap (slice_index line.now result) ≡ false }
-{
-    for at in from..line.len() {
-        if !is_gap(line[at]) {
-            return at;
-        }
-    }
-    line.len()
-}
-
-/// The next number from the cursor on, or `None` if only gaps are left. The cursor is then after
-/// it. The counts start at zero for each number.
-pub fn next_number(bytes: &mut Bytes, component: Component) -> Result<Option<Token>, Fault>
-    ensures ok { let s = bytes.old.state in IfOk result (λ token. MatchOption token
-        (AreGaps s.buffer s.cursor (length s.buffer))
-        (IsToken s.buffer (rule component s) s.cursor)) }
-    ensures reached { IfOk result (λ token.
-        IfSome token (λ t. bytes.new.state.cursor ≡ t.to)) }
-    ensures fault { let s = bytes.old.state in
-        IfErr result (IsFault s.buffer (rule component s) s.cursor) }
-    ensures none { IfOk result (λ token. IfNone token (bytes.new.state ≡ bytes.old.state)) }
-    ensures stands { IfErr result (λ fault. bytes.new.state.cursor ≡ position_of fault) }
-    ensures buffer { bytes.new.state.buffer ≡ bytes.old.state.buffer }
-    ensures word { bytes.new.state.word ≡ bytes.old.state.word }
-{
-    let line = bytes.get_buffer();
-    let start = gaps_end(line, bytes.cursor());
-    if start == line.len() {
-        return Ok(None);
-    }
-    bytes.set_cursor(start);
-    bytes.clear_counts();
-    let digits = match read_digits_of(bytes, component, 0) {
-        Ok(digits) => digits,
-        Err(error) => return Err(Fault::TooLarge {
-            start,
-            at: error.at,
-        }),
-    };
-    let to = bytes.cursor();
-    if digits.count == 0 {
-        return Err(Fault::NoNumber { start, at: to });
-    }
-    if !ends_at(line, to) {
-        return Err(Fault::CutOff { start, at: to });
-    }
-    Ok(Some(Token {
-        value: digits.value,
-        from: start,
-        to,
-    }))
-}
-
-/// The numbers of a line up to the first fault.
-#[derive(Drop)]
-pub struct Line {
-    pub tokens: Vec<Token>,
-    /// Where the last of them ends.
+/// A token with its first byte, and the byte after it.
+#[derive(Clone, Copy, Debug, PartialEq)]
+pub struct Lexeme {
+    pub token: Token,
+    pub start: usize,
     pub end: usize,
-    /// What follows there, if it is neither gaps nor a number.
-    pub fault: Option<Fault>,
 }
 
-/// The numbers of a line, in order, up to the first fault.
-#[tactic(auto, using(crate::proofs::Tokens::covers_more))]
-pub fn numbers(alloc: Global, line: &[u8], word: u128) -> Result<Line, AllocError>
-    requires { IsTrue (is_supported word) }
-    ensures tokens { let r = rule_of word Integer in
-        IfOk result (λ n. Covers line.now r 0 n.tokens.items n.end) }
-    ensures end { let r = rule_of word Integer in IfOk result (λ n.
-        MatchOption n.fault (AreGaps line.now n.end (length line.now))
-        (IsFault line.now r n.end)) }
+/// The token at a position that holds a byte, and where it ends.
+#[tactic(auto, unfolding(digits::proofs::Literals::lexical_on_literals))]
+fn token_at(text: &[u8], start: usize, byte: u8) -> Result<(Token, usize), NumberError>
+    requires within { start < length text.now }
+    requires here { slice_get text.now start ≡ Some byte }
+    ensures token { IfOk result (λ read. IsToken text.now start read.0 read.1) }
+    ensures onward { IfOk result (λ read. (start < read.1) × (read.1 ≤ length text.now)) }
+    ensures fault { IfErr result (λ error. number_of_at RUST text.now start binary64 ≡ Err error) }
 {
-    let mut bytes = Bytes::new(line, word);
-    let mut tokens = Vec::new(alloc);
-    let mut end = 0;
-    loop {
-        match next_number(&mut bytes, Component::Integer) {
-            Ok(Some(token)) => {
-                tokens.push(token)?;
-                end = token.to;
-            }
-            Ok(None) => {
-                return Ok(Line {
-                    tokens,
-                    end,
-                    fault: None,
-                });
-            }
-            Err(fault) => {
-                return Ok(Line {
-                    tokens,
-                    end,
-                    fault: Some(fault),
-                });
-            }
-        }
+    if byte.is_ascii_digit() {
+        let (number, end) = read_number_of::<f64>(text, start, RUST)?;
+        return Ok((Token::Number(number), end));
     }
+    let end = name_end(text, start);
+    if end > start {
+        Ok((Token::Name, end))
+    } else {
+        Ok((Token::Sign(byte), start + 1))
+    }
+}
+
+/// The next token from a position on, after blanks; `None` if only blanks are left. An error is why
+/// no number is at a digit.
+pub fn next_token(text: &[u8], at: usize) -> Result<Option<Lexeme>, NumberError>
+    requires { at ≤ length text.now }
+    ensures token { let start = past_bytes text.now at BLANKS in IfOk result (λ next.
+        MatchOption next (start ≡ length text.now)
+        (λ read. (read.start ≡ start) × IsToken text.now start read.token read.end)) }
+    ensures onward { IfOk result (λ next.
+        IfSome next (λ read. (at < read.end) × (read.end ≤ length text.now))) }
+    ensures fault { let start = past_bytes text.now at BLANKS in
+        IfErr result (λ error. number_of_at RUST text.now start binary64 ≡ Err error) }
+{
+    let start = past_bytes(text, at, BLANKS);
+    let Some(byte) = byte_at(text, start) else {
+        return Ok(None);
+    };
+    let (token, end) = token_at(text, start, byte)?;
+    Ok(Some(Lexeme { token, start, end }))
 }

@@ -1,13 +1,13 @@
-//! Rust's integer literals with their suffix: the digits by `digit_languages`, and then the name of
-//! a type, whose greatest value counts.
+//! Rust's integer literals with their suffix: the digits by `read_literal`, and then the name of a
+//! type, whose greatest value counts.
 //!
 //! Proof by hand: none.
 
 ghost use Rattle.std.specs.Prelude.{◌≡◌, IfOk, IfErr};
 ghost use Rattle.digit_uses.specs.Literal.{most_of, suffix_of, IsTyped, IsTypedFault};
 
-use digit_languages::languages::RUST;
-use digit_languages::{LanguageError, Literal, read_literal};
+use digits::languages::RUST;
+use digits::{LanguageError, Literal, read_literal};
 
 /// The type that a literal names.
 #[derive(Clone, Copy, Debug, PartialEq, Eq)]
@@ -68,7 +68,7 @@ fn most_of(suffix: Suffix) -> u128
 
 /// The literal that a text is, up to the name of its type: `1_000_u16` has the value 1000, of which
 /// `u8` is out of range.
-#[tactic(auto, unfolding(lexical_format::proofs::OnLiterals::lexical_on_literals))]
+#[tactic(auto, unfolding(digits::proofs::Literals::lexical_on_literals))]
 pub fn parse_literal(text: &[u8]) -> Result<(Literal, Suffix), LiteralFault>
     ensures ok { IfOk result (λ read. IsTyped text.now read.0 read.1) }
     ensures fault { IfErr result (IsTypedFault text.now) }
