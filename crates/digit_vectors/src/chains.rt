@@ -1,6 +1,6 @@
 //! Chains of std's iterators over the bytes that a component keeps. Each contract names the drain,
 //! which is a filter over the whole buffer. Every call asks that the word is supported. One by
-//! `count` is in `drained` of `digit_uses`.
+//! `count` is in `drained.rt`.
 
 ghost use Rattle.std.specs.Prelude.{◌≡◌, IsTrue, IfOk, None, slice_get, fold, ◌+◌, ◌%◌};
 ghost use Rattle.std.specs.List.{last_or};

@@ -5,6 +5,10 @@
 #[cfg(test)]
 pub mod chains;
 #[cfg(test)]
+pub mod drained;
+#[cfg(test)]
+pub mod ends;
+#[cfg(test)]
 pub mod example;
 #[cfg(test)]
 pub mod slow;

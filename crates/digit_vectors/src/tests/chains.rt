@@ -2,7 +2,7 @@
 
 use super::{INTERNAL, UNFLAGGED};
 use crate::chains::{checksum, kept_at, kept_by_for, kept_bytes, last_kept};
-use digit_uses::drained::length_without_separators;
+use crate::drained::{length_without_separators, without_separators};
 use lexical_format::{
     EXPONENT_INTERNAL_DIGIT_SEPARATOR, FRACTION_INTERNAL_DIGIT_SEPARATOR,
     FRACTION_LEADING_DIGIT_SEPARATOR, SPECIAL_DIGIT_SEPARATOR, is_supported,
@@ -51,4 +51,21 @@ fn a_kept_byte_is_found_by_its_index(rt: HostRuntime) {
     for (index, byte) in [(1, Some(b'a')), (2, Some(b'n')), (3, None)] {
         assert!(rt; kept_at(b"n_a__n", word, index) == byte);
     }
+}
+
+#[test]
+fn a_text_without_its_separators(rt: HostRuntime) -> Result<(), Fail> {
+    assert!(rt; is_supported(UNFLAGGED | INTERNAL));
+    let bytes = without_separators(rt.alloc(), b"1_000_", UNFLAGGED | INTERNAL)?;
+    assert_eq!(rt; bytes.as_slice(), b"1000_".as_slice());
+    Ok(())
+}
+
+#[test]
+fn the_length_of_a_text_without_its_separators(rt: HostRuntime) {
+    assert!(rt; is_supported(UNFLAGGED | INTERNAL));
+    assert_eq!(rt;
+        length_without_separators(b"1_000_", UNFLAGGED | INTERNAL),
+        5
+    );
 }

@@ -1,19 +1,17 @@
 //! The cursor, the byte at it, and what a contiguous part allows.
 
-use super::steps::Part::{Integer, Special, Whole};
+use super::steps::Part::{Integer, Special};
 use super::steps::Step::{
     self, Buffer, Count, Cursor, First, FirstIs, FirstIsCased, FirstIsUncased, IsAtEnd, IsConsumed,
     IsContiguous, Length, MoveTo, Next, Peek, Rest, SizeHint, StepBy, StepOne,
 };
-use super::steps::{ITERATORS, PARTS, assert_goes, assert_part, assert_steps, assert_turns};
+use super::steps::{ITERATORS, PARTS, assert_goes, assert_part, assert_steps};
 use super::{CONSECUTIVE, INTERNAL, LEADING, TRAILING, UNFLAGGED, bytes_of};
 use lexical_digits::iterator::Iter;
 use lexical_digits::skip::{
     Bytes, ExponentDigitsIterator, FractionDigitsIterator, IntegerDigitsIterator,
 };
-use lexical_format::{
-    FRACTION_INTERNAL_DIGIT_SEPARATOR, SPECIAL_DIGIT_SEPARATOR, STANDARD, is_supported,
-};
+use lexical_format::{FRACTION_INTERNAL_DIGIT_SEPARATOR, SPECIAL_DIGIT_SEPARATOR, STANDARD};
 use std::process::Abort;
 
 #[test]

@@ -3,12 +3,6 @@
 use super::steps::{Part, Step, assert_part};
 use super::{CONSECUTIVE, INTERNAL, LEADING, TRAILING, UNFLAGGED, bytes_of};
 use crate::slow::is_kept;
-use digit_literals::laws::flags::more_flags_read_the_same;
-use digit_literals::laws::follows::what_follows_changes_no_number;
-use digit_literals::laws::{
-    first_are_significant, first_go_on, greater_reads_more, outcomes_say, too_large_leaves_the_rest,
-};
-use digit_literals::{FirstDigits, outcomes_differ};
 use digit_script::{Answer, Call, Op, same_answer, same_call, same_op, same_part};
 use lexical_digits::iterator::DigitsIter;
 use lexical_digits::laws::equality::{same_component, same_rule, same_run, same_sight};
@@ -26,7 +20,6 @@ use lexical_digits::stop::{digits_end, more_flags_read_on, what_follows_changes_
 use lexical_format::laws::{constants_are, flags_are_bits, masks_are_flags, words_say};
 use lexical_format::{
     EXPONENT_INTERNAL_DIGIT_SEPARATOR, FRACTION_INTERNAL_DIGIT_SEPARATOR, SPECIAL_DIGIT_SEPARATOR,
-    STANDARD, is_supported,
 };
 use std::process::Abort;
 
@@ -240,30 +233,13 @@ fn equal_values_have_equal_parts(rt: HostRuntime) {
     assert!(rt; small_values_are_told_apart(run, sight));
 }
 
-/// One digit, which is 0.
-const FIRST: FirstDigits = FirstDigits {
-    value: 0,
-    count: 1,
-    dropped: 0,
-};
-
 #[test]
-fn laws_over_definitions_may_be_called(rt: HostRuntime) {
-    let mut bytes = bytes_of(&rt, b"12", UNFLAGGED | INTERNAL);
-    outcomes_differ(&bytes.integer_iter(), 10);
+fn laws_over_definitions_may_be_called(_rt: HostRuntime) {
     digits_end();
     more_flags_read_on();
-    more_flags_read_the_same();
     what_follows_changes_no_stop();
-    what_follows_changes_no_number();
     rest_is_left();
     digits_are_rows();
-    assert!(rt; is_supported(STANDARD));
-    outcomes_say(b"12", STANDARD);
-    greater_reads_more(b"12", STANDARD);
-    too_large_leaves_the_rest();
-    first_are_significant(16, 2, 0xff);
-    first_go_on(10, 1, 9, FIRST, FIRST);
     flags_are_bits();
     masks_are_flags();
     constants_are();

@@ -3,7 +3,7 @@
 use super::steps::Part::{self, Exponent, Fraction, Integer, Whole};
 use super::steps::Step::{Cursor, MoveTo, Next, Peek};
 use super::steps::assert_part;
-use super::{CONSECUTIVE, INTERNAL, UNFLAGGED, bytes_of};
+use super::{CONSECUTIVE, UNFLAGGED, bytes_of};
 use lexical_digits::iterator::{AsBytes, Iter, IterBodies};
 use lexical_digits::skip::Bytes;
 use lexical_format::{

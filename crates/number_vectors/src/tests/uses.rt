@@ -1,27 +1,25 @@
 //! Each use once. The expected values are worked out by hand.
 
-use super::{bytes_of, move_to};
-use digit_languages::{LanguageError, Literal};
-use digit_literals::{LiteralError, TooLarge};
-use digit_script::{Answer, Call, Op, Part};
-use digit_uses::back::try_exponent;
-use digit_uses::calling::{PercentError, read_percent};
-use digit_uses::calls::{make_calls, pass_number};
-use digit_uses::drained::{length_without_separators, without_separators};
-use digit_uses::durations::{Cause, Fault as DurationFault, parse_duration};
-use digit_uses::ends::{Parser, component_end, take_through};
-use digit_uses::figures::{Figures, read_figures};
-use digit_uses::geometry::{Geometry, GeometryError, parse_geometry};
-use digit_uses::groups::{GroupsError, read_groups};
-use digit_uses::lexer::{Fault, Token, numbers};
-use digit_uses::literal::{LiteralFault, Suffix, parse_literal};
-use digit_uses::loops::{count_yielded, yields};
-use digit_uses::onward::{
+use super::bytes_of;
+use crate::calls::{make_calls, pass_number};
+use crate::groups::{GroupsError, read_groups};
+use crate::onward::{
     count_beyond, first_of_both, read_mantissa, read_number, read_past_zeros, read_range, read_wide,
 };
-use digit_uses::remainder::remainder;
-use digit_uses::rest::number_end;
-use digit_uses::validate::{is_integer, validate};
+use crate::remainder::remainder;
+use crate::rest::number_end;
+use digit_languages::{LanguageError, Literal};
+use digit_literals::{LiteralError, TooLarge};
+use digit_numbers::{Number, NumberError};
+use digit_script::{Answer, Call, Op, Part};
+use digit_uses::amounts::parse_amount;
+use digit_uses::calling::{PercentError, read_percent};
+use digit_uses::dates::parse_date;
+use digit_uses::durations::{Cause, Fault as DurationFault, parse_duration};
+use digit_uses::geometry::{Geometry, GeometryError, parse_geometry};
+use digit_uses::lexer::{Lexeme, Token, next_token};
+use digit_uses::literal::{LiteralFault, Suffix, parse_literal};
+use digit_uses::loops::{count_yielded, yields};
 use lexical_digits::iterator::Iter;
 use lexical_digits::skip::{Bytes, Component};
 use lexical_format::words::{
@@ -31,8 +29,6 @@ use lexical_format::{
     EXPONENT_INTERNAL_DIGIT_SEPARATOR, FRACTION_TRAILING_DIGIT_SEPARATOR,
     INTEGER_INTERNAL_DIGIT_SEPARATOR, STANDARD, char_is_digit_const, is_supported,
 };
-use std::alloc::Global;
-use std::process::Abort;
 
 /// Radix 10, with `_` between digits of integer and exponent, and after the fraction.
 const WORD: u128 = (10 << 104)
@@ -117,27 +113,6 @@ fn faults_of_literals_of_rust(rt: HostRuntime) {
     }
 }
 
-/// A text: the zeros before its integer's other digits, how many of those there are, and the end.
-static FIGURES: [(&[u8], usize, usize, usize); 3] = [
-    (b"0_0012_03x", 3, 4, 9),
-    (b"00", 2, 0, 2),
-    (b"_01", 0, 0, 0),
-];
-
-#[test]
-fn figures_without_the_zeros_before_them(rt: HostRuntime) {
-    assert!(rt; is_supported(WORD));
-    for (text, zeros, significant, end) in &FIGURES {
-        let answer = read_figures(text, WORD);
-        let figures = Figures {
-            zeros: *zeros,
-            significant: *significant,
-            end: *end,
-        };
-        assert!(rt; answer == figures, "{text:?}: {answer:?}");
-    }
-}
-
 /// A text, a divisor, and the remainder of its integer.
 static REMAINDERS: [(&[u8], u32, u64); 4] = [
     (b"1_000", 7, 6),
@@ -201,72 +176,6 @@ fn the_first_digits_of_integer_and_fraction(rt: HostRuntime) {
     assert_eq!(rt; first, (1234567890123456789, 3, 27));
 }
 
-#[test]
-fn a_text_without_its_separators(rt: HostRuntime) {
-    assert!(rt; is_supported(WORD));
-    let bytes = without_separators(rt.alloc(), b"1_000_", WORD).expect(&rt, "memory");
-    assert_eq!(rt; bytes.as_slice(), b"1000_".as_slice());
-}
-
-#[test]
-fn the_length_of_a_text_without_its_separators(rt: HostRuntime) {
-    assert!(rt; is_supported(WORD));
-    assert_eq!(rt; length_without_separators(b"1_000_", WORD), 5);
-}
-
-/// A line has these numbers, of which the last ends there, and then this fault.
-fn assert_numbers(
-    rt: &impl Abort,
-    alloc: Global,
-    text: &[u8],
-    tokens: &[Token],
-    (end, fault): (usize, Option<Fault>),
-) {
-    assert!(rt; is_supported(WORD));
-    let read = numbers(alloc, text, WORD).expect(rt, "memory");
-    let is = read.tokens.as_slice() == tokens && read.end == end && read.fault == fault;
-    assert!(rt;
-        is,
-        "{text:?}: {:?}, {}, {:?}",
-        read.tokens, read.end, read.fault
-    );
-}
-
-#[test]
-fn a_line_of_numbers(rt: HostRuntime) {
-    let tokens = [
-        Token {
-            value: 10,
-            from: 1,
-            to: 4,
-        },
-        Token {
-            value: 7,
-            from: 7,
-            to: 8,
-        },
-    ];
-    assert_numbers(&rt, rt.alloc(), b" 1_0,, 7 ", &tokens, (8, None));
-}
-
-/// The second number has no digit before its `_`.
-#[test]
-fn a_line_of_numbers_ends_at_a_fault(rt: HostRuntime) {
-    let fault = Fault::NoNumber { start: 2, at: 2 };
-    let one = Token {
-        value: 1,
-        from: 0,
-        to: 1,
-    };
-    assert_numbers(&rt, rt.alloc(), b"1,_5", &[one], (1, Some(fault)));
-}
-
-#[test]
-fn a_line_of_numbers_may_be_cut_off(rt: HostRuntime) {
-    let fault = Fault::CutOff { start: 0, at: 2 };
-    assert_numbers(&rt, rt.alloc(), b"12y", &[], (0, Some(fault)));
-}
-
 /// A text, the number of digits that is asked for, and the value of the groups.
 static GROUPS: [(&[u8], usize, Result<u64, GroupsError>); 5] = [
     (b"aa:bb:cc", 6, Ok(0xaabbcc)),
@@ -282,24 +191,6 @@ fn groups_of_hexadecimal_digits(rt: HostRuntime) {
         assert!(rt; 1 <= *count && *count <= 16);
         let answer = read_groups(text, *count);
         assert!(rt; answer == *value, "{text:?}: {answer:?}");
-    }
-}
-
-/// A word, a text and a cursor there; the value of the exponent that is read, and the cursor left.
-static EXPONENTS: [(u128, &[u8], usize, Option<u64>, usize); 2] = [
-    (STANDARD, b"12em", 2, None, 2),
-    (RUST_LITERAL, b"E1_0m", 0, Some(10), 4),
-];
-
-#[test]
-fn an_exponent_without_digits_is_not_passed(rt: HostRuntime) {
-    for (word, text, from, value, to) in &EXPONENTS {
-        let mut bytes = bytes_of(&rt, text, *word);
-        move_to(&rt, &mut bytes, *from);
-        let answer = try_exponent(&mut bytes);
-        let cursor = bytes.cursor();
-        let is = answer == Ok(*value) && cursor == *to;
-        assert!(rt; is, "{text:?}: {answer:?}, {cursor}");
     }
 }
 
@@ -339,36 +230,6 @@ fn loops_of_a_callers_own(rt: HostRuntime) {
     assert!(rt; yields(&mut Bytes::new(b"1__2", WORD), b'_'));
 }
 
-/// A text, where its integer ends, and whether a point is there.
-static INTEGER_ENDS: [(&[u8], usize, bool); 2] = [(b"1_000.5", 5, true), (b"12_", 2, false)];
-
-#[test]
-fn the_end_of_an_integer(rt: HostRuntime) {
-    assert!(rt; is_supported(WORD));
-    for (text, end, is_point) in &INTEGER_ENDS {
-        let answer = component_end(text, WORD, Component::Integer);
-        assert!(rt; answer == (*end, *is_point), "{text:?}: {answer:?}");
-    }
-}
-
-#[test]
-fn a_parser_of_a_callers_own(rt: HostRuntime) {
-    let mut parser = Parser {
-        bytes: bytes_of(&rt, b"12x3_", WORD),
-        radix: 10,
-    };
-    assert_eq!(rt; parser.sum_digits(), 6);
-    assert_eq!(rt; parser.bytes.cursor(), 5);
-}
-
-#[test]
-fn a_wanted_byte_is_read_too(rt: HostRuntime) {
-    let mut bytes = bytes_of(&rt, b"12.5", WORD);
-    assert!(rt; take_through(&mut bytes, b'.'));
-    assert_eq!(rt; bytes.cursor(), 3);
-    assert!(rt; !take_through(&mut bytes, b'.'));
-}
-
 #[test]
 #[tactic(auto, unfolding(lexical_digits::specs::Separators::is_digit))]
 fn a_number_in_the_rest_of_a_text_ends(rt: HostRuntime) {
@@ -376,31 +237,6 @@ fn a_number_in_the_rest_of_a_text_ends(rt: HostRuntime) {
     assert!(rt; char_is_digit_const(b'1', 10) && char_is_digit_const(b'3', 10));
     assert_eq!(rt; number_end(b"[12,3]", STANDARD, 1), 3);
     assert_eq!(rt; number_end(b"[12,3]", STANDARD, 4), 5);
-}
-
-/// A text, and whether it is one integer.
-static INTEGERS: [(&[u8], bool); 6] = [
-    (b"1_000", true),
-    (b"", true),
-    (b"1__0", false),
-    (b"_1", false),
-    (b"1_", false),
-    (b"1x", false),
-];
-
-#[test]
-fn a_text_is_one_integer(rt: HostRuntime) {
-    assert!(rt; is_supported(WORD));
-    for (text, is) in &INTEGERS {
-        assert!(rt; is_integer(text, WORD) == *is, "{text:?}");
-    }
-}
-
-#[test]
-fn a_text_that_is_no_integer_has_a_fault(rt: HostRuntime) {
-    assert!(rt; is_supported(WORD));
-    assert_eq!(rt; validate(b"1_0", WORD), Ok(()));
-    assert_eq!(rt; validate(b"12__3", WORD), Err(2));
 }
 
 #[test]
@@ -447,4 +283,69 @@ fn a_field_has_an_error_of_its_own(rt: HostRuntime) {
     assert!(rt; read_percent(b"1_00%", 0) == Ok((100, 4)));
     assert!(rt; read_percent(b"a101", 1) == Err(PercentError::Above100(3)));
     assert!(rt; read_percent(b"a%", 1) == Err(PercentError::NoDigit(1)));
+}
+
+/// A text, and the date that it is.
+static DATES: [(&[u8], Option<(u16, u8, u8)>); 11] = [
+    (b"2026-11-25", Some((2026, 11, 25))),
+    (b"2024-02-29", Some((2024, 2, 29))),
+    (b"2000-02-29", Some((2000, 2, 29))),
+    (b"1900-02-29", None),
+    (b"2023-02-29", None),
+    (b"2026-04-31", None),
+    (b"2026-13-01", None),
+    (b"2026-00-01", None),
+    (b"2026-1-25", None),
+    (b"2026/11/25", None),
+    (b"2026-11-25 ", None),
+];
+
+#[test]
+fn a_date_is_a_day_of_its_year(rt: HostRuntime) {
+    for (text, wanted) in &DATES {
+        let date = parse_date(text).map(|date| (date.year, date.month, date.day));
+        assert!(rt; date == *wanted, "{text:?}: {date:?}");
+    }
+}
+
+#[test]
+fn an_amount_has_a_comma(rt: HostRuntime) {
+    assert!(rt; parse_amount(b"-1.234,56") == Ok(Number::Float(-1234.56)));
+    let whole = parse_amount(b"1.234")
+        .ok()
+        .and_then(|number| number.as_integer::<u16>());
+    assert!(rt; whole == Some(1234));
+    assert!(rt; parse_amount(b"1..2") == Err(NumberError::Invalid(1)));
+    assert!(rt; parse_amount(b"1,5e3") == Err(NumberError::Invalid(3)));
+}
+
+#[test]
+fn an_expression_has_three_kinds_of_tokens(rt: HostRuntime) {
+    let text = b" x_1*0x1f";
+    let name = Lexeme {
+        token: Token::Name,
+        start: 1,
+        end: 4,
+    };
+    let sign = Lexeme {
+        token: Token::Sign(b'*'),
+        start: 4,
+        end: 5,
+    };
+    assert!(rt; next_token(text, 0) == Ok(Some(name)) && next_token(text, 4) == Ok(Some(sign)));
+    match next_token(text, 5) {
+        Ok(
+            Some(
+                Lexeme {
+                    token: Token::Number(number),
+                    start: 5,
+                    end: 9,
+                },
+            ),
+        ) => assert!(rt; number.as_integer::<u8>() == Some(31)),
+        other => assert!(rt; false, "{other:?}"),
+    }
+    assert!(rt; next_token(text, 9) == Ok(None));
+    let large = b"340282366920938463463374607431768211456";
+    assert!(rt; next_token(large, 0) == Err(NumberError::Overflow(38)));
 }

@@ -1,10 +1,7 @@
 //! Literals, and runs of digits, read from every kind of iterator.
 
 use self::Reading::{Reads, Takes};
-use super::steps::Step::{Count, Cursor, MoveTo};
-use super::steps::{Part, assert_part, assert_steps};
 use super::{INTERNAL, LEADING, TRAILING, UNFLAGGED, bytes_of, move_to};
-use crate::spaced::Spaced;
 use digit_literals::equality::{
     clones_are_same, same_digits, same_first_digits, same_literal_error, same_parse_error,
     same_too_large,
@@ -13,7 +10,8 @@ use digit_literals::{
     Digits, FirstDigits, LiteralError, ParseError, TooLarge, pass_digits, read_digits,
     read_digits_of, read_digits_up_to, read_integer, read_integer_from, stop_from, take_digits,
 };
-use lexical_digits::iterator::{DigitsIter, Iter};
+use digit_vectors::spaced::Spaced;
+use lexical_digits::iterator::{DigitsIter, Iter, IterBodies};
 use lexical_digits::skip::Bytes;
 use lexical_digits::skip::Component::{self, Exponent, Fraction, Integer, Special};
 use lexical_format::{
@@ -91,7 +89,7 @@ fn assert_digits<'a, D: DigitsIter<'a>>(
     count: usize,
 ) {
     assert!(rt; is_reading(iter, reading));
-    assert_steps(rt, iter, &[Cursor(cursor), Count(count)]);
+    assert!(rt; iter.cursor() == cursor && iter.current_count() == count);
 }
 
 /// Makes the call on the iterator of a component: whether it answers so.
@@ -263,9 +261,10 @@ fn components_are_passed_one_after_another(rt: HostRuntime) {
     let word = UNFLAGGED | INTERNAL | FRACTION_INTERNAL_DIGIT_SEPARATOR;
     let mut bytes = bytes_of(&rt, b"1_2.5_0e", word);
     assert!(rt; pass_digits(&mut bytes, Integer) == 2);
-    assert_part(&rt, &mut bytes, Part::Whole, &[Cursor(3), MoveTo(4)]);
+    assert!(rt; bytes.cursor() == 3);
+    move_to(&rt, &mut bytes, 4);
     assert!(rt; pass_digits(&mut bytes, Fraction) == 2);
-    assert_part(&rt, &mut bytes, Part::Whole, &[Cursor(7)]);
+    assert!(rt; bytes.cursor() == 7);
 }
 
 /// Reads the integer's digits after a value: whether this comes of it.
@@ -307,7 +306,7 @@ fn digits_are_read_up_to_a_value(rt: HostRuntime) {
         count: 2,
     };
     assert!(rt; read_digits_up_to(&mut bytes, Integer, 0, 99) == Err(too_large));
-    assert_part(&rt, &mut bytes, Part::Whole, &[Cursor(3)]);
+    assert!(rt; bytes.cursor() == 3);
     assert!(rt;
         read_digits_up_to(&mut bytes, Integer, 12, 125)
             == Ok(Digits {

@@ -160,7 +160,7 @@ fn literals_say_where_they_are(rt: HostRuntime) {
 }
 
 /// A language, a text, a start, a greatest value, and why there is no literal.
-static FAULTS: [(Language, &[u8], usize, u128, LanguageError); 9] = [
+static FAULTS: [(Language, &[u8], usize, u128, LanguageError); 11] = [
     (RUST, b"", 0, 9, LanguageError::Empty(0)),
     (RUST, b"12", 2, 9, LanguageError::Empty(2)),
     (RUST, b"_1", 0, 9, LanguageError::Empty(0)),
@@ -170,6 +170,8 @@ static FAULTS: [(Language, &[u8], usize, u128, LanguageError); 9] = [
     (GO, b"0_17", 0, 14, LanguageError::Overflow(3)),
     (PYTHON, b"007", 0, 9, LanguageError::Zero(0)),
     (ZIG, b"a01", 1, 9, LanguageError::Zero(1)),
+    (ZIG, b"0179", 0, 127, LanguageError::Zero(0)),
+    (PYTHON, b"0179", 0, 127, LanguageError::Zero(0)),
 ];
 
 #[test]

@@ -3,9 +3,7 @@
 use digit_floats::round_integer;
 use digit_literals::{BLANKS, byte_at, expect_byte, past_bytes};
 use digit_numbers::{Number, forms, parse_number_of};
-use digit_uses::arrays::{ArrayError, parse_array};
-use digit_uses::lists::{ListError, parse_list};
-use std::num::f64_to_bits_with_nan;
+use digit_uses::lists::{ArrayError, parse_array};
 
 /// The number of JSON that a text is: as an `i64`, and as a float.
 #[tactic(auto, unfolding(lexical_format::proofs::OnLiterals::lexical_on_literals))]
@@ -60,13 +58,10 @@ fn integers_of_128_bits_are_rounded_once(rt: HostRuntime) {
     ];
     for (magnitude, bits) in rows {
         let answer = round_integer::<f64>(false, magnitude);
-        assert!(rt;
-            f64_to_bits_with_nan(answer) == bits,
-            "{magnitude}: {answer}"
-        );
+        assert!(rt; answer.to_bits() == bits, "{magnitude}: {answer}");
         let other = round_integer::<f64>(true, magnitude);
         assert!(rt;
-            f64_to_bits_with_nan(other) == bits + (1 << 63),
+            other.to_bits() == bits + (1 << 63),
             "-{magnitude}: {other}"
         );
     }
@@ -83,20 +78,12 @@ fn bytes_between_numbers(rt: HostRuntime) {
 
 #[test]
 fn an_array_has_numbers_and_commas(rt: HostRuntime) {
-    match parse_array(rt.alloc(), b" [1, -2.5 ,3e1]\n") {
-        Ok(numbers) => {
-            assert!(rt; numbers.len() == 3);
-            assert!(rt; numbers[0].as_integer::<u8>() == Some(1));
-            assert!(rt; numbers[1] == Number::Float(-2.5) && numbers[2] == Number::Float(30.0));
-        }
-        Err(error) => assert!(rt; false, "{error:?}"),
-    }
-    match parse_list(rt.alloc(), b" [1, -2.5 ,3e1]\n") {
-        Ok(numbers) => {
-            assert!(rt; numbers.len() == 3 && numbers[2] == Number::Float(30.0));
-        }
-        Err(error) => assert!(rt; false, "{error:?}"),
-    }
+    let mut numbers = [Number::Float(0.5); 4];
+    assert!(rt; parse_array(b" [1, -2.5 ,3e1]\n", &mut numbers) == Ok(3));
+    assert!(rt; numbers[2] == Number::Float(30.0) && numbers[3] == Number::Float(0.5));
+    assert!(rt; parse_array(b"[ ]", &mut numbers) == Ok(0));
+    assert!(rt; parse_array(b"[1,2,3,4]", &mut numbers) == Ok(4));
+    assert!(rt; parse_array(b"[1,2,3,4,5]", &mut numbers) == Err(ArrayError::Full(9)));
     let rows: [(&[u8], usize); 8] = [
         (b"", 0),
         (b"1", 0),
@@ -108,14 +95,10 @@ fn an_array_has_numbers_and_commas(rt: HostRuntime) {
         (b"[-]", 2),
     ];
     for (text, at) in rows {
-        match parse_array(rt.alloc(), text) {
-            Ok(_) => assert!(rt; false, "{text:?}"),
-            Err(error) => assert!(rt; error == ArrayError::Fault(at), "{text:?}: {error:?}"),
-        }
-        match parse_list(rt.alloc(), text) {
-            Ok(_) => assert!(rt; false, "{text:?}"),
-            Err(ListError::Fault(_)) => {}
-            Err(error) => assert!(rt; false, "{error:?}"),
-        }
+        let answer = parse_array(text, &mut numbers);
+        assert!(rt;
+            answer == Err(ArrayError::Fault(at)),
+            "{text:?}: {answer:?}"
+        );
     }
 }
