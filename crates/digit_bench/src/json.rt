@@ -4,7 +4,6 @@ ghost use Rattle.std.specs.Prelude.{◌≡◌, IsTrue};
 ghost use Rattle.lexical_format.specs.Word.{is_supported};
 ghost use Rattle.digit_floats.specs.Float.{IsDecimal};
 ghost use Rattle.digit_languages.specs.Words.{IsLanguage};
-ghost use Rattle.digit_numbers.specs.Forms.{IsForm};
 
 use super::Outcome;
 use super::format::Format;

@@ -11,6 +11,7 @@ mod json;
 mod languages;
 mod literals;
 mod loops;
+mod mostly;
 mod numbers;
 mod plain;
 mod work;

@@ -3,9 +3,9 @@
 use super::Outcome;
 use super::drains::drained;
 use super::format::Format;
+use super::mostly::read_mostly_standard;
 use super::work::{Task, Work, run, run_each};
 use digit_literals::{count_digits, pass_digits, pass_zeros, read_integer, read_integer_from};
-use digit_uses::mostly::read_mostly_standard;
 use lexical_digits::skip::{Bytes, Component};
 
 /// Reads a literal by `read_integer`. The count is where it ends; nothing where there is none.
