@@ -1,0 +1,706 @@
+/*
+ * digits.h: reading numbers from a text, also with digit separators such as 1_000.
+ *
+ * C99, and C++ from C++11 on. Link libdigits.a or libdigits.so, which `make` makes in this folder.
+ * Of the C library they call only memcpy and memset. They allocate nothing, keep no state and read
+ * no locale, so every call may be made from any thread and from a signal handler.
+ *
+ * Each call is proved against a contract that says its exact outcome. The contracts are in
+ * crates/digits_c/src. What they can't say is what C owes: see "What a caller owes" below.
+ *
+ *
+ * Texts and positions
+ *
+ * A text is a pointer to its bytes and their number, and needs no zero at its end. A position
+ * counts bytes from the start of the text, from 0. It is always of the whole text, also if a call
+ * has a start: to go on after a number, pass the position that the call answered as the next start.
+ * No call answers a pointer.
+ *
+ * digits_read_..   reads the number that begins at a start, and answers where it ends
+ * digits_parse_..  reads a whole text, of which each byte must be part of the number
+ * .._by            the same by a format word: separators, or another radix
+ *
+ * No call skips blanks: a blank is no part of a number.
+ *
+ *
+ * What comes back
+ *
+ * Each call writes the number through its last argument, and answers a digits_outcome:
+ *
+ *     int64_t number;
+ *     digits_outcome outcome = digits_read_i64(text, length, 0, &number);
+ *     if (outcome.status == DIGITS_OK)
+ *         next = outcome.at;    // the position after the number
+ *     else
+ *         fault = outcome.at;   // the position of the byte at fault, or the length: the end
+ *
+ * After a fault the number is 0. It needn't be set before the call. A compiler warns where an
+ * outcome is ignored.
+ *
+ *
+ * What a caller owes
+ *
+ * - `text` points to `length` bytes that don't change during the call, of one object. If `length` is
+ *   0, `text` may be NULL.
+ * - The last argument points to an object of its type, that isn't part of the text. It isn't NULL: a
+ *   call by NULL crashes.
+ * - Floats are rounded to the nearest, and none is flushed to zero, as by default: no fesetround to
+ *   another direction, and no program linked with -ffast-math.
+ *
+ * Everything else has a status: a start after the end, a word that isn't supported, a number that
+ * names no form or language.
+ */
+#ifndef DIGITS_H
+#define DIGITS_H
+
+#include <stdbool.h>
+#include <stddef.h>
+#include <stdint.h>
+
+#ifdef __cplusplus
+extern "C" {
+#endif
+
+/* A compiler warns where what the call answers is ignored, or where its last argument, which has this
+ * number, is NULL. */
+#ifdef __GNUC__
+#define DIGITS_CALL(last) __attribute__((warn_unused_result, nonnull(last)))
+#else
+#define DIGITS_CALL(last)
+#endif
+
+/* ---- what calls take and answer ---- */
+
+/* Where the number ends, or what is at fault. */
+typedef struct digits_outcome {
+    size_t at;       /* the position after the number, or that of the fault */
+    uint32_t status; /* DIGITS_OK, or the kind of the fault */
+} digits_outcome;
+
+/* A format word: radix, separator, and flags that say where separators are dropped. */
+typedef struct digits_word {
+    uint64_t low;
+    uint64_t high;
+} digits_word;
+
+/* An integer literal of a language. */
+typedef struct digits_literal {
+    uint64_t low;   /* the value: low + high * 2^64 */
+    uint64_t high;
+    size_t digits;  /* the position of its first digit, after a prefix such as 0x */
+    uint32_t radix; /* of its digits; 0 if there is no literal */
+} digits_literal;
+
+/* A number of a form: an integer of up to 128 bits, or a float. */
+typedef struct digits_number {
+    double value;     /* the float, or the one nearest to the integer */
+    uint64_t low;     /* an integer's magnitude: low + high * 2^64; 0 of a float */
+    uint64_t high;
+    uint32_t kind;    /* DIGITS_INTEGER, DIGITS_FLOAT, or DIGITS_NONE after a fault */
+    bool is_negative; /* whether a minus is before an integer, also of -0; false of a float */
+} digits_number;
+
+/* Format words with a name are at the end of this file. Each is a value, DIGITS_WORD_.., and an
+ * initializer, DIGITS_INIT_.., for an object that is static too:
+ *
+ *     digits_read_i64_by(text, length, start, DIGITS_WORD_PYTHON_LITERAL, &number)
+ *     static const digits_word UNDERSCORES = DIGITS_INIT_PYTHON_LITERAL;
+ *
+ * A word of your own has a radix from 2 to 36, a separator, or 0 for none, and flags joined by |.
+ * `DIGITS_MAKE_WORD(10, '_', DIGITS_FLAG_INTEGER_INTERNAL)` drops a `_` between two digits. */
+#define DIGITS_MAKE_INIT(radix, separator, flags)                                                   \
+    {(uint64_t)(flags), (uint64_t)(unsigned char)(separator) | (uint64_t)((radix) & 255) << 40}
+#define DIGITS_MAKE_WORD(radix, separator, flags)                                                   \
+    (DIGITS_VALUE DIGITS_MAKE_INIT(radix, separator, flags))
+#ifdef __cplusplus
+#define DIGITS_VALUE digits_word
+#else
+#define DIGITS_VALUE (digits_word)
+#endif
+
+/* what calls answer: from the sources, by c/constants */
+/* The version of this file. */
+#define DIGITS_VERSION 100 /* The version of this library: 10,000 for each major one, 100 for each minor one */
+
+/* What an outcome's status is. */
+#define DIGITS_OK 0 /* The number was read */
+#define DIGITS_EMPTY 1 /* There is no digit, or no number */
+#define DIGITS_OVERFLOW 2 /* The number is too large */
+#define DIGITS_INVALID 3 /* The byte is no part of the number before it */
+#define DIGITS_EMPTY_EXPONENT 4 /* No digit follows the mark of an exponent */
+#define DIGITS_FIRST_ZERO 5 /* The language refuses the first 0 */
+#define DIGITS_TOO_FINE 6 /* A digit after the last place is no zero */
+#define DIGITS_BAD_START 7 /* The start is after the end of the text */
+#define DIGITS_BAD_WORD 8 /* The word isn't supported, or its floats aren't decimal */
+#define DIGITS_BAD_LANGUAGE 9 /* No language has this number */
+#define DIGITS_BAD_FORM 10 /* No form has this number */
+#define DIGITS_BAD_PLACES 11 /* There are more than 38 places */
+#define DIGITS_FULL 12 /* The list goes on, and there is no more room for its numbers */
+
+/* What a number's kind is. */
+#define DIGITS_NONE 0 /* There is no number */
+#define DIGITS_INTEGER 1 /* The number is an integer */
+#define DIGITS_FLOAT 2 /* The number is a float */
+/* end of what c/constants writes */
+
+/* What a status says, in English. */
+static inline const char *digits_message(uint32_t status)
+{
+    switch (status) {
+    case DIGITS_OK: return "a number";
+    case DIGITS_EMPTY: return "no digit";
+    case DIGITS_OVERFLOW: return "too large";
+    case DIGITS_INVALID: return "a byte that is no part of the number";
+    case DIGITS_EMPTY_EXPONENT: return "an exponent without a digit";
+    case DIGITS_FIRST_ZERO: return "a first 0, which the language refuses";
+    case DIGITS_TOO_FINE: return "more places than were asked for";
+    case DIGITS_BAD_START: return "a start after the end of the text";
+    case DIGITS_BAD_WORD: return "a format word that isn't supported";
+    case DIGITS_BAD_LANGUAGE: return "no such language";
+    case DIGITS_BAD_FORM: return "no such form";
+    case DIGITS_BAD_PLACES: return "more than 38 places";
+    case DIGITS_FULL: return "no room for more numbers";
+    default: return "no status of this library";
+    }
+}
+
+/* ---- the library ---- */
+
+/* The version of the library that is linked: DIGITS_VERSION is that of this header. */
+uint32_t digits_version(void);
+
+/* Whether a word is supported: each radix is from 2 to 36, and the separator is none of its digits.
+ * Calls by another word answer DIGITS_BAD_WORD. */
+bool digits_is_supported(digits_word word);
+
+/* ---- integers of a type ----
+ *
+ * Decimal digits, and before them a `-` or a `+` if the type has a sign: `+1` is no uint32_t. First
+ * zeros are digits as any other.
+ *
+ * DIGITS_EMPTY     no digit; `at` is where one would be. digits_parse_.. answers it only if the text
+ *                  ends there, and otherwise DIGITS_INVALID
+ * DIGITS_OVERFLOW  the type hasn't the number; `at` is the first digit with which it is too large
+ * DIGITS_INVALID   of digits_parse_..: the byte at `at` is no part of the number
+ */
+
+DIGITS_CALL(4)
+digits_outcome digits_read_i64(const void *text, size_t length, size_t start, int64_t *number);
+DIGITS_CALL(4)
+digits_outcome digits_read_u64(const void *text, size_t length, size_t start, uint64_t *number);
+DIGITS_CALL(4)
+digits_outcome digits_read_i32(const void *text, size_t length, size_t start, int32_t *number);
+DIGITS_CALL(4)
+digits_outcome digits_read_u32(const void *text, size_t length, size_t start, uint32_t *number);
+
+DIGITS_CALL(3)
+digits_outcome digits_parse_i64(const void *text, size_t length, int64_t *number);
+DIGITS_CALL(3)
+digits_outcome digits_parse_u64(const void *text, size_t length, uint64_t *number);
+DIGITS_CALL(3)
+digits_outcome digits_parse_i32(const void *text, size_t length, int32_t *number);
+DIGITS_CALL(3)
+digits_outcome digits_parse_u32(const void *text, size_t length, uint32_t *number);
+
+/* The same by a word: by DIGITS_WORD_PYTHON_LITERAL `1_000` is 1000. Digits are those of the word's
+ * radix, as by DIGITS_WORD_HEXADECIMAL; no prefix is read.
+ *
+ * DIGITS_BAD_WORD  the word isn't supported; `at` is the start
+ */
+
+DIGITS_CALL(5)
+digits_outcome digits_read_i64_by(const void *text, size_t length, size_t start, digits_word word,
+                                  int64_t *number);
+DIGITS_CALL(5)
+digits_outcome digits_read_u64_by(const void *text, size_t length, size_t start, digits_word word,
+                                  uint64_t *number);
+DIGITS_CALL(5)
+digits_outcome digits_read_i32_by(const void *text, size_t length, size_t start, digits_word word,
+                                  int32_t *number);
+DIGITS_CALL(5)
+digits_outcome digits_read_u32_by(const void *text, size_t length, size_t start, digits_word word,
+                                  uint32_t *number);
+
+DIGITS_CALL(4)
+digits_outcome digits_parse_i64_by(const void *text, size_t length, digits_word word,
+                                   int64_t *number);
+DIGITS_CALL(4)
+digits_outcome digits_parse_u64_by(const void *text, size_t length, digits_word word,
+                                   uint64_t *number);
+DIGITS_CALL(4)
+digits_outcome digits_parse_i32_by(const void *text, size_t length, digits_word word,
+                                   int32_t *number);
+DIGITS_CALL(4)
+digits_outcome digits_parse_u32_by(const void *text, size_t length, digits_word word,
+                                   uint32_t *number);
+
+/* ---- floats ----
+ *
+ * The nearest float, rounded once, of any number of digits: an optional sign, digits with a `.`
+ * before, among or after them, and an exponent after `e` or `E`. No float is too large: 1e999 is
+ * infinite.
+ *
+ * By a form a number ends before what is no part of it: of `1em` digits_read_json and, as strtod,
+ * digits_read_number by DIGITS_FORM_STRTOD read 1, and here it is a fault. So are `inf` and `nan`,
+ * which DIGITS_FORM_STRTOD has.
+ *
+ * DIGITS_EMPTY           no digit; `at` is where the digits end
+ * DIGITS_EMPTY_EXPONENT  no digit follows the mark of the exponent; `at` is where one would be
+ * DIGITS_INVALID         of digits_parse_..: the byte at `at` is no part of the number
+ */
+
+DIGITS_CALL(4)
+digits_outcome digits_read_f64(const void *text, size_t length, size_t start, double *number);
+DIGITS_CALL(4)
+digits_outcome digits_read_f32(const void *text, size_t length, size_t start, float *number);
+
+DIGITS_CALL(3)
+digits_outcome digits_parse_f64(const void *text, size_t length, double *number);
+DIGITS_CALL(3)
+digits_outcome digits_parse_f32(const void *text, size_t length, float *number);
+
+/* The same by a word, whose mantissa and exponent must be decimal; otherwise DIGITS_BAD_WORD. */
+
+DIGITS_CALL(5)
+digits_outcome digits_read_f64_by(const void *text, size_t length, size_t start, digits_word word,
+                                  double *number);
+DIGITS_CALL(5)
+digits_outcome digits_read_f32_by(const void *text, size_t length, size_t start, digits_word word,
+                                  float *number);
+
+DIGITS_CALL(4)
+digits_outcome digits_parse_f64_by(const void *text, size_t length, digits_word word,
+                                   double *number);
+DIGITS_CALL(4)
+digits_outcome digits_parse_f32_by(const void *text, size_t length, digits_word word,
+                                   float *number);
+
+/* ---- decimal numbers as integers, exactly ----
+ *
+ * The number times ten to the power `places`: of 2 places `-12.5` is -1250. Any number of digits; an
+ * exponent isn't read.
+ *
+ * DIGITS_EMPTY       no digit; `at` is where the digits end
+ * DIGITS_OVERFLOW    the type hasn't the number; `at` is the end of the number
+ * DIGITS_TOO_FINE    a digit after the last place is no zero; `at` is the end of the number
+ * DIGITS_INVALID     of digits_parse_..: the byte at `at` is no part of the number
+ * DIGITS_BAD_PLACES  more than 38 places; `at` is the start
+ *
+ * In the calls by a word, `point` is the byte before the fraction, such as '.' or ','. A word whose
+ * separator is a byte such as ',' reads `1,234.50`.
+ */
+
+DIGITS_CALL(5)
+digits_outcome digits_read_scaled_i64(const void *text, size_t length, size_t start, size_t places,
+                                      int64_t *number);
+DIGITS_CALL(4)
+digits_outcome digits_parse_scaled_i64(const void *text, size_t length, size_t places,
+                                       int64_t *number);
+
+DIGITS_CALL(7)
+digits_outcome digits_read_scaled_i64_by(const void *text, size_t length, size_t start,
+                                         size_t places, digits_word word, uint8_t point,
+                                         int64_t *number);
+DIGITS_CALL(6)
+digits_outcome digits_parse_scaled_i64_by(const void *text, size_t length, size_t places,
+                                          digits_word word, uint8_t point, int64_t *number);
+
+/* ---- integer literals of a language ----
+ *
+ * As the language writes them, by a DIGITS_LANGUAGE_..: a prefix that it has, such as `0x`, and
+ * digits with its separators. A sign isn't read, and what follows, such as a suffix, neither.
+ *
+ * DIGITS_EMPTY         no digit; `at` is where one would be
+ * DIGITS_OVERFLOW      more than 128 bits, or 64; `at` is the first digit with which it is too large
+ * DIGITS_FIRST_ZERO    the language refuses the first 0, as Python does in `01`; `at` is the start
+ * DIGITS_BAD_LANGUAGE  no such language; `at` is the start
+ */
+
+DIGITS_CALL(5)
+digits_outcome digits_read_literal(const void *text, size_t length, size_t start, uint32_t language,
+                                   digits_literal *literal);
+DIGITS_CALL(5)
+digits_outcome digits_read_literal_u64(const void *text, size_t length, size_t start,
+                                       uint32_t language, uint64_t *number);
+
+/* ---- numbers of a form ----
+ *
+ * An integer or a float, with its sign, by the grammar of JSON: digits_read_json reads the longest
+ * number of RFC 8259 that begins at the start. An integer above 128 bits is a float.
+ *
+ * DIGITS_EMPTY     no number; `at` is after the sign
+ * DIGITS_INVALID   of digits_parse_..: the byte at `at` is no part of the number
+ */
+
+DIGITS_CALL(4)
+digits_outcome digits_read_json(const void *text, size_t length, size_t start,
+                                digits_number *number);
+DIGITS_CALL(3)
+digits_outcome digits_parse_json(const void *text, size_t length, digits_number *number);
+
+/* The same by another grammar, by a DIGITS_FORM_... By most, special values such as `inf` are floats.
+ *
+ * DIGITS_OVERFLOW  the integer is above 128 bits, and the form has no such float; `at` is the first
+ *                  digit with which it is too large
+ * DIGITS_BAD_FORM  no such form; `at` is the start
+ */
+
+DIGITS_CALL(5)
+digits_outcome digits_read_number(const void *text, size_t length, size_t start, uint32_t form,
+                                  digits_number *number);
+DIGITS_CALL(4)
+digits_outcome digits_parse_number(const void *text, size_t length, uint32_t form,
+                                   digits_number *number);
+
+/* The integer that a number is, as a value of a type: whether it is an integer, and the type has it.
+ * Otherwise 0 is written. `-0` is the integer 0; `1.0` and `1e2` are floats. */
+
+DIGITS_CALL(2)
+bool digits_as_i64(const digits_number *number, int64_t *integer);
+DIGITS_CALL(2)
+bool digits_as_u64(const digits_number *number, uint64_t *integer);
+
+/* ---- lists of numbers ----
+ *
+ * The numbers of a list, one call for all of them: as many as there is `room` for are written into
+ * `numbers`, and `count` is set to how many there were. The other places aren't touched. With no
+ * room `numbers` may be NULL.
+ *
+ * `between` is the byte between two numbers, such as ',' or ';'. Blanks may be around it: spaces,
+ * tabs, line feeds, carriage returns. Two of these bytes stand for more:
+ * ' '   any blanks, which may also follow the last number
+ * '\n'  a line feed, which may also follow the last number, with other blanks around it
+ *
+ *     double numbers[64];
+ *     size_t count, at = 0;
+ *     digits_outcome list;
+ *     do {
+ *         list = digits_read_f64_list(text, length, at, ',', numbers, 64, &count);
+ *         use(numbers, count);
+ *         at = list.at;
+ *     } while (list.status == DIGITS_FULL);
+ *
+ * DIGITS_OK    the list is over; `at` is after it and the blanks that follow
+ * DIGITS_FULL  there is no more room; `at` is where the list goes on
+ * Any other    no number is where one has to be, by this fault at `at`; those before it were read
+ */
+
+DIGITS_CALL(7)
+digits_outcome digits_read_i64_list(const void *text, size_t length, size_t start, uint8_t between,
+                                    int64_t *numbers, size_t room, size_t *count);
+DIGITS_CALL(7)
+digits_outcome digits_read_u64_list(const void *text, size_t length, size_t start, uint8_t between,
+                                    uint64_t *numbers, size_t room, size_t *count);
+DIGITS_CALL(7)
+digits_outcome digits_read_f64_list(const void *text, size_t length, size_t start, uint8_t between,
+                                    double *numbers, size_t room, size_t *count);
+
+/* ---- what calls are told ---- */
+
+/* names: from the sources, by c/constants */
+/* Forms: docs/reference/digit_numbers.md. */
+#define DIGITS_FORM_LITERAL 0 /* The shortest form of source code: decimal digits without a sign, with a point or an exponent if they are a float */
+#define DIGITS_FORM_FLOAT 1 /* The shortest form of data: the same with a sign, and every number is a float */
+#define DIGITS_FORM_RUST 2 /* Rust's source code */
+#define DIGITS_FORM_C89 3 /* C's source code before C99, and C++'s before C++14 */
+#define DIGITS_FORM_C99 4 /* C's source code from C99 up to C18, and Objective-C's */
+#define DIGITS_FORM_CXX14 5 /* C++14's source code */
+#define DIGITS_FORM_CXX17 6 /* C++17 and C23 */
+#define DIGITS_FORM_JAVA 7 /* Java's source code */
+#define DIGITS_FORM_KOTLIN 8 /* Kotlin's source code */
+#define DIGITS_FORM_SCALA 9 /* Scala's source code from 2.13 on */
+#define DIGITS_FORM_CSHARP 10 /* C#'s source code, by its standard */
+#define DIGITS_FORM_FSHARP 11 /* F#'s source code, by its grammar */
+#define DIGITS_FORM_GO 12 /* Go's source code */
+#define DIGITS_FORM_D 13 /* D's source code */
+#define DIGITS_FORM_SWIFT 14 /* Swift's source code */
+#define DIGITS_FORM_NIM 15 /* Nim's source code */
+#define DIGITS_FORM_ADA 16 /* Ada's source code, except for a radix and # */
+#define DIGITS_FORM_COBOL 17 /* COBOL's source code */
+#define DIGITS_FORM_FORTRAN 18 /* Fortran's source code */
+#define DIGITS_FORM_PYTHON 19 /* Python's source code */
+#define DIGITS_FORM_RUBY 20 /* Ruby's source code, except for the prefix 0d */
+#define DIGITS_FORM_PERL 21 /* Perl's source code, except for floats in binary or octal digits */
+#define DIGITS_FORM_PHP 22 /* PHP's source code */
+#define DIGITS_FORM_LUA 23 /* Lua's source code */
+#define DIGITS_FORM_R 24 /* R's source code */
+#define DIGITS_FORM_OCTAVE 25 /* Octave's source code */
+#define DIGITS_FORM_MATLAB 26 /* MATLAB's source code, by its documentation: as Octave's, without separators */
+#define DIGITS_FORM_ERLANG 27 /* Erlang's source code, except for a radix and # */
+#define DIGITS_FORM_ELIXIR 28 /* Elixir's source code */
+#define DIGITS_FORM_HASKELL 29 /* Haskell's source code, except for hexadecimal floats, which are an extension */
+#define DIGITS_FORM_SCHEME 30 /* Scheme's source code, as Guile reads it, except for ratios, #x, and the marks s, f, l */
+#define DIGITS_FORM_OCAML 31 /* OCaml's source code */
+#define DIGITS_FORM_JAVASCRIPT 32 /* JavaScript's source code, in strict mode and in modules */
+#define DIGITS_FORM_COFFEESCRIPT 33 /* CoffeeScript's source code */
+#define DIGITS_FORM_POSTGRESQL 34 /* PostgreSQL's SQL up to version 15 */
+#define DIGITS_FORM_SQLITE 35 /* SQLite's SQL before 3.46 */
+#define DIGITS_FORM_MYSQL 36 /* The SQL of MySQL and MariaDB */
+#define DIGITS_FORM_HCL 37 /* HCL, of Terraform */
+#define DIGITS_FORM_JSON 38 /* JSON, by RFC 8259 */
+#define DIGITS_FORM_JSON_FLOATS 39 /* JSON, of which every number is a float */
+#define DIGITS_FORM_JSON5 40 /* JSON5 */
+#define DIGITS_FORM_YAML 41 /* YAML, by the core schema of 1.2 */
+#define DIGITS_FORM_TOML 42 /* TOML 1.0 */
+#define DIGITS_FORM_EDN 43 /* EDN, and Clojure's source code, except for ratios, a radix and r, and M */
+#define DIGITS_FORM_CSS 44 /* CSS, and SVG 2 */
+#define DIGITS_FORM_DECIMAL 45 /* A decimal number without an exponent: XML Schema's decimal, COBOL's NUMVAL, amounts in CSV */
+#define DIGITS_FORM_XML_DOUBLE 46 /* XML Schema's double and float, by 1.0; by 1.1 +INF is one too */
+#define DIGITS_FORM_PROMETHEUS 47 /* Prometheus, and OpenMetrics */
+#define DIGITS_FORM_PROTOBUF_TEXT 48 /* Protobuf's text format */
+#define DIGITS_FORM_STRTOD 49 /* What C's strtod takes in the locale C, without blanks before it and what follows nan in parentheses */
+#define DIGITS_FORM_FROM_CHARS 50 /* What C++'s std::from_chars takes for a float, without what follows nan in parentheses */
+#define DIGITS_FORM_RUST_PARSE 51 /* What Rust's str::parse::<f64> takes */
+#define DIGITS_FORM_PYTHON_FLOAT 52 /* What Python's float takes, without blanks around it and digits beyond ASCII */
+#define DIGITS_FORM_JAVA_PARSE_DOUBLE 53 /* What Java's Double.parseDouble takes, without blanks around it and a suffix such as d */
+#define DIGITS_FORM_GO_PARSE_FLOAT 54 /* What Go's strconv.ParseFloat takes */
+#define DIGITS_FORM_CSHARP_PARSE 55 /* What C#'s double.Parse takes, as Mono has it, without blanks around it */
+#define DIGITS_FORM_RUBY_FLOAT 56 /* What Ruby's Float takes, without blanks around it */
+#define DIGITS_FORM_LUA_TONUMBER 57 /* What Lua's tonumber takes, without blanks around it */
+#define DIGITS_FORM_JAVASCRIPT_NUMBER 58 /* What JavaScript's Number takes, without blanks around it */
+#define DIGITS_FORM_JAVASCRIPT_PARSE_FLOAT 59 /* What JavaScript's parseFloat takes, without blanks before it */
+#define DIGITS_FORM_POSTGRESQL_NUMERIC 60 /* What PostgreSQL's ::numeric takes up to version 15, without blanks around it */
+#define DIGITS_FORM_FORTRAN_READ 61 /* What Fortran's read takes by the edit descriptor F, without blanks */
+#define DIGITS_FORM_STR2DOUBLE 62 /* What Octave's and MATLAB's str2double take for a real number, without blanks */
+
+/* Languages of literals: docs/RULES.md. */
+#define DIGITS_LANGUAGE_RUST 0
+#define DIGITS_LANGUAGE_CXX14 1
+#define DIGITS_LANGUAGE_PYTHON 2
+#define DIGITS_LANGUAGE_GO 3
+#define DIGITS_LANGUAGE_JAVA 4
+#define DIGITS_LANGUAGE_CSHARP 5
+#define DIGITS_LANGUAGE_JAVASCRIPT 6
+#define DIGITS_LANGUAGE_KOTLIN 7
+#define DIGITS_LANGUAGE_SWIFT 8
+#define DIGITS_LANGUAGE_RUBY 9
+#define DIGITS_LANGUAGE_PERL 10
+#define DIGITS_LANGUAGE_PHP 11
+#define DIGITS_LANGUAGE_JULIA 12
+#define DIGITS_LANGUAGE_OCAML 13
+#define DIGITS_LANGUAGE_FSHARP 14
+#define DIGITS_LANGUAGE_HASKELL 15
+#define DIGITS_LANGUAGE_ZIG 16
+#define DIGITS_LANGUAGE_ELIXIR 17
+#define DIGITS_LANGUAGE_TOML 18
+#define DIGITS_LANGUAGE_JSON_NUMBER 19
+#define DIGITS_LANGUAGE_DIGITS 20
+#define DIGITS_LANGUAGE_HEX_DIGITS 21
+#define DIGITS_LANGUAGE_C 22
+#define DIGITS_LANGUAGE_SCALA 23
+#define DIGITS_LANGUAGE_ERLANG 24
+#define DIGITS_LANGUAGE_D 25
+
+/* Flags of a format word: where a component drops separators. */
+#define DIGITS_FLAG_INTEGER_INTERNAL UINT64_C(0x100000000)
+#define DIGITS_FLAG_FRACTION_INTERNAL UINT64_C(0x200000000)
+#define DIGITS_FLAG_EXPONENT_INTERNAL UINT64_C(0x400000000)
+#define DIGITS_FLAG_INTEGER_LEADING UINT64_C(0x800000000)
+#define DIGITS_FLAG_FRACTION_LEADING UINT64_C(0x1000000000)
+#define DIGITS_FLAG_EXPONENT_LEADING UINT64_C(0x2000000000)
+#define DIGITS_FLAG_INTEGER_TRAILING UINT64_C(0x4000000000)
+#define DIGITS_FLAG_FRACTION_TRAILING UINT64_C(0x8000000000)
+#define DIGITS_FLAG_EXPONENT_TRAILING UINT64_C(0x10000000000)
+#define DIGITS_FLAG_INTEGER_CONSECUTIVE UINT64_C(0x20000000000)
+#define DIGITS_FLAG_FRACTION_CONSECUTIVE UINT64_C(0x40000000000)
+#define DIGITS_FLAG_EXPONENT_CONSECUTIVE UINT64_C(0x80000000000)
+#define DIGITS_FLAG_SPECIAL UINT64_C(0x100000000000)
+
+/* Format words with a name: docs/RULES.md. */
+#define DIGITS_INIT_STANDARD {UINT64_C(0x0), UINT64_C(0xa0000000000)}
+#define DIGITS_WORD_STANDARD (DIGITS_VALUE DIGITS_INIT_STANDARD)
+#define DIGITS_INIT_HEXADECIMAL {UINT64_C(0x0), UINT64_C(0x100000000000)}
+#define DIGITS_WORD_HEXADECIMAL (DIGITS_VALUE DIGITS_INIT_HEXADECIMAL)
+#define DIGITS_INIT_HEXADECIMAL_FLOAT {UINT64_C(0x0), UINT64_C(0xa00100000000000)}
+#define DIGITS_WORD_HEXADECIMAL_FLOAT (DIGITS_VALUE DIGITS_INIT_HEXADECIMAL_FLOAT)
+#define DIGITS_INIT_OCTAL {UINT64_C(0x0), UINT64_C(0x80000000000)}
+#define DIGITS_WORD_OCTAL (DIGITS_VALUE DIGITS_INIT_OCTAL)
+#define DIGITS_INIT_BINARY {UINT64_C(0x0), UINT64_C(0x20000000000)}
+#define DIGITS_WORD_BINARY (DIGITS_VALUE DIGITS_INIT_BINARY)
+#define DIGITS_INIT_RUST_LITERAL {UINT64_C(0xfe700000000), UINT64_C(0xa000000005f)}
+#define DIGITS_WORD_RUST_LITERAL (DIGITS_VALUE DIGITS_INIT_RUST_LITERAL)
+#define DIGITS_INIT_RUST_HEX_LITERAL {UINT64_C(0x24900000000), UINT64_C(0x10000000005f)}
+#define DIGITS_WORD_RUST_HEX_LITERAL (DIGITS_VALUE DIGITS_INIT_RUST_HEX_LITERAL)
+#define DIGITS_INIT_RUST_OCTAL_LITERAL {UINT64_C(0x24900000000), UINT64_C(0x8000000005f)}
+#define DIGITS_WORD_RUST_OCTAL_LITERAL (DIGITS_VALUE DIGITS_INIT_RUST_OCTAL_LITERAL)
+#define DIGITS_INIT_RUST_BINARY_LITERAL {UINT64_C(0x24900000000), UINT64_C(0x2000000005f)}
+#define DIGITS_WORD_RUST_BINARY_LITERAL (DIGITS_VALUE DIGITS_INIT_RUST_BINARY_LITERAL)
+#define DIGITS_INIT_CXX14_LITERAL {UINT64_C(0x700000000), UINT64_C(0xa0000000027)}
+#define DIGITS_WORD_CXX14_LITERAL (DIGITS_VALUE DIGITS_INIT_CXX14_LITERAL)
+#define DIGITS_INIT_CXX14_HEX_LITERAL {UINT64_C(0x700000000), UINT64_C(0xa00100000000027)}
+#define DIGITS_WORD_CXX14_HEX_LITERAL (DIGITS_VALUE DIGITS_INIT_CXX14_HEX_LITERAL)
+#define DIGITS_INIT_CXX14_OCTAL_LITERAL {UINT64_C(0x100000000), UINT64_C(0x80000000027)}
+#define DIGITS_WORD_CXX14_OCTAL_LITERAL (DIGITS_VALUE DIGITS_INIT_CXX14_OCTAL_LITERAL)
+#define DIGITS_INIT_CXX14_BINARY_LITERAL {UINT64_C(0x100000000), UINT64_C(0x20000000027)}
+#define DIGITS_WORD_CXX14_BINARY_LITERAL (DIGITS_VALUE DIGITS_INIT_CXX14_BINARY_LITERAL)
+#define DIGITS_INIT_PYTHON_LITERAL {UINT64_C(0x700000000), UINT64_C(0xa000000005f)}
+#define DIGITS_WORD_PYTHON_LITERAL (DIGITS_VALUE DIGITS_INIT_PYTHON_LITERAL)
+#define DIGITS_INIT_PYTHON_HEX_LITERAL {UINT64_C(0x900000000), UINT64_C(0x10000000005f)}
+#define DIGITS_WORD_PYTHON_HEX_LITERAL (DIGITS_VALUE DIGITS_INIT_PYTHON_HEX_LITERAL)
+#define DIGITS_INIT_PYTHON_OCTAL_LITERAL {UINT64_C(0x900000000), UINT64_C(0x8000000005f)}
+#define DIGITS_WORD_PYTHON_OCTAL_LITERAL (DIGITS_VALUE DIGITS_INIT_PYTHON_OCTAL_LITERAL)
+#define DIGITS_INIT_PYTHON_BINARY_LITERAL {UINT64_C(0x900000000), UINT64_C(0x2000000005f)}
+#define DIGITS_WORD_PYTHON_BINARY_LITERAL (DIGITS_VALUE DIGITS_INIT_PYTHON_BINARY_LITERAL)
+#define DIGITS_INIT_TOML {UINT64_C(0x700000000), UINT64_C(0xa000000005f)}
+#define DIGITS_WORD_TOML (DIGITS_VALUE DIGITS_INIT_TOML)
+#define DIGITS_INIT_TOML_HEX {UINT64_C(0x100000000), UINT64_C(0x10000000005f)}
+#define DIGITS_WORD_TOML_HEX (DIGITS_VALUE DIGITS_INIT_TOML_HEX)
+#define DIGITS_INIT_TOML_OCTAL {UINT64_C(0x100000000), UINT64_C(0x8000000005f)}
+#define DIGITS_WORD_TOML_OCTAL (DIGITS_VALUE DIGITS_INIT_TOML_OCTAL)
+#define DIGITS_INIT_TOML_BINARY {UINT64_C(0x100000000), UINT64_C(0x2000000005f)}
+#define DIGITS_WORD_TOML_BINARY (DIGITS_VALUE DIGITS_INIT_TOML_BINARY)
+#define DIGITS_INIT_JAVA_LITERAL {UINT64_C(0xe0700000000), UINT64_C(0xa000000005f)}
+#define DIGITS_WORD_JAVA_LITERAL (DIGITS_VALUE DIGITS_INIT_JAVA_LITERAL)
+#define DIGITS_INIT_JAVA_HEX_LITERAL {UINT64_C(0xe0700000000), UINT64_C(0xa0010000000005f)}
+#define DIGITS_WORD_JAVA_HEX_LITERAL (DIGITS_VALUE DIGITS_INIT_JAVA_HEX_LITERAL)
+#define DIGITS_INIT_JAVA_OCTAL_LITERAL {UINT64_C(0x20100000000), UINT64_C(0x8000000005f)}
+#define DIGITS_WORD_JAVA_OCTAL_LITERAL (DIGITS_VALUE DIGITS_INIT_JAVA_OCTAL_LITERAL)
+#define DIGITS_INIT_JAVA_BINARY_LITERAL {UINT64_C(0x20100000000), UINT64_C(0x2000000005f)}
+#define DIGITS_WORD_JAVA_BINARY_LITERAL (DIGITS_VALUE DIGITS_INIT_JAVA_BINARY_LITERAL)
+#define DIGITS_INIT_CSHARP_LITERAL {UINT64_C(0xe0700000000), UINT64_C(0xa000000005f)}
+#define DIGITS_WORD_CSHARP_LITERAL (DIGITS_VALUE DIGITS_INIT_CSHARP_LITERAL)
+#define DIGITS_INIT_CSHARP_HEX_LITERAL {UINT64_C(0x20900000000), UINT64_C(0x10000000005f)}
+#define DIGITS_WORD_CSHARP_HEX_LITERAL (DIGITS_VALUE DIGITS_INIT_CSHARP_HEX_LITERAL)
+#define DIGITS_INIT_CSHARP_BINARY_LITERAL {UINT64_C(0x20900000000), UINT64_C(0x2000000005f)}
+#define DIGITS_WORD_CSHARP_BINARY_LITERAL (DIGITS_VALUE DIGITS_INIT_CSHARP_BINARY_LITERAL)
+#define DIGITS_INIT_GO_LITERAL {UINT64_C(0x700000000), UINT64_C(0xa000000005f)}
+#define DIGITS_WORD_GO_LITERAL (DIGITS_VALUE DIGITS_INIT_GO_LITERAL)
+#define DIGITS_INIT_GO_HEX_LITERAL {UINT64_C(0xf00000000), UINT64_C(0xa0010000000005f)}
+#define DIGITS_WORD_GO_HEX_LITERAL (DIGITS_VALUE DIGITS_INIT_GO_HEX_LITERAL)
+#define DIGITS_INIT_GO_OCTAL_LITERAL {UINT64_C(0x900000000), UINT64_C(0x8000000005f)}
+#define DIGITS_WORD_GO_OCTAL_LITERAL (DIGITS_VALUE DIGITS_INIT_GO_OCTAL_LITERAL)
+#define DIGITS_INIT_GO_BINARY_LITERAL {UINT64_C(0x900000000), UINT64_C(0x2000000005f)}
+#define DIGITS_WORD_GO_BINARY_LITERAL (DIGITS_VALUE DIGITS_INIT_GO_BINARY_LITERAL)
+#define DIGITS_INIT_JAVASCRIPT_LITERAL {UINT64_C(0x700000000), UINT64_C(0xa000000005f)}
+#define DIGITS_WORD_JAVASCRIPT_LITERAL (DIGITS_VALUE DIGITS_INIT_JAVASCRIPT_LITERAL)
+#define DIGITS_INIT_JAVASCRIPT_HEX_LITERAL {UINT64_C(0x100000000), UINT64_C(0x10000000005f)}
+#define DIGITS_WORD_JAVASCRIPT_HEX_LITERAL (DIGITS_VALUE DIGITS_INIT_JAVASCRIPT_HEX_LITERAL)
+#define DIGITS_INIT_JAVASCRIPT_OCTAL_LITERAL {UINT64_C(0x100000000), UINT64_C(0x8000000005f)}
+#define DIGITS_WORD_JAVASCRIPT_OCTAL_LITERAL (DIGITS_VALUE DIGITS_INIT_JAVASCRIPT_OCTAL_LITERAL)
+#define DIGITS_INIT_JAVASCRIPT_BINARY_LITERAL {UINT64_C(0x100000000), UINT64_C(0x2000000005f)}
+#define DIGITS_WORD_JAVASCRIPT_BINARY_LITERAL (DIGITS_VALUE DIGITS_INIT_JAVASCRIPT_BINARY_LITERAL)
+#define DIGITS_INIT_KOTLIN_LITERAL {UINT64_C(0xe0700000000), UINT64_C(0xa000000005f)}
+#define DIGITS_WORD_KOTLIN_LITERAL (DIGITS_VALUE DIGITS_INIT_KOTLIN_LITERAL)
+#define DIGITS_INIT_KOTLIN_HEX_LITERAL {UINT64_C(0x20100000000), UINT64_C(0x10000000005f)}
+#define DIGITS_WORD_KOTLIN_HEX_LITERAL (DIGITS_VALUE DIGITS_INIT_KOTLIN_HEX_LITERAL)
+#define DIGITS_INIT_KOTLIN_BINARY_LITERAL {UINT64_C(0x20100000000), UINT64_C(0x2000000005f)}
+#define DIGITS_WORD_KOTLIN_BINARY_LITERAL (DIGITS_VALUE DIGITS_INIT_KOTLIN_BINARY_LITERAL)
+#define DIGITS_INIT_SWIFT_LITERAL {UINT64_C(0xfc700000000), UINT64_C(0xa000000005f)}
+#define DIGITS_WORD_SWIFT_LITERAL (DIGITS_VALUE DIGITS_INIT_SWIFT_LITERAL)
+#define DIGITS_INIT_SWIFT_HEX_LITERAL {UINT64_C(0xfc700000000), UINT64_C(0xa0010000000005f)}
+#define DIGITS_WORD_SWIFT_HEX_LITERAL (DIGITS_VALUE DIGITS_INIT_SWIFT_HEX_LITERAL)
+#define DIGITS_INIT_SWIFT_OCTAL_LITERAL {UINT64_C(0x24100000000), UINT64_C(0x8000000005f)}
+#define DIGITS_WORD_SWIFT_OCTAL_LITERAL (DIGITS_VALUE DIGITS_INIT_SWIFT_OCTAL_LITERAL)
+#define DIGITS_INIT_SWIFT_BINARY_LITERAL {UINT64_C(0x24100000000), UINT64_C(0x2000000005f)}
+#define DIGITS_WORD_SWIFT_BINARY_LITERAL (DIGITS_VALUE DIGITS_INIT_SWIFT_BINARY_LITERAL)
+#define DIGITS_INIT_OCTAVE_LITERAL {UINT64_C(0xfc700000000), UINT64_C(0xa000000005f)}
+#define DIGITS_WORD_OCTAVE_LITERAL (DIGITS_VALUE DIGITS_INIT_OCTAVE_LITERAL)
+#define DIGITS_INIT_OCTAVE_HEX_LITERAL {UINT64_C(0x24100000000), UINT64_C(0x10000000005f)}
+#define DIGITS_WORD_OCTAVE_HEX_LITERAL (DIGITS_VALUE DIGITS_INIT_OCTAVE_HEX_LITERAL)
+#define DIGITS_INIT_OCTAVE_BINARY_LITERAL {UINT64_C(0x24100000000), UINT64_C(0x2000000005f)}
+#define DIGITS_WORD_OCTAVE_BINARY_LITERAL (DIGITS_VALUE DIGITS_INIT_OCTAVE_BINARY_LITERAL)
+#define DIGITS_INIT_RUBY_LITERAL {UINT64_C(0x700000000), UINT64_C(0xa000000005f)}
+#define DIGITS_WORD_RUBY_LITERAL (DIGITS_VALUE DIGITS_INIT_RUBY_LITERAL)
+#define DIGITS_INIT_RUBY_HEX_LITERAL {UINT64_C(0x100000000), UINT64_C(0x10000000005f)}
+#define DIGITS_WORD_RUBY_HEX_LITERAL (DIGITS_VALUE DIGITS_INIT_RUBY_HEX_LITERAL)
+#define DIGITS_INIT_RUBY_OCTAL_LITERAL {UINT64_C(0x100000000), UINT64_C(0x8000000005f)}
+#define DIGITS_WORD_RUBY_OCTAL_LITERAL (DIGITS_VALUE DIGITS_INIT_RUBY_OCTAL_LITERAL)
+#define DIGITS_INIT_RUBY_BINARY_LITERAL {UINT64_C(0x100000000), UINT64_C(0x2000000005f)}
+#define DIGITS_WORD_RUBY_BINARY_LITERAL (DIGITS_VALUE DIGITS_INIT_RUBY_BINARY_LITERAL)
+#define DIGITS_INIT_PERL_LITERAL {UINT64_C(0xff700000000), UINT64_C(0xa000000005f)}
+#define DIGITS_WORD_PERL_LITERAL (DIGITS_VALUE DIGITS_INIT_PERL_LITERAL)
+#define DIGITS_INIT_PERL_HEX_LITERAL {UINT64_C(0xfcf00000000), UINT64_C(0xa0010000000005f)}
+#define DIGITS_WORD_PERL_HEX_LITERAL (DIGITS_VALUE DIGITS_INIT_PERL_HEX_LITERAL)
+#define DIGITS_INIT_PERL_OCTAL_LITERAL {UINT64_C(0xfcf00000000), UINT64_C(0xa0008000000005f)}
+#define DIGITS_WORD_PERL_OCTAL_LITERAL (DIGITS_VALUE DIGITS_INIT_PERL_OCTAL_LITERAL)
+#define DIGITS_INIT_PERL_BINARY_LITERAL {UINT64_C(0xfcf00000000), UINT64_C(0xa0002000000005f)}
+#define DIGITS_WORD_PERL_BINARY_LITERAL (DIGITS_VALUE DIGITS_INIT_PERL_BINARY_LITERAL)
+#define DIGITS_INIT_PHP_LITERAL {UINT64_C(0x700000000), UINT64_C(0xa000000005f)}
+#define DIGITS_WORD_PHP_LITERAL (DIGITS_VALUE DIGITS_INIT_PHP_LITERAL)
+#define DIGITS_INIT_PHP_HEX_LITERAL {UINT64_C(0x100000000), UINT64_C(0x10000000005f)}
+#define DIGITS_WORD_PHP_HEX_LITERAL (DIGITS_VALUE DIGITS_INIT_PHP_HEX_LITERAL)
+#define DIGITS_INIT_PHP_OCTAL_LITERAL {UINT64_C(0x100000000), UINT64_C(0x8000000005f)}
+#define DIGITS_WORD_PHP_OCTAL_LITERAL (DIGITS_VALUE DIGITS_INIT_PHP_OCTAL_LITERAL)
+#define DIGITS_INIT_PHP_BINARY_LITERAL {UINT64_C(0x100000000), UINT64_C(0x2000000005f)}
+#define DIGITS_WORD_PHP_BINARY_LITERAL (DIGITS_VALUE DIGITS_INIT_PHP_BINARY_LITERAL)
+#define DIGITS_INIT_JULIA_LITERAL {UINT64_C(0x300000000), UINT64_C(0xa000000005f)}
+#define DIGITS_WORD_JULIA_LITERAL (DIGITS_VALUE DIGITS_INIT_JULIA_LITERAL)
+#define DIGITS_INIT_JULIA_HEX_LITERAL {UINT64_C(0x300000000), UINT64_C(0xa0010000000005f)}
+#define DIGITS_WORD_JULIA_HEX_LITERAL (DIGITS_VALUE DIGITS_INIT_JULIA_HEX_LITERAL)
+#define DIGITS_INIT_JULIA_OCTAL_LITERAL {UINT64_C(0x100000000), UINT64_C(0x8000000005f)}
+#define DIGITS_WORD_JULIA_OCTAL_LITERAL (DIGITS_VALUE DIGITS_INIT_JULIA_OCTAL_LITERAL)
+#define DIGITS_INIT_JULIA_BINARY_LITERAL {UINT64_C(0x100000000), UINT64_C(0x2000000005f)}
+#define DIGITS_WORD_JULIA_BINARY_LITERAL (DIGITS_VALUE DIGITS_INIT_JULIA_BINARY_LITERAL)
+#define DIGITS_INIT_D_LITERAL {UINT64_C(0xfe700000000), UINT64_C(0xa000000005f)}
+#define DIGITS_WORD_D_LITERAL (DIGITS_VALUE DIGITS_INIT_D_LITERAL)
+#define DIGITS_INIT_D_HEX_LITERAL {UINT64_C(0xfef00000000), UINT64_C(0xa0010000000005f)}
+#define DIGITS_WORD_D_HEX_LITERAL (DIGITS_VALUE DIGITS_INIT_D_HEX_LITERAL)
+#define DIGITS_INIT_D_BINARY_LITERAL {UINT64_C(0x24900000000), UINT64_C(0x2000000005f)}
+#define DIGITS_WORD_D_BINARY_LITERAL (DIGITS_VALUE DIGITS_INIT_D_BINARY_LITERAL)
+#define DIGITS_INIT_OCAML_LITERAL {UINT64_C(0xfd700000000), UINT64_C(0xa000000005f)}
+#define DIGITS_WORD_OCAML_LITERAL (DIGITS_VALUE DIGITS_INIT_OCAML_LITERAL)
+#define DIGITS_INIT_OCAML_HEX_LITERAL {UINT64_C(0xfd700000000), UINT64_C(0xa0010000000005f)}
+#define DIGITS_WORD_OCAML_HEX_LITERAL (DIGITS_VALUE DIGITS_INIT_OCAML_HEX_LITERAL)
+#define DIGITS_INIT_OCAML_OCTAL_LITERAL {UINT64_C(0x24100000000), UINT64_C(0x8000000005f)}
+#define DIGITS_WORD_OCAML_OCTAL_LITERAL (DIGITS_VALUE DIGITS_INIT_OCAML_OCTAL_LITERAL)
+#define DIGITS_INIT_OCAML_BINARY_LITERAL {UINT64_C(0x24100000000), UINT64_C(0x2000000005f)}
+#define DIGITS_WORD_OCAML_BINARY_LITERAL (DIGITS_VALUE DIGITS_INIT_OCAML_BINARY_LITERAL)
+#define DIGITS_INIT_FSHARP_LITERAL {UINT64_C(0xe0700000000), UINT64_C(0xa000000005f)}
+#define DIGITS_WORD_FSHARP_LITERAL (DIGITS_VALUE DIGITS_INIT_FSHARP_LITERAL)
+#define DIGITS_INIT_FSHARP_HEX_LITERAL {UINT64_C(0x20100000000), UINT64_C(0x10000000005f)}
+#define DIGITS_WORD_FSHARP_HEX_LITERAL (DIGITS_VALUE DIGITS_INIT_FSHARP_HEX_LITERAL)
+#define DIGITS_INIT_FSHARP_OCTAL_LITERAL {UINT64_C(0x20100000000), UINT64_C(0x8000000005f)}
+#define DIGITS_WORD_FSHARP_OCTAL_LITERAL (DIGITS_VALUE DIGITS_INIT_FSHARP_OCTAL_LITERAL)
+#define DIGITS_INIT_FSHARP_BINARY_LITERAL {UINT64_C(0x20100000000), UINT64_C(0x2000000005f)}
+#define DIGITS_WORD_FSHARP_BINARY_LITERAL (DIGITS_VALUE DIGITS_INIT_FSHARP_BINARY_LITERAL)
+#define DIGITS_INIT_HASKELL_LITERAL {UINT64_C(0xe0700000000), UINT64_C(0xa000000005f)}
+#define DIGITS_WORD_HASKELL_LITERAL (DIGITS_VALUE DIGITS_INIT_HASKELL_LITERAL)
+#define DIGITS_INIT_HASKELL_HEX_LITERAL {UINT64_C(0xe0f00000000), UINT64_C(0xa0010000000005f)}
+#define DIGITS_WORD_HASKELL_HEX_LITERAL (DIGITS_VALUE DIGITS_INIT_HASKELL_HEX_LITERAL)
+#define DIGITS_INIT_HASKELL_OCTAL_LITERAL {UINT64_C(0x20900000000), UINT64_C(0x8000000005f)}
+#define DIGITS_WORD_HASKELL_OCTAL_LITERAL (DIGITS_VALUE DIGITS_INIT_HASKELL_OCTAL_LITERAL)
+#define DIGITS_INIT_HASKELL_BINARY_LITERAL {UINT64_C(0x20900000000), UINT64_C(0x2000000005f)}
+#define DIGITS_WORD_HASKELL_BINARY_LITERAL (DIGITS_VALUE DIGITS_INIT_HASKELL_BINARY_LITERAL)
+#define DIGITS_INIT_SCALA_LITERAL {UINT64_C(0xe0700000000), UINT64_C(0xa000000005f)}
+#define DIGITS_WORD_SCALA_LITERAL (DIGITS_VALUE DIGITS_INIT_SCALA_LITERAL)
+#define DIGITS_INIT_SCALA_HEX_LITERAL {UINT64_C(0x20100000000), UINT64_C(0x10000000005f)}
+#define DIGITS_WORD_SCALA_HEX_LITERAL (DIGITS_VALUE DIGITS_INIT_SCALA_HEX_LITERAL)
+#define DIGITS_INIT_ZIG_LITERAL {UINT64_C(0x700000000), UINT64_C(0xa000000005f)}
+#define DIGITS_WORD_ZIG_LITERAL (DIGITS_VALUE DIGITS_INIT_ZIG_LITERAL)
+#define DIGITS_INIT_ZIG_HEX_LITERAL {UINT64_C(0x700000000), UINT64_C(0xa0010000000005f)}
+#define DIGITS_WORD_ZIG_HEX_LITERAL (DIGITS_VALUE DIGITS_INIT_ZIG_HEX_LITERAL)
+#define DIGITS_INIT_ZIG_OCTAL_LITERAL {UINT64_C(0x100000000), UINT64_C(0x8000000005f)}
+#define DIGITS_WORD_ZIG_OCTAL_LITERAL (DIGITS_VALUE DIGITS_INIT_ZIG_OCTAL_LITERAL)
+#define DIGITS_INIT_ZIG_BINARY_LITERAL {UINT64_C(0x100000000), UINT64_C(0x2000000005f)}
+#define DIGITS_WORD_ZIG_BINARY_LITERAL (DIGITS_VALUE DIGITS_INIT_ZIG_BINARY_LITERAL)
+#define DIGITS_INIT_ADA_LITERAL {UINT64_C(0x700000000), UINT64_C(0xa000000005f)}
+#define DIGITS_WORD_ADA_LITERAL (DIGITS_VALUE DIGITS_INIT_ADA_LITERAL)
+#define DIGITS_INIT_ADA_HEX_LITERAL {UINT64_C(0x700000000), UINT64_C(0xa0010000000005f)}
+#define DIGITS_WORD_ADA_HEX_LITERAL (DIGITS_VALUE DIGITS_INIT_ADA_HEX_LITERAL)
+#define DIGITS_INIT_ADA_OCTAL_LITERAL {UINT64_C(0x700000000), UINT64_C(0xa0008000000005f)}
+#define DIGITS_WORD_ADA_OCTAL_LITERAL (DIGITS_VALUE DIGITS_INIT_ADA_OCTAL_LITERAL)
+#define DIGITS_INIT_ADA_BINARY_LITERAL {UINT64_C(0x700000000), UINT64_C(0xa0002000000005f)}
+#define DIGITS_WORD_ADA_BINARY_LITERAL (DIGITS_VALUE DIGITS_INIT_ADA_BINARY_LITERAL)
+#define DIGITS_INIT_ELIXIR_LITERAL {UINT64_C(0x700000000), UINT64_C(0xa000000005f)}
+#define DIGITS_WORD_ELIXIR_LITERAL (DIGITS_VALUE DIGITS_INIT_ELIXIR_LITERAL)
+#define DIGITS_INIT_ELIXIR_HEX_LITERAL {UINT64_C(0x100000000), UINT64_C(0x10000000005f)}
+#define DIGITS_WORD_ELIXIR_HEX_LITERAL (DIGITS_VALUE DIGITS_INIT_ELIXIR_HEX_LITERAL)
+#define DIGITS_INIT_ELIXIR_OCTAL_LITERAL {UINT64_C(0x100000000), UINT64_C(0x8000000005f)}
+#define DIGITS_WORD_ELIXIR_OCTAL_LITERAL (DIGITS_VALUE DIGITS_INIT_ELIXIR_OCTAL_LITERAL)
+#define DIGITS_INIT_ELIXIR_BINARY_LITERAL {UINT64_C(0x100000000), UINT64_C(0x2000000005f)}
+#define DIGITS_WORD_ELIXIR_BINARY_LITERAL (DIGITS_VALUE DIGITS_INIT_ELIXIR_BINARY_LITERAL)
+#define DIGITS_INIT_ERLANG_LITERAL {UINT64_C(0x700000000), UINT64_C(0xa000000005f)}
+#define DIGITS_WORD_ERLANG_LITERAL (DIGITS_VALUE DIGITS_INIT_ERLANG_LITERAL)
+#define DIGITS_INIT_ERLANG_HEX_LITERAL {UINT64_C(0x100000000), UINT64_C(0x10000000005f)}
+#define DIGITS_WORD_ERLANG_HEX_LITERAL (DIGITS_VALUE DIGITS_INIT_ERLANG_HEX_LITERAL)
+#define DIGITS_INIT_ERLANG_OCTAL_LITERAL {UINT64_C(0x100000000), UINT64_C(0x8000000005f)}
+#define DIGITS_WORD_ERLANG_OCTAL_LITERAL (DIGITS_VALUE DIGITS_INIT_ERLANG_OCTAL_LITERAL)
+#define DIGITS_INIT_ERLANG_BINARY_LITERAL {UINT64_C(0x100000000), UINT64_C(0x2000000005f)}
+#define DIGITS_WORD_ERLANG_BINARY_LITERAL (DIGITS_VALUE DIGITS_INIT_ERLANG_BINARY_LITERAL)
+/* end of what c/constants writes */
+
+#ifdef __cplusplus
+}
+#endif
+
+#endif

@@ -1,0 +1,237 @@
+// digits.hpp: digits.h for C++17. Texts are std::string_view, and what a call answers is one value.
+//
+//     if (auto n = digits::read<int64_t>(text, start)) {
+//         use(*n);
+//         start = n.at; // the position after the number
+//     } else {
+//         fail(n.message(), n.at); // the position of the byte at fault
+//     }
+//
+// digits.h says what each call reads, its faults, and what a caller owes. No call here throws or
+// allocates.
+#ifndef DIGITS_HPP
+#define DIGITS_HPP
+
+#include "digits.h"
+
+#include <optional>
+#include <string_view>
+#include <type_traits>
+
+namespace digits {
+
+using word = digits_word;
+
+/// A number and where it ends, or what is at fault.
+template <typename T>
+struct [[nodiscard]] result {
+    T value;              // 0 after a fault
+    std::size_t at;       // the position after the number, or that of the fault
+    std::uint32_t status; // DIGITS_OK, or the kind of the fault
+
+    explicit operator bool() const noexcept { return status == DIGITS_OK; }
+    const T &operator*() const noexcept { return value; }
+    const T *operator->() const noexcept { return &value; }
+    T value_or(T other) const noexcept { return *this ? value : other; }
+    std::optional<T> optional() const noexcept
+    {
+        return *this ? std::optional<T>(value) : std::nullopt;
+    }
+    const char *message() const noexcept { return digits_message(status); }
+};
+
+/// A number of a form: an integer of up to 128 bits, or a float.
+struct number : digits_number {
+    bool is_integer() const noexcept { return kind == DIGITS_INTEGER; }
+    bool is_float() const noexcept { return kind == DIGITS_FLOAT; }
+    std::optional<std::int64_t> as_i64() const noexcept
+    {
+        std::int64_t integer;
+        return digits_as_i64(this, &integer) ? std::optional<std::int64_t>(integer) : std::nullopt;
+    }
+    std::optional<std::uint64_t> as_u64() const noexcept
+    {
+        std::uint64_t integer;
+        return digits_as_u64(this, &integer) ? std::optional<std::uint64_t>(integer) : std::nullopt;
+    }
+};
+
+namespace detail {
+
+// The type of digits.h that has the same values: int64_t for long and for long long.
+template <typename T>
+using same = std::conditional_t<
+    std::is_floating_point_v<T>, T,
+    std::conditional_t<sizeof(T) == 8, std::conditional_t<std::is_signed_v<T>, int64_t, uint64_t>,
+                       std::conditional_t<std::is_signed_v<T>, int32_t, uint32_t>>>;
+
+// The calls of digits.h by their type.
+template <typename T>
+struct calls;
+#define DIGITS_CALLS(type, name)                                                                    \
+    template <>                                                                                     \
+    struct calls<type> {                                                                            \
+        static constexpr auto read = digits_read_##name;                                            \
+        static constexpr auto parse = digits_parse_##name;                                          \
+        static constexpr auto read_by = digits_read_##name##_by;                                    \
+        static constexpr auto parse_by = digits_parse_##name##_by;                                  \
+    };
+DIGITS_CALLS(int64_t, i64)
+DIGITS_CALLS(uint64_t, u64)
+DIGITS_CALLS(int32_t, i32)
+DIGITS_CALLS(uint32_t, u32)
+DIGITS_CALLS(double, f64)
+DIGITS_CALLS(float, f32)
+#undef DIGITS_CALLS
+
+// What a call of digits.h answers, with the number as a T. C's type of the number is a Raw.
+template <typename T, typename Raw, typename Call, typename... Rest>
+result<T> answer(Call call, std::string_view text, Rest... rest) noexcept
+{
+    Raw number;
+    const digits_outcome outcome = call(text.data(), text.size(), rest..., &number);
+    return {T{number}, outcome.at, outcome.status};
+}
+
+} // namespace detail
+
+// ---- integers and floats: T has 32 or 64 bits ----
+
+template <typename T>
+result<T> read(std::string_view text, std::size_t start = 0) noexcept
+{
+    using raw = detail::same<T>;
+    return detail::answer<T, raw>(detail::calls<raw>::read, text, start);
+}
+
+template <typename T>
+result<T> read(std::string_view text, std::size_t start, word by) noexcept
+{
+    using raw = detail::same<T>;
+    return detail::answer<T, raw>(detail::calls<raw>::read_by, text, start, by);
+}
+
+template <typename T>
+result<T> parse(std::string_view text) noexcept
+{
+    using raw = detail::same<T>;
+    return detail::answer<T, raw>(detail::calls<raw>::parse, text);
+}
+
+template <typename T>
+result<T> parse(std::string_view text, word by) noexcept
+{
+    using raw = detail::same<T>;
+    return detail::answer<T, raw>(detail::calls<raw>::parse_by, text, by);
+}
+
+// ---- decimal numbers as integers, exactly ----
+
+inline result<std::int64_t> read_scaled(std::string_view text, std::size_t start,
+                                        std::size_t places) noexcept
+{
+    return detail::answer<int64_t, int64_t>(digits_read_scaled_i64, text, start, places);
+}
+
+inline result<std::int64_t> read_scaled(std::string_view text, std::size_t start,
+                                        std::size_t places, word by, char point = '.') noexcept
+{
+    return detail::answer<int64_t, int64_t>(digits_read_scaled_i64_by, text, start, places, by,
+                                            static_cast<std::uint8_t>(point));
+}
+
+inline result<std::int64_t> parse_scaled(std::string_view text, std::size_t places) noexcept
+{
+    return detail::answer<int64_t, int64_t>(digits_parse_scaled_i64, text, places);
+}
+
+inline result<std::int64_t> parse_scaled(std::string_view text, std::size_t places, word by,
+                                         char point = '.') noexcept
+{
+    return detail::answer<int64_t, int64_t>(digits_parse_scaled_i64_by, text, places, by,
+                                            static_cast<std::uint8_t>(point));
+}
+
+// ---- integer literals of a language: a DIGITS_LANGUAGE_.. ----
+
+inline result<digits_literal> read_literal(std::string_view text, std::size_t start,
+                                           std::uint32_t language) noexcept
+{
+    return detail::answer<digits_literal, digits_literal>(digits_read_literal, text, start, language);
+}
+
+inline result<std::uint64_t> read_literal_u64(std::string_view text, std::size_t start,
+                                              std::uint32_t language) noexcept
+{
+    return detail::answer<uint64_t, uint64_t>(digits_read_literal_u64, text, start, language);
+}
+
+// ---- numbers of a form: a DIGITS_FORM_.. ----
+
+inline result<number> read_json(std::string_view text, std::size_t start = 0) noexcept
+{
+    return detail::answer<number, digits_number>(digits_read_json, text, start);
+}
+
+inline result<number> parse_json(std::string_view text) noexcept
+{
+    return detail::answer<number, digits_number>(digits_parse_json, text);
+}
+
+inline result<number> read_number(std::string_view text, std::size_t start,
+                                  std::uint32_t form) noexcept
+{
+    return detail::answer<number, digits_number>(digits_read_number, text, start, form);
+}
+
+inline result<number> parse_number(std::string_view text, std::uint32_t form) noexcept
+{
+    return detail::answer<number, digits_number>(digits_parse_number, text, form);
+}
+
+// ---- lists of numbers: the byte between two, as in digits.h ----
+
+/// What was read of a list.
+struct [[nodiscard]] list {
+    std::size_t count;    // how many numbers were written
+    std::size_t at;       // where the list is over, goes on, or has a fault
+    std::uint32_t status; // DIGITS_OK, DIGITS_FULL, or the kind of the fault
+
+    bool is_over() const noexcept { return status == DIGITS_OK; }
+    bool is_full() const noexcept { return status == DIGITS_FULL; }
+    const char *message() const noexcept { return digits_message(status); }
+};
+
+inline list read_list(std::string_view text, std::size_t start, char between, std::int64_t *numbers,
+                      std::size_t room) noexcept
+{
+    std::size_t count;
+    const digits_outcome end = digits_read_i64_list(text.data(), text.size(), start,
+                                                    static_cast<std::uint8_t>(between), numbers,
+                                                    room, &count);
+    return {count, end.at, end.status};
+}
+
+inline list read_list(std::string_view text, std::size_t start, char between, std::uint64_t *numbers,
+                      std::size_t room) noexcept
+{
+    std::size_t count;
+    const digits_outcome end = digits_read_u64_list(text.data(), text.size(), start,
+                                                    static_cast<std::uint8_t>(between), numbers,
+                                                    room, &count);
+    return {count, end.at, end.status};
+}
+
+inline list read_list(std::string_view text, std::size_t start, char between, double *numbers,
+                      std::size_t room) noexcept
+{
+    std::size_t count;
+    const digits_outcome end = digits_read_f64_list(text.data(), text.size(), start,
+                                                    static_cast<std::uint8_t>(between), numbers,
+                                                    room, &count);
+    return {count, end.at, end.status};
+}
+
+} // namespace digits
+
+#endif

@@ -1,0 +1,488 @@
+"""Reading numbers from bytes, also with digit separators, by the proved library of digits.h.
+
+>>> import digits
+>>> digits.parse_i64(b"-1000")
+-1000
+>>> digits.parse_f64(b"1_234.5e-1", digits.WORD_PYTHON_LITERAL)
+123.45
+>>> digits.read_u32(b"8080/tcp")   # the value, and where it ends
+(8080, 4)
+>>> digits.parse_number(b"1e2"), digits.parse_number(b"100")
+(100.0, 100)
+>>> digits.parse_i64(b"10x")
+Traceback (most recent call last):
+digits.Fault: a byte that is no part of the number, at 2
+
+A text is bytes, a bytearray, a memoryview or whatever else has bytes in one piece; none is copied. A
+`read` takes the number that begins at a start, and a `parse` the whole text. Positions count bytes
+from the start of the text, from 0. digits.h says what each call reads and its faults.
+
+The library is libdigits.so of the folder that DIGITS_LIB names, or else of ../out, where `make`
+writes it, of ../../lib, where `make install` does, or of the system.
+"""
+import array
+import collections
+import ctypes
+import os
+from ctypes import POINTER, byref, c_bool, c_double, c_float, c_int, c_int32, c_int64, c_size_t
+from ctypes import c_ssize_t, c_uint8, c_uint32, c_uint64, c_void_p
+
+# from the sources, by c/constants
+# The version of this file.
+VERSION = 100  # The version of this library: 10,000 for each major one, 100 for each minor one
+
+# What an outcome's status is.
+OK = 0  # The number was read
+EMPTY = 1  # There is no digit, or no number
+OVERFLOW = 2  # The number is too large
+INVALID = 3  # The byte is no part of the number before it
+EMPTY_EXPONENT = 4  # No digit follows the mark of an exponent
+FIRST_ZERO = 5  # The language refuses the first 0
+TOO_FINE = 6  # A digit after the last place is no zero
+BAD_START = 7  # The start is after the end of the text
+BAD_WORD = 8  # The word isn't supported, or its floats aren't decimal
+BAD_LANGUAGE = 9  # No language has this number
+BAD_FORM = 10  # No form has this number
+BAD_PLACES = 11  # There are more than 38 places
+FULL = 12  # The list goes on, and there is no more room for its numbers
+
+# What a number's kind is.
+NONE = 0  # There is no number
+INTEGER = 1  # The number is an integer
+FLOAT = 2  # The number is a float
+
+# Forms: docs/reference/digit_numbers.md.
+FORM_LITERAL = 0  # The shortest form of source code: decimal digits without a sign, with a point or an exponent if they are a float
+FORM_FLOAT = 1  # The shortest form of data: the same with a sign, and every number is a float
+FORM_RUST = 2  # Rust's source code
+FORM_C89 = 3  # C's source code before C99, and C++'s before C++14
+FORM_C99 = 4  # C's source code from C99 up to C18, and Objective-C's
+FORM_CXX14 = 5  # C++14's source code
+FORM_CXX17 = 6  # C++17 and C23
+FORM_JAVA = 7  # Java's source code
+FORM_KOTLIN = 8  # Kotlin's source code
+FORM_SCALA = 9  # Scala's source code from 2.13 on
+FORM_CSHARP = 10  # C#'s source code, by its standard
+FORM_FSHARP = 11  # F#'s source code, by its grammar
+FORM_GO = 12  # Go's source code
+FORM_D = 13  # D's source code
+FORM_SWIFT = 14  # Swift's source code
+FORM_NIM = 15  # Nim's source code
+FORM_ADA = 16  # Ada's source code, except for a radix and #
+FORM_COBOL = 17  # COBOL's source code
+FORM_FORTRAN = 18  # Fortran's source code
+FORM_PYTHON = 19  # Python's source code
+FORM_RUBY = 20  # Ruby's source code, except for the prefix 0d
+FORM_PERL = 21  # Perl's source code, except for floats in binary or octal digits
+FORM_PHP = 22  # PHP's source code
+FORM_LUA = 23  # Lua's source code
+FORM_R = 24  # R's source code
+FORM_OCTAVE = 25  # Octave's source code
+FORM_MATLAB = 26  # MATLAB's source code, by its documentation: as Octave's, without separators
+FORM_ERLANG = 27  # Erlang's source code, except for a radix and #
+FORM_ELIXIR = 28  # Elixir's source code
+FORM_HASKELL = 29  # Haskell's source code, except for hexadecimal floats, which are an extension
+FORM_SCHEME = 30  # Scheme's source code, as Guile reads it, except for ratios, #x, and the marks s, f, l
+FORM_OCAML = 31  # OCaml's source code
+FORM_JAVASCRIPT = 32  # JavaScript's source code, in strict mode and in modules
+FORM_COFFEESCRIPT = 33  # CoffeeScript's source code
+FORM_POSTGRESQL = 34  # PostgreSQL's SQL up to version 15
+FORM_SQLITE = 35  # SQLite's SQL before 3.46
+FORM_MYSQL = 36  # The SQL of MySQL and MariaDB
+FORM_HCL = 37  # HCL, of Terraform
+FORM_JSON = 38  # JSON, by RFC 8259
+FORM_JSON_FLOATS = 39  # JSON, of which every number is a float
+FORM_JSON5 = 40  # JSON5
+FORM_YAML = 41  # YAML, by the core schema of 1.2
+FORM_TOML = 42  # TOML 1.0
+FORM_EDN = 43  # EDN, and Clojure's source code, except for ratios, a radix and r, and M
+FORM_CSS = 44  # CSS, and SVG 2
+FORM_DECIMAL = 45  # A decimal number without an exponent: XML Schema's decimal, COBOL's NUMVAL, amounts in CSV
+FORM_XML_DOUBLE = 46  # XML Schema's double and float, by 1.0; by 1.1 +INF is one too
+FORM_PROMETHEUS = 47  # Prometheus, and OpenMetrics
+FORM_PROTOBUF_TEXT = 48  # Protobuf's text format
+FORM_STRTOD = 49  # What C's strtod takes in the locale C, without blanks before it and what follows nan in parentheses
+FORM_FROM_CHARS = 50  # What C++'s std::from_chars takes for a float, without what follows nan in parentheses
+FORM_RUST_PARSE = 51  # What Rust's str::parse::<f64> takes
+FORM_PYTHON_FLOAT = 52  # What Python's float takes, without blanks around it and digits beyond ASCII
+FORM_JAVA_PARSE_DOUBLE = 53  # What Java's Double.parseDouble takes, without blanks around it and a suffix such as d
+FORM_GO_PARSE_FLOAT = 54  # What Go's strconv.ParseFloat takes
+FORM_CSHARP_PARSE = 55  # What C#'s double.Parse takes, as Mono has it, without blanks around it
+FORM_RUBY_FLOAT = 56  # What Ruby's Float takes, without blanks around it
+FORM_LUA_TONUMBER = 57  # What Lua's tonumber takes, without blanks around it
+FORM_JAVASCRIPT_NUMBER = 58  # What JavaScript's Number takes, without blanks around it
+FORM_JAVASCRIPT_PARSE_FLOAT = 59  # What JavaScript's parseFloat takes, without blanks before it
+FORM_POSTGRESQL_NUMERIC = 60  # What PostgreSQL's ::numeric takes up to version 15, without blanks around it
+FORM_FORTRAN_READ = 61  # What Fortran's read takes by the edit descriptor F, without blanks
+FORM_STR2DOUBLE = 62  # What Octave's and MATLAB's str2double take for a real number, without blanks
+
+# Languages of literals: docs/RULES.md.
+LANGUAGE_RUST = 0
+LANGUAGE_CXX14 = 1
+LANGUAGE_PYTHON = 2
+LANGUAGE_GO = 3
+LANGUAGE_JAVA = 4
+LANGUAGE_CSHARP = 5
+LANGUAGE_JAVASCRIPT = 6
+LANGUAGE_KOTLIN = 7
+LANGUAGE_SWIFT = 8
+LANGUAGE_RUBY = 9
+LANGUAGE_PERL = 10
+LANGUAGE_PHP = 11
+LANGUAGE_JULIA = 12
+LANGUAGE_OCAML = 13
+LANGUAGE_FSHARP = 14
+LANGUAGE_HASKELL = 15
+LANGUAGE_ZIG = 16
+LANGUAGE_ELIXIR = 17
+LANGUAGE_TOML = 18
+LANGUAGE_JSON_NUMBER = 19
+LANGUAGE_DIGITS = 20
+LANGUAGE_HEX_DIGITS = 21
+LANGUAGE_C = 22
+LANGUAGE_SCALA = 23
+LANGUAGE_ERLANG = 24
+LANGUAGE_D = 25
+
+# Flags of a format word: where a component drops separators.
+FLAG_INTEGER_INTERNAL = 0x100000000
+FLAG_FRACTION_INTERNAL = 0x200000000
+FLAG_EXPONENT_INTERNAL = 0x400000000
+FLAG_INTEGER_LEADING = 0x800000000
+FLAG_FRACTION_LEADING = 0x1000000000
+FLAG_EXPONENT_LEADING = 0x2000000000
+FLAG_INTEGER_TRAILING = 0x4000000000
+FLAG_FRACTION_TRAILING = 0x8000000000
+FLAG_EXPONENT_TRAILING = 0x10000000000
+FLAG_INTEGER_CONSECUTIVE = 0x20000000000
+FLAG_FRACTION_CONSECUTIVE = 0x40000000000
+FLAG_EXPONENT_CONSECUTIVE = 0x80000000000
+FLAG_SPECIAL = 0x100000000000
+
+# Format words with a name: docs/RULES.md.
+WORD_STANDARD = 0xa00000000000000000000000000
+WORD_HEXADECIMAL = 0x1000000000000000000000000000
+WORD_HEXADECIMAL_FLOAT = 0xa001000000000000000000000000000
+WORD_OCTAL = 0x800000000000000000000000000
+WORD_BINARY = 0x200000000000000000000000000
+WORD_RUST_LITERAL = 0xa000000005f00000fe700000000
+WORD_RUST_HEX_LITERAL = 0x10000000005f0000024900000000
+WORD_RUST_OCTAL_LITERAL = 0x8000000005f0000024900000000
+WORD_RUST_BINARY_LITERAL = 0x2000000005f0000024900000000
+WORD_CXX14_LITERAL = 0xa00000000270000000700000000
+WORD_CXX14_HEX_LITERAL = 0xa001000000000270000000700000000
+WORD_CXX14_OCTAL_LITERAL = 0x800000000270000000100000000
+WORD_CXX14_BINARY_LITERAL = 0x200000000270000000100000000
+WORD_PYTHON_LITERAL = 0xa000000005f0000000700000000
+WORD_PYTHON_HEX_LITERAL = 0x10000000005f0000000900000000
+WORD_PYTHON_OCTAL_LITERAL = 0x8000000005f0000000900000000
+WORD_PYTHON_BINARY_LITERAL = 0x2000000005f0000000900000000
+WORD_TOML = 0xa000000005f0000000700000000
+WORD_TOML_HEX = 0x10000000005f0000000100000000
+WORD_TOML_OCTAL = 0x8000000005f0000000100000000
+WORD_TOML_BINARY = 0x2000000005f0000000100000000
+WORD_JAVA_LITERAL = 0xa000000005f00000e0700000000
+WORD_JAVA_HEX_LITERAL = 0xa0010000000005f00000e0700000000
+WORD_JAVA_OCTAL_LITERAL = 0x8000000005f0000020100000000
+WORD_JAVA_BINARY_LITERAL = 0x2000000005f0000020100000000
+WORD_CSHARP_LITERAL = 0xa000000005f00000e0700000000
+WORD_CSHARP_HEX_LITERAL = 0x10000000005f0000020900000000
+WORD_CSHARP_BINARY_LITERAL = 0x2000000005f0000020900000000
+WORD_GO_LITERAL = 0xa000000005f0000000700000000
+WORD_GO_HEX_LITERAL = 0xa0010000000005f0000000f00000000
+WORD_GO_OCTAL_LITERAL = 0x8000000005f0000000900000000
+WORD_GO_BINARY_LITERAL = 0x2000000005f0000000900000000
+WORD_JAVASCRIPT_LITERAL = 0xa000000005f0000000700000000
+WORD_JAVASCRIPT_HEX_LITERAL = 0x10000000005f0000000100000000
+WORD_JAVASCRIPT_OCTAL_LITERAL = 0x8000000005f0000000100000000
+WORD_JAVASCRIPT_BINARY_LITERAL = 0x2000000005f0000000100000000
+WORD_KOTLIN_LITERAL = 0xa000000005f00000e0700000000
+WORD_KOTLIN_HEX_LITERAL = 0x10000000005f0000020100000000
+WORD_KOTLIN_BINARY_LITERAL = 0x2000000005f0000020100000000
+WORD_SWIFT_LITERAL = 0xa000000005f00000fc700000000
+WORD_SWIFT_HEX_LITERAL = 0xa0010000000005f00000fc700000000
+WORD_SWIFT_OCTAL_LITERAL = 0x8000000005f0000024100000000
+WORD_SWIFT_BINARY_LITERAL = 0x2000000005f0000024100000000
+WORD_OCTAVE_LITERAL = 0xa000000005f00000fc700000000
+WORD_OCTAVE_HEX_LITERAL = 0x10000000005f0000024100000000
+WORD_OCTAVE_BINARY_LITERAL = 0x2000000005f0000024100000000
+WORD_RUBY_LITERAL = 0xa000000005f0000000700000000
+WORD_RUBY_HEX_LITERAL = 0x10000000005f0000000100000000
+WORD_RUBY_OCTAL_LITERAL = 0x8000000005f0000000100000000
+WORD_RUBY_BINARY_LITERAL = 0x2000000005f0000000100000000
+WORD_PERL_LITERAL = 0xa000000005f00000ff700000000
+WORD_PERL_HEX_LITERAL = 0xa0010000000005f00000fcf00000000
+WORD_PERL_OCTAL_LITERAL = 0xa0008000000005f00000fcf00000000
+WORD_PERL_BINARY_LITERAL = 0xa0002000000005f00000fcf00000000
+WORD_PHP_LITERAL = 0xa000000005f0000000700000000
+WORD_PHP_HEX_LITERAL = 0x10000000005f0000000100000000
+WORD_PHP_OCTAL_LITERAL = 0x8000000005f0000000100000000
+WORD_PHP_BINARY_LITERAL = 0x2000000005f0000000100000000
+WORD_JULIA_LITERAL = 0xa000000005f0000000300000000
+WORD_JULIA_HEX_LITERAL = 0xa0010000000005f0000000300000000
+WORD_JULIA_OCTAL_LITERAL = 0x8000000005f0000000100000000
+WORD_JULIA_BINARY_LITERAL = 0x2000000005f0000000100000000
+WORD_D_LITERAL = 0xa000000005f00000fe700000000
+WORD_D_HEX_LITERAL = 0xa0010000000005f00000fef00000000
+WORD_D_BINARY_LITERAL = 0x2000000005f0000024900000000
+WORD_OCAML_LITERAL = 0xa000000005f00000fd700000000
+WORD_OCAML_HEX_LITERAL = 0xa0010000000005f00000fd700000000
+WORD_OCAML_OCTAL_LITERAL = 0x8000000005f0000024100000000
+WORD_OCAML_BINARY_LITERAL = 0x2000000005f0000024100000000
+WORD_FSHARP_LITERAL = 0xa000000005f00000e0700000000
+WORD_FSHARP_HEX_LITERAL = 0x10000000005f0000020100000000
+WORD_FSHARP_OCTAL_LITERAL = 0x8000000005f0000020100000000
+WORD_FSHARP_BINARY_LITERAL = 0x2000000005f0000020100000000
+WORD_HASKELL_LITERAL = 0xa000000005f00000e0700000000
+WORD_HASKELL_HEX_LITERAL = 0xa0010000000005f00000e0f00000000
+WORD_HASKELL_OCTAL_LITERAL = 0x8000000005f0000020900000000
+WORD_HASKELL_BINARY_LITERAL = 0x2000000005f0000020900000000
+WORD_SCALA_LITERAL = 0xa000000005f00000e0700000000
+WORD_SCALA_HEX_LITERAL = 0x10000000005f0000020100000000
+WORD_ZIG_LITERAL = 0xa000000005f0000000700000000
+WORD_ZIG_HEX_LITERAL = 0xa0010000000005f0000000700000000
+WORD_ZIG_OCTAL_LITERAL = 0x8000000005f0000000100000000
+WORD_ZIG_BINARY_LITERAL = 0x2000000005f0000000100000000
+WORD_ADA_LITERAL = 0xa000000005f0000000700000000
+WORD_ADA_HEX_LITERAL = 0xa0010000000005f0000000700000000
+WORD_ADA_OCTAL_LITERAL = 0xa0008000000005f0000000700000000
+WORD_ADA_BINARY_LITERAL = 0xa0002000000005f0000000700000000
+WORD_ELIXIR_LITERAL = 0xa000000005f0000000700000000
+WORD_ELIXIR_HEX_LITERAL = 0x10000000005f0000000100000000
+WORD_ELIXIR_OCTAL_LITERAL = 0x8000000005f0000000100000000
+WORD_ELIXIR_BINARY_LITERAL = 0x2000000005f0000000100000000
+WORD_ERLANG_LITERAL = 0xa000000005f0000000700000000
+WORD_ERLANG_HEX_LITERAL = 0x10000000005f0000000100000000
+WORD_ERLANG_OCTAL_LITERAL = 0x8000000005f0000000100000000
+WORD_ERLANG_BINARY_LITERAL = 0x2000000005f0000000100000000
+# end of what c/constants writes
+
+
+class Fault(ValueError):
+    """There is no number: `status` says why, and `at` is the position of the byte at fault."""
+
+    def __init__(self, status, at):
+        super().__init__(f"{MESSAGES.get(status, f'status {status}')}, at {at}")
+        self.status, self.at = status, at
+
+
+MESSAGES = {
+    EMPTY: "no digit",
+    OVERFLOW: "too large",
+    INVALID: "a byte that is no part of the number",
+    EMPTY_EXPONENT: "an exponent without a digit",
+    FIRST_ZERO: "a first 0, which the language refuses",
+    TOO_FINE: "more places than were asked for",
+    BAD_START: "a start after the end of the text",
+    BAD_WORD: "a format word that isn't supported",
+    BAD_LANGUAGE: "no such language",
+    BAD_FORM: "no such form",
+    BAD_PLACES: "more than 38 places",
+    FULL: "no room for more numbers",
+}
+
+
+# ---- the library and its types ----
+
+
+def _library():
+    here = os.path.dirname(os.path.abspath(__file__))
+    folders = (os.path.join(here, "../out"), os.path.join(here, "../../lib"))
+    for folder in [os.environ["DIGITS_LIB"]] if "DIGITS_LIB" in os.environ else folders:
+        if os.path.exists(os.path.join(folder, "libdigits.so")):
+            return ctypes.CDLL(os.path.join(folder, "libdigits.so"))
+    return ctypes.CDLL("libdigits.so.0")
+
+
+_LIBRARY = _library()
+
+
+class _Outcome(ctypes.Structure):
+    _fields_ = [("at", c_size_t), ("status", c_uint32)]
+
+
+class _Word(ctypes.Structure):
+    _fields_ = [("low", c_uint64), ("high", c_uint64)]
+
+
+class _Literal(ctypes.Structure):
+    _fields_ = [("low", c_uint64), ("high", c_uint64), ("digits", c_size_t), ("radix", c_uint32)]
+
+
+class _Number(ctypes.Structure):
+    _fields_ = [("value", c_double), ("low", c_uint64), ("high", c_uint64), ("kind", c_uint32),
+                ("is_negative", c_bool)]
+
+
+class _Buffer(ctypes.Structure):
+    """Py_buffer of Python's C interface."""
+
+    _fields_ = [("buf", c_void_p), ("obj", c_void_p), ("len", c_ssize_t), ("itemsize", c_ssize_t),
+                ("readonly", c_int), ("ndim", c_int), ("format", c_void_p), ("shape", c_void_p),
+                ("strides", c_void_p), ("suboffsets", c_void_p), ("internal", c_void_p)]
+
+
+_get_buffer = ctypes.pythonapi.PyObject_GetBuffer
+_get_buffer.argtypes = [ctypes.py_object, POINTER(_Buffer), c_int]
+_release = ctypes.pythonapi.PyBuffer_Release
+_release.argtypes, _release.restype = [POINTER(_Buffer)], None
+
+
+def _function(name, *types):
+    """A call of the library, which takes a text and arguments of these types."""
+    function = getattr(_LIBRARY, f"digits_{name}")
+    function.argtypes = [c_void_p, c_size_t, *types]
+    function.restype = _Outcome
+
+    def call(text, *rest):
+        if isinstance(text, bytes):
+            return function(text, len(text), *rest)
+        buffer = _Buffer()
+        _get_buffer(text, byref(buffer), 0)
+        try:
+            return function(buffer.buf, buffer.len, *rest)
+        finally:
+            _release(byref(buffer))
+
+    return call
+
+
+def _call(name, given, *types):
+    """The same of a call that gives a value, and answers where the number ends."""
+    function = _function(name, *types, POINTER(given))
+
+    def call(text, *rest):
+        value = given()
+        outcome = function(text, *rest, byref(value))
+        if outcome.status != OK:
+            raise Fault(outcome.status, outcome.at)
+        return value, outcome.at
+
+    return call
+
+
+def make_word(radix, separator=0, flags=0):
+    """A word of a radix from 2 to 36, a separator byte, or 0 for none, and flags."""
+    return flags + (separator + (radix << 40) << 64)
+
+
+def _halves(word):
+    return _Word(word & 2**64 - 1, word >> 64)
+
+
+# ---- integers and floats ----
+
+
+def _calls(name, given):
+    """The read and the parse of a type."""
+    read_standard = _call(f"read_{name}", given, c_size_t)
+    read_by = _call(f"read_{name}_by", given, c_size_t, _Word)
+    parse_standard = _call(f"parse_{name}", given)
+    parse_by = _call(f"parse_{name}_by", given, _Word)
+
+    def read(text, start=0, word=None):
+        """The number that begins at a start, and where it ends; maybe by a word."""
+        value, end = (read_standard(text, start) if word is None
+                      else read_by(text, start, _halves(word)))
+        return value.value, end
+
+    def parse(text, word=None):
+        """The number that a text is; maybe by a word."""
+        value, _ = parse_standard(text) if word is None else parse_by(text, _halves(word))
+        return value.value
+
+    read.__name__, parse.__name__ = f"read_{name}", f"parse_{name}"
+    return read, parse
+
+
+read_i64, parse_i64 = _calls("i64", c_int64)
+read_u64, parse_u64 = _calls("u64", c_uint64)
+read_i32, parse_i32 = _calls("i32", c_int32)
+read_u32, parse_u32 = _calls("u32", c_uint32)
+read_f64, parse_f64 = _calls("f64", c_double)
+read_f32, parse_f32 = _calls("f32", c_float)
+
+# ---- decimal numbers as integers, exactly ----
+
+_read_scaled = _call("read_scaled_i64_by", c_int64, c_size_t, c_size_t, _Word, c_uint8)
+_parse_scaled = _call("parse_scaled_i64_by", c_int64, c_size_t, _Word, c_uint8)
+
+
+def read_scaled(text, start, places, word=WORD_STANDARD, point=b"."):
+    """The number at a start times ten to the power `places`, and where it ends."""
+    value, end = _read_scaled(text, start, places, _halves(word), ord(point))
+    return value.value, end
+
+
+def parse_scaled(text, places, word=WORD_STANDARD, point=b"."):
+    """The number that a text is times ten to the power `places`."""
+    return _parse_scaled(text, places, _halves(word), ord(point))[0].value
+
+
+# ---- integer literals of a language ----
+
+Literal = collections.namedtuple("Literal", "value digits radix")
+_read_literal = _call("read_literal", _Literal, c_size_t, c_uint32)
+
+
+def read_literal(text, start, language):
+    """The literal of a LANGUAGE_.. at a start, and where it ends. A literal has its value, where its
+    digits begin, and their radix."""
+    literal, end = _read_literal(text, start, language)
+    return Literal(literal.low + (literal.high << 64), literal.digits, literal.radix), end
+
+
+# ---- numbers of a form ----
+
+_read_number = _call("read_number", _Number, c_size_t, c_uint32)
+_parse_number = _call("parse_number", _Number, c_uint32)
+
+
+def _value(number):
+    if number.kind == FLOAT:
+        return number.value
+    magnitude = number.low + (number.high << 64)
+    return -magnitude if number.is_negative else magnitude
+
+
+def read_number(text, start=0, form=FORM_JSON):
+    """The int or float of a FORM_.. at a start, and where it ends."""
+    number, end = _read_number(text, start, form)
+    return _value(number), end
+
+
+def parse_number(text, form=FORM_JSON):
+    """The int or float of a FORM_.. that a text is."""
+    return _value(_parse_number(text, form)[0])
+
+
+# ---- lists of numbers ----
+
+
+def _list_call(name, code, given):
+    function = _function(f"read_{name}_list", c_size_t, c_uint8, POINTER(given), c_size_t,
+                         POINTER(c_size_t))
+
+    def read_list(text, start=0, between=b","):
+        """The numbers of a list at a start, as an array, and where it ends. `between` is the byte
+        between two numbers, blanks may be around it; b" " stands for any blanks, b"\\n" for a line
+        feed, which may follow the last number too."""
+        numbers, count = array.array(code), c_size_t()
+        room = min(4096, len(memoryview(text)) // 2 + 1)
+        places = (given * room)()
+        while True:
+            outcome = function(text, start, ord(between), places, room, byref(count))
+            numbers.frombytes(memoryview(places).cast("B")[: count.value * numbers.itemsize])
+            if outcome.status == OK:
+                return numbers, outcome.at
+            if outcome.status != FULL:
+                raise Fault(outcome.status, outcome.at)
+            start = outcome.at
+
+    read_list.__name__ = f"read_{name}_list"
+    return read_list
+
+
+read_i64_list = _list_call("i64", "q", c_int64)
+read_u64_list = _list_call("u64", "Q", c_uint64)
+read_f64_list = _list_call("f64", "d", c_double)

@@ -1,0 +1,84 @@
+#!/usr/bin/env python3
+"""Each call with a number or a fault. Their answers are those of test.c."""
+import doctest
+import mmap
+import unittest
+
+import digits
+
+
+class Calls(unittest.TestCase):
+    def fails(self, status, at, call, *rest):
+        with self.assertRaises(digits.Fault) as caught:
+            call(*rest)
+        self.assertEqual((caught.exception.status, caught.exception.at), (status, at))
+
+    def test_integers(self):
+        self.assertEqual(digits.read_i64(b"-9223372036854775808;"), (-2**63, 20))
+        self.assertEqual(digits.read_u64(b"x=18446744073709551615", 2), (2**64 - 1, 22))
+        self.fails(digits.OVERFLOW, 19, digits.read_u64, b"18446744073709551616")
+        self.fails(digits.BAD_START, 3, digits.read_i64, b"12", 3)
+        self.assertEqual(digits.parse_i32(b"-2147483648"), -2**31)
+        self.fails(digits.INVALID, 1, digits.parse_u32, b"1_0")
+        self.assertEqual(digits.read_i64(b"-1_000 m", 0, digits.WORD_PYTHON_LITERAL), (-1000, 6))
+        word = digits.make_word(10, ord("_"), digits.FLAG_INTEGER_INTERNAL)
+        self.assertEqual(digits.parse_u32(b"70_000", word), 70000)
+        self.fails(digits.BAD_WORD, 0, digits.parse_i64, b"1", digits.make_word(1))
+
+    def test_floats(self):
+        self.assertEqual(digits.read_f64(b"-1.5e3,2"), (-1500.0, 6))
+        self.assertEqual(digits.parse_f32(b"16777217"), 16777216.0)
+        self.assertEqual(digits.parse_f64(b"1_234.5e-1", digits.WORD_PYTHON_LITERAL), 123.45)
+        self.fails(digits.EMPTY_EXPONENT, 3, digits.read_f64, b"1e+")
+
+    def test_scaled(self):
+        commas = digits.make_word(10, ord(","), digits.FLAG_INTEGER_INTERNAL)
+        self.assertEqual(digits.read_scaled(b"$1,234.50", 1, 2, commas), (123450, 9))
+        self.assertEqual(digits.parse_scaled(b"3,5", 1, point=b","), 35)
+        self.fails(digits.TOO_FINE, 5, digits.parse_scaled, b"0.125", 2)
+
+    def test_literals(self):
+        self.assertEqual(digits.read_literal(b"0xff_u8", 0, digits.LANGUAGE_RUST),
+                         ((255, 2, 16), 5))
+        self.assertEqual(digits.read_literal(b"36893488147419103232", 0, digits.LANGUAGE_GO),
+                         ((2**65, 0, 10), 20))
+        self.fails(digits.FIRST_ZERO, 0, digits.read_literal, b"01", 0, digits.LANGUAGE_PYTHON)
+
+    def test_numbers(self):
+        self.assertEqual(digits.read_number(b"[-1.5e3,-7]", 8), (-7, 10))
+        self.assertEqual(digits.parse_number(str(2**128 - 1).encode()), 2**128 - 1)
+        self.assertEqual(digits.read_number(b"-inf,", 0, digits.FORM_TOML), (float("-inf"), 4))
+        self.assertIsInstance(digits.parse_number(b"1e2"), float)
+        self.assertIsInstance(digits.parse_number(b"100"), int)
+        self.fails(digits.BAD_FORM, 0, digits.parse_number, b"1", 2**32 - 1)
+
+    def test_lists(self):
+        numbers, end = digits.read_i64_list(b"[1, -2 ,3]", 1)
+        self.assertEqual((numbers.tolist(), numbers.typecode, end), ([1, -2, 3], "q", 9))
+        many = list(range(10000))
+        text = "\n".join(map(str, many)).encode()
+        self.assertEqual(digits.read_u64_list(text, 0, b"\n")[0].tolist(), many)
+        self.assertEqual(digits.read_i64_list(bytearray(b" 1\t2  "), 0, b" ")[1], 6)
+        self.assertEqual(digits.read_f64_list(b"1.5;-2e3", 0, b";")[0].tolist(), [1.5, -2000.0])
+        self.fails(digits.EMPTY, 2, digits.read_i64_list, b"1,x")
+        self.fails(digits.BAD_START, 4, digits.read_i64_list, b"1,x", 4)
+
+    def test_texts(self):
+        text = b"  1234;"
+        with mmap.mmap(-1, len(text)) as pages:
+            pages.write(text)
+            for whole in (text, bytearray(text), memoryview(text), pages):
+                self.assertEqual(digits.read_i64(whole, 2), (1234, 6))
+            self.assertEqual(digits.parse_i64(memoryview(text)[2:6]), 1234)
+        self.fails(digits.EMPTY, 0, digits.parse_i64, bytearray())
+        self.assertRaises(TypeError, digits.parse_i64, "12")
+        self.assertRaises(BufferError, digits.parse_i64, memoryview(b"1234")[::2])
+
+
+def load_tests(loader, tests, pattern):
+    tests.addTests(doctest.DocTestSuite(digits))
+    return tests
+
+
+if __name__ == "__main__":
+    unittest.main()

@@ -1,0 +1,455 @@
+//! Reading numbers from bytes, also with digit separators, by the proved library of `digits.h`.
+//!
+//! ```
+//! use digits_sys::{parse, parse_by, parse_json, read, statuses, words};
+//!
+//! assert_eq!(parse::<i32>(b"-1000"), Ok(-1000));
+//! assert_eq!(parse_by::<f64>(b"1_234.5e-1", words::PYTHON_LITERAL), Ok(123.45));
+//! assert_eq!(read::<u32>(b"8080/tcp", 0), Ok((8080, 4))); // the value, and where it ends
+//! assert_eq!(parse_json(b"-7").unwrap().as_i64(), Some(-7));
+//!
+//! let fault = parse::<i32>(b"10x").unwrap_err();
+//! assert_eq!((fault.status, fault.at), (statuses::INVALID, 2));
+//! ```
+//!
+//! A `read` takes the number that begins at a start, and a `parse` the whole text. Positions count
+//! bytes from the start of the text, from 0. `digits.h` says what each call reads and its faults.
+
+mod constants;
+
+pub use constants::*;
+use std::fmt;
+
+/// What an outcome's status is, of [`statuses`].
+#[repr(transparent)]
+#[derive(Clone, Copy, Debug, PartialEq, Eq, Hash)]
+pub struct Status(u32);
+
+/// The grammar of a language or a data format, of [`forms`].
+#[repr(transparent)]
+#[derive(Clone, Copy, Debug, PartialEq, Eq, Hash)]
+pub struct Form(u32);
+
+/// A language of literals, of [`languages`].
+#[repr(transparent)]
+#[derive(Clone, Copy, Debug, PartialEq, Eq, Hash)]
+pub struct Language(u32);
+
+/// A format word: radix, separator, and flags that say where separators are dropped. Those with a
+/// name are in [`words`].
+#[repr(C)]
+#[derive(Clone, Copy, Debug, PartialEq, Eq, Hash)]
+pub struct Word {
+    pub low: u64,
+    pub high: u64,
+}
+
+impl Word {
+    /// A word of a radix from 2 to 36, a separator, or 0 for none, and flags of [`flags`].
+    pub const fn new(radix: u8, separator: u8, flags: u64) -> Word {
+        Word { low: flags, high: separator as u64 | (radix as u64) << 40 }
+    }
+}
+
+/// Why there is no number.
+#[derive(Clone, Copy, Debug, PartialEq, Eq)]
+pub struct Fault {
+    pub status: Status,
+    /// The position of the byte at fault, or the length of the text.
+    pub at: usize,
+}
+
+impl fmt::Display for Fault {
+    fn fmt(&self, f: &mut fmt::Formatter<'_>) -> fmt::Result {
+        let what = match self.status {
+            statuses::EMPTY => "no digit",
+            statuses::OVERFLOW => "too large",
+            statuses::INVALID => "a byte that is no part of the number",
+            statuses::EMPTY_EXPONENT => "an exponent without a digit",
+            statuses::FIRST_ZERO => "a first 0, which the language refuses",
+            statuses::TOO_FINE => "more places than were asked for",
+            statuses::BAD_START => "a start after the end of the text",
+            statuses::BAD_WORD => "a format word that isn't supported",
+            statuses::BAD_PLACES => "more than 38 places",
+            statuses::FULL => "no room for more numbers",
+            Status(status) => return write!(f, "status {status} at byte {}", self.at),
+        };
+        write!(f, "{what} at byte {}", self.at)
+    }
+}
+
+impl std::error::Error for Fault {}
+
+/// `digits_outcome`.
+#[repr(C)]
+struct Outcome {
+    at: usize,
+    status: Status,
+}
+
+/// The value that a call writes and the end of the number, or the call's fault.
+#[inline(always)]
+fn answer<T: Default>(
+    text: &[u8],
+    call: impl FnOnce(*const u8, usize, *mut T) -> Outcome,
+) -> Result<(T, usize), Fault> {
+    let mut value = T::default();
+    let Outcome { at, status } = call(text.as_ptr(), text.len(), &mut value);
+    match status {
+        statuses::OK => Ok((value, at)),
+        status => Err(Fault { status, at }),
+    }
+}
+
+/// The value alone.
+fn whole<T>(read: Result<(T, usize), Fault>) -> Result<T, Fault> {
+    read.map(|(value, _)| value)
+}
+
+// ---- integers and floats ----
+
+mod sealed {
+    use super::{Fault, Word};
+
+    pub trait Calls: Sized {
+        fn read(text: &[u8], start: usize) -> Result<(Self, usize), Fault>;
+        fn read_by(text: &[u8], start: usize, word: Word) -> Result<(Self, usize), Fault>;
+        fn parse(text: &[u8]) -> Result<Self, Fault>;
+        fn parse_by(text: &[u8], word: Word) -> Result<Self, Fault>;
+    }
+}
+
+/// A type whose numbers are read: `i64`, `u64`, `i32`, `u32`, `f64`, `f32`.
+pub trait Value: sealed::Calls {}
+
+macro_rules! values {
+    ($($type:ty: $read:ident $read_by:ident $parse:ident $parse_by:ident;)*) => {$(
+        extern "C" {
+            fn $read(text: *const u8, length: usize, start: usize, value: *mut $type) -> Outcome;
+            fn $read_by(
+                text: *const u8, length: usize, start: usize, word: Word, value: *mut $type,
+            ) -> Outcome;
+            fn $parse(text: *const u8, length: usize, value: *mut $type) -> Outcome;
+            fn $parse_by(text: *const u8, length: usize, word: Word, value: *mut $type) -> Outcome;
+        }
+
+        // SAFETY of each call: `answer` passes a text with its length, and a place for the value.
+        impl sealed::Calls for $type {
+            fn read(text: &[u8], start: usize) -> Result<(Self, usize), Fault> {
+                answer(text, |t, length, value| unsafe { $read(t, length, start, value) })
+            }
+            fn read_by(text: &[u8], start: usize, word: Word) -> Result<(Self, usize), Fault> {
+                answer(text, |t, length, value| unsafe { $read_by(t, length, start, word, value) })
+            }
+            fn parse(text: &[u8]) -> Result<Self, Fault> {
+                whole(answer(text, |t, length, value| unsafe { $parse(t, length, value) }))
+            }
+            fn parse_by(text: &[u8], word: Word) -> Result<Self, Fault> {
+                whole(answer(text, |t, length, value| unsafe { $parse_by(t, length, word, value) }))
+            }
+        }
+
+        impl Value for $type {}
+    )*};
+}
+
+values! {
+    i64: digits_read_i64 digits_read_i64_by digits_parse_i64 digits_parse_i64_by;
+    u64: digits_read_u64 digits_read_u64_by digits_parse_u64 digits_parse_u64_by;
+    i32: digits_read_i32 digits_read_i32_by digits_parse_i32 digits_parse_i32_by;
+    u32: digits_read_u32 digits_read_u32_by digits_parse_u32 digits_parse_u32_by;
+    f64: digits_read_f64 digits_read_f64_by digits_parse_f64 digits_parse_f64_by;
+    f32: digits_read_f32 digits_read_f32_by digits_parse_f32 digits_parse_f32_by;
+}
+
+/// The number that begins at a start, and where it ends.
+pub fn read<T: Value>(text: &[u8], start: usize) -> Result<(T, usize), Fault> {
+    T::read(text, start)
+}
+
+/// The same by a word.
+pub fn read_by<T: Value>(text: &[u8], start: usize, word: Word) -> Result<(T, usize), Fault> {
+    T::read_by(text, start, word)
+}
+
+/// The number that a text is.
+pub fn parse<T: Value>(text: &[u8]) -> Result<T, Fault> {
+    T::parse(text)
+}
+
+/// The same by a word.
+pub fn parse_by<T: Value>(text: &[u8], word: Word) -> Result<T, Fault> {
+    T::parse_by(text, word)
+}
+
+// ---- decimal numbers as integers, exactly ----
+
+extern "C" {
+    fn digits_read_scaled_i64(
+        text: *const u8, length: usize, start: usize, places: usize, value: *mut i64,
+    ) -> Outcome;
+    fn digits_read_scaled_i64_by(
+        text: *const u8, length: usize, start: usize, places: usize, word: Word, point: u8,
+        value: *mut i64,
+    ) -> Outcome;
+    fn digits_parse_scaled_i64(
+        text: *const u8, length: usize, places: usize, value: *mut i64,
+    ) -> Outcome;
+    fn digits_parse_scaled_i64_by(
+        text: *const u8, length: usize, places: usize, word: Word, point: u8, value: *mut i64,
+    ) -> Outcome;
+}
+
+/// The number that begins at a start times ten to the power `places`, and where it ends: of 2
+/// places `-12.5` is -1250.
+pub fn read_scaled(text: &[u8], start: usize, places: usize) -> Result<(i64, usize), Fault> {
+    // SAFETY: as of all calls by `answer`.
+    answer(text, |t, n, value| unsafe { digits_read_scaled_i64(t, n, start, places, value) })
+}
+
+/// The same by a word, with another byte before the fraction.
+pub fn read_scaled_by(
+    text: &[u8],
+    start: usize,
+    places: usize,
+    word: Word,
+    point: u8,
+) -> Result<(i64, usize), Fault> {
+    // SAFETY: as of all calls by `answer`.
+    answer(text, |t, n, value| unsafe {
+        digits_read_scaled_i64_by(t, n, start, places, word, point, value)
+    })
+}
+
+/// The number that a text is times ten to the power `places`.
+pub fn parse_scaled(text: &[u8], places: usize) -> Result<i64, Fault> {
+    // SAFETY: as of all calls by `answer`.
+    whole(answer(text, |t, n, value| unsafe { digits_parse_scaled_i64(t, n, places, value) }))
+}
+
+/// The same by a word, with another byte before the fraction.
+pub fn parse_scaled_by(text: &[u8], places: usize, word: Word, point: u8) -> Result<i64, Fault> {
+    // SAFETY: as of all calls by `answer`.
+    whole(answer(text, |t, n, value| unsafe {
+        digits_parse_scaled_i64_by(t, n, places, word, point, value)
+    }))
+}
+
+// ---- integer literals of a language ----
+
+/// An integer literal.
+#[derive(Clone, Copy, Debug, PartialEq, Eq)]
+pub struct Literal {
+    pub value: u128,
+    /// The position of its first digit, after a prefix such as `0x`.
+    pub digits: usize,
+    pub radix: u32,
+}
+
+/// `digits_literal`.
+#[repr(C)]
+#[derive(Default)]
+struct LiteralParts {
+    low: u64,
+    high: u64,
+    digits: usize,
+    radix: u32,
+}
+
+extern "C" {
+    fn digits_read_literal(
+        text: *const u8, length: usize, start: usize, language: Language, value: *mut LiteralParts,
+    ) -> Outcome;
+    fn digits_read_literal_u64(
+        text: *const u8, length: usize, start: usize, language: Language, value: *mut u64,
+    ) -> Outcome;
+}
+
+/// The literal of a language that begins at a start, and where it ends.
+pub fn read_literal(
+    text: &[u8],
+    start: usize,
+    language: Language,
+) -> Result<(Literal, usize), Fault> {
+    // SAFETY: as of all calls by `answer`.
+    let read = answer(text, |t, n, value: *mut LiteralParts| unsafe {
+        digits_read_literal(t, n, start, language, value)
+    });
+    read.map(|(parts, end)| {
+        let LiteralParts { low, high, digits, radix } = parts;
+        (Literal { value: u128::from(low) | u128::from(high) << 64, digits, radix }, end)
+    })
+}
+
+/// The same as a `u64`.
+pub fn read_literal_u64(
+    text: &[u8],
+    start: usize,
+    language: Language,
+) -> Result<(u64, usize), Fault> {
+    // SAFETY: as of all calls by `answer`.
+    answer(text, |t, n, value| unsafe { digits_read_literal_u64(t, n, start, language, value) })
+}
+
+// ---- numbers of a form ----
+
+/// A number of a form: `digits_number`. It is an integer of up to 128 bits, or a float.
+#[repr(C)]
+#[derive(Clone, Copy, Debug, Default, PartialEq)]
+pub struct Number {
+    value: f64,
+    low: u64,
+    high: u64,
+    kind: u32,
+    is_negative: bool,
+}
+
+impl Number {
+    /// The float, or the one nearest to the integer.
+    pub fn to_f64(self) -> f64 {
+        self.value
+    }
+
+    /// Whether the number is an integer: `1.0` and `1e2` are floats.
+    pub fn is_integer(self) -> bool {
+        self.kind == kinds::INTEGER
+    }
+
+    /// Whether a minus is before an integer, also before `-0`, and its magnitude.
+    pub fn integer(self) -> Option<(bool, u128)> {
+        let magnitude = u128::from(self.low) | u128::from(self.high) << 64;
+        self.is_integer().then_some((self.is_negative, magnitude))
+    }
+
+    /// The integer that the number is, if the type has it.
+    pub fn as_i64(self) -> Option<i64> {
+        let mut integer = 0;
+        // SAFETY: both point to an object of their type.
+        unsafe { digits_as_i64(&self, &mut integer) }.then_some(integer)
+    }
+
+    /// The integer that the number is, if the type has it.
+    pub fn as_u64(self) -> Option<u64> {
+        let mut integer = 0;
+        // SAFETY: both point to an object of their type.
+        unsafe { digits_as_u64(&self, &mut integer) }.then_some(integer)
+    }
+}
+
+extern "C" {
+    fn digits_read_json(
+        text: *const u8, length: usize, start: usize, number: *mut Number,
+    ) -> Outcome;
+    fn digits_parse_json(text: *const u8, length: usize, number: *mut Number) -> Outcome;
+    fn digits_read_number(
+        text: *const u8, length: usize, start: usize, form: Form, number: *mut Number,
+    ) -> Outcome;
+    fn digits_parse_number(
+        text: *const u8, length: usize, form: Form, number: *mut Number,
+    ) -> Outcome;
+    fn digits_as_i64(number: *const Number, integer: *mut i64) -> bool;
+    fn digits_as_u64(number: *const Number, integer: *mut u64) -> bool;
+}
+
+/// The number of JSON that begins at a start, and where it ends.
+pub fn read_json(text: &[u8], start: usize) -> Result<(Number, usize), Fault> {
+    // SAFETY: as of all calls by `answer`.
+    answer(text, |t, n, number| unsafe { digits_read_json(t, n, start, number) })
+}
+
+/// The number of JSON that a text is.
+pub fn parse_json(text: &[u8]) -> Result<Number, Fault> {
+    // SAFETY: as of all calls by `answer`.
+    whole(answer(text, |t, n, number| unsafe { digits_parse_json(t, n, number) }))
+}
+
+/// The number of a form that begins at a start, and where it ends.
+pub fn read_number(text: &[u8], start: usize, form: Form) -> Result<(Number, usize), Fault> {
+    // SAFETY: as of all calls by `answer`.
+    answer(text, |t, n, number| unsafe { digits_read_number(t, n, start, form, number) })
+}
+
+/// The number of a form that a text is.
+pub fn parse_number(text: &[u8], form: Form) -> Result<Number, Fault> {
+    // SAFETY: as of all calls by `answer`.
+    whole(answer(text, |t, n, number| unsafe { digits_parse_number(t, n, form, number) }))
+}
+
+// ---- lists of numbers ----
+
+/// What was read of a list.
+#[derive(Clone, Copy, Debug, PartialEq, Eq)]
+pub struct List {
+    /// How many numbers were written.
+    pub count: usize,
+    /// Why there are no more.
+    pub end: End,
+}
+
+/// Why a list was read no further.
+#[derive(Clone, Copy, Debug, PartialEq, Eq)]
+pub enum End {
+    /// The list is over, before this position.
+    Over(usize),
+    /// The slice is full; the list goes on at this position.
+    Full(usize),
+    /// Where a number has to be is none.
+    Fault(Fault),
+}
+
+mod sealed_list {
+    pub trait Calls: Sized {
+        fn read_list(text: &[u8], start: usize, between: u8, numbers: &mut [Self]) -> super::List;
+    }
+}
+
+/// A type whose lists are read: `i64`, `u64`, `f64`.
+pub trait ListValue: sealed_list::Calls {}
+
+macro_rules! list_values {
+    ($($type:ty: $read_list:ident;)*) => {$(
+        extern "C" {
+            fn $read_list(
+                text: *const u8, length: usize, start: usize, between: u8, numbers: *mut $type,
+                room: usize, count: *mut usize,
+            ) -> Outcome;
+        }
+
+        impl sealed_list::Calls for $type {
+            fn read_list(text: &[u8], start: usize, between: u8, numbers: &mut [Self]) -> List {
+                let mut count = 0;
+                let (to, room) = (numbers.as_mut_ptr(), numbers.len());
+                // SAFETY: text and numbers have these lengths, and `count` is of its type.
+                let Outcome { at, status } = unsafe {
+                    $read_list(text.as_ptr(), text.len(), start, between, to, room, &mut count)
+                };
+                let end = match status {
+                    statuses::OK => End::Over(at),
+                    statuses::FULL => End::Full(at),
+                    status => End::Fault(Fault { status, at }),
+                };
+                List { count, end }
+            }
+        }
+
+        impl ListValue for $type {}
+    )*};
+}
+
+list_values! {
+    i64: digits_read_i64_list;
+    u64: digits_read_u64_list;
+    f64: digits_read_f64_list;
+}
+
+/// The numbers of a list that begins at a start, as many as the slice has room for. `between` is the
+/// byte between two numbers, and blanks may be around it; b' ' stands for any blanks, b'\n' for a
+/// line feed, which may follow the last number too.
+pub fn read_list<T: ListValue>(
+    text: &[u8],
+    start: usize,
+    between: u8,
+    numbers: &mut [T],
+) -> List {
+    T::read_list(text, start, between, numbers)
+}

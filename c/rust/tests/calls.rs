@@ -1,0 +1,90 @@
+//! Each call with a number or a fault. Their answers are those of test.c.
+
+use digits_sys::*;
+
+fn fault<T>(status: Status, at: usize) -> Result<T, Fault> {
+    Err(Fault { status, at })
+}
+
+#[test]
+fn integers() {
+    assert_eq!(read::<i64>(b"-9223372036854775808;", 0), Ok((i64::MIN, 20)));
+    assert_eq!(read::<i64>(b"12", 3), fault(statuses::BAD_START, 3));
+    assert_eq!(read::<u64>(b"18446744073709551616", 0), fault(statuses::OVERFLOW, 19));
+    assert_eq!(parse::<i32>(b"2147483647"), Ok(i32::MAX));
+    assert_eq!(parse::<u32>(b"1_0"), fault(statuses::INVALID, 1));
+    assert_eq!(parse::<u32>(b""), fault(statuses::EMPTY, 0));
+    assert_eq!(read_by::<i64>(b"-1_000 m", 0, words::PYTHON_LITERAL), Ok((-1000, 6)));
+    let underscores = Word::new(10, b'_', flags::INTEGER_INTERNAL);
+    assert_eq!(parse_by::<u32>(b"70_000", underscores), Ok(70000));
+    assert_eq!(parse_by::<i64>(b"1", Word::new(1, 0, 0)), fault(statuses::BAD_WORD, 0));
+}
+
+#[test]
+fn floats() {
+    assert_eq!(read::<f64>(b"-1.5e3,2", 0), Ok((-1500.0, 6)));
+    assert_eq!(parse::<f64>(b"5e-324"), Ok(5e-324));
+    assert_eq!(parse::<f32>(b"16777217"), Ok(16777216.0));
+    assert_eq!(read::<f64>(b"1e+", 0), fault(statuses::EMPTY_EXPONENT, 3));
+    assert_eq!(read_by::<f32>(b"x1_0", 1, words::PYTHON_LITERAL), Ok((10.0, 4)));
+    assert_eq!(parse_by::<f64>(b"1_234.5e-1", words::PYTHON_LITERAL), Ok(123.45));
+}
+
+#[test]
+fn scaled() {
+    let commas = Word::new(10, b',', flags::INTEGER_INTERNAL);
+    assert_eq!(read_scaled(b"-1234.5;", 0, 2), Ok((-123450, 7)));
+    assert_eq!(read_scaled_by(b"$1,234.50", 1, 2, commas, b'.'), Ok((123450, 9)));
+    assert_eq!(parse_scaled(b"0.125", 2), fault(statuses::TOO_FINE, 5));
+    assert_eq!(parse_scaled_by(b"3,5", 1, words::STANDARD, b','), Ok(35));
+    assert_eq!(parse_scaled(b"1", 39), fault(statuses::BAD_PLACES, 0));
+}
+
+#[test]
+fn literals() {
+    let mask = Literal { value: 255, digits: 2, radix: 16 };
+    assert_eq!(read_literal(b"0xff_u8", 0, languages::RUST), Ok((mask, 5)));
+    let large = Literal { value: 2 << 64, digits: 0, radix: 10 };
+    assert_eq!(read_literal(b"36893488147419103232", 0, languages::GO), Ok((large, 20)));
+    assert_eq!(read_literal(b"01", 0, languages::PYTHON), fault(statuses::FIRST_ZERO, 0));
+    assert_eq!(read_literal_u64(b"017", 0, languages::JAVA), Ok((15, 3)));
+}
+
+#[test]
+fn numbers() {
+    let (number, end) = read_json(b"[-1.5e3,-7]", 8).unwrap();
+    assert_eq!((number.integer(), number.to_f64(), end), (Some((true, 7)), -7.0, 10));
+    assert_eq!((number.as_i64(), number.as_u64()), (Some(-7), None));
+    let number = parse_json(b"1.5").unwrap();
+    assert_eq!((number.is_integer(), number.to_f64(), number.as_i64()), (false, 1.5, None));
+    let most = parse_json(b"340282366920938463463374607431768211455").unwrap();
+    assert_eq!((most.integer(), most.as_u64()), (Some((false, u128::MAX)), None));
+    let (number, end) = read_number(b"-inf,", 0, forms::TOML).unwrap();
+    assert_eq!((number.to_f64(), end), (f64::NEG_INFINITY, 4));
+    assert_eq!(parse_number(b"1_000", forms::PYTHON).unwrap().as_u64(), Some(1000));
+    assert_eq!(parse_json(b"1.5 "), fault(statuses::INVALID, 3));
+}
+
+#[test]
+fn lists() {
+    let mut numbers = [7; 2];
+    assert_eq!(read_list(b"1, -2 ,3]", 0, b',', &mut numbers), List { count: 2, end: End::Full(7) });
+    assert_eq!(numbers, [1, -2]);
+    assert_eq!(read_list(b"1, -2 ,3]", 7, b',', &mut numbers), List { count: 1, end: End::Over(8) });
+    assert_eq!(numbers, [3, -2]);
+    let mut column = [7u64; 4];
+    assert_eq!(read_list(b"1\r\n2\n", 0, b'\n', &mut column).count, 2);
+    assert_eq!(column, [1, 2, 7, 7]);
+    let mut floats = [7.0; 3];
+    assert_eq!(read_list(b"1.5 -2e3", 0, b' ', &mut floats), List { count: 2, end: End::Over(8) });
+    assert_eq!(floats, [1.5, -2000.0, 7.0]);
+    let fault = Fault { status: statuses::EMPTY, at: 2 };
+    assert_eq!(read_list::<i64>(b"1;x", 0, b';', &mut numbers).end, End::Fault(fault));
+    assert_eq!(read_list::<i64>(b"1", 0, b',', &mut []), List { count: 0, end: End::Full(0) });
+}
+
+#[test]
+fn a_fault_is_an_error() {
+    let fault: Box<dyn std::error::Error> = parse::<i32>(b"10x").unwrap_err().into();
+    assert_eq!(fault.to_string(), "a byte that is no part of the number at byte 2");
+}

@@ -1,0 +1,72 @@
+// The calls of digits.hpp, each with a number or a fault. Their answers are those of test.c.
+#include "digits.hpp"
+
+#include <cstdio>
+#include <limits>
+
+static int faults = 0;
+
+#define CHECK(condition)                                                       \
+    do {                                                                       \
+        if (!(condition)) {                                                    \
+            std::printf("test.cpp:%d: %s\n", __LINE__, #condition);            \
+            faults++;                                                          \
+        }                                                                      \
+    } while (0)
+
+constexpr digits::word underscores = DIGITS_WORD_PYTHON_LITERAL;
+static const digits::word commas = DIGITS_MAKE_INIT(10, ',', DIGITS_FLAG_INTEGER_INTERNAL);
+
+template <typename T>
+static bool is(const digits::result<T> &result, T value, std::size_t at)
+{
+    return result && *result == value && result.at == at;
+}
+
+template <typename T>
+static bool fails(const digits::result<T> &result, std::uint32_t status, std::size_t at)
+{
+    return !result && result.status == status && result.at == at && !result.optional();
+}
+
+int main()
+{
+    CHECK(is(digits::read<int64_t>("-12;"), int64_t{-12}, 3));
+    CHECK(is(digits::read<long long>("x=+12 ", 2), 12LL, 5));
+    CHECK(is(digits::read<unsigned long>("18446744073709551615"),
+             std::numeric_limits<unsigned long>::max(), 20));
+    CHECK(is(digits::parse<int>("-2147483648"), std::numeric_limits<int>::min(), 11));
+    CHECK(fails(digits::parse<int>("2147483648"), DIGITS_OVERFLOW, 9));
+    CHECK(fails(digits::parse<unsigned>("+1"), DIGITS_INVALID, 0));
+    CHECK(is(digits::parse<int64_t>("1_000", underscores), int64_t{1000}, 5));
+    CHECK(is(digits::read<uint32_t>("x1_0__0", 1, underscores), uint32_t{10}, 4));
+    CHECK(is(digits::read<double>("-1.5e3,2"), -1500.0, 6));
+    CHECK(is(digits::parse<float>("0.1"), 0.1f, 3));
+    CHECK(is(digits::parse<double>("1_234.5e-1", underscores), 123.45, 10));
+    CHECK(digits::parse<double>("x").value_or(7.0) == 7.0);
+    CHECK(std::string_view(digits::parse<double>("").message()) == "no digit");
+    CHECK(is(digits::read_scaled("-1234.5;", 0, 2), int64_t{-123450}, 7));
+    CHECK(is(digits::read_scaled("$1,234.50", 1, 2, commas), int64_t{123450}, 9));
+    CHECK(is(digits::parse_scaled("3,5", 1, DIGITS_WORD_STANDARD, ','), int64_t{35}, 3));
+    CHECK(fails(digits::parse_scaled("0.125", 2), DIGITS_TOO_FINE, 5));
+    const auto literal = digits::read_literal("0xff_u8", 0, DIGITS_LANGUAGE_RUST);
+    CHECK(literal && literal->low == 255 && literal->radix == 16 && literal.at == 5);
+    CHECK(is(digits::read_literal_u64("017", 0, DIGITS_LANGUAGE_JAVA), uint64_t{15}, 3));
+    const auto integer = digits::read_json("[-7]", 1);
+    CHECK(integer && integer->is_integer() && integer->as_i64() == -7 && !integer->as_u64());
+    const auto price = digits::parse_json("1.5");
+    CHECK(price && price->is_float() && price->value == 1.5 && !price->as_i64());
+    const auto port = digits::parse_number("0x1F90", DIGITS_FORM_YAML);
+    CHECK(port && port->as_u64() == 8080u);
+    CHECK(digits::read_number("1em", 0, DIGITS_FORM_STRTOD).at == 1);
+    CHECK(!digits::parse_json({}));
+    int64_t numbers[2] = {7, 7};
+    const auto list = digits::read_list("1, -2 ,3]", 0, ',', numbers, 2);
+    CHECK(list.is_full() && list.count == 2 && list.at == 7 && numbers[1] == -2);
+    const auto rest = digits::read_list("1, -2 ,3]", list.at, ',', numbers, 2);
+    CHECK(rest.is_over() && rest.count == 1 && rest.at == 8 && numbers[0] == 3 && numbers[1] == -2);
+    double column[3] = {7, 7, 7};
+    CHECK(digits::read_list("1.5\n2e3\n", 0, '\n', column, 3).count == 2 && column[1] == 2000.0);
+    std::printf("%d faults\n", faults);
+    return faults != 0;
+}

@@ -1,0 +1,5 @@
+pub mod Calls
+pub mod Lists
+pub mod Literals
+pub mod Numbers
+pub mod Outcomes

@@ -1,0 +1,32 @@
+//! The calls of `digits` that read a number, for C. `c/digits.h` declares them, and says what a
+//! caller in C has to know.
+//!
+//! No call requires anything of its arguments: a start after the end of the text, a word that isn't
+//! supported and a number that names no language or form have a status of their own. What a
+//! reference or a slice asks of C is in the header.
+#![tactic(auto, unfolding(digits::proofs::Literals::lexical_on_literals))]
+
+ghost use Rattle.std.specs.Prelude.{◌≡◌};
+
+mod floats;
+mod integers;
+mod lists;
+mod literals;
+mod numbers;
+mod outcome;
+mod scaled;
+mod word;
+
+pub use outcome::Outcome;
+pub use word::Word;
+
+/// The version of this library: 10,000 for each major one, 100 for each minor one.
+const VERSION: u32 = 100;
+
+/// The version of the library that is linked. A header has its own.
+#[unsafe(no_mangle)]
+pub extern "C" fn digits_version() -> u32
+    ensures { result ≡ 100 }
+{
+    VERSION
+}
