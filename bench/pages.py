@@ -10,6 +10,7 @@ sys.dont_write_bytecode = True
 TOP = os.path.normpath(os.path.join(os.path.dirname(os.path.abspath(__file__)), ".."))
 CASES = "bench/cases.txt"
 from cases import UNITS, table, target  # noqa: E402
+from peers import peers, span as to_peers  # noqa: E402
 from picture import svg  # noqa: E402
 
 # The rows of SPEED, with the cases that they show.
@@ -106,7 +107,7 @@ def speed_rows(cases):
         yield [words, row["Constant"], row["Constant / fixed"] if is_beside else "–",
                f"{to_std:.2f}" if to_std else "–", row["Library"] + is_over,
                *("/".join(it.get(column, "–") for column in ("Constant", "Original"))
-                 for it in (times, misses))]
+                 for it in ([times, misses] if cases.rows["Nanoseconds"] else [misses]))]
 
 
 def asked(cases, flags):
@@ -117,12 +118,14 @@ def asked(cases, flags):
 
 def speed(cases):
     """What docs/SPEED.md has between its comments."""
-    head = ("What is read", "Constant word", "to lexical-util", "to std", "At run time", "ns",
-            "mispredicted")
+    is_timed = bool(cases.rows["Nanoseconds"])
+    head = ["What is read", "Constant word", "to lexical-util", "to std", "At run time",
+            *(["ns"] if is_timed else []), "mispredicted"]
+    last = ("in the last two columns nanoseconds, and branches that valgrind mispredicts" if is_timed
+            else "in the last column branches that valgrind mispredicts")
     lines = [f"{cases.machine}\n"]
-    lines += table("Instructions for each byte; in the last two columns nanoseconds, and branches "
-                   "that valgrind mispredicts, of the constant word and of lexical-util:", head,
-                   speed_rows(cases))
+    lines += table(f"Instructions for each byte; {last}, of the constant word and of lexical-util:",
+                   head, speed_rows(cases))
     lines += [f"{mean}\n" for mean in cases.means]
     return "\n".join(lines) + f"""
 If `looks` is asked after each number of 1 to 4 digits, these go from {asked(cases, "no flags")} \
@@ -169,6 +172,10 @@ and {original("y: radix 16")} times lexical-util's. Literals of Rust take {std("
 many as `from_str_radix`.
 - **Floats** take {std("x: no flags")} times those of std's `parse`, and {std("x: I, grouped")} \
 with separators.
+- **Beside the best other reader** that does the same work, a `u64` takes {to_peers("u64")} times \
+its instructions (`from_chars`), a grouped one {to_peers("grouped")} (lexical-core), an `i32` \
+{to_peers("i32")} (std), an `f64` {to_peers("f64")} (fast_float, simdjson), and a number of JSON \
+{to_peers("JSON")} (simdjson).
 
 The slow ones are grouped floats (up to {most_of(cases, "x:", "Constant", "Filter")} times \
 std), numbers of JSON ({most_of(cases, "z:", "Constant", "Filter")}), runs of dropped separators \
@@ -181,9 +188,9 @@ letters ({most_of(cases, "k:", "Constant")}), and a word that is known only at r
 
 # ---- all three
 
-def between(path, name, text):
+def between(page, name, text):
     """A page with a text between the comment that begins so and the one that ends it."""
-    before, start, rest = read(path).partition(f"<!-- {name}")
+    before, start, rest = page.partition(f"<!-- {name}")
     comment, newline, rest = rest.partition("\n")
     end = rest.index(f"<!-- end of {name} -->")
     return f"{before}{start}{comment}{newline}\n{text}\n\n{rest[end:]}"
@@ -192,8 +199,9 @@ def between(path, name, text):
 def pages():
     """The pages by their paths, as bench/cases.txt has them."""
     cases = Cases()
-    return {"docs/SPEED.md": between("docs/SPEED.md", "table", speed(cases)),
-            "README.md": between("README.md", "speed", summary(cases)),
+    speeds = between(read("docs/SPEED.md"), "table", speed(cases))
+    return {"docs/SPEED.md": between(speeds, "peers", peers()),
+            "README.md": between(read("README.md"), "speed", summary(cases)),
             "docs/speed.svg": svg(cases)}
 
 

@@ -35,7 +35,7 @@ pub enum Work {
     /// Reads each of many integer literals, and adds up those that `u64` holds. In place of the
     /// filter stands `str::parse`, on the digits without separators.
     Literals,
-    /// The same: the library by `digit_uses::mostly`, with code of its own for one word.
+    /// The same: the library by `read_mostly_standard`, with code of its own for one word.
     Mostly,
     /// Reads the digits of each of many integers: the library by `read_digits_of`. In place of the
     /// filter stands `str::parse` too.

@@ -1,10 +1,16 @@
-"""C++'s own reading: `auto x = LITERAL;`, one a line, by g++, and the values by a program."""
+"""The readings of C and C++: a definition by each literal, one a line, by gcc or g++ in the
+language's mode, and the values by a program of C++17."""
+import os
 import re
 import subprocess
 import sys
 import tempfile
 
-GXX = ["g++", "-std=c++17", "-fmax-errors=0", "-fno-diagnostics-show-caret"]
+MODES = {"C89": ["gcc", "-std=c89"], "C99": ["gcc", "-std=c99"], "CXX14": ["g++", "-std=c++14"],
+         "CXX17": ["g++", "-std=c++17"]}
+CHECK = [*MODES[os.environ["FORM"]], "-pedantic-errors", "-fmax-errors=0",
+         "-fno-diagnostics-show-caret", "-fsyntax-only"]
+SOURCE, TYPE = ("a.c", "double") if CHECK[0] == "gcc" else ("a.cc", "auto")
 # [lex.ppnumber]
 ONE = re.compile(r"\.?[0-9](?:[eEpP][+-]|'?[0-9A-Za-z_]|\.)*")
 SHOW = r"""
@@ -21,11 +27,10 @@ def errors(folder, texts):
     refused, large = set(), set()
     for start in range(0, len(texts), 5000):
         part = texts[start:start + 5000]
-        with open(f"{folder}/a.cc", "w") as file:
-            file.writelines(f"auto x{i} = {text};\n" for i, text in enumerate(part))
-        run = subprocess.run([*GXX, "-fsyntax-only", "a.cc"], cwd=folder, stderr=subprocess.PIPE,
-                             text=True)
-        said = re.findall(r"^a\.cc:(\d+):\d+: (error|warning): (.*)", run.stderr, re.M)
+        with open(f"{folder}/{SOURCE}", "w") as file:
+            file.writelines(f"{TYPE} x{i} = {text};\n" for i, text in enumerate(part))
+        run = subprocess.run([*CHECK, SOURCE], cwd=folder, stderr=subprocess.PIPE, text=True)
+        said = re.findall(r"^a\.cc?:(\d+):\d+: (error|warning): (.*)", run.stderr, re.M)
         for line, kind, what in said:
             if kind == "error":
                 refused.add(part[int(line) - 1])
@@ -41,7 +46,7 @@ def values(folder, texts):
         for i, part in enumerate(parts):
             file.write(f"void f{i}() {{\n" + "".join(f"p({text});\n" for text in part) + "}\n")
         file.write("int main() {\n" + "".join(f"f{i}();\n" for i in range(len(parts))) + "}\n")
-    subprocess.run([*GXX, "-w", "b.cc", "-o", "b"], cwd=folder, check=True)
+    subprocess.run(["g++", "-std=c++17", "-w", "b.cc", "-o", "b"], cwd=folder, check=True)
     run = subprocess.run(["./b"], cwd=folder, check=True, stdout=subprocess.PIPE, text=True)
     return run.stdout.split()
 

@@ -1,4 +1,5 @@
-// Go's own readings: GO by go/scanner and go/constant, GO_PARSE_FLOAT by strconv.
+// Go's own readings: GO by go/scanner and go/constant, GO_PARSE_FLOAT by strconv, and PROMETHEUS,
+// which refuses `p` and `_` before it calls that.
 package main
 
 import (
@@ -10,6 +11,7 @@ import (
 	"math"
 	"os"
 	"strconv"
+	"strings"
 )
 
 func literal(text string) string {
@@ -42,10 +44,20 @@ func parseFloat(text string) string {
 	return fmt.Sprintf("f%x", math.Float64bits(x))
 }
 
+func prometheus(text string) string {
+	if strings.ContainsAny(text, "pP_") {
+		return "-"
+	}
+	return parseFloat(text)
+}
+
 func main() {
 	read := literal
-	if os.Getenv("FORM") == "GO_PARSE_FLOAT" {
+	switch os.Getenv("FORM") {
+	case "GO_PARSE_FLOAT":
 		read = parseFloat
+	case "PROMETHEUS":
+		read = prometheus
 	}
 	lines := bufio.NewScanner(os.Stdin)
 	out := bufio.NewWriter(os.Stdout)

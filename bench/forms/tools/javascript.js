@@ -1,4 +1,5 @@
-// Readings of JavaScript's own: JSON, JAVASCRIPT; and JSON5. Each number is a double.
+// Readings of JavaScript's own: JSON, JSON_FLOATS, JAVASCRIPT, JAVASCRIPT_NUMBER; and JSON5. Each
+// number is a double.
 const fs = require('fs');
 const vm = require('vm');
 
@@ -11,8 +12,15 @@ function ofJavaScript(text) {
     return vm.runInThisContext(`"use strict"; ${text}`);
 }
 
+// what isn't a number is NaN, and nothing is 0
+function number(text) {
+    const value = Number(text);
+    return text === '' || Number.isNaN(value) ? undefined : value;
+}
+
 function reader(form) {
-    if (form === 'JSON') return JSON.parse;
+    if (form.startsWith('JSON') && form !== 'JSON5') return JSON.parse;
+    if (form === 'JAVASCRIPT_NUMBER') return number;
     return form === 'JSON5' ? require('json5').parse : ofJavaScript;
 }
 

@@ -1,4 +1,4 @@
-# Ruby's own reading: one literal, by its lexer and by eval.
+# Ruby's own readings: RUBY, one literal, by its lexer and by eval; RUBY_FLOAT, by Float.
 require 'ripper'
 $VERBOSE = nil
 
@@ -15,4 +15,12 @@ rescue SyntaxError
   '-'
 end
 
+# each number is a float
+def answer_of_float(text)
+  "d#{[Float(text)].pack('G').unpack1('H*')}"
+rescue ArgumentError
+  '-'
+end
+
+alias answer answer_of_float if ENV['FORM'] == 'RUBY_FLOAT'
 STDIN.each_line(chomp: true) { |text| puts answer(text) }

@@ -1,0 +1,28 @@
+%% Erlang's own reading, by its scanner.
+main(_) ->
+    ok = io:setopts([{encoding, latin1}]),
+    lines().
+
+lines() ->
+    case io:get_line("") of
+        eof -> ok;
+        Line -> io:put_chars([answer(string:trim(Line, trailing, "\n")), $\n]), lines()
+    end.
+
+answer(Text) ->
+    case erl_scan:string(Text, {1, 1}, [text]) of
+        {ok, [{integer, Where, Value}], _} -> whole(Where, Text, [$i, integer_to_list(Value)]);
+        {ok, [{float, Where, Value}], _} -> whole(Where, Text, [$f, bits(Value)]);
+        _ -> "-"
+    end.
+
+%% what is read has no `#` and no `$`, and no blank is beside it
+whole(Where, Text, Answer) ->
+    case erl_anno:text(Where) of
+        Text -> Answer;
+        _ -> "-"
+    end.
+
+bits(Value) ->
+    <<Bits:64>> = <<Value/float>>,
+    io_lib:format("~16.16.0b", [Bits]).

@@ -1,0 +1,97 @@
+"""The table of the library beside other readers, by bench/peers/counts.txt and times.txt."""
+import os
+
+from cases import table
+
+HERE = os.path.join(os.path.dirname(os.path.abspath(__file__)), "peers")
+LIBRARY = "library"
+# What a side doesn't do that the library does, in the rows whose names begin so.
+LESS = {
+    ("", "atoi"): "no test for overflow",
+    ("", "simdjson, one number"): "no test for the end of the text, so it needs padding",
+    ("f64", "serde_json"): "wrong last bits, as Debian builds it",
+    ("JSON", "serde_json"): "the same",
+    ("JSON", "serde_json, the array"): "the same",
+    ("JSON", "rapidjson, the array"): "another value than 0 for `0e83` and its like",
+    ("JSON", "std, all as floats"): "integers are floats too",
+}
+PLAIN = "the text without its separators"
+
+
+class Figures:
+    """What a file has: `head` is its first line, `rows` has for each row its sides, each with its
+    figures. A file that isn't there has none."""
+
+    def __init__(self, name):
+        self.head, self.rows = "", {}
+        path = os.path.join(HERE, name)
+        if not os.path.exists(path):
+            return
+        with open(path, encoding="utf8") as file:
+            head, *lines = file.read().splitlines()
+        self.head = head.removeprefix("# ")
+        for row, side, *figures in (line.split("\t") for line in lines):
+            self.rows.setdefault(row, {})[side] = [float(it) for it in figures]
+
+
+def lacks(row, side):
+    """What a side doesn't do, or None."""
+    if side.endswith(", plain"):
+        return PLAIN
+    found = [it for (start, name), it in LESS.items() if row.startswith(start) and name == side]
+    return found[0] if found else None
+
+
+def best(row, sides, value, does_less):
+    """The least of the sides that do the same work, or of those that do less, with its name."""
+    found = [(value(figures), side) for side, figures in sides.items()
+             if not side.startswith(LIBRARY) and bool(lacks(row, side)) == does_less]
+    return min(found) if found else None
+
+
+def ratio(mine, peer):
+    return f"{mine / peer[0]:.2f} {peer[1]}" if peer else "–"
+
+
+def cells(row, sides):
+    """What the counts say of a row."""
+    mine, std = sides[LIBRARY], sides.get("std") or sides.get("std, plain")
+    same = best(row, sides, lambda it: it[0], False)
+    return [row, f"{mine[0]:.0f}", f"{std[0]:.0f}" if std else "–", ratio(mine[0], same),
+            ratio(mine[0], best(row, sides, lambda it: it[0], True)),
+            f"{mine[2]:.1f}/{sides[same[1]][2]:.1f}" if same else f"{mine[2]:.1f}"]
+
+
+def time(row, sides):
+    """The ratio of the library's time to the fastest that does the same work."""
+    return ratio(min(sides[LIBRARY]), best(row, sides, min, False)) if sides else "–"
+
+
+def peers():
+    """What docs/SPEED.md has between its comments on peers."""
+    counts, times = Figures("counts.txt"), Figures("times.txt")
+    head = ["What is read", "Library", "std", "to the best peer", "to one that does less",
+            "mispredicted"]
+    body = [cells(row, sides) for row, sides in counts.rows.items()]
+    words = ("Instructions for a number with a constant word; the ratio to the peer with the "
+             "fewest that does the same work, and to one that does less; mispredicted branches of "
+             "the library and of the first peer")
+    if times.rows:
+        head.append("time")
+        words += "; the ratio of the time to the fastest peer that does the same work"
+        for line in body:
+            line.append(time(line[0], times.rows.get(line[0])))
+    told = "; ".join(f"{side}: {it}" for (row, side), it in LESS.items() if it != "the same")
+    text = [f"{counts.head}.\n", *table(f"{words}:", head, body),
+            f"What a peer doesn't do: {told}; *plain*: it gets {PLAIN}."]
+    return "\n".join(text)
+
+
+def span(start):
+    """The least and the greatest ratio to the best peer that does the same work, in the rows whose
+    names begin so."""
+    counts = Figures("counts.txt").rows
+    ratios = [sides[LIBRARY][0] / best(row, sides, lambda it: it[0], False)[0]
+              for row, sides in counts.items() if row.startswith(start)]
+    least, most = f"{min(ratios):.1f}", f"{max(ratios):.1f}"
+    return most if least == most else f"{least} to {most}"
