@@ -61,7 +61,7 @@ def files_of(page, module, prefix, faults):
 
 def answers(faults):
     """Each answer that the first block of README shows is one that a test asserts."""
-    path = "crates/digit_vectors/src/tests/readme.rt"
+    path = "crates/number_vectors/src/tests/readme.rt"
     asserted = " ".join(read(path).split())
     first, block = blocks_of("README.md", "rust")[0]
     for number, line in enumerate(block, first):

@@ -12,8 +12,9 @@ def write(path, text):
         file.write(text)
 
 
-# Each crate that may have edits, and the crates that it uses.
-USES = {name: used for name, used in crates().items() if name != "digit_bench"}
+# Each crate that an example can use, and the crates that it uses. None can use a static library: an
+# example of digits_c is a call in C, which is only read.
+USES = {name: used for name, used in crates().items() if name not in ("digit_bench", "digits_c")}
 
 
 class Edit:
@@ -66,7 +67,7 @@ def edited(edits):
 
 def chosen(words):
     """The edits with these names or of these crates, or all edits if there are no words."""
-    edits = [Edit(path) for path in files_below("crates", ".edit")]
+    edits = [it for it in map(Edit, files_below("crates", ".edit")) if it.crate in USES]
     found = [it for it in edits if {it.crate, it.name, it.name.split("/")[1]} & {*words}]
     if words and not found:
         sys.exit("no edit and no crate has such a name")

@@ -98,7 +98,7 @@ class Tree:
 
 def words_of_sources():
     """Each word of the sources, also of the benchmark and of .ci."""
-    paths = [path for ending in (".rt", ".antt", ".rs", ".py", ".txt", ".edit")
+    paths = [path for ending in (".rt", ".antt", ".rs", ".py", ".h", ".hpp", ".txt", ".edit")
              for path in files_below(".", ending)]
     paths += [f".ci/{name}" for name in os.listdir(f"{TOP}/.ci")
               if "." not in name and name != "selftest"]

@@ -37,8 +37,10 @@ def crates():
     return {head.split()[0]: below.split() for head, _, below in lines if head.strip()}
 
 
-# The crates that no caller uses: examples, the program, tests, the benchmark.
-INNER = ("digit_hello", "digit_uses", "digit_drain", "digit_vectors", "digit_bench")
+# The crates that no caller in Rattle uses: examples, the program, tests, the benchmark, the library
+# for C.
+INNER = ("digit_hello", "digit_uses", "digit_drain", "digit_vectors", "number_vectors",
+         "digit_bench", "digits_c")
 
 # The crate that only passes on what the others have.
 DOOR = "digits"
@@ -50,15 +52,17 @@ def libraries():
 
 
 def passed_on():
-    """What DOOR passes on: {name: (crate, path)} of its items, {name: (module, name)} of its
+    """What DOOR passes on: {name: (crate, path)} of its items, {name: (module, name there)} of its
     words."""
     items = {name: (crate, path + name) for crate, path, name in names_of(
         re.findall(r"^pub use (\w+)::((?:\w+::)*)(?:(\w+)|\{([^}]*)\});",
                    read(f"crates/{DOOR}/src/lib.rt"), re.M))}
-    words = {name: (module, name) for module, _, name in names_of(
-        (module, "", "", names) for module, names in re.findall(
+    words = {}
+    for module, _, name in names_of((module, "", "", names) for module, names in re.findall(
             r"^(?:unfoldable )?pub use ([\w.]+)\.\{([^}]*)\}$",
-            read(f"crates/{DOOR}/specs/Words.antt"), re.M))}
+            read(f"crates/{DOOR}/specs/Words.antt"), re.M)):
+        there, _, here = name.partition(" as ")
+        words[here or there] = (module, there)
     return items, words
 
 

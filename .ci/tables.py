@@ -1,17 +1,20 @@
 #!/usr/bin/env python3
-"""The tables of docs/RULES.md, as the sources and the tests have them.
+"""The tables of docs/RULES.md and docs/reference/forms.md, as the sources and the tests have them.
 
     .ci/tables.py --write    writes them: the states and the worked rows from rules.rt, the words
-                             with names from words.rt, a first 0 from languages.rt. Of the worked
-                             rows the page shows some, each with a last column of its own"""
+                             with names from words.rt, a first 0 from languages.rt, the forms from
+                             forms.rt. Of the worked rows the page shows some, each with a last
+                             column of its own"""
 import os
 import re
 import sys
 
 sys.dont_write_bytecode = True
+from forms import FORMS, forms, names_of, parts_of  # noqa: E402
 from sources import TOP, difference, read  # noqa: E402
 
 PAGE = "docs/RULES.md"
+FORMS_PAGE = "docs/reference/forms.md"
 TESTS = "crates/digit_vectors/src/tests/rules.rt"
 LETTERS = {"I": 1 << 32, "L": 1 << 35, "T": 1 << 38, "C": 1 << 41}
 FLAGS = {"0": "none", "ALL": "ILTC", "INTERNAL": "I", "LEADING": "L", "TRAILING": "T",
@@ -19,26 +22,14 @@ FLAGS = {"0": "none", "ALL": "ILTC", "INTERNAL": "I", "LEADING": "L", "TRAILING"
 
 WORDS = ("crates/lexical_format/src/lib.rt", "crates/lexical_format/src/words.rt")
 # each word with a name is in the law `words_say` and has a row of a test
-NAMING = ("crates/lexical_format/src/laws.rt", "crates/digit_vectors/src/tests/languages.rt")
+NAMING = ("crates/lexical_format/src/laws.rt", "crates/number_vectors/src/tests/languages.rt")
 # each language with its prefixes and its first 0, and what the languages' own tools read
 LANGUAGES = "crates/digit_languages/src/languages.rt"
-TOOLS = "crates/digit_vectors/src/tests/language_literals.rt"
+TOOLS = "crates/number_vectors/src/tests/language_literals.rt"
 MEND = "run .ci/tables.py --write"
 WHY = "?"  # the last column of a worked row that doesn't say why
 
 # ---- the sources
-
-
-def parts_of(text):
-    """What commas part in a text of Rust, outside of brackets and literals."""
-    parts, depth = [""], 0
-    for token in re.findall(r'"(?:\\.|[^"\\])*"|.', text, re.S):
-        depth += (token in "([{") - (token in ")]}")
-        if token == "," and depth == 0:
-            parts.append("")
-        else:
-            parts[-1] += token
-    return [part.strip() for part in parts if part.strip()]
 
 
 def rows_of(path, name):
@@ -199,7 +190,7 @@ def first_zero_said(kind, word, text):
 
 def marked(cell):
     """A cell with its code marked."""
-    return re.sub(r"\b0[box]\b|\b[A-Z]\w+|(?<=^0, then ).*|^0(?=, then)", r"`\g<0>`", cell)
+    return re.sub(r"\b0[box]\b|\b[A-Z]\w*|(?<=^0, then ).*|^0(?=, then)", r"`\g<0>`", cell)
 
 
 def tool_values():
@@ -209,6 +200,35 @@ def tool_values():
         for text, values in rows_of(TOOLS, static):
             for language, value in zip(names, parts_of(values.strip("[]"))):
                 yield language, text_of(text).replace("'", "_"), value
+
+
+# ---- forms
+
+# The parts of forms.rt, and the first column of their table.
+PARTS = {"the source code of languages": "Source code", "data formats": "Data format",
+         "functions that take a string": "Function"}
+SIGNS = {"Absent": "none", "Minus": "`-`", "Either": "both"}
+HEX_FLOATS = {"Absent": [], "Exponent": ["0x1p3"], "PointOrExponent": ["0x1p3", "0x1."],
+              "Always": ["0x1p3", "0x1.", "0x1"]}
+
+
+def form_row(name, comment, form):
+    """A form, its signs, which texts are floats beside `0.5`, and the comment of the constant."""
+    also = [text for text, is_one in ((".5", not form["needs_integer"]),
+                                      ("5.", not form["needs_fraction"]),
+                                      ("00.5", form["float_zeros"])) if is_one]
+    shown = [f"`{it}`" for it in [*also, *HEX_FLOATS[form["hex_floats"]], *names_of(form)]]
+    if form["specials"] and form["specials"]["any_case"]:
+        shown.append("in any case")
+    return [f"`{name}`", SIGNS[form["signs"]], " ".join(shown), comment]
+
+
+def of_forms():
+    """{columns of a table: its rows}."""
+    found = forms()
+    return {(head, "Signs", "Also", "What it is"):
+            [form_row(name, *said) for name, said in found[part].items()]
+            for part, head in PARTS.items()}
 
 
 # ---- the page
@@ -240,15 +260,17 @@ def is_of_flags(row):
     return row[0] == "none" or re.fullmatch("[ILTC]+", row[0]) is not None
 
 
-def written():
-    """The page with the tables that the sources have."""
-    lines = read(PAGE).split("\n")
+def put(lines, columns, rows):
+    """Writes the rows of a table of a page."""
+    table = Table(lines, columns)
+    rows = rows(table.rows) if callable(rows) else rows
+    lines[table.first:table.last] = [" | ".join([f"| {row[0]}", *row[1:], ""]).strip()
+                                     for row in rows]
 
-    def put(columns, rows):
-        table = Table(lines, columns)
-        rows = rows(table.rows) if callable(rows) else rows
-        lines[table.first:table.last] = [" | ".join([f"| {row[0]}", *row[1:], ""]).strip()
-                                         for row in rows]
+
+def written():
+    """The pages with the tables that the sources have."""
+    lines, forms_lines = (read(page).split("\n") for page in (PAGE, FORMS_PAGE))
 
     def worked(rows):
         """The page shows some of the rows of the tests, and says why."""
@@ -259,10 +281,12 @@ def written():
     start = next(n for n, line in enumerate(lines) if re.match(r"\s+flags  ", line))
     lines[start:next(n for n in range(start, len(lines)) if lines[n] == "```")] = states()
     for columns, rows in WORKED.items():
-        put(columns, worked(rows()))
-    put(WITH_NAMES, lambda page: words([head for head, *_ in page]))
-    put(FIRST_ZEROS, first_zeros())
-    return "\n".join(lines)
+        put(lines, columns, worked(rows()))
+    put(lines, WITH_NAMES, lambda page: words([head for head, *_ in page]))
+    put(lines, FIRST_ZEROS, first_zeros())
+    for columns, rows in of_forms().items():
+        put(forms_lines, columns, rows)
+    return {PAGE: "\n".join(lines), FORMS_PAGE: "\n".join(forms_lines)}
 
 
 def reasons(lines):
@@ -312,20 +336,32 @@ def named():
                     if name not in there)
 
 
+def served():
+    """Each form has its clause in a law, and the page no other form."""
+    known = {name for part in forms().values() for name in part}
+    laws = set(re.findall(r"IsForm (\w+)", read(FORMS)))
+    yield from (f"{FORMS}:1: no law says IsForm {name}" for name in sorted(known - laws))
+    for line, text in enumerate(read(FORMS_PAGE).split("\n"), 1):
+        yield from (f"{FORMS_PAGE}:{line}: there is no form {name}"
+                    for name in re.findall(r"\.\.(?:forms::)?([A-Z]\w+) }", text)
+                    if name not in {*known, "LITERAL", "FLOAT"})
+
+
 def check():
     lines = read(PAGE).split("\n")
-    text = written()
-    faults = [difference(PAGE, text, ".ci/tables.py --write")] if text != read(PAGE) else []
-    faults += [*reasons(lines), *bits(lines), *as_tools_read(lines), *named()]
-    rows = sum(line.startswith("| ") for line in lines) + len(states())
-    return f"{rows} rows of {PAGE}, and the names of {len(named_words())} words", faults
+    faults = [difference(page, text, MEND.partition(" ")[2]) for page, text in written().items()
+              if text != read(page)]
+    faults += [*reasons(lines), *bits(lines), *as_tools_read(lines), *named(), *served()]
+    rows = sum(line.startswith("| ") for page in (PAGE, FORMS_PAGE) for line in read(page).split("\n"))
+    return (f"{rows + len(states())} rows of {PAGE} and {FORMS_PAGE}, and the names of "
+            f"{len(named_words())} words"), faults
 
 
 if __name__ == "__main__":
     if sys.argv[1:] == ["--write"]:
-        text = written()
-        with open(os.path.join(TOP, PAGE), "w", encoding="utf8") as file:
-            file.write(text)
+        for page, text in written().items():
+            with open(os.path.join(TOP, page), "w", encoding="utf8") as file:
+                file.write(text)
     said, faults = check()
     print("\n".join(faults) if faults else f"tables: {said}")
     sys.exit(1 if faults else 0)

@@ -1,0 +1,125 @@
+#!/usr/bin/env python3
+"""What `rt tidy` would mend, and more, told by the texts in seconds: a name that an import has and
+nothing uses, and a line above 100 columns that is no import, in sources, specs and proofs.
+
+    .ci/tidy.py [CRATE..]    tells them, and ends with status 1 where there is one
+    .ci/tidy.py --write      writes into left.txt how many each crate has, also of .ci/lemmas.py;
+                             .ci/pages tells a crate that has more
+
+The names of traits in an import are left out, since their methods are called without them."""
+import os
+import re
+import sys
+
+sys.dont_write_bytecode = True
+from sources import TOP, crates, files_below, read  # noqa: E402
+
+MOST = 100
+# How many faults each crate may have until its sources are next changed: of this script, and of
+# .ci/lemmas.py.
+KEPT = ".ci/left.txt"
+HEAD = "# Each crate with the faults that it may have, of tidy.py and of lemmas.py; see tidy.py.\n"
+# an import up to its end: `use`, with `ghost` before it in a .rt file; no `pub use`
+IMPORT = re.compile(r"^[ ]*(?:ghost )?use [^;{]*?(?:\{[^}]*\})?(?:;|$)", re.M)
+# lists of names, and literals, which no layout breaks
+UNBROKEN = re.compile(r"\s*(?:(?:unfoldable )?(?:pub )?(?:ghost )?use |#!?\[tactic|b?\"[^\"]*\",?$)")
+# traits of std that files import for their methods
+STD_TRAITS = {"BufRead", "Display", "Error", "FromStr", "Iterator", "Read", "Write"}
+
+
+def bare(text, is_rust):
+    """A text without its comments."""
+    return re.sub(r"//[^\n]*" if is_rust else r"(?<!\S)--(?= |-|$)[^\n]*", "", text, flags=re.M)
+
+
+def names_of(statement):
+    """The names that an import makes known in its file."""
+    inner = re.search(r"\{([^}]*)\}", statement)
+    if inner:
+        names = inner[1].split(",")
+    else:
+        names = [re.sub(r".*?\buse\s+", "", statement.rstrip(";")).strip()]
+    for name in filter(None, (name.strip() for name in names)):
+        name = name.split(" as ")[-1].strip()
+        name = name if "◌" in name else re.split(r"::|\.", name)[-1]
+        if name not in ("*", "self"):
+            yield name
+
+
+def is_used(name, text):
+    """Whether a text has a name, or all signs of an operator."""
+    if "◌" not in name:
+        return re.search(rf"(?<![\w◌-]){re.escape(name)}(?![\w◌]|-\w)", text) is not None
+    return all(sign in text for sign in filter(None, name.split("◌")))
+
+
+def traits():
+    """The traits of the repository."""
+    text = "\n".join(read(path) for path in files_below("crates", ".rt") if "/src/" in path)
+    return set(re.findall(r"\btrait (\w+)", text)) | STD_TRAITS
+
+
+def unused(path, text, known):
+    """Each import's line, and its name that nothing uses."""
+    is_rust = path.endswith(".rt")
+    text = bare(text, is_rust)
+    rest = IMPORT.sub("", text)
+    for m in IMPORT.finditer(text):
+        line = text.count("\n", 0, m.start()) + 1
+        is_ghost = not is_rust or "ghost use" in m[0]
+        for name in names_of(m[0]):
+            if not is_used(name, rest) and (is_ghost or name not in known):
+                yield line, name
+
+
+def wide(text):
+    """The number of each line that is too long, and how long it is."""
+    for number, line in enumerate(text.split("\n"), 1):
+        if len(line) > MOST and not UNBROKEN.match(line):
+            yield number, len(line)
+
+
+def faults_of(crate, known):
+    for path in files_below(f"crates/{crate}", (".rt", ".antt")):
+        text = read(path)
+        yield from (f"{path}:{line}: nothing uses {name}" for line, name in unused(path, text, known))
+        yield from (f"{path}:{line}: {width} columns" for line, width in wide(text))
+
+
+def left(column):
+    """How many faults each crate may have, by left.txt."""
+    return {row[1]: int(row[2 + column])
+            for row in re.finditer(r"^(\w+) (\d+) (\d+)$", read(KEPT), re.M) if int(row[2 + column])}
+
+
+def above(may, found):
+    """The faults of the crates that have more of them than they may."""
+    return [fault for crate, faults in found.items() for fault in faults
+            if len(faults) > may.get(crate, 0)]
+
+
+def found_in(names):
+    known = traits()
+    return {crate: list(faults_of(crate, known)) for crate in names or crates()}
+
+
+def check():
+    may = left(0)
+    return (f"no unused import and no line above {MOST} columns, but {sum(may.values())} in "
+            f"{', '.join(may) or 'none'}"), above(may, found_in(()))
+
+
+def write():
+    import lemmas
+    both = found_in(()), lemmas.found_in(())[0]
+    rows = ((crate, *(len(found[crate]) for found in both)) for crate in crates())
+    with open(os.path.join(TOP, KEPT), "w", encoding="utf8") as file:
+        file.write(HEAD + "".join(f"{' '.join(map(str, row))}\n" for row in rows if any(row[1:])))
+
+
+if __name__ == "__main__":
+    if sys.argv[1:] == ["--write"]:
+        sys.exit(write())
+    faults = above({}, found_in(sys.argv[1:]))
+    print("\n".join(faults) or f"tidy: no unused import and no line above {MOST} columns")
+    sys.exit(1 if faults else 0)
