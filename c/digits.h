@@ -281,8 +281,8 @@ digits_outcome digits_parse_f32_by(const void *text, size_t length, digits_word 
  * exponent isn't read.
  *
  * DIGITS_EMPTY       no digit; `at` is where the digits end
- * DIGITS_OVERFLOW    the type hasn't the number; `at` is the end of the number
- * DIGITS_TOO_FINE    a digit after the last place is no zero; `at` is the end of the number
+ * DIGITS_OVERFLOW    the type hasn't the number with the digit at `at`
+ * DIGITS_TOO_FINE    the digit at `at` is the first after the last place that is no zero
  * DIGITS_INVALID     of digits_parse_..: the byte at `at` is no part of the number
  * DIGITS_BAD_PLACES  more than 38 places; `at` is the start
  *

@@ -153,7 +153,7 @@ static void scaled(void)
 
     IS(digits_read_scaled_i64(TEXT("-1234.5;"), 0, 2, &cents), DIGITS_OK, 7);
     CHECK(cents == -123450);
-    IS(digits_read_scaled_i64(TEXT("0.125"), 0, 2, &cents), DIGITS_TOO_FINE, 5);
+    IS(digits_read_scaled_i64(TEXT("0.125"), 0, 2, &cents), DIGITS_TOO_FINE, 4);
     CHECK(cents == 0);
     IS(digits_read_scaled_i64(TEXT("0.1250"), 0, 3, &cents), DIGITS_OK, 6);
     CHECK(cents == 125);
@@ -161,7 +161,7 @@ static void scaled(void)
     IS(digits_read_scaled_i64(TEXT("1"), 2, 2, &cents), DIGITS_BAD_START, 2);
     IS(digits_parse_scaled_i64(TEXT("-92233720368547758.08"), 2, &cents), DIGITS_OK, 21);
     CHECK(cents == INT64_MIN);
-    IS(digits_parse_scaled_i64(TEXT("92233720368547758.08"), 2, &cents), DIGITS_OVERFLOW, 20);
+    IS(digits_parse_scaled_i64(TEXT("92233720368547758.08"), 2, &cents), DIGITS_OVERFLOW, 19);
     IS(digits_parse_scaled_i64(TEXT("1.5x"), 2, &cents), DIGITS_INVALID, 3);
     IS(digits_read_scaled_i64_by(TEXT("$1,234.50"), 1, 2, comma, '.', &cents), DIGITS_OK, 9);
     CHECK(cents == 123450);

@@ -48,7 +48,7 @@ int main()
     CHECK(is(digits::read_scaled("-1234.5;", 0, 2), int64_t{-123450}, 7));
     CHECK(is(digits::read_scaled("$1,234.50", 1, 2, commas), int64_t{123450}, 9));
     CHECK(is(digits::parse_scaled("3,5", 1, DIGITS_WORD_STANDARD, ','), int64_t{35}, 3));
-    CHECK(fails(digits::parse_scaled("0.125", 2), DIGITS_TOO_FINE, 5));
+    CHECK(fails(digits::parse_scaled("0.125", 2), DIGITS_TOO_FINE, 4));
     const auto literal = digits::read_literal("0xff_u8", 0, DIGITS_LANGUAGE_RUST);
     CHECK(literal && literal->low == 255 && literal->radix == 16 && literal.at == 5);
     CHECK(is(digits::read_literal_u64("017", 0, DIGITS_LANGUAGE_JAVA), uint64_t{15}, 3));

@@ -232,42 +232,41 @@ inline answer json(const string &text, size_t start)
     return is(DIGITS_OK, at);
 }
 
-// A decimal number of two places as an integer.
+// A decimal number of two places as an integer, or the first digit that is too much.
 inline answer cents(const string &text, size_t start)
 {
     const size_t whole = past_sign(text, start);
     const bool is_negative = whole > start && text[start] == '-';
-    size_t at = past_digits(text, whole), digits = at - whole, places = 0;
-    string kept = text.substr(whole, digits);
-    bool is_fine = false;
-    if (at < text.size() && text[at] == '.') {
-        const size_t end = past_digits(text, at + 1);
-        for (size_t i = at + 1; i < end; i++) {
-            if (places < 2) {
-                kept += text[i];
-                places++;
-            } else
-                is_fine |= text[i] != '0';
-        }
-        digits += end - at - 1;
-        at = end;
-    }
+    const __int128 most = static_cast<__int128>(INT64_MAX) + is_negative;
     const string zero(8, '\0');
+    size_t at = whole, digits = 0;
+    __int128 value = 0, scale = 100;
+    bool is_fraction = false;
+    answer fault{zero, 0, DIGITS_OK};
+    for (; at < text.size(); at++) {
+        if (text[at] == '.' && !is_fraction) {
+            is_fraction = true;
+            continue;
+        }
+        if (text[at] < '0' || text[at] > '9')
+            break;
+        digits++;
+        scale /= is_fraction ? 10 : 1;
+        if (fault.status != DIGITS_OK)
+            continue;
+        if (scale == 0 && text[at] != '0')
+            fault = {zero, at, DIGITS_TOO_FINE};
+        else if (scale > 0)
+            value = value * 10 + (text[at] - '0');
+        if (value * scale > most)
+            fault = {zero, at, DIGITS_OVERFLOW};
+    }
     if (digits == 0)
         return {zero, at, DIGITS_EMPTY};
-    kept.append(2 - places, '0');
-    __int128 value = 0;
-    for (const char byte : kept)
-        if (value < static_cast<__int128>(1) << 100)
-            value = value * 10 + (byte - '0');
-    if (is_negative)
-        value = -value;
-    const bool is_large = value > INT64_MAX || value < INT64_MIN;
-    if (is_fine || is_large) {
-        // where both hold, either is told
-        return {zero, at, is_large && is_fine ? UINT32_MAX : is_large ? DIGITS_OVERFLOW : DIGITS_TOO_FINE};
-    }
-    return {bytes_of(static_cast<int64_t>(value)), at, DIGITS_OK};
+    if (fault.status != DIGITS_OK)
+        return fault;
+    value *= scale > 0 ? scale : 1;
+    return {bytes_of(static_cast<int64_t>(is_negative ? -value : value)), at, DIGITS_OK};
 }
 
 // An integer in which each `_` between two digits of the text is dropped, also one at the start: by
@@ -540,11 +539,8 @@ inline void all(const string &copy, size_t start, uint64_t choice)
          whole(json_0, copy, json_0.status == DIGITS_EMPTY), "a whole JSON number");
     same(call<digits_number>(digits_read_number, text, length, start, DIGITS_FORM_JSON),
          json(copy, start), "a number by the form JSON");
-    answer two = cents(copy, start);
-    const answer scaled = call<int64_t>(digits_read_scaled_i64, text, length, start, size_t{2});
-    if (two.status == UINT32_MAX)
-        two.status = scaled.status;
-    same(scaled, two, "cents");
+    same(call<int64_t>(digits_read_scaled_i64, text, length, start, size_t{2}), cents(copy, start),
+         "cents");
     const answer scaled_0 = call<int64_t>(digits_read_scaled_i64, text, length, size_t{0}, size_t{2});
     same(call<int64_t>(digits_parse_scaled_i64, text, length, size_t{2}),
          whole(scaled_0, copy, true), "whole cents");

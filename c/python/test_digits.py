@@ -35,7 +35,7 @@ class Calls(unittest.TestCase):
         commas = digits.make_word(10, ord(","), digits.FLAG_INTEGER_INTERNAL)
         self.assertEqual(digits.read_scaled(b"$1,234.50", 1, 2, commas), (123450, 9))
         self.assertEqual(digits.parse_scaled(b"3,5", 1, point=b","), 35)
-        self.fails(digits.TOO_FINE, 5, digits.parse_scaled, b"0.125", 2)
+        self.fails(digits.TOO_FINE, 4, digits.parse_scaled, b"0.125", 2)
 
     def test_literals(self):
         self.assertEqual(digits.read_literal(b"0xff_u8", 0, digits.LANGUAGE_RUST),

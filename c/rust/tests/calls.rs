@@ -35,7 +35,7 @@ fn scaled() {
     let commas = Word::new(10, b',', flags::INTEGER_INTERNAL);
     assert_eq!(read_scaled(b"-1234.5;", 0, 2), Ok((-123450, 7)));
     assert_eq!(read_scaled_by(b"$1,234.50", 1, 2, commas, b'.'), Ok((123450, 9)));
-    assert_eq!(parse_scaled(b"0.125", 2), fault(statuses::TOO_FINE, 5));
+    assert_eq!(parse_scaled(b"0.125", 2), fault(statuses::TOO_FINE, 4));
     assert_eq!(parse_scaled_by(b"3,5", 1, words::STANDARD, b','), Ok(35));
     assert_eq!(parse_scaled(b"1", 39), fault(statuses::BAD_PLACES, 0));
 }

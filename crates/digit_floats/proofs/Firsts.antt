@@ -54,22 +54,23 @@ same_value digits value h =
 -- all of its digits count
 pub all_count : (whole fraction : List ℕ) (places value : ℕ)
     → IsOfFirstDigits 10 19 (whole ++ fraction) value 0 → length fraction ≤ places
-    → first_value whole fraction places ≡ value
+    → first_value (digits_value 10 whole) places fraction ≡ value
 unfolding first_value
 all_count whole fraction places value h l =
-    rw (take_all {A = ℕ} places fraction l) (same_value (whole ++ fraction) value h)
+    rw (take_all {A = ℕ} places fraction l, value_of_both 10 whole fraction)
+    (same_value (whole ++ fraction) value h)
 
 -- in two pieces, the first of which has all digits of the integer
 pub firsts_are : (whole fraction : List ℕ) (places count : ℕ) → length whole ≤ count
-    → first_value whole fraction places
+    → first_value (digits_value 10 whole) places fraction
     ≡ digits_value_after 10 (digits_value_after 10 0 (take count whole)) (take places fraction)
 unfolding first_value
-firsts_are whole fraction places count l =
-    rw (take_all {A = ℕ} count whole l, value_of_both 10 whole (take places fraction)) refl
+firsts_are whole fraction places count l = rw (take_all {A = ℕ} count whole l) refl
 
 -- it is no less than the first
 pub firsts_grow : (whole fraction : List ℕ) (places count : ℕ) → length whole ≤ count
-    → digits_value_after 10 0 (take count whole) ≤ first_value whole fraction places
+    → digits_value_after 10 0 (take count whole)
+    ≤ first_value (digits_value 10 whole) places fraction
 firsts_grow whole fraction places count l =
     let a = first_no_more 10 (digits_value_after 10 0 (take count whole)) 0 (take places fraction)
     (omega arith) in

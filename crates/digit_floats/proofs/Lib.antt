@@ -4,6 +4,7 @@ pub mod Bytes
 mod Cut
 mod CutOff
 pub mod Decimals
+mod Faults
 mod First
 mod Firsts
 mod HexDigits

@@ -2,9 +2,12 @@
 use Rattle.std.proofs.Common.{◌≡◌, ℕ, ◌+◌, ◌<◌, ◌≤◌, Bool, true, false, cond, List, refl, ap, ◌∙◌, arith, inl, inr}
 use Rattle.std.proofs.lemmas.Bool.{cases_lt}
 use Rattle.std.proofs.lemmas.Bool.Decides.{nat_tests}
-use Rattle.std.specs.Prelude.{Result, Ok, Err}
+use Rattle.std.specs.Prelude.{◌/◌, ◌^◌, slice_range, Result, Ok, Err}
 use Rattle.std.specs.Float.{Format}
 use Rattle.std.specs.Float.Numeral.{Parts, nearest_float}
+use Rattle.digit_literals.specs.declared.LiteralError.{LiteralError}
+use Rattle.digit_literals.specs.declared.LiteralError.TheVariants as integers
+use Rattle.digit_literals.specs.Integers.{integer_at}
 use Rattle.digit_literals.specs.Numbers.{is_negative_from}
 use Rattle.digit_literals.specs.Numbers as signs
 use Rattle.digit_floats.specs.declared.decimal.Decimal.{Decimal}
@@ -13,13 +16,13 @@ use Rattle.digit_floats.specs.declared.scaled.ScaledError.{ScaledError}
 use Rattle.lexical_digits.specs.declared.skip.component.Component.{Component}
 use Rattle.lexical_digits.specs.declared.skip.component.Component.TheVariants.{Integer, Fraction, Exponent}
 use Rattle.lexical_digits.specs.State.{rule_of}
-use Rattle.lexical_digits.proofs.Calls.WhatFollows.{same_there, same_stop, stop_upto}
-use Rattle.digit_literals.proofs.WhatFollows.{same_between}
+use Rattle.lexical_digits.proofs.Calls.WhatFollows.{same_range, same_there, same_stop, stop_upto}
+use Rattle.digit_literals.proofs.WhatFollows.{same_between, same_integer}
 use Rattle.digit_floats.specs.declared.parts.Marks.{Marks}
 use Rattle.digit_floats.specs.Bytes.{stands, is_sign, is_minus, is_point, is_mark}
 use Rattle.digit_floats.specs.Float.{past_sign, digits_end, digits_from, fraction_digits, fraction_end, exponent_digits, exponent_end, exponent_negative, parts_at, mantissa_end, end_from, end_at, with_end, read_at}
 use Rattle.digit_floats.specs.Decimals.{decimal_at, read_decimal_at}
-use Rattle.digit_floats.specs.Scaled.{scaled_at, with_sign, read_scaled_at}
+use Rattle.digit_floats.specs.Scaled.{fault, fault_after, fault_at, scaled_at, with_sign, read_scaled_at}
 use Rattle.digit_floats.specs.Follows.{IsSameFloatUpTo}
 
 module _ (word : ℕ) (marks : Marks) (one other : List ℕ) (at : ℕ)
@@ -231,6 +234,29 @@ module _ (word : ℕ) (marks : Marks) (one other : List ℕ) (at : ℕ)
 
   -- ---- a scaled number
 
+  after_same : (places most i whole : ℕ) → i ≤ at
+      → fault_after word one marks.point places most i whole
+      ≡ fault_after word other marks.point places most i whole
+  after_same places most i whole from =
+      let bytes = same_range one other at (upto.digits Integer).same (digits_end word one Integer i)
+      (mantissa_end word one marks.point i) (mantissa_upto i from) in
+      rw (← mantissa_same i from, ← ends_same Integer i from, bytes) refl
+
+  fault_same : (places most i : ℕ) (integer : Result (ℕ × ℕ) LiteralError) → i ≤ at
+      → fault word one marks.point places most i integer
+      ≡ fault word other marks.point places most i integer
+  fault_same places most i (Err (integers.Overflow over)) from = refl
+  fault_same places most i (Err (integers.Empty none)) from = rw (after_same places most i 0 from) refl
+  fault_same places most i (Ok read) from = after_same places most i read.0 from
+
+  fault_at_same : (places most i : ℕ) → i ≤ at
+      → fault_at word one marks.point places most i ≡ fault_at word other marks.point places most i
+  fault_at_same places most i from =
+      let integer = same_integer (rule_of word Integer) one other at (upto.digits Integer) i
+      (most / 10 ^ places) from in
+      rw (← integer)
+      (fault_same places most i (integer_at (rule_of word Integer) one i (most / 10 ^ places)) from)
+
   scaled_same : (places most i : ℕ) → i ≤ at
       → scaled_at word one marks.point places most i
       ≡ scaled_at word other marks.point places most i
@@ -238,6 +264,7 @@ module _ (word : ℕ) (marks : Marks) (one other : List ℕ) (at : ℕ)
   scaled_same places most i from =
       let whole = ends_upto Integer i from in
       rw (
+        fault_at_same places most i from,
         digits_same Integer i from,
         fraction_same (digits_end word one Integer i) whole,
         fraction_end_same (digits_end word one Integer i) whole,

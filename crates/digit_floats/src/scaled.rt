@@ -1,17 +1,18 @@
 //! A decimal number as an integer: so many of its last place.
 
-ghost use Rattle.std.specs.Prelude.{◌≡◌, ◌==◌, ◌+◌, ◌-◌, ◌*◌, ◌^◌, ◌<◌, ◌≤◌, true, length, filter, take, drop, IfOk, IfErr, IfSome, Some, Ok, Err, IsTrue, MatchOption, MatchResult};
+ghost use Rattle.std.specs.Prelude.{◌≡◌, ◌==◌, ◌+◌, ◌-◌, ◌*◌, ◌^◌, ◌<◌, ◌≤◌, ℕ, true, false, length, filter, take, drop, IfOk, IfErr, IfSome, Some, Ok, Err, IsTrue, MatchOption, MatchResult};
 ghost use Rattle.std.specs.List.{list_all};
 ghost use Rattle.std.specs.Char.{is_ascii_digit, digit_value};
-ghost use Rattle.std.specs.Str.Parse.{digits_value_after};
+ghost use Rattle.std.specs.Str.Parse.{digits_value, digits_value_after};
 ghost use Rattle.lexical_format.specs.Word.{is_supported};
+ghost use Rattle.lexical_digits.specs.declared.skip.component.Component.TheVariants.{Integer};
 ghost use Rattle.digit_literals.specs.Numbers.{is_negative_from, digits_from};
-ghost use Rattle.digit_floats.specs.Float.{IsDecimal};
+ghost use Rattle.digit_floats.specs.Float.{IsDecimal, digits_end, mantissa_end};
 ghost use Rattle.digit_floats.specs.Parts.{IsMantissa, integer_of, fraction_of};
-ghost use Rattle.digit_floats.specs.Scaled.{is_exact, first_value, scaled_value, scaled_at, read_scaled_at, whole_of, position, message};
+ghost use Rattle.digit_floats.specs.Scaled.{is_exact, first_value, scaled_value, fitting, fault_at, scaled_at, read_scaled_at, whole_of, position, message};
 
 use super::parts::{Mantissa, read_mantissa};
-use digit_literals::Integer;
+use digit_literals::{Integer, LiteralError, read_wide_from};
 use std::error::Error;
 use std::fmt;
 
@@ -20,9 +21,9 @@ use std::fmt;
 pub enum ScaledError {
     /// Neither integer nor fraction has a digit, and they end at this position.
     Empty(usize),
-    /// The number that ends at this position is too large.
+    /// With the digit at this position the number is too large.
     TooLarge(usize),
-    /// The number that ends at this position has a digit after the last place that is no zero.
+    /// The digit at this position is the first after the last place that is no zero.
     TooFine(usize),
     /// The byte at this position is no part of the number before it.
     Invalid(usize),
@@ -48,8 +49,10 @@ impl fmt::Display for ScaledError {
     fn fmt<W: fmt::Write>(&self, f: &mut fmt::Formatter<W>) -> fmt::Result {
         match *self {
             ScaledError::Empty(at) => write!(f, "there is no digit before {at}"),
-            ScaledError::TooLarge(at) => write!(f, "the number before {at} is too large"),
-            ScaledError::TooFine(at) => write!(f, "the number before {at} has too many places"),
+            ScaledError::TooLarge(at) => {
+                write!(f, "the number is too large with the digit at {at}")
+            }
+            ScaledError::TooFine(at) => write!(f, "the digit at {at} is after the last place"),
             ScaledError::Invalid(at) => write!(f, "the byte at {at} is no part of a number"),
         }
     }
@@ -96,13 +99,22 @@ fn are_zeros(bytes: &[u8], count: usize) -> bool
         .all(|byte| *byte == b'0')
 }
 
+/// Ten to a power.
+fn ten_to(n: usize) -> u128
+    requires { n ≤ 38 }
+    ensures is { result ≡ 10 ^ n }
+    ensures some { 0 < result }
+{
+    10u128.pow(n as u32)
+}
+
 /// A value times ten to a power, if it is at most `most`.
 fn times_ten_to(value: u128, tens: usize, most: u128) -> Option<u128>
     requires { tens ≤ 38 }
     ensures is { MatchOption result (most < value * 10 ^ tens) (λ v. v ≡ value * 10 ^ tens) }
     ensures fits { IfSome result (λ v. v ≤ most) }
 {
-    let scaled = value.checked_mul(10u128.pow(tens as u32))?;
+    let scaled = value.checked_mul(ten_to(tens))?;
     if scaled <= most { Some(scaled) } else { None }
 }
 
@@ -112,7 +124,8 @@ fn times_ten_to(value: u128, tens: usize, most: u128) -> Option<u128>
 fn first_value(text: &[u8], mantissa: Mantissa, places: usize) -> Option<u128>
     requires { IsMantissa text.now mantissa }
     ensures { let fraction = fraction_of text.now mantissa in
-        let value = first_value (integer_of text.now mantissa) fraction places in
+        let whole = digits_value 10 (integer_of text.now mantissa) in
+        let value = first_value whole places fraction in
         MatchOption result (2 ^ 128 ≤ value) (λ v. v ≡ value) }
 {
     let whole = keep_first(
@@ -129,7 +142,8 @@ fn value_of(text: &[u8], mantissa: Mantissa, places: usize, most: u128) -> Optio
     requires is { IsMantissa text.now mantissa }
     requires places { places ≤ 38 }
     ensures is { let fraction = fraction_of text.now mantissa in
-        let value = scaled_value (integer_of text.now mantissa) fraction places in
+        let whole = digits_value 10 (integer_of text.now mantissa) in
+        let value = scaled_value whole places fraction in
         MatchOption result (most < value) (λ v. v ≡ value) }
     ensures fits { IfSome result (λ v. v ≤ most) }
 {
@@ -147,6 +161,69 @@ fn is_exact(text: &[u8], mantissa: Mantissa, places: usize) -> bool
     ensures { result ≡ is_exact (fraction_of text.now mantissa) places }
 {
     mantissa.places <= places || are_zeros(&text[mantissa.fraction_start..mantissa.end], places)
+}
+
+/// A value with a digit of a fraction after it, where so many places are left, if the number is
+/// neither too large nor too fine with that digit.
+#[tactic(auto, using(crate::proofs::Firsts::tens_grow))]
+fn push_place(value: u128, left: usize, byte: u8, most: u128) -> Option<u128>
+    requires digit { is_ascii_digit byte ≡ true }
+    requires left { left ≤ 38 }
+    ensures place { 0 < left → let more = value * 10 + digit_value byte in
+        MatchOption result (most < more * 10 ^ (left - 1))
+        (λ v. (v ≡ more) × (more * 10 ^ (left - 1) ≤ most)) }
+    ensures no_place { left ≡ 0 →
+        MatchOption result ((byte == 48) ≡ false) (λ v. (v ≡ value) × ((byte == 48) ≡ true)) }
+{
+    if left == 0 {
+        return if byte == b'0' { Some(value) } else { None };
+    }
+    let more = push_digit(value, byte)?;
+    times_ten_to(more, left - 1, most)?;
+    Some(more)
+}
+
+/// How many bytes of a fraction are before the first digit with which the number is too large or
+/// too fine. The value is that of its integer.
+fn count_fitting(bytes: &[u8], whole: u128, places: usize, most: u128) -> usize
+    requires places { places ≤ 38 }
+    requires fits { whole * 10 ^ places ≤ most }
+    ensures is { result ≡ fitting whole places most bytes.now }
+    ensures within { result ≤ length bytes.now }
+{
+    let mut value = whole;
+    let mut left = places;
+    for at in 0..bytes.len() {
+        if bytes[at].is_ascii_digit() {
+            match push_place(value, left, bytes[at], most) {
+                Some(more) => value = more,
+                None => return at,
+            }
+            left = left.saturating_sub(1);
+        }
+    }
+    bytes.len()
+}
+
+/// The first digit with which the number of a mantissa is too large or too fine.
+#[cold]
+#[inline(never)]
+#[tactic(auto, using(crate::proofs::Faults::small_whole), unfolding(crate::specs::Float::digits_end))]
+fn fault_of(text: &[u8], word: u128, mantissa: Mantissa, places: usize, most: u128) -> usize
+    requires supported { IsTrue (is_supported word) }
+    requires is { IsMantissa text.now mantissa }
+    requires integer { mantissa.whole_end ≡ digits_end word text.now Integer mantissa.start }
+    requires places { places ≤ 38 }
+    ensures { (point : ℕ) → mantissa.end ≡ mantissa_end word text.now point mantissa.start
+        → result ≡ fault_at word text.now point places most mantissa.start }
+{
+    let start = mantissa.whole_end;
+    let whole = match read_wide_from(text, word, mantissa.start, most / ten_to(places)) {
+        Ok((whole, _)) => whole,
+        Err(LiteralError::Empty(_)) => 0,
+        Err(LiteralError::Overflow(over)) => return over,
+    };
+    start + count_fitting(&text[start..mantissa.end], whole, places, most)
 }
 
 /// The decimal number at a position, as so many of its last place, if that is at most `most`:
@@ -175,12 +252,14 @@ pub fn read_scaled_up_to(
         return Err(ScaledError::Empty(mantissa.end));
     }
     let Some(value) = value_of(text, mantissa, places, most) else {
-        return Err(ScaledError::TooLarge(mantissa.end));
+        let over = fault_of(text, word, mantissa, places, most);
+        return Err(ScaledError::TooLarge(over));
     };
     if is_exact(text, mantissa, places) {
         Ok((value, mantissa.end))
     } else {
-        Err(ScaledError::TooFine(mantissa.end))
+        let fine = fault_of(text, word, mantissa, places, most);
+        Err(ScaledError::TooFine(fine))
     }
 }
 
@@ -211,7 +290,7 @@ fn read_sign<T: Integer>(text: &[u8], start: usize) -> (bool, usize)
 ///
 /// ```text
 /// `-1_234.5;` with internal `_`, as an `i64` of 2 places: Ok((-123450, 8))
-/// `0.125` of 2 places: Err(TooFine(5)); `0.1250` of 3 places: Ok((125, 6))
+/// `0.125` of 2 places: Err(TooFine(4)); `0.1250` of 3 places: Ok((125, 6))
 /// ```
 #[inline]
 pub fn read_scaled_from<T: Integer>(
