@@ -88,7 +88,9 @@ class Shape:
                             for it in (case, case[:-1], case + "x", case + "1"))
 
     def texts(self, most, most_separators, longer):
-        """All of them, and longer ones by chance."""
+        """All of them, and longer ones by chance. Where few bytes mean something, the short texts
+        have one more."""
+        most += len(self.alphabet()) <= 8
         made = itertools.chain(self.short(most), self.skeletons(most_separators),
                                self.two_of_a_kind(), self.of_names(),
                                itertools.islice(iter(Longer(self).text, None), longer))

@@ -26,6 +26,11 @@ def of_python(text):
     return literal.value
 
 
+def of_toml(text):
+    # what follows # is a comment
+    return refuse(text) if "#" in text else tomllib.loads(f"a={text}")["a"]
+
+
 def of_strtod(text):
     held = text.encode()
     rest = ctypes.c_char_p()
@@ -35,7 +40,7 @@ def of_strtod(text):
 
 READS = {
     "JSON": lambda text: json.loads(text, parse_constant=refuse),
-    "TOML": lambda text: tomllib.loads(f"a={text}")["a"],
+    "TOML": of_toml,
     "PYTHON": of_python,
     "PYTHON_FLOAT": float,
     "STRTOD": of_strtod,

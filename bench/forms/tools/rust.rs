@@ -34,10 +34,12 @@ fn first(text: &str) -> Option<usize> {
 }
 
 fn literal(text: &str) -> String {
-    if text.parse::<Literal>().is_ok() {
+    // a quote without its end ends the compiler, and no number has one
+    let plain = text.split(['\'', '"']).next().unwrap();
+    if plain == text && text.parse::<Literal>().is_ok() {
         return value(text);
     }
-    first(text).map_or("-".into(), |end| format!("-{end}"))
+    first(plain).map_or("-".into(), |end| format!("-{end}"))
 }
 
 #[proc_macro]
