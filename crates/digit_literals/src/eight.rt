@@ -17,7 +17,7 @@ fn digits_of(word: u64) -> Option<u64>
     // no sum carries into the next byte, where the first test holds
     let low = digits & 0x8080_8080_8080_8080;
     let high = digits.wrapping_add(0x7676_7676_7676_7676) & 0x8080_8080_8080_8080;
-    if low == 0 && high == 0 {
+    if low | high == 0 {
         Some(digits)
     } else {
         None

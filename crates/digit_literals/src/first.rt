@@ -113,12 +113,35 @@ pub fn read_first_digits_from(
         };
         return (all, read.end);
     }
+    read_first_rest(text, word, component, start, before, most)
+}
+
+/// [`read_first_again`], whose answer in memory belongs to this function, so it is set only where
+/// that is called.
+#[inline(always)]
+fn read_first_rest(
+    text: &[u8],
+    word: u128,
+    component: Component,
+    start: usize,
+    before: u64,
+    most: u64,
+) -> (FirstDigits, usize)
+    requires supported { IsTrue (is_supported word) }
+    requires within { start ≤ length text.now }
+    requires fits { before ≤ most }
+    ensures first { let r = rule_of word component in
+        let digits = digits_between r text.now start (stop r text.now start 0) in
+        ReadsFirst r.radix most before digits result.0 }
+    ensures stops { result.1 ≡ stop (rule_of word component) text.now start 0 }
+    ensures onward { start + result.0.count ≤ result.1 }
+    ensures end { result.1 ≤ length text.now }
+{
     let read = read_first_again(text, word, component, start, before, most);
     (read.digits, read.end)
 }
 
-/// The first digits of a component, and where its digits end. A struct, and no tuple: the place of
-/// the answer isn't set to 0 before the call.
+/// The first digits of a component, and where its digits end.
 #[derive(Clone, Copy)]
 struct FirstRead {
     digits: FirstDigits,
