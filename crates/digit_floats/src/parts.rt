@@ -268,8 +268,9 @@ pub fn read_short_whole(text: &[u8], word: u128, at: usize) -> Option<Mantissa>
     })
 }
 
-/// The mantissa whose integer was read by [`read_short_whole`], where it has at most 19 digits, and
-/// no separator is met. Otherwise it answers `None`, and [`read_mantissa`] reads it.
+/// The mantissa whose integer was read by [`read_short_whole`], where it has at most 19 digits, no
+/// separator is met, and a byte follows any point. Otherwise it answers `None`, and
+/// [`read_mantissa`] reads it.
 #[inline(always)]
 #[tactic(auto, unfolding(crate::specs::Float::mantissas))]
 pub fn read_short_fraction(text: &[u8], word: u128, whole: Mantissa, point: u8) -> Option<Mantissa>
@@ -291,6 +292,10 @@ pub fn read_short_fraction(text: &[u8], word: u128, whole: Mantissa, point: u8) 
         return Some(whole);
     }
     let at = whole.whole_end + 1;
+    // with a way for no byte of a fraction, the loop over its digits has two instructions more
+    if at >= text.len() {
+        return None;
+    }
     let (fraction, end) = read_few_part(text, word, at, whole.value, whole.digits)?;
     Some(Mantissa {
         value: fraction.value,
