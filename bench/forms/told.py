@@ -23,6 +23,7 @@ OWN = {
     "STRTOD": [PARENTHESES],
     "FROM_CHARS": [PARENTHESES],
     "PYTHON": [("zeros before an integer", r"[0_]+")],
+    "RUBY": [("the prefix `0d`", r"0[dD].*")],
     "RUBY_FLOAT": [("a hexadecimal float without an integer digit", r"[-+]?0[xX]\..*"),
                    ("a separator between hexadecimal digits", r"[-+]?0[xX].*_.*"),
                    ("a text of 60 bytes or more", r".{60,}")],
