@@ -252,8 +252,9 @@ pub const ELIXIR: Form = Form {
     ..ERLANG
 };
 
-/// Haskell's source code, except for hexadecimal floats, which are an extension. GHC also reads
-/// `1_e5`; here it is `1`, and then `_e5`.
+/// Haskell's source code with GHC's extensions `NumericUnderscores` and `BinaryLiterals`, for `1_0`
+/// and `0b1`, and without a third, for hexadecimal floats. GHC also reads `1_e5`; here it is `1`,
+/// and then `_e5`.
 pub const HASKELL: Form = Form {
     integers: languages::HASKELL,
     needs_integer: true,
