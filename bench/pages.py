@@ -1,7 +1,7 @@
 #!/usr/bin/env python3
-"""Writes what pages say of the benchmark's last run, by bench/cases.txt: the tables of
-docs/SPEED.md, the sentences of README.md, and the picture docs/speed.svg. `.ci/pages` compares
-them."""
+"""Writes what pages say of the benchmark's last run, by bench/cases.txt and bench/peers/counts.txt:
+the tables of docs/SPEED.md and c/README.md, the sentences of README.md, and the picture
+docs/speed.svg. `.ci/pages` compares them."""
 import os
 import re
 import sys
@@ -10,7 +10,7 @@ sys.dont_write_bytecode = True
 TOP = os.path.normpath(os.path.join(os.path.dirname(os.path.abspath(__file__)), ".."))
 CASES = "bench/cases.txt"
 from cases import UNITS, table, target  # noqa: E402
-from peers import peers, span as to_peers  # noqa: E402
+from peers import door, peers, span as to_peers  # noqa: E402
 from picture import svg  # noqa: E402
 
 # The rows of SPEED, with the cases that they show.
@@ -186,7 +186,7 @@ letters ({most_of(cases, "k:", "Constant")}), and a word that is known only at r
 {cases.run("IC", 100000, "Library")} at 100,000."""
 
 
-# ---- all three
+# ---- all of them
 
 def between(page, name, text):
     """A page with a text between the comment that begins so and the one that ends it."""
@@ -202,6 +202,7 @@ def pages():
     speeds = between(read("docs/SPEED.md"), "table", speed(cases))
     return {"docs/SPEED.md": between(speeds, "peers", peers()),
             "README.md": between(read("README.md"), "speed", summary(cases)),
+            "c/README.md": between(read("c/README.md"), "door", door()),
             "docs/speed.svg": svg(cases)}
 
 

@@ -5,6 +5,21 @@ from cases import table
 
 HERE = os.path.join(os.path.dirname(os.path.abspath(__file__)), "peers")
 LIBRARY = "library"
+# The columns of the table for C: the ends of a side's name from C and of the same call in Rattle.
+DOOR = {
+    "constant word": (", from C", ""),
+    "within a text": (", within a text, from C", ", within a text"),
+    "word as argument": (", a word, from C", ", a word"),
+    "form as argument": (", a form, from C", ""),
+}
+LIST = ", a list from C"
+# The rows that the table for C shows.
+DOOR_ROWS = [
+    "u64, 1 to 4 digits", "u64, 8 digits", "u64, 19 digits", "i32, 1 to 9 digits, signs",
+    "hexadecimal u64, 1 to 4 digits", "grouped u64, 8 to 20 digits", "f64, coordinates",
+    "f64, 17 digits in [0, 1)", "f64, shortest of random bits", "f32, coordinates", "JSON, mixed",
+    "JSON, coordinates",
+]
 # What a side doesn't do that the library does, in the rows whose names begin so.
 LESS = {
     ("", "atoi"): "no test for overflow",
@@ -95,3 +110,37 @@ def span(start):
               for row, sides in counts.items() if row.startswith(start)]
     least, most = f"{min(ratios):.1f}", f"{max(ratios):.1f}"
     return most if least == most else f"{least} to {most}"
+
+
+# ---- from C
+
+def above(sides, column):
+    """The instructions of a call from C, and how many more those are than of the same call in
+    Rattle; or None."""
+    ends = DOOR[column]
+    if LIBRARY + ends[0] not in sides:
+        return None
+    mine, same = (sides[LIBRARY + end][0] for end in ends)
+    return mine, mine - same
+
+
+def door():
+    """What c/README.md has between its comments on calls from C."""
+    rows = Figures("counts.txt").rows
+    body = []
+    for name in DOOR_ROWS:
+        found = [above(rows[name], column) for column in DOOR]
+        of_list = rows[name].get(LIBRARY + LIST)
+        body.append([name, *(f"{it[0]:.0f} (+{it[1]:.0f})" if it else "–" for it in found),
+                     f"{of_list[0]:.0f}" if of_list else "–"])
+    spans = {}
+    for column in DOOR:
+        more = [it[1] for sides in rows.values() if (it := above(sides, column))]
+        spans[column] = f"{min(more):.0f} to {max(more):.0f}"
+    text = table("Instructions for a number; in brackets how many more than of the same call in "
+                 "Rattle, which the compiler puts into the caller's loop:",
+                 ["What is read", *DOOR, "a list"], body)
+    text.append(f"Over all rows a call takes {spans['constant word']} instructions more than in "
+                f"Rattle, by a word as argument {spans['word as argument']}: it tests in each call "
+                "whether the word is supported, and a loop in Rattle does so once.")
+    return "\n".join(text)

@@ -202,34 +202,37 @@ struct [[nodiscard]] list {
     const char *message() const noexcept { return digits_message(status); }
 };
 
+namespace detail {
+
+// What a call of digits.h for a list answers.
+template <typename T, typename Call>
+list fill(Call call, std::string_view text, std::size_t start, char between, T *numbers,
+          std::size_t room) noexcept
+{
+    std::size_t count;
+    const digits_outcome end = call(text.data(), text.size(), start,
+                                    static_cast<std::uint8_t>(between), numbers, room, &count);
+    return {count, end.at, end.status};
+}
+
+} // namespace detail
+
 inline list read_list(std::string_view text, std::size_t start, char between, std::int64_t *numbers,
                       std::size_t room) noexcept
 {
-    std::size_t count;
-    const digits_outcome end = digits_read_i64_list(text.data(), text.size(), start,
-                                                    static_cast<std::uint8_t>(between), numbers,
-                                                    room, &count);
-    return {count, end.at, end.status};
+    return detail::fill(digits_read_i64_list, text, start, between, numbers, room);
 }
 
 inline list read_list(std::string_view text, std::size_t start, char between, std::uint64_t *numbers,
                       std::size_t room) noexcept
 {
-    std::size_t count;
-    const digits_outcome end = digits_read_u64_list(text.data(), text.size(), start,
-                                                    static_cast<std::uint8_t>(between), numbers,
-                                                    room, &count);
-    return {count, end.at, end.status};
+    return detail::fill(digits_read_u64_list, text, start, between, numbers, room);
 }
 
 inline list read_list(std::string_view text, std::size_t start, char between, double *numbers,
                       std::size_t room) noexcept
 {
-    std::size_t count;
-    const digits_outcome end = digits_read_f64_list(text.data(), text.size(), start,
-                                                    static_cast<std::uint8_t>(between), numbers,
-                                                    room, &count);
-    return {count, end.at, end.status};
+    return detail::fill(digits_read_f64_list, text, start, between, numbers, room);
 }
 
 } // namespace digits

@@ -1,4 +1,4 @@
-//! Builds the sides in C++ whose headers are there, and links the library that `run` names.
+//! Builds the sides in C++ whose headers are there, and links the libraries that `run` names.
 
 use std::env;
 use std::path::Path;
@@ -36,6 +36,15 @@ fn main() {
             println!("cargo:rustc-link-lib={link}");
         }
     }
+    println!("cargo:rerun-if-env-changed=DIGITS_LIB");
+    if let Ok(folder) = env::var("DIGITS_LIB") {
+        build(&out, "digits", "x86-64-v2");
+        println!("cargo:rustc-cfg=has_digits");
+        println!("cargo:rustc-link-lib=static=peer_digits");
+        println!("cargo:rerun-if-changed={folder}/libdigits.a");
+        println!("cargo:rustc-link-search=native={folder}");
+        println!("cargo:rustc-link-lib=static=digits");
+    }
     let library = env::var("DIGIT_BENCH_LIB").expect("the folder of libdigit_bench.a");
     println!("cargo:rerun-if-changed={library}/libdigit_bench.a");
     println!("cargo:rustc-link-search=native={library}");
@@ -47,7 +56,7 @@ fn main() {
 fn build(out: &str, name: &str, processor: &str) {
     let object = format!("{out}/{name}.o");
     let compiled = Command::new("g++")
-        .args(["-std=c++17", "-O3", "-g1", "-DNDEBUG", "-c"])
+        .args(["-std=c++17", "-O3", "-g1", "-DNDEBUG", "-Ic", "-c"])
         .arg(format!("-march={processor}"))
         .args([&format!("cxx/{name}.cpp"), "-o", &object])
         .status();

@@ -42,7 +42,12 @@ macro_rules! sides {
 fn u64s() -> Vec<Side> {
     sides! {
         "library" library::parse_u64;
+        #[cfg(has_digits)] "library, from C" cxx::c_parse_u64;
         "library, within a text" library::read_u64;
+        #[cfg(has_digits)] "library, within a text, from C" cxx::c_read_u64;
+        "library, a word" library::u64_by;
+        #[cfg(has_digits)] "library, a word, from C" cxx::c_u64_by;
+        #[cfg(has_digits)] "library, a list from C" cxx::c_list_u64;
         "std" rust::u64;
         #[cfg(has_from_chars)] "from_chars" cxx::from_chars_u64;
         #[cfg(has_strtod)] "strtoull" cxx::strtoull_u64;
@@ -56,6 +61,9 @@ fn u64s() -> Vec<Side> {
 fn i32s() -> Vec<Side> {
     sides! {
         "library" library::parse_i32;
+        #[cfg(has_digits)] "library, from C" cxx::c_parse_i32;
+        "library, a word" library::i32_by;
+        #[cfg(has_digits)] "library, a word, from C" cxx::c_i32_by;
         "std" rust::i32;
         #[cfg(has_from_chars)] "from_chars" cxx::from_chars_i32;
         #[cfg(feature = "has-lexical-core")] "lexical-core" lexical::i32;
@@ -65,6 +73,8 @@ fn i32s() -> Vec<Side> {
 fn hexadecimals() -> Vec<Side> {
     sides! {
         "library" library::parse_hexadecimal;
+        "library, a word" library::hexadecimal_by;
+        #[cfg(has_digits)] "library, a word, from C" cxx::c_hexadecimal_by;
         "std" rust::hexadecimal;
         #[cfg(has_from_chars)] "from_chars" cxx::from_chars_hex;
     }
@@ -74,6 +84,8 @@ fn hexadecimals() -> Vec<Side> {
 fn groups() -> Vec<Side> {
     sides! {
         "library" library::parse_grouped;
+        "library, a word" library::grouped_by;
+        #[cfg(has_digits)] "library, a word, from C" cxx::c_grouped_by;
         #[cfg(feature = "has-lexical-core")] "lexical-core, format" lexical::grouped_u64;
         "std, plain" rust::u64;
         #[cfg(has_from_chars)] "from_chars, plain" cxx::from_chars_u64;
@@ -85,7 +97,12 @@ fn groups() -> Vec<Side> {
 fn f64s() -> Vec<Side> {
     sides! {
         "library" library::parse_f64;
+        #[cfg(has_digits)] "library, from C" cxx::c_parse_f64;
         "library, within a text" library::read_f64;
+        #[cfg(has_digits)] "library, within a text, from C" cxx::c_read_f64;
+        "library, a word" library::f64_by;
+        #[cfg(has_digits)] "library, a word, from C" cxx::c_f64_by;
+        #[cfg(has_digits)] "library, a list from C" cxx::c_list_f64;
         "std" rust::f64;
         #[cfg(has_fast_float)] "fast_float" cxx::fast_float_f64;
         #[cfg(has_from_chars)] "from_chars" cxx::from_chars_f64;
@@ -102,6 +119,9 @@ fn f64s() -> Vec<Side> {
 fn f32s() -> Vec<Side> {
     sides! {
         "library" library::parse_f32;
+        #[cfg(has_digits)] "library, from C" cxx::c_parse_f32;
+        "library, a word" library::f32_by;
+        #[cfg(has_digits)] "library, a word, from C" cxx::c_f32_by;
         "std" rust::f32;
         #[cfg(has_fast_float)] "fast_float" cxx::fast_float_f32;
         #[cfg(has_from_chars)] "from_chars" cxx::from_chars_f32;
@@ -114,6 +134,8 @@ fn f32s() -> Vec<Side> {
 fn json() -> Vec<Side> {
     sides! {
         "library" library::read_number_of;
+        #[cfg(has_digits)] "library, from C" cxx::c_read_json;
+        #[cfg(has_digits)] "library, a form, from C" cxx::c_json_by;
         "std, all as floats~" rust::f64;
         #[cfg(feature = "has-serde_json")] "serde_json~" serde::number;
         #[cfg(feature = "has-serde_json")] "serde_json, the array~" serde::array;

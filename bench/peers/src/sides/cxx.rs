@@ -5,6 +5,9 @@ use crate::texts::Text;
 /// Declares the sides that go over many texts, and the field of `Text` that each reads.
 macro_rules! texts {
     ($cfg:ident; $($name:ident $field:ident)*) => {
+        texts! { $cfg digit_lengths; $($name $field)* }
+    };
+    ($cfg:ident $lengths:ident; $($name:ident $field:ident)*) => {
         #[cfg($cfg)]
         mod $cfg {
             unsafe extern "C" {
@@ -13,7 +16,7 @@ macro_rules! texts {
         }
         $(#[cfg($cfg)]
         pub fn $name(text: &Text) -> u64 {
-            let lengths = &text.digit_lengths;
+            let lengths = &text.$lengths;
             // SAFETY: the bytes and lengths are those of `text`, and are only read
             unsafe { $cfg::$name(text.$field.as_ptr(), lengths.as_ptr(), lengths.len()) }
         })*
@@ -42,3 +45,7 @@ texts! { has_double_conversion; double_conversion_f64 digits double_conversion_f
 texts! { has_simdjson; simdjson_f64 listed simdjson_u64 listed simdjson_number listed }
 arrays! { has_simdjson; simdjson_array simdjson_doubles }
 arrays! { has_rapidjson; rapidjson_array }
+texts! { has_digits lengths; c_parse_u64 bytes c_parse_i32 bytes c_parse_f64 bytes
+c_parse_f32 bytes c_read_u64 bytes c_read_f64 bytes c_read_json bytes c_u64_by bytes c_i32_by bytes
+c_f64_by bytes c_f32_by bytes c_hexadecimal_by bytes c_grouped_by bytes c_json_by bytes }
+arrays! { has_digits; c_list_u64 c_list_f64 }

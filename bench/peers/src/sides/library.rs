@@ -1,4 +1,5 @@
-//! The library, by the exports of `crates/digit_bench` with a word that is a constant.
+//! The library, by the exports of `crates/digit_bench`: with a word that is a constant, or one that
+//! is known only at run time.
 
 use crate::texts::Text;
 
@@ -30,7 +31,7 @@ struct Task {
 
 type Export = unsafe extern "C" fn(&Task, &mut Outcome);
 
-fn run(export: Export, text: &Text, word: u128) -> u64 {
+fn run(export: Export, text: &Text, word: u128, is_constant: bool) -> u64 {
     let task = Task {
         text: text.bytes.as_ptr(),
         len: text.bytes.len(),
@@ -38,7 +39,7 @@ fn run(export: Export, text: &Text, word: u128) -> u64 {
         count: text.lengths.len(),
         low: word as u64,
         high: (word >> 64) as u64,
-        is_constant: 1,
+        is_constant: is_constant.into(),
     };
     let mut outcome = Outcome::default();
     // SAFETY: the slices are those of `text`, and an export only reads them
@@ -47,32 +48,30 @@ fn run(export: Export, text: &Text, word: u128) -> u64 {
 }
 
 macro_rules! sides {
-    ($($name:ident $export:ident $word:ident;)*) => {
-        mod exports {
-            unsafe extern "C" {
-                $(pub fn $export(task: &super::Task, out: &mut super::Outcome);)*
-            }
-        }
+    ($($name:ident $export:ident $word:ident $is_constant:literal;)*) => {
         $(pub fn $name(text: &Text) -> u64 {
-            run(exports::$export, text, $word)
+            unsafe extern "C" {
+                fn $export(task: &Task, out: &mut Outcome);
+            }
+            run($export, text, $word, $is_constant)
         })*
     };
 }
 
 sides! {
-    parse_u64 digit_bench_parsed_u64 DECIMAL;
-    read_u64 digit_bench_literals DECIMAL;
-    parse_i32 digit_bench_parsed_i32 DECIMAL;
-    parse_f64 digit_bench_nearest DECIMAL;
-    parse_f32 digit_bench_nearest_f32 DECIMAL;
-    read_f64 digit_bench_json_floats DECIMAL;
-    read_number_of digit_bench_json_numbers DECIMAL;
-}
-
-pub fn parse_hexadecimal(text: &Text) -> u64 {
-    run(exports::digit_bench_parsed_u64, text, HEXADECIMAL)
-}
-
-pub fn parse_grouped(text: &Text) -> u64 {
-    run(exports::digit_bench_parsed_u64, text, GROUPED)
+    parse_u64 digit_bench_parsed_u64 DECIMAL true;
+    read_u64 digit_bench_literals DECIMAL true;
+    parse_i32 digit_bench_parsed_i32 DECIMAL true;
+    parse_hexadecimal digit_bench_parsed_u64 HEXADECIMAL true;
+    parse_grouped digit_bench_parsed_u64 GROUPED true;
+    parse_f64 digit_bench_nearest DECIMAL true;
+    parse_f32 digit_bench_nearest_f32 DECIMAL true;
+    read_f64 digit_bench_json_floats DECIMAL true;
+    read_number_of digit_bench_json_numbers DECIMAL true;
+    u64_by digit_bench_parsed_u64 DECIMAL false;
+    i32_by digit_bench_parsed_i32 DECIMAL false;
+    hexadecimal_by digit_bench_parsed_u64 HEXADECIMAL false;
+    grouped_by digit_bench_parsed_u64 GROUPED false;
+    f64_by digit_bench_nearest DECIMAL false;
+    f32_by digit_bench_nearest_f32 DECIMAL false;
 }
