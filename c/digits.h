@@ -428,7 +428,7 @@ digits_outcome digits_read_f64_list(const void *text, size_t length, size_t star
 #define DIGITS_FORM_MATLAB 26 /* MATLAB's source code, by its documentation: as Octave's, without separators */
 #define DIGITS_FORM_ERLANG 27 /* Erlang's source code, except for a radix and # */
 #define DIGITS_FORM_ELIXIR 28 /* Elixir's source code */
-#define DIGITS_FORM_HASKELL 29 /* Haskell's source code, except for hexadecimal floats, which are an extension */
+#define DIGITS_FORM_HASKELL 29 /* Haskell's source code with GHC's extensions NumericUnderscores and BinaryLiterals, for 1_0 and 0b1, and without a third, for hexadecimal floats */
 #define DIGITS_FORM_SCHEME 30 /* Scheme's source code, as Guile reads it, except for ratios, #x, and the marks s, f, l */
 #define DIGITS_FORM_OCAML 31 /* OCaml's source code */
 #define DIGITS_FORM_JAVASCRIPT 32 /* JavaScript's source code, in strict mode and in modules */

@@ -107,7 +107,7 @@ pub mod forms {
     pub const ERLANG: Form = Form(27);
     /// Elixir's source code.
     pub const ELIXIR: Form = Form(28);
-    /// Haskell's source code, except for hexadecimal floats, which are an extension.
+    /// Haskell's source code with GHC's extensions NumericUnderscores and BinaryLiterals, for 1_0 and 0b1, and without a third, for hexadecimal floats.
     pub const HASKELL: Form = Form(29);
     /// Scheme's source code, as Guile reads it, except for ratios, #x, and the marks s, f, l.
     pub const SCHEME: Form = Form(30);
