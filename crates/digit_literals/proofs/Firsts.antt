@@ -194,14 +194,6 @@ pub few_fit : (r : Rule) (text : List ℕ) (at before most : ℕ) (read : ReadTo
 few_fit r text at before most read ten room top h =
     fit_below r text at before most (10 ^ 19) read ten room (omega arith) top h
 
--- at most seven digits
-pub seven_fit : (r : Rule) (text : List ℕ) (at most : ℕ) (read : ReadTo)
-    → r.radix ≡ 10 → read.count ≤ 7 → 9999999 ≤ most
-    → IsOffSlice r text at 0 None read → IsOffSlice r text at 0 (Some most) read
-seven_fit r text at most read ten few top h =
-    let room : 10 ^ read.count ≤ 10 ^ 7 = pow-le-pow_right (omega arith) few in
-    fit_below r text at 0 most (10 ^ 7) read ten (omega (arith, room)) (omega arith) (omega (arith, top)) h
-
 pub has_room : (before count bound : ℕ) → count ≤ 19 → bound ≡ 10 ^ (19 - count) → before < bound
     → (before + 1) * 10 ^ count ≤ 10 ^ 19
 has_room before count bound few is less =

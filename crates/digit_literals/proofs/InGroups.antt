@@ -11,7 +11,6 @@ use Rattle.digit_literals.specs.declared.slice.ReadTo.{ReadTo}
 use Rattle.digit_literals.specs.Integers.{integer_at}
 use Rattle.digit_literals.specs.Reads.{IsWorth, ArePlain, ReadsTo, IsOffSlice}
 use Rattle.digit_literals.proofs.Texts.{integer_is}
-use Rattle.digit_literals.proofs.Firsts.{seven_fit}
 use Rattle.digit_literals.specs.Groups.{IsGroup}
 use Rattle.digit_literals.proofs.Between.{one_more}
 use Rattle.digit_literals.proofs.ForCallers.{value_more}
@@ -122,14 +121,3 @@ whole_of_slice r given text start bound most read same ten within off small some
     } in
     let is = integer_is r text start read.value most (omega (arith, ten)) within fits read false reads (grind (arith, nat_tests, some)) (λ large. absurd (grind (arith, small, large))) in
     sym is ∙ grind (arith, small, ends)
-
--- one of at most seven digits
-pub few_of_slice : (r given : Rule) (text : List ℕ) (start most : ℕ) (read : ReadTo) → given ≡ r
-    → r.radix ≡ 10 → start ≤ length text → length text < start + 8
-    → IsOffSlice given text start 0 None read → read.is_too_large ≡ false → start < read.end
-    → read.end ≡ length text → read.value ≤ most
-    → integer_at r text start most ≡ Ok (read.value, length text)
-few_of_slice r given text start most read same ten within few off small some ends fits =
-    let own = rw same at off in
-    let bounded = seven_fit r text start 9999999 read ten (omega (arith, own.below, ends, few)) (omega arith) own in
-    whole_of_slice r r text start 9999999 most read refl ten within bounded small (omega (arith, own.dense, some)) ends fits

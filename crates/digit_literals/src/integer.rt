@@ -12,9 +12,9 @@ ghost use Rattle.digit_literals.specs.Integers.{integer_at};
 ghost use Rattle.digit_literals.specs.Reads.{ReadsTo, IsFirst, integer_of};
 
 use super::LiteralError;
-use super::eight::{Whole, read_whole};
+use super::eight::{Whole, read_few, read_whole};
 use super::groups::read_grouped;
-use super::slice::{ReadTo, first_digit, read_bare, read_bytes, read_slice};
+use super::slice::{ReadTo, first_digit, read_bytes, read_slice};
 use lexical_digits::iterator::Iter;
 use lexical_digits::skip::{Bytes, Component, Rule};
 
@@ -110,30 +110,35 @@ pub(super) fn read_integer_known(
     }
 }
 
+/// Whether a value of at most seven digits is at most `most`. A compiler leaves the test out for a
+/// type of more than 24 bits.
+#[inline(always)]
+fn may_be(value: u64, most: u128) -> bool
+    requires { value < 10 ^ 7 }
+    ensures { result ≡ true → value ≤ most }
+{
+    most >= 9_999_999 || u128::from(value) <= most
+}
+
 /// The value of the integer that a text is from `start` on to its end, where the radix is 10 and at
 /// most seven bytes are left, if all of them are digits and their value is at most `most`. No digit
-/// is tested for being too large. The digit at `start` may be known.
+/// is tested for being too large.
 #[inline(always)]
-pub(super) fn read_few_integer(
-    text: &[u8],
-    word: u128,
-    start: usize,
-    first: Option<u32>,
-    most: u128,
-) -> Option<u64>
+pub(super) fn read_few_integer(text: &[u8], word: u128, start: usize, most: u128) -> Option<u64>
     requires supported { IsTrue (is_supported word) }
     requires ten { (rule_of word Integer).radix ≡ 10 }
     requires within { start ≤ length text.now }
     requires few { length text.now < start + 8 }
-    requires first { let r = rule_of word Integer in
-        IfSome first (IsFirst r text.now start 0 (Some most)) }
     ensures is { IfSome result (λ value.
         integer_at (rule_of word Integer) text.now start most ≡ Ok (value, length text.now)) }
     ensures fits { IfSome result (λ value. value ≤ most) }
 {
-    let read = read_bare(text, Rule::of(word, Component::Integer), start, 0, first)?;
-    if read.end > start && read.end == text.len() && u128::from(read.value) <= most {
-        Some(read.value)
+    if start == text.len() {
+        return None;
+    }
+    let value = read_few(&text[start..])?;
+    if may_be(value, most) {
+        Some(value)
     } else {
         None
     }

@@ -356,14 +356,32 @@ pub fn read_number_from<T: Integer>(
     Ok((T::of_magnitude(head.is_negative, magnitude), end))
 }
 
+/// Whether a number has a `-`, and where its digits begin, as [`read_sign`] says: by no branch that
+/// depends on which byte is there. It is only for speed, of `parse_number` of a type with a sign
+/// (the rows `u: i32` and `u: i64`).
+#[inline(always)]
+fn pass_sign<T: Integer>(text: &[u8], start: usize) -> (bool, usize)
+    requires { start ≤ length text.now }
+    ensures negative { result.0 ≡ is_negative_from T.MIN_MAGNITUDE text.now start }
+    ensures begins { result.1 ≡ digits_from T.MIN_MAGNITUDE text.now start }
+    ensures onward { start ≤ result.1 }
+    ensures within { result.1 ≤ length text.now }
+{
+    if T::MIN_MAGNITUDE == 0 || start == text.len() {
+        return (false, start);
+    }
+    let is_negative = text[start] == b'-';
+    let is_positive = text[start] == b'+';
+    (is_negative, start + usize::from(is_negative | is_positive))
+}
+
 /// Whether a number of so many bytes is read by words: the radix is 10, and there are at most 20
 /// bytes if the type has numbers of more.
 #[inline(always)]
 fn is_by_words<T: Integer>(word: u128, bytes: usize) -> bool
     ensures { result ≡ true → (rule_of word Integer).radix ≡ 10 }
 {
-    T::MIN_MAGNITUDE == 0
-        && NumberFormat::new(word).mantissa_radix() == 10
+    NumberFormat::new(word).mantissa_radix() == 10
         && (T::MAX <= u128::from(u64::MAX) || bytes <= 20)
 }
 
@@ -372,12 +390,10 @@ fn is_by_words<T: Integer>(word: u128, bytes: usize) -> bool
 /// between them are dropped. Few bytes are read one by one, and none is tested for being too large;
 /// eight and more, and groups, are read in code of their own.
 #[inline(always)]
-fn read_to_end(text: &[u8], word: u128, start: usize, first: Option<u32>, most: u128) -> Option<u64>
+fn read_to_end(text: &[u8], word: u128, start: usize, most: u128) -> Option<u64>
     requires supported { IsTrue (is_supported word) }
     requires ten { (rule_of word Integer).radix ≡ 10 }
     requires within { start ≤ length text.now }
-    requires first { let r = rule_of word Integer in
-        IfSome first (IsFirst r text.now start 0 (Some most)) }
     ensures is { IfSome result (λ value.
         integer_at (rule_of word Integer) text.now start most ≡ Ok (value, length text.now)) }
     ensures fits { IfSome result (λ value. value ≤ most) }
@@ -388,7 +404,7 @@ fn read_to_end(text: &[u8], word: u128, start: usize, first: Option<u32>, most: 
     if bytes >= 8 || (bytes >= 5 && internal) {
         read_long_integer(text, word, start, most)
     } else {
-        read_few_integer(text, word, start, first, most)
+        read_few_integer(text, word, start, most)
     }
 }
 
@@ -461,12 +477,11 @@ fn parse_by_words<T: Integer>(text: &[u8], word: u128, start: usize) -> Result<T
     ensures fault_at { let n = length text.now in
         IfErr result (λ error. (start ≤ position error) × (position error ≤ n)) }
 {
-    let head = read_sign::<T>(text, word, start);
-    let most = greatest::<T>(head.is_negative);
-    if let Some(value) = read_to_end(text, word, head.begin, head.first, most) {
-        return Ok(T::of_magnitude(head.is_negative, u128::from(value)));
+    let (is_negative, begin) = pass_sign::<T>(text, start);
+    if let Some(value) = read_to_end(text, word, begin, greatest::<T>(is_negative)) {
+        return Ok(T::of_magnitude(is_negative, u128::from(value)));
     }
-    parse_the_rest::<T>(text, word, head.begin, head.is_negative)
+    parse_the_rest::<T>(text, word, begin, is_negative)
 }
 
 /// What [`parse_number_from`] answers, by the number that begins at `start`.

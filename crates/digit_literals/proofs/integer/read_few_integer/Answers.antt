@@ -1,19 +1,16 @@
-use Rattle.std.proofs.Common.{◌+◌, length, arith}
-use Rattle.std.proofs.lemmas.Bool.Decides.{nat_tests}
-use Rattle.lexical_digits.specs.State.{rule_of}
+use Rattle.std.proofs.Common.{◌-◌, length, arith}
 use Rattle.lexical_digits.specs.declared.skip.component.Component.TheVariants.{Integer}
-use Rattle.lexical_digits.proofs.Rule.Supported.{supported_by}
-use Rattle.digit_literals.proofs.InGroups.{few_of_slice}
+use Rattle.lexical_digits.specs.State.{rule_of}
+use Rattle.digit_literals.proofs.Joined.{part_written}
+use Rattle.digit_literals.proofs.Whole.{whole_is}
 use Rattle.digit_literals.proofs.integer.read_few_integer.Goals as goal
 
-pub read_bare-requires-clause-supported : goal.read_bare-requires-clause-supported
-read_bare-requires-clause-supported c =
-    supported_by _ c.args.word Integer c.of.ensures c.requires.supported
-
-pub returns-then-from-most-clause-is : goal.returns-then-from-most-clause-is
-returns-then-from-most-clause-is c =
-    let read = c.in_ok-read.read in
-    few_of_slice (rule_of c.args.word Integer) _ c.args.text.now c.args.start c.args.most read
-    c.of.ensures c.requires.ten c.requires.within c.requires.few c.in_ok-read.ensures.reads
-    c.in_ok-read.ensures.all (grind (arith, nat_tests)) (grind (arith, nat_tests))
-    (grind (arith, nat_tests))
+pub returns-then-may_be-clause-is : goal.returns-then-may_be-clause-is
+returns-then-may_be-clause-is c =
+    let text = c.args.text.now in
+    let start = c.args.start in
+    let count = length text - start in
+    let part = part_written text start count c.in_ok-value.value (grind arith)
+    c.in_ok-value.ensures.written in
+    whole_is (rule_of c.args.word Integer) text start c.requires.ten count c.in_ok-value.value
+    part (grind arith) (grind arith) c.args.most (c.may_be.ensures c.if-may_be.true)
