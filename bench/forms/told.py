@@ -60,6 +60,7 @@ OWN = {
     "XML_DOUBLE": [("an exponent without digits, by libxml2", r".*[eE][-+]?")],
     "DECIMAL": [("more than 24 digits", r"[-+]?(?:[0-9.]){25,}")],
     "HASKELL": [("a separator before the mark", r".*\d_+[eE].*"),
+                ("a separator before a float", r"_+[0-9].*"),
                 ("a hexadecimal float", r"0[xX].*[.pP].*")],
     "PERL": [("a float in radix 16, 8 or 2", r"0.*[pP].*"),
              ("a separator at the start of a fraction", r"_?\._.*"),

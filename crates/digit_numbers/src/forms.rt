@@ -253,8 +253,8 @@ pub const ELIXIR: Form = Form {
 };
 
 /// Haskell's source code with GHC's extensions `NumericUnderscores` and `BinaryLiterals`, for `1_0`
-/// and `0b1`, and without a third, for hexadecimal floats. GHC also reads `1_e5`; here it is `1`,
-/// and then `_e5`.
+/// and `0b1`, and without a third, for hexadecimal floats. GHC also reads `_1.5`, which is none
+/// here, and `1_e5`, which is `1` here, and then `_e5`.
 pub const HASKELL: Form = Form {
     integers: languages::HASKELL,
     needs_integer: true,
