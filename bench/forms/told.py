@@ -14,6 +14,8 @@ ROUNDING = "a float that the tool doesn't round to the nearest"
 WIDE = "an integer too wide for the tool"
 # the bits of an integer of a tool; others have 63 and a sign, or more
 WIDTH = {"SCALA": 31, "KOTLIN": 63, "OCAML": 62, "R": 53}
+# The forms whose tool leaves out the upper bits of an integer that is too wide for it.
+WRAPS = {"NIM"}
 # The forms whose tool doesn't always round to the nearest float, and from how many digits on.
 ROUGH = {"COBOL": 1, "CSHARP": 16, "CSHARP_PARSE": 1, "D": 16, "R": 15, "SQLITE": 1, "PHP": 17,
          "RUBY": 60, "RUBY_FLOAT": 14, "OCAML": 1}
@@ -126,7 +128,7 @@ def difference(name, form, text, ours, longest, said):
         found = "it reads what we refuse" if longest else None
     elif kind == "o":
         is_large = said in ("-", "i?", "f?") or said[0] in "fdv" or abs(int(said[1:])) >> 128
-        return (ABOVE_128, True) if is_large else ("not above 128 bits", False)
+        return (ABOVE_128, True) if is_large or name in WRAPS else ("not above 128 bits", False)
     elif longest != end:
         found = "its number is longer" if longest > end else "its number is shorter, or none"
     else:

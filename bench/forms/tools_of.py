@@ -28,7 +28,9 @@ RUST = ("rustc", "rustc --edition 2021 --crate-type proc-macro --crate-name lexe
         " --emit metadata --extern lexer=liblexer.so main.rs 2>errors; cat answers", FAST)
 GCC = script("g++", "python3 $TOOLS/cxx.py", SLOW)
 LUA = script("lua5.4", "lua5.4 $TOOLS/lua.lua")
-MONO = ("mcs", "mcs -warn:0 -r:Mono.CSharp.dll -out:Mono.exe $TOOLS/Mono.cs", "mono Mono.exe", FAST)
+# each text takes longer than the one before
+MONO = ("mcs", "mcs -warn:0 -r:Mono.CSharp.dll -out:Mono.exe $TOOLS/Mono.cs",
+        "split -l 5000 --filter 'mono Mono.exe'", FAST)
 OCTAVE = script("octave-cli", "octave-cli -q $TOOLS/octave.m", SLOW)
 POSTGRES = script("psql", "python3 $TOOLS/postgres.py")
 RUBY = script("ruby", "ruby $TOOLS/ruby.rb")
@@ -59,7 +61,7 @@ TOOLS_OF = {
     "PHP": [script("php", "php $TOOLS/php.php")],
     "LUA": [LUA],
     "R": [script("Rscript", "Rscript $TOOLS/r.R")],
-    "ERLANG": [script("escript", "escript $TOOLS/erlang.escript")],
+    "ERLANG": [script("escript", "cat >texts; escript $TOOLS/erlang.escript")],
     "ELIXIR": [script("elixir", "elixir $TOOLS/elixir.exs")],
     "HASKELL": [("ghc", "ghc -v0 -package ghc -outputdir . $TOOLS/Haskell.hs -o tool", "./tool",
                  FAST)],

@@ -1,13 +1,10 @@
-%% Erlang's own reading, by its scanner.
-main(_) ->
-    ok = io:setopts([{encoding, latin1}]),
-    lines().
+%% Erlang's own reading, by its scanner, of the lines of the file `texts`.
+-mode(compile).
 
-lines() ->
-    case io:get_line("") of
-        eof -> ok;
-        Line -> io:put_chars([answer(string:trim(Line, trailing, "\n")), $\n]), lines()
-    end.
+main(_) ->
+    {ok, Bytes} = file:read_file("texts"),
+    Lines = string:split(binary_to_list(Bytes), "\n", all),
+    ok = file:write_file("/dev/stdout", [[answer(It), $\n] || It <- lists:droplast(Lines)]).
 
 answer(Text) ->
     case erl_scan:string(Text, {1, 1}, [text]) of
