@@ -7,6 +7,7 @@ pub mod Decimals
 mod Faults
 mod First
 mod Firsts
+mod Fronts
 mod HexDigits
 mod Huge
 mod Kept

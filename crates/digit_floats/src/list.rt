@@ -1,6 +1,8 @@
 //! Lists of floats, which are read into a slice.
 
-ghost use Rattle.std.specs.Prelude.{◌≤◌, length, IsTrue};
+ghost use Rattle.std.specs.Prelude.{◌≤◌, length, take, IsTrue};
+ghost use Rattle.std.specs.Float.{NotNan};
+ghost use Rattle.std.specs.List.{All};
 ghost use Rattle.lexical_format.specs.Word.{is_supported};
 ghost use Rattle.digit_literals.specs.Lists.{list_at, Fills, IfFull, IfOver};
 ghost use Rattle.digit_floats.specs.Errors.{position};
@@ -35,6 +37,7 @@ pub fn read_float_list<F: Float>(
     ensures is { let list = list_at (read_at word text.now plain_marks F.format) position gap
         text.now (length out.old) start in
         Fills F.value list result out.old out.new }
+    ensures no_nan { All (λ x. NotNan (F.value x)) (take result.count out.new) }
     ensures count { result.count ≤ length out.old }
     ensures full { IfFull result.end (λ at. (start ≤ at) × (at ≤ length text.now)) }
     ensures over { IfOver result.end (λ at. (start ≤ at) × (at ≤ length text.now)) }

@@ -1,4 +1,6 @@
-use Rattle.std.proofs.Common.{◌≡◌, ◌≤◌, length}
+use Rattle.std.proofs.Common.{◌≡◌, ◌≤◌, length, take}
+use Rattle.std.specs.Float.{NotNan}
+use Rattle.std.specs.List.{All}
 use Rattle.digit_literals.proofs.Lists.{SoFar}
 use Rattle.digit_floats.specs.Errors.{position}
 use Rattle.digit_floats.specs.Float.{plain_marks, read_at}
@@ -10,6 +12,7 @@ invariant-loop-count g l =
     record {
       so : SoFar f.value (read_at l.word l.text plain_marks f.format) position l.gap l.text l.start
           l.count l.at l.initial.out l.out;
+      no_nan : All (λ x. NotNan (f.value x)) (take l.count l.out);
       onward : l.start ≤ l.at;
       within : l.at ≤ length l.text;
       room : l.count-end ≡ length l.initial.out;
