@@ -16,6 +16,7 @@ pub use Rattle.digit_literals.specs.After.{digits_between}
 pub use Rattle.digit_literals.specs.Bytes.{expect_byte}
 unfoldable pub use Rattle.digit_literals.specs.Bytes.{name_end, past_bytes}
 pub use Rattle.digit_literals.specs.Exactly.{at_most_at, exactly_at}
+unfoldable pub use Rattle.digit_literals.specs.Exactly.{counted_at}
 unfoldable pub use Rattle.digit_literals.specs.Integers.{integer_at}
 pub use Rattle.digit_literals.specs.Errors.{literal_position}
 pub use Rattle.digit_literals.specs.Numbers.{has_byte, number_at, signed, to_end}
