@@ -8,7 +8,7 @@ import tempfile
 ONE = re.compile(r"(?:0[xX](?:[\w.]|(?<=[pP])[+-])*|(?!0[xX])\.?[0-9](?:[\w.]|(?<=[eE])[+-])*)"
                  r"(?<![uULfFi])|"
                  r"0[xX][\w]*[fF]")
-PROPERTY = re.compile(r"^(?!0[xX]).*\.[a-z]{3}")
+PROPERTY = re.compile(r"^(?!0[xX]).*\.[a-z]{3}|\.max")
 HEAD = r"""
 import core.stdc.stdio, core.stdc.string;
 void show(T)(T value) {
