@@ -1,5 +1,5 @@
 -- Numbers by a form, as C has them.
-use Rattle.std.specs.Prelude.{ℕ, ℤ, ◌==◌, ◌+◌, ◌*◌, ◌%◌, ◌/◌, ◌^◌, nat_lt, if◌then◌else◌, false, List, Option, None, Some, Result, Ok, Err}
+use Rattle.std.specs.Prelude.{ℕ, ℤ, ◌==◌, ◌+◌, ◌*◌, ◌%◌, ◌/◌, ◌^◌, nat_lt, if◌then◌else◌, false, List, length, Option, None, Some, Result, Ok, Err}
 use Rattle.std.specs.Float.{Float, binary64, float_zero}
 use Rattle.digits.specs.Forms as forms
 use Rattle.digits.specs.Numbers as numbers
@@ -154,3 +154,14 @@ integer_of least most n =
     if n.kind == INTEGER then
     integer_in least most {T = Float} (numbers.Integer n.is_negative (n.low + n.high * 2 ^ 64) 0)
     else None
+
+-- the integer of the number of a form at a start, if it is one and a type has it
+abbrev pub integer_read : ℕ → ℕ → Result (Number Float × ℕ) NumberError → Option ℤ
+integer_read least most (Ok (n, end)) = integer_in least most n
+integer_read least most (Err error) = None
+
+abbrev pub integer_by : ℕ → ℕ → List ℕ → ℕ → Option Form → Option ℤ
+integer_by least most text start None = None
+integer_by least most text start (Some form) =
+    if nat_lt (length text) start then None
+    else integer_read least most (number_of_at form text start binary64)

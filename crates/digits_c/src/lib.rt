@@ -10,6 +10,7 @@ ghost use Rattle.std.specs.Prelude.{◌≡◌};
 
 mod floats;
 mod integers;
+mod laws;
 mod lists;
 mod literals;
 mod numbers;
@@ -17,6 +18,7 @@ mod outcome;
 mod scaled;
 mod word;
 
+pub use laws::read_then_as_i64;
 pub use outcome::Outcome;
 pub use word::Word;
 
