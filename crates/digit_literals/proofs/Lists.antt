@@ -4,7 +4,7 @@ use Rattle.std.specs.Prelude.{Bool, true, false, Option, Some, None, slice_get, 
 use Rattle.std.proofs.lemmas.List.{drop_all, take_more_set, drop-set-lt, drop-drop, length-set, map-append, append_assoc, length-map, length-take-le, append-nil}
 use Rattle.std.proofs.lemmas.List.Sums.{take_while-cons}
 use Rattle.std.proofs.lemmas.Nat.{pow-add}
-use Rattle.std.proofs.Math.Nat.{mod-add-div, add-mul-div_left, add-mul-mod_self_right, one-le-pow, pow-suc, pow-le-pow_right, div-eq_of_lt}
+use Rattle.std.proofs.Math.Nat.{mod-add-div, add-mul-div_left, add-mul-mod_self_right, one-le-pow, pow-suc}
 use Rattle.lexical_format.specs.Word.{bit}
 use Rattle.lexical_digits.specs.ByteSet.{accepts}
 use Rattle.lexical_digits.specs.Cursor.{holds_of}
@@ -24,23 +24,6 @@ no_blank gap text at h = rw (none_here text at h) (omega arith)
     none_here [] i e = rw (drop_all {X = ℕ} i [] (omega arith)) refl
     none_here (x ∷ xs) zero e = grind (arith, e, take_while-cons (is_blank gap) x xs)
     none_here (x ∷ xs) (suc i) e = none_here xs i e
-
--- one blank, and those after it
-pub one_blank : (gap : Gap) (text : List ℕ) (at : ℕ) → has_blank gap text at ≡ true
-    → past_blanks gap text at ≡ at + 1 + length (take_while (is_blank gap) (drop (at + 1) text))
-unfolding past_blanks
-one_blank gap text at h =
-    let next : at + 1 ≡ suc at = omega arith in
-    rw next (omega (arith, one_here text at h))
-  where
-    one_here : (xs : List ℕ) (i : ℕ) → has_blank gap xs i ≡ true
-        → length (take_while (is_blank gap) (drop i xs))
-        ≡ suc (length (take_while (is_blank gap) (drop (suc i) xs)))
-    one_here [] i e = absurd (grind (arith, e))
-    one_here (x ∷ xs) zero e = grind (arith, e, take_while-cons (is_blank gap) x xs)
-    one_here (x ∷ xs) (suc i) e = one_here xs i e
-
-pub ruleset blanks = (no_blank, one_blank)
 
 -- where a separator is, no blank is
 pub separator_is_no_blank : (gap : Gap) (text : List ℕ) (at : ℕ)
@@ -69,14 +52,6 @@ low_bit n place l =
     let halves : n / 2 ^ place ≡ (n % 2 ^ 64) / 2 ^ place + 2 ^ more * q * 2 =
     ap (λ m. m / 2 ^ place) all ∙ add-mul-div_left (n % 2 ^ 64) (2 ^ more * q * 2) some in
     rw (halves, add-mul-mod_self_right ((n % 2 ^ 64) / 2 ^ place) (2 ^ more * q) 2) refl
-
--- the bits above a small number
-pub no_bit : (n place : ℕ) → n < 2 ^ 33 → 32 < place → bit n place ≡ false
-no_bit n place l high =
-    let two : 0 < 2 = omega arith in
-    let more : 2 ^ 33 ≤ 2 ^ place = pow-le-pow_right two high in
-    let none : n / 2 ^ place ≡ 0 = div-eq_of_lt (omega (arith, l, more)) in
-    rw none refl
 
 module _ {V A E : Type 0} (value : V → A) (one : ℕ → Result (A × ℕ) E) (position : E → ℕ)
     (gap : Gap) (text : List ℕ) where

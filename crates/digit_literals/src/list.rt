@@ -1,6 +1,6 @@
 //! Lists of numbers, which are read into a slice.
 
-ghost use Rattle.std.specs.Prelude.{◌≡◌, ◌+◌, ◌-◌, ◌<◌, ◌≤◌, length, take_while, true, false, IfOk, IfErr, IsTrue};
+ghost use Rattle.std.specs.Prelude.{◌≡◌, ◌+◌, ◌-◌, ◌<◌, ◌≤◌, length, take_while, true, IfOk, IfErr, IsTrue};
 ghost use Rattle.lexical_format.specs.Word.{is_supported};
 ghost use Rattle.lexical_digits.specs.declared.skip.component.Component.TheVariants.{Integer};
 ghost use Rattle.lexical_digits.specs.ByteSet.{accepts};
@@ -115,38 +115,12 @@ fn accepts(set: ByteSet, byte: u8) -> bool
     }
 }
 
-/// Whether a byte below 64 is the only one of a set below 128. It is only for speed: where the set
-/// is a constant, a compiler makes one comparison of it (the row `list of u32, 1 to 4 digits`).
-#[inline(always)]
-fn is_only(set: ByteSet, byte: u8) -> bool
-    ensures { result ≡ true → accepts set byte ≡ true }
-{
-    if byte < 64 {
-        set.low == 1 << byte
-    } else {
-        false
-    }
-}
-
-/// Whether a byte is above a space, and the set has none there: likewise one comparison.
-#[inline(always)]
-#[tactic(auto, using(crate::proofs::Lists::no_bit))]
-fn is_above(set: ByteSet, byte: u8) -> bool
-    ensures { result ≡ true → accepts set byte ≡ false }
-{
-    byte > b' ' && set.low < 1 << 33 && set.high == 0
-}
-
 impl Gap {
     /// Whether a byte may be around a separator.
     #[inline(always)]
     fn is_blank(self, byte: u8) -> bool
         ensures { result ≡ is_blank self byte }
     {
-        // the usual case: a number begins here
-        if is_above(self.blanks, byte) {
-            return false;
-        }
         accepts(self.blanks, byte) && !accepts(self.separators, byte)
     }
 
@@ -162,8 +136,7 @@ impl Gap {
     /// Whether a blank is at a position.
     #[inline(always)]
     fn has_blank(self, text: &[u8], at: usize) -> bool
-        ensures is { result ≡ has_blank self text.now at }
-        ensures within { result ≡ true → at < length text.now }
+        ensures { result ≡ has_blank self text.now at }
     {
         match text.get(at) {
             Some(byte) => self.is_blank(*byte),
@@ -174,7 +147,7 @@ impl Gap {
     /// The first position from this one on without a blank, or the end of the text. Requires that
     /// the position is within the text.
     #[inline(always)]
-    #[tactic(auto, using(crate::proofs::Lists::blanks), unfolding(crate::specs::Lists::past_blanks))]
+    #[tactic(auto, using(crate::proofs::Lists::no_blank), unfolding(crate::specs::Lists::past_blanks))]
     pub fn past_blanks(self, text: &[u8], at: usize) -> usize
         requires { at ≤ length text.now }
         ensures is { result ≡ past_blanks self text.now at }
@@ -183,7 +156,7 @@ impl Gap {
     {
         // the usual case, in which none is counted
         if self.has_blank(text, at) {
-            at + 1 + self.count_blanks(&text[at + 1..])
+            at + self.count_blanks(&text[at..])
         } else {
             at
         }
@@ -222,7 +195,7 @@ impl Gap {
         ensures within { result ≡ true → at < length text.now }
     {
         match text.get(at) {
-            Some(byte) => is_only(self.separators, *byte) || accepts(self.separators, *byte),
+            Some(byte) => accepts(self.separators, *byte),
             None => false,
         }
     }
