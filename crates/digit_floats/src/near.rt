@@ -103,7 +103,7 @@ fn nearest<F: Float>(digits: u64, more: u64, power: u64) -> Option<F>
 /// tells.
 #[inline(always)]
 #[tactic(auto, using(crate::proofs::Between::is_between, crate::proofs::Tens::ten_pos))]
-fn round_from<F: Float>(
+pub fn round_from<F: Float>(
     negative: bool,
     digits: u64,
     cut: u64,
@@ -133,9 +133,9 @@ fn round_from<F: Float>(
     Some(signed(negative, x))
 }
 
-/// [`round_from`] of all digits of a number.
+/// [`round_from`] of all digits of a number, in code of its own.
 #[inline(never)]
-pub fn round_near<F: Float>(
+fn round_near_apart<F: Float>(
     negative: bool,
     digits: u64,
     places: u64,
@@ -152,10 +152,33 @@ pub fn round_near<F: Float>(
     round_from(negative, digits, 0, places, down, power)
 }
 
-/// [`round_from`] of digits behind which others were cut off.
+/// [`round_near_apart`], whose answer in memory belongs to this function, so it is set only where
+/// that is called.
+#[inline(always)]
+pub fn round_near<F: Float>(
+    negative: bool,
+    digits: u64,
+    places: u64,
+    down: bool,
+    power: u64,
+) -> Option<F>
+    requires digits { 0 < digits }
+    requires places { places < 2 ^ 63 }
+    requires power { power < 2 ^ 32 }
+    ensures { IfSome result (λ x. (n : ℕ) → IsCutAt n digits 0
+        → F.value x ≡ round F.format negative
+        (n * 10 ^ (if down then 0 else power)) (10 ^ (places + (if down then power else 0)))) }
+{
+    match round_near_apart(negative, digits, places, down, power) {
+        Some(x) => Some(x),
+        None => None,
+    }
+}
+
+/// [`round_from`] of digits behind which others were cut off, in code of its own.
 #[cold]
 #[inline(never)]
-pub fn round_cut<F: Float>(
+fn round_cut_apart<F: Float>(
     negative: bool,
     digits: u64,
     cut: u64,
@@ -172,4 +195,29 @@ pub fn round_cut<F: Float>(
         (n * 10 ^ (if down then 0 else power)) (10 ^ (places + (if down then power else 0)))) }
 {
     round_from(negative, digits, cut, places, down, power)
+}
+
+/// [`round_cut_apart`], whose answer in memory belongs to this function, so it is set only where
+/// that is called.
+#[inline(always)]
+pub fn round_cut<F: Float>(
+    negative: bool,
+    digits: u64,
+    cut: u64,
+    places: u64,
+    down: bool,
+    power: u64,
+) -> Option<F>
+    requires digits { 0 < digits }
+    requires cut { cut < 2 ^ 63 }
+    requires places { places < 2 ^ 63 }
+    requires power { power < 2 ^ 32 }
+    ensures { IfSome result (λ x. (n : ℕ) → IsCutAt n digits cut
+        → F.value x ≡ round F.format negative
+        (n * 10 ^ (if down then 0 else power)) (10 ^ (places + (if down then power else 0)))) }
+{
+    match round_cut_apart(negative, digits, cut, places, down, power) {
+        Some(x) => Some(x),
+        None => None,
+    }
 }

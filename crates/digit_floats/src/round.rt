@@ -9,7 +9,7 @@ ghost use Rattle.digit_floats.specs.Parts.{integer_of, fraction_of, IsMantissa};
 use super::exact::round_exact;
 use super::float::{Float, signed};
 use super::long::round_digits;
-use super::near::{round_cut, round_near};
+use super::near::{round_cut, round_from, round_near};
 use super::parts::{Mantissa, Power};
 
 /// A zero with a sign, which a zero times any power of ten is.
@@ -47,7 +47,8 @@ pub fn round_parts<F: Float>(text: &[u8], negative: bool, mantissa: Mantissa, po
                 return x;
             }
             if value > 0 {
-                let near = round_near::<F>(negative, value, places, power.negative, power.value);
+                let down = power.negative;
+                let near = round_from::<F>(negative, value, 0, places, down, power.value);
                 if let Some(x) = near {
                     return x;
                 }
@@ -69,6 +70,33 @@ pub fn round_parts<F: Float>(text: &[u8], negative: bool, mantissa: Mantissa, po
         places,
         power,
     )
+}
+
+/// [`round_parts`] of a mantissa of which no digits were dropped, if one multiplication or division
+/// tells. It is small, so that numbers of a form with an exponent are read in place (the row `z:
+/// JSON, 1 to 3 digits, an exponent`).
+#[inline(always)]
+pub fn round_few_with<F: Float>(
+    text: &[u8],
+    negative: bool,
+    mantissa: Mantissa,
+    power: Power,
+) -> Option<F>
+    requires is { IsMantissa text.now mantissa }
+    requires few { mantissa.dropped ≡ 0 }
+    ensures value { IfSome result (λ x. (n : ℕ) → power.value ≡ min n (2 ^ 64 - 1)
+        → F.value x ≡ round F.format negative
+        (digits_value 10 (integer_of text.now mantissa ++ fraction_of text.now mantissa)
+        * 10 ^ (if power.negative then 0 else n))
+        (10 ^ (mantissa.places + (if power.negative then n else 0)))) }
+    ensures no_nan { IfSome result (λ x. NotNan (F.value x)) }
+{
+    if power.value > 0xffff_ffff {
+        return None;
+    }
+    let places = mantissa.places as u64;
+    let x: F = round_exact(negative, mantissa.value, places, power.negative, power.value)?;
+    Some(x)
 }
 
 /// [`round_parts`] of a mantissa with few digits that no exponent follows, if one division or one
