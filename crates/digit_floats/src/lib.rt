@@ -6,8 +6,6 @@ mod decimal;
 mod error;
 mod exact;
 mod float;
-#[cfg(test)]
-mod hex_tests;
 mod hexadecimal;
 pub mod laws;
 mod list;
@@ -18,8 +16,6 @@ mod powers;
 mod read;
 mod round;
 mod scaled;
-#[cfg(test)]
-mod tests;
 
 pub use self::binary::round_integer;
 pub use self::decimal::{Decimal, read_decimal_from};

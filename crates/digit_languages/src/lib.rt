@@ -8,6 +8,3 @@ mod literal;
 
 pub use self::language::{FirstZero, Language, is_language};
 pub use self::literal::{LanguageError, Literal, prefix_word, read_literal, read_literal_as};
-
-#[cfg(test)]
-mod tests;

@@ -11,8 +11,6 @@ mod list;
 pub mod names;
 mod number;
 mod special;
-#[cfg(test)]
-mod tests;
 
 pub use self::form::{
     AfterPoint, Exponents, Form, HexFloats, NameSign, Signs, Special, SpecialValue, Specials,

@@ -4,8 +4,11 @@
 ghost use Rattle.std.specs.Prelude.{◌≡◌};
 ghost use Rattle.lexical_digits.specs.State.{start};
 
+mod bounds;
 mod every_byte;
 mod floats;
+mod forms;
+mod hex_floats;
 mod integers;
 mod json;
 mod language_literals;
@@ -14,6 +17,7 @@ mod laws;
 mod lists;
 mod literals;
 mod money;
+mod nearest;
 mod parsing;
 mod passing;
 mod readme;

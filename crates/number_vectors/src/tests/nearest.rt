@@ -1,6 +1,6 @@
 //! The nearest floats of texts, by `PYTHON_LITERAL`: one `_` between two digits of each component.
 
-use super::{FloatError, parse_float, parse_float_from, read_float};
+use digit_floats::{FloatError, parse_float, parse_float_from, read_float};
 use lexical_format::words::{JAVA_LITERAL, PYTHON_LITERAL};
 use lexical_format::{
     FRACTION_LEADING_DIGIT_SEPARATOR, INTEGER_TRAILING_DIGIT_SEPARATOR, NumberFormat, STANDARD,

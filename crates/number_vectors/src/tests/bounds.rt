@@ -2,7 +2,6 @@
 
 use digit_literals::{Integer, ParseError, parse_number};
 use lexical_format::words::PYTHON_LITERAL;
-use std::process::Abort;
 
 /// The number that a text is, with `_` between two digits.
 #[tactic(auto, unfolding(lexical_format::proofs::OnLiterals::lexical_on_literals))]

@@ -4,17 +4,17 @@
 //! of rustc 1.95.0, CPython 3.11.7, OpenJDK 17.0.15, Go 1.19.8 and glibc 2.36; TOML's values are
 //! from CPython's tomllib. Those of JSON5 and YAML are worked out by hand from their pages.
 
-use super::forms::{
+use digit_floats::Marks;
+use digit_languages::Language;
+use digit_numbers::forms::{
     CXX17, GO_PARSE_FLOAT, JAVA_PARSE_DOUBLE, JSON, JSON5, OCAML, PERL, PYTHON, PYTHON_FLOAT, RUST,
     RUST_PARSE, STRTOD, SWIFT, TOML, YAML,
 };
-use super::names::{ANY_CASE, LOWER_CASE};
-use super::{
+use digit_numbers::names::{ANY_CASE, LOWER_CASE};
+use digit_numbers::{
     AfterPoint, Exponents, Form, NameSign, Number, NumberError, Special, SpecialValue, Specials,
     Whole, is_form, parse_number_of, read_number_of,
 };
-use digit_floats::Marks;
-use digit_languages::Language;
 use lexical_format::SPECIAL_DIGIT_SEPARATOR;
 use lexical_format::words::PYTHON_LITERAL;
 use std::process::Abort;

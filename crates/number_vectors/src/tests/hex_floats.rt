@@ -1,9 +1,8 @@
 //! The nearest floats of hexadecimal digits, by `CXX14_HEX_LITERAL`: one `'` between two digits of
 //! each component.
 
-use super::{Float, FloatError, Marks, read_hex_float_from};
+use digit_floats::{Float, FloatError, Marks, read_hex_float_from};
 use lexical_format::words::CXX14_HEX_LITERAL;
-use std::process::Abort;
 
 const P: Marks = Marks {
     point: b'.',
