@@ -17,9 +17,6 @@ module _ (mark : ℕ) (bytes : List ℕ) where
   abbrev at : ℕ
   at = position_or_len (λ byte. byte == mark) bytes
 
-  within : at ≤ length bytes
-  within = prefix_len-le-length _ bytes
-
   others_before : (n : ℕ) → n ≤ at → All (λ byte. byte ≢ mark) (take n bytes)
   others_before n h = All-from_get_or (λ byte. byte ≢ mark) (take n bytes) 0 (λ i inside e.
       let below : i < n = omega (arith, simp length-take at inside) in

@@ -23,7 +23,8 @@ no_digit : (radix byte : ℕ) → is_ascii_alphanumeric byte ≡ false
 unfolding digit_value
 no_digit radix byte h = grind (arith, nat_tests)
 
-ends_class : (p : ℕ → Bool) (rule : Rule) → ((b : ℕ) → p b ≡ false → is_ascii_alphanumeric b ≡ false)
+ends_class : (p : ℕ → Bool) (rule : Rule)
+    → ((b : ℕ) → p b ≡ false → is_ascii_alphanumeric b ≡ false)
     → ((b : ℕ) → p b ≡ false → is_separator rule.separator b ≡ false)
     → (o : Option ℕ) → holds_of p o ≡ false → class rule o ≡ Other
 unfolding is_digit

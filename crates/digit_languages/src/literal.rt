@@ -30,7 +30,8 @@ pub enum LanguageError {
     Empty(usize),
     /// With the digit at this position the value is above the greatest one.
     Overflow(usize),
-    /// The language refuses the first `0`, which is at this position, whatever the greatest value is.
+    /// The language refuses the first `0`, which is at this position, whatever the greatest value
+    /// is.
     Zero(usize),
 }
 

@@ -1,5 +1,6 @@
 //! The calls of lexical-util by their names, and what a call answers. No function of this crate
-//! takes them: they are the rows of the call table, and the crate `digit_script` makes lists of them.
+//! takes them: they are the rows of the call table, and the crate `digit_script` makes lists of
+//! them.
 
 ghost use Rattle.std.specs.Prelude.{◌≡◌, ℕ, ◌+◌, ◌<◌, ◌≤◌};
 ghost use Rattle.lexical_format.specs.Word.{bit};
@@ -15,8 +16,7 @@ pub struct ByteSet {
 }
 
 impl ByteSet {
-    /// The bytes that a closure accepts. It calls the closure on every byte, once. Requires that
-    /// the closure may be called on every byte.
+    /// The bytes that a closure accepts. Requires that the closure may be called on every byte.
     pub fn of<F: Fn(u8) -> bool + Drop>(test: F) -> ByteSet
         requires { (b : ℕ) → b < 256 → F.pre test b }
         ensures { (b : ℕ) → b < 256 → F.post test b (accepts result b) }

@@ -10,9 +10,9 @@ use Rattle.lexical_digits.specs.declared.skip.component.Component.{Component}
 use Rattle.lexical_digits.specs.declared.skip.component.Component.TheVariants.{Integer, Fraction, Exponent, Special}
 use Rattle.lexical_digits.specs.Separators.{GrantsNone}
 use Rattle.lexical_digits.specs.Separators as separators
-use Rattle.lexical_digits.specs.State.{State, own, with_own, rule, rule_of, is_contiguous, has_no_separator, count_of_all, current_count}
+use Rattle.lexical_digits.specs.State.{State, own, with_own, rule, is_contiguous, has_no_separator}
 use Rattle.lexical_digits.specs.State as state
-use Rattle.lexical_digits.specs.CallTable.{place_of, byte_at_place, settled, past_place, counted, Part, OnBytes, On, contiguous_on, count_on}
+use Rattle.lexical_digits.specs.CallTable.{place_of, Part, OnBytes, On}
 use Rattle.lexical_digits.specs.declared.ops.Op.{Op}
 use Rattle.lexical_digits.specs.declared.ops.Answer.{Answer}
 use Rattle.lexical_digits.specs.declared.ops.Op.TheVariants.{CurrentCount, StepBy, Step, TakeN}
@@ -54,13 +54,6 @@ stays part call p u = record {
 record Agree (a : skip.Row) (b : Row) : Type 0 where
   answer : a.answer ≡ b.answer
   state : without_counts a.state ≡ b.state
-
-with_own_same : (k : Component) (s : State) (n i : ℕ)
-    → without_counts (state.with_cursor (with_own k s n) i) ≡ with_cursor (without_counts s) i
-with_own_same Integer s n i = refl
-with_own_same Fraction s n i = refl
-with_own_same Exponent s n i = refl
-with_own_same Special s n i = refl
 
 within_same : (b : Bool) (s t : State) (p q : Plain)
     → (skip.within b s t).answer ≡ (within b p q).answer

@@ -107,7 +107,10 @@ peeks_end k a answer none e = let here = (here_end k a none).place in
 pub settles_here : (k : Component) (a : Held) → IsHere k a → SettlesOf k a a
 settles_here k a here = record {
   settles = rw here.place refl;
-  costs = λ c state run more. costs_unscanned k a c run (omega (arith, ap (λ (s : State). s.cursor) state)) more.at_least (grind (arith, nat_tests, more.at_most)) (λ _. grind (arith, nat_tests, more.at_most)) (and_left _ _ here.unscanned);
+  costs = λ c state run more. costs_unscanned k a c run
+      (omega (arith, ap (λ (s : State). s.cursor) state)) more.at_least
+      (grind (arith, nat_tests, more.at_most)) (λ _. grind (arith, nat_tests, more.at_most))
+      (and_left _ _ here.unscanned);
 }
 
 pub peeks_settled : (k : Component) (a m b : Held) (answer : Option ℕ) → SettlesOf k a m

@@ -45,7 +45,8 @@ place_inner rule buffer q digit count supported stands apart next is_next intern
 
     here : (b : Bool) → rule.consecutive ≡ b → place rule buffer q count ≡ q + 1
     here true e = place_run rule buffer e 1 q (q + 1) count refl all stops within
-        (not_kept (right_many rule buffer supported e q (q + 1) holds (omega arith) all stops within))
+        (not_kept (right_many rule buffer supported e q (q + 1) holds (omega arith) all stops
+            within))
     here false e = place_next rule buffer e q count (omega (arith, within))
         (not_kept (right_one rule buffer supported e q))
 
@@ -108,7 +109,8 @@ settles_over k a b digit over state run looks = record {
   costs = λ c same_state same_run more.
       let at = ap (λ (s : State). s.cursor) (same_state ∙ state) in
       costs_unscanned k a c (same_run ∙ run) (omega (arith, at))
-      (grind (arith, nat_tests, more.at_least, looks)) (grind (arith, nat_tests, more.at_most, looks))
+      (grind (arith, nat_tests, more.at_least, looks))
+      (grind (arith, nat_tests, more.at_most, looks))
       (λ e. absurd (false≢true (sym e ∙ over.follows.here))) (and_right _ _ over.free);
 }
 

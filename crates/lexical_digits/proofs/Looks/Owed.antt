@@ -102,7 +102,8 @@ arrives k a b saw_next seen follows e saw looks = record {
         omega (arith, more.at_most, looks, few, none, found)
 
     onward : (c : Held) → c.state ≡ b.state → a.state.cursor ≤ c.state.cursor
-    onward c state = omega (arith, ap (λ (s : State). s.cursor) (state ∙ e), place_from k a.state a.holds.within)
+    onward c state =
+        omega (arith, ap (λ (s : State). s.cursor) (state ∙ e), place_from k a.state a.holds.within)
 
     here : (c : Held) → c.state ≡ b.state → c.run ≡ b.run
         → LooksBetween b.looks answered answered c.looks

@@ -18,7 +18,6 @@ use super::component::Component;
 use super::decision::Run;
 use super::rule::{Rule, Shortcuts};
 use crate::iterator::Iter;
-use lexical_format::NumberFormat;
 use std::alloc::AllocError;
 use std::convert::Infallible;
 use std::marker::Model;

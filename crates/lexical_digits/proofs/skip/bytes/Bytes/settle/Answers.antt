@@ -19,7 +19,8 @@ returns-then-byte-self c =
 
 pub returns-then-not-is_reader : goal.returns-then-not-is_reader
 returns-then-not-is_reader c = settles_switched c.args.component _ _ _
-    c.switch_reader-rule.ensures.state c.switch_reader-rule.ensures.no_looks c.settle_decided.ensures
+    c.switch_reader-rule.ensures.state c.switch_reader-rule.ensures.no_looks
+    c.settle_decided.ensures
 
 -- ---- a lone separator, and the digit after it
 
