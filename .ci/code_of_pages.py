@@ -1,7 +1,7 @@
 """The code of the pages: each block is a part of a file that the gate proves."""
 import re
 
-from sources import read
+from sources import DOOR, read
 
 USES = "crates/digit_uses"
 
@@ -59,6 +59,17 @@ def files_of(page, module, prefix, faults):
     return files, len(rust)
 
 
+def by_the_door(page, faults):
+    """The blocks that a caller pastes import from the one crate that he depends on, and from std:
+    so they are proved in his repository as they are in digit_uses."""
+    for first, block in blocks_of(page, "rust"):
+        for number, line in enumerate(block, first):
+            m = re.match(r"(?:ghost )?use (?:Rattle\.)?(\w+)|#.*?\b(?:using|unfolding)\((\w+)::", line)
+            crate = m and (m[1] or m[2])
+            if crate and crate not in (DOOR, "std"):
+                faults.append(f"{page}:{number}: a caller who has only `{DOOR}` has no `{crate}`")
+
+
 def answers(faults):
     """Each answer that the first block of README shows is one that a test asserts."""
     path = "crates/number_vectors/src/tests/readme.rt"
@@ -83,6 +94,8 @@ def check():
     faults, count = [], 0
     answers(faults)
     first_run(faults)
+    for page in ("README.md", "CALLING.md"):
+        by_the_door(page, faults)
     for page, (module, prefix) in PAGES.items():
         files, blocks = files_of(page, module, prefix, faults)
         count += blocks + len(files) - 1
