@@ -1,8 +1,8 @@
 -- The digits of a fraction, one after the other, until the number is too large or too fine.
-use Rattle.std.proofs.Common.{◌≡◌, ℕ, zero, suc, ◌+◌, ◌-◌, ◌*◌, ◌^◌, ◌<◌, ◌≤◌, Bool, true, false, List, [], ◌∷◌, ◌++◌, length, take, drop, get_or, refl, sym, ◌∙◌, arith, length-append}
-use Rattle.std.specs.Prelude.{◌/◌, ◌==◌, ◌&&◌, nat_le}
+use Rattle.std.proofs.Common.{◌≡◌, ℕ, suc, ◌+◌, ◌-◌, ◌*◌, ◌^◌, ◌<◌, ◌≤◌, Bool, true, false, List, [], ◌∷◌, ◌++◌, length, take, drop, get_or, refl, sym, ◌∙◌, arith, length-append}
+use Rattle.std.specs.Prelude.{◌/◌, ◌==◌, nat_le}
 use Rattle.std.specs.Char.{is_ascii_digit, digit_value}
-use Rattle.std.specs.List.{filter, list_all, prefix_len, range_with_len}
+use Rattle.std.specs.List.{filter, prefix_len, range_with_len}
 use Rattle.std.specs.Str.Parse.{digits_value_after}
 use Rattle.std.proofs.Math.Nat.{le-div_iff_mul-le}
 use Rattle.std.proofs.Math.Seq.{take-nil, drop-nil}
@@ -108,7 +108,7 @@ module _ (whole places most : ℕ) (bytes : List ℕ) where
         → n ≡ places - length (read (at + 1)) → is_exact (read (at + 1)) places ≡ true
         → v * 10 ^ n ≤ most → IsFitting v n (at + 1)
     next v n is still exact low =
-        let scaled : first_value whole places (read (at + 1)) * 10 ^ (places - length (read (at + 1))) ≤ most =
+        let scaled : scaled_value whole places (read (at + 1)) ≤ most =
         rw (← is, ← still) low in
         let small : nat_le (scaled_value whole places (read (at + 1))) most ≡ true =
         grind (arith, nat_tests, scaled) in
@@ -157,14 +157,15 @@ module _ (whole places most : ℕ) (bytes : List ℕ) where
         pub passes_place : (v : ℕ) → v ≡ value * 10 + digit_value b → v * 10 ^ (left - 1) ≤ most
             → IsFitting v (left - 1) (at + 1)
         passes_place v is low =
-            next v (left - 1) (is ∙ sym value_there) (omega (arith, h.still, still_more)) exact_there
-            low
+            next v (left - 1) (is ∙ sym value_there) (omega (arith, h.still, still_more))
+            exact_there low
 
         pub stops_place : most < (value * 10 + digit_value b) * 10 ^ (left - 1)
             → at ≡ fitting whole places most bytes
         stops_place high =
-            let less : places - length (read (at + 1)) ≡ left - 1 = omega (arith, h.still, still_more) in
-            let scaled : most < first_value whole places (read (at + 1)) * 10 ^ (places - length (read (at + 1))) =
+            let less : places - length (read (at + 1)) ≡ left - 1 =
+            omega (arith, h.still, still_more) in
+            let scaled : most < scaled_value whole places (read (at + 1)) =
             rw (value_there, less) high in
             let large : nat_le (scaled_value whole places (read (at + 1))) most ≡ false =
             grind (arith, nat_tests, scaled) in

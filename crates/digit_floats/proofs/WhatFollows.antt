@@ -2,7 +2,7 @@
 use Rattle.std.proofs.Common.{◌≡◌, ℕ, ◌+◌, ◌<◌, ◌≤◌, Bool, true, false, cond, List, refl, ap, ◌∙◌, arith, inl, inr}
 use Rattle.std.proofs.lemmas.Bool.{cases_lt}
 use Rattle.std.proofs.lemmas.Bool.Decides.{nat_tests}
-use Rattle.std.specs.Prelude.{◌/◌, ◌^◌, slice_range, Result, Ok, Err}
+use Rattle.std.specs.Prelude.{◌/◌, ◌^◌, Result, Ok, Err}
 use Rattle.std.specs.Float.{Format}
 use Rattle.std.specs.Float.Numeral.{Parts, nearest_float}
 use Rattle.digit_literals.specs.declared.LiteralError.{LiteralError}
@@ -246,7 +246,7 @@ module _ (word : ℕ) (marks : Marks) (one other : List ℕ) (at : ℕ)
       → fault word one marks.point places most i integer
       ≡ fault word other marks.point places most i integer
   fault_same places most i (Err (integers.Overflow over)) from = refl
-  fault_same places most i (Err (integers.Empty none)) from = rw (after_same places most i 0 from) refl
+  fault_same places most i (Err (integers.Empty none)) from = after_same places most i 0 from
   fault_same places most i (Ok read) from = after_same places most i read.0 from
 
   fault_at_same : (places most i : ℕ) → i ≤ at

@@ -38,13 +38,15 @@ module _ (whole : ℕ) (places : ℕ) where
       (range_with_len 0 (length bytes))
 
 module _ (word : ℕ) (text : List ℕ) (point places : ℕ) where
-  -- the first digit after an integer with which the number at a position is above `most` or too fine
+  -- the first digit after an integer with which the number at a position is above `most` or too
+  -- fine
   abbrev pub fault_after : ℕ → ℕ → ℕ → ℕ
   fault_after most at whole =
       let start = digits_end word text Integer at in
       start + fitting whole places most (slice_range text start (mantissa_end word text point at))
 
-  -- the same, if its integer is at most `most`, otherwise the first digit with which that is above it
+  -- the same of the whole number: that of its integer with which it is above `most`, if there is
+  -- one
   abbrev pub fault : ℕ → ℕ → Result (ℕ × ℕ) LiteralError → ℕ
   fault most at (Err (integers.Overflow over)) = over
   fault most at (Err (integers.Empty _)) = fault_after most at 0

@@ -1,6 +1,6 @@
 //! A decimal number as an integer: so many of its last place.
 
-ghost use Rattle.std.specs.Prelude.{◌≡◌, ◌==◌, ◌+◌, ◌-◌, ◌*◌, ◌^◌, ◌<◌, ◌≤◌, ℕ, true, false, length, filter, take, drop, IfOk, IfErr, IfSome, Some, Ok, Err, IsTrue, MatchOption, MatchResult};
+ghost use Rattle.std.specs.Prelude.{◌≡◌, ◌==◌, ◌+◌, ◌-◌, ◌*◌, ◌^◌, ◌<◌, ◌≤◌, ℕ, true, false, length, filter, take, drop, IfOk, IfSome, Some, Ok, Err, IsTrue, MatchOption, MatchResult};
 ghost use Rattle.std.specs.List.{list_all};
 ghost use Rattle.std.specs.Char.{is_ascii_digit, digit_value};
 ghost use Rattle.std.specs.Str.Parse.{digits_value, digits_value_after};
@@ -227,8 +227,8 @@ fn fault_of(text: &[u8], word: u128, mantissa: Mantissa, places: usize, most: u1
 }
 
 /// The decimal number at a position, as so many of its last place, if that is at most `most`:
-/// [`read_scaled_from`] of a number whose sign is yours to read. For a `DECIMAL(9, 2)` of SQL `most`
-/// is 999,999,999.
+/// [`read_scaled_from`] of a number whose sign is yours to read. For a `DECIMAL(9, 2)` of SQL
+/// `most` is 999,999,999.
 #[inline]
 #[tactic(auto, unfolding(crate::specs::Scaled::scaled_at))]
 pub fn read_scaled_up_to(

@@ -1,4 +1,4 @@
-use Rattle.std.proofs.Common.{◌≡◌, ◌<◌, true, sym, ◌∙◌, arith, inl, inr}
+use Rattle.std.proofs.Common.{sym, ◌∙◌, arith, inl, inr}
 use Rattle.std.proofs.lemmas.Bool.{cases_lt}
 use Rattle.digit_floats.proofs.Faults.{none_read, passes_other, passes_place, passes_zero, stops_place, stops_last}
 use Rattle.digit_floats.proofs.scaled.count_fitting.Goals as goal
