@@ -5,7 +5,7 @@ use Rattle.std.proofs.Math.Seq.{take-append_seam, take-length, drop-append-add}
 use Rattle.std.proofs.lemmas.List.Folds.{prefix_len-append}
 use Rattle.std.proofs.lemmas.Bool.Decides.{nat_tests}
 use Rattle.std.proofs.lemmas.List.Elements.{All-head, All-tail, All-from_get_or}
-use Rattle.std.proofs.lemmas.List.Sums.{split_at_first, passes_at_first, fails_before_first, prefix_len-le-length}
+use Rattle.std.proofs.lemmas.List.Sums.{split_at_first, passes_at_first, fails_before_first}
 use Rattle.digit_drain.specs.Line.{cut}
 
 -- a list is what stands before the first mark, the mark, and what stands after it

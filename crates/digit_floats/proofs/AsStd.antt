@@ -346,7 +346,8 @@ module _ (word : ℕ) (text : List ℕ) (decimal : IsDecimal word) (plain : HasN
       (number_end word text plain_marks at == length text) refl refl refl e
     where
       go : (a b c : Bool) → (mantissa_count word text 46 at == 0) ≡ a
-          → (stands (is_mark 101) text mark && (length (exponent_digits word text 101 mark) == 0)) ≡ b
+          → (stands (is_mark 101) text mark && (length (exponent_digits word text 101 mark) == 0)) ≡
+          b
           → (number_end word text plain_marks at == length text) ≡ c
           → parse_at word text plain_marks f 0 ≡ Ok x → parse_float f text ≡ Some x
       go true b c d g h e = let none = rw d at e in cc

@@ -8,7 +8,8 @@ stands_is p [] i z = sym z
 stands_is p (x ∷ xs) zero z = refl
 stands_is p (x ∷ xs) (suc i) z = stands_is p xs i z
 
-pub stands_within : (p : ℕ → Bool) (text : List ℕ) (i : ℕ) → stands p text i ≡ true → i < length text
+pub stands_within : (p : ℕ → Bool) (text : List ℕ) (i : ℕ) → stands p text i ≡ true
+    → i < length text
 stands_within p [] i e = cc
 stands_within p (x ∷ xs) zero e = omega arith
 stands_within p (x ∷ xs) (suc i) e = let h = stands_within p xs i e in omega arith

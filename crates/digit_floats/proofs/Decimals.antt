@@ -2,7 +2,6 @@
 use Rattle.std.proofs.Common.{◌≡◌, ℕ, Bool, List, [], ◌∷◌, refl, arith}
 use Rattle.std.specs.Char.{is_ascii_digit, is_ascii_hexdigit}
 use Rattle.std.specs.List.{filter}
-use Rattle.std.specs.Str.Parse.{AllDigits}
 use Rattle.std.proofs.lemmas.Bool.Decides.{nat_tests}
 use Rattle.lexical_digits.specs.declared.skip.rule.Rule.{Rule}
 use Rattle.lexical_digits.specs.Separators.{is_digit}
@@ -34,7 +33,3 @@ hexdigits_are rule xs e =
 
 -- both, to be named in an attribute
 pub ruleset digits_of_radix = (digits_are, hexdigits_are)
-
-pub all_ascii : (xs : List ℕ) → AllDigits 10 (filter is_ascii_digit xs)
-all_ascii [] = tt
-all_ascii (x ∷ xs) = grind (arith, nat_tests, all_ascii xs)

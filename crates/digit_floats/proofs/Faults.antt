@@ -88,14 +88,6 @@ module _ (whole places most : ℕ) (bytes : List ℕ) where
     rest = let all : length bytes - 0 ≡ length bytes = omega arith in rw all (omega arith);
   }
 
-  -- at the end all fit
-  pub all_read : (value left : ℕ) → IsFitting value left (length bytes)
-      → length bytes ≡ fitting whole places most bytes
-  all_read value left h =
-      let none : length bytes - length bytes ≡ 0 = omega arith in
-      let rest : length bytes + 0 ≡ fitting whole places most bytes = rw none at h.rest in
-      omega (arith, rest)
-
   module _ (value left at : ℕ) (h : IsFitting value left at) (l : at < length bytes) where
     abbrev b : ℕ
     b = get_or bytes at 0

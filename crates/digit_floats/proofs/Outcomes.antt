@@ -1,11 +1,10 @@
 -- What an outcome says of a float and of where it ends.
-use Rattle.std.proofs.Common.{◌≡◌, ℕ, List, length, Bool, true, false, arith, refl}
-use Rattle.std.specs.Prelude.{Result, Ok, Err, ◌==◌, if◌then◌else◌}
+use Rattle.std.proofs.Common.{◌≡◌, ℕ, List, length, arith, refl}
+use Rattle.std.specs.Prelude.{Result, Ok, Err}
 use Rattle.std.proofs.lemmas.Bool.Decides.{nat_tests}
 use Rattle.std.specs.Float.{Float}
 use Rattle.digit_floats.specs.Float.{with_end, whole_of}
 use Rattle.digit_floats.specs.declared.error.FloatError.{FloatError}
-use Rattle.digit_floats.specs.declared.error.FloatError.TheVariants.{Invalid}
 
 pub reads : (x y : Float) (r : Result ℕ FloatError) (end : ℕ)
     → with_end x r ≡ Ok (y, end) → (y ≡ x) × (r ≡ Ok end)

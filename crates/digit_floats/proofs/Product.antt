@@ -112,12 +112,14 @@ module _ (num den m more q t z s k l : ℕ) (D : 0 < den) (M : 0 < m) (r : IsRow
       (from_lt num den (10 ^ (q - 342)) (10 ^ (342 - q)) (2 ^ power_scale q) (2 ^ 1200) (2 ^ z)
       (2 ^ s) (ten_pos (342 - q)) v m t (pow_pos (power_scale q)) D a r.from b.from)
 
-  pub below_next : (g : ℕ) → (m + more) * 2 ^ z * (t + 1) ≤ g * 2 ^ s → num * 2 ^ l < g * 2 ^ k * den
+  pub below_next : (g : ℕ) → (m + more) * 2 ^ z * (t + 1) ≤ g * 2 ^ s
+      → num * 2 ^ l < g * 2 ^ k * den
   below_next g a =
       let some : 0 < m + more = omega (arith, M) in
       unit_to_lt num den (2 ^ s) (2 ^ power_scale q) (2 ^ z) (2 ^ 1200) (2 ^ k) (2 ^ l) (2 ^ l)
       (2 ^ 1200) (pow_pos z) (pow_pos 1200) places_are turned g (pow_pos l)
-      (to_lt num den (10 ^ (q - 342)) (10 ^ (342 - q)) (2 ^ power_scale q) (2 ^ 1200) (2 ^ z) (2 ^ s)
+      (to_lt num den (10 ^ (q - 342)) (10 ^ (342 - q)) (2 ^ power_scale q) (2 ^ 1200) (2 ^ z)
+      (2 ^ s)
       (ten_pos (342 - q)) g (m + more) t (mul-pos (mul-pos some (pow_pos z)) D) a r.below b.to)
 
 -- ---- a number of halves rounds
@@ -132,7 +134,8 @@ odd_up v more odd = by (v % 2) more refl odd
     by : (r : ℕ) (more : Bool) → v % 2 ≡ r → (v % 2 ≡ 1 → more ≡ true)
         → shifted v 1 more ≡ (v + 1) / 2
     by zero more e odd =
-        ap (λ o. nearest (v / 2) o) (compare_lt (v % 2 * 2 + sticky_bit more) 2 (small more)) ∙ omega (arith, e)
+        ap (λ o. nearest (v / 2) o) (compare_lt (v % 2 * 2 + sticky_bit more) 2 (small more))
+        ∙ omega (arith, e)
       where
         small : (more : Bool) → v % 2 * 2 + sticky_bit more < 2
         small true = omega (arith, e)
@@ -140,7 +143,8 @@ odd_up v more odd = by (v % 2) more refl odd
     by (suc zero) more e odd =
         let large : 2 < v % 2 * 2 + sticky_bit more =
         rw (odd e) (omega (arith, e)) in
-        ap (λ o. nearest (v / 2) o) (compare_gt (v % 2 * 2 + sticky_bit more) 2 large) ∙ omega (arith, e)
+        ap (λ o. nearest (v / 2) o) (compare_gt (v % 2 * 2 + sticky_bit more) 2 large)
+        ∙ omega (arith, e)
     by (suc (suc r)) more e odd = absurd (omega (arith, e))
 
 module _ (f : Format) (num den m more q t z s e v : ℕ) (D : 0 < den) (M : 0 < m) (r : IsRow q t)
@@ -163,7 +167,9 @@ module _ (f : Format) (num den m more q t z s e v : ℕ) (D : 0 < den) (M : 0 < 
       rw (flat v, one) (from_kept num den m more q t z s e (low f) D M r b places v lower) in
       record {
         least = least;
-        most = rw (flat (v + 1), one) (below_next num den m more q t z s e (low f) D M r b places (v + 1) upper);
+        most =
+            rw (flat (v + 1), one) (below_next num den m more q t z s e (low f) D M r b places
+            (v + 1) upper);
         same = λ h. not_beyond (v * (2 ^ e * den)) n least h;
         above = λ h. ltb-true _ _ h;
       }
@@ -173,7 +179,8 @@ module _ (f : Format) (num den m more q t z s e v : ℕ) (D : 0 < den) (M : 0 < 
 
   exceeds : v % 2 ≡ 1 → beyond v (2 ^ e * den) n ≡ true
   exceeds h =
-      lt-ltb _ _ (rw (flat v, one) (above_kept num den m more q t z s e (low f) D M r b places v (odd h)))
+      lt-ltb _ _ (rw (flat v, one) (above_kept num den m more q t z s e (low f) D M r b places v
+      (odd h)))
 
   pub rounds_up : units f false ((v + 1) / 2) (e + 1) ≡ round f false num den
   rounds_up =
@@ -185,13 +192,6 @@ module _ (f : Format) (num den m more q t z s e v : ℕ) (D : 0 < den) (M : 0 < 
       same = omega arith
 
 -- ---- bounds
-
-pub small_width : (more m z : ℕ) → more ≤ 1 → more * 2 ^ 58 ≤ m → (2 ^ 58 ≤ m → z ≤ 5)
-    → more * 2 ^ z ≤ 32
-small_width zero m z p q few = omega arith
-small_width (suc zero) m z p q few =
-    let l : 2 ^ z ≤ 2 ^ 5 = lib.Pow.pow_mono (few (omega arith)) in omega (arith, l)
-small_width (suc (suc more)) m z p q few = absurd (omega arith)
 
 -- ---- the digits that are kept of a product
 

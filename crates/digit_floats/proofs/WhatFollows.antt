@@ -48,7 +48,8 @@ module _ (word : ℕ) (marks : Marks) (one other : List ℕ) (at : ℕ)
 
   -- ---- the digits of a component
 
-  pub ends_same : (k : Component) (i : ℕ) → i ≤ at → digits_end word one k i ≡ digits_end word other k i
+  pub ends_same : (k : Component) (i : ℕ) → i ≤ at
+      → digits_end word one k i ≡ digits_end word other k i
   unfolding digits_end
   ends_same k i l = same_stop (rule_of word k) one other at (upto.digits k) i 0 l
 
@@ -155,7 +156,9 @@ module _ (word : ℕ) (marks : Marks) (one other : List ℕ) (at : ℕ)
     whole_upto = ends_upto Integer i from
 
     mantissa_same : mantissa_end word one marks.point i ≡ mantissa_end word other marks.point i
-    mantissa_same = fraction_end_same _ whole_upto ∙ ap (fraction_end word other marks.point) (ends_same Integer i from)
+    mantissa_same =
+        fraction_end_same _ whole_upto
+        ∙ ap (fraction_end word other marks.point) (ends_same Integer i from)
 
     mantissa_upto : mantissa_end word one marks.point i ≤ at
     mantissa_upto = fraction_end_upto _ whole_upto
@@ -272,7 +275,8 @@ module _ (word : ℕ) (marks : Marks) (one other : List ℕ) (at : ℕ)
       ) refl
 
   -- its sign, if the type has one
-  signs_same : (least i : ℕ) → i ≤ at → signs.digits_from least one i ≡ signs.digits_from least other i
+  signs_same : (least i : ℕ) → i ≤ at
+      → signs.digits_from least one i ≡ signs.digits_from least other i
   signs_same least i from = grind (arith, nat_tests, minus_same i from, sign_same i from)
 
   signs_upto : (least i : ℕ) → i ≤ at → signs.digits_from least one i ≤ at

@@ -127,7 +127,8 @@ module _ (digits : List ℕ) (more : Bool) (up down : ℕ) (all : AllDigits 10 d
       v = digits_value 10 digits * 10 + last_digit more
 
       by_sign : (t : Bool) → t ≡ nat_lt 0 down
-          → Some (round f false (v * 10 ^ (if t then 0 else e t)) (10 ^ (0 + (if t then e t else 0))))
+          → Some (round f false (v * 10 ^ (if t then 0 else e t))
+          (10 ^ (0 + (if t then e t else 0))))
           ≡ Some (round f false (v * 10 ^ up) (10 ^ down))
       by_sign true h =
           let u : up ≡ 0 = one (grind (arith, nat_tests)) in

@@ -1,6 +1,6 @@
 //! A float of few digits, by one multiplication or division of two floats that are exact.
 
-ghost use Rattle.std.specs.Prelude.{◌≡◌, false, ◌+◌, ◌*◌, ◌^◌, ◌<◌, ◌≤◌, ℕ, IfSome, if◌then◌else◌};
+ghost use Rattle.std.specs.Prelude.{◌≡◌, false, ◌+◌, ◌*◌, ◌^◌, ◌<◌, ◌≤◌, IfSome, if◌then◌else◌};
 ghost use Rattle.std.specs.Float.Ieee.{round};
 ghost use Rattle.digit_floats.specs.Exact.{IsTenTo};
 

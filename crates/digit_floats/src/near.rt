@@ -42,7 +42,8 @@ fn halves_of(high: u64, precision: u64) -> (u64, u64, u64, u64)
 /// How many units of the least float above 0, times 2 to a scale, are nearest to all numbers from
 /// the digits to the digits and `more`, times 10 ^ (power - 342), if the product of 128 bits says
 /// it. Its upper digits are kept, one more than the float has, so the last says half a unit. Where
-/// all these numbers are above what is kept, and below the next, that and an even last digit decide.
+/// all these numbers are above what is kept, and below the next, that and an even last digit
+/// decide.
 #[inline(always)]
 pub fn nearest_units(
     digits: u64,

@@ -244,7 +244,8 @@ fn read_few_part(
 }
 
 /// The integer of a mantissa from a position on, where it has 1 to 19 digits, and no separator is
-/// met. Otherwise it answers `None`, and [`read_mantissa`] reads it. It is small, and calls nothing.
+/// met. Otherwise it answers `None`, and [`read_mantissa`] reads it. It is small, and calls
+/// nothing.
 #[inline(always)]
 pub fn read_short_whole(text: &[u8], word: u128, at: usize) -> Option<Mantissa>
     requires supported { IsTrue (is_supported word) }

@@ -27,7 +27,8 @@ fn zero<F: Float>(negative: bool) -> F
 #[inline(always)]
 pub fn round_parts<F: Float>(text: &[u8], negative: bool, mantissa: Mantissa, power: Power) -> F
     requires { IsMantissa text.now mantissa }
-    ensures value { (n : ℕ) → power.value ≡ min n (2 ^ 64 - 1) → F.value result ≡ round F.format negative
+    ensures value { (n : ℕ) → power.value ≡ min n (2 ^ 64 - 1)
+        → F.value result ≡ round F.format negative
         (digits_value 10 (integer_of text.now mantissa ++ fraction_of text.now mantissa)
         * 10 ^ (if power.negative then 0 else n))
         (10 ^ (mantissa.places + (if power.negative then n else 0))) }
@@ -95,7 +96,13 @@ pub fn round_few_with<F: Float>(
         return None;
     }
     let places = mantissa.places as u64;
-    let x: F = round_exact(negative, mantissa.value, places, power.negative, power.value)?;
+    let x: F = round_exact(
+        negative,
+        mantissa.value,
+        places,
+        power.negative,
+        power.value,
+    )?;
     Some(x)
 }
 

@@ -82,7 +82,8 @@ module _ (k : Component) (before : ℕ) (most : Option ℕ) (a b c : Held) (radi
   module _ (d : ℕ) (found : peeked ≡ Some d) where
     is_digit_next : Digit k s
     unfolding is_digit
-    is_digit_next = digit_there k s (rw so.same at (digit_at radix s.buffer (place_of k s) d found).is)
+    is_digit_next =
+        digit_there k s (rw so.same at (digit_at radix s.buffer (place_of k s) d found).is)
 
     is : digit_value (slice_index s.buffer (place_of k s)) ≡ d
     is = value_is radix _ d (digit_at radix s.buffer (place_of k s) d found).value
@@ -140,7 +141,9 @@ module _ (k : Component) (before : ℕ) (most : Option ℕ) (a b c : Held) (radi
                       let past = value_to (read.end + 1) more (omega (arith, on)) g.is in
                       grind (arith, from, is_digit_next.stop));
                 };
-                state = h.state ∙ rw (past e.state takes, upto) (one_counted k s is_digit_next _ read.end);
+                state =
+                    h.state ∙ rw (past e.state takes, upto)
+                    (one_counted k s is_digit_next _ read.end);
                 remembers = h.remembers;
                 owes = omega (arith, ints, h.owes, peeks.owes, pays.owes);
                 at_least = omega (arith, h.at_least, one, two);

@@ -15,7 +15,8 @@ module _ (radix : ℕ) where
   pub record CountsOn (bytes : List ℕ) (most value i : ℕ) : Type 0 where
     pub counts : i + fitting radix most value (leading_digits radix (drop i bytes))
         ≡ fitting radix most 0 (leading_digits radix bytes)
-    pub digits : i + length (leading_digits radix (drop i bytes)) ≡ length (leading_digits radix bytes)
+    pub digits : i + length (leading_digits radix (drop i bytes)) ≡ length
+        (leading_digits radix bytes)
     pub is : digits_value_after radix value (leading_digits radix (drop i bytes))
         ≡ digits_value radix (leading_digits radix bytes)
     pub fits : value ≤ most

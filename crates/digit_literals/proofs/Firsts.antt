@@ -96,7 +96,8 @@ stop_after Exponent s over = refl
 stop_after Special s over = refl
 
 module _ (word : ℕ) (k : Component) (text : List ℕ) (at before most over : ℕ)
-    (supported : IsTrue (is_supported word)) (small : length text < 2 ^ 63) (inside : at ≤ length text)
+    (supported : IsTrue (is_supported word)) (small : length text < 2 ^ 63)
+    (inside : at ≤ length text)
     (h : ExceedsAt (rule_of word k) text at 0 before most over) where
   abbrev s : State
   s = with_cursor (start text word) at
@@ -135,13 +136,15 @@ module _ (word : ℕ) (k : Component) (text : List ℕ) (at before most over : �
   leading : leading_digits_of k s ≡ all
   leading =
       leading_between k s fresh
-      ∙ ap (λ (c : ℕ). digits_between (rule_of word k) text at (stop (rule_of word k) text at c)) none
+      ∙ ap (λ (c : ℕ). digits_between (rule_of word k) text at (stop (rule_of word k) text at c))
+      none
 
   pub stop_is : stop_of k t ≡ stop (rule_of word k) text at 0
   stop_is = rest.stop ∙ ap (λ (c : ℕ). stop (rule_of word k) text at c) none
 
   pub rest_is : (value count more end : ℕ)
-      → value ≡ digits_value_after (rule_of word k).radix before (digits_between (rule_of word k) text at over)
+      → value ≡ digits_value_after (rule_of word k).radix before
+      (digits_between (rule_of word k) text at over)
       → count ≡ length (digits_between (rule_of word k) text at over)
       → end ≡ stop_of k t → more ≡ length (digits_between (rule_of word k) text over end)
       → ReadsFirst (rule_of word k).radix most before all
@@ -150,7 +153,8 @@ module _ (word : ℕ) (k : Component) (text : List ℕ) (at before most over : �
       let error : TooLarge = record { at = over; value = value; count = count } in
       let so_far : IsReadTo k s before error = record { is = is; digits = counted } in
       let others : more ≡ length (leading_digits_of k t) = rw (left, ← ends) are in
-      rw leading at (reads_rest k s most before fresh {error = error} {dropped = more} here so_far others)
+      rw leading at (reads_rest k s most before fresh {error = error} {dropped = more} here so_far
+      others)
 
 -- ---- off a slice, where no digit was tested for being too large
 
@@ -160,10 +164,13 @@ pub fit_below : (r : Rule) (text : List ℕ) (at before most bound : ℕ) (read 
 fit_below r text at before most bound read ten room small top h =
     let digits = digits_between r text at read.end in
     let below : digits_value 10 digits < 10 ^ read.count =
-    rw (h.reads 0).digits (digits_value-lt 10 digits (subst (λ (n : ℕ). AllDigits n digits) ten (all_digits r _))) in
-    let pieces : digits_value_after 10 before digits ≡ before * 10 ^ read.count + digits_value 10 digits =
+    rw (h.reads 0).digits (digits_value-lt 10 digits
+    (subst (λ (n : ℕ). AllDigits n digits) ten (all_digits r _))) in
+    let pieces : digits_value_after 10 before digits ≡ before * 10 ^ read.count + digits_value 10
+    digits =
     rw (h.reads 0).digits (value_of_pieces 10 before digits) in
-    let more : (before + 1) * 10 ^ read.count ≡ before * 10 ^ read.count + 10 ^ read.count = grind arith in
+    let more : (before + 1) * 10 ^ read.count ≡ before * 10 ^ read.count + 10 ^ read.count =
+    grind arith in
     let less : digits_value_after 10 before digits < bound = omega arith in
     let is : read.value ≡ digits_value_after 10 before digits =
     subst (λ (n : ℕ). read.value ≡ digits_value_after n before digits % 2 ^ 64) ten h.wrapped
@@ -225,8 +232,10 @@ module _ (before counted count : ℕ) (less : before < 10 ^ counted) where
       let digits = digits_between r text at read.end in
       let many : length digits ≡ count = sym (h.reads 0).digits ∙ same in
       let below : digits_value 10 digits < 10 ^ count =
-      rw (← many) (digits_value-lt 10 digits (subst (λ (n : ℕ). AllDigits n digits) ten (all_digits r _))) in
-      let pieces : digits_value_after 10 before digits ≡ before * 10 ^ count + digits_value 10 digits =
+      rw (← many) (digits_value-lt 10 digits
+      (subst (λ (n : ℕ). AllDigits n digits) ten (all_digits r _))) in
+      let pieces : digits_value_after 10 before digits ≡ before * 10 ^ count + digits_value 10
+      digits =
       rw (← many) (value_of_pieces 10 before digits) in
       let more : (before + 1) * 10 ^ count ≡ before * 10 ^ count + 10 ^ count = grind arith in
       let is : read.value ≡ digits_value_after 10 before digits =

@@ -1,6 +1,6 @@
 -- For those who call the readers of this crate: what a proof over their answers needs again and
 -- again. These stay.
-use Rattle.std.proofs.Common.{◌≡◌, ℕ, zero, suc, ◌+◌, ◌-◌, ◌*◌, ◌^◌, ◌<◌, ◌≤◌, Bool, true, List, [], ◌∷◌, ◌++◌, length, take, drop, slice_index, refl, sym, ◌∙◌, arith, add-one, length-append}
+use Rattle.std.proofs.Common.{◌≡◌, ℕ, zero, suc, ◌+◌, ◌-◌, ◌*◌, ◌^◌, ◌<◌, ◌≤◌, true, List, [], ◌∷◌, ◌++◌, length, take, drop, slice_index, refl, sym, ◌∙◌, arith, add-one, length-append}
 use Rattle.std.specs.Prelude.{Some, None, Err}
 use native.Mathlib.Numerals.{unary_clauses}
 use Rattle.std.specs.Char.{digit_value}
@@ -149,7 +149,8 @@ same_more rule text start at low l none = no_more rule text start at low l (grin
 -- What a read that answers the error says of it, where the greatest value has no name: the digits
 -- before its position are worth less than with the one there.
 module _ (k : Component) (s : State) (before : ℕ) (error : TooLarge)
-    (read : IsReadTo k s before error) (onward : s.cursor ≤ error.at) (before_stop : error.at < stop_of k s)
+    (read : IsReadTo k s before error) (onward : s.cursor ≤ error.at)
+    (before_stop : error.at < stop_of k s)
     (more : digits_value_after (rule k s).radix before (digits_to k s error.at)
     < digits_value_after (rule k s).radix before (digits_to k s (error.at + 1)))
     (valid : IsState s) where
@@ -180,11 +181,6 @@ module _ (k : Component) (s : State) (before : ℕ) (error : TooLarge)
       + digits_value (rule k s).radix (leading_digits_of k left)
   pieces_go_on = value_goes_on
       ∙ value_of_pieces (rule k s).radix error.value (leading_digits_of k left)
-
-  -- with all of them it is no less than with the one there
-  pub over_goes_on : digits_value_after (rule k s).radix before (digits_to k s (error.at + 1))
-      ≤ digits_value_after (rule k s).radix before (leading_digits_of k s)
-  over_goes_on = omega (arith, rest.over, more)
 
   -- passing them leaves what passing all leaves
   pub passed_goes_on : past_digits_of k s ≡ past_digits_of k left

@@ -35,13 +35,28 @@ module _ (k : Component) (s : State) (v : IsState s) (fresh : own k s ≡ 0) whe
       → integer_at r s.buffer s.cursor (2 ^ 64 - 1) ≡ Ok (value, left.cursor)
   reads value left h =
       let end : left.cursor ≡ stop_of k s = ap (λ (m : State). m.cursor) (h.leaves ∙ leaves) in
-      grind (arith, end, fresh, leads, leading_between k s v, some_at r s.buffer s.cursor (2 ^ 64 - 1))
+      grind (
+        arith,
+        end,
+        fresh,
+        leads,
+        leading_between k s v,
+        some_at r s.buffer s.cursor (2 ^ 64 - 1),
+      )
 
   pub finds_none : (at : ℕ) (left : State)
       → FindsNone (λ (m : State). m.buffer) (λ m. m.cursor) (place_of k) (taken k) (settled k)
       r.radix s at left
       → integer_at r s.buffer s.cursor (2 ^ 64 - 1) ≡ Err (Empty at)
-  finds_none at left h = grind (arith, fresh, leads, leading_between k s v, none_leads k s, none_at r s.buffer s.cursor (2 ^ 64 - 1))
+  finds_none at left h =
+      grind (
+        arith,
+        fresh,
+        leads,
+        leading_between k s v,
+        none_leads k s,
+        none_at r s.buffer s.cursor (2 ^ 64 - 1),
+      )
 
   pub passes : (over : ℕ) (left : State)
       → PassesMost (λ (m : State). m.buffer) (λ m. m.cursor) (place_of k) (taken k) (settled k)

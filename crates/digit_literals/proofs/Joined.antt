@@ -1,11 +1,11 @@
 -- Digits of a text, and the number that they write.
-use Rattle.std.proofs.Common.{◌≡◌, ℕ, zero, suc, ◌+◌, ◌-◌, ◌*◌, ◌^◌, ◌<◌, ◌≤◌, List, length, take, drop, refl, sym, ap, ◌∙◌, inl, inr, arith}
+use Rattle.std.proofs.Common.{◌≡◌, ℕ, zero, suc, ◌+◌, ◌-◌, ◌*◌, ◌^◌, ◌<◌, List, length, take, drop, refl, sym, ap, ◌∙◌, inl, inr, arith}
 use Rattle.std.specs.Prelude.{slice_index}
 use native.Mathlib.Numerals.{unary_clauses}
 use Rattle.std.proofs.lemmas.List.{length-take, length-drop, get_or-take, get_or-drop}
-use Rattle.digit_literals.specs.Eight.{byte_of, number_of, written, AreDigits, AreEight, IsWritten}
-use Rattle.digit_literals.proofs.WordOfDigits.{same_number, same_written}
-use Rattle.digit_literals.proofs.Plain.{lt_or_le, below_eight}
+use Rattle.digit_literals.specs.Eight.{byte_of, written, AreDigits, IsWritten}
+use Rattle.digit_literals.proofs.WordOfDigits.{same_written}
+use Rattle.digit_literals.proofs.Plain.{lt_or_le}
 
 times : (a b : ℕ) → a * (b * 10) ≡ a * b * 10
 times a b = grind arith
@@ -49,28 +49,6 @@ module _ (text : List ℕ) (start : ℕ) where
         is = is ∙ omega (arith, scaled, second.is, rest, sum) ∙ ap (written digit) (sym all);
       }
 
--- eight of them
-pub are_eight : (text : List ℕ) (at digits value : ℕ) → at + 8 ≤ length text
-    → AreDigits text at digits → value ≡ number_of (byte_of digits) → AreEight text at value
-are_eight text at digits value within eight is =
-    record {
-      within = within;
-      digits = λ i l. omega (arith, eight.is i l);
-      is = is ∙ same_number (λ i. slice_index text (at + i)) (byte_of digits) eight.is;
-    }
-
-pub eight_written : (text : List ℕ) (at digits value : ℕ) → at + 8 ≤ length text
-    → AreDigits text at digits → value ≡ number_of (byte_of digits) → IsWritten text at 8 value
-eight_written text at digits value within eight is =
-    record {
-      within = within;
-      digits = λ i l. omega (arith, eight.is i l);
-      is =
-          let all : number_of (byte_of digits) ≡ written (byte_of digits) 8 = omega arith in
-          is ∙ all ∙ same_written (byte_of digits) (λ i. slice_index text (at + i) - 48) 8
-          (λ i l. omega (arith, eight.is i l));
-    }
-
 -- the last of eight
 pub last_written : (text : List ℕ) (end digits count value : ℕ) → end + 8 ≡ length text → count < 8
     → AreDigits text end digits → value ≡ written (λ i. byte_of digits (8 - count + i)) count
@@ -91,11 +69,6 @@ last_written text end digits count value there few eight is at here =
       is = is ∙ same_written _ (λ i. slice_index text (at + i) - 48) count
           (λ i l. omega (arith, each i l));
     }
-
-pub eight_below : (text : List ℕ) (at digits value : ℕ) → at + 8 ≤ length text
-    → AreDigits text at digits → value ≡ number_of (byte_of digits) → value < 10 ^ 8
-eight_below text at digits value within eight is =
-    below_eight text at value (are_eight text at digits value within eight is)
 
 -- those of the end of a text
 pub part_written : (text : List ℕ) (start n value : ℕ) → start + n ≡ length text

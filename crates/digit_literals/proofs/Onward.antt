@@ -9,8 +9,7 @@ use Rattle.lexical_digits.specs.declared.skip.component.Component.TheVariants.{I
 use Rattle.lexical_digits.specs.State.{State, IsState, own, rule_of, start, with_cursor}
 use Rattle.lexical_digits.specs.Stop.{stop, stop_of}
 use Rattle.digit_literals.specs.After.{digits_between, past_digits_to, ExceedsAt}
-use Rattle.digit_literals.proofs.ForCallers.{value_of_both, value_of_pieces, stop_within, stops}
-use Rattle.digit_literals.proofs.UpToStop.{some_before_stop}
+use Rattle.digit_literals.proofs.ForCallers.{value_of_both, value_of_pieces, stop_within}
 use Rattle.digit_literals.proofs.Rest.{leaves_rest}
 
 -- a state at a position of a text, from which the stop is that of an integer from its start on
@@ -87,6 +86,3 @@ module _ (rule : Rule) (text : List ℕ) (from at end : ℕ) (low : from ≤ at)
       rw (between_both, is, counted, piece_is)
       (sym (value_of_pieces rule.radix (digits_value rule.radix before) more)
       ∙ value_of_both rule.radix before more)
-
--- a text that is too large for 64 bits has digits, and they end within it
-pub ruleset bounds = (stops, some_before_stop)

@@ -6,6 +6,7 @@ use Rattle.lexical_digits.proofs.Calls.Rest.{zeros_onward}
 use Rattle.lexical_digits.proofs.Looks.Needed.{none_needed}
 use Rattle.digit_literals.proofs.States.{owed_same}
 
-pub ruleset passing = (ints, own_fits, owed_same, with_own_buffer, with_own_word, zeros_onward, none_needed)
+pub ruleset passing =
+    (ints, own_fits, owed_same, with_own_buffer, with_own_word, zeros_onward, none_needed)
 
 pub ruleset counting = (zero_there, zeros_none, past_none, with_own_cursor, place_from)

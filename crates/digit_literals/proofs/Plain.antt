@@ -4,7 +4,7 @@ use Rattle.std.specs.Prelude.{slice_index, Some, None, IfSome, IfNone}
 use Rattle.std.specs.Str.Parse.{digits_value_after}
 use Rattle.std.proofs.Math.Nat.{mod-eq_of_lt}
 use Rattle.std.proofs.lemmas.Bool.Decides.{nat_tests}
-use Rattle.lexical_format.specs.Digits.{digit_of_radix, is_digit_of_radix}
+use Rattle.lexical_format.specs.Digits.{digit_of_radix}
 use Rattle.lexical_format.specs.Digits as words
 use Rattle.lexical_digits.specs.declared.skip.rule.Rule.{Rule}
 use Rattle.lexical_digits.specs.Separators.{is_digit}
@@ -38,7 +38,9 @@ module _ (rule : Rule) (text : List ℕ) (start : ℕ) where
   counted {end = end} plain =
       let n = end - start in
       let same : start + n ≡ end = omega (arith, plain.onward) in
-      let few = plain_count n (omega (arith, plain.within, same)) (λ q a b. plain.digits q a (omega (arith, same, b))) in
+      let few =
+      plain_count n (omega (arith, plain.within, same))
+      (λ q a b. plain.digits q a (omega (arith, same, b))) in
       omega (arith, same, rw same at few)
 
   pub passed : {before : ℕ} {most : Option ℕ} {end value : ℕ}
@@ -51,12 +53,14 @@ module _ (rule : Rule) (text : List ℕ) (start : ℕ) where
         fewer = λ some _. omega (arith, all, some);
         kept = λ own q a b.
             let digit = plain.digits q a b in
-            byte_kept rule text start own q (omega (arith, plain.within, b)) (λ _. digit) ∙ sym digit;
+            byte_kept rule text start own q (omega (arith, plain.within, b)) (λ _. digit)
+            ∙ sym digit;
       }
 
 -- ---- none, or one
 
-module _ (rule : Rule) (text : List ℕ) (start before : ℕ) (most : Option ℕ) (within : start ≤ length text) (l : before < 2 ^ 64) where
+module _ (rule : Rule) (text : List ℕ) (start before : ℕ) (most : Option ℕ)
+    (within : start ≤ length text) (l : before < 2 ^ 64) where
   pub none_plain : IfSome most (λ m. before ≤ m) → ArePlain rule text start before most start before
   none_plain fits = grind (arith, none_between, mod-eq_of_lt)
 
@@ -81,11 +85,13 @@ rule_digit rule b ten low up = rw (ten, decimal b low up) refl
 chain : (w0 w w1 w2 w3 w4 w5 w6 w7 w8 d0 d1 d2 d3 d4 d5 d6 d7 : ℕ) → w0 ≡ w
     → w1 ≡ w0 * 10 + d0 → w2 ≡ w1 * 10 + d1 → w3 ≡ w2 * 10 + d2 → w4 ≡ w3 * 10 + d3
     → w5 ≡ w4 * 10 + d4 → w6 ≡ w5 * 10 + d5 → w7 ≡ w6 * 10 + d6 → w8 ≡ w7 * 10 + d7
-    → w8 ≡ w * 10 ^ 8 + (((((((d0 * 10 + d1) * 10 + d2) * 10 + d3) * 10 + d4) * 10 + d5) * 10 + d6) * 10 + d7)
+    → w8 ≡ w * 10 ^ 8 + (((((((d0 * 10 + d1) * 10 + d2) * 10 + d3) * 10 + d4) * 10 + d5) * 10 + d6)
+    * 10 + d7)
 chain w0 w w1 w2 w3 w4 w5 w6 w7 w8 d0 d1 d2 d3 d4 d5 d6 d7 none s0 s1 s2 s3 s4 s5 s6 s7 =
     omega (arith, none, s0, s1, s2, s3, s4, s5, s6, s7)
 
-module _ (rule : Rule) (text : List ℕ) (start before : ℕ) (ten : rule.radix ≡ 10) (at next : ℕ) (low : start ≤ at) (eight : AreEight text at next) where
+module _ (rule : Rule) (text : List ℕ) (start before : ℕ) (ten : rule.radix ≡ 10) (at next : ℕ)
+    (low : start ≤ at) (eight : AreEight text at next) where
   abbrev worth_to : ℕ → ℕ
   worth_to end = digits_value_after rule.radix before (digits_between rule text start end)
 
@@ -96,7 +102,8 @@ module _ (rule : Rule) (text : List ℕ) (start before : ℕ) (ten : rule.radix 
       let byte = eight.digits k l in
       let same : at + suc k ≡ at + k + 1 = omega arith in
       ap worth_to same
-      ∙ value_more rule text start before (at + k) 10 _ (omega (arith, low)) (omega (arith, eight.within, l)) (sym ten) (decimal _ byte.0 byte.1)
+      ∙ value_more rule text start before (at + k) 10 _ (omega (arith, low))
+      (omega (arith, eight.within, l)) (sym ten) (decimal _ byte.0 byte.1)
 
   -- the value with all
   eight_worth : worth_to (at + 8) ≡ worth_to at * 10 ^ 8 + next
@@ -110,7 +117,8 @@ module _ (rule : Rule) (text : List ℕ) (start before : ℕ) (ten : rule.radix 
       let s5 = step 5 (omega arith) in
       let s6 = step 6 (omega arith) in
       let s7 = step 7 (omega arith) in
-      chain _ _ _ _ _ _ _ _ _ _ _ _ _ _ _ _ _ _ none s0 s1 s2 s3 s4 s5 s6 s7 ∙ ap (λ k. worth_to at * 10 ^ 8 + k) (sym eight.is)
+      chain _ _ _ _ _ _ _ _ _ _ _ _ _ _ _ _ _ _ none s0 s1 s2 s3 s4 s5 s6 s7
+      ∙ ap (λ k. worth_to at * 10 ^ 8 + k) (sym eight.is)
 
   eight_kept : (q : ℕ) → at ≤ q → q < at + 8 → is_digit rule (slice_index text q) ≡ true
   eight_kept q a b =
@@ -130,7 +138,8 @@ module _ (rule : Rule) (text : List ℕ) (start before : ℕ) (ten : rule.radix 
       → IfNone most (value ≡ worth_to at % 2 ^ 64)
       → IfNone most (more ≡ (value * 10 ^ 8 + next) % 2 ^ 64)
       → IfNone most (more ≡ worth_to (at + 8) % 2 ^ 64)
-  none_more None value more a b = b ∙ wrapped_more value (worth_to at) (10 ^ 8) next a ∙ ap (λ k. k % 2 ^ 64) (sym eight_worth)
+  none_more None value more a b =
+      b ∙ wrapped_more value (worth_to at) (10 ^ 8) next a ∙ ap (λ k. k % 2 ^ 64) (sym eight_worth)
   none_more (Some m) value more a b = tt
 
 pub lt_or_le : (a b : ℕ) → (a < b) ⊎ (b ≤ a)
@@ -153,26 +162,26 @@ eight_plain rule text start before most at value more ten plain eight =
     record {
       onward = omega (arith, plain.onward);
       within = eight.eight.within;
-      digits = λ q a b. below_or q (λ l. plain.digits q a l) (λ l. eight_kept rule text start before ten at eight.next plain.onward eight.eight q l b);
-      worth = some_more rule text start before ten at eight.next plain.onward eight.eight most value more plain.worth eight.is;
-      wrapped = none_more rule text start before ten at eight.next plain.onward eight.eight most value more plain.wrapped eight.wrapped;
+      digits =
+          λ q a b. below_or q (λ l. plain.digits q a l)
+          (λ l. eight_kept rule text start before ten at eight.next plain.onward eight.eight q l
+          b);
+      worth =
+          some_more rule text start before ten at eight.next plain.onward eight.eight most value
+          more plain.worth eight.is;
+      wrapped =
+          none_more rule text start before ten at eight.next plain.onward eight.eight most value
+          more plain.wrapped eight.wrapped;
     }
   where
-    below_or : (q : ℕ) → (q < at → is_digit rule (slice_index text q) ≡ true) → (at ≤ q → is_digit rule (slice_index text q) ≡ true) → is_digit rule (slice_index text q) ≡ true
+    below_or : (q : ℕ) → (q < at → is_digit rule (slice_index text q) ≡ true)
+        → (at ≤ q → is_digit rule (slice_index text q) ≡ true)
+        → is_digit rule (slice_index text q) ≡ true
     below_or q f g = elim (lt_or_le q at) [ inl l ↦ f l | inr l ↦ g l ]
 
--- eight digits write a number of eight digits
-pub below_eight : (text : List ℕ) (at next : ℕ) → AreEight text at next → next < 10 ^ 8
-below_eight text at next eight =
-    let d : ℕ → ℕ = λ i. slice_index text (at + i) - 48 in
-    let low : (i : ℕ) → i < 8 → d i < 10 = λ i l. omega (arith, eight.digits i l) in
-    bound _ (d 0) (d 1) (d 2) (d 3) (d 4) (d 5) (d 6) (d 7) (low 0 (omega arith)) (low 1 (omega arith)) (low 2 (omega arith)) (low 3 (omega arith)) (low 4 (omega arith)) (low 5 (omega arith)) (low 6 (omega arith)) (low 7 (omega arith)) eight.is
-  where
-    bound : (n a b c d e f g h : ℕ) → a < 10 → b < 10 → c < 10 → d < 10 → e < 10 → f < 10 → g < 10 → h < 10
-        → n ≡ ((((((a * 10 + b) * 10 + c) * 10 + d) * 10 + e) * 10 + f) * 10 + g) * 10 + h → n < 10 ^ 8
-    bound n a b c d e f g h A B C D E F G H is = omega arith
-
-module _ (rule : Rule) (text : List ℕ) (start before : ℕ) (ten : rule.radix ≡ 10) (at value next : ℕ) (eight : AreEight text at next) (end more : ℕ) (there : end ≡ at + 8) (is : more ≡ (value * 100000000 % 2 ^ 64 + next) % 2 ^ 64) where
+module _ (rule : Rule) (text : List ℕ) (start before : ℕ) (ten : rule.radix ≡ 10)
+    (at value next : ℕ) (eight : AreEight text at next) (end more : ℕ) (there : end ≡ at + 8)
+    (is : more ≡ (value * 100000000 % 2 ^ 64 + next) % 2 ^ 64) where
   pub add_wrapped : ArePlain rule text start before None at value
       → ArePlain rule text start before None end more
   add_wrapped plain =
@@ -181,38 +190,7 @@ module _ (rule : Rule) (text : List ℕ) (start before : ℕ) (ten : rule.radix 
       (record { next = next; eight = eight; is = tt; wrapped = omega (arith, is) })
       )
 
-  pub add_fits : (most : ℕ) → ArePlain rule text start before (Some most) at value
-      → value < 10 ^ 8 → 10 ^ 16 ≤ most → ArePlain rule text start before (Some most) end more
-  add_fits most plain low high =
-      let few = below_eight text at next eight in
-      let exact : more ≡ value * 100000000 + next = omega (arith, few, low, is) in
-      rw there (
-      eight_plain rule text start before (Some most) at value more ten plain
-      (record { next = next; eight = eight; is = record { is = exact; fits = omega (arith, few, low, high, exact) }; wrapped = tt })
-      )
-
 -- the first step of eight, after no digits
-module _ (text : List ℕ) (start before : ℕ) (within : start ≤ length text) (l : before < 2 ^ 64) (first value : ℕ) (eight : AreEight text start first) (is : value ≡ (before * 100000000 % 2 ^ 64 + first) % 2 ^ 64) where
-  pub one_wrapped : (rule : Rule) → rule.radix ≡ 10
-      → ArePlain rule text start before None (start + 8) value
-  one_wrapped rule ten =
-      add_wrapped rule text start before ten start before first eight _ value refl is
-      (none_plain rule text start before None within l tt)
-
-  pub one_fits : (rule : Rule) (most : ℕ) → rule.radix ≡ 10 → before ≡ 0 → 10 ^ 16 ≤ most
-      → ArePlain rule text start before (Some most) (start + 8) value
-  one_fits rule most ten none high =
-      add_fits rule text start before ten start before first eight _ value refl is most
-      (none_plain rule text start before (Some most) within l (omega (arith, none))) (omega (arith, none)) high
-
-  pub one_low : before ≡ 0 → value < 10 ^ 8
-  one_low none = omega (arith, none, is, below_eight text start first eight)
-
--- where a greatest value is asked for, and where not
-pub by_most : (rule : Rule) (text : List ℕ) (start before end value : ℕ) (most : Option ℕ)
-    → IfSome most (λ m. (before ≡ 0) × (10 ^ 16 ≤ m))
-    → ArePlain rule text start before None end value
-    → ((m : ℕ) → before ≡ 0 → 10 ^ 16 ≤ m → ArePlain rule text start before (Some m) end value)
-    → ArePlain rule text start before most end value
-by_most rule text start before end value None h wrapped fits = wrapped
-by_most rule text start before end value (Some m) h wrapped fits = fits m h.0 h.1
+module _ (text : List ℕ) (start before : ℕ) (within : start ≤ length text) (l : before < 2 ^ 64)
+    (first value : ℕ) (eight : AreEight text start first)
+    (is : value ≡ (before * 100000000 % 2 ^ 64 + first) % 2 ^ 64) where

@@ -17,7 +17,8 @@ value_grows radix (suc i) [] v one = omega arith
 value_grows radix (suc i) (d ∷ ds) v one = value_grows radix i ds (v * radix + digit_value d) one
 
 -- n digits after a value of a digits and one more
-between_powers : (radix n a v : ℕ) (ds : List ℕ) → AllDigits radix ds → n ≤ length ds → radix ^ a ≤ v
+between_powers : (radix n a v : ℕ) (ds : List ℕ) → AllDigits radix ds → n ≤ length ds
+    → radix ^ a ≤ v
     → v < radix ^ suc a → (radix ^ (a + n) ≤ digits_value_after radix v (take n ds))
     × (digits_value_after radix v (take n ds) < radix ^ suc (a + n))
 between_powers radix zero a v ds all l low high = grind arith
@@ -25,7 +26,11 @@ between_powers radix (suc n) a v [] all l low high = absurd (omega arith)
 between_powers radix (suc n) a v (d ∷ ds) all l low high =
     let least = mul-le-mul_right radix low in
     let most = mul-le-mul_right radix high in
-    grind (arith, between_powers radix n (suc a) (v * radix + digit_value d) ds all.1, pow-suc radix)
+    grind (
+      arith,
+      between_powers radix n (suc a) (v * radix + digit_value d) ds all.1,
+      pow-suc radix,
+    )
 
 -- where the first n of two lists stand
 value_of_take : (radix n v : ℕ) (ds es : List ℕ) → digits_value_after radix v (take n (ds ++ es))
@@ -78,8 +83,12 @@ after_significant radix p k d v more os ds one e of so =
     let few : suc p ≤ a + k → radix ^ suc p ≤ radix ^ (a + k) = pow-le-pow_right one in
     let many : suc (a + suc k) ≤ suc p → radix ^ suc (a + suc k) ≤ radix ^ suc p =
     pow-le-pow_right one in
-    let next : k ≡ min (p - length os) (length ds) = grind
-    (arith, take_min p os, between_powers radix k a v ds so.all, between_powers radix (suc k) a v ds so.all) in
+    let next : k ≡ min (p - length os) (length ds) = grind (
+      arith,
+      take_min p os,
+      between_powers radix k a v ds so.all,
+      between_powers radix (suc k) a v ds so.all,
+    ) in
     grind (arith, heads, all_both, value_of_take, length-append os ds, take_min (p - length os) ds)
 
 -- after none
@@ -92,7 +101,13 @@ after_none radix p (suc k) (d ∷ ds) one so =
     let v : ℕ = 0 * radix + digit_value d in
     let rest : Reads radix (suc p) v k ds = grind arith in
     let rest_of_one = take_all {A = ℕ} p [] in
-    grind (arith, heads, nat_tests, after_none radix p k ds one, after_significant radix p k d v 0 [] ds one)
+    grind (
+      arith,
+      heads,
+      nat_tests,
+      after_none radix p k ds one,
+      after_significant radix p k d v 0 [] ds one,
+    )
 
 -- after others, of which the first significant digits were read
 pub after_some : (radix p k v more : ℕ) (os ds : List ℕ) → 1 ≤ radix
@@ -101,4 +116,9 @@ pub after_some : (radix p k v more : ℕ) (os ds : List ℕ) → 1 ≤ radix
     (more + (length ds - k))
 after_some radix p k v more [] ds one of so = grind (arith, heads, after_none radix p k ds one)
 after_some radix p k v more (o ∷ os) ds one of so =
-    grind (arith, heads, after_some radix p k v more os ds one, after_significant radix p k o v more os ds one)
+    grind (
+      arith,
+      heads,
+      after_some radix p k v more os ds one,
+      after_significant radix p k o v more os ds one,
+    )

@@ -48,7 +48,8 @@ module _ (rule : Rule) (text : List ℕ) (start most : ℕ) (low : 2 ≤ rule.ra
 
   value_rises : (a b : ℕ) → a ≤ b → value_to rule text start a ≤ value_to rule text start b
   value_rises a b l =
-      rises rule.radix (is_digit rule) (a - start) (b - start) (drop start text) 0 (omega (arith, low))
+      rises rule.radix (is_digit rule) (a - start) (b - start) (drop start text) 0
+      (omega (arith, low))
       (omega (arith, l))
 
   -- it is above `most` with all digits as well
@@ -61,7 +62,14 @@ module _ (rule : Rule) (text : List ℕ) (start most : ℕ) (low : 2 ≤ rule.ra
       → value_to rule text start at ≤ most
   fits_before zero before = grind arith
   fits_before (suc q) before =
-      grind (arith, nat_tests, add-one, before q, none_between rule text start, value_rises (suc q) start)
+      grind (
+        arith,
+        nat_tests,
+        add-one,
+        before q,
+        none_between rule text start,
+        value_rises (suc q) start,
+      )
 
   module _ (within : start ≤ length text) where
     first_is : (b : ℕ) → start ≤ b → b < length text → over b ≡ true
@@ -125,7 +133,8 @@ module _ (rule : Rule) (text : List ℕ) (start most : ℕ) where
   pub says_none : (at : ℕ) → integer_at rule text start most ≡ Err (Empty at)
       → HasNoDigitFrom rule text start at
   unfolding integer_at
-  says_none at is = grind (arith, nat_tests, is, nil_from_length (digits_between rule text start at))
+  says_none at is =
+      grind (arith, nat_tests, is, nil_from_length (digits_between rule text start at))
 
 -- what an answer says, for those who call; to be named in an attribute
 pub ruleset says = (says_some, says_none)
@@ -141,7 +150,20 @@ module _ (rule : Rule) (text : List ℕ) (start given most : ℕ) (low : 2 ≤ r
       let over = over_at rule text start most low within read.end in
       let some = some_at rule text start most in
       let none = none_at rule text start most in
-      grind (arith, nat_tests, over, some, none, reads.stops, reads.exceeds, reads.digits, reads.worth, empty, fits, same)
+      grind (
+        arith,
+        nat_tests,
+        over,
+        some,
+        none,
+        reads.stops,
+        reads.exceeds,
+        reads.digits,
+        reads.worth,
+        empty,
+        fits,
+        same,
+      )
 
 -- the digits up to the stop, where one of them is too large for a smaller value
 pub wide_at : (given rule : Rule) (text : List ℕ) (start least at most value end : ℕ)

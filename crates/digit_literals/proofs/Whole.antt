@@ -19,7 +19,8 @@ use Rattle.digit_literals.proofs.Between.{none_between, one_more}
 use Rattle.digit_literals.proofs.ForCallers.{value_more}
 use Rattle.digit_literals.proofs.Texts.{integer_is}
 
-module _ (rule : Rule) (text : List ℕ) (start : ℕ) (ten : rule.radix ≡ 10) (count value : ℕ) (all : IsWritten text start count value) where
+module _ (rule : Rule) (text : List ℕ) (start : ℕ) (ten : rule.radix ≡ 10) (count value : ℕ)
+    (all : IsWritten text start count value) where
   abbrev digit : ℕ → ℕ
   digit i = slice_index text (start + i) - 48
 
@@ -40,20 +41,27 @@ module _ (rule : Rule) (text : List ℕ) (start : ℕ) (ten : rule.radix ≡ 10)
       ∙ ap length (none_between rule text start)
   counted (suc n) l =
       let next : start + suc n ≡ start + n + 1 = omega arith in
-      let more = one_more rule text start (start + n) (omega arith) (omega (arith, all.within, l)) in
+      let more =
+      one_more rule text start (start + n) (omega arith) (omega (arith, all.within, l)) in
       ap (λ k. length (digits_between rule text start k)) next
       ∙ grind (arith, more, counted n (omega (arith, l)), are_digits n (omega (arith, l)))
 
   -- and the number that they write
   worth : (n : ℕ) → n ≤ count
-      → digits_value_after rule.radix 0 (digits_between rule text start (start + n)) ≡ written digit n
+      → digits_value_after rule.radix 0 (digits_between rule text start (start + n)) ≡ written digit
+      n
   worth zero l =
-      ap (λ k. digits_value_after rule.radix 0 (digits_between rule text start k)) {y = start} (omega arith)
+      ap (λ k. digits_value_after rule.radix 0 (digits_between rule text start k)) {y = start}
+      (omega arith)
       ∙ ap (digits_value_after rule.radix 0) (none_between rule text start)
   worth (suc n) l =
       let next : start + suc n ≡ start + n + 1 = omega arith in
       let rest = worth n (omega (arith, l)) in
-      let more = value_more rule text start 0 (start + n) 10 (digit n) (omega arith) (omega (arith, all.within, l)) (sym ten) (ap (λ r. digit_of_radix r (slice_index text (start + n))) (sym ten) ∙ of_radix n (omega (arith, l))) in
+      let more =
+      value_more rule text start 0 (start + n) 10 (digit n) (omega arith)
+      (omega (arith, all.within, l)) (sym ten)
+      (ap (λ r. digit_of_radix r (slice_index text (start + n))) (sym ten)
+      ∙ of_radix n (omega (arith, l))) in
       ap (λ k. digits_value_after rule.radix 0 (digits_between rule text start k)) next
       ∙ omega (arith, more, rest)
 
@@ -63,22 +71,42 @@ module _ (rule : Rule) (text : List ℕ) (start : ℕ) (ten : rule.radix ≡ 10)
       let first = stop_is_first rule text start own (omega (arith, there)) in
       let at = stop rule text start own in
       let same : start + (at - start) ≡ at = omega (arith, first.onward) in
-      grind (arith, first.within, first.onward, first.at, there, ap (slice_index text) same, are_digits (at - start))
+      grind (
+        arith,
+        first.within,
+        first.onward,
+        first.at,
+        there,
+        ap (slice_index text) same,
+        are_digits (at - start),
+      )
 
   pub whole_is : start + count ≡ length text → 0 < count → (most : ℕ) → value ≤ most
       → integer_at rule text start most ≡ Ok (value, length text)
   whole_is there some most fits =
-      let read : ReadTo = record { value = value; count = count; end = length text; is_too_large = false } in
+      let read : ReadTo = record {
+        value = value;
+        count = count;
+        end = length text;
+        is_too_large =
+            false;
+      } in
       let reads : ReadsTo rule text start 0 (Some value) read 0 =
       record {
         onward = omega (arith, there);
         within = omega arith;
-        digits = sym (counted count (omega arith)) ∙ ap (λ k. length (digits_between rule text start k)) there;
+        digits =
+            sym (counted count (omega arith))
+            ∙ ap (λ k. length (digits_between rule text start k)) there;
         worth = record {
-          is = all.is ∙ sym (worth count (omega arith)) ∙ ap (λ k. digits_value_after rule.radix 0 (digits_between rule text start k)) there;
+          is =
+              all.is ∙ sym (worth count (omega arith))
+              ∙ ap (λ k. digits_value_after rule.radix 0 (digits_between rule text start k))
+              there;
           fits = omega arith;
         };
         stops = λ _. ends there 0;
         exceeds = λ large. grind (arith, large);
       } in
-      sym (integer_is rule text start value most (omega (arith, ten)) (omega (arith, there)) fits read false reads (grind (arith, nat_tests, some)) (λ large. grind (arith, large)))
+      sym (integer_is rule text start value most (omega (arith, ten)) (omega (arith, there)) fits
+      read false reads (grind (arith, nat_tests, some)) (λ large. grind (arith, large)))

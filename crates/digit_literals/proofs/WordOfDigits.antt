@@ -59,7 +59,8 @@ are_digits x l low high =
     let bytes : AreBelow 128 8 x = low_bytes 8 x l low in
     let few : x ≤ 0x7f7f_7f7f_7f7f_7f7f = at_most 127 8 x bytes in
     let sum : x + 0x7676_7676_7676_7676 < 2 ^ 64 = omega (arith, few) in
-    below_ten 8 x bytes (low_bytes 8 (x + 0x7676_7676_7676_7676) sum (rw (mod-eq_of_lt sum) at high))
+    below_ten 8 x bytes (low_bytes 8 (x + 0x7676_7676_7676_7676) sum
+    (rw (mod-eq_of_lt sum) at high))
 
 -- nothing was borrowed
 pub word_is : (word : ℕ) → word < 2 ^ 64
@@ -93,22 +94,26 @@ high_pairs : (q s : ℕ) → q < 100 → s < 100
 high_pairs q s Q S = omega arith
 
 sum_of : (p q r s : ℕ) → p < 100 → q < 100 → r < 100 → s < 100
-    → (p * 100 + 2 ^ 32 * (p * 1000000 + r * 100) + (q + 2 ^ 32 * (q * 10000 + s))) % 2 ^ 64 / 2 ^ 32
+    → (p * 100 + 2 ^ 32 * (p * 1000000 + r * 100) + (q + 2 ^ 32 * (q * 10000 + s))) % 2 ^ 64 / 2 ^
+    32
     ≡ p * 1000000 + q * 10000 + r * 100 + s
 sum_of p q r s P Q R S = omega arith
 
 -- four pairs of digits, and what is between them
 four_pairs : (pairs p q r s x y z w : ℕ) → p < 100 → q < 100 → r < 100 → s < 100
     → x < 256 → y < 256 → z < 256 → w < 256
-    → pairs ≡ p + 2 ^ 8 * (x + 2 ^ 8 * (q + 2 ^ 8 * y)) + 2 ^ 32 * (r + 2 ^ 8 * (z + 2 ^ 8 * (s + 2 ^ 8 * w)))
+    → pairs ≡ p + 2 ^ 8 * (x + 2 ^ 8 * (q + 2 ^ 8 * y)) + 2 ^ 32 *
+    (r + 2 ^ 8 * (z + 2 ^ 8 * (s + 2 ^ 8 * w)))
     → (bit_and pairs 0x0000_00ff_0000_00ff * 4294967296000100 % 2 ^ 64
     + bit_and (pairs / 65536) 0x0000_00ff_0000_00ff * 42949672960001 % 2 ^ 64) % 2 ^ 64 / 2 ^ 32
     ≡ p * 1000000 + q * 10000 + r * 100 + s
 four_pairs pairs p q r s x y z w P Q R S X Y Z W e =
     let first : bit_and pairs 0x0000_00ff_0000_00ff ≡ p + 2 ^ 32 * r =
     ap (λ v. bit_and v 0x0000_00ff_0000_00ff) e
-    ∙ kept p (x + 2 ^ 8 * (q + 2 ^ 8 * y)) r (z + 2 ^ 8 * (s + 2 ^ 8 * w)) (omega arith) (omega arith) (omega arith) in
-    let down : pairs / 65536 ≡ q + 2 ^ 8 * (y + 2 ^ 8 * (r + 2 ^ 8 * z)) + 2 ^ 32 * (s + 2 ^ 8 * w) =
+    ∙ kept p (x + 2 ^ 8 * (q + 2 ^ 8 * y)) r (z + 2 ^ 8 * (s + 2 ^ 8 * w)) (omega arith)
+    (omega arith) (omega arith) in
+    let down : pairs / 65536 ≡ q + 2 ^ 8 * (y + 2 ^ 8 * (r + 2 ^ 8 * z)) + 2 ^ 32 * (s + 2 ^ 8 * w)
+    =
     omega (arith, e) in
     let second : bit_and (pairs / 65536) 0x0000_00ff_0000_00ff ≡ q + 2 ^ 32 * s =
     ap (λ v. bit_and v 0x0000_00ff_0000_00ff) down
@@ -118,8 +123,10 @@ four_pairs pairs p q r s x y z w P Q R S X Y Z W e =
 eight_digits : (x a b c d e f g h : ℕ)
     → a < 10 → b < 10 → c < 10 → d < 10 → e < 10 → f < 10 → g < 10 → h < 10
     → x ≡ a + 256 * (b + 256 * (c + 256 * (d + 256 * (e + 256 * (f + 256 * (g + 256 * h))))))
-    → (bit_and ((x * 10 % 2 ^ 64 + x / 256) % 2 ^ 64) 0x0000_00ff_0000_00ff * 4294967296000100 % 2 ^ 64
-    + bit_and ((x * 10 % 2 ^ 64 + x / 256) % 2 ^ 64 / 65536) 0x0000_00ff_0000_00ff * 42949672960001 % 2 ^ 64) % 2 ^ 64 / 2 ^ 32
+    → (bit_and ((x * 10 % 2 ^ 64 + x / 256) % 2 ^ 64) 0x0000_00ff_0000_00ff * 4294967296000100 % 2 ^
+    64
+    + bit_and ((x * 10 % 2 ^ 64 + x / 256) % 2 ^ 64 / 65536) 0x0000_00ff_0000_00ff * 42949672960001
+    % 2 ^ 64) % 2 ^ 64 / 2 ^ 32
     ≡ ((((((a * 10 + b) * 10 + c) * 10 + d) * 10 + e) * 10 + f) * 10 + g) * 10 + h
 eight_digits x a b c d e f g h A B C D E F G H is =
     let rest : x / 256 ≡ b + 256 * (c + 256 * (d + 256 * (e + 256 * (f + 256 * (g + 256 * h))))) =
@@ -128,14 +135,18 @@ eight_digits x a b c d e f g h A B C D E F G H is =
     ≡ a * 10 + b + 2 ^ 8 * (b * 10 + c + 2 ^ 8 * (c * 10 + d + 2 ^ 8 * (d * 10 + e)))
     + 2 ^ 32 * (e * 10 + f + 2 ^ 8 * (f * 10 + g + 2 ^ 8 * (g * 10 + h + 2 ^ 8 * (h * 10)))) =
     omega (arith, is, rest) in
-    four_pairs _ (a * 10 + b) (c * 10 + d) (e * 10 + f) (g * 10 + h) (b * 10 + c) (d * 10 + e) (f * 10 + g) (h * 10)
-    (omega arith) (omega arith) (omega arith) (omega arith) (omega arith) (omega arith) (omega arith) (omega arith) pairs
+    four_pairs _ (a * 10 + b) (c * 10 + d) (e * 10 + f) (g * 10 + h) (b * 10 + c) (d * 10 + e)
+    (f * 10 + g) (h * 10)
+    (omega arith) (omega arith) (omega arith) (omega arith) (omega arith) (omega arith)
+    (omega arith) (omega arith) pairs
     ∙ omega arith
 
 -- the three products of `value_of`
 pub number_is : (x : ℕ) → AreBelow 10 8 x
-    → (bit_and ((x * 10 % 2 ^ 64 + x / 256) % 2 ^ 64) 0x0000_00ff_0000_00ff * 4294967296000100 % 2 ^ 64
-    + bit_and ((x * 10 % 2 ^ 64 + x / 256) % 2 ^ 64 / 65536) 0x0000_00ff_0000_00ff * 42949672960001 % 2 ^ 64) % 2 ^ 64 / 2 ^ 32
+    → (bit_and ((x * 10 % 2 ^ 64 + x / 256) % 2 ^ 64) 0x0000_00ff_0000_00ff * 4294967296000100 % 2 ^
+    64
+    + bit_and ((x * 10 % 2 ^ 64 + x / 256) % 2 ^ 64 / 65536) 0x0000_00ff_0000_00ff * 42949672960001
+    % 2 ^ 64) % 2 ^ 64 / 2 ^ 32
     ≡ number_of (byte_of x)
 number_is x k =
     let none : x / 256 / 256 / 256 / 256 / 256 / 256 / 256 / 256 ≡ 0 = k.1.1.1.1.1.1.1.1 in
@@ -151,27 +162,13 @@ number_is x k =
 
 -- each byte is `0` and a digit
 pub byte_is : (n : ℕ) (b : ℕ → ℕ) (x : ℕ) → ((i : ℕ) → b i < 256) → AreBelow 10 n x
-    → spelt n b ≡ x + repeated 48 n → (i : ℕ) → i < n → (b i ≡ byte_of x i + 48) × (byte_of x i < 10)
+    → spelt n b ≡ x + repeated 48 n → (i : ℕ) → i < n
+    → (b i ≡ byte_of x i + 48) × (byte_of x i < 10)
 byte_is zero b x fit h e i l = absurd (omega arith)
 byte_is (suc n) b x fit h e zero l = (omega (arith, fit 0, h.0, e), h.0)
 byte_is (suc n) b x fit h e (suc i) l =
     byte_is n (λ j. b (suc j)) (x / 256) (λ j. fit (suc j)) h.1 (omega (arith, fit 0, h.0, e)) i
     (omega arith)
-
--- without the `0` in each byte it is the same number
-pub same_number : (b d : ℕ → ℕ) → ((i : ℕ) → i < 8 → (b i ≡ d i + 48) × (d i < 10))
-    → number_of d ≡ number_of (λ i. b i - 48)
-same_number b d h =
-    let e : (i : ℕ) → i < 8 → d i ≡ b i - 48 = λ i l. omega (arith, (h i l).0) in
-    let e0 = e 0 (omega arith) in
-    let e1 = e 1 (omega arith) in
-    let e2 = e 2 (omega arith) in
-    let e3 = e 3 (omega arith) in
-    let e4 = e 4 (omega arith) in
-    let e5 = e 5 (omega arith) in
-    let e6 = e 6 (omega arith) in
-    let e7 = e 7 (omega arith) in
-    λ j. ((((((e0 j * 10 + e1 j) * 10 + e2 j) * 10 + e3 j) * 10 + e4 j) * 10 + e5 j) * 10 + e6 j) * 10 + e7 j
 
 -- digits that are the same write the same number
 pub same_written : (d e : ℕ → ℕ) (n : ℕ) → ((i : ℕ) → i < n → d i ≡ e i) → written d n ≡ written e n
@@ -188,23 +185,37 @@ byte_at : (y a b c d e f g h : ℕ)
     → (byte_of y 0 ≡ a) × (byte_of y 1 ≡ b) × (byte_of y 2 ≡ c) × (byte_of y 3 ≡ d)
     × (byte_of y 4 ≡ e) × (byte_of y 5 ≡ f) × (byte_of y 6 ≡ g) × (byte_of y 7 ≡ h)
 byte_at y a b c d e f g h A B C D E F G H is =
-    let r1 : y / 256 ≡ b + 256 * (c + 256 * (d + 256 * (e + 256 * (f + 256 * (g + 256 * h))))) = omega (arith, is, A) in
-    let r2 : y / 256 / 256 ≡ c + 256 * (d + 256 * (e + 256 * (f + 256 * (g + 256 * h)))) = omega (arith, r1, B) in
-    let r3 : y / 256 / 256 / 256 ≡ d + 256 * (e + 256 * (f + 256 * (g + 256 * h))) = omega (arith, r2, C) in
-    let r4 : y / 256 / 256 / 256 / 256 ≡ e + 256 * (f + 256 * (g + 256 * h)) = omega (arith, r3, D) in
+    let r1 : y / 256 ≡ b + 256 * (c + 256 * (d + 256 * (e + 256 * (f + 256 * (g + 256 * h))))) =
+    omega (arith, is, A) in
+    let r2 : y / 256 / 256 ≡ c + 256 * (d + 256 * (e + 256 * (f + 256 * (g + 256 * h)))) =
+    omega (arith, r1, B) in
+    let r3 : y / 256 / 256 / 256 ≡ d + 256 * (e + 256 * (f + 256 * (g + 256 * h))) =
+    omega (arith, r2, C) in
+    let r4 : y / 256 / 256 / 256 / 256 ≡ e + 256 * (f + 256 * (g + 256 * h)) =
+    omega (arith, r3, D) in
     let r5 : y / 256 / 256 / 256 / 256 / 256 ≡ f + 256 * (g + 256 * h) = omega (arith, r4, E) in
     let r6 : y / 256 / 256 / 256 / 256 / 256 / 256 ≡ g + 256 * h = omega (arith, r5, F) in
-    let r7 : y / 256 / 256 / 256 / 256 / 256 / 256 / 256 ≡ h = omega (arith, r6, G) in
-    (omega (arith, is, A), omega (arith, r1, B), omega (arith, r2, C), omega (arith, r3, D), omega (arith, r4, E), omega (arith, r5, F), omega (arith, r6, G), omega (arith, r7, H))
+    let r7 : y / 256 / 256 / 256 / 256 / 256 / 256 / 256 ≡ h = omega (arith, r6, G) in (
+      omega (arith, is, A),
+      omega (arith, r1, B),
+      omega (arith, r2, C),
+      omega (arith, r3, D),
+      omega (arith, r4, E),
+      omega (arith, r5, F),
+      omega (arith, r6, G),
+      omega (arith, r7, H),
+    )
 
 -- a word of eight digits
 bytes_from : (y a b c d e f g h : ℕ)
     → a < 10 → b < 10 → c < 10 → d < 10 → e < 10 → f < 10 → g < 10 → h < 10
     → y ≡ a + 256 * (b + 256 * (c + 256 * (d + 256 * (e + 256 * (f + 256 * (g + 256 * h))))))
-    → AreBelow 10 8 y × (number_of (byte_of y) ≡ ((((((a * 10 + b) * 10 + c) * 10 + d) * 10 + e) * 10 + f) * 10 + g) * 10 + h)
+    → AreBelow 10 8 y × (number_of (byte_of y) ≡
+    ((((((a * 10 + b) * 10 + c) * 10 + d) * 10 + e) * 10 + f) * 10 + g) * 10 + h)
 bytes_from y a b c d e f g h A B C D E F G H is =
     let each = byte_at y a b c d e f g h A B C D E F G H is in
-    let end : y / 256 / 256 / 256 / 256 / 256 / 256 / 256 / 256 ≡ 0 = omega (arith, each.7, is, A, B, C, D, E, F, G, H) in
+    let end : y / 256 / 256 / 256 / 256 / 256 / 256 / 256 / 256 ≡ 0 =
+    omega (arith, each.7, is, A, B, C, D, E, F, G, H) in
     let b0 = each.0 in
     let b1 = each.1 in
     let b2 = each.2 in
@@ -213,13 +224,33 @@ bytes_from y a b c d e f g h A B C D E F G H is =
     let b5 = each.5 in
     let b6 = each.6 in
     let b7 = each.7 in (
-      (omega (arith, b0, A), (omega (arith, b1, B), (omega (arith, b2, C), (omega (arith, b3, D), (omega (arith, b4, E), (omega (arith, b5, F), (omega (arith, b6, G), (omega (arith, b7, H), end)))))))),
+      (
+        omega (arith, b0, A),
+        (
+          omega (arith, b1, B),
+          (
+            omega (arith, b2, C),
+            (
+              omega (arith, b3, D),
+              (
+                omega (arith, b4, E),
+                (
+                  omega (arith, b5, F),
+                  (omega (arith, b6, G), (omega (arith, b7, H), end)),
+                ),
+              ),
+            ),
+          ),
+        ),
+      ),
       omega (arith, b0, b1, b2, b3, b4, b5, b6, b7),
     )
 
 -- the bytes of a word
 pub bytes_are : (x : ℕ) → AreBelow 10 8 x
-    → x ≡ byte_of x 0 + 256 * (byte_of x 1 + 256 * (byte_of x 2 + 256 * (byte_of x 3 + 256 * (byte_of x 4 + 256 * (byte_of x 5 + 256 * (byte_of x 6 + 256 * byte_of x 7))))))
+    → x ≡ byte_of x 0 + 256 * (byte_of x 1 + 256 *
+    (byte_of x 2 + 256 * (byte_of x 3 + 256 *
+    (byte_of x 4 + 256 * (byte_of x 5 + 256 * (byte_of x 6 + 256 * byte_of x 7))))))
 bytes_are x k =
     let none : x / 256 / 256 / 256 / 256 / 256 / 256 / 256 / 256 ≡ 0 = k.1.1.1.1.1.1.1.1 in
     omega (arith, none)
@@ -232,35 +263,113 @@ last_parts : (n y x a b c d e f g h : ℕ) → 0 < n → n < 8
     → AreBelow 10 8 y × (number_of (byte_of y) ≡ written (λ i. byte_of x (8 - n + i)) n)
 last_parts zero y x a b c d e f g h some few A B C D E F G H is masked = absurd (omega arith)
 last_parts (suc zero) y x a b c d e f g h some few A B C D E F G H is masked =
-    let both = bytes_from y 0 0 0 0 0 0 0 h (omega arith) (omega arith) (omega arith) (omega arith) (omega arith) (omega arith) (omega arith) H (omega (arith, is, masked, A, B, C, D, E, F, G, H)) in
+    let both =
+    bytes_from y 0 0 0 0 0 0 0 h (omega arith) (omega arith) (omega arith) (omega arith)
+    (omega arith) (omega arith) (omega arith) H
+    (omega (arith, is, masked, A, B, C, D, E, F, G, H)) in
     (both.0, omega (arith, both.1, (byte_at x a b c d e f g h A B C D E F G H is).7))
 last_parts (suc (suc zero)) y x a b c d e f g h some few A B C D E F G H is masked =
-    let both = bytes_from y 0 0 0 0 0 0 g h (omega arith) (omega arith) (omega arith) (omega arith) (omega arith) (omega arith) G H (omega (arith, is, masked, A, B, C, D, E, F, G, H)) in
-    (both.0, omega (arith, both.1, (byte_at x a b c d e f g h A B C D E F G H is).6, (byte_at x a b c d e f g h A B C D E F G H is).7))
+    let both =
+    bytes_from y 0 0 0 0 0 0 g h (omega arith) (omega arith) (omega arith) (omega arith)
+    (omega arith) (omega arith) G H (omega (arith, is, masked, A, B, C, D, E, F, G, H)) in (
+      both.0,
+      omega (
+        arith,
+        both.1,
+        (byte_at x a b c d e f g h A B C D E F G H is).6,
+        (byte_at x a b c d e f g h A B C D E F G H is).7,
+      ),
+    )
 last_parts (suc (suc (suc zero))) y x a b c d e f g h some few A B C D E F G H is masked =
-    let both = bytes_from y 0 0 0 0 0 f g h (omega arith) (omega arith) (omega arith) (omega arith) (omega arith) F G H (omega (arith, is, masked, A, B, C, D, E, F, G, H)) in
-    (both.0, omega (arith, both.1, (byte_at x a b c d e f g h A B C D E F G H is).5, (byte_at x a b c d e f g h A B C D E F G H is).6, (byte_at x a b c d e f g h A B C D E F G H is).7))
+    let both =
+    bytes_from y 0 0 0 0 0 f g h (omega arith) (omega arith) (omega arith) (omega arith)
+    (omega arith) F G H (omega (arith, is, masked, A, B, C, D, E, F, G, H)) in (
+      both.0,
+      omega (
+        arith,
+        both.1,
+        (byte_at x a b c d e f g h A B C D E F G H is).5,
+        (byte_at x a b c d e f g h A B C D E F G H is).6,
+        (byte_at x a b c d e f g h A B C D E F G H is).7,
+      ),
+    )
 last_parts (suc (suc (suc (suc zero)))) y x a b c d e f g h some few A B C D E F G H is masked =
-    let both = bytes_from y 0 0 0 0 e f g h (omega arith) (omega arith) (omega arith) (omega arith) E F G H (omega (arith, is, masked, A, B, C, D, E, F, G, H)) in
-    (both.0, omega (arith, both.1, (byte_at x a b c d e f g h A B C D E F G H is).4, (byte_at x a b c d e f g h A B C D E F G H is).5, (byte_at x a b c d e f g h A B C D E F G H is).6, (byte_at x a b c d e f g h A B C D E F G H is).7))
-last_parts (suc (suc (suc (suc (suc zero))))) y x a b c d e f g h some few A B C D E F G H is masked =
-    let both = bytes_from y 0 0 0 d e f g h (omega arith) (omega arith) (omega arith) D E F G H (omega (arith, is, masked, A, B, C, D, E, F, G, H)) in
-    (both.0, omega (arith, both.1, (byte_at x a b c d e f g h A B C D E F G H is).3, (byte_at x a b c d e f g h A B C D E F G H is).4, (byte_at x a b c d e f g h A B C D E F G H is).5, (byte_at x a b c d e f g h A B C D E F G H is).6, (byte_at x a b c d e f g h A B C D E F G H is).7))
-last_parts (suc (suc (suc (suc (suc (suc zero)))))) y x a b c d e f g h some few A B C D E F G H is masked =
-    let both = bytes_from y 0 0 c d e f g h (omega arith) (omega arith) C D E F G H (omega (arith, is, masked, A, B, C, D, E, F, G, H)) in
-    (both.0, omega (arith, both.1, (byte_at x a b c d e f g h A B C D E F G H is).2, (byte_at x a b c d e f g h A B C D E F G H is).3, (byte_at x a b c d e f g h A B C D E F G H is).4, (byte_at x a b c d e f g h A B C D E F G H is).5, (byte_at x a b c d e f g h A B C D E F G H is).6, (byte_at x a b c d e f g h A B C D E F G H is).7))
-last_parts (suc (suc (suc (suc (suc (suc (suc zero))))))) y x a b c d e f g h some few A B C D E F G H is masked =
-    let both = bytes_from y 0 b c d e f g h (omega arith) B C D E F G H (omega (arith, is, masked, A, B, C, D, E, F, G, H)) in
-    (both.0, omega (arith, both.1, (byte_at x a b c d e f g h A B C D E F G H is).1, (byte_at x a b c d e f g h A B C D E F G H is).2, (byte_at x a b c d e f g h A B C D E F G H is).3, (byte_at x a b c d e f g h A B C D E F G H is).4, (byte_at x a b c d e f g h A B C D E F G H is).5, (byte_at x a b c d e f g h A B C D E F G H is).6, (byte_at x a b c d e f g h A B C D E F G H is).7))
-last_parts (suc (suc (suc (suc (suc (suc (suc (suc n)))))))) y x a b c d e f g h some few A B C D E F G H is masked = absurd (omega arith)
+    let both =
+    bytes_from y 0 0 0 0 e f g h (omega arith) (omega arith) (omega arith) (omega arith) E F G H
+    (omega (arith, is, masked, A, B, C, D, E, F, G, H)) in (
+      both.0,
+      omega (
+        arith,
+        both.1,
+        (byte_at x a b c d e f g h A B C D E F G H is).4,
+        (byte_at x a b c d e f g h A B C D E F G H is).5,
+        (byte_at x a b c d e f g h A B C D E F G H is).6,
+        (byte_at x a b c d e f g h A B C D E F G H is).7,
+      ),
+    )
+last_parts (suc (suc (suc (suc (suc zero))))) y x a b c d e f g h some few A B C D E F G H is masked
+    =
+    let both =
+    bytes_from y 0 0 0 d e f g h (omega arith) (omega arith) (omega arith) D E F G H
+    (omega (arith, is, masked, A, B, C, D, E, F, G, H)) in (
+      both.0,
+      omega (
+        arith,
+        both.1,
+        (byte_at x a b c d e f g h A B C D E F G H is).3,
+        (byte_at x a b c d e f g h A B C D E F G H is).4,
+        (byte_at x a b c d e f g h A B C D E F G H is).5,
+        (byte_at x a b c d e f g h A B C D E F G H is).6,
+        (byte_at x a b c d e f g h A B C D E F G H is).7,
+      ),
+    )
+last_parts (suc (suc (suc (suc (suc (suc zero)))))) y x a b c d e f g h some few A B C D E F G H is
+    masked =
+    let both =
+    bytes_from y 0 0 c d e f g h (omega arith) (omega arith) C D E F G H
+    (omega (arith, is, masked, A, B, C, D, E, F, G, H)) in (
+      both.0,
+      omega (
+        arith,
+        both.1,
+        (byte_at x a b c d e f g h A B C D E F G H is).2,
+        (byte_at x a b c d e f g h A B C D E F G H is).3,
+        (byte_at x a b c d e f g h A B C D E F G H is).4,
+        (byte_at x a b c d e f g h A B C D E F G H is).5,
+        (byte_at x a b c d e f g h A B C D E F G H is).6,
+        (byte_at x a b c d e f g h A B C D E F G H is).7,
+      ),
+    )
+last_parts (suc (suc (suc (suc (suc (suc (suc zero))))))) y x a b c d e f g h some few A B C D E F G
+    H is masked =
+    let both =
+    bytes_from y 0 b c d e f g h (omega arith) B C D E F G H
+    (omega (arith, is, masked, A, B, C, D, E, F, G, H)) in (
+      both.0,
+      omega (
+        arith,
+        both.1,
+        (byte_at x a b c d e f g h A B C D E F G H is).1,
+        (byte_at x a b c d e f g h A B C D E F G H is).2,
+        (byte_at x a b c d e f g h A B C D E F G H is).3,
+        (byte_at x a b c d e f g h A B C D E F G H is).4,
+        (byte_at x a b c d e f g h A B C D E F G H is).5,
+        (byte_at x a b c d e f g h A B C D E F G H is).6,
+        (byte_at x a b c d e f g h A B C D E F G H is).7,
+      ),
+    )
+last_parts (suc (suc (suc (suc (suc (suc (suc (suc n)))))))) y x a b c d e f g h some few A B C D E
+    F G H is masked = absurd (omega arith)
 
 -- the two shifts of `last_of`
 pub last_is : (n y x : ℕ) → 0 < n → n < 8 → AreBelow 10 8 x
     → y ≡ x / 2 ^ (64 - 8 * n) * 2 ^ (64 - 8 * n)
     → AreBelow 10 8 y × (number_of (byte_of y) ≡ written (λ i. byte_of x (8 - n + i)) n)
 last_is n y x some few k masked =
-    last_parts n y x (byte_of x 0) (byte_of x 1) (byte_of x 2) (byte_of x 3) (byte_of x 4) (byte_of x 5) (byte_of x 6) (byte_of x 7) some few
-    k.0 k.1.0 k.1.1.0 k.1.1.1.0 k.1.1.1.1.0 k.1.1.1.1.1.0 k.1.1.1.1.1.1.0 k.1.1.1.1.1.1.1.0 (bytes_are x k) masked
+    last_parts n y x (byte_of x 0) (byte_of x 1) (byte_of x 2) (byte_of x 3) (byte_of x 4)
+    (byte_of x 5) (byte_of x 6) (byte_of x 7) some few
+    k.0 k.1.0 k.1.1.0 k.1.1.1.0 k.1.1.1.1.0 k.1.1.1.1.1.0 k.1.1.1.1.1.1.0 k.1.1.1.1.1.1.1.0
+    (bytes_are x k) masked
 
 -- shifted down and up again, a word loses nothing above
 pub not_wrapped : (x k : ℕ) → x < 2 ^ 64

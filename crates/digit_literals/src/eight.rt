@@ -1,6 +1,6 @@
 //! Eight decimal digits at a time: one load, one test and three multiplications.
 
-ghost use Rattle.std.specs.Prelude.{◌≡◌, ℕ, ◌+◌, ◌-◌, ◌*◌, ◌^◌, ◌<◌, ◌≤◌, length, slice_index, true, None, IfSome};
+ghost use Rattle.std.specs.Prelude.{◌≡◌, ◌+◌, ◌-◌, ◌*◌, ◌^◌, ◌<◌, ◌≤◌, length, slice_index, true, None, IfSome};
 ghost use Rattle.digit_literals.specs.Eight.{AreBelow, byte_of, spelt, number_of, written, AreDigits, AreEight, IsWritten};
 ghost use Rattle.digit_literals.specs.Reads.{ArePlain};
 

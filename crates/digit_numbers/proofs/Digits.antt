@@ -137,7 +137,8 @@ module _ (f : Form) (text : List ℕ) (at : ℕ) where
       where
         by : (b : Bool)
             → nat_lt 0 (length (if b then
-            exponent_digits (word f text) text (mark f text at) (mark_at f text at) else [])) ≡ false
+            exponent_digits (word f text) text (mark f text at) (mark_at f text at) else [])) ≡
+            false
         by true = rw none refl
         by false = refl
 
@@ -152,7 +153,9 @@ module _ (f : Form) (text : List ℕ) (at : ℕ) where
       → is_float f text at ≡ false
   unfolding is_float
   not_allowed form s a =
-      let none = refused (λ i. letter_of f text i form) (no_letter f.integers f.marks.point form.point) s a in
+      let none =
+      refused (λ i. letter_of f text i form) (no_letter f.integers f.marks.point form.point) s a
+      in
       neither (has_digits (parts f text at)) (not (has_more_zeros f text at))
       (has_point f text at) (has_exponent f text at) none.0 none.1
 
@@ -260,7 +263,8 @@ module _ (f : Form) (said : ℕ) (text : List ℕ) (at : ℕ) where
       → allows_point h text at ≡ false → is_hex_float f said text at ≡ false
   unfolding is_hex_float
   hex_not_allowed form s a =
-      let none = refused h text at (λ i. refl) (no_letter f.integers f.marks.point form.point) s a in
+      let none =
+      refused h text at (λ i. refl) (no_letter f.integers f.marks.point form.point) s a in
       hex_refused (has_digits (parts h text at)) (has_exponent h text at) hex_point
       (allows_point h text at) (is_pointed_hex f.hex_floats) (is_always_hex f.hex_floats) none.1 s a
 

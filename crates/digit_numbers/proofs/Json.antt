@@ -34,7 +34,7 @@ use Rattle.digit_floats.proofs.Bytes.{stands_is, stands_within}
 use Rattle.digit_floats.proofs.Decimals.{same_digit}
 use Rattle.digit_floats.specs.Float as floats
 use Rattle.digit_floats.specs.Float.{digits_end, digits_from, fraction_digits, fraction_end}
-use Rattle.digit_floats.specs.Float.{mantissa_end, exponent_digits, exponent_end}
+use Rattle.digit_floats.specs.Float.{exponent_digits, exponent_end}
 use Rattle.digit_floats.specs.Float.{plain_marks, read_at, parse_at}
 use Rattle.digit_languages.specs.declared.language.Language.{Language}
 use Rattle.digit_languages.specs.declared.literal.LanguageError.TheVariants as literals
@@ -57,7 +57,7 @@ use Rattle.digit_numbers.specs.Numbers.{is_negative, whole_digits, digits_stop, 
 use Rattle.digit_numbers.specs.Numbers.{float_here, integer_here, plain_at, number_of_at}
 use Rattle.digit_numbers.specs.Numbers.{to_end}
 use Rattle.digit_numbers.specs.Specials.{special_at}
-use Rattle.digit_numbers.proofs.Digits.{alone_stop, no_zeros}
+use Rattle.digit_numbers.proofs.Digits.{alone_stop}
 use Rattle.digit_numbers.proofs.JsonFloats.{float_read}
 use Rattle.digit_numbers.proofs.JsonBytes.{IsRun, IsScan, IsPartOrNone, apart, int_digits, int_some}
 use Rattle.digit_numbers.proofs.JsonBytes.{integer_is, longest, minus_is, no_sign, none, zero_alone}
@@ -237,7 +237,8 @@ zero_digit (Some b) z = grind (arith, nat_tests)
 point_says : (nw nf : ℕ) (p : Bool)
     → p && ((nat_lt 0 nw || false) && (nat_lt 0 nf || false)) ≡ true
     → (p ≡ true) × (0 < nw) × (0 < nf)
-point_says nw nf p h = (grind (arith, nat_tests), grind (arith, nat_tests), grind (arith, nat_tests))
+point_says nw nf p h =
+    (grind (arith, nat_tests), grind (arith, nat_tests), grind (arith, nat_tests))
 
 is_point_of : (nw nf : ℕ) (p : Bool) → p ≡ true → 0 < nw → 0 < nf
     → p && ((nat_lt 0 nw || false) && (nat_lt 0 nf || false)) ≡ true
@@ -381,7 +382,8 @@ module _ (text : List ℕ) (start : ℕ) (l : start ≤ length text) where
           → stands is_ascii_digit text (w + 1) ≡ false
       none e h (inl k) =
           let n = fraction_count h in
-          let yes = is_point_of nw nf p h (omega (arith, whole_count, some)) (omega (arith, n.1, k)) in
+          let yes =
+          is_point_of nw nf p h (omega (arith, whole_count, some)) (omega (arith, n.1, k)) in
           cc (e, yes)
       none e h (inr k) =
           let n = fraction_count h in
@@ -757,7 +759,8 @@ module _ (text : List ℕ) (start : ℕ) (l : start ≤ length text) where
               (λ d. float_read text at d start format digits (past_is some), no_integer h),
             )
         by false h =
-            subst (λ (l : Language). Says (of_integer (literal_at l text at (2 ^ 128 - 1)))) (sym language_is)
+            subst (λ (l : Language). Says (of_integer (literal_at l text at (2 ^ 128 - 1))))
+            (sym language_is)
             (integer_says h)
 
     -- the same of a text that is to be one number

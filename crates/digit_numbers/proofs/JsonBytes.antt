@@ -12,7 +12,8 @@ use Rattle.digit_numbers.specs.Json.{IsFrac, IsExp, IsJsonNumber, IsLongest}
 -- ---- what a byte isn't, if it is something else
 
 module _ (p q : ℕ → Bool) (text : List ℕ) (at : ℕ) where
-  pub apart : ((b : ℕ) → p b ≡ true → q b ≡ false) → stands p text at ≡ true → stands q text at ≡ false
+  pub apart : ((b : ℕ) → p b ≡ true → q b ≡ false) → stands p text at ≡ true
+      → stands q text at ≡ false
   apart h = by (slice_get text at)
     where
       by : (o : Option ℕ) → holds_of p o ≡ true → holds_of q o ≡ false

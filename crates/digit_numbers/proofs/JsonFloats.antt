@@ -1,22 +1,20 @@
 -- The float of JSON that no byte goes on with is that of `read_float_from`.
-use Rattle.std.proofs.Common.{◌≡◌, ℕ, ◌+◌, ◌*◌, ◌^◌, ◌<◌, Bool, true, false, List, []}
+use Rattle.std.proofs.Common.{◌≡◌, ℕ, ◌<◌, Bool, true, false, List, []}
 use Rattle.std.proofs.Common.{length, refl, subst, ◌∙◌, ap, arith}
-use Rattle.std.specs.Prelude.{◌&&◌, ◌++◌, ◌==◌, nat_lt, if◌then◌else◌, Result, Ok, Err}
+use Rattle.std.specs.Prelude.{◌&&◌, ◌==◌, nat_lt, if◌then◌else◌, Result, Ok, Err}
 use Rattle.std.specs.Float.{Float, Format}
-use Rattle.std.specs.Float.Ieee.{round}
 use Rattle.std.specs.Float.Numeral.{nearest_float}
-use Rattle.std.specs.Str.Parse.{digits_value}
 use Rattle.std.proofs.lemmas.Bool.Decides.{nat_tests}
 use Rattle.digit_floats.specs.Bytes.{stands, is_point, is_mark, is_minus}
 use Rattle.digit_floats.specs.Float as floats
-use Rattle.digit_floats.specs.Float.{exponent_digits, exponent_end, exponent_negative, mantissa_end}
+use Rattle.digit_floats.specs.Float.{exponent_digits, exponent_end, exponent_negative}
 use Rattle.digit_floats.specs.Float.{mantissa_count, end_from, parts_at, plain_marks, read_at}
 use Rattle.digit_floats.specs.declared.error.FloatError.{FloatError}
 use Rattle.digit_floats.specs.declared.error.FloatError.TheVariants.{Empty, EmptyExponent}
 use Rattle.digit_numbers.specs.declared.forms.TheConstants.{JSON}
 use Rattle.digit_numbers.specs.Json.{IsDelimited}
 use Rattle.digit_numbers.specs.Numbers.{word, whole_digits, whole_end, fraction, allows_point}
-use Rattle.digit_numbers.specs.Numbers.{has_point, mark_at, has_exponent, parts, digits_stop}
+use Rattle.digit_numbers.specs.Numbers.{mark_at, has_exponent, parts, digits_stop}
 use Rattle.digit_numbers.proofs.Digits.{refused, counts_end, counts_fraction}
 
 module _ (text : List ℕ) (at : ℕ) (delimited : IsDelimited text (digits_stop JSON text at)) where

@@ -176,9 +176,6 @@ module _ (word : ℕ) (text : List ℕ) where
     pub bytes_past : (n : ℕ) → length name ≤ n → bytes_of (drop n name) ≡ []
     bytes_past n l = rw (drop_all n name l) refl
 
-    pub starts_done : (q n : ℕ) → bytes_of (drop n name) ≡ [] → starts q n ≡ true
-    starts_done q n h = rw h refl
-
     pub ends_done : (q n : ℕ) → bytes_of (drop n name) ≡ [] → place rule text q 0 ≡ q
         → ends q n ≡ q
     unfolding place

@@ -1,14 +1,13 @@
 -- Which name is at a position doesn't depend on what follows a byte that no name has.
-use Rattle.std.proofs.Common.{◌≡◌, ℕ, zero, suc, ◌+◌, ◌-◌, ◌<◌, ◌≤◌, Bool, true, false, cond, List, [], ◌∷◌, length, Option, Some, None, refl, sym, ◌∙◌, ap, arith, inl, inr, ◌⊎◌, get_or, slice_get}
-use Rattle.std.specs.Prelude.{◌&&◌, ◌||◌, nat_lt, not, map, filter, if◌then◌else◌, IfSome, ⊤}
+use Rattle.std.proofs.Common.{◌≡◌, ℕ, zero, suc, ◌+◌, ◌-◌, ◌<◌, ◌≤◌, Bool, true, false, cond, List, [], ◌∷◌, length, Option, Some, None, refl, sym, ◌∙◌, arith, inl, inr, ◌⊎◌, get_or, slice_get}
+use Rattle.std.specs.Prelude.{◌&&◌, nat_lt, map, filter, if◌then◌else◌, IfSome, ⊤}
 use Rattle.std.specs.List.{range_with_len, starts_with, list_any}
 use Rattle.std.proofs.lemmas.Bool.{cases_lt, cases_Bool, or_parts, and_parts, both_ways}
-use Rattle.std.proofs.lemmas.Bool.Decides.{nat_tests}
 use Rattle.std.proofs.lemmas.Option.{gets}
 use Rattle.lexical_digits.specs.declared.skip.rule.Rule.{Rule}
 use Rattle.lexical_digits.specs.declared.skip.component.Component.TheVariants.{Special}
 use Rattle.lexical_digits.specs.Cursor.{holds_of}
-use Rattle.lexical_digits.specs.Separators.{GrantsAll, GrantsNone, holds_separator, is_dropped, is_kept}
+use Rattle.lexical_digits.specs.Separators.{GrantsAll, GrantsNone, holds_separator, is_kept}
 use Rattle.lexical_digits.specs.State.{rule_of}
 use Rattle.lexical_digits.specs.Follows.{Ends, AreSameUpTo}
 use Rattle.lexical_digits.specs.Laws.Kept.{dropped_holds_separator}

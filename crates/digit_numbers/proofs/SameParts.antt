@@ -1,7 +1,7 @@
 -- Digits with a point and an exponent don't depend on what follows a byte that no number has.
-use Rattle.std.proofs.Common.{◌≡◌, ℕ, ◌+◌, ◌-◌, ◌<◌, ◌≤◌, Bool, true, false, cond, List, [], length, Option, Some, None, refl, ◌∙◌, ap, arith}
+use Rattle.std.proofs.Common.{◌≡◌, ℕ, ◌+◌, ◌-◌, ◌≤◌, Bool, true, false, cond, List, [], length, Option, Some, None, refl, ◌∙◌, ap}
 use Rattle.std.specs.Prelude.{◌&&◌, ◌||◌, ◌==◌, ◌++◌, nat_lt, not, if◌then◌else◌, IfSome}
-use Rattle.std.specs.Float.{Float, Format}
+use Rattle.std.specs.Float.{Format}
 use Rattle.std.specs.Float.Numeral.{Parts, has_digits}
 use Rattle.std.specs.Str.Parse.{digits_value}
 use Rattle.lexical_digits.specs.declared.skip.component.Component.TheVariants.{Integer}
@@ -9,13 +9,13 @@ use Rattle.lexical_digits.specs.State.{rule_of}
 use Rattle.digit_literals.specs.Numbers.{has_byte}
 use Rattle.digit_floats.specs.Bytes.{stands, is_mark, is_point}
 use Rattle.digit_floats.specs.declared.parts.Marks.{Marks}
-use Rattle.digit_floats.specs.Float.{digits_end, digits_from, fraction_digits, fraction_end}
+use Rattle.digit_floats.specs.Float.{fraction_digits, fraction_end}
 use Rattle.digit_floats.specs.Float.{exponent_digits, exponent_end, exponent_negative}
 use Rattle.digit_floats.specs.Follows.{IsSameFloatUpTo}
 use Rattle.digit_floats.specs.Hexadecimal.{nearest_hex}
 use Rattle.digit_floats.proofs.WhatFollows as floats
 use Rattle.digit_numbers.specs.declared.form.Form.{Form}
-use Rattle.digit_numbers.specs.Forms.{is_barred, allows_exponent, is_pointed_hex, is_always_hex, hex_form}
+use Rattle.digit_numbers.specs.Forms.{is_barred, allows_exponent, is_pointed_hex, hex_form}
 use Rattle.digit_numbers.specs.Numbers.{whole_digits, whole_end, fraction, allows_point, has_point}
 use Rattle.digit_numbers.specs.Numbers.{is_bare, is_hex_here, mark, mark_or}
 use Rattle.digit_numbers.specs.Numbers.{mark_at, exponent, has_exponent, digits_stop, parts}
@@ -26,9 +26,6 @@ use Rattle.digit_numbers.specs.Numbers.{has_more_zeros, is_float, is_hex_float, 
 pub and_same : (b c x y : Bool) → b ≡ c → (b ≡ true → x ≡ y) → b && x ≡ c && y
 and_same true c x y e h = rw (← e) (h refl)
 and_same false c x y e h = rw (← e) refl
-
-or_same : (b c x y : Bool) → b ≡ c → x ≡ y → b || x ≡ c || y
-or_same b c x y e h = rw (e, h) refl
 
 pub if_same : {A : Type 0} (b c : Bool) (x y z v : A) → b ≡ c → (b ≡ true → x ≡ y) → z ≡ v
     → cond b x z ≡ cond c y v

@@ -35,7 +35,8 @@ unfolding exponent_digits
 no_mark word text mark at h = rw h refl
 
 -- a mantissa without a point ends where its integer does
-pub no_point_end : (word : ℕ) (text : List ℕ) (point at : ℕ) → stands (is_point point) text at ≡ false
+pub no_point_end : (word : ℕ) (text : List ℕ) (point at : ℕ)
+    → stands (is_point point) text at ≡ false
     → fraction_end word text point at ≡ at
 unfolding fraction_end
 no_point_end word text point at h = rw h refl
@@ -63,9 +64,11 @@ either false a e h k = k refl
 -- floats of the same digits
 same_digits : (format : Format) (negative : Bool) (whole a b c d : List ℕ) (m n : Bool)
     → a ≡ b → c ≡ d → m ≡ n
-    → round format negative (digits_value 10 (whole ++ a) * 10 ^ (if m then 0 else digits_value 10 c))
+    → round format negative (digits_value 10 (whole ++ a) * 10 ^
+    (if m then 0 else digits_value 10 c))
     (10 ^ (length a + (if m then digits_value 10 c else 0)))
-    ≡ round format negative (digits_value 10 (whole ++ b) * 10 ^ (if n then 0 else digits_value 10 d))
+    ≡ round format negative (digits_value 10 (whole ++ b) * 10 ^
+    (if n then 0 else digits_value 10 d))
     (10 ^ (length b + (if n then digits_value 10 d else 0)))
 same_digits format negative whole a b c d m n p q r = rw (p, q, r) refl
 
@@ -133,7 +136,8 @@ module _ (f : Form) (text : List ℕ) (at : ℕ) (one : f.other_mark ≡ None) w
     stop_is : exponent f text at ≡ digits_after (mark_at f text at)
         → (marked_at (mark_at f text at) ≡ true
         → 0 < length (digits_after (mark_at f text at)))
-        → exponent_end (word f text) text f.marks.exponent (mark_at f text at) ≡ digits_stop f text at
+        → exponent_end (word f text) text f.marks.exponent (mark_at f text at) ≡ digits_stop f text
+        at
     unfolding exponent_end
     stop_is e more = by (marked_at (mark_at f text at)) refl
       where
@@ -178,7 +182,8 @@ module _ (f : Form) (text : List ℕ) (at : ℕ) (one : f.other_mark ≡ None) w
           }
 
       -- digits with a fraction or an exponent, where digits follow the mark
-      pub powered_float : allows_exponent f.exponents (nat_lt 0 (length (fraction f text at))) ≡ true
+      pub powered_float : allows_exponent f.exponents (nat_lt 0 (length (fraction f text at))) ≡
+          true
           → (marked_at (mantissa_end (word f text) text f.marks.point at) ≡ true
           → 0 < length (digits_after (mantissa_end (word f text) text f.marks.point at)))
           → (stands_point ≡ false
@@ -186,7 +191,8 @@ module _ (f : Form) (text : List ℕ) (at : ℕ) (one : f.other_mark ≡ None) w
           → IsFloatAt f text at negative format x (exponent_end (word f text) text f.marks.exponent
           (mantissa_end (word f text) text f.marks.point at))
       powered_float allowed follows marked =
-          let e : exponent f text at ≡ digits_after (mark_at f text at) = rw (allowed, mark_is) refl in
+          let e : exponent f text at ≡ digits_after (mark_at f text at) =
+          rw (allowed, mark_is) refl in
           let more = subst (λ i. marked_at i ≡ true → 0 < length (digits_after i)) end_is follows in
           let last = stop_is e more in
           let power : stands_point ≡ false → has_exponent f text at ≡ true =
@@ -197,7 +203,8 @@ module _ (f : Form) (text : List ℕ) (at : ℕ) (one : f.other_mark ≡ None) w
           subst (λ ds. nat_lt 0 (length ds) ≡ true) (ap digits_after end_is ∙ sym e) has in
           record {
             is = is f text at positive zeros same
-                (either stands_point (allows_point f text at) (has_exponent f text at) counts power);
+                (either stands_point (allows_point f text at) (has_exponent f text at) counts
+                power);
             value = value ∙ same_float e format negative;
             ends = ap (λ i. exponent_end (word f text) text f.marks.exponent i) end_is ∙ last;
           }

@@ -1,6 +1,6 @@
 -- What follows a number by a form makes no difference to it.
-use Rattle.std.proofs.Common.{◌≡◌, ℕ, ◌+◌, ◌-◌, ◌<◌, ◌≤◌, Bool, true, false, cond, List, length, take, slice_get, Option, Some, None, refl, sym, ◌∙◌, ap, arith}
-use Rattle.std.specs.Prelude.{◌&&◌, ◌||◌, ◌==◌, nat_lt, not, if◌then◌else◌, is_some, IfSome, ◌↔◌, Result, Ok, Err, ◌^◌, [], ◌∷◌}
+use Rattle.std.proofs.Common.{◌≡◌, ℕ, ◌+◌, ◌-◌, ◌<◌, ◌≤◌, Bool, true, false, List, length, take, slice_get, Option, Some, None, refl, ◌∙◌, ap, arith}
+use Rattle.std.specs.Prelude.{◌&&◌, ◌==◌, not, if◌then◌else◌, is_some, IfSome, ◌↔◌, Result, Ok, Err, ◌^◌, [], ◌∷◌}
 use Rattle.std.specs.Char.{is_ascii_alphanumeric}
 use Rattle.std.specs.List.{list_any}
 use Rattle.std.specs.Float.{Float, Format}
@@ -10,20 +10,17 @@ use Rattle.std.proofs.lemmas.Bool.{or_parts}
 use Rattle.std.proofs.lemmas.Bool.Decides.{nat_tests}
 use Rattle.std.proofs.lemmas.List.{length-take-le}
 use Rattle.lexical_format.specs.Word.{separator}
-use Rattle.lexical_digits.specs.declared.skip.component.Component.{Component}
 use Rattle.lexical_digits.specs.declared.skip.component.Component.TheVariants as components
 use Rattle.lexical_digits.specs.declared.skip.component.Component.TheVariants.{Integer}
-use Rattle.lexical_digits.specs.Follows.{AreSameUpTo}
 use Rattle.digit_languages.specs.declared.literal.Literal.{Literal}
 use Rattle.digit_languages.specs.declared.literal.LanguageError.{LanguageError}
 use Rattle.digit_languages.specs.declared.literal.LanguageError.TheVariants as literals
 use Rattle.lexical_digits.specs.Cursor.{holds_of}
 use Rattle.lexical_digits.specs.Separators.{drain, kept_positions, is_separator}
-use Rattle.lexical_digits.specs.State.{rule_of}
 use Rattle.digit_literals.specs.Numbers.{has_byte}
 use Rattle.digit_floats.specs.Bytes.{stands, is_sign, is_point, is_mark}
 use Rattle.digit_floats.specs.declared.parts.Marks.{Marks}
-use Rattle.digit_floats.specs.Follows.{HasNoMark, IsSameFloatUpTo}
+use Rattle.digit_floats.specs.Follows.{HasNoMark}
 use Rattle.digit_languages.specs.declared.language.Language.{Language}
 use Rattle.digit_languages.specs.Literals.{has_prefix, prefix_word, literal_at}
 use Rattle.digit_languages.specs.Follows.{AreSameBefore, separates, is_literal_byte}
@@ -34,7 +31,6 @@ use Rattle.digit_numbers.specs.declared.form.Form.{Form}
 use Rattle.digit_numbers.specs.declared.form.Signs.{Signs}
 use Rattle.digit_numbers.specs.declared.form.Signs.TheVariants.{Absent, Minus, Either}
 use Rattle.digit_numbers.specs.declared.form.Special.{Special}
-use Rattle.digit_numbers.specs.declared.number.NumberError.{NumberError}
 use Rattle.digit_numbers.specs.declared.number.NumberError.TheVariants as errors
 use Rattle.digit_numbers.specs.declared.number.Number.TheVariants as numbers
 use Rattle.digit_numbers.specs.Follows.{is_name_byte, is_number_byte, is_other_mark}
@@ -44,12 +40,12 @@ use Rattle.digit_numbers.specs.Specials.{names_of, same_by, bytes_of, begins, is
 use Rattle.digit_numbers.specs.Specials.{name_end, special_at, special_float}
 use Rattle.digit_numbers.specs.Numbers.{Outcome, is_negative, has_sign, past_sign, zero_here, is_hex_here}
 use Rattle.digit_numbers.specs.Numbers.{parts, digits_stop, has_more_zeros, is_float, hex_value}
-use Rattle.digit_numbers.specs.Numbers.{hex_stop, if_hex, hex_word_at, language, special_here}
+use Rattle.digit_numbers.specs.Numbers.{hex_stop, if_hex, hex_word_at, language}
 use Rattle.digit_numbers.specs.Numbers.{hex_word_here, float_here, whole_here, integer_here}
 use Rattle.digit_numbers.specs.Numbers.{plain_at, or_hex, or_special, number_of_at, to_end}
 use Rattle.digit_numbers.specs.declared.number.Number.{Number}
 use Rattle.digit_numbers.proofs.SameNames.{AreSame, Each, Same, last_same, same_from}
-use Rattle.digit_numbers.proofs.SameParts.{ArePartsUpTo, if_same, and_same, some_same, parts_same, stop_same, zeros_same}
+use Rattle.digit_numbers.proofs.SameParts.{ArePartsUpTo, if_same, parts_same, stop_same, zeros_same}
 use Rattle.digit_numbers.proofs.SameParts.{float_same, hex_here_same, hex_value_same, hex_stop_same}
 
 -- ---- a byte that no number has
@@ -210,8 +206,11 @@ module _ (f : Form) (one other : List ℕ) (at : ℕ)
     one_allows = none_of p (is_barred g.after_point) barred (slice_get one at) upto.one_ends;
     other_allows = none_of p (is_barred g.after_point) barred (slice_get other at) upto.other_ends;
     others = others_of g.other_mark other_mark;
-    one_zero = none_of p (λ b. b == 48) (λ b h. no_zero b (plain b h)) (slice_get one at) upto.one_ends;
-    other_zero = none_of p (λ b. b == 48) (λ b h. no_zero b (plain b h)) (slice_get other at) upto.other_ends;
+    one_zero =
+        none_of p (λ b. b == 48) (λ b h. no_zero b (plain b h)) (slice_get one at) upto.one_ends;
+    other_zero =
+        none_of p (λ b. b == 48) (λ b h. no_zero b (plain b h)) (slice_get other at)
+        upto.other_ends;
   }
 
   decimal_parts : ArePartsUpTo f one other at
@@ -287,7 +286,8 @@ module _ (f : Form) (one other : List ℕ) (at : ℕ)
     hex_word_is = by (has_hex f.hex_floats)
       where
         by : (b : Bool)
-            → IfSome (if b then if_hex f one (i + 2) (prefix_word (with_hex_only l) one i) else None)
+            → IfSome (if b then if_hex f one (i + 2) (prefix_word (with_hex_only l) one i) else
+            None)
             (IsHexWord i)
         by true = word_said _ (hex_apart l i apart) prefix_before
         by false = tt
@@ -544,7 +544,8 @@ module _ (f : Form) (text : List ℕ) (at start : ℕ) (format : Format) (within
 
   to_end_is : (cut : List ℕ) → length cut ≡ at → (n : Number Float) (read : Outcome)
       → (to_end cut read ≡ Ok n) ↔ (read ≡ Ok (n, at))
-  to_end_is cut e n (Ok (m, end)) = (λ h. grind (arith, nat_tests, e), λ h. grind (arith, nat_tests, e))
+  to_end_is cut e n (Ok (m, end)) =
+      (λ h. grind (arith, nat_tests, e), λ h. grind (arith, nat_tests, e))
   to_end_is cut e n (Err error) = (λ h. cc, λ h. cc)
 
   pub whole_is : (n : Number Float)
@@ -552,7 +553,8 @@ module _ (f : Form) (text : List ℕ) (at start : ℕ) (format : Format) (within
       ↔ (number_of_at f text start format ≡ Ok (n, at))
   whole_is n =
       rw cut_same
-      (to_end_is (take at text) (length-take-le at text within) n (number_of_at f text start format))
+      (to_end_is (take at text) (length-take-le at text within) n
+      (number_of_at f text start format))
 
 -- two texts with one byte that no number has
 pub through_same : (f : Form) (one other : List ℕ) (at start : ℕ) (format : Format)

@@ -1,5 +1,5 @@
 -- An integer of a language: a short one, and one that is too large.
-use Rattle.std.proofs.Common.{◌≡◌, ℕ, ◌+◌, ◌-◌, ◌^◌, ◌≤◌, Bool, true, false, List, length, refl, sym, subst, ap, ◌∙◌, arith}
+use Rattle.std.proofs.Common.{◌≡◌, ℕ, ◌+◌, ◌-◌, ◌^◌, ◌≤◌, Bool, true, false, List, refl, subst, ap, ◌∙◌, arith}
 use Rattle.std.specs.Prelude.{Result, Ok, Err, Option, Some, None, slice_get, ◌==◌, ◌&&◌, ◌||◌, nat_lt, if◌then◌else◌}
 use Rattle.std.specs.Char.{is_ascii_alphabetic}
 use Rattle.lexical_digits.specs.Cursor.{holds_of}
@@ -25,7 +25,8 @@ no_letter : (text : List ℕ) (at letter : ℕ)
     → has_byte text at letter ≡ false
 no_letter text at letter h is = by (slice_get text at) h
   where
-    by : (o : Option ℕ) → holds_of is_ascii_alphabetic o ≡ false → holds_of (λ b. b == letter) o ≡ false
+    by : (o : Option ℕ) → holds_of is_ascii_alphabetic o ≡ false
+        → holds_of (λ b. b == letter) o ≡ false
     by None h = refl
     by (Some b) h = grind (arith, nat_tests, is)
 

@@ -34,7 +34,8 @@ module _ (text : List ℕ) where
   abbrev pub inner : ℕ → ℕ → Result (List (Number Float)) ArrayError
   inner room start =
       if has_byte text start 93 then if_ended [] (closed start) else
-      let list = list_at (λ at. number_of_at JSON text at binary64) position COMMAS text room start in
+      let list =
+      list_at (λ at. number_of_at JSON text at binary64) position COMMAS text room start in
       if_ended list.0 (ended list.1)
 
   -- the numbers of an array that is the text

@@ -1,9 +1,9 @@
-//! A JSON array of numbers, read into a slice, with both halves of a contract: `Ok` is right, and an
-//! error means that the text is no array of at most so many numbers.
+//! A JSON array of numbers, read into a slice, with both halves of a contract: `Ok` is right, and
+//! an error means that the text is no array of at most so many numbers.
 //!
 //! Proof by hand: none.
 
-ghost use Rattle.std.specs.Prelude.{◌≡◌, ◌≤◌, true, length, map, take, Ok, Err, IfOk, IfErr};
+ghost use Rattle.std.specs.Prelude.{◌≡◌, ◌≤◌, length, map, take, Ok, Err, IfOk, IfErr};
 ghost use Rattle.digits.specs.Words.{IfOver, with_value};
 ghost use Rattle.digit_uses.specs.Lists.{closed, ended, inner, array_of};
 

@@ -12,7 +12,8 @@ use digits::{ScaledError, parse_scaled};
 pub fn parse_cents(text: &[u8], word: u128) -> Result<i64, ScaledError>
     requires supported { IsTrue (is_supported word) }
     requires decimal { IsDecimal word }
-    ensures { let read = whole_of text.now (read_scaled_at word text.now 46 2 (2 ^ 63) (2 ^ 63 - 1) 0) in
+    ensures { let read =
+        whole_of text.now (read_scaled_at word text.now 46 2 (2 ^ 63) (2 ^ 63 - 1) 0) in
         MatchResult result (λ cents. read ≡ Ok cents) (λ error. read ≡ Err error) }
 {
     parse_scaled::<i64>(text, word, b'.', 2)

@@ -7,10 +7,9 @@ use Rattle.std.proofs.lemmas.Option.{gets}
 use Rattle.std.proofs.lemmas.Bool.Decides.{nat_tests}
 use Rattle.std.proofs.lemmas.List.Sums.{prefix_len-le-length}
 use Rattle.lexical_digits.specs.declared.skip.component.Component.{Component}
-use Rattle.lexical_digits.specs.declared.skip.component.Component.TheVariants.{Integer, Fraction, Exponent, Special}
 use Rattle.lexical_digits.specs.Separators.{GrantsNone}
 use Rattle.lexical_digits.specs.Separators as separators
-use Rattle.lexical_digits.specs.State.{State, own, with_own, rule, is_contiguous, has_no_separator}
+use Rattle.lexical_digits.specs.State.{State, own, rule, is_contiguous, has_no_separator}
 use Rattle.lexical_digits.specs.State as state
 use Rattle.lexical_digits.specs.CallTable.{place_of, Part, OnBytes, On}
 use Rattle.lexical_digits.specs.declared.ops.Op.{Op}
@@ -18,7 +17,7 @@ use Rattle.lexical_digits.specs.declared.ops.Answer.{Answer}
 use Rattle.lexical_digits.specs.declared.ops.Op.TheVariants.{CurrentCount, StepBy, Step, TakeN}
 use Rattle.lexical_digits.specs.CallTable as skip
 use Rattle.lexical_digits.specs.Laws.Table.{place_contiguous, contiguous_grants}
-use Rattle.lexical_plain.specs.Plain.{Plain, with_cursor, rest, is_digit, taken, zeros, Row, within, row_of, Ran, run_of, start, is_on_both, both_have, without_counts, IsPlainWord}
+use Rattle.lexical_plain.specs.Plain.{Plain, rest, is_digit, taken, zeros, Row, within, row_of, Ran, run_of, start, is_on_both, both_have, without_counts, IsPlainWord}
 use Rattle.lexical_plain.proofs.NoFlags.{contiguous, no_separator, zeros_all, past_zeros_all}
 
 -- the word is plain, and the cursor is within the buffer

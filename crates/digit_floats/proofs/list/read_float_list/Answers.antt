@@ -19,7 +19,8 @@ pub returns-in-Err-next_after-clause-no_nan : goal.returns-in-Err-next_after-cla
 returns-in-Err-next_after-clause-no_nan g c =
     let f = g.F.Float in
     all_more (λ x. NotNan (f.value x)) c.loop-count.count c.in-Ok.read.0 c.args.out.now
-    c.loop-count.out (omega arith) c.loop-count.invariant.so.same_length c.loop-count.invariant.no_nan c.in-Ok.ensures.no_nan
+    c.loop-count.out (omega arith) c.loop-count.invariant.so.same_length
+    c.loop-count.invariant.no_nan c.in-Ok.ensures.no_nan
 
 pub returns-in-Err-next_after-clause-is : goal.returns-in-Err-next_after-clause-is
 returns-in-Err-next_after-clause-is g c =
@@ -42,7 +43,8 @@ loop-count-preserved g c =
           (rw c.past_blanks-place.ensures.is at c.in-Ok.ensures.reads)
           (sym c.in-Ok-next_after.ensures.is);
       no_nan = all_more (λ x. NotNan (f.value x)) c.loop-count.count c.in-Ok.read.0 c.args.out.now
-          c.loop-count.out (omega arith) c.loop-count.invariant.so.same_length c.loop-count.invariant.no_nan
+          c.loop-count.out (omega arith) c.loop-count.invariant.so.same_length
+          c.loop-count.invariant.no_nan
           c.in-Ok.ensures.no_nan;
       onward = omega (
         arith,

@@ -25,7 +25,8 @@ unwrap-x-requires g c =
     let is =
     (rw c.unwrap-text.ensures at c.from_utf8.ensures.cases).0 ∙ c.push_tens-n.ensures.written in
     let read =
-    reads_kept g.F.Float.format kept.new.bytes kept.result _ (if c.args.power.negative then 0 else n)
+    reads_kept g.F.Float.format kept.new.bytes kept.result _
+    (if c.args.power.negative then 0 else n)
     (c.args.places + (if c.args.power.negative then n else 0)) tens.result.up tens.result.down
     kept.ensures.keeps (omega arith) (tens.ensures.up n e) (tens.ensures.down n e) in
     some_of c.of_text.result _ _ _ c.of_text.ensures (ap (parse_float g.F.Float.format) is ∙ read)
@@ -37,7 +38,8 @@ returns g c n e =
     let is =
     (rw c.unwrap-text.ensures at c.from_utf8.ensures.cases).0 ∙ c.push_tens-n.ensures.written in
     let read =
-    reads_kept g.F.Float.format kept.new.bytes kept.result _ (if c.args.power.negative then 0 else n)
+    reads_kept g.F.Float.format kept.new.bytes kept.result _
+    (if c.args.power.negative then 0 else n)
     (c.args.places + (if c.args.power.negative then n else 0)) tens.result.up tens.result.down
     kept.ensures.keeps (omega arith) (tens.ensures.up n e) (tens.ensures.down n e) in
     let found = rw c.unwrap-x.ensures at c.of_text.ensures in

@@ -15,13 +15,15 @@ module _ (h p top d : ℕ) (low : 2 ^ 62 ≤ h) (fits : h < 2 ^ 64) (is : h / 2 
   most : 2 ^ p ≤ h / 2 ^ d
   most =
       (le-div_iff_mul-le (pow_pos d)).1
-      (subst (λ x. x ≤ h) (sym (sym (pow-add 2 p d) ∙ (λ i. 2 ^ all i))) (digits h top low fits is).0)
+      (subst (λ x. x ≤ h) (sym (sym (pow-add 2 p d) ∙ (λ i. 2 ^ all i)))
+      (digits h top low fits is).0)
 
   least : h / 2 ^ d < 2 ^ (p + 1)
   least =
       let next : p + 1 + d ≡ 63 + top = omega (arith, all) in
       (div-lt_iff_lt-mul (pow_pos d)).1
-      (subst (λ x. h < x) (sym (sym (pow-add 2 (p + 1) d) ∙ (λ i. 2 ^ next i))) (digits h top low fits is).1)
+      (subst (λ x. h < x) (sym (sym (pow-add 2 (p + 1) d) ∙ (λ i. 2 ^ next i)))
+      (digits h top low fits is).1)
 
 pub returns : goal.returns
 returns c =

@@ -45,11 +45,23 @@ returns-clause-is c f P L num den D b =
     let wide : 2 + more * 2 ^ z ≤ h.result.2 =
     omega (arith, c.if-room-more.false, once more z c.requires.more n.ensures.top.1) in
     let places : 64 + d + power_scale q + low f ≡ e + z + 1200 =
-    omega (arith, c.scale.ensures, scale_few q c.requires.power, n.ensures.top.1, c.requires.precision, c.requires.least, h.ensures.top, c.if-scale-least.false, L) in
+    omega (
+      arith,
+      c.scale.ensures,
+      scale_few q c.requires.power,
+      n.ensures.top.1,
+      c.requires.precision,
+      c.requires.least,
+      h.ensures.top,
+      c.if-scale-least.false,
+      L,
+    ) in
     let odd : v % 2 ≡ 1 → (0 < h.result.1) ⊎ (0 < m * 2 ^ z * t % 2 ^ 64) =
     λ o. elim c.else-rest-eq0.branch [
-      | else-rest-eq0-via-then-rest-eq0+then-halves-eq1+else-product-eq0 w ↦ inr (omega (arith, w.if-product-eq0.false, product))
-      | else-rest-eq0-via-then-rest-eq0+else-halves-eq1 w ↦ absurd (omega (arith, w.if-halves-eq1.false, o))
+      | else-rest-eq0-via-then-rest-eq0+then-halves-eq1+else-product-eq0 w ↦ inr
+          (omega (arith, w.if-product-eq0.false, product))
+      | else-rest-eq0-via-then-rest-eq0+else-halves-eq1 w ↦ absurd
+          (omega (arith, w.if-halves-eq1.false, o))
       | else-rest-eq0-via-else-rest-eq0 w ↦ inl (omega (arith, w.if-rest-eq0.false))
     ] in
     rounds_up f num den m more q t z (64 + d) e v D c.requires.digits c.row.ensures b places

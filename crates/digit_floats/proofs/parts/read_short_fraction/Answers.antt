@@ -1,4 +1,4 @@
-use Rattle.std.proofs.Common.{◌≡◌, ◌+◌, [], append-nil, refl, sym, ◌∙◌, arith}
+use Rattle.std.proofs.Common.{◌≡◌, [], append-nil, refl, sym, ◌∙◌, arith}
 use Rattle.std.proofs.lemmas.List.{nil_from_length}
 use Rattle.digit_literals.proofs.ForCallers.{first_of_others}
 use Rattle.digit_floats.specs.Parts.{fraction_of}

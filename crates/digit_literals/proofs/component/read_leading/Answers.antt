@@ -13,7 +13,12 @@ returns-in-Some c =
     let off = rw (c.rule-rule.ensures.value, c.get_buffer-text.ensures, c.cursor-at.ensures.value)
     at c.in-Some.ensures in
     let reads = off.reads (own c.args.component c.args.bytes.now.state) in
-    record { read = c.in-Some.read; passes = grind (arith, ints, none_needed); is = c.outcome.ensures }
+    record {
+      read = c.in-Some.read;
+      passes = grind (arith, ints, none_needed);
+      is =
+          c.outcome.ensures;
+    }
 
 pub go_on_from-requires : goal.go_on_from-requires
 go_on_from-requires c = grind (arith, on_copy)

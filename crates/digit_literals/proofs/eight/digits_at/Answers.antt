@@ -8,8 +8,10 @@ pub returns : goal.returns
 returns c =
     let text = c.args.text.now in
     let at = c.args.at in
-    let fit : (i : ℕ) → slice_index text (at + i) < 256 = λ i. let f = c.type_inv.text (at + i) in omega arith in
-    if_digits text at fit c.word_at.result c.word_at.ensures c.digits_of.result c.digits_of.ensures.below c.digits_of.ensures.is
+    let fit : (i : ℕ) → slice_index text (at + i) < 256 = λ i. let f =
+    c.type_inv.text (at + i) in omega arith in
+    if_digits text at fit c.word_at.result c.word_at.ensures c.digits_of.result
+    c.digits_of.ensures.below c.digits_of.ensures.is
   where
     if_digits : (text : List ℕ) (at : ℕ) → ((i : ℕ) → slice_index text (at + i) < 256) → (word : ℕ)
         → word ≡ spelt 8 (λ i. slice_index text (at + i))

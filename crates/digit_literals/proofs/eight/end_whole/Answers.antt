@@ -11,4 +11,9 @@ returns-in-Some-checked_add c = λ _.
     (omega arith) (omega arith) c.in-Some.ensures c.last_of-next.ensures at (omega arith) in
     join text 0 at count at (length text) c.args.value c.last_of-next.result _
     (omega arith) (omega arith) c.requires.written rest
-    (omega (arith, c.in-Some-checked_add.ensures, c.in-Some-checked_mul.ensures, ap (λ k. c.args.value * k) c.in-Some-ten_to.ensures))
+    (omega (
+      arith,
+      c.in-Some-checked_add.ensures,
+      c.in-Some-checked_mul.ensures,
+      ap (λ k. c.args.value * k) c.in-Some-ten_to.ensures,
+    ))

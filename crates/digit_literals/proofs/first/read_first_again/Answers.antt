@@ -67,8 +67,11 @@ returns-in-Some-count_rest-clause-stops c =
     let large = reads.exceeds (not_false c.in-Some.read.is_too_large c.if-not-read.false) in
     let s = with_cursor (start text c.args.word) c.args.start in
     let rest = off.reads (own k (past_digits_to k s over)) in
-    let ends = rest.stops (never c.in-Some-count_rest.rest.is_too_large rest.exceeds) ∙ sym (stop_after k s over) in
-    ends ∙ stop_is c.args.word k text c.args.start c.args.before c.args.most over c.requires.supported (omega arith) c.requires.within large
+    let ends =
+    rest.stops (never c.in-Some-count_rest.rest.is_too_large rest.exceeds)
+    ∙ sym (stop_after k s over) in
+    ends ∙ stop_is c.args.word k text c.args.start c.args.before c.args.most over
+    c.requires.supported (omega arith) c.requires.within large
 
 pub returns-in-Some-count_rest-clause-first : goal.returns-in-Some-count_rest-clause-first
 returns-in-Some-count_rest-clause-first c =
@@ -80,6 +83,9 @@ returns-in-Some-count_rest-clause-first c =
     let large = reads.exceeds (not_false c.in-Some.read.is_too_large c.if-not-read.false) in
     let s = with_cursor (start text c.args.word) c.args.start in
     let rest = off.reads (own k (past_digits_to k s over)) in
-    let ends = rest.stops (never c.in-Some-count_rest.rest.is_too_large rest.exceeds) ∙ sym (stop_after k s over) in
-    rest_is c.args.word k text c.args.start c.args.before c.args.most over c.requires.supported (omega arith) c.requires.within large
+    let ends =
+    rest.stops (never c.in-Some-count_rest.rest.is_too_large rest.exceeds)
+    ∙ sym (stop_after k s over) in
+    rest_is c.args.word k text c.args.start c.args.before c.args.most over c.requires.supported
+    (omega arith) c.requires.within large
     _ _ _ _ reads.worth.is reads.digits ends rest.digits

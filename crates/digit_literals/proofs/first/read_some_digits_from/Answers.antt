@@ -23,7 +23,8 @@ returns-clause-first c =
     let valid : IsState s = grind arith in
     let none = own_of_fresh k c.args.text.now c.args.word c.args.start in
     let reads = rw c.of-rule.ensures at c.in_ok-read.ensures.reads.reads 0 in
-    let all : Digits = record { value = c.in_ok-read.read.value; count = c.in_ok-read.read.count } in
+    let all : Digits = record { value = c.in_ok-read.read.value; count = c.in_ok-read.read.count }
+    in
     let between = leading_between k s valid in
     let end = reads.stops c.in_ok-read.ensures.all in
     let ok : IsDigits k s 0 all =

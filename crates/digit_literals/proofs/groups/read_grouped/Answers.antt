@@ -11,6 +11,7 @@ read_groups-requires-clause-supported c =
 
 pub returns-in-Some : goal.returns-in-Some
 returns-in-Some c = λ _ most fits.
-    whole_of_slice (rule_of c.args.word Integer) _ c.args.text.now c.args.start (2 ^ 64 - 1) most c.in-Some.read
+    whole_of_slice (rule_of c.args.word Integer) _ c.args.text.now c.args.start (2 ^ 64 - 1) most
+    c.in-Some.read
     c.of.ensures c.requires.radix c.requires.within c.in-Some.ensures.reads c.in-Some.ensures.all
     c.in-Some.ensures.some c.in-Some.ensures.ends fits

@@ -1,4 +1,4 @@
-use Rattle.std.proofs.Common.{◌<◌, length, arith}
+use Rattle.std.proofs.Common.{arith}
 use Rattle.std.proofs.lemmas.Bool.Decides.{nat_tests}
 use Rattle.digit_literals.specs.After.{digits_between}
 use Rattle.digit_literals.proofs.Passed.{reading}
@@ -22,14 +22,24 @@ pub loop-group-preserved : goal.loop-group-preserved
 loop-group-preserved c =
     let before = c.loop-group.invariant in
     let digits = digits_between c.args.rule c.args.text.now c.args.start c.loop-group.end in
-    let grown = group_more c.args.rule c.args.text.now c.args.start c.requires.supported c.requires.internal c.requires.radix 0 c.loop-group.end c.in-Some.group (omega (arith, before.all)) before.some before.passed c.in-Some.ensures in
+    let grown =
+    group_more c.args.rule c.args.text.now c.args.start c.requires.supported c.requires.internal
+    c.requires.radix 0 c.loop-group.end c.in-Some.group (omega (arith, before.all))
+    before.some before.passed c.in-Some.ensures in
     record {
       within = c.in-Some.ensures.within;
       passed = grown.passed;
       some = omega (arith, grown.count);
       all = omega (arith, grown.count, before.all);
       worth = record {
-        is = omega (arith, grown.worth, before.worth.is, c.in_ok-value.ensures, c.in_ok-checked_mul.ensures);
+        is =
+            omega (
+              arith,
+              grown.worth,
+              before.worth.is,
+              c.in_ok-value.ensures,
+              c.in_ok-checked_mul.ensures,
+            );
         fits = omega (arith, c.in_ok-value.ensures);
       };
     }

@@ -33,7 +33,8 @@ loop-count-preserved g c =
     record {
       so = turns_next t.number
           (number_at t.MIN_MAGNITUDE t.MAX (rule_of c.args.word Integer) c.args.text.now)
-          literal_position c.args.gap c.args.text.now c.args.start c.loop-count.count c.loop-count.at
+          literal_position c.args.gap c.args.text.now c.args.start c.loop-count.count
+          c.loop-count.at
           c.args.out.now c.loop-count.out c.loop-count.invariant.so (omega arith) c.in-Ok.read.0
           c.in-Ok.read.1 c.in-Ok-next_after.next
           (rw c.past_blanks-place.ensures.is at c.in-Ok.ensures.is)

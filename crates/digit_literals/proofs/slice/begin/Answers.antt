@@ -5,4 +5,6 @@ use Rattle.digit_literals.proofs.slice.begin.Goals as goal
 pub returns-in-Some : goal.returns-in-Some
 returns-in-Some c =
     let first = rw c.in-Some.is at c.requires.first in
-    rw (c.from.ensures, c.from-in-Some.ensures) (one_plain c.args.rule c.args.text.now c.args.start c.args.before c.args.most c.requires.within (omega arith) c.args.radix _ c.requires.radix first)
+    rw (c.from.ensures, c.from-in-Some.ensures)
+    (one_plain c.args.rule c.args.text.now c.args.start c.args.before c.args.most
+    c.requires.within (omega arith) c.args.radix _ c.requires.radix first)

@@ -20,7 +20,9 @@ read_slice-requires-clause-supported c =
 
 pub returns-then-not-read-clause-is : goal.returns-then-not-read-clause-is
 returns-then-not-read-clause-is c =
-    let read = rw c.of-rule.ensures at (c.in_ok-read.ensures.reads (own Integer c.loop-at.invariant.on.state)) in
+    let read =
+    rw c.of-rule.ensures at (c.in_ok-read.ensures.reads
+    (own Integer c.loop-at.invariant.on.state)) in
     rw (c.in_ok-value.ensures, c.of-rule.ensures)
     (value_on (rule_of c.args.word Integer) c.args.text.now c.args.start c.loop-at.at
     c.in_ok-read.read.end c.loop-at.invariant.onward read.onward _ _ _ c.loop-at.invariant.is
@@ -32,7 +34,8 @@ loop-at-preserved c =
     let read = rw c.of-rule.ensures at (c.in_ok-read.ensures.reads (own Integer on.state)) in
     record {
       onward = omega (arith, c.loop-at.invariant.onward, read.onward);
-      on = goes_on c.args.word c.args.text.now c.args.start c.loop-at.at 0 _ c.in_ok-read.read.end on
+      on =
+          goes_on c.args.word c.args.text.now c.args.start c.loop-at.at 0 _ c.in_ok-read.read.end on
           (read.exceeds (search rules));
       is = rw (c.in_ok-value.ensures, c.of-rule.ensures)
           (value_on (rule_of c.args.word Integer) c.args.text.now c.args.start c.loop-at.at

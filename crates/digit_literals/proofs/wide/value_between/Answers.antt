@@ -18,7 +18,13 @@ loop-at-preserved c =
           (sym w.in-Some.ensures) in
           record {
             value = rw (e, sym c.loop-at.invariant.value, w.value-is) w.in-Some-add_wide.ensures.1;
-            fits = grind (arith, w.value-is, w.in-Some-add_wide.ensures.0, w.in-Some-add_wide.ensures.1);
+            fits =
+                grind (
+                  arith,
+                  w.value-is,
+                  w.in-Some-add_wide.ensures.0,
+                  w.in-Some-add_wide.ensures.1,
+                );
           }
       | in_default w ↦
           record {

@@ -12,10 +12,12 @@ returns-in-Some-clause-is g c =
     let is = c.requires.is in
     let digits = rw (is.integer, is.fraction) at is.is.digits in
     let places = rw is.fraction at is.is.places in
-    let whole : 0 < length (whole_digits f text m.start) = omega (arith, digits, places, c.requires.some) in
+    let whole : 0 < length (whole_digits f text m.start) =
+    omega (arith, digits, places, c.requires.some) in
     let pointed = rw (is.whole_end, places) at c.requires.pointed in
     let follows = rw is.ends at e.some in
     let marked = rw (is.whole_end, is.ends) at c.requires.marked in
     let allowed = rw places at c.requires.exponents in
-    rw (e.ends, is.ends) (powered_float f text m.start c.requires.one_mark whole pointed c.requires.zeros
+    rw (e.ends, is.ends) (powered_float f text m.start c.requires.one_mark whole pointed
+    c.requires.zeros
     g.F.Float.format c.args.negative _ e.value allowed follows marked)

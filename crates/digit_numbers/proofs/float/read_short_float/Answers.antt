@@ -18,5 +18,6 @@ returns-in-Some-clause-is g c =
     let zeros = rw (← e.start) at (sym c.if-has_short_zeros.ensures) in
     let point = rw is.whole_end at c.if-has_byte.ensures.is in
     let no_mark = rw is.ends at c.in-Some.ensures.none in
-    rw (← e.start, is.ends) (pointed_float f text m.start c.requires.one_mark whole (λ _. more) zeros
+    rw (← e.start, is.ends) (pointed_float f text m.start c.requires.one_mark whole (λ _. more)
+    zeros
     g.F.Float.format c.args.negative _ c.in-Some.ensures.value (sym point) no_mark)

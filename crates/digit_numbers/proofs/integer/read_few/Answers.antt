@@ -15,5 +15,6 @@ returns-clause-is c =
     let plain = c.is_plain.ensures.plain c.if-not-is_plain.false in
     let alone = c.is_plain.ensures.alone c.if-not-is_plain.false in
     few_is l text at value end plain
-    (integer_is (rule_of l.decimal Integer) text at (2 ^ 128 - 1) value end c.in_ok-value.ensures.is)
+    (integer_is (rule_of l.decimal Integer) text at (2 ^ 128 - 1) value end
+    c.in_ok-value.ensures.is)
     alone

@@ -8,7 +8,8 @@ pub returns-in-Err-clause-is : goal.returns-in-Err-clause-is
 returns-in-Err-clause-is g c =
     let f = g.F.Float in
     rw (c.no_number-end.ensures, c.position.ensures, c.past_blanks-place.ensures.is)
-    (turns_none (with_value f.value) (λ at. number_of_at c.args.form c.args.text.now at f.format) position
+    (turns_none (with_value f.value) (λ at. number_of_at c.args.form c.args.text.now at f.format)
+    position
     c.args.gap c.args.text.now c.args.start c.loop-count.count c.loop-count.at
     c.args.out.now c.loop-count.out c.loop-count.invariant.so (omega arith) c.in-Err.error
     (rw c.past_blanks-place.ensures.is at c.in-Err.ensures.is))
@@ -16,7 +17,8 @@ returns-in-Err-clause-is g c =
 pub returns-in-Err-next_after-clause-is : goal.returns-in-Err-next_after-clause-is
 returns-in-Err-next_after-clause-is g c =
     let f = g.F.Float in
-    turns_over (with_value f.value) (λ at. number_of_at c.args.form c.args.text.now at f.format) position
+    turns_over (with_value f.value) (λ at. number_of_at c.args.form c.args.text.now at f.format)
+    position
     c.args.gap c.args.text.now c.args.start c.loop-count.count c.loop-count.at
     c.args.out.now c.loop-count.out c.loop-count.invariant.so (omega arith) c.in-Ok.read.0
     c.in-Ok.read.1 c.in-Err-next_after.over
@@ -27,7 +29,9 @@ pub loop-count-preserved : goal.loop-count-preserved
 loop-count-preserved g c =
     let f = g.F.Float in
     record {
-      so = turns_next (with_value f.value) (λ at. number_of_at c.args.form c.args.text.now at f.format) position
+      so =
+          turns_next (with_value f.value)
+          (λ at. number_of_at c.args.form c.args.text.now at f.format) position
           c.args.gap c.args.text.now c.args.start c.loop-count.count c.loop-count.at
           c.args.out.now c.loop-count.out c.loop-count.invariant.so (omega arith) c.in-Ok.read.0
           c.in-Ok.read.1 c.in-Ok-next_after.next

@@ -8,7 +8,8 @@ abbrev pub invariant-loop-count : goal.invariant-loop-count
 invariant-loop-count g l =
     let f = g.F.Float in
     record {
-      so : SoFar (with_value f.value) (λ at. number_of_at l.form l.text at f.format) position l.gap l.text l.start
+      so : SoFar (with_value f.value) (λ at. number_of_at l.form l.text at f.format) position l.gap
+          l.text l.start
           l.count l.at l.initial.out l.out;
       onward : l.start ≤ l.at;
       within : l.at ≤ length l.text;
