@@ -46,7 +46,7 @@ place_inner rule buffer q digit count supported stands apart next is_next intern
     here : (b : Bool) → rule.consecutive ≡ b → place rule buffer q count ≡ q + 1
     here true e = place_run rule buffer e 1 q (q + 1) count refl all stops within
         (not_kept (right_many rule buffer supported e q (q + 1) holds (omega arith) all stops
-            within))
+        within))
     here false e = place_next rule buffer e q count (omega (arith, within))
         (not_kept (right_one rule buffer supported e q))
 

@@ -49,5 +49,12 @@ module _ (k : Component) (a b : Held) (costs : Costs k a b) where
 
   pub arrived : b.state ≡ settled k s → needs_run k b ≡ false
   arrived settles =
-      grind (arith, stays, kept_place, past_place, single_needs k b, none_needed k b,
-          separator_of k s.word)
+      grind (
+        arith,
+        stays,
+        kept_place,
+        past_place,
+        single_needs k b,
+        none_needed k b,
+        separator_of k s.word,
+      )

@@ -7,14 +7,14 @@ pub pass_seen-requires : goal.pass_seen-requires
 pass_seen-requires c =
     let look = rw (sym c.self.view_is) at c.in_ok-byte.ensures in
     let peeks =
-        peeks_settled c.args.component c.args.self.now _ _ _ c.settle_decided.ensures look in
+    peeks_settled c.args.component c.args.self.now _ _ _ c.settle_decided.ensures look in
     omega (arith, arrived _ _ _ c.in_ok-byte.byte peeks, c.self.inside.holds.buffer)
 
 pub invariant_of-self-inside : goal.invariant_of-self-inside
 invariant_of-self-inside c =
     let look = rw (sym c.self.view_is) at c.in_ok-byte.ensures in
     let peeks =
-        peeks_settled c.args.component c.args.self.now _ _ _ c.settle_decided.ensures look in
+    peeks_settled c.args.component c.args.self.now _ _ _ c.settle_decided.ensures look in
     carried c.self.inside c.pass_seen.ensures (state_passed c.args.component _ _
     c.self.inside.holds (arrived _ _ _ c.in_ok-byte.byte peeks))
 
@@ -23,7 +23,7 @@ returns c =
     let b = c.self.inside in
     let look = rw (sym c.self.view_is) at c.in_ok-byte.ensures in
     let peeks =
-        peeks_settled c.args.component c.args.self.now _ _ _ c.settle_decided.ensures look in
+    peeks_settled c.args.component c.args.self.now _ _ _ c.settle_decided.ensures look in
     steps_past c.args.component _ _ c.in_ok-byte.byte peeks _ _
     (rw c.requires.rule at c.counts_byte-is_counted.ensures)
     (c.pass_seen.ensures.state b.slc.now b.format)
