@@ -10,7 +10,6 @@ from collections import Counter
 
 sys.dont_write_bytecode = True
 from sources import crates, files_below, read  # noqa: E402
-from tidy import above, left  # noqa: E402
 
 # in these the check itself names what it wants
 GOALS = ("Answers.antt", "Invariants.antt", "Proof.antt", "Lib.antt")
@@ -46,13 +45,13 @@ def definitions(text):
     return [(name, number, "\n".join(lines)) for name, number, lines in found]
 
 
-def found_in(names):
-    """What nothing cites of each crate, and how many there are of all."""
+def check(names=()):
+    """Counts the lemmas, and tells those that nothing cites."""
     texts = {path: read(path) for path in files_below("crates", (".antt", ".rt"))
              if "/out/" not in path}
     counts = {path: words_in(text) for path, text in texts.items()}
-    found, lemmas = {crate: [] for crate in names or crates()}, 0
-    for crate in found:
+    found, lemmas = [], 0
+    for crate in names or crates():
         for path in files_below(f"crates/{crate}/proofs", ".antt"):
             if os.path.basename(path) in GOALS:
                 continue
@@ -67,17 +66,11 @@ def found_in(names):
                 lemmas += 1
                 own = words_in(text)[name]
                 if there[name] <= own and not any(other[name] for other in others):
-                    found[crate].append(f"{path}:{line}: nothing cites {name}")
-    return found, lemmas
-
-
-def check():
-    (found, lemmas), may = found_in(()), left(1)
-    return (f"each of {lemmas} lemmas and rulesets is cited, but {sum(may.values())} of "
-            f"{', '.join(may) or 'none'}"), above(may, found)
+                    found.append(f"{path}:{line}: nothing cites {name}")
+    return f"each of {lemmas} lemmas and rulesets is cited", found
 
 
 if __name__ == "__main__":
-    faults = above({}, found_in(sys.argv[1:])[0])
-    print("\n".join(faults) or "lemmas: each is cited")
+    said, faults = check(sys.argv[1:])
+    print("\n".join(faults) or f"lemmas: {said}")
     sys.exit(1 if faults else 0)

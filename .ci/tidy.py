@@ -3,22 +3,15 @@
 nothing uses, and a line above 100 columns that is no import, in sources, specs and proofs.
 
     .ci/tidy.py [CRATE..]    tells them, and ends with status 1 where there is one
-    .ci/tidy.py --write      writes into left.txt how many each crate has, also of .ci/lemmas.py;
-                             .ci/pages tells a crate that has more
 
 The names of traits in an import are left out, since their methods are called without them."""
-import os
 import re
 import sys
 
 sys.dont_write_bytecode = True
-from sources import TOP, crates, files_below, read  # noqa: E402
+from sources import crates, files_below, read  # noqa: E402
 
 MOST = 100
-# How many faults each crate may have until its sources are next changed: of this script, and of
-# .ci/lemmas.py.
-KEPT = ".ci/left.txt"
-HEAD = "# Each crate with the faults that it may have, of tidy.py and of lemmas.py; see tidy.py.\n"
 # an import up to its end: `use`, with `ghost` before it in a .rt file; no `pub use`
 IMPORT = re.compile(r"^[ ]*(?:ghost )?use [^;{]*?(?:\{[^}]*\})?(?:;|$)", re.M)
 # lists of names, and literals, which no layout breaks
@@ -86,40 +79,13 @@ def faults_of(crate, known):
         yield from (f"{path}:{line}: {width} columns" for line, width in wide(text))
 
 
-def left(column):
-    """How many faults each crate may have, by left.txt."""
-    return {row[1]: int(row[2 + column])
-            for row in re.finditer(r"^(\w+) (\d+) (\d+)$", read(KEPT), re.M) if int(row[2 + column])}
-
-
-def above(may, found):
-    """The faults of the crates that have more of them than they may."""
-    return [fault for crate, faults in found.items() for fault in faults
-            if len(faults) > may.get(crate, 0)]
-
-
-def found_in(names):
+def check(names=()):
     known = traits()
-    return {crate: list(faults_of(crate, known)) for crate in names or crates()}
-
-
-def check():
-    may = left(0)
-    return (f"no unused import and no line above {MOST} columns, but {sum(may.values())} in "
-            f"{', '.join(may) or 'none'}"), above(may, found_in(()))
-
-
-def write():
-    import lemmas
-    both = found_in(()), lemmas.found_in(())[0]
-    rows = ((crate, *(len(found[crate]) for found in both)) for crate in crates())
-    with open(os.path.join(TOP, KEPT), "w", encoding="utf8") as file:
-        file.write(HEAD + "".join(f"{' '.join(map(str, row))}\n" for row in rows if any(row[1:])))
+    return (f"no unused import and no line above {MOST} columns",
+            [fault for crate in names or crates() for fault in faults_of(crate, known)])
 
 
 if __name__ == "__main__":
-    if sys.argv[1:] == ["--write"]:
-        sys.exit(write())
-    faults = above({}, found_in(sys.argv[1:]))
-    print("\n".join(faults) or f"tidy: no unused import and no line above {MOST} columns")
+    said, faults = check(sys.argv[1:])
+    print("\n".join(faults) or f"tidy: {said}")
     sys.exit(1 if faults else 0)
