@@ -17,7 +17,7 @@ WIDTH = {"SCALA": 31, "KOTLIN": 63, "OCAML": 62, "R": 53}
 # The forms whose tool leaves out the upper bits of an integer that is too wide for it.
 WRAPS = {"NIM"}
 # The forms whose tool doesn't always round to the nearest float, and from how many digits on.
-ROUGH = {"COBOL": 1, "CSHARP": 16, "CSHARP_PARSE": 1, "D": 16, "R": 15, "SQLITE": 1, "PHP": 17,
+ROUGH = {"COBOL": 1, "CSHARP": 1, "CSHARP_PARSE": 1, "D": 16, "R": 15, "SQLITE": 1, "PHP": 17,
          "RUBY": 60, "RUBY_FLOAT": 14, "OCAML": 1}
 # Of one form: a reason, and what the longer one of the two numbers is in full.
 PARENTHESES = ("what follows `nan` in parentheses", r"[-+]?nan\(.*")
@@ -55,6 +55,7 @@ OWN = {
     "D": [("a first 0", r"0[0-9_]+.*"),
           ("a hexadecimal float without digits", r"0[xX][_.]*[pP].*")],
     "CSHARP": [("a separator, by Mono's compiler", r".*_.*"),
+               (OUT_OF_RANGE, r".*[eE]\+?[0-9]{3,}"),  # told before what is beside it
                ("a long binary integer", r"0[bB][01]{64,}")],
     "SCALA": [("separators, before Scala 2.13", r".*_.*")],
     "MYSQL": [("a string of bytes", r"0[xb].*"), ("more than 65 digits", r"[0-9.]{66,}")],
