@@ -189,8 +189,3 @@ module _ (rule : Rule) (text : List ℕ) (start before : ℕ) (ten : rule.radix 
       eight_plain rule text start before None at value more ten plain
       (record { next = next; eight = eight; is = tt; wrapped = omega (arith, is) })
       )
-
--- the first step of eight, after no digits
-module _ (text : List ℕ) (start before : ℕ) (within : start ≤ length text) (l : before < 2 ^ 64)
-    (first value : ℕ) (eight : AreEight text start first)
-    (is : value ≡ (before * 100000000 % 2 ^ 64 + first) % 2 ^ 64) where

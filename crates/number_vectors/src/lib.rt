@@ -4,7 +4,6 @@
 
 #[cfg(test)]
 pub mod calls;
-#[cfg(test)]
 pub mod groups;
 #[cfg(test)]
 pub mod onward;
