@@ -18,7 +18,9 @@ mod measure;
 mod numbers;
 #[cfg(feature = "original")]
 mod original;
-mod place;
+mod pad;
+mod random;
+mod task;
 mod texts;
 mod told;
 mod word;

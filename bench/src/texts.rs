@@ -1,5 +1,6 @@
 //! The texts that are drained. They are the same in each run.
 
+use crate::random::Random;
 use std::ops::RangeInclusive;
 use std::sync::atomic::{AtomicUsize, Ordering::Relaxed};
 
@@ -19,17 +20,7 @@ impl From<Vec<u8>> for Text {
     }
 }
 
-/// Numbers without a pattern (xorshift64).
-struct Random(u64);
-
 impl Random {
-    fn below(&mut self, bound: u64) -> u64 {
-        self.0 ^= self.0 << 13;
-        self.0 ^= self.0 >> 7;
-        self.0 ^= self.0 << 17;
-        (self.0 >> 11) % bound
-    }
-
     fn within(&mut self, range: &RangeInclusive<u64>) -> u64 {
         range.start() + self.below(range.end() - range.start() + 1)
     }
@@ -102,8 +93,6 @@ impl Random {
     }
 }
 
-const SEED: u64 = 0x9E37_79B9_7F4A_7C15;
-
 /// The digits of radix 2.
 pub const BINARY: &[u8] = b"01";
 /// Those of radix 16, the letters in either case.
@@ -116,7 +105,7 @@ pub static SIZE: AtomicUsize = AtomicUsize::new(1 << 20);
 
 /// A text of what a function gives for each position.
 fn text_of(mut byte: impl FnMut(usize, &mut Random) -> u8) -> Text {
-    let mut random = Random(SEED);
+    let mut random = Random::new();
     let bytes: Vec<u8> = (0..SIZE.load(Relaxed)).map(|at| byte(at, &mut random)).collect();
     bytes.into()
 }
@@ -168,7 +157,7 @@ fn numbers_of(
     digit: fn(&mut Random) -> u8,
     end: Option<u8>,
 ) -> Text {
-    let mut random = Random(SEED);
+    let mut random = Random::new();
     let mut text = Text::default();
     while text.bytes.len() < SIZE.load(Relaxed) {
         let length = random.within(&lengths) as u8;
@@ -224,7 +213,7 @@ fn literals_of(
     sign: fn(&mut Random) -> Option<u8>,
     end: Option<u8>,
 ) -> Text {
-    let mut random = Random(SEED);
+    let mut random = Random::new();
     let mut text = Text::default();
     while text.bytes.len() < SIZE.load(Relaxed) {
         let digits = random.within(&lengths) as u8;
@@ -313,7 +302,7 @@ pub fn powers() -> Text {
 
 /// Numbers that a function adds to bytes, and the same without separators.
 fn numbers_by(mut push: impl FnMut(&mut Random, &mut Vec<u8>)) -> Text {
-    let mut random = Random(SEED);
+    let mut random = Random::new();
     let mut text = Text::default();
     while text.bytes.len() < SIZE.load(Relaxed) {
         let start = text.bytes.len();

@@ -1,7 +1,8 @@
 //! What a program tells `bench/cases.py`: lines of fields with a tab between them. `bench/count`
 //! tells its instructions in the same form.
 
-use crate::place;
+use crate::library;
+use crate::pad::PAD;
 
 /// One of those that are compared.
 #[derive(Clone, Copy, PartialEq, Eq)]
@@ -30,7 +31,7 @@ impl Side {
 
 /// Tells what one median was, in nanoseconds for each byte.
 pub fn time(case: &str, side: Side, nanoseconds: f64) {
-    println!("time\t{case}\t{}\t{}\t{nanoseconds}", side.name(), place::PAD);
+    println!("time\t{case}\t{}\t{}\t{nanoseconds}", side.name(), PAD);
 }
 
 /// Tells how many looks at a byte the library counted, for each byte.
@@ -40,6 +41,14 @@ pub fn looks(case: &str, looks: f64) {
 
 /// Tells where the code of this program lies, and how large a `Bytes` is.
 pub fn program(size: usize) {
-    let [library, rust] = place::offsets();
-    println!("program\t{}\t{library}\t{rust}\t{size}", place::PAD);
+    let [library, rust] = offsets();
+    println!("program\t{PAD}\t{library}\t{rust}\t{size}");
+}
+
+/// How many bytes a stretch of code takes that the processor fetches and keeps as one.
+const LINE: usize = 64;
+
+/// Where in such a stretch the library's code begins, and where that of this program does.
+fn offsets() -> [usize; 2] {
+    [library::digit_bench_sum as *const () as usize % LINE, offsets as *const () as usize % LINE]
 }

@@ -4,9 +4,14 @@
 //! - `peers once ROW..`: each side once, for callgrind
 //! - `peers measure ROW..`: times, the least of many short samples in turns
 
-mod place;
+#[path = "../../src/pad.rs"]
+mod pad;
+#[path = "../../src/random.rs"]
+mod random;
 mod rows;
 mod sides;
+#[path = "../../src/task.rs"]
+mod task;
 mod texts;
 
 use rows::{Row, Side};

@@ -1,20 +1,8 @@
 //! The texts. They are the same in each run.
 
-/// Numbers without a pattern (xorshift64).
-struct Random(u64);
+use crate::random::Random;
 
 impl Random {
-    fn next(&mut self) -> u64 {
-        self.0 ^= self.0 << 13;
-        self.0 ^= self.0 >> 7;
-        self.0 ^= self.0 << 17;
-        self.0
-    }
-
-    fn below(&mut self, bound: u64) -> u64 {
-        (self.next() >> 11) % bound
-    }
-
     fn within(&mut self, (least, most): (u64, u64)) -> u64 {
         least + self.below(most - least + 1)
     }
@@ -62,7 +50,7 @@ pub struct Text {
 const PADDING: usize = 64;
 
 fn text(size: usize, mut push: impl FnMut(&mut Random, &mut Vec<u8>)) -> Text {
-    let mut random = Random(0x9E37_79B9_7F4A_7C15);
+    let mut random = Random::new();
     let mut text = Text::default();
     text.array.push(b'[');
     while text.bytes.len() < size {

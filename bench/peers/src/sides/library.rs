@@ -1,6 +1,7 @@
 //! The library, by the exports of `crates/digit_bench`: with a word that is a constant, or one that
 //! is known only at run time.
 
+use crate::task::{Format, Outcome, Task, call};
 use crate::texts::Text;
 
 const DECIMAL: u128 = 10 << 104;
@@ -8,52 +9,14 @@ const DECIMAL: u128 = 10 << 104;
 const GROUPED: u128 = DECIMAL | (b'_' as u128) << 64 | 1 << 32;
 const HEXADECIMAL: u128 = 16 << 104;
 
-/// What an export answers, in the library's order.
-#[repr(C)]
-#[derive(Default)]
-struct Outcome {
-    value: u64,
-    count: u64,
-    looks: u64,
-}
-
-/// What an export is asked to do, in the library's order: two slices, and a word as its halves.
-#[repr(C)]
-struct Task {
-    text: *const u8,
-    len: usize,
-    lengths: *const u8,
-    count: usize,
-    low: u64,
-    high: u64,
-    is_constant: u32,
-}
-
-type Export = unsafe extern "C" fn(&Task, &mut Outcome);
-
-fn run(export: Export, text: &Text, word: u128, is_constant: bool) -> u64 {
-    let task = Task {
-        text: text.bytes.as_ptr(),
-        len: text.bytes.len(),
-        lengths: text.lengths.as_ptr(),
-        count: text.lengths.len(),
-        low: word as u64,
-        high: (word >> 64) as u64,
-        is_constant: is_constant.into(),
-    };
-    let mut outcome = Outcome::default();
-    // SAFETY: the slices are those of `text`, and an export only reads them
-    unsafe { export(&task, &mut outcome) };
-    outcome.value
-}
-
 macro_rules! sides {
     ($($name:ident $export:ident $word:ident $is_constant:literal;)*) => {
         $(pub fn $name(text: &Text) -> u64 {
             unsafe extern "C" {
                 fn $export(task: &Task, out: &mut Outcome);
             }
-            run($export, text, $word, $is_constant)
+            let format = Format { word: $word, is_constant: $is_constant };
+            call($export, &text.bytes, &text.lengths, format).value
         })*
     };
 }

@@ -1,8 +1,6 @@
 //! Where the code lies. A program whose code lies 16 bytes further along is the same program, and
-//! can take half as long again: so the benchmark is built with pads of several sizes, and tells
-//! where its loops came to lie.
+//! can take half as long again: so a program is built with pads of several sizes.
 
-use crate::library;
 use std::arch::global_asm;
 
 /// How many bytes stand before the code of the program, as `BENCH_PAD` says when it is built.
@@ -22,11 +20,3 @@ global_asm!(
     ".popsection",
     pad = const PAD,
 );
-
-/// How many bytes a stretch of code takes that the processor fetches and keeps as one.
-const LINE: usize = 64;
-
-/// Where in such a stretch the library's code begins, and where that of this program does.
-pub fn offsets() -> [usize; 2] {
-    [library::digit_bench_sum as *const () as usize % LINE, offsets as *const () as usize % LINE]
-}
