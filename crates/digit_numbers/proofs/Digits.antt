@@ -260,7 +260,7 @@ module _ (f : Form) (said : ℕ) (text : List ℕ) (at : ℕ) where
   hex_mark = counts_end h text at
 
   pub hex_not_allowed : IsForm f → hex_point ≡ true
-      → allows_point h text at ≡ false → is_hex_float f said text at ≡ false
+      → allows_point h text at ≡ false → is_hex_float h text at ≡ false
   unfolding is_hex_float
   hex_not_allowed form s a =
       let none =
@@ -269,7 +269,7 @@ module _ (f : Form) (said : ℕ) (text : List ℕ) (at : ℕ) where
       (allows_point h text at) (is_pointed_hex f.hex_floats) (is_always_hex f.hex_floats) none.1 s a
 
   pub hex_no_digit : length (whole_digits h text at) + length (fraction h text at) ≡ 0
-      → is_hex_float f said text at ≡ false
+      → is_hex_float h text at ≡ false
   unfolding is_hex_float
   hex_no_digit none = by (has_point h text at) refl
     where
@@ -279,7 +279,7 @@ module _ (f : Form) (said : ℕ) (text : List ℕ) (at : ℕ) where
       n : length (fraction h text at) ≡ 0
       n = omega (arith, none)
 
-      by : (b : Bool) → has_point h text at ≡ b → is_hex_float f said text at ≡ false
+      by : (b : Bool) → has_point h text at ≡ b → is_hex_float h text at ≡ false
       by true e = rw (e, w, n) refl
       by false e = rw (e, w) refl
 
@@ -290,7 +290,7 @@ module _ (f : Form) (said : ℕ) (text : List ℕ) (at : ℕ) where
       → has_exponent h text at
       || (if hex_point
       then is_pointed_hex f.hex_floats else is_always_hex f.hex_floats) ≡ true
-      → is_hex_float f said text at ≡ true
+      → is_hex_float h text at ≡ true
   unfolding is_hex_float
   hex_is some same all more =
       hex_some (has_digits (parts h text at)) (has_exponent h text at)
@@ -301,7 +301,7 @@ module _ (f : Form) (said : ℕ) (text : List ℕ) (at : ℕ) where
   pub hex_is_none : has_exponent h text at ≡ false
       → (if hex_point
       then is_pointed_hex f.hex_floats else is_always_hex f.hex_floats) ≡ false
-      → is_hex_float f said text at ≡ false
+      → is_hex_float h text at ≡ false
   unfolding is_hex_float
   hex_is_none e none =
       hex_neither (has_digits (parts h text at)) (has_exponent h text at)

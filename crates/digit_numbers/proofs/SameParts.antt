@@ -15,11 +15,11 @@ use Rattle.digit_floats.specs.Follows.{IsSameFloatUpTo}
 use Rattle.digit_floats.specs.Hexadecimal.{nearest_hex}
 use Rattle.digit_floats.proofs.WhatFollows as floats
 use Rattle.digit_numbers.specs.declared.form.Form.{Form}
-use Rattle.digit_numbers.specs.Forms.{is_barred, allows_exponent, is_pointed_hex, hex_form}
+use Rattle.digit_numbers.specs.Forms.{is_barred, allows_exponent, is_pointed_hex}
 use Rattle.digit_numbers.specs.Numbers.{whole_digits, whole_end, fraction, allows_point, has_point}
 use Rattle.digit_numbers.specs.Numbers.{is_bare, is_hex_here, mark, mark_or}
 use Rattle.digit_numbers.specs.Numbers.{mark_at, exponent, has_exponent, digits_stop, parts}
-use Rattle.digit_numbers.specs.Numbers.{has_more_zeros, is_float, is_hex_float, hex_value, hex_stop}
+use Rattle.digit_numbers.specs.Numbers.{has_more_zeros, is_float, is_hex_float, hex_value}
 
 -- ---- of truths, and by them
 
@@ -244,46 +244,33 @@ module _ (f : Form) (one other : List ℕ) (at : ℕ) (upto : ArePartsUpTo f one
   unfolding is_float
   float_same = float_of _ _ _ _ _ _ _ _ parts_same zeros_same point_same marked_same
 
--- ---- a hexadecimal float
-
-module _ (f : Form) (said : ℕ) (one other : List ℕ) (at : ℕ)
-    (upto : ArePartsUpTo (hex_form f said) one other at) (i : ℕ) (from : i ≤ at) where
-  abbrev h : Form
-  h = hex_form f said
-
-  hex_parts : parts h one i ≡ parts h other i
-  hex_parts = parts_same h one other at upto i from
+  -- ---- a hexadecimal float
 
   hex_of : (p q : Parts) (e d b c : Bool) → p ≡ q → e ≡ d → b ≡ c
       → has_digits p && (e || b) ≡ has_digits q && (d || c)
   hex_of p q e d b c k l m = rw (k, l, m) refl
 
-  hex_same : is_hex_float f said one i ≡ is_hex_float f said other i
+  hex_same : is_hex_float f one i ≡ is_hex_float f other i
   unfolding is_hex_float
   hex_same =
-      hex_of _ _ _ _ _ _ hex_parts (marked_same h one other at upto i from)
-      (if_same _ _ _ _ _ _ (stands_point h one other at upto i from)
-      (λ is. ap (λ a. a && is_pointed_hex f.hex_floats) (allows_same h one other at upto i from is))
-      refl)
+      hex_of _ _ _ _ _ _ parts_same marked_same
+      (if_same _ _ _ _ _ _ stands_point
+      (λ is. ap (λ a. a && is_pointed_hex f.hex_floats) (allows_same is)) refl)
 
   bare_of : (w v : List ℕ) (e d : ℕ) → w ≡ v → e ≡ d
-      → length w == 0 && nat_lt i e && not (rule_of said Integer).trailing
-      ≡ length v == 0 && nat_lt i d && not (rule_of said Integer).trailing
+      → length w == 0 && nat_lt i e && not (rule_of word Integer).trailing
+      ≡ length v == 0 && nat_lt i d && not (rule_of word Integer).trailing
   bare_of w v e d k l = rw (k, l) refl
 
-  bare_same : is_bare f said one i ≡ is_bare f said other i
-  bare_same =
-      bare_of _ _ _ _ (whole_same h one other at upto i from) (end_same h one other at upto i from)
+  bare_same : is_bare f one i ≡ is_bare f other i
+  bare_same = bare_of _ _ _ _ whole_same end_same
 
-  pub hex_here_same : is_hex_here f said one i ≡ is_hex_here f said other i
+  pub hex_here_same : is_hex_here f one i ≡ is_hex_here f other i
   unfolding is_hex_here
   hex_here_same = and_same _ _ _ _ (ap not bare_same) (λ is. hex_same)
 
   pub hex_value_same : (format : Format) (negative : Bool)
-      → hex_value f said one i format negative ≡ hex_value f said other i format negative
+      → hex_value f one i format negative ≡ hex_value f other i format negative
   hex_value_same format negative =
       ap (λ (p : Parts). nearest_hex format negative (p.whole ++ p.fraction) (length p.fraction)
-      p.exponent_negative (digits_value 10 p.exponent)) hex_parts
-
-  pub hex_stop_same : hex_stop f said one i ≡ hex_stop f said other i
-  hex_stop_same = stop_same h one other at upto i from
+      p.exponent_negative (digits_value 10 p.exponent)) parts_same

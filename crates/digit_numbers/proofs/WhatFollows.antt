@@ -40,13 +40,13 @@ use Rattle.digit_numbers.specs.Specials.{names_of, same_by, bytes_of, begins, is
 use Rattle.digit_numbers.specs.Specials.{name_end, special_at, special_float}
 use Rattle.digit_numbers.specs.Numbers.{Outcome, is_negative, has_sign, past_sign, zero_here, is_hex_here}
 use Rattle.digit_numbers.specs.Numbers.{parts, digits_stop, has_more_zeros, is_float, hex_value}
-use Rattle.digit_numbers.specs.Numbers.{hex_stop, if_hex, hex_word_at, language}
+use Rattle.digit_numbers.specs.Numbers.{if_hex, hex_word_at, language}
 use Rattle.digit_numbers.specs.Numbers.{hex_word_here, float_here, whole_here, integer_here}
 use Rattle.digit_numbers.specs.Numbers.{plain_at, or_hex, or_special, number_of_at, to_end}
 use Rattle.digit_numbers.specs.declared.number.Number.{Number}
 use Rattle.digit_numbers.proofs.SameNames.{AreSame, Each, Same, last_same, same_from}
 use Rattle.digit_numbers.proofs.SameParts.{ArePartsUpTo, if_same, parts_same, stop_same, zeros_same}
-use Rattle.digit_numbers.proofs.SameParts.{float_same, hex_here_same, hex_value_same, hex_stop_same}
+use Rattle.digit_numbers.proofs.SameParts.{float_same, hex_here_same, hex_value_same, stop_same}
 
 -- ---- a byte that no number has
 
@@ -258,12 +258,12 @@ module _ (f : Form) (one other : List ℕ) (at : ℕ)
     said_same None h k = refl
     said_same (Some said) h k =
         ap (λ b. if b then Some said else None)
-        (hex_here_same f said one other at (hex_parts said h) (i + 2) (k refl))
+        (hex_here_same (hex_form f said) one other at (hex_parts said h) (i + 2) (k refl))
 
     word_said : (o : Option ℕ) → IfSome o IsApart → (is_some o ≡ true → i + 2 ≤ at)
         → IfSome (if_hex f one (i + 2) o) (IsHexWord i)
     word_said None h k = tt
-    word_said (Some said) h k = by (is_hex_here f said one (i + 2))
+    word_said (Some said) h k = by (is_hex_here (hex_form f said) one (i + 2))
       where
         by : (b : Bool) → IfSome (if b then Some said else None) (IsHexWord i)
         by true = record { apart = h; low = k refl }
@@ -483,12 +483,14 @@ module _ (f : Form) (one other : List ℕ) (at : ℕ)
         ∙ ap (stands (is_separator (separator f.integers.decimal)) other) here
 
     hex_here_of : (said : ℕ) (m n : Bool) (x : ℕ) → IsHexWord i said → m ≡ n → i ≡ x
-        → float_to (hex_value f said one (i + 2) format m) (hex_stop f said one (i + 2))
-        ≡ float_to (hex_value f said other (x + 2) format n) (hex_stop f said other (x + 2))
+        → let h = hex_form f said in
+        float_to (hex_value h one (i + 2) format m) (digits_stop h one (i + 2))
+        ≡ float_to (hex_value h other (x + 2) format n) (digits_stop h other (x + 2))
     hex_here_of said m n x hex a e =
-        let value = hex_value_same f said one other at (hex_parts said hex.apart) (i + 2) hex.low
-        format m in
-        let stop = hex_stop_same f said one other at (hex_parts said hex.apart) (i + 2) hex.low in
+        let h = hex_form f said in
+        let same = hex_parts said hex.apart in
+        let value = hex_value_same h one other at same (i + 2) hex.low format m in
+        let stop = stop_same h one other at same (i + 2) hex.low in
         rw (← a, ← e, value, stop) refl
 
     or_hex_same : (o : Option ℕ) → IfSome o (IsHexWord i)

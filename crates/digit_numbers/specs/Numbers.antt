@@ -29,9 +29,8 @@ use Rattle.digit_numbers.specs.declared.number.Number.TheVariants as numbers
 use Rattle.digit_numbers.specs.declared.number.NumberError.{NumberError}
 use Rattle.digit_numbers.specs.declared.number.NumberError.TheVariants as errors
 use Rattle.digit_numbers.specs.Forms.{is_minus_of, is_plus_of, is_barred, is_always_float}
-use Rattle.digit_numbers.specs.Forms.{allows_exponent}
 use Rattle.digit_numbers.specs.Forms.{may_be_float, has_hex, is_pointed_hex, is_always_hex}
-use Rattle.digit_numbers.specs.Forms.{unprefixed, with_hex_only, hex_form}
+use Rattle.digit_numbers.specs.Forms.{allows_exponent, unprefixed, with_hex_only, hex_form}
 use Rattle.digit_numbers.specs.Specials.{special_at, special_float, name_end}
 
 -- a number, where a float is the one that it is in std's word, and where it ends; or why there is
@@ -102,8 +101,7 @@ module _ (f : Form) (text : List ℕ) where
 
     -- where all this ends, and what it is in std's word
     abbrev pub digits_stop : ℕ
-    digits_stop =
-        if has_exponent then exponent_end word text mark mark_at else mark_at
+    digits_stop = if has_exponent then exponent_end word text mark mark_at else mark_at
 
     abbrev pub parts : Parts
     parts = record {
@@ -123,43 +121,34 @@ module _ (f : Form) (text : List ℕ) where
     unfoldable pub is_float : Bool
     is_float = has_digits parts && not has_more_zeros && (has_point || has_exponent)
 
--- ---- a hexadecimal float at a position, after its prefix, such as `1.8p3`, by a word
+    -- ---- the same after the prefix of a hexadecimal float, by its `hex_form`
 
-module _ (f : Form) (said : ℕ) (text : List ℕ) (at : ℕ) where
-  -- digits with a point and an exponent, as far as the form asks for them
-  unfoldable pub is_hex_float : Bool
-  is_hex_float =
-      let h = hex_form f said in
-      has_digits (parts h text at) && (has_exponent h text at
-      || (if stands (is_point f.marks.point) text (whole_end h text at)
-      then allows_point h text at && is_pointed_hex f.hex_floats
-      else is_always_hex f.hex_floats))
+    -- digits with a point and an exponent, as far as the form asks for them: `1.8p3`
+    unfoldable pub is_hex_float : Bool
+    is_hex_float =
+        has_digits parts && (has_exponent
+        || (if stands (is_point f.marks.point) text whole_end
+        then allows_point && is_pointed_hex f.hex_floats else is_always_hex f.hex_floats))
 
-  -- separators without a digit are before its point, and the word drops none after digits
-  abbrev pub is_bare : Bool
-  is_bare =
-      let h = hex_form f said in
-      length (whole_digits h text at) == 0 && nat_lt at (whole_end h text at)
-      && not (rule_of said Integer).trailing
+    -- separators without a digit are before its point, and the word drops none after digits
+    abbrev pub is_bare : Bool
+    is_bare =
+        length whole_digits == 0 && nat_lt at whole_end && not (rule_of word Integer).trailing
 
-  -- digits with a point and an exponent, that begin with a digit or the point
-  unfoldable pub is_hex_here : Bool
-  is_hex_here = not is_bare && is_hex_float
+    -- such a float that begins with a digit or the point
+    unfoldable pub is_hex_here : Bool
+    is_hex_here = not is_bare && is_hex_float
 
-  -- the nearest float, and where it ends
-  abbrev pub hex_value : Format → Bool → Float
-  hex_value format negative =
-      let p = parts (hex_form f said) text at in
-      nearest_hex format negative (p.whole ++ p.fraction) (length p.fraction) p.exponent_negative
-      (digits_value 10 p.exponent)
-
-  abbrev pub hex_stop : ℕ
-  hex_stop = digits_stop (hex_form f said) text at
+    -- the nearest float
+    abbrev pub hex_value : Format → Bool → Float
+    hex_value format negative =
+        nearest_hex format negative (parts.whole ++ parts.fraction) (length parts.fraction)
+        parts.exponent_negative (digits_value 10 parts.exponent)
 
 -- the word of the hexadecimal float at a position, with its prefix, if one is there
 abbrev pub if_hex : Form → List ℕ → ℕ → Option ℕ → Option ℕ
 if_hex f text at None = None
-if_hex f text at (Some said) = if is_hex_here f said text at then Some said else None
+if_hex f text at (Some said) = if is_hex_here (hex_form f said) text at then Some said else None
 
 unfoldable pub hex_word_at : Form → Language → List ℕ → ℕ → Option ℕ
 hex_word_at f l text at =
@@ -229,18 +218,15 @@ module _ (f : Form) (text : List ℕ) (start : ℕ) where
     -- it never begins with a separator
     abbrev pub or_hex : Option ℕ → Outcome
     or_hex (Some said) = Ok (
-      numbers.Float (hex_value f said text (at + 2) format is_minus),
-      hex_stop f said text (at + 2),
+      numbers.Float (hex_value (hex_form f said) text (at + 2) format is_minus),
+      digits_stop (hex_form f said) text (at + 2),
     )
     or_hex None =
         if stands (is_separator (separator (word f text))) text at
         then Err (errors.Empty at) else plain_at
 
     abbrev pub or_special : Option Special → Outcome
-    or_special (Some s) = Ok (
-      numbers.Float (special_float s.value is_minus),
-      name_end f text at s,
-    )
+    or_special (Some s) = Ok (numbers.Float (special_float s.value is_minus), name_end f text at s)
     or_special None = or_hex hex_word_here
 
     -- the number that begins here, and where it ends, or why there is none

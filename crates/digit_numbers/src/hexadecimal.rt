@@ -8,7 +8,7 @@ ghost use Rattle.digit_floats.specs.Hexadecimal.{IsHexadecimal};
 ghost use Rattle.digit_languages.specs.Words.{IsLanguage};
 ghost use Rattle.digit_languages.specs.Literals.{prefix_word};
 ghost use Rattle.digit_numbers.specs.Forms.{IsForm, has_hex, hex_form, with_hex_only};
-ghost use Rattle.digit_numbers.specs.Numbers.{allows_point, digits_stop, exponent, fraction, has_exponent, hex_stop, hex_value, hex_word_at, is_bare, is_hex_here, mark_at, parts};
+ghost use Rattle.digit_numbers.specs.Numbers.{allows_point, digits_stop, exponent, fraction, has_exponent, hex_value, hex_word_at, is_bare, is_hex_here, mark_at, parts};
 ghost use Rattle.lexical_digits.specs.declared.skip.component.Component.TheVariants.{Integer};
 ghost use Rattle.lexical_digits.specs.State.{rule_of};
 ghost use Rattle.digit_numbers.specs.Reads.{IsHexAt};
@@ -63,7 +63,7 @@ fn allows_point(text: &[u8], form: Form, word: u128, mantissa: HexMantissa) -> b
 #[inline(always)]
 fn is_bare(text: &[u8], form: Form, word: u128, mantissa: HexMantissa) -> bool
     requires is { IsHexAt form word text.now mantissa }
-    ensures { result ≡ is_bare form word text.now mantissa.start }
+    ensures { result ≡ is_bare (hex_form form word) text.now mantissa.start }
 {
     mantissa.digits == mantissa.places
         && mantissa.start < mantissa.whole_end
@@ -119,7 +119,7 @@ fn round_alone<F: Float>(
     requires fraction { let h = hex_form form word in fraction h text.now mantissa.start
         ≡ (parts h text.now mantissa.start).fraction }
     ensures value { F.value result
-        ≡ hex_value form word text.now mantissa.start F.format negative }
+        ≡ hex_value (hex_form form word) text.now mantissa.start F.format negative }
     ensures number { NotNan (F.value result) }
 {
     let power = Power {
@@ -145,11 +145,11 @@ fn read_digits<F: Float>(
     requires supported { IsTrue (is_supported word) }
     requires hexadecimal { IsHexadecimal word }
     requires within { at ≤ length text.now }
-    ensures is { MatchOption result (is_hex_here form word text.now at ≡ false)
-        (λ r. is_hex_here form word text.now at ≡ true) }
+    ensures is { MatchOption result (is_hex_here (hex_form form word) text.now at ≡ false)
+        (λ r. is_hex_here (hex_form form word) text.now at ≡ true) }
     ensures value { IfSome result (λ r.
-        F.value r.0 ≡ hex_value form word text.now at F.format negative) }
-    ensures ends { IfSome result (λ r. r.1 ≡ hex_stop form word text.now at) }
+        F.value r.0 ≡ hex_value (hex_form form word) text.now at F.format negative) }
+    ensures ends { IfSome result (λ r. r.1 ≡ digits_stop (hex_form form word) text.now at) }
     ensures number { IfSome result (λ r. NotNan (F.value r.0)) }
     ensures within { IfSome result (λ r. (at < r.1) × (r.1 ≤ length text.now)) }
 {
@@ -192,8 +192,8 @@ pub fn read_hex<F: Float>(
         (λ r. is_some (hex_word_at form language text.now at) ≡ true) }
     ensures reads { IfSome result (λ r. (word : ℕ) →
         hex_word_at form language text.now at ≡ Some word →
-        (F.value r.0 ≡ hex_value form word text.now (at + 2) F.format negative)
-        × (r.1 ≡ hex_stop form word text.now (at + 2))) }
+        (F.value r.0 ≡ hex_value (hex_form form word) text.now (at + 2) F.format negative)
+        × (r.1 ≡ digits_stop (hex_form form word) text.now (at + 2))) }
     ensures number { IfSome result (λ r. NotNan (F.value r.0)) }
     ensures within { IfSome result (λ r. (at < r.1) × (r.1 ≤ length text.now)) }
 {

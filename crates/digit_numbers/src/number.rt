@@ -7,11 +7,11 @@ ghost use Rattle.std.specs.Float.{NotNan};
 ghost use Rattle.lexical_format.specs.Word.{separator};
 ghost use Rattle.lexical_digits.specs.Separators.{is_separator};
 ghost use Rattle.digit_floats.specs.Bytes.{stands, is_point, is_mark};
-ghost use Rattle.digit_numbers.specs.Forms.{IsForm, has_hex, is_always_float, unprefixed};
+ghost use Rattle.digit_numbers.specs.Forms.{IsForm, has_hex, hex_form, is_always_float, unprefixed};
 ghost use Rattle.digit_floats.specs.Parts.{IsShort};
 ghost use Rattle.digit_floats.specs.Hexadecimal.{IsHexadecimal};
 ghost use Rattle.digit_numbers.specs.declared.number.Number.TheVariants.{Integer};
-ghost use Rattle.digit_numbers.specs.Numbers.{past_sign, is_float, special_here, hex_word_here, hex_word_at, hex_value, hex_stop};
+ghost use Rattle.digit_numbers.specs.Numbers.{past_sign, is_float, special_here, hex_word_here, hex_word_at, hex_value, digits_stop};
 ghost use Rattle.digit_numbers.specs.Numbers.{plain_at, number_of_at, to_end};
 ghost use Rattle.digit_languages.specs.Words.{IsLanguage};
 ghost use Rattle.digit_numbers.specs.Reads.{IsMantissaAt, IsSign};
@@ -353,8 +353,8 @@ fn hex_of<F: Float>(
         (λ r. is_some (hex_word_at form language text.now at) ≡ true) }
     ensures reads { IfSome result (λ r. (word : ℕ) →
         hex_word_at form language text.now at ≡ Some word →
-        (F.value r.0 ≡ hex_value form word text.now (at + 2) F.format negative)
-        × (r.1 ≡ hex_stop form word text.now (at + 2))) }
+        (F.value r.0 ≡ hex_value (hex_form form word) text.now (at + 2) F.format negative)
+        × (r.1 ≡ digits_stop (hex_form form word) text.now (at + 2))) }
     ensures number { IfSome result (λ r. NotNan (F.value r.0)) }
     ensures within { IfSome result (λ r. (at < r.1) × (r.1 ≤ length text.now)) }
 {
