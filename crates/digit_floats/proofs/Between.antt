@@ -1,8 +1,8 @@
 -- Digits and those that follow them, as bounds on the whole number.
-use Rattle.std.proofs.Common.{◌≡◌, ℕ, ◌+◌, ◌-◌, ◌*◌, ◌^◌, sym, ap, subst, ◌∙◌, arith, mul_assoc, mul-le-mul_right}
+use Rattle.std.proofs.Common.{◌≡◌, ℕ, ◌+◌, ◌-◌, ◌*◌, ◌^◌, sym, ap, ◌∙◌, arith, mul_assoc, mul-le-mul_right}
 use lib.Pow.{pow-add}
 use Rattle.std.specs.Prelude.{min}
-use Rattle.digit_floats.specs.Near.{IsBetween, IsScaled, IsCutAt}
+use Rattle.digit_floats.specs.Near.{IsScaled, IsCutAt}
 
 module _ (digits cut n up below power : ℕ) where
   pub is_between : power + below ≡ cut + 342 + up → IsCutAt n digits cut
@@ -24,14 +24,3 @@ module _ (digits cut n up below power : ℕ) where
         from = rw (left digits, right) (mul-le-mul_right (U * V) is.from);
         to = rw (left (digits + min cut 1), right) (mul-le-mul_right (U * V) is.to);
       }
-
--- the same number by the longer table
-pub scaled : (num den a b q : ℕ) → IsBetween num den a b q → IsScaled num den a b (q + 54)
-scaled num den a b q between =
-    let up : q - 288 ≡ q + 54 - 342 = omega arith in
-    let down : 288 - q ≡ 342 - (q + 54) = omega arith in
-    record { from = rw (← up, ← down) between.from; to = rw (← up, ← down) between.to }
-
--- no digit was cut off
-pub none_cut : {n value cut : ℕ} → cut ≡ 0 → IsCutAt n value cut → IsCutAt n value 0
-none_cut {n = n} {value = value} e is = subst (λ (k : ℕ). IsCutAt n value k) e is

@@ -11,12 +11,7 @@ pub record IsRow (q t : ℕ) : Type 0 where
   pub top : 2 ^ 63 ≤ t
   pub fits : t < 2 ^ 64
 
--- num / den lies from a to b times 10 ^ (q - 288)
-pub record IsBetween (num den a b q : ℕ) : Type 0 where
-  pub from : a * 10 ^ (q - 288) * den ≤ num * 10 ^ (288 - q)
-  pub to : num * 10 ^ (288 - q) ≤ b * 10 ^ (q - 288) * den
-
--- the same of 10 ^ (q - 342)
+-- num / den lies from a to b times 10 ^ (q - 342)
 pub record IsScaled (num den a b q : ℕ) : Type 0 where
   pub from : a * 10 ^ (q - 342) * den ≤ num * 10 ^ (342 - q)
   pub to : num * 10 ^ (342 - q) ≤ b * 10 ^ (q - 342) * den

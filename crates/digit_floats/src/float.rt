@@ -5,10 +5,8 @@ ghost use Rattle.std.specs.Float as Ieee;
 ghost use Rattle.std.specs.Float.{Format, inf, nan, binary32, binary64};
 ghost use Rattle.std.specs.Float.Ieee.{prec, low, neg, round, units};
 ghost use Rattle.std.specs.Float.Parse.{parse_float as std_float};
-ghost use Rattle.digit_floats.specs.Near.{IsBetween};
 
 use super::exact::{ten_to_f32, ten_to_f64};
-use super::near::nearest_units;
 
 /// `f64` and `f32`.
 pub trait Float: Copy {
@@ -30,16 +28,6 @@ pub trait Float: Copy {
     /// The digits over ten to a power, if both are exact.
     fn over_ten_to(digits: u64, tens: u64) -> Option<Self>
         ensures { IfSome result (λ x. value x ≡ round format false digits (10 ^ tens)) };
-
-    /// The float nearest to all numbers from the digits to the digits and `more`, times
-    /// 10 ^ (power - 288), if one product tells.
-    fn nearest(digits: u64, more: u64, power: u64) -> Option<Self>
-        requires digits { 0 < digits }
-        requires more { (more ≤ 1) × (more * 2 ^ 58 ≤ digits) }
-        requires power { power < 577 }
-        ensures { IfSome result (λ x. (num den : ℕ) → 0 < den
-            → IsBetween num den digits (digits + more) power
-            → value x ≡ round format false num den) };
 
     /// The float with the other sign.
     fn negated(self) -> Self
@@ -97,12 +85,6 @@ impl Float for f64 {
             return None;
         }
         Some(digits as f64 / ten_to_f64(tens))
-    }
-
-    #[inline(always)]
-    fn nearest(digits: u64, more: u64, power: u64) -> Option<f64> {
-        let (count, scale) = nearest_units(digits, more, power + 54, 53, 1074)?;
-        Some(f64::of_units(count, scale as u128))
     }
 
     #[inline(always)]
@@ -166,12 +148,6 @@ impl Float for f32 {
             return None;
         }
         Some(digits as f32 / ten_to_f32(tens))
-    }
-
-    #[inline(always)]
-    fn nearest(digits: u64, more: u64, power: u64) -> Option<f32> {
-        let (count, scale) = nearest_units(digits, more, power + 54, 24, 149)?;
-        Some(f32::of_units(count, scale as u128))
     }
 
     #[inline(always)]

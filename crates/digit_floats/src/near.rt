@@ -1,6 +1,6 @@
 //! A float by one product of its digits with the 64 leading bits of a power of ten.
 
-ghost use Rattle.std.specs.Prelude.{◌≡◌, false, ◌+◌, ◌-◌, ◌*◌, ◌^◌, ◌<◌, ◌≤◌, ℕ, IfSome, if◌then◌else◌};
+ghost use Rattle.std.specs.Prelude.{◌≡◌, false, ◌+◌, ◌-◌, ◌*◌, ◌%◌, ◌^◌, ◌<◌, ◌≤◌, ℕ, IfSome, if◌then◌else◌};
 ghost use Rattle.std.specs.Float.{Format};
 ghost use Rattle.std.specs.Float.Ieee.{prec, low, units, round};
 ghost use Rattle.digit_floats.specs.Near.{IsScaled, IsCutAt};
@@ -39,6 +39,18 @@ fn halves_of(high: u64, precision: u64) -> (u64, u64, u64, u64)
     (halves, rest, unit - rest, top)
 }
 
+/// Whether the lower digits of a product's upper half, one fewer than it may have, are all 0 or all
+/// 1: of 256 products with 53 digits one is so.
+#[inline(always)]
+fn is_at_edge(high: u64, precision: u64) -> bool
+    requires precision { (0 < precision) × (precision ≤ 53) }
+    ensures zeros { result ≡ false → 0 < high % 2 ^ (62 - precision) }
+    ensures ones { result ≡ false → high % 2 ^ (62 - precision) + 1 < 2 ^ (62 - precision) }
+{
+    let unit = 1 << (62 - precision);
+    (high % unit + 1) % unit < 2
+}
+
 /// How many units of the least float above 0, times 2 to a scale, are nearest to all numbers from
 /// the digits to the digits and `more`, times 10 ^ (power - 342), if the product of 128 bits says
 /// it. Its upper digits are kept, one more than the float has, so the last says half a unit. Where
@@ -65,7 +77,8 @@ pub fn nearest_units(
 {
     let (shifted, zeros) = normalized(digits);
     let product = shifted as u128 * row(power) as u128;
-    let (halves, rest, room, top) = halves_of((product >> 64) as u64, precision);
+    let high = (product >> 64) as u64;
+    let (halves, rest, room, top) = halves_of(high, precision);
     let above = scale(power) + least + 126 + top;
     let below = 1200 + precision + zeros;
     // no subnormal and no infinite float: the least scale is 1, and the greatest this bound
@@ -73,12 +86,14 @@ pub fn nearest_units(
     if scale >= 2 * (least + 2 - precision) - 1 {
         return None;
     }
-    if room < 2 + (more << zeros) {
-        return None;
-    }
-    // in the middle between two floats, or just above it
-    if rest == 0 && halves % 2 == 1 && product % (1 << 64) == 0 {
-        return None;
+    if more > 0 || is_at_edge(high, precision) {
+        if room < 2 + (more << zeros) {
+            return None;
+        }
+        // in the middle between two floats, or just above it
+        if rest == 0 && halves % 2 == 1 && product % (1 << 64) == 0 {
+            return None;
+        }
     }
     Some(((halves + 1) / 2, scale + 1))
 }

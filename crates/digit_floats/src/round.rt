@@ -1,6 +1,6 @@
 //! The float nearest to a number that was read.
 
-ghost use Rattle.std.specs.Prelude.{◌≡◌, ◌+◌, ◌*◌, ◌-◌, ◌^◌, ◌++◌, ℕ, min, if◌then◌else◌, IfSome};
+ghost use Rattle.std.specs.Prelude.{◌≡◌, ◌+◌, ◌*◌, ◌-◌, ◌^◌, ◌<◌, ◌++◌, ℕ, min, if◌then◌else◌, IfSome};
 ghost use Rattle.std.specs.Float.{NotNan};
 ghost use Rattle.std.specs.Float.Ieee.{round};
 ghost use Rattle.std.specs.Str.Parse.{digits_value};
@@ -19,6 +19,49 @@ fn zero<F: Float>(negative: bool) -> F
         F.value result ≡ round F.format negative (0 * 10 ^ up) (10 ^ down) }
 {
     signed(negative, F::of_units(0, 0))
+}
+
+/// The float nearest to the digits, of which the last `places` follow the point, times ten to a
+/// power, if one operation or one product tells.
+#[inline(always)]
+fn round_all<F: Float>(
+    negative: bool,
+    digits: u64,
+    places: u64,
+    down: bool,
+    power: u64,
+) -> Option<F>
+    requires places { places < 2 ^ 63 }
+    requires power { power < 2 ^ 32 }
+    ensures { IfSome result (λ x. F.value x ≡ round F.format negative
+        (digits * 10 ^ (if down then 0 else power))
+        (10 ^ (places + (if down then power else 0)))) }
+{
+    if let Some(x) = round_exact::<F>(negative, digits, places, down, power) {
+        return Some(x);
+    }
+    if digits == 0 {
+        return None;
+    }
+    round_from::<F>(negative, digits, 0, places, down, power)
+}
+
+/// [`round_all`] of an exponent that was read.
+#[inline(always)]
+fn round_uncut<F: Float>(negative: bool, digits: u64, places: u64, power: Power) -> Option<F>
+    requires { places < 2 ^ 63 }
+    ensures { IfSome result (λ x. (n : ℕ) → power.value ≡ min n (2 ^ 64 - 1)
+        → F.value x ≡ round F.format negative (digits * 10 ^ (if power.negative then 0 else n))
+        (10 ^ (places + (if power.negative then n else 0)))) }
+{
+    // most numbers have none: for these it is code of its own
+    if power.value == 0 {
+        return round_all::<F>(negative, digits, places, true, 0);
+    }
+    if power.value > 0xffff_ffff {
+        return None;
+    }
+    round_all::<F>(negative, digits, places, power.negative, power.value)
 }
 
 /// The float nearest to the number that integer, fraction and exponent of a text make, with a sign.
@@ -41,28 +84,18 @@ pub fn round_parts<F: Float>(text: &[u8], negative: bool, mantissa: Mantissa, po
     let places = mantissa.places as u64;
     let cut = mantissa.dropped as u64;
     let value = mantissa.value;
-    if power.value <= 0xffff_ffff {
-        if cut == 0 {
-            let exact = round_exact::<F>(negative, value, places, power.negative, power.value);
-            if let Some(x) = exact {
-                return x;
-            }
-            if value > 0 {
-                let down = power.negative;
-                let near = round_from::<F>(negative, value, 0, places, down, power.value);
-                if let Some(x) = near {
-                    return x;
-                }
-            }
-        } else if value > 0 {
-            let near = round_cut::<F>(negative, value, cut, places, power.negative, power.value);
-            if let Some(x) = near {
-                return x;
-            }
+    if cut == 0 {
+        if let Some(x) = round_uncut::<F>(negative, value, places, power) {
+            return x;
         }
-    }
-    if value == 0 && cut == 0 {
-        return zero(negative);
+        if value == 0 {
+            return zero(negative);
+        }
+    } else if value > 0 && power.value <= 0xffff_ffff {
+        let near = round_cut::<F>(negative, value, cut, places, power.negative, power.value);
+        if let Some(x) = near {
+            return x;
+        }
     }
     round_digits::<F>(
         negative,

@@ -69,7 +69,7 @@ fn add_if(value: u64, radix: u32, digit: u32, most: Option<u64>) -> Option<u64>
 }
 
 /// Whether a digit is after a position, and separators between digits are dropped.
-#[inline(always)]
+#[inline]
 #[tactic(auto, unfolding(lexical_digits::specs::Separators::is_digit))]
 pub(super) fn is_inner(text: &[u8], rule: Rule, radix: u32, at: usize) -> bool
     requires within { at < length text.now }
@@ -83,7 +83,7 @@ pub(super) fn is_inner(text: &[u8], rule: Rule, radix: u32, at: usize) -> bool
 
 /// The digit at a position, if one is there, it is at most `most`, and no value is before it.
 /// A digit is no sign.
-#[inline(always)]
+#[inline]
 #[tactic(auto, using(std::proofs::lemmas::Option::gets), unfolding(lexical_format::specs::Digits::digit_value))]
 pub(super) fn first_digit(
     text: &[u8],
