@@ -1,5 +1,5 @@
-//! A word that comes at run time, and is mostly one: code in place for that one, as for a constant
-//! word, and a call for the others.
+//! A word that is known at run time only, and nearly always the same one: code in place for that
+//! one, as for a constant word, and a call for the others.
 
 ghost use Rattle.std.specs.Prelude.{◌≡◌, ◌-◌, ◌^◌, IsTrue};
 ghost use Rattle.lexical_format.specs.Word.{is_supported};

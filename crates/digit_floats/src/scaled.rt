@@ -1,4 +1,4 @@
-//! A decimal number as an integer: so many of its last place.
+//! A decimal number as an integer, in units of its last place.
 
 ghost use Rattle.std.specs.Prelude.{◌≡◌, ◌==◌, ◌+◌, ◌-◌, ◌*◌, ◌^◌, ◌<◌, ◌≤◌, ℕ, true, false, length, filter, take, drop, IfOk, IfSome, Some, Ok, Err, IsTrue, MatchOption, MatchResult};
 ghost use Rattle.std.specs.List.{list_all};
@@ -163,8 +163,8 @@ fn is_exact(text: &[u8], mantissa: Mantissa, places: usize) -> bool
     mantissa.places <= places || are_zeros(&text[mantissa.fraction_start..mantissa.end], places)
 }
 
-/// A value with a digit of a fraction after it, where so many places are left, if the number is
-/// neither too large nor too fine with that digit.
+/// A value with a digit of a fraction after it, if the number is neither too large nor too fine
+/// with that digit, which is the first of `left` places.
 #[tactic(auto, using(crate::proofs::Firsts::tens_grow))]
 fn push_place(value: u128, left: usize, byte: u8, most: u128) -> Option<u128>
     requires digit { is_ascii_digit byte ≡ true }
@@ -226,7 +226,7 @@ fn fault_of(text: &[u8], word: u128, mantissa: Mantissa, places: usize, most: u1
     start + count_fitting(&text[start..mantissa.end], whole, places, most)
 }
 
-/// The decimal number at a position, as so many of its last place, if that is at most `most`:
+/// The decimal number at a position, in units of its last place, if that is at most `most`:
 /// [`read_scaled_from`] of a number whose sign is yours to read. For a `DECIMAL(9, 2)` of SQL
 /// `most` is 999,999,999.
 #[inline]
@@ -282,7 +282,7 @@ fn read_sign<T: Integer>(text: &[u8], start: usize) -> (bool, usize)
     }
 }
 
-/// The decimal number that begins at `start`, as so many of its last place: times ten to the power
+/// The decimal number that begins at `start`, in units of its last place: times ten to the power
 /// `places`, exactly, as an integer of a type; and where it ends. It is an optional `+` or `-` if
 /// the type has a sign, and then integer and fraction, with `point` between them, of any number of
 /// digits; one of the two may have none. An exponent isn't read. Requires that `start` is within
@@ -318,7 +318,7 @@ pub fn read_scaled_from<T: Integer>(
     Ok((T::of_magnitude(is_negative, magnitude), end))
 }
 
-/// The decimal number that a text is, as so many of its last place: [`read_scaled_from`] of a whole
+/// The decimal number that a text is, in units of its last place: [`read_scaled_from`] of a whole
 /// text.
 ///
 /// ```text

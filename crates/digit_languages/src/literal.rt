@@ -7,7 +7,7 @@ ghost use Rattle.digit_languages.specs.Words.{IsLanguage};
 ghost use Rattle.digit_languages.specs.Literals.{has_prefix, prefix_word, plain_word, refuses, literal_at, typed, language_error, position, message};
 
 use super::language::{FirstZero, Language};
-use digit_literals::{Integer, LiteralError, read_wide_from};
+use digit_literals::{Integer, LiteralError, has_byte, read_wide_from};
 use std::error::Error;
 use std::fmt;
 
@@ -74,17 +74,6 @@ impl fmt::Display for LanguageError {
 }
 
 impl Error for LanguageError {}
-
-/// Whether a byte is at a position.
-#[inline(always)]
-fn has_byte(text: &[u8], at: usize, byte: u8) -> bool
-    ensures { result ≡ has_byte text.now at byte }
-{
-    match text.get(at) {
-        Some(there) => *there == byte,
-        None => false,
-    }
-}
 
 /// Whether the letter of a prefix, in lower case, follows a `0` at the start.
 #[inline(always)]

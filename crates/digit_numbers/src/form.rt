@@ -44,8 +44,8 @@ pub struct Form {
     pub hex_floats: HexFloats,
 }
 
-/// Values that have a name. Where a name is, after any sign, it is read before digits: the longest
-/// one, and of several with the same bytes the first.
+/// Values that have a name. A name, after any sign, is read before digits: the longest one, and of
+/// several with the same bytes the first.
 ///
 /// The bytes of a name are those that the special component of the form's decimal word keeps. So
 /// separators in it are dropped if that word has the special flag.

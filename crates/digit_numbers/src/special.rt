@@ -72,8 +72,8 @@ fn has_same(text: &[u8], specials: Option<Specials>, at: usize, wanted: u8) -> b
     }
 }
 
-/// Where a name ends that is at a position, if it is there. A name without bytes ends at the first
-/// byte that is kept.
+/// The end of a name, if it is at this position. A name without bytes ends at the first byte that
+/// is kept.
 #[inline(always)]
 fn end_of(text: &[u8], form: Form, at: usize, name: &[u8]) -> Option<usize>
     requires form { IsForm form }
@@ -100,7 +100,7 @@ fn end_of(text: &[u8], form: Form, at: usize, name: &[u8]) -> Option<usize>
     Some(end)
 }
 
-/// Where a special value ends that is at a position, if it is there, and a sign may be before it.
+/// The end of a special value, if it is at this position, and its sign may be before it.
 #[inline(always)]
 #[tactic(auto, unfolding(crate::specs::Specials::is_here))]
 fn special_end(

@@ -1,5 +1,5 @@
-//! Dates of ISO 8601, such as `2026-11-25`: fields of so many digits, and whether the year has that
-//! day. A text that has no date is none.
+//! Dates of ISO 8601, such as `2026-11-25`: fields of two or four digits, and whether the year has
+//! that day. A text that has no date is none.
 //!
 //! Proof by hand: 4 lines, that a text has the fields of one date only.
 

@@ -1,5 +1,5 @@
 //! A JSON array of numbers, read into a slice, with both halves of a contract: `Ok` is right, and
-//! an error means that the text is no array of at most so many numbers.
+//! an error means that the text is no array of numbers for which the slice has room.
 //!
 //! Proof by hand: none.
 
