@@ -1,5 +1,5 @@
 -- The decimal number at a position of a text.
-use Rattle.std.specs.Prelude.{ℕ, ◌-◌, if◌then◌else◌, List, ◌++◌, length, take, Result, ℤ, pos, neg_ℤ, ◌+ℤ◌, ◌-ℤ◌}
+use Rattle.std.specs.Prelude.{ℕ, ◌-◌, Bool, if◌then◌else◌, List, ◌++◌, length, take, Result, ℤ, pos, neg_ℤ, ◌+ℤ◌, ◌-ℤ◌}
 use Rattle.std.specs.Int.{saturate_signed, w64}
 use Rattle.std.specs.Str.Parse.{digits_value}
 use Rattle.lexical_digits.specs.declared.skip.component.Component.TheVariants.{Integer}
@@ -10,29 +10,37 @@ use Rattle.digit_floats.specs.declared.parts.Marks.{Marks}
 use Rattle.digit_floats.specs.Bytes.{stands, is_minus}
 use Rattle.digit_floats.specs.Float.{past_sign, digits_end, digits_from, fraction_digits, mantissa_end, exponent_digits, exponent_negative, end_at, with_end}
 
+-- a decimal number of digits before and after a point and of an exponent: its first 19 significant
+-- digits, and a power of ten
+abbrev pub decimal_of : Bool → List ℕ → List ℕ → ℤ → Decimal
+decimal_of negative whole fraction exponent =
+    let digits = significant (whole ++ fraction) in
+    let more = length digits - 19 in
+    record {
+      negative = negative;
+      value = digits_value 10 (take 19 digits);
+      dropped = more;
+      exponent = saturate_signed w64 (exponent +ℤ (pos more -ℤ pos (length fraction)));
+    }
+
+-- an exponent with a minus, or without one
+abbrev pub signed_exponent : Bool → ℕ → ℤ
+signed_exponent negative n = if negative then neg_ℤ (pos n) else pos n
+
 module _ (word : ℕ) (text : List ℕ) (marks : Marks) where
   -- the exponent that is written after a mantissa, 0 without a mark
   abbrev pub exponent_at : ℕ → ℤ
   exponent_at at =
-      let n = digits_value 10 (exponent_digits word text marks.exponent at) in
-      if exponent_negative word text marks.exponent at then neg_ℤ (pos n) else pos n
+      signed_exponent (exponent_negative word text marks.exponent at)
+      (digits_value 10 (exponent_digits word text marks.exponent at))
 
-  -- the number at a position, with a sign: its first 19 significant digits, and a power of ten
+  -- the number at a position, with a sign
   abbrev pub decimal_at : ℕ → Decimal
   decimal_at at =
       let start = past_sign text at in
-      let fraction =
-      fraction_digits word text marks.point (digits_end word text Integer start) in
-      let digits = significant (digits_from word text Integer start ++ fraction) in
-      let more = length digits - 19 in
-      record {
-        negative = stands is_minus text at;
-        value = digits_value 10 (take 19 digits);
-        dropped = more;
-        exponent = saturate_signed w64
-            (exponent_at (mantissa_end word text marks.point start)
-            +ℤ (pos more -ℤ pos (length fraction)));
-      }
+      decimal_of (stands is_minus text at) (digits_from word text Integer start)
+      (fraction_digits word text marks.point (digits_end word text Integer start))
+      (exponent_at (mantissa_end word text marks.point start))
 
   -- the number and where it ends, or why there is none
   abbrev pub read_decimal_at : ℕ → Result (Decimal × ℕ) FloatError

@@ -1,13 +1,14 @@
 //! The decimal number at a position of a text.
 
-ghost use Rattle.std.specs.Prelude.{◌≡◌, ◌<◌, ◌≤◌, ◌^◌, ◌-◌, ℕ, min, length, if◌then◌else◌, pos, neg_ℤ, ◌+ℤ◌, ◌-ℤ◌, IsTrue, IfOk, Ok, Err, MatchResult};
+ghost use Rattle.std.specs.Prelude.{◌≡◌, ◌<◌, ◌≤◌, ◌^◌, ◌-◌, ℕ, min, length, pos, ◌+ℤ◌, ◌-ℤ◌, IsTrue, IfOk, Ok, Err, MatchResult};
 ghost use Rattle.std.specs.Int.{saturate_signed, w64};
 ghost use Rattle.lexical_format.specs.Word.{is_supported};
-ghost use Rattle.digit_floats.specs.Decimals.{read_decimal_at};
+ghost use Rattle.digit_floats.specs.Decimals.{decimal_of, signed_exponent, read_decimal_at};
 ghost use Rattle.digit_floats.specs.Float.{IsDecimal, plain_marks};
+ghost use Rattle.digit_floats.specs.Parts.{IsMantissa, integer_of, fraction_of};
 
 use super::error::FloatError;
-use super::parts::{Marks, Power, read_parts};
+use super::parts::{Mantissa, Marks, Power, read_parts};
 
 /// A decimal number: about `value` times ten to the power `exponent`, and exactly that if no digit
 /// was dropped.
@@ -31,13 +32,30 @@ fn exponent_of(power: Power, dropped: usize, places: usize) -> i64
     requires dropped { dropped < 2 ^ 63 }
     requires places { places < 2 ^ 63 }
     ensures { (n : ℕ) → power.value ≡ min n (2 ^ 64 - 1) → result ≡ saturate_signed w64
-        ((if power.negative then neg_ℤ (pos n) else pos n) +ℤ (pos dropped -ℤ pos places)) }
+        (signed_exponent power.negative n +ℤ (pos dropped -ℤ pos places)) }
 {
     let more = dropped as i64 - places as i64;
     if power.negative {
         more.saturating_sub_unsigned(power.value)
     } else {
         more.saturating_add_unsigned(power.value)
+    }
+}
+
+/// The decimal number of a mantissa of a text and a power, before it is rounded: what
+/// [`round_parts`](crate::round_parts) rounds.
+#[inline(always)]
+pub fn decimal_of(text: &[u8], negative: bool, mantissa: Mantissa, power: Power) -> Decimal
+    requires { IsMantissa text.now mantissa }
+    ensures { (n : ℕ) → power.value ≡ min n (2 ^ 64 - 1) → result
+        ≡ decimal_of negative (integer_of text.now mantissa) (fraction_of text.now mantissa)
+        (signed_exponent power.negative n) }
+{
+    Decimal {
+        negative,
+        value: mantissa.value,
+        dropped: mantissa.dropped,
+        exponent: exponent_of(power, mantissa.dropped, mantissa.places),
     }
 }
 
@@ -64,12 +82,6 @@ pub fn read_decimal_from(
     ensures within { IfOk result (λ r. (start < r.1) × (r.1 ≤ length text.now)) }
 {
     let parts = read_parts(text, word, Marks::PLAIN, start)?;
-    let mantissa = parts.mantissa;
-    let number = Decimal {
-        negative: parts.negative,
-        value: mantissa.value,
-        dropped: mantissa.dropped,
-        exponent: exponent_of(parts.power, mantissa.dropped, mantissa.places),
-    };
+    let number = decimal_of(text, parts.negative, parts.mantissa, parts.power);
     Ok((number, parts.power.end))
 }

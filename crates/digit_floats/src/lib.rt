@@ -18,7 +18,7 @@ mod round;
 mod scaled;
 
 pub use self::binary::round_integer;
-pub use self::decimal::{Decimal, read_decimal_from};
+pub use self::decimal::{Decimal, decimal_of, read_decimal_from};
 pub use self::error::FloatError;
 pub use self::float::Float;
 pub use self::hexadecimal::{HexMantissa, read_hex_float_from, read_hex_mantissa, round_hex};

@@ -1,4 +1,5 @@
 pub mod Alone
+pub mod Decimals
 pub mod Digits
 pub mod Few
 pub mod Json

@@ -1,3 +1,4 @@
+pub mod Decimals
 pub mod Follows
 pub mod Forms
 pub mod Json

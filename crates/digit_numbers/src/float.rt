@@ -154,7 +154,7 @@ fn no_power(text: &[u8], form: Form, mantissa: Mantissa) -> Power
 /// float.
 #[inline(always)]
 #[tactic(auto, using(crate::proofs::Digits::floats))]
-fn float_power(text: &[u8], form: Form, mantissa: Mantissa) -> Option<Power>
+pub fn float_power(text: &[u8], form: Form, mantissa: Mantissa) -> Option<Power>
     requires form { IsForm form }
     requires is { IsMantissaAt form text.now mantissa }
     ensures is { MatchOption result (is_float form text.now mantissa.start ≡ false)
@@ -450,7 +450,7 @@ fn other_byte(text: &[u8], at: usize) -> u8
 /// The digits before a point.
 #[inline(always)]
 #[tactic(auto, using(std::proofs::lemmas::List::nil_from_length, crate::proofs::Alone::no_fraction))]
-fn whole_of(text: &[u8], word: u128, mantissa: Mantissa) -> Mantissa
+pub fn whole_of(text: &[u8], word: u128, mantissa: Mantissa) -> Mantissa
     requires supported { IsTrue (is_supported word) }
     requires is { IsWholeOf word text.now mantissa }
     ensures is { IsMantissa text.now result }

@@ -1,6 +1,7 @@
 //! A number as a language or a data format writes it: an integer or a float, and where it ends.
 #![tactic(auto)]
 
+mod decimal;
 mod float;
 mod form;
 pub mod forms;
@@ -12,6 +13,7 @@ pub mod names;
 mod number;
 mod special;
 
+pub use self::decimal::read_decimal_of;
 pub use self::form::{
     AfterPoint, Exponents, Form, HexFloats, NameSign, Signs, Special, SpecialValue, Specials,
     Whole, is_form,

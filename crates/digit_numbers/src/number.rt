@@ -135,17 +135,17 @@ impl NumberError {
 
 /// A sign.
 #[derive(Clone, Copy)]
-struct Sign {
-    is_there: bool,
-    is_minus: bool,
+pub struct Sign {
+    pub is_there: bool,
+    pub is_minus: bool,
     /// The position after it.
-    end: usize,
+    pub end: usize,
 }
 
 /// The sign at a start, if the form has one there.
 #[inline(always)]
 #[tactic(auto, unfolding(crate::specs::Numbers::past_sign))]
-fn read_sign(text: &[u8], form: Form, start: usize) -> Sign
+pub fn read_sign(text: &[u8], form: Form, start: usize) -> Sign
     requires { start ≤ length text.now }
     ensures { IsSign form text.now start result }
 {
@@ -168,7 +168,7 @@ fn read_sign(text: &[u8], form: Form, start: usize) -> Sign
 
 /// The form's integers after a sign, or without one.
 #[inline(always)]
-fn language_of(form: Form, is_signed: bool) -> Language
+pub fn language_of(form: Form, is_signed: bool) -> Language
     requires { IsForm form }
     ensures is { result ≡ (if is_signed && not form.signed_prefix
         then unprefixed form.integers else form.integers) }
@@ -186,7 +186,7 @@ fn language_of(form: Form, is_signed: bool) -> Language
 
 /// The digits of a number at a position, after any sign.
 #[inline(always)]
-fn read_digits(text: &[u8], form: Form, at: usize) -> Mantissa
+pub fn read_digits(text: &[u8], form: Form, at: usize) -> Mantissa
     requires form { IsForm form }
     requires within { at ≤ length text.now }
     ensures is { IsMantissaAt form text.now result }
@@ -314,7 +314,7 @@ fn special_in(
 /// The special value of a form at a position, if the form has any.
 #[inline(always)]
 #[tactic(auto, unfolding(crate::specs::Specials::special_at))]
-fn special_of(
+pub fn special_of(
     text: &[u8],
     form: Form,
     at: usize,
@@ -367,7 +367,7 @@ fn hex_of<F: Float>(
 /// Whether the separator of a word is at a position.
 #[inline(always)]
 #[tactic(auto, unfolding(lexical_digits::specs::Separators::is_separator))]
-fn has_separator(text: &[u8], word: u128, at: usize) -> bool
+pub fn has_separator(text: &[u8], word: u128, at: usize) -> bool
     ensures { result ≡ stands (is_separator (separator word)) text.now at }
 {
     let separator = NumberFormat::new(word).digit_separator();

@@ -6,10 +6,10 @@
 #![tactic(auto)]
 
 pub use digit_floats::{
-    Decimal, Float, FloatError, HexMantissa, Mantissa, Marks, Power, ScaledError, parse_float,
-    parse_float_from, parse_scaled, read_decimal_from, read_exponent, read_float, read_float_from,
-    read_float_list, read_hex_float_from, read_hex_mantissa, read_mantissa, read_scaled_from,
-    read_scaled_up_to, round_hex, round_integer, round_parts,
+    Decimal, Float, FloatError, HexMantissa, Mantissa, Marks, Power, ScaledError, decimal_of,
+    parse_float, parse_float_from, parse_scaled, read_decimal_from, read_exponent, read_float,
+    read_float_from, read_float_list, read_hex_float_from, read_hex_mantissa, read_mantissa,
+    read_scaled_from, read_scaled_up_to, round_hex, round_integer, round_parts,
 };
 pub use digit_languages::{
     FirstZero, Language, LanguageError, Literal, is_language, languages, prefix_word, read_literal,
@@ -24,7 +24,8 @@ pub use digit_literals::{
 };
 pub use digit_numbers::{
     AfterPoint, Exponents, Form, HexFloats, Number, NumberError, Signs, Special, SpecialValue,
-    Specials, Whole, forms, is_form, names, parse_number_of, read_list_of, read_number_of,
+    Specials, Whole, forms, is_form, names, parse_number_of, read_decimal_of, read_list_of,
+    read_number_of,
 };
 pub use lexical_digits::ops::ByteSet;
 pub use lexical_digits::skip::{Component, Rule};

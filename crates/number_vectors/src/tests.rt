@@ -5,6 +5,7 @@ ghost use Rattle.std.specs.Prelude.{◌≡◌};
 ghost use Rattle.lexical_digits.specs.State.{start};
 
 mod bounds;
+mod decimals;
 mod every_byte;
 mod floats;
 mod forms;
