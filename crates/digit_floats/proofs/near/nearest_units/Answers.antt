@@ -73,16 +73,18 @@ returns-clause-is c f P L num den D b =
     let unit : ℕ = 2 ^ (62 - p) in
     let edge : 0 < high % unit → high % unit + 1 < unit → (0 < h.result.1) × (2 ≤ h.result.2) =
     λ zeros ones. inside high unit zeros ones v (2 ^ h.result.3) _ _
-        (h.ensures.parts ∙ ap (λ u. v * u + h.result.1) (pow-add 2 (62 - p) h.result.3))
-        (h.ensures.room ∙ pow-add 2 (62 - p) h.result.3) in
+    (h.ensures.parts ∙ ap (λ u. v * u + h.result.1) (pow-add 2 (62 - p) h.result.3))
+    (h.ensures.room ∙ pow-add 2 (62 - p) h.result.3) in
     let wide : 2 + more * 2 ^ z ≤ h.result.2 =
     elim c.if-more-gt0.branch [
       | then-more-gt0+else-room-more+else-rest-eq0 w ↦
           omega (arith, w.if-room-more.false, once more z c.requires.more n.ensures.top.1)
-      | else-more-gt0+else-is_at_edge w ↦ omega
-          (arith, none more z (omega (arith, w.if-more-gt0.false)),
-          (edge (w.is_at_edge.ensures.zeros w.if-is_at_edge.false)
-          (w.is_at_edge.ensures.ones w.if-is_at_edge.false)).1)
+      | else-more-gt0+else-is_at_edge w ↦ omega (
+        arith,
+        none more z (omega (arith, w.if-more-gt0.false)),
+        (edge (w.is_at_edge.ensures.zeros w.if-is_at_edge.false)
+            (w.is_at_edge.ensures.ones w.if-is_at_edge.false)).1,
+      )
     ] in
     let places : 64 + d + power_scale q + low f ≡ e + z + 1200 =
     omega (
