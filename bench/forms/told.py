@@ -55,7 +55,6 @@ OWN = {
     "D": [("a first 0", r"0[0-9_]+.*"),
           ("a hexadecimal float without digits", r"0[xX][_.]*[pP].*")],
     "CSHARP": [("a separator, by Mono's compiler", r".*_.*"),
-               (OUT_OF_RANGE, r".*[eE]\+?[0-9]{3,}"),  # told before what is beside it
                ("a long binary integer", r"0[bB][01]{64,}")],
     "SCALA": [("separators, before Scala 2.13", r".*_.*")],
     "MYSQL": [("a string of bytes", r"0[xb].*"), ("more than 65 digits", r"[0-9.]{66,}")],

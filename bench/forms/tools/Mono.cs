@@ -53,13 +53,16 @@ class Reader {
             new SeekableStreamReader(bytes, Encoding.ASCII, session.StreamReaderBuffer);
         Tokenizer tokens = new Tokenizer(reader, source, session, report);
         bool isOne = !Suffix.IsMatch(text);
+        bool isFirst = true;
         object value;
         try {
             isOne = isOne && tokens.token() == Token("LITERAL");
             value = tokens.Value;
+            isFirst = false;
             isOne = isOne && tokens.token() == Token("EOF") && counter.Count == 0;
         } catch (Exception error) {
-            return error.Message.Contains("outside the range") ? "f?" : "-";
+            // of the first token, not of what follows it
+            return isFirst && error.Message.Contains("outside the range") ? "f?" : "-";
         }
         if (!isOne)
             return "-";
