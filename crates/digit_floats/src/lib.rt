@@ -28,5 +28,5 @@ pub use self::parts::{
     read_short_whole,
 };
 pub use self::read::{parse_float, parse_float_from, read_float, read_float_from};
-pub use self::round::{round_few, round_parts};
+pub use self::round::{round_few, round_few_with, round_parts};
 pub use self::scaled::{ScaledError, parse_scaled, read_scaled_from, read_scaled_up_to};

@@ -117,7 +117,7 @@ fn nearest<F: Float>(digits: u64, more: u64, power: u64) -> Option<F>
 /// The float nearest to all numbers from the digits to the digits and one, if any were cut off
 /// behind them, of which the last `places` follow the point, times ten to a power, if one product
 /// tells.
-#[inline(always)]
+#[inline]
 #[tactic(auto, using(crate::proofs::Between::is_between, crate::proofs::Tens::ten_pos))]
 pub fn round_from<F: Float>(
     negative: bool,

@@ -106,6 +106,39 @@ pub fn round_parts<F: Float>(text: &[u8], negative: bool, mantissa: Mantissa, po
     )
 }
 
+/// [`round_parts`] of a mantissa of which no digits were dropped, if one multiplication or division
+/// tells. It is small, so that numbers of a form with an exponent are read in place (the row `z:
+/// JSON, 1 to 3 digits, an exponent`).
+#[inline(always)]
+pub fn round_few_with<F: Float>(
+    text: &[u8],
+    negative: bool,
+    mantissa: Mantissa,
+    power: Power,
+) -> Option<F>
+    requires is { IsMantissa text.now mantissa }
+    requires few { mantissa.dropped ≡ 0 }
+    ensures value { IfSome result (λ x. (n : ℕ) → power.value ≡ min n (2 ^ 64 - 1)
+        → F.value x ≡ round F.format negative
+        (digits_value 10 (integer_of text.now mantissa ++ fraction_of text.now mantissa)
+        * 10 ^ (if power.negative then 0 else n))
+        (10 ^ (mantissa.places + (if power.negative then n else 0)))) }
+    ensures no_nan { IfSome result (λ x. NotNan (F.value x)) }
+{
+    if power.value > 0xffff_ffff {
+        return None;
+    }
+    let places = mantissa.places as u64;
+    let x: F = round_exact(
+        negative,
+        mantissa.value,
+        places,
+        power.negative,
+        power.value,
+    )?;
+    Some(x)
+}
+
 /// [`round_parts`] of a mantissa with few digits that no exponent follows, if one division or one
 /// product tells. It is small.
 #[inline(always)]

@@ -21,7 +21,7 @@ use super::form::Form;
 use super::integer::is_zero;
 use digit_floats::{
     Float, Mantissa, Marks, Power, read_exponent, read_mantissa, read_short_exponent,
-    read_short_fraction, round_few, round_parts,
+    read_short_fraction, round_few, round_few_with, round_parts,
 };
 
 /// Whether a byte is at a position.
@@ -238,9 +238,29 @@ fn long_power_at(text: &[u8], word: u128, at: usize, mark: u8) -> Option<Power>
     }
 }
 
-/// The exponent at a position, which is 0 without a mark, if digits follow any mark.
+/// The exponent whose mark is at a position, if few digits follow it.
 #[inline(always)]
 #[tactic(auto, using(std::proofs::lemmas::Option::gets))]
+fn short_power_at(text: &[u8], word: u128, at: usize, mark: u8) -> Option<Power>
+    requires supported { IsTrue (is_supported word) }
+    requires decimal { exponent_radix word ≡ 10 }
+    requires within { at ≤ length text.now }
+    ensures value { IfSome result (λ p.
+        p.value ≡ min (digits_value 10 (exponent_digits word text.now mark at)) (2 ^ 64 - 1)) }
+    ensures negative { IfSome result (λ p. p.negative ≡ exponent_negative word text.now mark at) }
+    ensures end { IfSome result (λ p. p.end ≡ exponent_end word text.now mark at) }
+    ensures within { IfSome result (λ p. (at ≤ p.end) × (p.end ≤ length text.now)) }
+    ensures some { IfSome result (λ _. 0 < length (exponent_digits word text.now mark at)) }
+{
+    if at < text.len() && has_mark(text, at, mark) {
+        read_short_exponent(text, word, at, mark)
+    } else {
+        None
+    }
+}
+
+/// The exponent at a position, which is 0 without a mark, if digits follow any mark.
+#[inline(always)]
 fn power_at(text: &[u8], word: u128, at: usize, mark: u8) -> Option<Power>
     requires supported { IsTrue (is_supported word) }
     requires decimal { exponent_radix word ≡ 10 }
@@ -253,10 +273,8 @@ fn power_at(text: &[u8], word: u128, at: usize, mark: u8) -> Option<Power>
     ensures some { IfSome result (λ _. stands (is_mark mark) text.now at ≡ true
         → 0 < length (exponent_digits word text.now mark at)) }
 {
-    if at < text.len() && has_mark(text, at, mark) {
-        if let Some(power) = read_short_exponent(text, word, at, mark) {
-            return Some(power);
-        }
+    if let Some(power) = short_power_at(text, word, at, mark) {
+        return Some(power);
     }
     long_power_at(text, word, at, mark)
 }
@@ -288,11 +306,94 @@ fn read_powered<F: Float>(
     Some((x, power.end))
 }
 
-/// The float of a mantissa, if a fraction follows its point, or else a mark follows it, and digits
-/// follow any mark. What the call of [`read_powered`] takes and answers in memory belongs to this
-/// function, so it is set only where that is called.
+/// [`read_powered`], whose mantissa and answer in memory belong to this function, so they are set
+/// only where that is called.
 #[inline(always)]
-fn read_apart<F: Float>(
+fn read_powered_apart<F: Float>(
+    text: &[u8],
+    word: u128,
+    marks: Marks,
+    negative: bool,
+    mantissa: Mantissa,
+) -> Option<(F, usize)>
+    requires supported { IsTrue (is_supported word) }
+    requires decimal { IsDecimal word }
+    requires is { IsMantissaOf word marks.point text.now mantissa }
+    ensures value { IfSome result (λ r. F.value r.0
+        ≡ nearest_float F.format negative (parts_at word text.now marks mantissa.start)) }
+    ensures number { IfSome result (λ r. NotNan (F.value r.0)) }
+    ensures ends { IfSome result (λ r.
+        r.1 ≡ exponent_end word text.now marks.exponent mantissa.end) }
+    ensures some { IfSome result (λ _. stands (is_mark marks.exponent) text.now mantissa.end ≡ true
+        → 0 < length (exponent_digits word text.now marks.exponent mantissa.end)) }
+    ensures within { IfSome result (λ r. (mantissa.end ≤ r.1) × (r.1 ≤ length text.now)) }
+{
+    match read_powered::<F>(text, word, marks, negative, mantissa) {
+        Some((x, end)) => Some((x, end)),
+        None => None,
+    }
+}
+
+/// [`read_powered`] where few digits follow a mark, and one multiplication or division tells. It is
+/// only for speed (the rows `z: JSON, 1 to 3 digits, an exponent`).
+#[inline(always)]
+fn read_few_powered<F: Float>(
+    text: &[u8],
+    word: u128,
+    marks: Marks,
+    negative: bool,
+    mantissa: Mantissa,
+) -> Option<(F, usize)>
+    requires supported { IsTrue (is_supported word) }
+    requires decimal { IsDecimal word }
+    requires is { IsMantissaOf word marks.point text.now mantissa }
+    requires few { mantissa.dropped ≡ 0 }
+    ensures value { IfSome result (λ r. F.value r.0
+        ≡ nearest_float F.format negative (parts_at word text.now marks mantissa.start)) }
+    ensures number { IfSome result (λ r. NotNan (F.value r.0)) }
+    ensures ends { IfSome result (λ r.
+        r.1 ≡ exponent_end word text.now marks.exponent mantissa.end) }
+    ensures some { IfSome result (λ _. stands (is_mark marks.exponent) text.now mantissa.end ≡ true
+        → 0 < length (exponent_digits word text.now marks.exponent mantissa.end)) }
+    ensures within { IfSome result (λ r. (mantissa.end ≤ r.1) × (r.1 ≤ length text.now)) }
+{
+    let power = short_power_at(text, word, mantissa.end, marks.exponent)?;
+    let x = round_few_with::<F>(text, negative, mantissa, power)?;
+    Some((x, power.end))
+}
+
+/// [`read_powered`], in place if it is short.
+#[inline(always)]
+fn read_any_powered<F: Float>(
+    text: &[u8],
+    word: u128,
+    marks: Marks,
+    negative: bool,
+    mantissa: Mantissa,
+) -> Option<(F, usize)>
+    requires supported { IsTrue (is_supported word) }
+    requires decimal { IsDecimal word }
+    requires is { IsMantissaOf word marks.point text.now mantissa }
+    requires few { mantissa.dropped ≡ 0 }
+    ensures value { IfSome result (λ r. F.value r.0
+        ≡ nearest_float F.format negative (parts_at word text.now marks mantissa.start)) }
+    ensures number { IfSome result (λ r. NotNan (F.value r.0)) }
+    ensures ends { IfSome result (λ r.
+        r.1 ≡ exponent_end word text.now marks.exponent mantissa.end) }
+    ensures some { IfSome result (λ _. stands (is_mark marks.exponent) text.now mantissa.end ≡ true
+        → 0 < length (exponent_digits word text.now marks.exponent mantissa.end)) }
+    ensures within { IfSome result (λ r. (mantissa.end ≤ r.1) × (r.1 ≤ length text.now)) }
+{
+    if let Some((x, end)) = read_few_powered::<F>(text, word, marks, negative, mantissa) {
+        return Some((x, end));
+    }
+    read_powered_apart::<F>(text, word, marks, negative, mantissa)
+}
+
+/// The float of a mantissa, if a fraction follows its point, or else a mark follows it, and digits
+/// follow any mark.
+#[inline(always)]
+fn read_marked<F: Float>(
     text: &[u8],
     form: Form,
     negative: bool,
@@ -308,12 +409,14 @@ fn read_apart<F: Float>(
     requires marked { stands (is_point form.marks.point) text.now mantissa.whole_end ≡ false
         → stands (is_mark form.marks.exponent) text.now mantissa.end ≡ true }
     requires exponents { allows_exponent form.exponents (nat_lt 0 mantissa.places) ≡ true }
+    requires few { mantissa.dropped ≡ 0 }
     ensures is { IfSome result (λ r.
         IsFloatAt form text.now mantissa.start negative F.format (F.value r.0) r.1) }
     ensures number { IfSome result (λ r. NotNan (F.value r.0)) }
     ensures within { IfSome result (λ r. (mantissa.end ≤ r.1) × (r.1 ≤ length text.now)) }
 {
-    match read_powered::<F>(text, form.integers.decimal, form.marks, negative, mantissa) {
+    let word = form.integers.decimal;
+    match read_any_powered::<F>(text, word, form.marks, negative, mantissa) {
         Some((x, end)) => Some((x, end)),
         None => None,
     }
@@ -357,7 +460,7 @@ fn round_short<F: Float>(text: &[u8], form: Form, negative: bool, mantissa: Mant
 }
 
 /// Whether more digits follow a first `0`, which the form refuses: of the digits before a point.
-#[inline(always)]
+#[inline]
 pub fn has_short_zeros(text: &[u8], form: Form, whole: Mantissa) -> bool
     requires is { IsShort form.integers.decimal text.now whole }
     ensures { result ≡ has_more_zeros form text.now whole.start }
@@ -401,11 +504,11 @@ pub fn read_short_float<F: Float>(
     if !form.exponents.allow(has_fraction) {
         return None;
     }
-    read_apart::<F>(text, form, negative, mantissa)
+    read_marked::<F>(text, form, negative, mantissa)
 }
 
 /// The float that few digits are by themselves, if one division tells.
-#[inline(always)]
+#[inline]
 pub fn round_short_whole<F: Float>(
     text: &[u8],
     word: u128,

@@ -25,7 +25,7 @@ use super::float::{
 use super::form::{Form, Special};
 use super::hexadecimal::read_hex;
 use super::integer::{is_zero, read_few, read_integer, unprefixed};
-use super::special::read_special;
+use super::special::{may_begin, read_special};
 use digit_floats::{Float, Mantissa, read_mantissa, read_short_whole, round_integer};
 use digit_languages::{Language, LanguageError, Literal};
 use digit_literals::Integer;
@@ -329,8 +329,10 @@ pub fn special_of(
     ensures within { IfSome result (λ r. (at < r.1) × (r.1 ≤ length text.now)) }
 {
     match form.specials {
-        Some(_) => special_in(text, form, at, is_signed, is_minus),
-        None => None,
+        Some(specials) if may_begin(text, form, specials, at) => {
+            special_in(text, form, at, is_signed, is_minus)
+        }
+        _ => None,
     }
 }
 

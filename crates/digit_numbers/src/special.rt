@@ -1,7 +1,7 @@
 // The special value at a position, by a form.
 
 ghost use Rattle.std.specs.Prelude.{◌≡◌, ◌+◌, ◌<◌, ◌≤◌, ◌&&◌, ◌||◌, if◌then◌else◌, nat_lt};
-ghost use Rattle.std.specs.Prelude.{false, true, length, Some, None, IsTrue, IfSome, MatchOption};
+ghost use Rattle.std.specs.Prelude.{Bool, false, true, length, Some, None, IsTrue, IfSome, MatchOption};
 ghost use Rattle.std.specs.Prelude.{slice_index};
 ghost use Rattle.std.specs.Float.{inf};
 ghost use Rattle.lexical_format.specs.Word.{is_supported};
@@ -43,7 +43,7 @@ impl SpecialValue {
 }
 
 /// The first position from `at` on whose byte the special component of a word keeps, or the length.
-#[inline(always)]
+#[inline]
 #[tactic(auto, using(crate::proofs::NamesAt::places))]
 fn kept_from(text: &[u8], word: u128, at: usize) -> usize
     requires supported { IsTrue (is_supported word) }
@@ -135,6 +135,37 @@ fn later(special: Special, end: usize, found: Option<(Special, usize)>) -> (Spec
         Some((other, other_end)) if end < other_end => (other, other_end),
         _ => (special, end),
     }
+}
+
+/// Whether a special value may be at a position, as far as the first byte of its name tells. The
+/// first byte there that the special component keeps is at `first`.
+#[inline(always)]
+fn may_be_here(text: &[u8], form: Form, at: usize, first: usize, special: Special) -> bool
+    requires first { first
+        ≡ place (rule_of form.integers.decimal components.Special) text.now at 0 }
+    ensures { result ≡ false → (is_signed is_minus : Bool)
+        → is_here form text.now at is_signed is_minus special ≡ false }
+{
+    has_same(text, form.specials, first, special.name[0])
+}
+
+/// Whether a special value of a form may be at a position, as far as first bytes tell. It is only
+/// for speed, of forms with names: most numbers begin with a digit.
+#[inline(always)]
+pub fn may_begin(text: &[u8], form: Form, specials: Specials, at: usize) -> bool
+    requires form { IsForm form }
+    requires specials { form.specials ≡ Some specials }
+    requires within { at ≤ length text.now }
+    ensures { result ≡ false → (is_signed is_minus : Bool)
+        → special_at form text.now at is_signed is_minus ≡ None }
+{
+    let first = kept_from(text, form.integers.decimal, at);
+    for i in (0..8_usize).rev() {
+        if may_be_here(text, form, at, first, specials.names[i]) {
+            return true;
+        }
+    }
+    false
 }
 
 /// The special value of a form at a position, and where it ends, if there is one. In code of its

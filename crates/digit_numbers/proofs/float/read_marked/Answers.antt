@@ -1,7 +1,7 @@
 use Rattle.std.proofs.Common.{◌<◌, length, arith}
 use Rattle.digit_numbers.specs.Numbers.{whole_digits}
 use Rattle.digit_numbers.proofs.Short.{powered_float}
-use Rattle.digit_numbers.proofs.float.read_apart.Goals as goal
+use Rattle.digit_numbers.proofs.float.read_marked.Goals as goal
 
 pub returns-in-Some-clause-is : goal.returns-in-Some-clause-is
 returns-in-Some-clause-is g c =
