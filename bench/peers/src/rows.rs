@@ -134,6 +134,7 @@ fn f32s() -> Vec<Side> {
 fn json() -> Vec<Side> {
     sides! {
         "library" library::read_number_of;
+        "library, the whole text" library::parse_number_of;
         #[cfg(has_digits)] "library, from C" cxx::c_read_json;
         #[cfg(has_digits)] "library, a form, from C" cxx::c_json_by;
         "std, all as floats~" rust::f64;

@@ -10,7 +10,7 @@ use super::format::Format;
 use super::work::{Task, Work, run_each};
 use digit_floats::read_float;
 use digit_languages::{Language, languages, read_literal};
-use digit_numbers::{Form, Number, forms, is_form, read_number_of};
+use digit_numbers::{Form, Number, forms, is_form, parse_number_of, read_number_of};
 use lexical_format::NumberFormat;
 use std::num::f64_to_bits_with_nan;
 
@@ -54,6 +54,27 @@ fn low(magnitude: u128) -> u64 {
     (magnitude & 0xffff_ffff_ffff_ffff) as u64
 }
 
+/// A number, and where it ends.
+#[inline(always)]
+fn outcome_of(number: Number<f64>, end: usize) -> Outcome {
+    match number {
+        Number::Integer {
+            negative,
+            magnitude,
+            word: _,
+        } => {
+            let value = low(magnitude);
+            let signed = if negative {
+                value.wrapping_neg()
+            } else {
+                value
+            };
+            Outcome::of(signed, end as u64)
+        }
+        Number::Float(x) => Outcome::of(f64_to_bits_with_nan(x), end as u64),
+    }
+}
+
 /// Reads the number that a text begins with by `read_number_of`. The value is an integer's lowest
 /// 64 bits or the bits of an `f64`, and the count is where it ends. Nothing where there is none.
 struct Numbers;
@@ -67,25 +88,24 @@ impl Work for Numbers {
             return Outcome::nothing();
         }
         match read_number_of::<f64>(text, 0, form) {
-            Ok(
-                (
-                    Number::Integer {
-                        negative,
-                        magnitude,
-                        word: _,
-                    },
-                    end,
-                ),
-            ) => {
-                let value = low(magnitude);
-                let signed = if negative {
-                    value.wrapping_neg()
-                } else {
-                    value
-                };
-                Outcome::of(signed, end as u64)
-            }
-            Ok((Number::Float(x), end)) => Outcome::of(f64_to_bits_with_nan(x), end as u64),
+            Ok((number, end)) => outcome_of(number, end),
+            Err(_) => Outcome::nothing(),
+        }
+    }
+}
+
+/// Reads the number that a text is by `parse_number_of`, as [`Numbers`] does.
+struct Parsed;
+
+impl Work for Parsed {
+    #[inline(always)]
+    fn on<F: Format>(text: &[u8], format: F) -> Outcome {
+        let form = form_of(format.word());
+        if !is_form(form) {
+            return Outcome::nothing();
+        }
+        match parse_number_of::<f64>(text, form) {
+            Ok(number) => outcome_of(number, text.len()),
             Err(_) => Outcome::nothing(),
         }
     }
@@ -124,6 +144,11 @@ impl Work for Floats {
 #[unsafe(no_mangle)]
 pub extern "C" fn digit_bench_json_numbers(task: &Task, outcome: &mut Outcome) {
     *outcome = run_each::<Numbers>(task);
+}
+
+#[unsafe(no_mangle)]
+pub extern "C" fn digit_bench_json_parsed(task: &Task, outcome: &mut Outcome) {
+    *outcome = run_each::<Parsed>(task);
 }
 
 #[unsafe(no_mangle)]

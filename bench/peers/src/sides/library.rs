@@ -31,6 +31,7 @@ sides! {
     parse_f32 digit_bench_nearest_f32 DECIMAL true;
     read_f64 digit_bench_json_floats DECIMAL true;
     read_number_of digit_bench_json_numbers DECIMAL true;
+    parse_number_of digit_bench_json_parsed DECIMAL true;
     u64_by digit_bench_parsed_u64 DECIMAL false;
     i32_by digit_bench_parsed_i32 DECIMAL false;
     hexadecimal_by digit_bench_parsed_u64 HEXADECIMAL false;
