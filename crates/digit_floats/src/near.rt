@@ -115,7 +115,7 @@ fn nearest<F: Float>(digits: u64, more: u64, power: u64) -> Option<F>
 }
 
 /// The float nearest to all numbers from the digits to the digits and one, if any were cut off
-/// behind them, of which the last `places` follow the point, times ten to a power, if one product
+/// after them, of which the last `places` follow the point, times ten to a power, if one product
 /// tells.
 #[inline]
 #[tactic(auto, using(crate::proofs::Between::is_between, crate::proofs::Tens::ten_pos))]
@@ -191,7 +191,7 @@ pub fn round_near<F: Float>(
     }
 }
 
-/// [`round_from`] of digits behind which others were cut off, in code of its own.
+/// [`round_from`] of digits after which others were cut off, in code of its own.
 #[cold]
 #[inline(never)]
 fn round_cut_apart<F: Float>(
