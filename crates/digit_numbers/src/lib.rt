@@ -1,22 +1,26 @@
 //! A number as a language or a data format writes it: an integer or a float, and where it ends.
 #![tactic(auto)]
 
+mod bytes;
 mod decimal;
 mod float;
 mod form;
 pub mod forms;
 mod hexadecimal;
 mod integer;
+mod items;
 pub mod laws;
 mod list;
 pub mod names;
 mod number;
 mod special;
 
+pub use self::bytes::{expect_bytes, has_bytes};
 pub use self::decimal::read_decimal_of;
 pub use self::form::{
     AfterPoint, Exponents, Form, HexFloats, NameSign, Signs, Special, SpecialValue, Specials,
     Whole, is_form,
 };
+pub use self::items::{Item, read_items};
 pub use self::list::read_list_of;
 pub use self::number::{Number, NumberError, parse_number_of, read_number_of};

@@ -5,32 +5,105 @@
 //! A crate that depends on this one needs none of those below it.
 #![tactic(auto)]
 
-pub use digit_floats::{
-    Decimal, Float, FloatError, HexMantissa, Mantissa, Marks, Power, ScaledError, decimal_of,
-    parse_float, parse_float_from, parse_scaled, read_decimal_from, read_exponent, read_float,
-    read_float_from, read_float_list, read_hex_float_from, read_hex_mantissa, read_mantissa,
-    read_scaled_from, read_scaled_up_to, round_hex, round_integer, round_parts,
-};
-pub use digit_languages::{
-    FirstZero, Language, LanguageError, Literal, is_language, languages, prefix_word, read_literal,
-    read_literal_as,
-};
-pub use digit_literals::{
-    BLANKS, COMMAS, COMMAS_IN_LINE, FirstDigits, Gap, Integer, LINES, ListEnd, ListRead,
-    LiteralError, ParseError, SPACES_IN_LINE, WHITESPACE, byte_at, count_digits, expect_byte,
-    has_byte, name_end, parse_number, parse_number_from, past_bytes, read_at_most, read_exactly,
-    read_first_digits_from, read_integer, read_integer_from, read_list, read_number,
-    read_number_from, read_wide_from, stop_from,
-};
-pub use digit_numbers::{
-    AfterPoint, Exponents, Form, HexFloats, Number, NumberError, Signs, Special, SpecialValue,
-    Specials, Whole, forms, is_form, names, parse_number_of, read_decimal_of, read_list_of,
-    read_number_of,
-};
+pub use digit_floats::Decimal;
+pub use digit_floats::Float;
+pub use digit_floats::FloatError;
+pub use digit_floats::HexMantissa;
+pub use digit_floats::Mantissa;
+pub use digit_floats::Marks;
+pub use digit_floats::Power;
+pub use digit_floats::ScaledError;
+pub use digit_floats::decimal_of;
+pub use digit_floats::parse_float;
+pub use digit_floats::parse_float_from;
+pub use digit_floats::parse_scaled;
+pub use digit_floats::read_decimal_from;
+pub use digit_floats::read_exponent;
+pub use digit_floats::read_float;
+pub use digit_floats::read_float_from;
+pub use digit_floats::read_float_list;
+pub use digit_floats::read_hex_float_from;
+pub use digit_floats::read_hex_mantissa;
+pub use digit_floats::read_mantissa;
+pub use digit_floats::read_scaled_from;
+pub use digit_floats::read_scaled_up_to;
+pub use digit_floats::round_hex;
+pub use digit_floats::round_integer;
+pub use digit_floats::round_parts;
+pub use digit_languages::FirstZero;
+pub use digit_languages::Language;
+pub use digit_languages::LanguageError;
+pub use digit_languages::Literal;
+pub use digit_languages::is_language;
+pub use digit_languages::languages;
+pub use digit_languages::prefix_word;
+pub use digit_languages::read_literal;
+pub use digit_languages::read_literal_as;
+pub use digit_literals::BLANKS;
+pub use digit_literals::COMMAS;
+pub use digit_literals::COMMAS_IN_LINE;
+pub use digit_literals::FirstDigits;
+pub use digit_literals::Gap;
+pub use digit_literals::Integer;
+pub use digit_literals::LINES;
+pub use digit_literals::ListEnd;
+pub use digit_literals::ListRead;
+pub use digit_literals::LiteralError;
+pub use digit_literals::ParseError;
+pub use digit_literals::SPACES_IN_LINE;
+pub use digit_literals::WHITESPACE;
+pub use digit_literals::byte_at;
+pub use digit_literals::count_digits;
+pub use digit_literals::expect_byte;
+pub use digit_literals::has_byte;
+pub use digit_literals::name_end;
+pub use digit_literals::parse_number;
+pub use digit_literals::parse_number_from;
+pub use digit_literals::past_bytes;
+pub use digit_literals::read_at_most;
+pub use digit_literals::read_exactly;
+pub use digit_literals::read_first_digits_from;
+pub use digit_literals::read_integer;
+pub use digit_literals::read_integer_from;
+pub use digit_literals::read_list;
+pub use digit_literals::read_number;
+pub use digit_literals::read_number_from;
+pub use digit_literals::read_wide_from;
+pub use digit_literals::stop_from;
+pub use digit_numbers::AfterPoint;
+pub use digit_numbers::Exponents;
+pub use digit_numbers::Form;
+pub use digit_numbers::HexFloats;
+pub use digit_numbers::Item;
+pub use digit_numbers::Number;
+pub use digit_numbers::NumberError;
+pub use digit_numbers::Signs;
+pub use digit_numbers::Special;
+pub use digit_numbers::SpecialValue;
+pub use digit_numbers::Specials;
+pub use digit_numbers::Whole;
+pub use digit_numbers::expect_bytes;
+pub use digit_numbers::forms;
+pub use digit_numbers::has_bytes;
+pub use digit_numbers::is_form;
+pub use digit_numbers::names;
+pub use digit_numbers::parse_number_of;
+pub use digit_numbers::read_decimal_of;
+pub use digit_numbers::read_items;
+pub use digit_numbers::read_list_of;
+pub use digit_numbers::read_number_of;
 pub use lexical_digits::ops::ByteSet;
-pub use lexical_digits::skip::{Component, Rule};
-pub use lexical_format::{
-    ALL_FLAGS, DECIMAL, DigitSeparatorFlags, EXPONENT_INTERNAL_DIGIT_SEPARATOR,
-    FRACTION_INTERNAL_DIGIT_SEPARATOR, INTEGER_INTERNAL_DIGIT_SEPARATOR, NO_FLAGS, NumberFormat,
-    NumberFormatBuilder, STANDARD, is_supported, words,
-};
+pub use lexical_digits::skip::Component;
+pub use lexical_digits::skip::Rule;
+pub use lexical_format::ALL_FLAGS;
+pub use lexical_format::DECIMAL;
+pub use lexical_format::DigitSeparatorFlags;
+pub use lexical_format::EXPONENT_INTERNAL_DIGIT_SEPARATOR;
+pub use lexical_format::FRACTION_INTERNAL_DIGIT_SEPARATOR;
+pub use lexical_format::INTEGER_INTERNAL_DIGIT_SEPARATOR;
+pub use lexical_format::NO_FLAGS;
+pub use lexical_format::NumberFormat;
+pub use lexical_format::NumberFormatBuilder;
+pub use lexical_format::STANDARD;
+pub use lexical_format::is_supported;
+pub use lexical_format::words;

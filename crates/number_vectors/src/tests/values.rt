@@ -2,7 +2,7 @@
 
 use digit_floats::round_integer;
 use digit_literals::{BLANKS, byte_at, expect_byte, past_bytes};
-use digit_numbers::{Number, forms, parse_number_of};
+use digit_numbers::{Number, expect_bytes, forms, has_bytes, parse_number_of};
 use digit_uses::lists::{ArrayError, parse_array};
 
 /// The number of JSON that a text is: as an `i64`, and as a float.
@@ -101,4 +101,14 @@ fn an_array_has_numbers_and_commas(rt: HostRuntime) {
             "{text:?}: {answer:?}"
         );
     }
+}
+
+#[test]
+fn several_bytes_are_at_a_position(rt: HostRuntime) {
+    let text: &[u8] = b"10 EUR";
+    assert!(rt; has_bytes(text, 3, b"EUR") && has_bytes(text, 3, b"EU"));
+    assert!(rt; !has_bytes(text, 3, b"EURO") && !has_bytes(text, 2, b"EUR"));
+    assert!(rt; !has_bytes(text, 3, b"eur") && has_bytes(text, 6, b""));
+    assert!(rt; expect_bytes(text, 3, b"EUR") == Ok(6));
+    assert!(rt; expect_bytes(text, 4, b"EUR") == Err(4));
 }

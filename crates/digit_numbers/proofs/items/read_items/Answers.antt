@@ -1,0 +1,6 @@
+use Rattle.std.proofs.Common.{sym, ◌∙◌}
+use Rattle.std.proofs.lemmas.List.{map-id}
+use Rattle.digit_numbers.proofs.items.read_items.Goals as goal
+
+pub returns-clause-front : goal.returns-clause-front
+returns-clause-front g c = sym (map-id _) ∙ c.fill_items.ensures.is.numbers
