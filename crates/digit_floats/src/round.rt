@@ -106,7 +106,7 @@ pub fn round_parts<F: Float>(text: &[u8], negative: bool, mantissa: Mantissa, po
     )
 }
 
-/// [`round_parts`] of a mantissa of which no digits were dropped, if one multiplication or division
+/// [`round_parts`] of a mantissa of which no digits were dropped, if one operation or one product
 /// tells. It is small, so that numbers of a form with an exponent are read in place (the row `z:
 /// JSON, 1 to 3 digits, an exponent`).
 #[inline(always)]
@@ -129,14 +129,15 @@ pub fn round_few_with<F: Float>(
         return None;
     }
     let places = mantissa.places as u64;
-    let x: F = round_exact(
-        negative,
-        mantissa.value,
-        places,
-        power.negative,
-        power.value,
-    )?;
-    Some(x)
+    let value = mantissa.value;
+    match round_exact::<F>(negative, value, places, power.negative, power.value) {
+        Some(x) => Some(x),
+        None if value == 0 => None,
+        None => match round_near::<F>(negative, value, places, power.negative, power.value) {
+            Some(x) => Some(x),
+            None => None,
+        },
+    }
 }
 
 /// [`round_parts`] of a mantissa with few digits that no exponent follows, if one division or one

@@ -218,9 +218,9 @@ fn round_at<F: Float>(
     round_parts::<F>(text, negative, mantissa, power)
 }
 
-/// [`read_exponent_apart`], whose answer in memory belongs to this function.
+/// The exponent at a position, which is 0 without a mark, if digits follow any mark.
 #[inline(always)]
-fn long_power_at(text: &[u8], word: u128, at: usize, mark: u8) -> Option<Power>
+fn power_at(text: &[u8], word: u128, at: usize, mark: u8) -> Option<Power>
     requires supported { IsTrue (is_supported word) }
     requires decimal { exponent_radix word ≡ 10 }
     requires within { at ≤ length text.now }
@@ -257,26 +257,6 @@ fn short_power_at(text: &[u8], word: u128, at: usize, mark: u8) -> Option<Power>
     } else {
         None
     }
-}
-
-/// The exponent at a position, which is 0 without a mark, if digits follow any mark.
-#[inline(always)]
-fn power_at(text: &[u8], word: u128, at: usize, mark: u8) -> Option<Power>
-    requires supported { IsTrue (is_supported word) }
-    requires decimal { exponent_radix word ≡ 10 }
-    requires within { at ≤ length text.now }
-    ensures value { IfSome result (λ p.
-        p.value ≡ min (digits_value 10 (exponent_digits word text.now mark at)) (2 ^ 64 - 1)) }
-    ensures negative { IfSome result (λ p. p.negative ≡ exponent_negative word text.now mark at) }
-    ensures end { IfSome result (λ p. p.end ≡ exponent_end word text.now mark at) }
-    ensures within { IfSome result (λ p. (at ≤ p.end) × (p.end ≤ length text.now)) }
-    ensures some { IfSome result (λ _. stands (is_mark mark) text.now at ≡ true
-        → 0 < length (exponent_digits word text.now mark at)) }
-{
-    if let Some(power) = short_power_at(text, word, at, mark) {
-        return Some(power);
-    }
-    long_power_at(text, word, at, mark)
 }
 
 /// The float of a mantissa, and of its exponent, if one follows, and where it ends: if digits
@@ -334,7 +314,7 @@ fn read_powered_apart<F: Float>(
     }
 }
 
-/// [`read_powered`] where few digits follow a mark, and one multiplication or division tells. It is
+/// [`read_powered`] where few digits follow a mark, and one operation or one product tells. It is
 /// only for speed (the rows `z: JSON, 1 to 3 digits, an exponent`).
 #[inline(always)]
 fn read_few_powered<F: Float>(
