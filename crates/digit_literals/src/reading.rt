@@ -69,7 +69,7 @@ fn peek_digit<'a, I: DigitsIter<'a>>(iter: &mut I, radix: u32) -> Option<u32>
 }
 
 /// The value with one more digit, if that is at most `most`.
-#[inline]
+#[inline(always)]
 pub(super) fn add_digit(value: u64, radix: u32, digit: u32, most: u64) -> Option<u64>
     ensures { let more = value * radix + digit in
         MatchOption result (most < more) (λ v. (v ≡ more) × (v ≤ most)) }
