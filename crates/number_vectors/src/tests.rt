@@ -11,6 +11,7 @@ mod floats;
 mod forms;
 mod hex_floats;
 mod integers;
+mod items;
 mod json;
 mod language_literals;
 mod languages;
