@@ -1,17 +1,22 @@
-//! The laws of `digit_literals`, and those of what follows a number, each called once.
+//! The laws of integers and of floats, and those of what follows a number, each called once.
 
 use super::{INTERNAL, UNFLAGGED, bytes_of};
 use crate::pieces::{parse_field, parse_line};
-use digit_floats::laws::{what_follows_changes_no_decimal, what_follows_changes_no_float};
+use digit_floats::laws::{
+    float_outcomes_say, what_follows_changes_no_decimal, what_follows_changes_no_float,
+    zeros_keep_their_sign,
+};
 use digit_languages::laws::what_follows_changes_no_literal;
 use digit_literals::laws::flags::more_flags_read_the_same;
 use digit_literals::laws::follows::what_follows_changes_no_number;
 use digit_literals::laws::{
-    first_are_significant, first_go_on, greater_reads_more, outcomes_say, too_large_leaves_the_rest,
+    first_are_significant, first_go_on, greater_reads_more, outcomes_say,
+    read_integer_is_read_digits, too_large_leaves_the_rest,
 };
 use digit_literals::{FirstDigits, outcomes_differ};
 use digit_numbers::Number;
 use digit_numbers::laws::follows::what_follows_changes_no_outcome;
+use digit_numbers::laws::json_is_rfc_8259;
 use lexical_format::{STANDARD, is_supported};
 
 /// One digit, which is 0.
@@ -37,6 +42,14 @@ fn laws_of_literals_may_be_called(rt: HostRuntime) {
     too_large_leaves_the_rest();
     first_are_significant(16, 2, 0xff);
     first_go_on(10, 1, 9, FIRST, FIRST);
+    read_integer_is_read_digits();
+}
+
+#[test]
+fn laws_of_floats_may_be_called(_rt: HostRuntime) {
+    float_outcomes_say(b"1.5", STANDARD);
+    zeros_keep_their_sign(b"-0.0", STANDARD);
+    json_is_rfc_8259::<f64>(b"1.5", 0);
 }
 
 #[test]
