@@ -1,5 +1,5 @@
 -- Digits, and groups of three after them.
-use Rattle.std.proofs.Common.{◌≡◌, ℕ, ◌+◌, ◌*◌, ◌<◌, ◌≤◌, true, false, List, length, refl, sym, ap, ◌∙◌, inl, inr, arith}
+use Rattle.std.proofs.Common.{◌≡◌, ℕ, ◌+◌, ◌*◌, ◌<◌, ◌≤◌, true, false, List, length, refl, sym, ap, ◌∙◌, arith}
 use Rattle.std.specs.Prelude.{slice_index, Some, Ok}
 use Rattle.std.specs.Str.Parse.{digits_value_after}
 use Rattle.lexical_format.specs.Digits.{digit_of_radix}
@@ -9,41 +9,19 @@ use Rattle.digit_literals.specs.After.{digits_between}
 use Rattle.std.proofs.lemmas.Bool.Decides.{nat_tests}
 use Rattle.digit_literals.specs.declared.slice.ReadTo.{ReadTo}
 use Rattle.digit_literals.specs.Integers.{integer_at}
-use Rattle.digit_literals.specs.Reads.{ArePlain, ReadsTo, IsOffSlice}
+use Rattle.digit_literals.specs.Reads.{ReadsTo, IsOffSlice}
 use Rattle.digit_literals.proofs.Texts.{integer_is}
 use Rattle.digit_literals.specs.Groups.{IsGroup}
 use Rattle.digit_literals.proofs.Between.{one_more}
 use Rattle.digit_literals.proofs.ForCallers.{value_more}
 use Rattle.digit_literals.proofs.Passed.{HasPassed, passed}
 use Rattle.digit_literals.proofs.Between.{no_more}
-use Rattle.digit_literals.proofs.Plain.{lt_or_le}
 
 -- a decimal digit is one of the rule
 of_rule : (rule : Rule) (byte digit : ℕ) → rule.radix ≡ 10 → digit_of_radix 10 byte ≡ Some digit
     → is_digit rule byte ≡ true
 unfolding is_digit
 of_rule rule byte digit ten is = rw (ten, is) refl
-
--- one digit more, with no separator before it
-pub plain_more : (rule : Rule) (text : List ℕ) (start before most at value digit more : ℕ)
-    → rule.radix ≡ 10 → at < length text → ArePlain rule text start before (Some most) at value
-    → digit_of_radix 10 (slice_index text at) ≡ Some digit → more ≡ value * 10 + digit → more ≤ most
-    → ArePlain rule text start before (Some most) (at + 1) more
-plain_more rule text start before most at value digit more ten l plain here is fits =
-    let next = value_more rule text start before at 10 digit plain.onward l (sym ten) here in
-    record {
-      onward = omega (arith, plain.onward);
-      within = omega (arith, l);
-      digits = λ q a b.
-          elim (lt_or_le q at) [
-            | inl k ↦ plain.digits q a k
-            | inr k ↦
-                let same : q ≡ at = omega (arith, k, b) in
-                ap (λ n. is_digit rule (slice_index text n)) same ∙ of_rule rule _ digit ten here
-          ];
-      worth = record { is = omega (arith, is, plain.worth.is, next); fits = fits };
-      wrapped = tt;
-    }
 
 module _ (rule : Rule) (text : List ℕ) (start : ℕ) where
   abbrev upto : ℕ → List ℕ
@@ -138,3 +116,8 @@ whole_of_slice r given text start bound most read same ten within off small some
     integer_is r text start read.value most (omega (arith, ten)) within fits read false reads
     (grind (arith, nat_tests, some)) (λ large. absurd (grind (arith, small, large))) in
     sym is ∙ grind (arith, small, ends)
+
+-- a byte that is the separator is not zero
+pub some_separator : (separator byte : ℕ) → is_separator separator byte ≡ true → 0 < separator
+unfolding is_separator
+some_separator separator byte is = grind (arith, nat_tests, is)

@@ -1,4 +1,5 @@
 pub mod WordOfDigits
+pub mod ThreeDigits
 pub mod Plain
 pub mod Joined
 pub mod Whole

@@ -1,6 +1,6 @@
 -- A text whose bytes from a start on are all decimal digits: its integer is the number that they
 -- write, and ends at the end.
-use Rattle.std.proofs.Common.{◌≡◌, ℕ, zero, suc, ◌+◌, ◌-◌, ◌<◌, ◌≤◌, true, false, List, length, sym, ap, ◌∙◌, arith}
+use Rattle.std.proofs.Common.{◌≡◌, ℕ, zero, suc, ◌+◌, ◌-◌, ◌<◌, ◌≤◌, true, false, List, length, take, drop, sym, ap, ◌∙◌, arith}
 use Rattle.std.specs.Prelude.{slice_index, Some, Ok}
 use Rattle.std.specs.Str.Parse.{digits_value_after}
 use Rattle.std.proofs.lemmas.Bool.Decides.{nat_tests}
@@ -12,12 +12,13 @@ use Rattle.lexical_digits.proofs.Calls.FirstOther.{stop_is_first}
 use Rattle.digit_literals.specs.declared.slice.ReadTo.{ReadTo}
 use Rattle.digit_literals.specs.After.{digits_between}
 use Rattle.digit_literals.specs.Integers.{integer_at}
-use Rattle.digit_literals.specs.Reads.{ReadsTo}
+use Rattle.digit_literals.specs.Reads.{ArePlain, ReadsTo}
 use Rattle.digit_literals.specs.Eight.{written, IsWritten}
 use Rattle.digit_literals.proofs.Plain.{decimal}
 use Rattle.digit_literals.proofs.Between.{none_between, one_more}
 use Rattle.digit_literals.proofs.ForCallers.{value_more}
 use Rattle.digit_literals.proofs.Texts.{integer_is}
+use Rattle.digit_literals.proofs.Joined.{part_written}
 
 module _ (rule : Rule) (text : List ℕ) (start : ℕ) (ten : rule.radix ≡ 10) (count value : ℕ)
     (all : IsWritten text start count value) where
@@ -65,6 +66,19 @@ module _ (rule : Rule) (text : List ℕ) (start : ℕ) (ten : rule.radix ≡ 10)
       ap (λ k. digits_value_after rule.radix 0 (digits_between rule text start k)) next
       ∙ omega (arith, more, rest)
 
+  -- they are plain digits
+  pub whole_plain : (most : ℕ) → value ≤ most
+      → ArePlain rule text start 0 (Some most) (start + count) value
+  whole_plain most fits = record {
+    onward = omega arith;
+    within = all.within;
+    digits = λ q a b.
+        ap (λ k. is_digit rule (slice_index text k)) {x = q} (omega (arith, a))
+        ∙ are_digits (q - start) (omega (arith, a, b));
+    worth = record { is = all.is ∙ sym (worth count (omega arith)); fits = fits };
+    wrapped = tt;
+  }
+
   -- the stop is the end
   ends : start + count ≡ length text → (own : ℕ) → length text ≡ stop rule text start own
   ends there own =
@@ -110,3 +124,15 @@ module _ (rule : Rule) (text : List ℕ) (start : ℕ) (ten : rule.radix ≡ 10)
       } in
       sym (integer_is rule text start value most (omega (arith, ten)) (omega (arith, there)) fits
       read false reads (grind (arith, nat_tests, some)) (λ large. grind (arith, large)))
+
+-- a number that was read off the rest of a text
+pub rest_is : (rule : Rule) (text : List ℕ) (start value most : ℕ) → rule.radix ≡ 10
+    → start < length text
+    → IsWritten (take (length text - start) (drop start text)) 0
+    (length (take (length text - start) (drop start text))) value
+    → value ≤ most → integer_at rule text start most ≡ Ok (value, length text)
+rest_is rule text start value most ten some all fits =
+    let count = length text - start in
+    whole_is rule text start ten count value
+    (part_written text start count value (omega (arith, some)) all) (omega (arith, some))
+    (omega (arith, some)) most fits

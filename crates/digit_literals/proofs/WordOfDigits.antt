@@ -32,14 +32,14 @@ lowest x m e =
     (high (x % 256) (omega arith) (omega (arith, sum)), omega (arith, sum))
 
 -- no byte has its highest bit
-low_bytes : (n x : ℕ) → x < 256 ^ n → bit_and x (repeated 128 n) ≡ 0 → AreBelow 128 n x
+pub low_bytes : (n x : ℕ) → x < 256 ^ n → bit_and x (repeated 128 n) ≡ 0 → AreBelow 128 n x
 low_bytes zero x l e = omega arith
 low_bytes (suc n) x l e =
     let both = lowest x (repeated 128 n) e in
     (both.0, low_bytes n (x / 256) (omega (arith, l)) both.1)
 
 -- and none with 118 added
-below_ten : (n x : ℕ) → AreBelow 128 n x → AreBelow 128 n (x + repeated 118 n) → AreBelow 10 n x
+pub below_ten : (n x : ℕ) → AreBelow 128 n x → AreBelow 128 n (x + repeated 118 n) → AreBelow 10 n x
 below_ten zero x h k = h
 below_ten (suc n) x h k =
     let small : x % 256 < 10 = omega (arith, h.0, k.0) in
@@ -48,7 +48,7 @@ below_ten (suc n) x h k =
     (small, below_ten n (x / 256) h.1 (rw rest at k.1))
 
 -- a word whose bytes are at most so much
-at_most : (byte n x : ℕ) → AreBelow (suc byte) n x → x ≤ repeated byte n
+pub at_most : (byte n x : ℕ) → AreBelow (suc byte) n x → x ≤ repeated byte n
 at_most byte zero x h = omega (arith, h)
 at_most byte (suc n) x h = omega (arith, h.0, at_most byte n (x / 256) h.1)
 

@@ -8,11 +8,12 @@ ghost use Rattle.lexical_digits.specs.Separators.{is_digit};
 ghost use Rattle.lexical_digits.specs.State.{rule_of};
 ghost use Rattle.lexical_digits.specs.Stop.{stop};
 ghost use Rattle.digit_literals.specs.Outcomes.{IfEmpty, IfOverflow};
+ghost use Rattle.digit_literals.specs.Eight.{IsWritten};
 ghost use Rattle.digit_literals.specs.Integers.{integer_at};
 ghost use Rattle.digit_literals.specs.Reads.{ReadsTo, IsFirst, integer_of};
 
 use super::LiteralError;
-use super::eight::{Whole, read_few, read_whole};
+use super::eight::{NONE, Whole, read_few, read_whole};
 use super::groups::read_grouped;
 use super::slice::{ReadTo, first_digit, read_bytes, read_slice};
 use lexical_digits::iterator::Iter;
@@ -144,23 +145,44 @@ pub(super) fn read_few_integer(text: &[u8], word: u128, start: usize, most: u128
     }
 }
 
-/// The integer that a text is from `start` on to its end, where the radix is 10: by groups if lone
-/// separators between digits are dropped, and otherwise by words.
+/// The number that a text is, if all its bytes are decimal digits.
+#[inline(always)]
+fn read_all_digits(text: &[u8]) -> Whole
+    ensures { result.is_whole ≡ true → IsWritten text.now 0 (length text.now) result.value }
+{
+    if text.len() >= 8 {
+        return read_whole(text);
+    }
+    match read_few(text) {
+        Some(value) => Whole {
+            value,
+            is_whole: true,
+        },
+        None => NONE,
+    }
+}
+
+/// The integer that a text is from `start` on to its end, where the radix is 10: in groups if lone
+/// separators between digits are dropped and one is before the last three bytes, and otherwise
+/// without a separator.
 #[inline(never)]
 fn read_long(text: &[u8], word: u128, start: usize) -> Whole
     requires supported { IsTrue (is_supported word) }
     requires ten { (rule_of word Integer).radix ≡ 10 }
-    requires within { start ≤ length text.now }
-    requires some { (rule_of word Integer).internal ≡ false → start + 8 ≤ length text.now }
+    requires five { start + 5 ≤ length text.now }
+    requires eight { (rule_of word Integer).internal ≡ false → start + 8 ≤ length text.now }
     ensures { let r = rule_of word Integer in
         result.is_whole ≡ true → (most : ℕ) → result.value ≤ most
         → integer_at r text.now start most ≡ Ok (result.value, length text.now) }
 {
-    if Rule::of(word, Component::Integer).internal {
-        read_grouped(text, word, start)
-    } else {
-        read_whole(&text[start..])
+    let rule = Rule::of(word, Component::Integer);
+    if !rule.internal {
+        return read_whole(&text[start..]);
     }
+    if rule.is_separator(text[text.len() - 4]) {
+        return read_grouped(text, word, start);
+    }
+    read_all_digits(&text[start..])
 }
 
 /// The value of the integer that a text is from `start` on to its end, where the radix is 10, if
@@ -169,8 +191,8 @@ fn read_long(text: &[u8], word: u128, start: usize) -> Whole
 pub(super) fn read_long_integer(text: &[u8], word: u128, start: usize, most: u128) -> Option<u64>
     requires supported { IsTrue (is_supported word) }
     requires ten { (rule_of word Integer).radix ≡ 10 }
-    requires within { start ≤ length text.now }
-    requires some { (rule_of word Integer).internal ≡ false → start + 8 ≤ length text.now }
+    requires five { start + 5 ≤ length text.now }
+    requires eight { (rule_of word Integer).internal ≡ false → start + 8 ≤ length text.now }
     ensures is { IfSome result (λ value.
         integer_at (rule_of word Integer) text.now start most ≡ Ok (value, length text.now)) }
     ensures fits { IfSome result (λ value. value ≤ most) }

@@ -42,6 +42,78 @@ fn the_first_fault_of_a_text_is_reported(rt: HostRuntime) {
     assert_whole(&rt, b"18446744073709551616x", Err(ParseError::Overflow(19)));
 }
 
+/// Texts with groups of three digits, their values and faults; `_` may stand between two digits.
+static GROUPED: [(&[u8], Result<u64, ParseError>); 47] = [
+    (b"1_234", Ok(1234)),
+    (b"12_345", Ok(12345)),
+    (b"123_456", Ok(123456)),
+    (b"1_234_567", Ok(1234567)),
+    (b"12_345_678", Ok(12345678)),
+    (b"123_456_789", Ok(123456789)),
+    (b"000_009_080", Ok(9080)),
+    (b"18_446_744_073_709_551_615", Ok(u64::MAX)),
+    (b"18_446_744_073_709_551_616", Err(ParseError::Overflow(25))),
+    (b"19_000_000_000_000_000_000", Err(ParseError::Overflow(25))),
+    (
+        b"1_000_000_000_000_000_000_000",
+        Err(ParseError::Overflow(27)),
+    ),
+    (b"000_018_446_744_073_709_551_615", Ok(u64::MAX)),
+    (b"12_34", Ok(1234)),
+    (b"1_0000", Ok(10000)),
+    (b"1234_567", Ok(1234567)),
+    (b"12_34_567", Ok(1234567)),
+    (b"1_2_3_4_567", Ok(1234567)),
+    (b"1__234", Err(ParseError::Invalid(1))),
+    (b"1_234__567", Err(ParseError::Invalid(5))),
+    (b"1_234_", Err(ParseError::Invalid(5))),
+    (b"1_234_567_", Err(ParseError::Invalid(9))),
+    (b"_123_456", Err(ParseError::Invalid(0))),
+    (b"_1_234", Err(ParseError::Invalid(0))),
+    (b":_234", Err(ParseError::Invalid(0))),
+    (b"/_234", Err(ParseError::Invalid(0))),
+    (b"1:_345", Err(ParseError::Invalid(1))),
+    (b"/1_345", Err(ParseError::Invalid(0))),
+    (b"12/_456", Err(ParseError::Invalid(2))),
+    (b"1:3_456", Err(ParseError::Invalid(1))),
+    (b":23_456", Err(ParseError::Invalid(0))),
+    (b"1_:34", Err(ParseError::Invalid(1))),
+    (b"1_/34", Err(ParseError::Invalid(1))),
+    (b"1_2:4", Err(ParseError::Invalid(3))),
+    (b"1_2/4", Err(ParseError::Invalid(3))),
+    (b"1_23:", Err(ParseError::Invalid(4))),
+    (b"1_23/", Err(ParseError::Invalid(4))),
+    (b"1_23:_567", Err(ParseError::Invalid(4))),
+    (b"1_23\xff_567", Err(ParseError::Invalid(4))),
+    // next to `_` are `^`, the byte 96 and `a`
+    (b"1^234_567", Err(ParseError::Invalid(1))),
+    (b"1\x60234_567", Err(ParseError::Invalid(1))),
+    (b"1a234_567", Err(ParseError::Invalid(1))),
+    (b"1:234", Err(ParseError::Invalid(1))),
+    (b"12345", Ok(12345)),
+    (b"1234:6", Err(ParseError::Invalid(4))),
+    (b"123456/", Err(ParseError::Invalid(6))),
+    (b"1234567890123456789", Ok(1234567890123456789)),
+    (b"100000000000000000000", Err(ParseError::Overflow(20))),
+];
+
+#[test]
+fn groups_of_three_digits_are_read(rt: HostRuntime) {
+    for (text, read) in &GROUPED {
+        assert_whole(&rt, text, *read);
+    }
+    assert_signed(&rt, b"-1_234_567", Ok(-1234567));
+    assert_signed(&rt, b"+12_345", Ok(12345));
+    assert_signed(&rt, b"-9_223_372_036_854_775_808", Ok(i64::MIN));
+    let overflow = Err(ParseError::Overflow(25));
+    assert_signed(&rt, b"-9_223_372_036_854_775_809", overflow);
+    // no byte is the separator 0
+    let word = (10 << 104) | INTERNAL;
+    assert!(&rt; is_supported(word));
+    assert!(&rt; parse_number::<u64>(b"1\0234", word) == Err(ParseError::Invalid(1)));
+    assert!(&rt; parse_number::<u64>(b"12345", word) == Ok(12345));
+}
+
 #[test]
 fn positions_count_the_sign(rt: HostRuntime) {
     assert_signed(&rt, b"-1_000", Ok(-1000));
