@@ -3,6 +3,7 @@ pub mod ThreeDigits
 pub mod Plain
 pub mod Joined
 pub mod Whole
+pub mod Hexadecimals
 pub mod Peeks
 pub mod States
 pub mod Passed

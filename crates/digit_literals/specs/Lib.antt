@@ -5,6 +5,7 @@ pub mod Reads
 pub mod Eight
 pub mod Groups
 pub mod Integers
+pub mod Hexadecimal
 pub mod Rest
 pub mod Significant
 pub mod First

@@ -20,6 +20,7 @@ pub mod equality;
 mod exactly;
 mod first;
 mod groups;
+mod hexadecimal;
 mod integer;
 pub mod laws;
 mod list;

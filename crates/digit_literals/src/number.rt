@@ -10,6 +10,7 @@ ghost use Rattle.digit_literals.specs.Integers.{integer_at};
 ghost use Rattle.digit_literals.specs.Numbers.{number_at, to_end, with_sign, digits_from, is_negative_from, signed};
 ghost use Rattle.digit_literals.specs.Reads.{IsFirst};
 
+use super::hexadecimal::read_hexadecimal;
 use super::integer::{read_few_integer, read_long_integer};
 use super::slice::first_digit;
 use super::wide::{read_again, read_wide_known};
@@ -484,6 +485,35 @@ fn parse_by_words<T: Integer>(text: &[u8], word: u128, start: usize) -> Result<T
     parse_the_rest::<T>(text, word, begin, is_negative)
 }
 
+/// Whether a number of so many bytes is read by [`read_hexadecimal`]: the radix is 16, no separator
+/// between digits is dropped, and there are at most 16 bytes if the type has numbers of more.
+#[inline(always)]
+fn is_hexadecimal<T: Integer>(word: u128, bytes: usize) -> bool
+    ensures { result ≡ true → (rule_of word Integer).radix ≡ 16 }
+{
+    let rule = Rule::of(word, Component::Integer);
+    rule.radix == 16 && !rule.internal && (T::MAX <= u128::from(u64::MAX) || bytes <= 16)
+}
+
+/// [`parse_number_from`], where the radix is 16. What isn't read to the end is read again.
+#[inline]
+fn parse_hexadecimal<T: Integer>(text: &[u8], word: u128, start: usize) -> Result<T, ParseError>
+    requires supported { IsTrue (is_supported word) }
+    requires within { start ≤ length text.now }
+    requires sixteen { (rule_of word Integer).radix ≡ 16 }
+    ensures is { let r = rule_of word Integer in
+        let read = to_end text.now (number_at T.MIN_MAGNITUDE T.MAX r text.now start) in
+        MatchResult result (λ value. read ≡ Ok (T.number value)) (λ error. read ≡ Err error) }
+    ensures fault_at { let n = length text.now in
+        IfErr result (λ error. (start ≤ position error) × (position error ≤ n)) }
+{
+    let (is_negative, begin) = pass_sign::<T>(text, start);
+    if let Some(value) = read_hexadecimal(text, word, begin, greatest::<T>(is_negative)) {
+        return Ok(T::of_magnitude(is_negative, u128::from(value)));
+    }
+    parse_the_rest::<T>(text, word, begin, is_negative)
+}
+
 /// What [`parse_number_from`] answers, by the number that begins at `start`.
 #[inline(always)]
 fn to_the_end<T: Integer>(
@@ -545,6 +575,9 @@ pub fn parse_number_from<T: Integer>(text: &[u8], word: u128, start: usize) -> R
 {
     if is_by_words::<T>(word, text.len() - start) {
         return parse_by_words::<T>(text, word, start);
+    }
+    if is_hexadecimal::<T>(word, text.len() - start) {
+        return parse_hexadecimal::<T>(text, word, start);
     }
     let head = read_sign::<T>(text, word, start);
     let most = greatest::<T>(head.is_negative);
