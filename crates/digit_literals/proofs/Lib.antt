@@ -4,6 +4,7 @@ pub mod Plain
 pub mod Joined
 pub mod Whole
 pub mod Hexadecimals
+pub mod HexadecimalWord
 pub mod Peeks
 pub mod States
 pub mod Passed

@@ -74,7 +74,7 @@ word_is word l h =
 -- ---- the number
 
 -- the mask keeps the bytes 0 and 4
-kept : (p m q n : ℕ) → p < 256 → q < 256 → m < 2 ^ 24
+pub kept : (p m q n : ℕ) → p < 256 → q < 256 → m < 2 ^ 24
     → bit_and (p + 2 ^ 8 * m + 2 ^ 32 * (q + 2 ^ 8 * n)) 0x0000_00ff_0000_00ff ≡ p + 2 ^ 32 * q
 kept p m q n P Q M =
     let parts : p + 2 ^ 8 * m + 2 ^ 32 * (q + 2 ^ 8 * n)

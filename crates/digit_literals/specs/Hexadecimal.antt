@@ -1,7 +1,8 @@
 -- Of functions that no caller sees: digits of radix 16 with no separator among them. No public
 -- clause uses these words.
-use Rattle.std.specs.Prelude.{◌≡◌, ℕ, ◌-◌, ◌^◌, ◌<◌, ◌≤◌, true, List, length, slice_index}
+use Rattle.std.specs.Prelude.{◌≡◌, ℕ, zero, suc, ◌+◌, ◌-◌, ◌*◌, ◌/◌, ◌%◌, ◌^◌, ◌<◌, ◌≤◌, true, ⊤, Some, List, length, slice_index}
 use Rattle.std.specs.Str.Parse.{digits_value}
+use Rattle.lexical_format.specs.Digits.{digit_of_radix}
 use Rattle.lexical_digits.specs.declared.skip.rule.Rule.{Rule}
 use Rattle.lexical_digits.specs.Separators.{is_digit}
 use Rattle.digit_literals.specs.After.{digits_between}
@@ -13,3 +14,14 @@ pub record AreHexadecimal (rule : Rule) (text : List ℕ) (start end value : ℕ
   pub digits : (q : ℕ) → start ≤ q → q < end → is_digit rule (slice_index text q) ≡ true
   pub is : value ≡ digits_value rule.radix (digits_between rule text start end)
   pub few : value < 16 ^ (end - start)
+
+-- so many bytes of a word are these digits, from the lowest on
+abbrev pub AreSpelt : ℕ → ℕ → ℕ → Type 0
+AreSpelt zero word digits = ⊤
+AreSpelt (suc n) word digits =
+    (digit_of_radix 16 (word % 256) ≡ Some (digits % 256)) × AreSpelt n (word / 256) (digits / 256)
+
+-- the number that so many digits write
+abbrev pub hexadecimal : (ℕ → ℕ) → ℕ → ℕ
+hexadecimal d zero = 0
+hexadecimal d (suc n) = hexadecimal d n * 16 + d n

@@ -46,7 +46,7 @@ fn last_of(digits: u64, count: u32) -> u64
 
 /// The eight bytes from a position on as a word, the first in the lowest byte.
 #[inline(always)]
-fn word_at(text: &[u8], at: usize) -> u64
+pub(super) fn word_at(text: &[u8], at: usize) -> u64
     requires { at + 8 ≤ length text.now }
     ensures { result ≡ spelt 8 (λ i. slice_index text.now (at + i)) }
 {

@@ -1,21 +1,21 @@
-use Rattle.std.proofs.Common.{◌+◌, ◌<◌, ◌^◌, slice_index, sym, ◌∙◌, arith}
+use Rattle.std.proofs.Common.{◌+◌, slice_index, sym, ◌∙◌, arith}
 use Rattle.lexical_digits.specs.declared.skip.component.Component.TheVariants.{Integer}
 use Rattle.lexical_digits.specs.State.{rule_of}
-use Rattle.digit_literals.proofs.Hexadecimals.{hexadecimal_more, few_fit, digit_below}
+use Rattle.digit_literals.proofs.Hexadecimals.{hexadecimal_more, at_most_digits, digit_below}
 use Rattle.digit_literals.proofs.hexadecimal.read_digits.Goals as goal
 
 pub overflow_mul-value : goal.overflow_mul-value
 overflow_mul-value c =
-    let few : c.loop-count.value < 2 ^ 60 =
-    few_fit c.args.start c.loop-count.count c.loop-count.value c.args.limit
-    c.loop-count.invariant.few (omega (arith, c.loop-count-test.true)) c.requires.fits in
+    let few =
+    at_most_digits c.args.start (c.args.start + c.loop-count.count) c.loop-count.value 7
+    c.loop-count.invariant.few (omega (arith, c.loop-count-test.true)) in
     omega (arith, few)
 
 pub overflow_add-value : goal.overflow_add-value
 overflow_add-value c =
-    let few : c.loop-count.value < 2 ^ 60 =
-    few_fit c.args.start c.loop-count.count c.loop-count.value c.args.limit
-    c.loop-count.invariant.few (omega (arith, c.loop-count-test.true)) c.requires.fits in
+    let few =
+    at_most_digits c.args.start (c.args.start + c.loop-count.count) c.loop-count.value 7
+    c.loop-count.invariant.few (omega (arith, c.loop-count-test.true)) in
     let below =
     digit_below (slice_index c.args.text.now (c.args.start + c.loop-count.count))
     c.in_ok-digit.digit (sym c.char_to_digit_const.ensures ∙ c.in_ok-digit.was) in
@@ -23,10 +23,9 @@ overflow_add-value c =
 
 pub loop-count-preserved : goal.loop-count-preserved
 loop-count-preserved c =
-    let at = c.args.start + c.loop-count.count in
     let next =
-    hexadecimal_more (rule_of c.args.word Integer) c.args.text.now c.args.start at
-    c.loop-count.value c.in_ok-digit.digit _ (omega arith)
+    hexadecimal_more (rule_of c.args.word Integer) c.args.text.now c.args.start
+    (c.args.start + c.loop-count.count) c.loop-count.value c.in_ok-digit.digit _ (omega arith)
     c.requires.sixteen c.loop-count.invariant
     (grind (arith, c.loop-count.invariant.within, c.if-at-text.false))
     (sym c.char_to_digit_const.ensures ∙ c.in_ok-digit.was) in
