@@ -149,48 +149,6 @@ pub fn round_from<F: Float>(
     Some(signed(negative, x))
 }
 
-/// [`round_from`] of all digits of a number, in code of its own.
-#[inline(never)]
-fn round_near_apart<F: Float>(
-    negative: bool,
-    digits: u64,
-    places: u64,
-    down: bool,
-    power: u64,
-) -> Option<F>
-    requires digits { 0 < digits }
-    requires places { places < 2 ^ 63 }
-    requires power { power < 2 ^ 32 }
-    ensures { IfSome result (λ x. (n : ℕ) → IsCutAt n digits 0
-        → F.value x ≡ round F.format negative
-        (n * 10 ^ (if down then 0 else power)) (10 ^ (places + (if down then power else 0)))) }
-{
-    round_from(negative, digits, 0, places, down, power)
-}
-
-/// [`round_near_apart`], whose answer in memory belongs to this function, so it is set only where
-/// that is called.
-#[inline(always)]
-pub fn round_near<F: Float>(
-    negative: bool,
-    digits: u64,
-    places: u64,
-    down: bool,
-    power: u64,
-) -> Option<F>
-    requires digits { 0 < digits }
-    requires places { places < 2 ^ 63 }
-    requires power { power < 2 ^ 32 }
-    ensures { IfSome result (λ x. (n : ℕ) → IsCutAt n digits 0
-        → F.value x ≡ round F.format negative
-        (n * 10 ^ (if down then 0 else power)) (10 ^ (places + (if down then power else 0)))) }
-{
-    match round_near_apart(negative, digits, places, down, power) {
-        Some(x) => Some(x),
-        None => None,
-    }
-}
-
 /// [`round_from`] of digits after which others were cut off, in code of its own.
 #[cold]
 #[inline(never)]

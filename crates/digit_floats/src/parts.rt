@@ -411,6 +411,32 @@ pub fn read_short_exponent(text: &[u8], word: u128, at: usize, mark: u8) -> Opti
     })
 }
 
+/// [`read_exponent`] where 1 to 19 digits follow any mark, and no separator is met. Otherwise it
+/// answers `None`.
+#[inline(always)]
+#[tactic(auto, unfolding(crate::specs::Float::exponents))]
+fn read_short_power(text: &[u8], word: u128, at: usize, mark: u8) -> Option<Power>
+    requires supported { IsTrue (is_supported word) }
+    requires decimal { exponent_radix word ≡ 10 }
+    requires within { at ≤ length text.now }
+    ensures value { IfSome result (λ p.
+        p.value ≡ min (digits_value 10 (exponent_digits word text.now mark at)) (2 ^ 64 - 1)) }
+    ensures negative { IfSome result (λ p. p.negative ≡ exponent_negative word text.now mark at) }
+    ensures end { IfSome result (λ p. p.end ≡ exponent_end word text.now mark at) }
+    ensures within { IfSome result (λ p. (at ≤ p.end) × (p.end ≤ length text.now)) }
+    ensures some { IfSome result (λ _. stands (is_mark mark) text.now at ≡ true
+        → 0 < length (exponent_digits word text.now mark at)) }
+{
+    if has_mark(text, at, mark) {
+        return read_short_exponent(text, word, at, mark);
+    }
+    Some(Power {
+        negative: false,
+        value: 0,
+        end: at,
+    })
+}
+
 /// The parts of a number.
 #[derive(Clone, Copy)]
 pub struct Parts {
@@ -445,4 +471,29 @@ pub fn read_parts(text: &[u8], word: u128, marks: Marks, start: usize) -> Result
         }),
         Err(stop) => Err(FloatError::EmptyExponent(stop)),
     }
+}
+
+/// [`read_parts`] of a number whose integer has a digit, where integer and fraction have at most 19
+/// digits, an exponent has 1 to 19, and no separator is met. Otherwise it answers `None`. It is
+/// small, and calls nothing.
+#[inline(always)]
+pub fn read_short_parts(text: &[u8], word: u128, marks: Marks, start: usize) -> Option<Parts>
+    requires supported { IsTrue (is_supported word) }
+    requires decimal { IsDecimal word }
+    requires within { start ≤ length text.now }
+    ensures ends { IfSome result (λ p. end_at word text.now marks start ≡ Ok p.power.end) }
+    ensures is { IfSome result (IsParts word text.now marks start) }
+    ensures few { IfSome result (λ p. p.mantissa.dropped ≡ 0) }
+    ensures within { IfSome result (λ p.
+        (start < p.power.end) × (p.power.end ≤ length text.now)) }
+{
+    let (negative, at) = read_sign(text, start);
+    let whole = read_short_whole(text, word, at)?;
+    let mantissa = read_short_fraction(text, word, whole, marks.point)?;
+    let power = read_short_power(text, word, mantissa.end, marks.exponent)?;
+    Some(Parts {
+        negative,
+        mantissa,
+        power,
+    })
 }

@@ -7,8 +7,56 @@ ghost use Rattle.digit_floats.specs.Float.{IsDecimal, plain_marks, read_at, pars
 
 use super::error::FloatError;
 use super::float::Float;
-use super::parts::{Marks, read_parts};
-use super::round::round_parts;
+use super::parts::{Marks, Parts, read_parts, read_short_parts};
+use super::round::{round_parts, round_short};
+
+/// [`read_float_from`], whatever the number is. In code of its own, so that the one of a short
+/// number has all registers (the rows `x: f64`).
+#[inline(never)]
+#[tactic(auto, using(crate::proofs::Numbers::round_number))]
+fn read_float_apart<F: Float>(
+    text: &[u8],
+    word: u128,
+    start: usize,
+) -> Result<(F, usize), FloatError>
+    requires supported { IsTrue (is_supported word) }
+    requires decimal { IsDecimal word }
+    requires within { start ≤ length text.now }
+    ensures reads { MatchResult result
+        (λ r. read_at word text.now plain_marks F.format start ≡ Ok (F.value r.0, r.1))
+        (λ error. read_at word text.now plain_marks F.format start ≡ Err error) }
+    ensures no_nan { IfOk result (λ r. NotNan (F.value r.0)) }
+    ensures onward { IfOk result (λ r. start < r.1) }
+    ensures within { IfOk result (λ r. r.1 ≤ length text.now) }
+{
+    let parts = read_parts(text, word, Marks::PLAIN, start)?;
+    let x = round_parts::<F>(text, parts.negative, parts.mantissa, parts.power);
+    Ok((x, parts.power.end))
+}
+
+/// [`read_float_apart`], whose answer in memory belongs to this function, so it is set only where
+/// that is called.
+#[inline(always)]
+fn read_float_rest<F: Float>(
+    text: &[u8],
+    word: u128,
+    start: usize,
+) -> Result<(F, usize), FloatError>
+    requires supported { IsTrue (is_supported word) }
+    requires decimal { IsDecimal word }
+    requires within { start ≤ length text.now }
+    ensures reads { MatchResult result
+        (λ r. read_at word text.now plain_marks F.format start ≡ Ok (F.value r.0, r.1))
+        (λ error. read_at word text.now plain_marks F.format start ≡ Err error) }
+    ensures no_nan { IfOk result (λ r. NotNan (F.value r.0)) }
+    ensures onward { IfOk result (λ r. start < r.1) }
+    ensures within { IfOk result (λ r. r.1 ≤ length text.now) }
+{
+    match read_float_apart::<F>(text, word, start) {
+        Ok((x, end)) => Ok((x, end)),
+        Err(error) => Err(error),
+    }
+}
 
 /// The float that begins at a position of a text, and the position after it: a sign, digits with a
 /// point before, among or after them, and an exponent after `e` or `E`. Requires that the word is
@@ -31,9 +79,17 @@ pub fn read_float_from<F: Float>(
     ensures onward { IfOk result (λ r. start < r.1) }
     ensures within { IfOk result (λ r. r.1 ≤ length text.now) }
 {
-    let parts = read_parts(text, word, Marks::PLAIN, start)?;
-    let x = round_parts::<F>(text, parts.negative, parts.mantissa, parts.power);
-    Ok((x, parts.power.end))
+    if let Some(parts) = read_short_parts(text, word, Marks::PLAIN, start) {
+        let Parts {
+            negative,
+            mantissa,
+            power,
+        } = parts;
+        if let Some(x) = round_short::<F>(text, negative, mantissa, power) {
+            return Ok((x, power.end));
+        }
+    }
+    read_float_rest::<F>(text, word, start)
 }
 
 /// [`read_float_from`] from the start of a text on.

@@ -9,7 +9,7 @@ ghost use Rattle.digit_floats.specs.Parts.{integer_of, fraction_of, IsMantissa};
 use super::exact::round_exact;
 use super::float::{Float, signed};
 use super::long::round_digits;
-use super::near::{round_cut, round_from, round_near};
+use super::near::{round_cut, round_from};
 use super::parts::{Mantissa, Power};
 
 /// A zero with a sign, which a zero times any power of ten is.
@@ -21,94 +21,31 @@ fn zero<F: Float>(negative: bool) -> F
     signed(negative, F::of_units(0, 0))
 }
 
-/// The float nearest to the digits, of which the last `places` follow the point, times ten to a
-/// power, if one operation or one product tells.
+/// [`round_parts`] of a mantissa of which no digits were dropped, and that no exponent follows, if
+/// one division or one product tells.
 #[inline(always)]
-fn round_all<F: Float>(
-    negative: bool,
-    digits: u64,
-    places: u64,
-    down: bool,
-    power: u64,
-) -> Option<F>
-    requires places { places < 2 ^ 63 }
-    requires power { power < 2 ^ 32 }
-    ensures { IfSome result (λ x. F.value x ≡ round F.format negative
-        (digits * 10 ^ (if down then 0 else power))
-        (10 ^ (places + (if down then power else 0)))) }
+pub fn round_few<F: Float>(text: &[u8], negative: bool, mantissa: Mantissa) -> Option<F>
+    requires is { IsMantissa text.now mantissa }
+    requires few { mantissa.dropped ≡ 0 }
+    ensures value { IfSome result (λ x. F.value x ≡ round F.format negative
+        (digits_value 10 (integer_of text.now mantissa ++ fraction_of text.now mantissa))
+        (10 ^ mantissa.places)) }
+    ensures no_nan { IfSome result (λ x. NotNan (F.value x)) }
 {
-    if let Some(x) = round_exact::<F>(negative, digits, places, down, power) {
-        return Some(x);
-    }
-    if digits == 0 {
-        return None;
-    }
-    round_from::<F>(negative, digits, 0, places, down, power)
-}
-
-/// [`round_all`] of an exponent that was read.
-#[inline(always)]
-fn round_uncut<F: Float>(negative: bool, digits: u64, places: u64, power: Power) -> Option<F>
-    requires { places < 2 ^ 63 }
-    ensures { IfSome result (λ x. (n : ℕ) → power.value ≡ min n (2 ^ 64 - 1)
-        → F.value x ≡ round F.format negative (digits * 10 ^ (if power.negative then 0 else n))
-        (10 ^ (places + (if power.negative then n else 0)))) }
-{
-    // most numbers have none: for these it is code of its own
-    if power.value == 0 {
-        return round_all::<F>(negative, digits, places, true, 0);
-    }
-    if power.value > 0xffff_ffff {
-        return None;
-    }
-    round_all::<F>(negative, digits, places, power.negative, power.value)
-}
-
-/// The float nearest to the number that integer, fraction and exponent of a text make, with a sign.
-/// `mantissa` and `power` are what [`read_mantissa`](crate::read_mantissa) and
-/// [`read_exponent`](crate::read_exponent) answered of this text.
-#[inline(always)]
-pub fn round_parts<F: Float>(text: &[u8], negative: bool, mantissa: Mantissa, power: Power) -> F
-    requires { IsMantissa text.now mantissa }
-    ensures value { (n : ℕ) → power.value ≡ min n (2 ^ 64 - 1)
-        → F.value result ≡ round F.format negative
-        (digits_value 10 (integer_of text.now mantissa ++ fraction_of text.now mantissa)
-        * 10 ^ (if power.negative then 0 else n))
-        (10 ^ (mantissa.places + (if power.negative then n else 0))) }
-    ensures no_nan { NotNan (F.value result) }
-{
-    // One multiplication or division decides digits and a power of ten that a float holds: up to
-    // 2^53 (of an `f32` 2^24) and 10^22 (10^10). Otherwise one product of 64 bits with a power of
-    // ten decides; of random numbers with 16 digits and more it leaves 1 in 400 undecided, and also
-    // powers beyond its table. These go the long way, by a text for std.
     let places = mantissa.places as u64;
-    let cut = mantissa.dropped as u64;
     let value = mantissa.value;
-    if cut == 0 {
-        if let Some(x) = round_uncut::<F>(negative, value, places, power) {
-            return x;
-        }
-        if value == 0 {
-            return zero(negative);
-        }
-    } else if value > 0 && power.value <= 0xffff_ffff {
-        let near = round_cut::<F>(negative, value, cut, places, power.negative, power.value);
-        if let Some(x) = near {
-            return x;
-        }
+    match F::over_ten_to(value, places) {
+        Some(x) => Some(signed(negative, x)),
+        None if value == 0 => None,
+        None => match round_from::<F>(negative, value, 0, places, false, 0) {
+            Some(x) => Some(x),
+            None => None,
+        },
     }
-    round_digits::<F>(
-        negative,
-        &text[mantissa.start..mantissa.whole_end],
-        &text[mantissa.fraction_start..mantissa.end],
-        places,
-        power,
-    )
 }
 
 /// [`round_parts`] of a mantissa of which no digits were dropped, if one operation or one product
-/// tells. It is small, so that numbers of a form with an exponent are read in place (the row `z:
-/// JSON, 1 to 3 digits, an exponent`).
+/// tells.
 #[inline(always)]
 pub fn round_few_with<F: Float>(
     text: &[u8],
@@ -133,32 +70,81 @@ pub fn round_few_with<F: Float>(
     match round_exact::<F>(negative, value, places, power.negative, power.value) {
         Some(x) => Some(x),
         None if value == 0 => None,
-        None => match round_near::<F>(negative, value, places, power.negative, power.value) {
+        None => match round_from::<F>(negative, value, 0, places, power.negative, power.value) {
             Some(x) => Some(x),
             None => None,
         },
     }
 }
 
-/// [`round_parts`] of a mantissa with few digits that no exponent follows, if one division or one
-/// product tells. It is small.
+/// [`round_few_with`], by code of its own for the numbers without an exponent, which are the most.
 #[inline(always)]
-pub fn round_few<F: Float>(text: &[u8], negative: bool, mantissa: Mantissa) -> Option<F>
+pub fn round_short<F: Float>(
+    text: &[u8],
+    negative: bool,
+    mantissa: Mantissa,
+    power: Power,
+) -> Option<F>
     requires is { IsMantissa text.now mantissa }
     requires few { mantissa.dropped ≡ 0 }
-    ensures value { IfSome result (λ x. F.value x ≡ round F.format negative
-        (digits_value 10 (integer_of text.now mantissa ++ fraction_of text.now mantissa))
-        (10 ^ mantissa.places)) }
+    ensures value { IfSome result (λ x. (n : ℕ) → power.value ≡ min n (2 ^ 64 - 1)
+        → F.value x ≡ round F.format negative
+        (digits_value 10 (integer_of text.now mantissa ++ fraction_of text.now mantissa)
+        * 10 ^ (if power.negative then 0 else n))
+        (10 ^ (mantissa.places + (if power.negative then n else 0)))) }
     ensures no_nan { IfSome result (λ x. NotNan (F.value x)) }
 {
-    let places = mantissa.places as u64;
-    let value = mantissa.value;
-    match F::over_ten_to(value, places) {
-        Some(x) => Some(signed(negative, x)),
-        None if value == 0 => None,
-        None => match round_near::<F>(negative, value, places, false, 0) {
+    if power.value == 0 {
+        match round_few::<F>(text, negative, mantissa) {
             Some(x) => Some(x),
             None => None,
-        },
+        }
+    } else {
+        match round_few_with::<F>(text, negative, mantissa, power) {
+            Some(x) => Some(x),
+            None => None,
+        }
     }
+}
+
+/// The float nearest to the number that integer, fraction and exponent of a text make, with a sign.
+/// `mantissa` and `power` are what [`read_mantissa`](crate::read_mantissa) and
+/// [`read_exponent`](crate::read_exponent) answered of this text.
+#[inline(always)]
+pub fn round_parts<F: Float>(text: &[u8], negative: bool, mantissa: Mantissa, power: Power) -> F
+    requires { IsMantissa text.now mantissa }
+    ensures value { (n : ℕ) → power.value ≡ min n (2 ^ 64 - 1)
+        → F.value result ≡ round F.format negative
+        (digits_value 10 (integer_of text.now mantissa ++ fraction_of text.now mantissa)
+        * 10 ^ (if power.negative then 0 else n))
+        (10 ^ (mantissa.places + (if power.negative then n else 0))) }
+    ensures no_nan { NotNan (F.value result) }
+{
+    // One multiplication or division decides digits and a power of ten that a float holds: up to
+    // 2^53 (of an `f32` 2^24) and 10^22 (10^10). Otherwise one product of 64 bits with a power of
+    // ten decides; of random numbers with 16 digits and more it leaves 1 in 400 undecided, and also
+    // powers beyond its table. These go the long way, by a text for std.
+    let places = mantissa.places as u64;
+    let cut = mantissa.dropped as u64;
+    let value = mantissa.value;
+    if cut == 0 {
+        if let Some(x) = round_short::<F>(text, negative, mantissa, power) {
+            return x;
+        }
+        if value == 0 {
+            return zero(negative);
+        }
+    } else if value > 0 && power.value <= 0xffff_ffff {
+        let near = round_cut::<F>(negative, value, cut, places, power.negative, power.value);
+        if let Some(x) = near {
+            return x;
+        }
+    }
+    round_digits::<F>(
+        negative,
+        &text[mantissa.start..mantissa.whole_end],
+        &text[mantissa.fraction_start..mantissa.end],
+        places,
+        power,
+    )
 }

@@ -328,7 +328,8 @@ pub fn read_some_digits_from(
 {
     let rule = Rule::of(word, component);
     let first = decimal_at(text, rule, start)?;
-    let read = few_slice(text, rule, start, 0, 0, Some(first))?;
+    let plain = begin(text, rule, 10, start, 0, Some(first), None);
+    let read = few_slice(text, rule, start, 0, 0, plain)?;
     let all = FirstDigits {
         value: read.value,
         count: read.count,
@@ -366,7 +367,8 @@ pub fn read_few_digits_from(
     ensures end { IfSome result (λ read. read.1 ≤ length text.now) }
 {
     let rule = Rule::of(word, component);
-    let read = few_slice(text, rule, start, before, counted, None)?;
+    let plain = read_plain(text, rule, start, before, true);
+    let read = few_slice(text, rule, start, before, counted, plain)?;
     let all = FirstDigits {
         value: read.value,
         count: read.count,
@@ -376,7 +378,7 @@ pub fn read_few_digits_from(
 }
 
 /// Reads the digits of a rule with radix 10 from `start` on, where no separator is met, and with
-/// those before at most 19 are there. The digit at `start` may be known.
+/// those before at most 19 are there. Some of them were read.
 #[inline(always)]
 fn few_slice(
     text: &[u8],
@@ -384,21 +386,20 @@ fn few_slice(
     start: usize,
     before: u64,
     counted: usize,
-    first: Option<u32>,
+    plain: Plain,
 ) -> Option<ReadTo>
     requires supported { IsSupported rule }
     requires radix { rule.radix ≡ 10 }
-    requires within { start ≤ length text.now }
     requires before { before < 10 ^ counted }
     requires counted { counted ≤ 19 }
-    requires first { IfSome first (IsFirst rule text.now start before None) }
+    requires plain { ArePlain rule text.now start before None plain.end plain.value }
     ensures reads { IfSome result (IsOffSlice rule text.now start before (Some (10 ^ 19 - 1))) }
     ensures all { IfSome result (λ read. read.is_too_large ≡ false) }
     ensures few { IfSome result (λ read. counted + read.count ≤ 19) }
     ensures below { IfSome result (λ read. read.value < 10 ^ (counted + read.count)) }
-    ensures some { IfSome first (λ _. IfSome result (λ read. 0 < read.count)) }
+    ensures onward { IfSome result (λ read. plain.end ≤ start + read.count) }
 {
-    let read = read_bare(text, rule, start, before, first)?;
+    let read = read_bare(text, rule, start, before, plain)?;
     if read.count > 19 - counted {
         return None;
     }

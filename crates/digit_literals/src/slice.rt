@@ -151,7 +151,8 @@ pub(super) fn begin(
     requires within { start ≤ length text.now }
     requires fits { IfSome most (λ m. before ≤ m) }
     requires first { IfSome first (IsFirst rule text.now start before most) }
-    ensures { ArePlain rule text.now start before most result.end result.value }
+    ensures plain { ArePlain rule text.now start before most result.end result.value }
+    ensures some { IfSome first (λ _. start < result.end) }
 {
     match first {
         Some(digit) => Plain {
@@ -242,7 +243,7 @@ pub(super) fn read_on(
     })
 }
 
-/// [`read_radix`] in radix 10, where no separator is met. It is small, as what is inlined in many
+/// [`read_on`] in radix 10, where no separator is met. It is small, as what is inlined in many
 /// places must be.
 #[inline(always)]
 #[tactic(auto, using(crate::proofs::Passed::reading))]
@@ -251,21 +252,17 @@ pub(super) fn read_bare(
     rule: Rule,
     start: usize,
     before: u64,
-    first: Option<u32>,
+    plain: Plain,
 ) -> Option<ReadTo>
     requires supported { IsSupported rule }
     requires radix { rule.radix ≡ 10 }
-    requires within { start ≤ length text.now }
-    requires first { IfSome first (IsFirst rule text.now start before None) }
+    requires plain { ArePlain rule text.now start before None plain.end plain.value }
     ensures reads { IfSome result (IsOffSlice rule text.now start before None) }
     ensures all { IfSome result (λ read. read.is_too_large ≡ false) }
-    ensures some { IfSome first (λ _. IfSome result (λ read. 0 < read.count)) }
+    ensures onward { IfSome result (λ read. plain.end ≤ start + read.count) }
 {
-    let (from, mut value) = match first {
-        Some(digit) => (start + 1, before * 10 + u64::from(digit)),
-        None => (start, before),
-    };
-    for at in from..text.len() {
+    let mut value = plain.value;
+    for at in plain.end..text.len() {
         let byte = text[at];
         let Some(digit) = char_to_digit_const(byte, 10) else {
             if rule.is_separator(byte) {

@@ -39,6 +39,7 @@ pub(super) fn has_byte(text: &[u8], at: usize, byte: u8) -> bool
 #[inline(always)]
 pub(super) fn has_mark(text: &[u8], at: usize, mark: u8) -> bool
     ensures is { result ≡ stands (is_mark mark) text.now at }
+    ensures within { result ≡ true → at < length text.now }
 {
     match text.get(at) {
         Some(byte) => *byte == mark || *byte == mark.to_ascii_uppercase(),
@@ -218,104 +219,8 @@ fn round_at<F: Float>(
     round_parts::<F>(text, negative, mantissa, power)
 }
 
-/// The exponent at a position, which is 0 without a mark, if digits follow any mark.
-#[inline(always)]
-fn power_at(text: &[u8], word: u128, at: usize, mark: u8) -> Option<Power>
-    requires supported { IsTrue (is_supported word) }
-    requires decimal { exponent_radix word ≡ 10 }
-    requires within { at ≤ length text.now }
-    ensures value { IfSome result (λ p.
-        p.value ≡ min (digits_value 10 (exponent_digits word text.now mark at)) (2 ^ 64 - 1)) }
-    ensures negative { IfSome result (λ p. p.negative ≡ exponent_negative word text.now mark at) }
-    ensures end { IfSome result (λ p. p.end ≡ exponent_end word text.now mark at) }
-    ensures within { IfSome result (λ p. (at ≤ p.end) × (p.end ≤ length text.now)) }
-    ensures some { IfSome result (λ _. stands (is_mark mark) text.now at ≡ true
-        → 0 < length (exponent_digits word text.now mark at)) }
-{
-    match read_exponent_apart(text, word, at, mark) {
-        Ok(power) => Some(power),
-        Err(_) => None,
-    }
-}
-
-/// The exponent whose mark is at a position, if few digits follow it.
-#[inline(always)]
-#[tactic(auto, using(std::proofs::lemmas::Option::gets))]
-fn short_power_at(text: &[u8], word: u128, at: usize, mark: u8) -> Option<Power>
-    requires supported { IsTrue (is_supported word) }
-    requires decimal { exponent_radix word ≡ 10 }
-    requires within { at ≤ length text.now }
-    ensures value { IfSome result (λ p.
-        p.value ≡ min (digits_value 10 (exponent_digits word text.now mark at)) (2 ^ 64 - 1)) }
-    ensures negative { IfSome result (λ p. p.negative ≡ exponent_negative word text.now mark at) }
-    ensures end { IfSome result (λ p. p.end ≡ exponent_end word text.now mark at) }
-    ensures within { IfSome result (λ p. (at ≤ p.end) × (p.end ≤ length text.now)) }
-    ensures some { IfSome result (λ _. 0 < length (exponent_digits word text.now mark at)) }
-{
-    if at < text.len() && has_mark(text, at, mark) {
-        read_short_exponent(text, word, at, mark)
-    } else {
-        None
-    }
-}
-
-/// The float of a mantissa, and of its exponent, if one follows, and where it ends: if digits
-/// follow the mark of an exponent. In code of its own.
-#[inline(never)]
-fn read_powered<F: Float>(
-    text: &[u8],
-    word: u128,
-    marks: Marks,
-    negative: bool,
-    mantissa: Mantissa,
-) -> Option<(F, usize)>
-    requires supported { IsTrue (is_supported word) }
-    requires decimal { IsDecimal word }
-    requires is { IsMantissaOf word marks.point text.now mantissa }
-    ensures value { IfSome result (λ r. F.value r.0
-        ≡ nearest_float F.format negative (parts_at word text.now marks mantissa.start)) }
-    ensures number { IfSome result (λ r. NotNan (F.value r.0)) }
-    ensures ends { IfSome result (λ r.
-        r.1 ≡ exponent_end word text.now marks.exponent mantissa.end) }
-    ensures some { IfSome result (λ _. stands (is_mark marks.exponent) text.now mantissa.end ≡ true
-        → 0 < length (exponent_digits word text.now marks.exponent mantissa.end)) }
-    ensures within { IfSome result (λ r. (mantissa.end ≤ r.1) × (r.1 ≤ length text.now)) }
-{
-    let power = power_at(text, word, mantissa.end, marks.exponent)?;
-    let x = round_parts::<F>(text, negative, mantissa, power);
-    Some((x, power.end))
-}
-
-/// [`read_powered`], whose mantissa and answer in memory belong to this function, so they are set
-/// only where that is called.
-#[inline(always)]
-fn read_powered_apart<F: Float>(
-    text: &[u8],
-    word: u128,
-    marks: Marks,
-    negative: bool,
-    mantissa: Mantissa,
-) -> Option<(F, usize)>
-    requires supported { IsTrue (is_supported word) }
-    requires decimal { IsDecimal word }
-    requires is { IsMantissaOf word marks.point text.now mantissa }
-    ensures value { IfSome result (λ r. F.value r.0
-        ≡ nearest_float F.format negative (parts_at word text.now marks mantissa.start)) }
-    ensures number { IfSome result (λ r. NotNan (F.value r.0)) }
-    ensures ends { IfSome result (λ r.
-        r.1 ≡ exponent_end word text.now marks.exponent mantissa.end) }
-    ensures some { IfSome result (λ _. stands (is_mark marks.exponent) text.now mantissa.end ≡ true
-        → 0 < length (exponent_digits word text.now marks.exponent mantissa.end)) }
-    ensures within { IfSome result (λ r. (mantissa.end ≤ r.1) × (r.1 ≤ length text.now)) }
-{
-    match read_powered::<F>(text, word, marks, negative, mantissa) {
-        Some((x, end)) => Some((x, end)),
-        None => None,
-    }
-}
-
-/// [`read_powered`] where few digits follow a mark, and one operation or one product tells. It is
-/// only for speed (the rows `z: JSON, 1 to 3 digits, an exponent`).
+/// The float of a mantissa and of the exponent whose mark follows it, and where it ends, if 1 to 19
+/// digits follow the mark, and one operation or one product tells.
 #[inline(always)]
 fn read_few_powered<F: Float>(
     text: &[u8],
@@ -328,50 +233,23 @@ fn read_few_powered<F: Float>(
     requires decimal { IsDecimal word }
     requires is { IsMantissaOf word marks.point text.now mantissa }
     requires few { mantissa.dropped ≡ 0 }
+    requires mark { stands (is_mark marks.exponent) text.now mantissa.end ≡ true }
+    requires within { mantissa.end < length text.now }
     ensures value { IfSome result (λ r. F.value r.0
         ≡ nearest_float F.format negative (parts_at word text.now marks mantissa.start)) }
     ensures number { IfSome result (λ r. NotNan (F.value r.0)) }
     ensures ends { IfSome result (λ r.
         r.1 ≡ exponent_end word text.now marks.exponent mantissa.end) }
-    ensures some { IfSome result (λ _. stands (is_mark marks.exponent) text.now mantissa.end ≡ true
-        → 0 < length (exponent_digits word text.now marks.exponent mantissa.end)) }
+    ensures some { IfSome result (λ _.
+        0 < length (exponent_digits word text.now marks.exponent mantissa.end)) }
     ensures within { IfSome result (λ r. (mantissa.end ≤ r.1) × (r.1 ≤ length text.now)) }
 {
-    let power = short_power_at(text, word, mantissa.end, marks.exponent)?;
+    let power = read_short_exponent(text, word, mantissa.end, marks.exponent)?;
     let x = round_few_with::<F>(text, negative, mantissa, power)?;
     Some((x, power.end))
 }
 
-/// [`read_powered`], in place if it is short.
-#[inline(always)]
-fn read_any_powered<F: Float>(
-    text: &[u8],
-    word: u128,
-    marks: Marks,
-    negative: bool,
-    mantissa: Mantissa,
-) -> Option<(F, usize)>
-    requires supported { IsTrue (is_supported word) }
-    requires decimal { IsDecimal word }
-    requires is { IsMantissaOf word marks.point text.now mantissa }
-    requires few { mantissa.dropped ≡ 0 }
-    ensures value { IfSome result (λ r. F.value r.0
-        ≡ nearest_float F.format negative (parts_at word text.now marks mantissa.start)) }
-    ensures number { IfSome result (λ r. NotNan (F.value r.0)) }
-    ensures ends { IfSome result (λ r.
-        r.1 ≡ exponent_end word text.now marks.exponent mantissa.end) }
-    ensures some { IfSome result (λ _. stands (is_mark marks.exponent) text.now mantissa.end ≡ true
-        → 0 < length (exponent_digits word text.now marks.exponent mantissa.end)) }
-    ensures within { IfSome result (λ r. (mantissa.end ≤ r.1) × (r.1 ≤ length text.now)) }
-{
-    if let Some((x, end)) = read_few_powered::<F>(text, word, marks, negative, mantissa) {
-        return Some((x, end));
-    }
-    read_powered_apart::<F>(text, word, marks, negative, mantissa)
-}
-
-/// The float of a mantissa, if a fraction follows its point, or else a mark follows it, and digits
-/// follow any mark.
+/// [`read_few_powered`] by a form that has an exponent here.
 #[inline(always)]
 fn read_marked<F: Float>(
     text: &[u8],
@@ -386,8 +264,8 @@ fn read_marked<F: Float>(
     requires zeros { has_more_zeros form text.now mantissa.start ≡ false }
     requires pointed { stands (is_point form.marks.point) text.now mantissa.whole_end ≡ true
         → 0 < mantissa.places }
-    requires marked { stands (is_point form.marks.point) text.now mantissa.whole_end ≡ false
-        → stands (is_mark form.marks.exponent) text.now mantissa.end ≡ true }
+    requires mark { stands (is_mark form.marks.exponent) text.now mantissa.end ≡ true }
+    requires within { mantissa.end < length text.now }
     requires exponents { allows_exponent form.exponents (nat_lt 0 mantissa.places) ≡ true }
     requires few { mantissa.dropped ≡ 0 }
     ensures is { IfSome result (λ r.
@@ -396,7 +274,7 @@ fn read_marked<F: Float>(
     ensures within { IfSome result (λ r. (mantissa.end ≤ r.1) × (r.1 ≤ length text.now)) }
 {
     let word = form.integers.decimal;
-    match read_any_powered::<F>(text, word, form.marks, negative, mantissa) {
+    match read_few_powered::<F>(text, word, form.marks, negative, mantissa) {
         Some((x, end)) => Some((x, end)),
         None => None,
     }
@@ -419,20 +297,22 @@ fn read_fraction(text: &[u8], form: Form, whole: Mantissa) -> Option<Mantissa>
     read_short_fraction(text, form.integers.decimal, whole, form.marks.point)
 }
 
-/// The float of a mantissa that no mark of an exponent follows, if one division tells.
+/// The float of a mantissa that no mark of an exponent follows, if one division or one product
+/// tells.
 #[inline(always)]
-fn round_short<F: Float>(text: &[u8], form: Form, negative: bool, mantissa: Mantissa) -> Option<F>
+fn round_unmarked<F: Float>(
+    text: &[u8],
+    form: Form,
+    negative: bool,
+    mantissa: Mantissa,
+) -> Option<F>
     requires is { IsMantissaAt form text.now mantissa }
     requires few { mantissa.dropped ≡ 0 }
+    requires none { stands (is_mark form.marks.exponent) text.now mantissa.end ≡ false }
     ensures value { IfSome result (λ x. F.value x ≡ nearest_float F.format negative
         (parts_at form.integers.decimal text.now form.marks mantissa.start)) }
     ensures number { IfSome result (λ x. NotNan (F.value x)) }
-    ensures none { IfSome result (λ _.
-        stands (is_mark form.marks.exponent) text.now mantissa.end ≡ false) }
 {
-    if has_mark(text, mantissa.end, form.marks.exponent) {
-        return None;
-    }
     match round_few::<F>(text, negative, mantissa) {
         Some(x) => Some(x),
         None => None,
@@ -472,19 +352,18 @@ pub fn read_short_float<F: Float>(
         return None;
     }
     let mantissa = read_fraction(text, form, whole)?;
-    if has_byte(text, mantissa.whole_end, form.marks.point) {
-        if mantissa.places == 0 {
-            return None;
-        }
-        if let Some(x) = round_short::<F>(text, form, negative, mantissa) {
-            return Some((x, mantissa.end));
-        }
-    }
-    let has_fraction = mantissa.places > 0;
-    if !form.exponents.allow(has_fraction) {
+    if has_byte(text, mantissa.whole_end, form.marks.point) && mantissa.places == 0 {
         return None;
     }
-    read_marked::<F>(text, form, negative, mantissa)
+    if has_mark(text, mantissa.end, form.marks.exponent) {
+        let has_fraction = mantissa.places > 0;
+        if !form.exponents.allow(has_fraction) {
+            return None;
+        }
+        return read_marked::<F>(text, form, negative, mantissa);
+    }
+    let x = round_unmarked::<F>(text, form, negative, mantissa)?;
+    Some((x, mantissa.end))
 }
 
 /// The float that few digits are by themselves, if one division tells.

@@ -12,8 +12,8 @@ returns-in-Some-clause-value g c =
     let exact = exact_of _ _ _ c.requires.few (cut_at _ _ _ c.requires.is.first) in
     rw (← exact) (c.signed.ensures _ _ c.in-Some.ensures)
 
-pub returns-in-Some-round_near-clause-value : goal.returns-in-Some-round_near-clause-value
-returns-in-Some-round_near-clause-value g c =
+pub returns-in-Some-round_from-clause-value : goal.returns-in-Some-round_from-clause-value
+returns-in-Some-round_from-clause-value g c =
     let f = g.F.Float.format in
     let m = c.args.mantissa in
     let n = digits_value 10 (integer_of c.args.text.now m ++ fraction_of c.args.text.now m) in
@@ -23,11 +23,11 @@ returns-in-Some-round_near-clause-value g c =
     let e : round f c.args.negative (n * 10 ^ 0) (10 ^ (m.places + 0))
     ≡ round f c.args.negative n (10 ^ m.places)
     = rw (one, same) refl in
-    c.in-Some-round_near.ensures n cut ∙ e
+    c.in-Some-round_from.ensures n cut ∙ e
 
 pub returns-in-Some-clause-no_nan : goal.returns-in-Some-clause-no_nan
 returns-in-Some-clause-no_nan g c = number_is _ _ _ _ (returns-in-Some-clause-value g c)
 
-pub returns-in-Some-round_near-clause-no_nan : goal.returns-in-Some-round_near-clause-no_nan
-returns-in-Some-round_near-clause-no_nan g c =
-    number_is _ _ _ _ (returns-in-Some-round_near-clause-value g c)
+pub returns-in-Some-round_from-clause-no_nan : goal.returns-in-Some-round_from-clause-no_nan
+returns-in-Some-round_from-clause-no_nan g c =
+    number_is _ _ _ _ (returns-in-Some-round_from-clause-value g c)

@@ -14,13 +14,13 @@ pub returns-in-Some-clause-no_nan : goal.returns-in-Some-clause-no_nan
 returns-in-Some-clause-no_nan g c =
     number_is _ _ _ _ (returns-in-Some-clause-value g c c.args.power.value (omega arith))
 
-pub returns-in-Some-round_near-clause-value : goal.returns-in-Some-round_near-clause-value
-returns-in-Some-round_near-clause-value g c n e =
+pub returns-in-Some-round_from-clause-value : goal.returns-in-Some-round_from-clause-value
+returns-in-Some-round_from-clause-value g c n e =
     let few : n ≡ c.args.power.value = omega arith in
     let cut = rw c.requires.few at (cut_at _ _ _ c.requires.is.first) in
-    rw few (c.in-Some-round_near.ensures _ cut)
+    rw few (c.in-Some-round_from.ensures _ cut)
 
-pub returns-in-Some-round_near-clause-no_nan : goal.returns-in-Some-round_near-clause-no_nan
-returns-in-Some-round_near-clause-no_nan g c =
+pub returns-in-Some-round_from-clause-no_nan : goal.returns-in-Some-round_from-clause-no_nan
+returns-in-Some-round_from-clause-no_nan g c =
     number_is _ _ _ _
-    (returns-in-Some-round_near-clause-value g c c.args.power.value (omega arith))
+    (returns-in-Some-round_from-clause-value g c c.args.power.value (omega arith))

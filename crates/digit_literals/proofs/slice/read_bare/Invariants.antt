@@ -1,5 +1,4 @@
 use Rattle.std.proofs.Common.{◌≡◌, ◌+◌, ◌%◌, ◌^◌, ◌≤◌, length}
-use Rattle.std.specs.Prelude.{IfSome}
 use Rattle.std.specs.Str.Parse.{digits_value_after}
 use Rattle.digit_literals.specs.After.{digits_between}
 use Rattle.digit_literals.proofs.Passed.{HasPassed}
@@ -11,6 +10,6 @@ invariant-loop-at l =
     record {
       passed : HasPassed l.rule l.text l.start l.at;
       all : l.at ≡ l.start + length digits;
-      some : IfSome l.fn.first (λ _. l.start + 1 ≤ l.at);
+      onward : l.fn.plain.end ≤ l.at;
       wrapped : l.value ≡ digits_value_after l.rule.radix l.before digits % 2 ^ 64;
     }

@@ -16,8 +16,8 @@ returns-in-Some-clause-is g c =
     omega (arith, digits, places, c.requires.some) in
     let pointed = rw (is.whole_end, places) at c.requires.pointed in
     let follows = rw is.ends at e.some in
-    let marked = rw (is.whole_end, is.ends) at c.requires.marked in
+    let mark = rw is.ends at c.requires.mark in
     let allowed = rw places at c.requires.exponents in
     rw (e.ends, is.ends) (powered_float f text m.start c.requires.one_mark whole pointed
     c.requires.zeros
-    g.F.Float.format c.args.negative _ e.value allowed follows marked)
+    g.F.Float.format c.args.negative _ e.value allowed (λ _. follows) (λ _. mark))

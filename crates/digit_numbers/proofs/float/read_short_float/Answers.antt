@@ -3,8 +3,8 @@ use Rattle.digit_numbers.specs.Numbers.{whole_digits, fraction}
 use Rattle.digit_numbers.proofs.Short.{pointed_float}
 use Rattle.digit_numbers.proofs.float.read_short_float.Goals as goal
 
-pub returns-in-Some-clause-is : goal.returns-in-Some-clause-is
-returns-in-Some-clause-is g c =
+pub returns-clause-is : goal.returns-clause-is
+returns-clause-is g c =
     let f = c.args.form in
     let text = c.args.text.now in
     let m = c.in_ok-mantissa.mantissa in
