@@ -328,6 +328,16 @@ pub fn has_short_zeros(text: &[u8], form: Form, whole: Mantissa) -> bool
     !form.float_zeros && is_zero(text, whole.start) && whole.start + 1 < whole.whole_end
 }
 
+/// Whether a point follows the integer, and no digit the point.
+#[inline(always)]
+fn lacks_fraction(text: &[u8], form: Form, mantissa: Mantissa) -> bool
+    ensures { result ≡ false
+        → stands (is_point form.marks.point) text.now mantissa.whole_end ≡ true
+        → 0 < mantissa.places }
+{
+    has_byte(text, mantissa.whole_end, form.marks.point) && mantissa.places == 0
+}
+
 /// The float of the digits before a point, if it is short: digits follow the point or the mark of
 /// an exponent, which the form has there, and it refuses no first `0`.
 #[inline(always)]
@@ -352,7 +362,7 @@ pub fn read_short_float<F: Float>(
         return None;
     }
     let mantissa = read_fraction(text, form, whole)?;
-    if has_byte(text, mantissa.whole_end, form.marks.point) && mantissa.places == 0 {
+    if lacks_fraction(text, form, mantissa) {
         return None;
     }
     if has_mark(text, mantissa.end, form.marks.exponent) {
