@@ -1,9 +1,10 @@
 //! Numbers of JSON by `digit_numbers`, and the same texts by the calls that read only one kind.
 
-ghost use Rattle.std.specs.Prelude.{◌≡◌, IsTrue};
+ghost use Rattle.std.specs.Prelude.{◌≡◌, None, IsTrue};
 ghost use Rattle.lexical_format.specs.Word.{is_supported};
 ghost use Rattle.digit_floats.specs.Float.{IsDecimal};
 ghost use Rattle.digit_languages.specs.Words.{IsLanguage};
+ghost use Rattle.digit_numbers.specs.Values.{IsNoNan};
 
 use super::Outcome;
 use super::format::Format;
@@ -12,7 +13,6 @@ use digit_floats::read_float;
 use digit_languages::{Language, languages, read_literal};
 use digit_numbers::{Form, Number, forms, is_form, parse_number_of, read_number_of};
 use lexical_format::NumberFormat;
-use std::num::f64_to_bits_with_nan;
 
 /// JSON's integers with another word.
 #[inline(always)]
@@ -31,7 +31,8 @@ fn language_of(word: u128) -> Language
 #[inline(always)]
 fn form_of(word: u128) -> Form
     requires supported { IsTrue (is_supported word) }
-    ensures { result.integers.decimal ≡ word }
+    ensures word { result.integers.decimal ≡ word }
+    ensures no_name { result.specials ≡ None }
 {
     Form {
         integers: language_of(word),
@@ -56,7 +57,9 @@ fn low(magnitude: u128) -> u64 {
 
 /// A number, and where it ends.
 #[inline(always)]
-fn outcome_of(number: Number<f64>, end: usize) -> Outcome {
+fn outcome_of(number: Number<f64>, end: usize) -> Outcome
+    requires { IsNoNan (λ x. x) number }
+{
     match number {
         Number::Integer {
             negative,
@@ -71,7 +74,7 @@ fn outcome_of(number: Number<f64>, end: usize) -> Outcome {
             };
             Outcome::of(signed, end as u64)
         }
-        Number::Float(x) => Outcome::of(f64_to_bits_with_nan(x), end as u64),
+        Number::Float(x) => Outcome::of(x.to_bits(), end as u64),
     }
 }
 
@@ -81,6 +84,7 @@ struct Numbers;
 
 impl Work for Numbers {
     #[inline(always)]
+    #[tactic(auto, unfolding(digit_numbers::specs::Specials::special_at))]
     fn on<F: Format>(text: &[u8], format: F) -> Outcome {
         let word = format.word();
         let form = form_of(word);
@@ -99,6 +103,7 @@ struct Parsed;
 
 impl Work for Parsed {
     #[inline(always)]
+    #[tactic(auto, unfolding(digit_numbers::specs::Specials::special_at))]
     fn on<F: Format>(text: &[u8], format: F) -> Outcome {
         let form = form_of(format.word());
         if !is_form(form) {
@@ -135,7 +140,7 @@ impl Work for Floats {
             return Outcome::nothing();
         }
         match read_float::<f64>(text, word) {
-            Ok((x, end)) => Outcome::of(f64_to_bits_with_nan(x), end as u64),
+            Ok((x, end)) => Outcome::of(x.to_bits(), end as u64),
             Err(_) => Outcome::nothing(),
         }
     }

@@ -249,7 +249,7 @@ fn read_few_powered<F: Float>(
     Some((x, power.end))
 }
 
-/// [`read_few_powered`] by a form that has an exponent here.
+/// [`read_few_powered`], if the form has an exponent here.
 #[inline(always)]
 fn read_marked<F: Float>(
     text: &[u8],
@@ -266,13 +266,16 @@ fn read_marked<F: Float>(
         → 0 < mantissa.places }
     requires mark { stands (is_mark form.marks.exponent) text.now mantissa.end ≡ true }
     requires within { mantissa.end < length text.now }
-    requires exponents { allows_exponent form.exponents (nat_lt 0 mantissa.places) ≡ true }
     requires few { mantissa.dropped ≡ 0 }
     ensures is { IfSome result (λ r.
         IsFloatAt form text.now mantissa.start negative F.format (F.value r.0) r.1) }
     ensures number { IfSome result (λ r. NotNan (F.value r.0)) }
     ensures within { IfSome result (λ r. (mantissa.end ≤ r.1) × (r.1 ≤ length text.now)) }
 {
+    let has_fraction = mantissa.places > 0;
+    if !form.exponents.allow(has_fraction) {
+        return None;
+    }
     let word = form.integers.decimal;
     match read_few_powered::<F>(text, word, form.marks, negative, mantissa) {
         Some((x, end)) => Some((x, end)),
@@ -328,20 +331,10 @@ pub fn has_short_zeros(text: &[u8], form: Form, whole: Mantissa) -> bool
     !form.float_zeros && is_zero(text, whole.start) && whole.start + 1 < whole.whole_end
 }
 
-/// Whether a point follows the integer, and no digit the point.
+/// The float of the digits before a point that is there, if it is short: digits follow the point,
+/// and any mark of an exponent, which the form has there, and it refuses no first `0`.
 #[inline(always)]
-fn lacks_fraction(text: &[u8], form: Form, mantissa: Mantissa) -> bool
-    ensures { result ≡ false
-        → stands (is_point form.marks.point) text.now mantissa.whole_end ≡ true
-        → 0 < mantissa.places }
-{
-    has_byte(text, mantissa.whole_end, form.marks.point) && mantissa.places == 0
-}
-
-/// The float of the digits before a point, if it is short: digits follow the point or the mark of
-/// an exponent, which the form has there, and it refuses no first `0`.
-#[inline(always)]
-pub fn read_short_float<F: Float>(
+pub fn read_short_pointed<F: Float>(
     text: &[u8],
     form: Form,
     negative: bool,
@@ -351,8 +344,7 @@ pub fn read_short_float<F: Float>(
     requires one_mark { form.other_mark ≡ None }
     requires is { IsShort form.integers.decimal text.now whole }
     requires some { 0 < whole.digits }
-    requires follows { stands (is_point form.marks.point) text.now whole.whole_end ≡ false
-        → stands (is_mark form.marks.exponent) text.now whole.whole_end ≡ true }
+    requires point { stands (is_point form.marks.point) text.now whole.whole_end ≡ true }
     ensures is { IfSome result (λ r.
         IsFloatAt form text.now whole.start negative F.format (F.value r.0) r.1) }
     ensures number { IfSome result (λ r. NotNan (F.value r.0)) }
@@ -362,18 +354,42 @@ pub fn read_short_float<F: Float>(
         return None;
     }
     let mantissa = read_fraction(text, form, whole)?;
-    if lacks_fraction(text, form, mantissa) {
+    if mantissa.places == 0 {
         return None;
     }
     if has_mark(text, mantissa.end, form.marks.exponent) {
-        let has_fraction = mantissa.places > 0;
-        if !form.exponents.allow(has_fraction) {
-            return None;
-        }
         return read_marked::<F>(text, form, negative, mantissa);
     }
     let x = round_unmarked::<F>(text, form, negative, mantissa)?;
     Some((x, mantissa.end))
+}
+
+/// The float of the digits before the mark of an exponent that is there, if it is short: the form
+/// has an exponent there, digits follow the mark, and it refuses no first `0`.
+#[inline(always)]
+pub fn read_short_power<F: Float>(
+    text: &[u8],
+    form: Form,
+    negative: bool,
+    whole: Mantissa,
+) -> Option<(F, usize)>
+    requires form { IsForm form }
+    requires one_mark { form.other_mark ≡ None }
+    requires is { IsShort form.integers.decimal text.now whole }
+    requires some { 0 < whole.digits }
+    requires point { stands (is_point form.marks.point) text.now whole.whole_end ≡ false }
+    requires mark { stands (is_mark form.marks.exponent) text.now whole.whole_end ≡ true }
+    requires within { whole.whole_end < length text.now }
+    ensures is { IfSome result (λ r.
+        IsFloatAt form text.now whole.start negative F.format (F.value r.0) r.1) }
+    ensures number { IfSome result (λ r. NotNan (F.value r.0)) }
+    ensures end { IfSome result (λ r. (whole.start < r.1) × (r.1 ≤ length text.now)) }
+{
+    if has_short_zeros(text, form, whole) {
+        return None;
+    }
+    let mantissa = read_fraction(text, form, whole)?;
+    read_marked::<F>(text, form, negative, mantissa)
 }
 
 /// The float that few digits are by themselves, if one division tells.

@@ -19,8 +19,8 @@ ghost use Rattle.digit_numbers.specs.Values.{integer_in, float_in, with_value, I
 ghost use Rattle.digit_numbers.specs.Specials.{special_at, name_end};
 
 use super::float::{
-    has_more_zeros, has_short_zeros, read_float, read_large, read_short_float, round_short_whole,
-    round_whole, zero_alone,
+    has_byte, has_mark, has_more_zeros, has_short_zeros, read_float, read_large,
+    read_short_pointed, read_short_power, round_short_whole, round_whole, zero_alone,
 };
 use super::form::{Form, Special};
 use super::hexadecimal::read_hex;
@@ -414,23 +414,6 @@ fn has_no_hex(text: &[u8], start: usize, form: Form, sign: Sign) -> bool
     !form.hex_floats.exist() || !is_zero(text, sign.end)
 }
 
-/// Whether neither a point nor the mark of an exponent is at a position.
-#[inline(always)]
-fn is_whole_end(text: &[u8], form: Form, at: usize) -> bool
-    ensures point { result ≡ true → stands (is_point form.marks.point) text.now at ≡ false }
-    ensures mark { result ≡ true → stands (is_mark form.marks.exponent) text.now at ≡ false }
-    ensures follows { result ≡ false → stands (is_point form.marks.point) text.now at ≡ false
-        → stands (is_mark form.marks.exponent) text.now at ≡ true }
-{
-    match text.get(at) {
-        Some(byte) => {
-            let mark = form.marks.exponent;
-            *byte != form.marks.point && *byte != mark && *byte != mark.to_ascii_uppercase()
-        }
-        None => true,
-    }
-}
-
 /// The digits of a number before a point, after any sign, if they are few.
 #[inline(always)]
 #[tactic(auto, using(crate::proofs::Short::no_separator))]
@@ -505,11 +488,15 @@ fn read_short<F: Float>(
         return None;
     }
     let whole = read_some(text, form, sign.end)?;
-    if is_whole_end(text, form, whole.whole_end) {
-        return short_whole::<F>(text, start, form, sign, whole);
+    if has_byte(text, whole.whole_end, form.marks.point) {
+        let (x, end) = read_short_pointed::<F>(text, form, sign.is_minus, whole)?;
+        return Some((Number::Float(x), end));
     }
-    let (x, end) = read_short_float::<F>(text, form, sign.is_minus, whole)?;
-    Some((Number::Float(x), end))
+    if has_mark(text, whole.whole_end, form.marks.exponent) {
+        let (x, end) = read_short_power::<F>(text, form, sign.is_minus, whole)?;
+        return Some((Number::Float(x), end));
+    }
+    short_whole::<F>(text, start, form, sign, whole)
 }
 
 /// [`read_number_of`], whatever the number is, where no special value is. In code of its own.

@@ -1,4 +1,4 @@
-use Rattle.std.proofs.Common.{◌<◌, length, arith}
+use Rattle.std.proofs.Common.{◌<◌, length, sym, arith}
 use Rattle.digit_numbers.specs.Numbers.{whole_digits}
 use Rattle.digit_numbers.proofs.Short.{powered_float}
 use Rattle.digit_numbers.proofs.float.read_marked.Goals as goal
@@ -17,7 +17,7 @@ returns-in-Some-clause-is g c =
     let pointed = rw (is.whole_end, places) at c.requires.pointed in
     let follows = rw is.ends at e.some in
     let mark = rw is.ends at c.requires.mark in
-    let allowed = rw places at c.requires.exponents in
+    let allowed = rw places at (sym c.if-not-allow.ensures) in
     rw (e.ends, is.ends) (powered_float f text m.start c.requires.one_mark whole pointed
     c.requires.zeros
     g.F.Float.format c.args.negative _ e.value allowed (λ _. follows) (λ _. mark))

@@ -1,13 +1,8 @@
-use Rattle.std.proofs.Common.{◌≡◌, ◌<◌, Bool, true, false, length, refl, sym, ◌∙◌, arith}
+use Rattle.std.proofs.Common.{◌≡◌, ◌<◌, true, length, sym, arith}
 use Rattle.digit_floats.specs.Bytes.{stands, is_point}
 use Rattle.digit_numbers.specs.Numbers.{whole_digits, fraction}
 use Rattle.digit_numbers.proofs.Short.{pointed_float}
-use Rattle.digit_numbers.proofs.float.read_short_float.Goals as goal
-
--- a point is there, where no mark is
-is_there : (point mark : Bool) → (point ≡ false → mark ≡ true) → mark ≡ false → point ≡ true
-is_there true mark h none = refl
-is_there false mark h none = let there = h refl in cc
+use Rattle.digit_numbers.proofs.float.read_short_pointed.Goals as goal
 
 pub returns-clause-is : goal.returns-clause-is
 returns-clause-is g c =
@@ -18,15 +13,12 @@ returns-clause-is g c =
     let is = e.is in
     let unmarked = sym c.if-has_mark.ensures.is in
     let point : stands (is_point f.marks.point) text m.whole_end ≡ true =
-    is_there _ _
-    (λ none. let at = rw e.whole_end at none in
-    rw (← e.none at) at (c.requires.follows at)) unmarked in
+    rw (← e.whole_end) at c.requires.point in
     let digits = rw (is.integer, is.fraction) at is.is.digits in
     let places = rw is.fraction at is.is.places in
-    let some = c.if-lacks_fraction.ensures refl point in
     let whole : 0 < length (whole_digits f text m.start) =
     omega (arith, digits, places, e.digits, c.requires.some) in
-    let more : 0 < length (fraction f text m.start) = omega (arith, places, some) in
+    let more : 0 < length (fraction f text m.start) = omega (arith, places) in
     let zeros = rw (← e.start) at (sym c.if-has_short_zeros.ensures) in
     let pointed = rw is.whole_end at point in
     let no_mark = rw is.ends at unmarked in
