@@ -364,6 +364,18 @@ pub fn read_short_pointed<F: Float>(
     Some((x, mantissa.end))
 }
 
+/// The mantissa that the digits of an integer are where no point follows them.
+#[inline(always)]
+#[tactic(auto, using(crate::proofs::Short::no_point_end), unfolding(digit_floats::specs::Float::mantissas))]
+fn mantissa_of_whole(text: &[u8], form: Form, whole: Mantissa) -> Mantissa
+    requires is { IsShort form.integers.decimal text.now whole }
+    requires point { stands (is_point form.marks.point) text.now whole.whole_end ≡ false }
+    ensures is { IsMantissaAt form text.now result }
+    ensures same { result ≡ whole }
+{
+    whole
+}
+
 /// The float of the digits before the mark of an exponent that is there, if it is short: the form
 /// has an exponent there, digits follow the mark, and it refuses no first `0`.
 #[inline(always)]
@@ -388,7 +400,7 @@ pub fn read_short_power<F: Float>(
     if has_short_zeros(text, form, whole) {
         return None;
     }
-    let mantissa = read_fraction(text, form, whole)?;
+    let mantissa = mantissa_of_whole(text, form, whole);
     read_marked::<F>(text, form, negative, mantissa)
 }
 
