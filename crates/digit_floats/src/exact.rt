@@ -45,7 +45,7 @@ fn magnitude<F: Float>(digits: u64, up: u64, down: u64) -> Option<F>
 
 /// The float nearest to the digits, of which the last `places` follow the point, times ten to a
 /// power, if one operation is enough.
-#[inline]
+#[inline(always)]
 pub fn round_exact<F: Float>(
     negative: bool,
     digits: u64,

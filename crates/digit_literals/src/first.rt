@@ -303,7 +303,7 @@ fn decimal_at(text: &[u8], rule: Rule, at: usize) -> Option<u32>
 /// Reads the decimal digits of a component that begins at `start`, where there are 1 to 19, and no
 /// separator is met. Otherwise it answers `None`, and [`read_first_digits_from`] reads them. It is
 /// small, and calls nothing.
-#[inline(always)]
+#[inline]
 pub fn read_some_digits_from(
     text: &[u8],
     word: u128,
