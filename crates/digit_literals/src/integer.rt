@@ -162,10 +162,30 @@ fn read_all_digits(text: &[u8]) -> Whole
     }
 }
 
-/// The integer that a text is from `start` on to its end, where the radix is 10: in groups if lone
-/// separators between digits are dropped and one is before the last three bytes, and otherwise
+/// The integer that a text is from `start` on to its end, where the radix is 10 and lone separators
+/// between digits are dropped: in groups if one is before the last three bytes, and otherwise
 /// without a separator.
 #[inline(never)]
+fn read_separated(text: &[u8], word: u128, start: usize) -> Whole
+    requires supported { IsTrue (is_supported word) }
+    requires ten { (rule_of word Integer).radix ≡ 10 }
+    requires internal { (rule_of word Integer).internal ≡ true }
+    requires five { start + 5 ≤ length text.now }
+    ensures { let r = rule_of word Integer in
+        result.is_whole ≡ true → (most : ℕ) → result.value ≤ most
+        → integer_at r text.now start most ≡ Ok (result.value, length text.now) }
+{
+    let rule = Rule::of(word, Component::Integer);
+    if rule.is_separator(text[text.len() - 4]) {
+        return read_grouped(text, word, start);
+    }
+    read_all_digits(&text[start..])
+}
+
+/// The integer that a text is from `start` on to its end, where the radix is 10: by
+/// [`read_separated`] if lone separators between digits are dropped. It is in place, so that a
+/// constant word tells which.
+#[inline(always)]
 fn read_long(text: &[u8], word: u128, start: usize) -> Whole
     requires supported { IsTrue (is_supported word) }
     requires ten { (rule_of word Integer).radix ≡ 10 }
@@ -179,10 +199,7 @@ fn read_long(text: &[u8], word: u128, start: usize) -> Whole
     if !rule.internal {
         return read_whole(&text[start..]);
     }
-    if rule.is_separator(text[text.len() - 4]) {
-        return read_grouped(text, word, start);
-    }
-    read_all_digits(&text[start..])
+    read_separated(text, word, start)
 }
 
 /// The value of the integer that a text is from `start` on to its end, where the radix is 10, if
