@@ -3,6 +3,7 @@ pub mod Decimals
 pub mod Follows
 pub mod Forms
 pub mod Json
+pub mod Numbered
 pub mod Numbers
 pub mod Reads
 pub mod Specials

@@ -13,6 +13,7 @@ pub mod laws;
 mod list;
 pub mod names;
 mod number;
+mod numbered;
 mod special;
 
 pub use self::bytes::{expect_bytes, has_bytes};
@@ -24,3 +25,4 @@ pub use self::form::{
 pub use self::items::{Item, read_items};
 pub use self::list::read_list_of;
 pub use self::number::{Number, NumberError, parse_number_of, read_number_of};
+pub use self::numbered::form_of;

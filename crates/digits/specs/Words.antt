@@ -43,6 +43,7 @@ pub use Rattle.digit_numbers.specs.declared.form.Form.{Form}
 pub use Rattle.digit_numbers.specs.declared.number.Number.{Number}
 pub use Rattle.digit_numbers.specs.declared.number.NumberError.{NumberError}
 pub use Rattle.digit_numbers.specs.Forms.{IsForm}
+unfoldable pub use Rattle.digit_numbers.specs.Numbered.{form_of, format_form}
 pub use Rattle.digit_numbers.specs.Bytes.{expect_bytes, has_bytes}
 pub use Rattle.digit_numbers.specs.Decimals.{decimal_of_at}
 pub use Rattle.digit_numbers.specs.Numbers.{number_of_at, to_end as number_to_end}

@@ -83,6 +83,7 @@ pub use digit_numbers::SpecialValue;
 pub use digit_numbers::Specials;
 pub use digit_numbers::Whole;
 pub use digit_numbers::expect_bytes;
+pub use digit_numbers::form_of;
 pub use digit_numbers::forms;
 pub use digit_numbers::has_bytes;
 pub use digit_numbers::is_form;

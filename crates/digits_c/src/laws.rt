@@ -1,7 +1,8 @@
 //! What calls in a row answer: functions whose contract is a law. None is exported.
 
 ghost use Rattle.std.specs.Prelude.{◌^◌, ◌-◌};
-ghost use Rattle.digits_c.specs.Numbers.{form_of, integer_by};
+ghost use Rattle.digits.specs.Words.{form_of};
+ghost use Rattle.digits_c.specs.Numbers.{integer_by};
 ghost use Rattle.digits_c.specs.Outcomes.{AnswersIf};
 
 use super::numbers::{NumberParts, digits_as_i64, digits_read_number};

@@ -1,15 +1,14 @@
 //! Numbers by the grammar of a language or a data format.
 
-ghost use Rattle.std.specs.Prelude.{◌≡◌, ◌-◌, ◌^◌, pos, IfSome, MatchOption, Some, None};
+ghost use Rattle.std.specs.Prelude.{◌≡◌, ◌-◌, ◌^◌, pos, MatchOption, Some, None};
 ghost use Rattle.digits.specs.Forms.{JSON};
-ghost use Rattle.digits.specs.Words.{IsForm, with_value};
-ghost use Rattle.digits_c.specs.Numbers.{source_form, script_form, format_form, parse_form, take_form};
-ghost use Rattle.digits_c.specs.Numbers.{form_of, parts_of, no_parts, integer_of};
+ghost use Rattle.digits.specs.Words.{IsForm, form_of, with_value};
+ghost use Rattle.digits_c.specs.Numbers.{parts_of, no_parts, integer_of};
 ghost use Rattle.digits_c.specs.Numbers.{number_from, whole_number, number_by, whole_number_by};
 ghost use Rattle.digits_c.specs.Outcomes.{Answers, AnswersIf};
 
 use super::outcome::{BAD_FORM, BAD_START, Outcome};
-use digits::{Form, Integer, Number, STANDARD, forms, parse_number_of, read_number_of};
+use digits::{Form, Integer, Number, STANDARD, form_of, forms, parse_number_of, read_number_of};
 
 /// There is no number.
 pub const NONE: u32 = 0;
@@ -112,144 +111,6 @@ impl NumberParts {
     }
 }
 
-/// Source code.
-#[tactic(auto, unfolding(digits::proofs::Literals::lexical_on_literals, crate::specs::Numbers::source_form))]
-fn source_form(number: u32) -> Option<Form>
-    ensures is { result ≡ source_form number }
-    ensures serves { IfSome result IsForm }
-{
-    Some(match number {
-        0 => forms::LITERAL,
-        1 => forms::FLOAT,
-        2 => forms::RUST,
-        3 => forms::C89,
-        4 => forms::C99,
-        5 => forms::CXX14,
-        6 => forms::CXX17,
-        7 => forms::JAVA,
-        8 => forms::KOTLIN,
-        9 => forms::SCALA,
-        10 => forms::CSHARP,
-        11 => forms::FSHARP,
-        12 => forms::GO,
-        13 => forms::D,
-        14 => forms::SWIFT,
-        15 => forms::NIM,
-        16 => forms::ADA,
-        17 => forms::COBOL,
-        18 => forms::FORTRAN,
-        _ => return None,
-    })
-}
-
-/// Source code of more languages.
-#[tactic(auto, unfolding(digits::proofs::Literals::lexical_on_literals, crate::specs::Numbers::script_form))]
-fn script_form(number: u32) -> Option<Form>
-    ensures is { result ≡ script_form number }
-    ensures serves { IfSome result IsForm }
-{
-    Some(match number {
-        19 => forms::PYTHON,
-        20 => forms::RUBY,
-        21 => forms::PERL,
-        22 => forms::PHP,
-        23 => forms::LUA,
-        24 => forms::R,
-        25 => forms::OCTAVE,
-        26 => forms::MATLAB,
-        27 => forms::ERLANG,
-        28 => forms::ELIXIR,
-        29 => forms::HASKELL,
-        30 => forms::SCHEME,
-        31 => forms::OCAML,
-        32 => forms::JAVASCRIPT,
-        33 => forms::COFFEESCRIPT,
-        34 => forms::POSTGRESQL,
-        35 => forms::SQLITE,
-        36 => forms::MYSQL,
-        37 => forms::HCL,
-        _ => return None,
-    })
-}
-
-/// Data formats.
-#[tactic(auto, unfolding(digits::proofs::Literals::lexical_on_literals, crate::specs::Numbers::format_form))]
-fn format_form(number: u32) -> Option<Form>
-    ensures is { result ≡ format_form number }
-    ensures serves { IfSome result IsForm }
-{
-    Some(match number {
-        38 => forms::JSON,
-        39 => forms::JSON_FLOATS,
-        40 => forms::JSON5,
-        41 => forms::YAML,
-        42 => forms::TOML,
-        43 => forms::EDN,
-        44 => forms::CSS,
-        45 => forms::DECIMAL,
-        46 => forms::XML_DOUBLE,
-        47 => forms::PROMETHEUS,
-        48 => forms::PROTOBUF_TEXT,
-        _ => return None,
-    })
-}
-
-/// The strings that a function takes for a number.
-#[tactic(auto, unfolding(digits::proofs::Literals::lexical_on_literals, crate::specs::Numbers::parse_form))]
-fn parse_form(number: u32) -> Option<Form>
-    ensures is { result ≡ parse_form number }
-    ensures serves { IfSome result IsForm }
-{
-    Some(match number {
-        49 => forms::STRTOD,
-        50 => forms::FROM_CHARS,
-        51 => forms::RUST_PARSE,
-        52 => forms::PYTHON_FLOAT,
-        53 => forms::JAVA_PARSE_DOUBLE,
-        54 => forms::GO_PARSE_FLOAT,
-        55 => forms::CSHARP_PARSE,
-        _ => return None,
-    })
-}
-
-/// The strings that more functions take.
-#[tactic(auto, unfolding(digits::proofs::Literals::lexical_on_literals, crate::specs::Numbers::take_form))]
-fn take_form(number: u32) -> Option<Form>
-    ensures is { result ≡ take_form number }
-    ensures serves { IfSome result IsForm }
-{
-    Some(match number {
-        56 => forms::RUBY_FLOAT,
-        57 => forms::LUA_TONUMBER,
-        58 => forms::JAVASCRIPT_NUMBER,
-        59 => forms::JAVASCRIPT_PARSE_FLOAT,
-        60 => forms::POSTGRESQL_NUMERIC,
-        61 => forms::FORTRAN_READ,
-        62 => forms::STR2DOUBLE,
-        _ => return None,
-    })
-}
-
-/// The form with a number. `c/constants` reads the names above.
-#[inline(never)]
-#[tactic(auto, unfolding(crate::specs::Numbers::form_of))]
-fn form_of(number: u32) -> Option<Form>
-    ensures is { result ≡ form_of number }
-    ensures serves { IfSome result IsForm }
-{
-    if number < 19 {
-        source_form(number)
-    } else if number < 38 {
-        script_form(number)
-    } else if number < 49 {
-        format_form(number)
-    } else if number < 56 {
-        parse_form(number)
-    } else {
-        take_form(number)
-    }
-}
-
 /// The number of a form that begins at a start.
 #[inline(always)]
 fn read(text: &[u8], start: usize, form: Form, number: &mut NumberParts) -> Outcome
@@ -316,7 +177,7 @@ fn read_as(text: &[u8], start: usize, code: u32, form: Form, number: &mut Number
 fn read_by(text: &[u8], start: usize, form: u32, number: &mut NumberParts) -> Outcome
     ensures { Answers no_parts (number_by text.now start (form_of form)) number.new result }
 {
-    match form_of(form) {
+    match form_of(form as usize) {
         Some(form) => read(text, start, form, number),
         None => {
             *number = NumberParts::none();
@@ -327,7 +188,7 @@ fn read_by(text: &[u8], start: usize, form: u32, number: &mut NumberParts) -> Ou
 
 /// The number of a form that begins at a start. There is code of its own for each data format.
 #[unsafe(no_mangle)]
-#[tactic(auto, unfolding(digits::proofs::Literals::lexical_on_literals, crate::specs::Numbers::form_of, crate::specs::Numbers::format_form))]
+#[tactic(auto, unfolding(digits::proofs::Literals::lexical_on_literals, digits::specs::Words::form_of, digits::specs::Words::format_form))]
 pub extern "C" fn digits_read_number(
     text: &[u8],
     start: usize,
@@ -350,7 +211,7 @@ pub extern "C" fn digits_read_number(
 pub extern "C" fn digits_parse_number(text: &[u8], form: u32, number: &mut NumberParts) -> Outcome
     ensures { Answers no_parts (whole_number_by text.now (form_of form)) number.new result }
 {
-    match form_of(form) {
+    match form_of(form as usize) {
         Some(form) => parse(text, form, number),
         None => {
             *number = NumberParts::none();
