@@ -1,6 +1,6 @@
 // The float at a position, by a form.
 
-ghost use Rattle.std.specs.Prelude.{◌≡◌, Err, ◌+◌, ◌-◌, ◌*◌, ◌^◌, ◌++◌, ◌<◌, ◌≤◌, false, true, min, length, [], None, IfSome, IfOk, IfErr, OnOk, MatchOption, ◌&&◌, nat_lt, IsTrue};
+ghost use Rattle.std.specs.Prelude.{◌≡◌, Err, ◌+◌, ◌-◌, ◌*◌, ◌^◌, ◌++◌, ◌<◌, ◌≤◌, false, true, min, length, [], None, IfSome, IfOk, IfErr, OnOk, MatchOption, IsTrue};
 ghost use Rattle.std.specs.Float.{NotNan};
 ghost use Rattle.std.specs.Float.Ieee.{round};
 ghost use Rattle.std.specs.Float.Numeral.{nearest_float};
@@ -13,7 +13,7 @@ ghost use Rattle.digit_literals.specs.declared.LiteralError.TheVariants.{Overflo
 ghost use Rattle.digit_floats.specs.Bytes.{stands, is_point, is_mark};
 ghost use Rattle.digit_floats.specs.Float.{IsDecimal, digits_from, digits_end, exponent_digits, exponent_end, exponent_negative, parts_at};
 ghost use Rattle.digit_floats.specs.Parts.{integer_of, fraction_of, IsMantissa, IsShort};
-ghost use Rattle.digit_numbers.specs.Forms.{IsForm, allows_exponent, is_barred};
+ghost use Rattle.digit_numbers.specs.Forms.{IsForm, is_barred};
 ghost use Rattle.digit_numbers.specs.Numbers.{allows_point, digits_stop, exponent, fraction, has_exponent, has_more_zeros, is_float, mark_at, mark_or, parts, whole_end};
 ghost use Rattle.digit_numbers.specs.Reads.{IsMantissaAt, IsMantissaOf, IsWholeOf, IsPowerAt, IsFloatAt, whole_of};
 
