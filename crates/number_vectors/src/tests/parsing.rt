@@ -2,7 +2,8 @@
 
 use super::{INTERNAL, UNFLAGGED, bytes_of};
 use digit_literals::{
-    Digits, LiteralError, ParseError, TooLarge, count_digits, parse_number, read_digits_after,
+    Digits, LiteralError, ParseError, TooLarge, count_digits, parse_number, parse_number_from,
+    read_digits_after,
 };
 use lexical_digits::iterator::Iter;
 use lexical_format::is_supported;
@@ -112,6 +113,144 @@ fn groups_of_three_digits_are_read(rt: HostRuntime) {
     assert!(&rt; is_supported(word));
     assert!(&rt; parse_number::<u64>(b"1\0234", word) == Err(ParseError::Invalid(1)));
     assert!(&rt; parse_number::<u64>(b"12345", word) == Ok(12345));
+}
+
+/// Digits of radix 16, with no separator among them and with `_` between two of them.
+const SIXTEEN: u128 = (16 << 104) | (0x5f << 64);
+
+const SIXTEEN_APART: u128 = SIXTEEN | INTERNAL;
+
+/// Texts of radix 16, their values and faults; no separator is dropped.
+static SIXTEENS: [(&[u8], Result<u64, ParseError>); 35] = [
+    (b"0", Ok(0)),
+    (b"9", Ok(9)),
+    (b"a", Ok(10)),
+    (b"f", Ok(15)),
+    (b"A", Ok(10)),
+    (b"F", Ok(15)),
+    (b"10", Ok(16)),
+    (b"00000000", Ok(0)),
+    (b"1234567", Ok(19088743)),
+    (b"fffffff", Ok(268435455)),
+    (b"FFFFFFF", Ok(268435455)),
+    (b"12345678", Ok(305419896)),
+    (b"10000000", Ok(268435456)),
+    (b"ffffffff", Ok(4294967295)),
+    (b"aBcDeF09", Ok(2882400009)),
+    (b"AbCdEf90", Ok(2882400144)),
+    (b"100000000", Ok(4294967296)),
+    (b"12345678f", Ok(4886718351)),
+    (b"12345678F", Ok(4886718351)),
+    (b"0000000a0B", Ok(2571)),
+    (b"fffffffffff", Ok(17592186044415)),
+    (b"1000000000000", Ok(281474976710656)),
+    (b"800000000000000", Ok(576460752303423488)),
+    (b"fffffffffffffff", Ok(1152921504606846975)),
+    (b"0123456789abcdef", Ok(81985529216486895)),
+    (b"0123456789ABCDEF", Ok(81985529216486895)),
+    (b"8000000000000000", Ok(9223372036854775808)),
+    (b"FFFFFFFFffffffff", Ok(u64::MAX)),
+    (b"00000000000000001", Ok(1)),
+    (b"0ffffffffffffffff", Ok(u64::MAX)),
+    (b"10000000000000000", Err(ParseError::Overflow(16))),
+    (b"", Err(ParseError::Empty(0))),
+    (b"_1", Err(ParseError::Invalid(0))),
+    (b"1_0", Err(ParseError::Invalid(1))),
+    (b"12345678_9", Err(ParseError::Invalid(8))),
+];
+
+/// Bytes next to the digits, and bytes that are a digit but for one of their two highest bits.
+static NO_DIGITS: [u8; 15] = [
+    b'/', b':', b'@', b'G', b'`', b'g', 0x10, 0x19, 0x80, 0xb0, 0xb9, 0xc1, 0xe1, 0xe6, 0xff,
+];
+
+/// How many bytes there are, and which of them is no digit.
+static PLACES: [(usize, usize); 16] = [
+    (1, 0),
+    (7, 0),
+    (7, 6),
+    (8, 0),
+    (8, 7),
+    (9, 0),
+    (9, 7),
+    (9, 8),
+    (15, 0),
+    (15, 7),
+    (15, 8),
+    (15, 14),
+    (16, 0),
+    (16, 7),
+    (16, 8),
+    (16, 15),
+];
+
+/// So many digits of radix 16 are no number where the one at a position is another byte.
+fn assert_no_digit_at(rt: &impl Abort, length: usize, at: usize) {
+    assert!(rt; is_supported(SIXTEEN));
+    let mut text = *b"1234567890aBcDeF";
+    assert!(rt; at < text.len());
+    assert!(rt; length <= text.len());
+    for byte in &NO_DIGITS {
+        text[at] = *byte;
+        let came = parse_number::<u64>(&text[..length], SIXTEEN);
+        assert!(rt;
+            came == Err(ParseError::Invalid(at)),
+            "{byte} at {at}: {came:?}"
+        );
+    }
+}
+
+#[test]
+fn digits_of_radix_16_are_read(rt: HostRuntime) {
+    assert!(&rt; is_supported(SIXTEEN));
+    for (text, read) in &SIXTEENS {
+        let (came, text) = (parse_number::<u64>(text, SIXTEEN), from_utf8(text));
+        assert!(&rt; came == *read, "{text:?}: {came:?}, not {read:?}");
+    }
+    for (length, at) in &PLACES {
+        assert_no_digit_at(&rt, *length, *at);
+    }
+}
+
+#[test]
+fn types_have_bounds_in_radix_16(rt: HostRuntime) {
+    assert!(&rt; is_supported(SIXTEEN));
+    assert!(&rt; parse_number::<u8>(b"ff", SIXTEEN) == Ok(u8::MAX));
+    assert!(&rt; parse_number::<u8>(b"100", SIXTEEN) == Err(ParseError::Overflow(2)));
+    assert!(&rt; parse_number::<u8>(b"1ff", SIXTEEN) == Err(ParseError::Overflow(2)));
+    assert!(&rt; parse_number::<u8>(b"00000ff", SIXTEEN) == Ok(u8::MAX));
+    assert!(&rt; parse_number::<u8>(b"000000FF", SIXTEEN) == Ok(u8::MAX));
+    assert!(&rt; parse_number::<u8>(b"00000100", SIXTEEN) == Err(ParseError::Overflow(7)));
+    assert!(&rt; parse_number::<u16>(b"ffff", SIXTEEN) == Ok(u16::MAX));
+    assert!(&rt; parse_number::<u16>(b"10000", SIXTEEN) == Err(ParseError::Overflow(4)));
+    assert!(&rt; parse_number::<u16>(b"ffffffff", SIXTEEN) == Err(ParseError::Overflow(4)));
+    assert!(&rt; parse_number::<u32>(b"ffffffff", SIXTEEN) == Ok(u32::MAX));
+    assert!(&rt; parse_number::<u32>(b"0ffffffff", SIXTEEN) == Ok(u32::MAX));
+    assert!(&rt; parse_number::<u32>(b"100000000", SIXTEEN) == Err(ParseError::Overflow(8)));
+    assert!(&rt; parse_number::<u128>(b"ffffffffffffffff", SIXTEEN) == Ok((1 << 64) - 1));
+    assert!(&rt; parse_number::<u128>(b"10000000000000000", SIXTEEN) == Ok(1 << 64));
+    assert!(&rt; parse_number::<i8>(b"-80", SIXTEEN) == Ok(i8::MIN));
+    assert!(&rt; parse_number::<i8>(b"80", SIXTEEN) == Err(ParseError::Overflow(1)));
+    assert!(&rt; parse_number::<i64>(b"+7fffffffffffffff", SIXTEEN) == Ok(i64::MAX));
+    let overflow = Err(ParseError::Overflow(15));
+    assert!(&rt; parse_number::<i64>(b"8000000000000000", SIXTEEN) == overflow);
+    assert!(&rt; parse_number::<i64>(b"-8000000000000000", SIXTEEN) == Ok(i64::MIN));
+    let overflow = Err(ParseError::Overflow(16));
+    assert!(&rt; parse_number::<i64>(b"-8000000000000001", SIXTEEN) == overflow);
+    assert!(&rt; parse_number::<i64>(b"-", SIXTEEN) == Err(ParseError::Empty(1)));
+    assert!(&rt; parse_number::<i64>(b"-g", SIXTEEN) == Err(ParseError::Invalid(1)));
+    assert!(&rt; parse_number_from::<u64>(b"0xfF", SIXTEEN, 2) == Ok(255));
+    assert!(&rt; parse_number_from::<u64>(b"0xfg", SIXTEEN, 2) == Err(ParseError::Invalid(3)));
+}
+
+#[test]
+fn separators_of_radix_16_are_dropped(rt: HostRuntime) {
+    assert!(&rt; is_supported(SIXTEEN_APART));
+    assert!(&rt; parse_number::<u64>(b"f", SIXTEEN_APART) == Ok(15));
+    assert!(&rt; parse_number::<u64>(b"1_0", SIXTEEN_APART) == Ok(16));
+    assert!(&rt; parse_number::<u64>(b"dead_BEEF", SIXTEEN_APART) == Ok(3735928559));
+    assert!(&rt; parse_number::<u64>(b"deadBEEF", SIXTEEN_APART) == Ok(3735928559));
+    assert!(&rt; parse_number::<u64>(b"1__0", SIXTEEN_APART) == Err(ParseError::Invalid(1)));
 }
 
 #[test]
