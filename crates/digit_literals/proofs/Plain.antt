@@ -2,6 +2,7 @@
 use Rattle.std.proofs.Common.{◌≡◌, ℕ, zero, suc, ◌+◌, ◌-◌, ◌*◌, ◌%◌, ◌^◌, ◌<◌, ◌≤◌, true, List, Option, length, refl, sym, ap, ◌∙◌, ◌⊎◌, inl, inr, arith}
 use Rattle.std.specs.Prelude.{slice_index, Some, None, IfSome, IfNone}
 use Rattle.std.specs.Str.Parse.{digits_value_after}
+use native.Mathlib.Numerals.{unary_clauses}
 use Rattle.std.proofs.Math.Nat.{mod-eq_of_lt}
 use Rattle.std.proofs.lemmas.Bool.Decides.{nat_tests}
 use Rattle.lexical_format.specs.Digits.{digit_of_radix}
@@ -10,7 +11,7 @@ use Rattle.lexical_digits.specs.declared.skip.rule.Rule.{Rule}
 use Rattle.lexical_digits.specs.Separators.{is_digit}
 use Rattle.digit_literals.specs.After.{digits_between}
 use Rattle.digit_literals.specs.Reads.{IsMore, IsFirst, IsWorth, ArePlain}
-use Rattle.digit_literals.specs.Eight.{AreEight}
+use Rattle.digit_literals.specs.Eight.{written, IsWritten}
 use Rattle.digit_literals.proofs.Between.{none_between, one_more}
 use Rattle.digit_literals.proofs.ForCallers.{value_more}
 use Rattle.digit_literals.proofs.Passed.{HasPassed, byte_kept, wrapped_more}
@@ -69,7 +70,7 @@ module _ (rule : Rule) (text : List ℕ) (start before : ℕ) (most : Option ℕ
   unfolding is_digit
   one_plain radix digit same first = grind (arith, none_between, value_more, mod-eq_of_lt)
 
--- ---- eight more
+-- ---- some more
 
 -- a decimal digit
 pub decimal : (b : ℕ) → 48 ≤ b → b < 58 → digit_of_radix 10 b ≡ Some (b - 48)
@@ -81,65 +82,65 @@ rule_digit : (rule : Rule) (b : ℕ) → rule.radix ≡ 10 → 48 ≤ b → b < 
 unfolding is_digit
 rule_digit rule b ten low up = rw (ten, decimal b low up) refl
 
--- eight steps are one
-chain : (w0 w w1 w2 w3 w4 w5 w6 w7 w8 d0 d1 d2 d3 d4 d5 d6 d7 : ℕ) → w0 ≡ w
-    → w1 ≡ w0 * 10 + d0 → w2 ≡ w1 * 10 + d1 → w3 ≡ w2 * 10 + d2 → w4 ≡ w3 * 10 + d3
-    → w5 ≡ w4 * 10 + d4 → w6 ≡ w5 * 10 + d5 → w7 ≡ w6 * 10 + d6 → w8 ≡ w7 * 10 + d7
-    → w8 ≡ w * 10 ^ 8 + (((((((d0 * 10 + d1) * 10 + d2) * 10 + d3) * 10 + d4) * 10 + d5) * 10 + d6)
-    * 10 + d7)
-chain w0 w w1 w2 w3 w4 w5 w6 w7 w8 d0 d1 d2 d3 d4 d5 d6 d7 none s0 s1 s2 s3 s4 s5 s6 s7 =
-    omega (arith, none, s0, s1, s2, s3, s4, s5, s6, s7)
+times : (a b : ℕ) → a * (b * 10) ≡ a * b * 10
+times a b = grind arith
 
-module _ (rule : Rule) (text : List ℕ) (start before : ℕ) (ten : rule.radix ≡ 10) (at next : ℕ)
-    (low : start ≤ at) (eight : AreEight text at next) where
+module _ (rule : Rule) (text : List ℕ) (start before : ℕ) (ten : rule.radix ≡ 10)
+    (at count next : ℕ) (low : start ≤ at) (all : IsWritten text at count next) where
   abbrev worth_to : ℕ → ℕ
   worth_to end = digits_value_after rule.radix before (digits_between rule text start end)
 
+  abbrev digit : ℕ → ℕ
+  digit i = slice_index text (at + i) - 48
+
   -- the value with one of them
-  step : (k : ℕ) → k < 8
-      → worth_to (at + suc k) ≡ worth_to (at + k) * 10 + (slice_index text (at + k) - 48)
+  step : (k : ℕ) → k < count
+      → worth_to (at + suc k) ≡ worth_to (at + k) * 10 + digit k
   step k l =
-      let byte = eight.digits k l in
+      let byte = all.digits k l in
       let same : at + suc k ≡ at + k + 1 = omega arith in
       ap worth_to same
       ∙ value_more rule text start before (at + k) 10 _ (omega (arith, low))
-      (omega (arith, eight.within, l)) (sym ten) (decimal _ byte.0 byte.1)
+      (omega (arith, all.within, l)) (sym ten) (decimal _ byte.0 byte.1)
 
-  -- the value with all
-  eight_worth : worth_to (at + 8) ≡ worth_to at * 10 ^ 8 + next
-  eight_worth =
+  -- the value with some of them
+  steps : (k : ℕ) → k ≤ count → worth_to (at + k) ≡ worth_to at * 10 ^ k + written digit k
+  steps zero l =
       let none : worth_to (at + 0) ≡ worth_to at = ap worth_to {y = at} (omega arith) in
-      let s0 = step 0 (omega arith) in
-      let s1 = step 1 (omega arith) in
-      let s2 = step 2 (omega arith) in
-      let s3 = step 3 (omega arith) in
-      let s4 = step 4 (omega arith) in
-      let s5 = step 5 (omega arith) in
-      let s6 = step 6 (omega arith) in
-      let s7 = step 7 (omega arith) in
-      chain _ _ _ _ _ _ _ _ _ _ _ _ _ _ _ _ _ _ none s0 s1 s2 s3 s4 s5 s6 s7
-      ∙ ap (λ k. worth_to at * 10 ^ 8 + k) (sym eight.is)
+      let one : 10 ^ 0 ≡ 1 = refl in
+      omega (arith, none, ap (λ p. worth_to at * p) one)
+  steps (suc k) l =
+      let before = steps k (omega (arith, l)) in
+      let power : 10 ^ suc k ≡ 10 ^ k * 10 = simp unary_clauses refl in
+      let scale : worth_to at * 10 ^ suc k ≡ worth_to at * 10 ^ k * 10 =
+      ap (λ p. worth_to at * p) power ∙ times (worth_to at) (10 ^ k) in
+      omega (arith, step k l, before, scale)
 
-  eight_kept : (q : ℕ) → at ≤ q → q < at + 8 → is_digit rule (slice_index text q) ≡ true
-  eight_kept q a b =
+  worth_all : worth_to (at + count) ≡ worth_to at * 10 ^ count + next
+  worth_all = omega (arith, steps count (omega arith), all.is)
+
+  kept : (q : ℕ) → at ≤ q → q < at + count → is_digit rule (slice_index text q) ≡ true
+  kept q a b =
       let same : at + (q - at) ≡ q = omega (arith, a) in
-      let byte = eight.digits (q - at) (omega (arith, a, b)) in
+      let byte = all.digits (q - at) (omega (arith, a, b)) in
       ap (λ k. is_digit rule (slice_index text k)) (sym same) ∙ rule_digit rule _ ten byte.0 byte.1
 
   some_more : (most : Option ℕ) (value more : ℕ)
       → IfSome most (IsWorth rule.radix before (digits_between rule text start at) value)
-      → IfSome most (IsMore (10 ^ 8) value next more)
-      → IfSome most (IsWorth rule.radix before (digits_between rule text start (at + 8)) more)
+      → IfSome most (IsMore (10 ^ count) value next more)
+      → IfSome most (IsWorth rule.radix before (digits_between rule text start (at + count)) more)
   some_more None value more a b = tt
   some_more (Some m) value more a b =
-      record { is = omega (arith, a.is, b.is, eight_worth); fits = b.fits }
+      let scaled : value * 10 ^ count ≡ worth_to at * 10 ^ count = ap (λ k. k * 10 ^ count) a.is in
+      record { is = omega (arith, b.is, scaled, worth_all); fits = b.fits }
 
   none_more : (most : Option ℕ) (value more : ℕ)
       → IfNone most (value ≡ worth_to at % 2 ^ 64)
-      → IfNone most (more ≡ (value * 10 ^ 8 + next) % 2 ^ 64)
-      → IfNone most (more ≡ worth_to (at + 8) % 2 ^ 64)
+      → IfNone most (more ≡ (value * 10 ^ count + next) % 2 ^ 64)
+      → IfNone most (more ≡ worth_to (at + count) % 2 ^ 64)
   none_more None value more a b =
-      b ∙ wrapped_more value (worth_to at) (10 ^ 8) next a ∙ ap (λ k. k % 2 ^ 64) (sym eight_worth)
+      b ∙ wrapped_more value (worth_to at) (10 ^ count) next a
+      ∙ ap (λ k. k % 2 ^ 64) (sym worth_all)
   none_more (Some m) value more a b = tt
 
 pub lt_or_le : (a b : ℕ) → (a < b) ⊎ (b ≤ a)
@@ -148,44 +149,31 @@ lt_or_le zero (suc b) = inl (omega arith)
 lt_or_le (suc a) (suc b) =
     elim (lt_or_le a b) [ inl l ↦ inl (omega arith) | inr l ↦ inr (omega arith) ]
 
--- a value with eight digits more, which is at most the greatest, if one is asked for
-record IsEightMore (text : List ℕ) (at value : ℕ) (most : Option ℕ) (more : ℕ) : Type 0 where
-  next : ℕ
-  eight : AreEight text at next
-  is : IfSome most (IsMore (10 ^ 8) value next more)
-  wrapped : IfNone most (more ≡ (value * 10 ^ 8 + next) % 2 ^ 64)
-
-eight_plain : (rule : Rule) (text : List ℕ) (start before : ℕ) (most : Option ℕ) (at value more : ℕ)
-    → rule.radix ≡ 10 → ArePlain rule text start before most at value
-    → IsEightMore text at value most more → ArePlain rule text start before most (at + 8) more
-eight_plain rule text start before most at value more ten plain eight =
+-- digits, and more after them, with which the value is at most the greatest, if one is asked for
+pub more_plain : (rule : Rule) (text : List ℕ) (start before : ℕ) (most : Option ℕ)
+    → rule.radix ≡ 10 → (at value count next end more : ℕ)
+    → ArePlain rule text start before most at value → IsWritten text at count next
+    → end ≡ at + count → IfSome most (IsMore (10 ^ count) value next more)
+    → IfNone most (more ≡ (value * 10 ^ count + next) % 2 ^ 64)
+    → ArePlain rule text start before most end more
+more_plain rule text start before most ten at value count next end more plain all there is wrapped =
+    rw there (
     record {
       onward = omega (arith, plain.onward);
-      within = eight.eight.within;
+      within = all.within;
       digits =
           λ q a b. below_or q (λ l. plain.digits q a l)
-          (λ l. eight_kept rule text start before ten at eight.next plain.onward eight.eight q l
-          b);
+          (λ l. kept rule text start before ten at count next plain.onward all q l b);
       worth =
-          some_more rule text start before ten at eight.next plain.onward eight.eight most value
-          more plain.worth eight.is;
+          some_more rule text start before ten at count next plain.onward all most value more
+          plain.worth is;
       wrapped =
-          none_more rule text start before ten at eight.next plain.onward eight.eight most value
-          more plain.wrapped eight.wrapped;
+          none_more rule text start before ten at count next plain.onward all most value more
+          plain.wrapped wrapped;
     }
+    )
   where
     below_or : (q : ℕ) → (q < at → is_digit rule (slice_index text q) ≡ true)
         → (at ≤ q → is_digit rule (slice_index text q) ≡ true)
         → is_digit rule (slice_index text q) ≡ true
     below_or q f g = elim (lt_or_le q at) [ inl l ↦ f l | inr l ↦ g l ]
-
-module _ (rule : Rule) (text : List ℕ) (start before : ℕ) (ten : rule.radix ≡ 10)
-    (at value next : ℕ) (eight : AreEight text at next) (end more : ℕ) (there : end ≡ at + 8)
-    (is : more ≡ (value * 100000000 % 2 ^ 64 + next) % 2 ^ 64) where
-  pub add_wrapped : ArePlain rule text start before None at value
-      → ArePlain rule text start before None end more
-  add_wrapped plain =
-      rw there (
-      eight_plain rule text start before None at value more ten plain
-      (record { next = next; eight = eight; is = tt; wrapped = omega (arith, is) })
-      )

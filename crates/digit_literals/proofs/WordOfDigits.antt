@@ -158,6 +158,20 @@ number_is x k =
     eight_digits x _ _ _ _ _ _ _ _ k.0 k.1.0 k.1.1.0 k.1.1.1.0 k.1.1.1.1.0 k.1.1.1.1.1.0
     k.1.1.1.1.1.1.0 k.1.1.1.1.1.1.1.0 is
 
+pub few_number : (x : ℕ) → AreBelow 10 8 x → number_of (byte_of x) < 10 ^ 8
+few_number x k =
+    omega (
+      arith,
+      k.0,
+      k.1.0,
+      k.1.1.0,
+      k.1.1.1.0,
+      k.1.1.1.1.0,
+      k.1.1.1.1.1.0,
+      k.1.1.1.1.1.1.0,
+      k.1.1.1.1.1.1.1.0,
+    )
+
 -- ---- the bytes
 
 -- each byte is `0` and a digit
@@ -207,7 +221,7 @@ byte_at y a b c d e f g h A B C D E F G H is =
     )
 
 -- a word of eight digits
-bytes_from : (y a b c d e f g h : ℕ)
+pub bytes_from : (y a b c d e f g h : ℕ)
     → a < 10 → b < 10 → c < 10 → d < 10 → e < 10 → f < 10 → g < 10 → h < 10
     → y ≡ a + 256 * (b + 256 * (c + 256 * (d + 256 * (e + 256 * (f + 256 * (g + 256 * h))))))
     → AreBelow 10 8 y × (number_of (byte_of y) ≡

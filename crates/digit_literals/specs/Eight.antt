@@ -34,13 +34,6 @@ module _ (text : List ℕ) (at : ℕ) where
     pub is : (i : ℕ) → i < 8
         → (slice_index text (at + i) ≡ byte_of digits i + 48) × (byte_of digits i < 10)
 
-  -- the eight bytes from a position on are digits, and write a number
-  pub record AreEight (value : ℕ) : Type 0 where
-    pub within : at + 8 ≤ length text
-    pub digits : (i : ℕ) → i < 8
-        → (48 ≤ slice_index text (at + i)) × (slice_index text (at + i) < 58)
-    pub is : value ≡ number_of (λ i. slice_index text (at + i) - 48)
-
   -- so many bytes from a position on are digits, and write a number
   pub record IsWritten (count value : ℕ) : Type 0 where
     pub within : at + count ≤ length text

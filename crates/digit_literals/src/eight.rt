@@ -1,11 +1,26 @@
 //! Eight decimal digits at a time: one load, one test and three multiplications.
 
-ghost use Rattle.std.specs.Prelude.{◌≡◌, ◌+◌, ◌-◌, ◌*◌, ◌^◌, ◌<◌, ◌≤◌, length, slice_index, true, None, IfSome};
-ghost use Rattle.digit_literals.specs.Eight.{AreBelow, byte_of, spelt, number_of, written, AreDigits, AreEight, IsWritten};
+ghost use Rattle.std.specs.Prelude.{◌≡◌, ℕ, ◌+◌, ◌-◌, ◌*◌, ◌/◌, ◌%◌, ◌^◌, ◌<◌, ◌≤◌, length, slice_index, true, None, Some, IfSome};
+ghost use Rattle.std.specs.Int.{trailing_zeros, w64};
+ghost use Rattle.digit_literals.specs.Eight.{AreBelow, byte_of, spelt, number_of, written, AreDigits, IsWritten};
 ghost use Rattle.digit_literals.specs.Reads.{ArePlain};
 
 use super::wide::ten_to;
 use lexical_digits::skip::Rule;
+
+/// What of eight bytes, each less `0`, is no decimal digit: 0 if all are digits; otherwise its
+/// lowest bit is in the first byte that is none.
+#[inline(always)]
+fn others_of(digits: u64) -> u64
+    ensures none { result ≡ 0 → AreBelow 10 8 digits }
+    ensures first { 0 < result → (i : ℕ) → i < trailing_zeros w64 result / 8
+        → byte_of digits i < 10 }
+{
+    // no sum carries into the next byte, up to the first other byte
+    let low = digits & 0x8080_8080_8080_8080;
+    let high = digits.wrapping_add(0x7676_7676_7676_7676) & 0x8080_8080_8080_8080;
+    low | high
+}
 
 /// The digits of eight bytes, the first in the lowest byte, if all are decimal.
 #[inline(always)]
@@ -14,17 +29,19 @@ fn digits_of(word: u64) -> Option<u64>
     ensures is { IfSome result (λ digits. word ≡ digits + 0x3030_3030_3030_3030) }
 {
     let digits = word.wrapping_sub(0x3030_3030_3030_3030);
-    // no sum carries into the next byte, where the first test holds
-    let low = digits & 0x8080_8080_8080_8080;
-    let high = digits.wrapping_add(0x7676_7676_7676_7676) & 0x8080_8080_8080_8080;
-    if low | high == 0 { Some(digits) } else { None }
+    if others_of(digits) == 0 {
+        Some(digits)
+    } else {
+        None
+    }
 }
 
 /// The number that eight digits write, the first in the lowest byte.
 #[inline(always)]
 fn value_of(digits: u64) -> u64
     requires { AreBelow 10 8 digits }
-    ensures { result ≡ number_of (byte_of digits) }
+    ensures is { result ≡ number_of (byte_of digits) }
+    ensures below { result < 10 ^ 8 }
 {
     let pairs = digits.wrapping_mul(10).wrapping_add(digits >> 8);
     let first = (pairs & 0x0000_00ff_0000_00ff).wrapping_mul(100 + (1_000_000 << 32));
@@ -76,23 +93,10 @@ fn digits_at(text: &[u8], at: usize) -> Option<u64>
 #[inline(always)]
 fn eight_from(text: &[u8], at: usize) -> Option<u64>
     requires { at + 8 ≤ length text.now }
-    ensures eight { IfSome result (AreEight text.now at) }
     ensures is { IfSome result (IsWritten text.now at 8) }
     ensures few { IfSome result (λ value. value < 10 ^ 8) }
 {
     Some(value_of(digits_at(text, at)?))
-}
-
-/// [`eight_from`], if eight bytes are there.
-#[inline]
-fn eight_at(text: &[u8], at: usize) -> Option<u64>
-    requires { at ≤ length text.now }
-    ensures { IfSome result (AreEight text.now at) }
-{
-    if text.len() - at < 8 {
-        return None;
-    }
-    eight_from(text, at)
 }
 
 /// Digits with no separator among them.
@@ -105,21 +109,170 @@ pub(super) struct Plain {
     pub(super) end: usize,
 }
 
-/// Digits from `start` on by eights, after the value `before`, as long as eight are there. All
-/// others are left.
+/// The number that the first of eight digits write, whatever the others are.
 #[inline(always)]
-pub(super) fn read_eights(text: &[u8], rule: Rule, start: usize, before: u64) -> Plain
+fn first_of(digits: u64, count: u32) -> u64
+    requires few { count < 8 }
+    requires below { (i : ℕ) → i < count → byte_of digits i < 10 }
+    ensures is { result ≡ written (byte_of digits) count }
+    ensures below { result < 10 ^ 8 }
+{
+    // a shift by 8 first, since there may be none
+    value_of((digits << 8) << (56 - 8 * count))
+}
+
+/// The decimal digits that eight bytes begin with.
+#[derive(Clone, Copy)]
+struct Front {
+    /// The number that they write.
+    value: u64,
+    /// How many there are.
+    count: usize,
+}
+
+/// The decimal digits that the eight bytes from a position on begin with. How many there are is no
+/// branch, if one of the eight is none.
+#[inline]
+fn front_at(text: &[u8], at: usize) -> Front
+    requires { at + 8 ≤ length text.now }
+    ensures is { IsWritten text.now at result.count result.value }
+    ensures few { result.count ≤ 8 }
+    ensures below { result.value < 10 ^ 8 }
+{
+    let digits = word_at(text, at).wrapping_sub(0x3030_3030_3030_3030);
+    let others = others_of(digits);
+    if others == 0 {
+        return Front {
+            value: value_of(digits),
+            count: 8,
+        };
+    }
+    let count = others.trailing_zeros() / 8;
+    Front {
+        value: first_of(digits, count),
+        count: count as usize,
+    }
+}
+
+/// The powers of 10 up to 10 to the power of 8. A table in memory: of a `match` a compiler makes a
+/// jump, which no processor guesses.
+static SMALL_TENS: [u64; 9] = [
+    1,
+    10,
+    100,
+    1000,
+    10_000,
+    100_000,
+    1_000_000,
+    10_000_000,
+    100_000_000,
+];
+
+/// 10 to the power of at most 8.
+#[inline(always)]
+fn small_ten_to(n: usize) -> u64
+    requires { n ≤ 8 }
+    ensures is { result ≡ 10 ^ n }
+    ensures most { result ≤ 10 ^ 8 }
+{
+    SMALL_TENS[n]
+}
+
+/// The lowest 64 bits of the number that a value and the digits after it write.
+#[inline(always)]
+fn wrapping_join(value: u64, next: Front) -> u64
+    requires { next.count ≤ 8 }
+    ensures { result ≡ (value * 10 ^ next.count + next.value) % 2 ^ 64 }
+{
+    value
+        .wrapping_mul(small_ten_to(next.count))
+        .wrapping_add(next.value)
+}
+
+/// Digits from `start` on after the value `before`, by one word, if eight bytes are there.
+#[inline(always)]
+pub(super) fn read_word(text: &[u8], rule: Rule, start: usize, before: u64) -> Plain
     requires radix { rule.radix ≡ 10 }
     requires within { start ≤ length text.now }
     ensures { ArePlain rule text.now start before None result.end result.value }
 {
-    let mut value = before;
-    let mut end = start;
-    while let Some(next) = eight_at(text, end) {
-        value = value.wrapping_mul(100_000_000).wrapping_add(next);
-        end += 8;
+    if text.len() - start < 8 {
+        return Plain {
+            value: before,
+            end: start,
+        };
+    }
+    let front = front_at(text, start);
+    Plain {
+        value: wrapping_join(before, front),
+        end: start + front.count,
+    }
+}
+
+/// Digits from `start` on, after the value `before`, of which some were read: all up to the first
+/// other byte, or up to the last seven bytes of the text.
+#[inline(always)]
+pub(super) fn read_words(text: &[u8], rule: Rule, start: usize, before: u64, plain: Plain) -> Plain
+    requires radix { rule.radix ≡ 10 }
+    requires plain { ArePlain rule text.now start before None plain.end plain.value }
+    ensures { ArePlain rule text.now start before None result.end result.value }
+{
+    let mut value = plain.value;
+    let mut end = plain.end;
+    while text.len() - end >= 8 {
+        let front = front_at(text, end);
+        value = wrapping_join(value, front);
+        end += front.count;
+        if front.count < 8 {
+            break;
+        }
     }
     Plain { value, end }
+}
+
+/// The greatest value of 16 digits.
+const MOST_OF_16: u64 = 9_999_999_999_999_999;
+
+/// Digits from `start` on whose value is at most `most`, by a word, and by a second one if eight
+/// bytes more are there and 16 digits are never too large. None if those of the first are: the loop
+/// that goes on tells which of them is.
+#[inline(always)]
+pub(super) fn read_words_up_to(text: &[u8], rule: Rule, start: usize, most: u64) -> Plain
+    requires radix { rule.radix ≡ 10 }
+    requires within { start + 8 ≤ length text.now }
+    ensures { ArePlain rule text.now start 0 (Some most) result.end result.value }
+{
+    let first = front_at(text, start);
+    if first.value > most {
+        return Plain {
+            value: 0,
+            end: start,
+        };
+    }
+    let end = start + first.count;
+    if first.count < 8 || most < MOST_OF_16 || text.len() - end < 8 {
+        return Plain {
+            value: first.value,
+            end,
+        };
+    }
+    let second = front_at(text, end);
+    Plain {
+        value: join(first.value, second),
+        end: end + second.count,
+    }
+}
+
+/// The number that a few digits and those after them write.
+#[inline(always)]
+fn join(value: u64, next: Front) -> u64
+    requires first { value < 10 ^ 8 }
+    requires few { next.count ≤ 8 }
+    requires next { next.value < 10 ^ 8 }
+    ensures is { result ≡ value * 10 ^ next.count + next.value }
+    ensures below { result < 10 ^ 16 }
+{
+    value * small_ten_to(next.count) + next.value
 }
 
 /// The number that a text of at most seven bytes is, if all are decimal digits. It is only for

@@ -10,12 +10,12 @@ ghost use Rattle.lexical_digits.specs.Looks.{owed, needs_run};
 ghost use Rattle.lexical_digits.specs.Stop.{stop, leading_digits_of, past_digits_of};
 ghost use Rattle.digit_literals.specs.After.{digits_between};
 ghost use Rattle.digit_literals.specs.First.{ReadsFirst};
-ghost use Rattle.digit_literals.specs.Reads.{ArePlain, IsFirst, IsOffSlice, PassesAll};
+ghost use Rattle.digit_literals.specs.Reads.{ArePlain, IsFirst, IsOffSlice, PassesAll, bare_read};
 
 use super::component::{pass_digits, read_digits_up_to};
-use super::eight::{Plain, read_eights};
+use super::eight::{Plain, read_word, read_words};
 use super::reading::Digits;
-use super::slice::{ReadTo, begin, first_digit, read_bare, read_on, read_radix};
+use super::slice::{ReadTo, begin_decimal, end_bare, read_bare, read_on, read_slice};
 use super::wide::ten_to;
 use lexical_digits::iterator::Iter;
 use lexical_digits::skip::{Bytes, Component, Rule};
@@ -105,7 +105,7 @@ pub fn read_first_digits_from(
     ensures end { result.1 ≤ length text.now }
 {
     let rule = Rule::of(word, component);
-    if let Some(read) = decimals_slice(text, rule, start, before, most, is_long(component)) {
+    if let Some(read) = decimals_slice(text, rule, start, before, most) {
         let all = FirstDigits {
             value: read.value,
             count: read.count,
@@ -171,8 +171,7 @@ fn read_first_again(
 {
     let rule = Rule::of(word, component);
     if rule.radix == 10 {
-        let first = first_digit(text, rule, start, before, u128::from(most));
-        if let Some(read) = read_radix(text, rule, 10, start, before, first, Some(most)) {
+        if let Some(read) = read_slice(text, rule, start, before, None, Some(most)) {
             if !read.is_too_large {
                 return FirstRead {
                     digits: FirstDigits {
@@ -238,7 +237,7 @@ fn count_rest(text: &[u8], rule: Rule, start: usize) -> Option<ReadTo>
     requires within { start ≤ length text.now }
     ensures { IfSome result (IsOffSlice rule text.now start 0 None) }
 {
-    read_radix(text, rule, 10, start, 0, None, None)
+    read_slice(text, rule, start, 0, None, None)
 }
 
 /// The greatest value of 19 digits.
@@ -265,28 +264,6 @@ fn are_few(before: u64, count: usize) -> bool
         return false;
     }
     before == 0 || is_below(before, count)
-}
-
-/// Whether a component of a float often has eight digits or more.
-#[inline(always)]
-fn is_long(component: Component) -> bool {
-    component == Component::Fraction
-}
-
-/// The digits that are read before the loop: by eights, or the first, if it is known.
-#[inline(always)]
-fn read_plain(text: &[u8], rule: Rule, start: usize, before: u64, by_eights: bool) -> Plain
-    requires radix { rule.radix ≡ 10 }
-    requires within { start ≤ length text.now }
-    ensures { ArePlain rule text.now start before None result.end result.value }
-{
-    // where separators are dropped between digits, few numbers have eight in a row
-    if by_eights && !rule.internal {
-        read_eights(text, rule, start, before)
-    } else {
-        let first = first_digit(text, rule, start, before, u128::from(u64::MAX));
-        begin(text, rule, 10, start, before, first, None)
-    }
 }
 
 /// The decimal digit at a position, if one is there.
@@ -326,10 +303,8 @@ pub fn read_some_digits_from(
     ensures some { IfSome result (λ read. 0 < read.0.count) }
     ensures digit { IfSome result (λ _. holds_of is_ascii_digit (slice_get text.now start) ≡ true) }
 {
-    let rule = Rule::of(word, component);
-    let first = decimal_at(text, rule, start)?;
-    let plain = begin(text, rule, 10, start, 0, Some(first), None);
-    let read = few_slice(text, rule, start, 0, 0, plain)?;
+    decimal_at(text, Rule::of(word, component), start)?;
+    let read = few_slice(text, word, component, start, 0, 0)?;
     let all = FirstDigits {
         value: read.value,
         count: read.count,
@@ -366,9 +341,7 @@ pub fn read_few_digits_from(
     ensures onward { IfSome result (λ read. start + read.0.count ≤ read.1) }
     ensures end { IfSome result (λ read. read.1 ≤ length text.now) }
 {
-    let rule = Rule::of(word, component);
-    let plain = read_plain(text, rule, start, before, true);
-    let read = few_slice(text, rule, start, before, counted, plain)?;
+    let read = few_slice(text, word, component, start, before, counted)?;
     let all = FirstDigits {
         value: read.value,
         count: read.count,
@@ -377,46 +350,109 @@ pub fn read_few_digits_from(
     Some((all, read.end))
 }
 
-/// Reads the digits of a rule with radix 10 from `start` on, where no separator is met, and with
-/// those before at most 19 are there. Some of them were read.
+/// Reads the decimal digits of a component from `start` on, where no separator is met, and with
+/// those before at most 19 are there.
 #[inline(always)]
 fn few_slice(
     text: &[u8],
-    rule: Rule,
+    word: u128,
+    component: Component,
     start: usize,
     before: u64,
     counted: usize,
-    plain: Plain,
 ) -> Option<ReadTo>
-    requires supported { IsSupported rule }
-    requires radix { rule.radix ≡ 10 }
+    requires supported { IsTrue (is_supported word) }
+    requires decimal { (rule_of word component).radix ≡ 10 }
+    requires within { start ≤ length text.now }
     requires before { before < 10 ^ counted }
     requires counted { counted ≤ 19 }
-    requires plain { ArePlain rule text.now start before None plain.end plain.value }
-    ensures reads { IfSome result (IsOffSlice rule text.now start before (Some (10 ^ 19 - 1))) }
+    ensures reads { let r = rule_of word component in
+        IfSome result (IsOffSlice r text.now start before (Some (10 ^ 19 - 1))) }
     ensures all { IfSome result (λ read. read.is_too_large ≡ false) }
     ensures few { IfSome result (λ read. counted + read.count ≤ 19) }
     ensures below { IfSome result (λ read. read.value < 10 ^ (counted + read.count)) }
-    ensures onward { IfSome result (λ read. plain.end ≤ start + read.count) }
 {
-    let read = read_bare(text, rule, start, before, plain)?;
+    let read = bare_slice(text, word, component, start, before)?;
     if read.count > 19 - counted {
         return None;
     }
     Some(read)
 }
 
+/// Reads the decimal digits of a component from `start` on, where no separator is met: those of one
+/// word in place, and more of them, or those of the last seven bytes, by [`bare_rest`].
+#[inline(always)]
+fn bare_slice(
+    text: &[u8],
+    word: u128,
+    component: Component,
+    start: usize,
+    before: u64,
+) -> Option<ReadTo>
+    requires supported { IsTrue (is_supported word) }
+    requires decimal { (rule_of word component).radix ≡ 10 }
+    requires within { start ≤ length text.now }
+    ensures reads { let r = rule_of word component in
+        IfSome result (IsOffSlice r text.now start before None) }
+    ensures all { IfSome result (λ read. read.is_too_large ≡ false) }
+{
+    let rule = Rule::of(word, component);
+    let plain = read_word(text, rule, start, before);
+    if let Some(read) = end_bare(text, rule, start, before, plain) {
+        return Some(read);
+    }
+    let rest = bare_rest(text, word, component, start, before, plain);
+    if rest.end > text.len() {
+        return None;
+    }
+    Some(ReadTo {
+        value: rest.value,
+        count: rest.end - start,
+        end: rest.end,
+        is_too_large: false,
+    })
+}
+
+/// The end of digits after which a separator is, so that there may be more: no text is as long.
+const NOWHERE: Plain = Plain {
+    value: 0,
+    end: usize::MAX,
+};
+
+/// [`bare_slice`] after the digits that were read before, in code of its own. Two values, so that
+/// the answer is in registers.
+#[inline(never)]
+fn bare_rest(
+    text: &[u8],
+    word: u128,
+    component: Component,
+    start: usize,
+    before: u64,
+    plain: Plain,
+) -> Plain
+    requires supported { IsTrue (is_supported word) }
+    requires decimal { (rule_of word component).radix ≡ 10 }
+    requires plain { let r = rule_of word component in
+        ArePlain r text.now start before None plain.end plain.value }
+    ensures onward { start ≤ result.end }
+    ensures reads { let r = rule_of word component in result.end ≤ length text.now →
+        IsOffSlice r text.now start before None (bare_read start result.value result.end) }
+{
+    let rule = Rule::of(word, component);
+    let more = read_words(text, rule, start, before, plain);
+    match read_bare(text, rule, start, before, more) {
+        Some(read) => Plain {
+            value: read.value,
+            end: read.end,
+        },
+        None => NOWHERE,
+    }
+}
+
 /// Reads the digits of a rule with radix 10 from `start` on, where the slice is enough, and 19
 /// digits fit and no more are there.
 #[inline(always)]
-fn decimals_slice(
-    text: &[u8],
-    rule: Rule,
-    start: usize,
-    before: u64,
-    most: u64,
-    by_eights: bool,
-) -> Option<ReadTo>
+fn decimals_slice(text: &[u8], rule: Rule, start: usize, before: u64, most: u64) -> Option<ReadTo>
     requires supported { IsSupported rule }
     requires within { start ≤ length text.now }
     requires fits { before ≤ most }
@@ -427,7 +463,7 @@ fn decimals_slice(
         return None;
     }
     // no digit is tested for being too large: 19 never are
-    let plain = read_plain(text, rule, start, before, by_eights);
+    let plain = begin_decimal(text, rule, start, before, None, None);
     let read = read_on(text, rule, 10, start, before, plain, None)?;
     if are_few(before, read.count) {
         Some(read)
@@ -450,14 +486,7 @@ fn read_first_slice(
     ensures leaves { IfNone result (bytes.new ≡ bytes.old) }
 {
     let rule = bytes.rule(component);
-    let read = decimals_slice(
-        bytes.get_buffer(),
-        rule,
-        bytes.cursor(),
-        before,
-        most,
-        is_long(component),
-    )?;
+    let read = decimals_slice(bytes.get_buffer(), rule, bytes.cursor(), before, most)?;
     bytes.pass_read(component, read.end, read.count);
     Some(Digits {
         value: read.value,

@@ -9,7 +9,7 @@ ghost use Rattle.lexical_digits.specs.Looks.{Costs};
 ghost use Rattle.digit_literals.specs.Numbers.{has_byte};
 ghost use Rattle.digit_literals.specs.Reads.{IsMore, IsFirst, IsOffSlice, ArePlain, Passes, outcome};
 
-use super::eight::Plain;
+use super::eight::{Plain, read_words, read_words_up_to};
 use super::reading::{Digits, TooLarge, add_digit};
 use lexical_digits::iterator::Iter;
 use lexical_digits::skip::{Bytes, Component, Rule};
@@ -129,7 +129,8 @@ pub(super) fn read_slice(
 {
     // A compiler makes code of its own for a radix that is written out.
     if rule.radix == 10 {
-        read_radix(text, rule, 10, start, before, first, most)
+        let plain = begin_decimal(text, rule, start, before, first, most);
+        read_on(text, rule, 10, start, before, plain, most)
     } else {
         read_radix(text, rule, rule.radix, start, before, first, most)
     }
@@ -163,6 +164,39 @@ pub(super) fn begin(
             value: before,
             end: start,
         },
+    }
+}
+
+/// [`begin`] in radix 10: by words, if eight bytes are there, and no value is before them or none
+/// is too large.
+#[inline(always)]
+pub(super) fn begin_decimal(
+    text: &[u8],
+    rule: Rule,
+    start: usize,
+    before: u64,
+    first: Option<u32>,
+    most: Option<u64>,
+) -> Plain
+    requires radix { rule.radix ≡ 10 }
+    requires within { start ≤ length text.now }
+    requires fits { IfSome most (λ m. before ≤ m) }
+    requires first { IfSome first (IsFirst rule text.now start before most) }
+    ensures { ArePlain rule text.now start before most result.end result.value }
+{
+    if text.len() - start < 8 {
+        return begin(text, rule, 10, start, before, first, most);
+    }
+    match most {
+        None => {
+            let none = Plain {
+                value: before,
+                end: start,
+            };
+            read_words(text, rule, start, before, none)
+        }
+        Some(most) if before == 0 => read_words_up_to(text, rule, start, most),
+        Some(_) => begin(text, rule, 10, start, before, first, most),
     }
 }
 
@@ -259,7 +293,7 @@ pub(super) fn read_bare(
     requires plain { ArePlain rule text.now start before None plain.end plain.value }
     ensures reads { IfSome result (IsOffSlice rule text.now start before None) }
     ensures all { IfSome result (λ read. read.is_too_large ≡ false) }
-    ensures onward { IfSome result (λ read. plain.end ≤ start + read.count) }
+    ensures bare { IfSome result (λ read. start + read.count ≡ read.end) }
 {
     let mut value = plain.value;
     for at in plain.end..text.len() {
@@ -284,6 +318,42 @@ pub(super) fn read_bare(
         end,
         is_too_large: false,
     })
+}
+
+/// [`read_bare`], if no digit follows those that were read.
+#[inline(always)]
+#[tactic(auto, using(crate::proofs::Passed::reading))]
+pub(super) fn end_bare(
+    text: &[u8],
+    rule: Rule,
+    start: usize,
+    before: u64,
+    plain: Plain,
+) -> Option<ReadTo>
+    requires supported { IsSupported rule }
+    requires radix { rule.radix ≡ 10 }
+    requires plain { ArePlain rule text.now start before None plain.end plain.value }
+    ensures reads { IfSome result (IsOffSlice rule text.now start before None) }
+    ensures all { IfSome result (λ read. read.is_too_large ≡ false) }
+    ensures bare { IfSome result (λ read. start + read.count ≡ read.end) }
+{
+    let all = ReadTo {
+        value: plain.value,
+        count: plain.end - start,
+        end: plain.end,
+        is_too_large: false,
+    };
+    if plain.end == text.len() {
+        return Some(all);
+    }
+    let byte = text[plain.end];
+    if char_is_digit_const(byte, 10) {
+        return None;
+    }
+    if rule.is_separator(byte) {
+        return None;
+    }
+    Some(all)
 }
 
 /// The digit at the place of a component, if one is there.

@@ -9,6 +9,6 @@ value_of-requires c =
 
 pub returns : goal.returns
 returns c =
-    c.value_of.ensures
+    c.value_of.ensures.is
     ∙ (last_is c.args.count _ c.args.digits c.requires.some c.requires.few c.requires.below
     (not_wrapped c.args.digits (64 - 8 * c.args.count) (omega arith))).1

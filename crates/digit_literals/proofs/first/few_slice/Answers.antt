@@ -1,4 +1,5 @@
 use Rattle.std.proofs.Common.{◌+◌, ◌≤◌, refl, arith}
+use Rattle.lexical_digits.specs.State.{rule_of}
 use Rattle.digit_literals.proofs.Firsts.{few_fit, has_room_after, below_after}
 use Rattle.digit_literals.proofs.first.few_slice.Goals as goal
 
@@ -12,5 +13,5 @@ returns-clause-reads c =
 pub returns-clause-below : goal.returns-clause-below
 returns-clause-below c =
     below_after c.args.before c.args.counted c.in_ok-read.read.count c.requires.before
-    c.args.rule c.args.text.now c.args.start c.in_ok-read.read _ (omega arith) refl
+    (rule_of c.args.word c.args.component) c.args.text.now c.args.start c.in_ok-read.read _ (omega arith) refl
     (returns-clause-reads c)
