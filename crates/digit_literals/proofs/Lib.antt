@@ -25,6 +25,7 @@ pub mod InGroups
 pub mod Fresh
 pub mod MoreFlags
 pub mod WhatFollows
+pub mod Passing
 pub mod Lists
 pub mod Counts
 pub mod Written

@@ -1,7 +1,9 @@
 //! Single bytes of a text: what a parser asks between two numbers.
 
-ghost use Rattle.std.specs.Prelude.{◌≡◌, ◌+◌, ◌<◌, ◌≤◌, true, length, take_while, slice_get, IfOk, IfErr, IfSome};
+ghost use Rattle.std.specs.Prelude.{◌≡◌, ◌+◌, ◌<◌, ◌≤◌, true, length, map, take_while, slice_get, IfOk, IfErr, IfSome};
+ghost use Rattle.std.specs.List.{range_with_len};
 ghost use Rattle.lexical_digits.specs.ByteSet.{accepts};
+ghost use Rattle.lexical_digits.specs.Cursor.{holds_of};
 ghost use Rattle.digit_literals.specs.Numbers.{has_byte};
 ghost use Rattle.digit_literals.specs.Bytes.{expect_byte, is_name_byte, name_end, past_bytes};
 
@@ -50,13 +52,38 @@ pub fn expect_byte(text: &[u8], at: usize, byte: u8) -> Result<usize, usize>
     }
 }
 
+/// Whether a set has a byte. Where all bytes of the set are below 63, as blanks and commas are, that
+/// is no branch on the byte.
+#[inline(always)]
+pub(super) fn accepts(set: ByteSet, byte: u8) -> bool
+    ensures { result ≡ accepts set byte }
+{
+    if set.high == 0 && set.low < 1 << 63 {
+        let low = (set.low % (1 << 64)) as u64;
+        return (low >> byte.min(63)) % 2 == 1;
+    }
+    set.accepts(byte)
+}
+
+/// Whether a byte of a set is at a position.
+#[inline(always)]
+fn has_any(text: &[u8], at: usize, set: ByteSet) -> bool
+    ensures is { result ≡ holds_of (accepts set) (slice_get text.now at) }
+    ensures within { result ≡ true → at < length text.now }
+{
+    match text.get(at) {
+        Some(byte) => accepts(set, *byte),
+        None => false,
+    }
+}
+
 /// How many bytes of a set a text begins with.
 #[inline(always)]
 fn count_bytes(text: &[u8], set: ByteSet) -> usize
     ensures is { result ≡ length (take_while (accepts set) text.now) }
     ensures within { result ≤ length text.now }
 {
-    text.iter().take_while(|byte| set.accepts(**byte)).count()
+    text.iter().take_while(|byte| accepts(set, **byte)).count()
 }
 
 /// The first position from this one on whose byte isn't in a set, or the end of the text. Requires
@@ -66,14 +93,66 @@ fn count_bytes(text: &[u8], set: ByteSet) -> usize
 /// `1, \t2`, BLANKS from 2: 4
 /// ```
 #[inline(always)]
-#[tactic(auto, unfolding(crate::specs::Bytes::past_bytes))]
+#[tactic(auto, using(crate::proofs::Passing::passing), unfolding(crate::specs::Bytes::past_bytes))]
 pub fn past_bytes(text: &[u8], at: usize, set: ByteSet) -> usize
     requires { at ≤ length text.now }
     ensures is { result ≡ past_bytes text.now at set }
     ensures onward { at ≤ result }
     ensures within { result ≤ length text.now }
 {
-    at + count_bytes(&text[at..], set)
+    // whether there is one or none is no branch
+    let next = at + usize::from(has_any(text, at, set));
+    if has_any(text, next, set) {
+        next + count_bytes(&text[next..], set)
+    } else {
+        next
+    }
+}
+
+/// Whether each byte may be part of a name. A load takes no branch between letters, digits and
+/// other bytes, which a processor could not predict.
+#[rattlefmt::skip]
+static NAME_BYTES: [bool; 256] = [
+    false, false, false, false, false, false, false, false, // 0x00
+    false, false, false, false, false, false, false, false, // 0x08
+    false, false, false, false, false, false, false, false, // 0x10
+    false, false, false, false, false, false, false, false, // 0x18
+    false, false, false, false, false, false, false, false, // 0x20
+    false, false, false, false, false, false, false, false, // 0x28
+    true,  true,  true,  true,  true,  true,  true,  true, // 0x30
+    true,  true,  false, false, false, false, false, false, // 0x38
+    false, true,  true,  true,  true,  true,  true,  true, // 0x40
+    true,  true,  true,  true,  true,  true,  true,  true, // 0x48
+    true,  true,  true,  true,  true,  true,  true,  true, // 0x50
+    true,  true,  true,  false, false, false, false, true, // 0x58
+    false, true,  true,  true,  true,  true,  true,  true, // 0x60
+    true,  true,  true,  true,  true,  true,  true,  true, // 0x68
+    true,  true,  true,  true,  true,  true,  true,  true, // 0x70
+    true,  true,  true,  false, false, false, false, false, // 0x78
+    true,  true,  true,  true,  true,  true,  true,  true, // 0x80
+    true,  true,  true,  true,  true,  true,  true,  true, // 0x88
+    true,  true,  true,  true,  true,  true,  true,  true, // 0x90
+    true,  true,  true,  true,  true,  true,  true,  true, // 0x98
+    true,  true,  true,  true,  true,  true,  true,  true, // 0xa0
+    true,  true,  true,  true,  true,  true,  true,  true, // 0xa8
+    true,  true,  true,  true,  true,  true,  true,  true, // 0xb0
+    true,  true,  true,  true,  true,  true,  true,  true, // 0xb8
+    true,  true,  true,  true,  true,  true,  true,  true, // 0xc0
+    true,  true,  true,  true,  true,  true,  true,  true, // 0xc8
+    true,  true,  true,  true,  true,  true,  true,  true, // 0xd0
+    true,  true,  true,  true,  true,  true,  true,  true, // 0xd8
+    true,  true,  true,  true,  true,  true,  true,  true, // 0xe0
+    true,  true,  true,  true,  true,  true,  true,  true, // 0xe8
+    true,  true,  true,  true,  true,  true,  true,  true, // 0xf0
+    true,  true,  true,  true,  true,  true,  true,  true, // 0xf8
+];
+
+/// The table of the bytes of names, with one entry for each byte.
+#[inline(always)]
+fn name_bytes() -> &'static [bool; 256]
+    ensures { result.now ≡ map is_name_byte (range_with_len 0 256) }
+{
+    &NAME_BYTES
 }
 
 /// Whether a byte may be part of a name: an ASCII letter or digit, `_`, or a byte above ASCII.
@@ -81,7 +160,7 @@ pub fn past_bytes(text: &[u8], at: usize, set: ByteSet) -> usize
 fn is_name_byte(byte: u8) -> bool
     ensures { result ≡ is_name_byte byte }
 {
-    byte.is_ascii_alphanumeric() || byte == b'_' || byte >= 128
+    name_bytes()[usize::from(byte)]
 }
 
 /// How many bytes of a name a text begins with.

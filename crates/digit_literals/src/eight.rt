@@ -3,7 +3,7 @@
 ghost use Rattle.std.specs.Prelude.{◌≡◌, ℕ, ◌+◌, ◌-◌, ◌*◌, ◌/◌, ◌%◌, ◌^◌, ◌<◌, ◌≤◌, length, slice_index, true, None, Some, IfSome};
 ghost use Rattle.std.specs.Int.{trailing_zeros, w64};
 ghost use Rattle.digit_literals.specs.Eight.{AreBelow, byte_of, spelt, number_of, written, AreDigits, IsWritten};
-ghost use Rattle.digit_literals.specs.Reads.{ArePlain};
+ghost use Rattle.digit_literals.specs.Reads.{ArePlain, IsMore};
 
 use super::wide::ten_to;
 use lexical_digits::skip::Rule;
@@ -261,6 +261,50 @@ pub(super) fn read_words_up_to(text: &[u8], rule: Rule, start: usize, most: u64)
         value: join(first.value, second),
         end: end + second.count,
     }
+}
+
+/// The number that a value and the digits after it write, if it is at most `most`.
+#[inline(always)]
+fn join_up_to(value: u64, next: Front, most: u64) -> Option<u64>
+    requires { next.count ≤ 8 }
+    ensures { IfSome result (λ more. IsMore (10 ^ next.count) value next.value more most) }
+{
+    let more = value
+        .checked_mul(small_ten_to(next.count))?
+        .checked_add(next.value)?;
+    if more <= most { Some(more) } else { None }
+}
+
+/// Digits from `start` on after the value `before`, by words, as long as their value is at most
+/// `most` and eight bytes are there. In code of its own: the digits after a point, where there are
+/// more than 19.
+#[inline(never)]
+pub(super) fn read_more_up_to(
+    text: &[u8],
+    rule: Rule,
+    start: usize,
+    before: u64,
+    most: u64,
+) -> Plain
+    requires radix { rule.radix ≡ 10 }
+    requires within { start ≤ length text.now }
+    requires fits { before ≤ most }
+    ensures { ArePlain rule text.now start before (Some most) result.end result.value }
+{
+    let mut value = before;
+    let mut end = start;
+    while text.len() - end >= 8 {
+        let front = front_at(text, end);
+        let Some(more) = join_up_to(value, front, most) else {
+            break;
+        };
+        value = more;
+        end += front.count;
+        if front.count < 8 {
+            break;
+        }
+    }
+    Plain { value, end }
 }
 
 /// The number that a few digits and those after them write.

@@ -10,7 +10,7 @@ ghost use Rattle.digit_literals.specs.Lists.{is_blank, has_blank, has_separator,
 ghost use Rattle.digit_literals.specs.Numbers.{number_at};
 
 use super::LiteralError;
-use super::bytes::BLANKS;
+use super::bytes::{BLANKS, accepts};
 use super::number::{Integer, read_number_from};
 use lexical_digits::ops::ByteSet;
 
@@ -101,27 +101,14 @@ pub struct ListRead<E> {
     pub end: ListEnd<E>,
 }
 
-/// Whether a set has a byte. For most bytes of a list 64 bits are enough.
-#[inline(always)]
-#[tactic(auto, using(crate::proofs::Lists::low_bit))]
-fn accepts(set: ByteSet, byte: u8) -> bool
-    ensures { result ≡ accepts set byte }
-{
-    if byte < 64 {
-        let low = (set.low % (1 << 64)) as u64;
-        (low >> byte) % 2 == 1
-    } else {
-        set.accepts(byte)
-    }
-}
-
 impl Gap {
     /// Whether a byte may be around a separator.
     #[inline(always)]
     fn is_blank(self, byte: u8) -> bool
         ensures { result ≡ is_blank self byte }
     {
-        accepts(self.blanks, byte) && !accepts(self.separators, byte)
+        // `&`, so that no branch depends on the byte
+        accepts(self.blanks, byte) & !accepts(self.separators, byte)
     }
 
     /// How many blanks a text begins with.
@@ -136,7 +123,8 @@ impl Gap {
     /// Whether a blank is at a position.
     #[inline(always)]
     fn has_blank(self, text: &[u8], at: usize) -> bool
-        ensures { result ≡ has_blank self text.now at }
+        ensures is { result ≡ has_blank self text.now at }
+        ensures within { result ≡ true → at < length text.now }
     {
         match text.get(at) {
             Some(byte) => self.is_blank(*byte),
@@ -147,18 +135,19 @@ impl Gap {
     /// The first position from this one on without a blank, or the end of the text. Requires that
     /// the position is within the text.
     #[inline(always)]
-    #[tactic(auto, using(crate::proofs::Lists::no_blank), unfolding(crate::specs::Lists::past_blanks))]
+    #[tactic(auto, using(crate::proofs::Passing::passing), unfolding(crate::specs::Lists::past_blanks))]
     pub fn past_blanks(self, text: &[u8], at: usize) -> usize
         requires { at ≤ length text.now }
         ensures is { result ≡ past_blanks self text.now at }
         ensures onward { at ≤ result }
         ensures within { result ≤ length text.now }
     {
-        // the usual case, in which none is counted
-        if self.has_blank(text, at) {
-            at + self.count_blanks(&text[at..])
+        // whether there is one or none is no branch
+        let next = at + usize::from(self.has_blank(text, at));
+        if self.has_blank(text, next) {
+            next + self.count_blanks(&text[next..])
         } else {
-            at
+            next
         }
     }
 

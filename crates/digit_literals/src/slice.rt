@@ -9,7 +9,7 @@ ghost use Rattle.lexical_digits.specs.Looks.{Costs};
 ghost use Rattle.digit_literals.specs.Numbers.{has_byte};
 ghost use Rattle.digit_literals.specs.Reads.{IsMore, IsFirst, IsOffSlice, ArePlain, Passes, outcome};
 
-use super::eight::{Plain, read_words, read_words_up_to};
+use super::eight::{Plain, read_more_up_to, read_words, read_words_up_to};
 use super::reading::{Digits, TooLarge, add_digit};
 use lexical_digits::iterator::Iter;
 use lexical_digits::skip::{Bytes, Component, Rule};
@@ -167,8 +167,7 @@ pub(super) fn begin(
     }
 }
 
-/// [`begin`] in radix 10: by words, if eight bytes are there, and no value is before them or none
-/// is too large.
+/// [`begin`] in radix 10: by words, if eight bytes are there.
 #[inline(always)]
 pub(super) fn begin_decimal(
     text: &[u8],
@@ -196,7 +195,7 @@ pub(super) fn begin_decimal(
             read_words(text, rule, start, before, none)
         }
         Some(most) if before == 0 => read_words_up_to(text, rule, start, most),
-        Some(_) => begin(text, rule, 10, start, before, first, most),
+        Some(most) => read_more_up_to(text, rule, start, before, most),
     }
 }
 
