@@ -40,7 +40,7 @@ def crates():
 # The crates that no caller in Rattle uses: examples, the program, tests, the benchmark, the library
 # for C.
 INNER = ("digit_hello", "digit_uses", "digit_drain", "digit_vectors", "number_vectors",
-         "digit_bench", "digits_c")
+         "digit_bench", "digits_c", "digit_jobs")
 
 # The crate that only passes on what the others have.
 DOOR = "digits"

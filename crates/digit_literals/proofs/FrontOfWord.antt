@@ -73,8 +73,10 @@ module _ (x others : ℕ) (is : others ≡ bit_or (bit_and x 0x8080_8080_8080_80
       let top = top_bit j l in
       let whole = of_word (x + 0x7676_7676_7676_7676) (place j) (omega (arith, l)) in
       let zero_there : bit_at (bit_or (bit_and x mask) (bit_and y mask)) (place j) ≡ 0 =
-      rw is at none in
-      (omega (arith, zero_there, either, low, top), omega (arith, zero_there, either, high, top, whole))
+      rw is at none in (
+        omega (arith, zero_there, either, low, top),
+        omega (arith, zero_there, either, high, top, whole),
+      )
 
   fits : x < 2 ^ 64 → others < 2 ^ 64
   fits l =

@@ -1,8 +1,7 @@
 -- One turn of a loop that reads a list into a slice.
-use Rattle.std.proofs.Common.{◌≡◌, ℕ, zero, suc, ◌+◌, ◌-◌, ◌<◌, ◌≤◌, List, [], ◌∷◌, ◌++◌, map, length, take, drop, take_while, ◌*◌, ◌/◌, ◌%◌, ◌^◌, refl, sym, ◌∙◌, ap, inl, inr, arith}
+use Rattle.std.proofs.Common.{◌≡◌, ℕ, zero, suc, ◌+◌, ◌-◌, ◌<◌, ◌≤◌, List, [], ◌∷◌, ◌++◌, map, length, take, drop, ◌/◌, ◌%◌, ◌^◌, refl, sym, ◌∙◌, inl, inr, arith}
 use Rattle.std.specs.Prelude.{Bool, true, false, Option, Some, None, slice_get, ◌&&◌, ◌==◌, min, nat_lt, if◌then◌else◌, Result, Ok, Err, set}
-use Rattle.std.proofs.lemmas.List.{drop_all, take_more_set, drop-set-lt, drop-drop, length-set, map-append, append_assoc, length-map, length-take-le, append-nil}
-use Rattle.std.proofs.lemmas.List.Sums.{take_while-cons}
+use Rattle.std.proofs.lemmas.List.{take_more_set, drop-set-lt, drop-drop, length-set, map-append, append_assoc, length-map, length-take-le, append-nil}
 use Rattle.std.proofs.Math.Nat.{div-eq_of_lt, min-eq_left, min-eq_right, mod-eq_of_lt, pow-le-pow_right, zero-div}
 use Rattle.std.proofs.lemmas.Bool.Decides.{nat_tests}
 use Rattle.lexical_format.specs.Word.{bit}

@@ -62,15 +62,6 @@ are_digits x l low high =
     below_ten 8 x bytes (low_bytes 8 (x + 0x7676_7676_7676_7676) sum
     (rw (mod-eq_of_lt sum) at high))
 
--- nothing was borrowed
-pub word_is : (word : ℕ) → word < 2 ^ 64
-    → AreBelow 10 8 ((word + (2 ^ 64 - 0x3030_3030_3030_3030)) % 2 ^ 64)
-    → word ≡ (word + (2 ^ 64 - 0x3030_3030_3030_3030)) % 2 ^ 64 + 0x3030_3030_3030_3030
-word_is word l h =
-    let few : (word + (2 ^ 64 - 0x3030_3030_3030_3030)) % 2 ^ 64 ≤ 0x0909_0909_0909_0909 =
-    at_most 9 8 _ h in
-    omega (arith, few, l)
-
 -- ---- the number
 
 -- the mask keeps the bytes 0 and 4

@@ -52,8 +52,8 @@ pub fn expect_byte(text: &[u8], at: usize, byte: u8) -> Result<usize, usize>
     }
 }
 
-/// Whether a set has a byte. Where all bytes of the set are below 63, as blanks and commas are, that
-/// is no branch on the byte.
+/// Whether a set has a byte. If all its bytes are below 63, as blanks and commas are, this is no
+/// branch on the byte.
 #[inline(always)]
 pub(super) fn accepts(set: ByteSet, byte: u8) -> bool
     ensures { result ≡ accepts set byte }

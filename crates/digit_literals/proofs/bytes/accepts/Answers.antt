@@ -1,4 +1,3 @@
-use Rattle.std.proofs.Common.{arith}
 use Rattle.digit_literals.proofs.Lists.{low_set}
 use Rattle.digit_literals.proofs.bytes.accepts.Goals as goal
 

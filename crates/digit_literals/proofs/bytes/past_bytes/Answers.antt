@@ -1,4 +1,4 @@
-use Rattle.std.proofs.Common.{◌+◌, sym, arith}
+use Rattle.std.proofs.Common.{sym}
 use Rattle.lexical_digits.specs.ByteSet.{accepts}
 use Rattle.digit_literals.specs.Bytes.{past_bytes}
 use Rattle.digit_literals.proofs.Passing.{first_and_others}

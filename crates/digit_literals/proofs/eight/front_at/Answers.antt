@@ -12,4 +12,5 @@ returns-clause-is c =
     let word = c.word_at-digits.result in
     front_written text at c.requires fit word _ _ c.first_of.result c.word_at-digits.ensures
     (ap (λ w. (w + (2 ^ 64 - 0x3030_3030_3030_3030)) % 2 ^ 64) {y = word} (omega arith))
-    (omega (arith, trailing_le 64 c.others_of-others.result)) (c.others_of-others.ensures.first (omega arith)) c.first_of.ensures.is
+    (omega (arith, trailing_le 64 c.others_of-others.result))
+    (c.others_of-others.ensures.first (omega arith)) c.first_of.ensures.is

@@ -5,4 +5,5 @@ pub returns-clause-is : goal.returns-clause-is
 returns-clause-is c = number_is c.args.digits c.requires
 
 pub returns-clause-below : goal.returns-clause-below
-returns-clause-below c = rw (number_is c.args.digits c.requires) (few_number c.args.digits c.requires)
+returns-clause-below c =
+    rw (number_is c.args.digits c.requires) (few_number c.args.digits c.requires)

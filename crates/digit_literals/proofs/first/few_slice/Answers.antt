@@ -13,5 +13,6 @@ returns-clause-reads c =
 pub returns-clause-below : goal.returns-clause-below
 returns-clause-below c =
     below_after c.args.before c.args.counted c.in_ok-read.read.count c.requires.before
-    (rule_of c.args.word c.args.component) c.args.text.now c.args.start c.in_ok-read.read _ (omega arith) refl
+    (rule_of c.args.word c.args.component) c.args.text.now c.args.start c.in_ok-read.read _
+    (omega arith) refl
     (returns-clause-reads c)

@@ -1,4 +1,4 @@
-use Rattle.std.proofs.Common.{◌+◌, sym, arith}
+use Rattle.std.proofs.Common.{sym}
 use Rattle.digit_literals.specs.Lists.{is_blank, past_blanks}
 use Rattle.digit_literals.proofs.Passing.{first_and_others}
 use Rattle.digit_literals.proofs.list.Gap.past_blanks.Goals as goal
