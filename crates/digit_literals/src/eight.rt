@@ -189,6 +189,29 @@ fn wrapping_join(value: u64, next: Front) -> u64
         .wrapping_add(next.value)
 }
 
+/// No digits from `start` on, after the value `before`.
+#[inline(always)]
+#[tactic(auto, using(crate::proofs::Plain::none_plain))]
+pub(super) fn no_digits(text: &[u8], rule: Rule, start: usize, before: u64) -> Plain
+    requires within { start ≤ length text.now }
+    ensures { ArePlain rule text.now start before None result.end result.value }
+{
+    Plain {
+        value: before,
+        end: start,
+    }
+}
+
+/// [`front_at`] in code of its own, so that what calls it stays small.
+#[inline(never)]
+fn front_apart(text: &[u8], at: usize) -> Front
+    requires { at + 8 ≤ length text.now }
+    ensures is { IsWritten text.now at result.count result.value }
+    ensures few { result.count ≤ 8 }
+{
+    front_at(text, at)
+}
+
 /// Digits from `start` on after the value `before`, by one word, if eight bytes are there.
 #[inline(always)]
 pub(super) fn read_word(text: &[u8], rule: Rule, start: usize, before: u64) -> Plain
@@ -197,12 +220,9 @@ pub(super) fn read_word(text: &[u8], rule: Rule, start: usize, before: u64) -> P
     ensures { ArePlain rule text.now start before None result.end result.value }
 {
     if text.len() - start < 8 {
-        return Plain {
-            value: before,
-            end: start,
-        };
+        return no_digits(text, rule, start, before);
     }
-    let front = front_at(text, start);
+    let front = front_apart(text, start);
     Plain {
         value: wrapping_join(before, front),
         end: start + front.count,

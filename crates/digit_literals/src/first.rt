@@ -13,9 +13,9 @@ ghost use Rattle.digit_literals.specs.First.{ReadsFirst};
 ghost use Rattle.digit_literals.specs.Reads.{ArePlain, IsFirst, IsOffSlice, PassesAll, bare_read};
 
 use super::component::{pass_digits, read_digits_up_to};
-use super::eight::{Plain, read_word, read_words};
+use super::eight::{Plain, no_digits, read_word, read_words};
 use super::reading::Digits;
-use super::slice::{ReadTo, begin_decimal, end_bare, read_bare, read_on, read_slice};
+use super::slice::{ReadTo, begin, begin_decimal, end_bare, read_bare, read_on, read_slice};
 use super::wide::ten_to;
 use lexical_digits::iterator::Iter;
 use lexical_digits::skip::{Bytes, Component, Rule};
@@ -303,8 +303,9 @@ pub fn read_some_digits_from(
     ensures some { IfSome result (λ read. 0 < read.0.count) }
     ensures digit { IfSome result (λ _. holds_of is_ascii_digit (slice_get text.now start) ≡ true) }
 {
-    decimal_at(text, Rule::of(word, component), start)?;
-    let read = few_slice(text, word, component, start, 0, 0)?;
+    let first = decimal_at(text, Rule::of(word, component), start)?;
+    let digits = bare_slice(text, word, component, start, first)?;
+    let read = few_of(text, word, component, start, 0, 0, digits)?;
     let all = FirstDigits {
         value: read.value,
         count: read.count,
@@ -341,7 +342,8 @@ pub fn read_few_digits_from(
     ensures onward { IfSome result (λ read. start + read.0.count ≤ read.1) }
     ensures end { IfSome result (λ read. read.1 ≤ length text.now) }
 {
-    let read = few_slice(text, word, component, start, before, counted)?;
+    let digits = bare_by_words(text, word, component, start, before)?;
+    let read = few_of(text, word, component, start, before, counted, digits)?;
     let all = FirstDigits {
         value: read.value,
         count: read.count,
@@ -350,39 +352,78 @@ pub fn read_few_digits_from(
     Some((all, read.end))
 }
 
-/// Reads the decimal digits of a component from `start` on, where no separator is met, and with
-/// those before at most 19 are there.
+/// Digits that were read, if with those before they are at most 19.
 #[inline(always)]
-fn few_slice(
+fn few_of(
     text: &[u8],
     word: u128,
     component: Component,
     start: usize,
     before: u64,
     counted: usize,
+    read: ReadTo,
 ) -> Option<ReadTo>
-    requires supported { IsTrue (is_supported word) }
     requires decimal { (rule_of word component).radix ≡ 10 }
-    requires within { start ≤ length text.now }
     requires before { before < 10 ^ counted }
     requires counted { counted ≤ 19 }
+    requires reads { IsOffSlice (rule_of word component) text.now start before None read }
+    requires all { read.is_too_large ≡ false }
     ensures reads { let r = rule_of word component in
         IfSome result (IsOffSlice r text.now start before (Some (10 ^ 19 - 1))) }
     ensures all { IfSome result (λ read. read.is_too_large ≡ false) }
     ensures few { IfSome result (λ read. counted + read.count ≤ 19) }
     ensures below { IfSome result (λ read. read.value < 10 ^ (counted + read.count)) }
 {
-    let read = bare_slice(text, word, component, start, before)?;
     if read.count > 19 - counted {
         return None;
     }
     Some(read)
 }
 
-/// Reads the decimal digits of a component from `start` on, where no separator is met: those of one
-/// word in place, and more of them, or those of the last seven bytes, by [`bare_rest`].
+/// Reads the decimal digits of an integer from `start` on, where no separator is met, and the first
+/// is known: those of one word in place, and more of them by [`bare_rest`]; of the last seven bytes
+/// of a text one by one.
 #[inline(always)]
 fn bare_slice(
+    text: &[u8],
+    word: u128,
+    component: Component,
+    start: usize,
+    first: u32,
+) -> Option<ReadTo>
+    requires supported { IsTrue (is_supported word) }
+    requires decimal { (rule_of word component).radix ≡ 10 }
+    requires within { start ≤ length text.now }
+    requires first { IsFirst (rule_of word component) text.now start 0 None first }
+    ensures reads { let r = rule_of word component in
+        IfSome result (IsOffSlice r text.now start 0 None) }
+    ensures all { IfSome result (λ read. read.is_too_large ≡ false) }
+{
+    let rule = Rule::of(word, component);
+    if text.len() - start < 8 {
+        let plain = begin(text, rule, 10, start, 0, Some(first), None);
+        return read_bare(text, rule, start, 0, plain);
+    }
+    let plain = read_word(text, rule, start, 0);
+    if let Some(read) = end_bare(text, rule, start, 0, plain) {
+        return Some(read);
+    }
+    let rest = bare_rest(text, word, component, start, 0, plain);
+    if rest.end > text.len() {
+        return None;
+    }
+    Some(ReadTo {
+        value: rest.value,
+        count: rest.end - start,
+        end: rest.end,
+        is_too_large: false,
+    })
+}
+
+/// Reads the decimal digits of a fraction from `start` on, where no separator is met: by words, and
+/// those of the last seven bytes of a text one by one.
+#[inline(always)]
+fn bare_by_words(
     text: &[u8],
     word: u128,
     component: Component,
@@ -397,20 +438,9 @@ fn bare_slice(
     ensures all { IfSome result (λ read. read.is_too_large ≡ false) }
 {
     let rule = Rule::of(word, component);
-    let plain = read_word(text, rule, start, before);
-    if let Some(read) = end_bare(text, rule, start, before, plain) {
-        return Some(read);
-    }
-    let rest = bare_rest(text, word, component, start, before, plain);
-    if rest.end > text.len() {
-        return None;
-    }
-    Some(ReadTo {
-        value: rest.value,
-        count: rest.end - start,
-        end: rest.end,
-        is_too_large: false,
-    })
+    let none = no_digits(text, rule, start, before);
+    let plain = read_words(text, rule, start, before, none);
+    read_bare(text, rule, start, before, plain)
 }
 
 /// The end of digits after which a separator is, so that there may be more: no text is as long.

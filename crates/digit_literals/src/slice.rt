@@ -9,7 +9,7 @@ ghost use Rattle.lexical_digits.specs.Looks.{Costs};
 ghost use Rattle.digit_literals.specs.Numbers.{has_byte};
 ghost use Rattle.digit_literals.specs.Reads.{IsMore, IsFirst, IsOffSlice, ArePlain, Passes, outcome};
 
-use super::eight::{Plain, read_more_up_to, read_words, read_words_up_to};
+use super::eight::{Plain, no_digits, read_more_up_to, read_words, read_words_up_to};
 use super::reading::{Digits, TooLarge, add_digit};
 use lexical_digits::iterator::Iter;
 use lexical_digits::skip::{Bytes, Component, Rule};
@@ -188,10 +188,7 @@ pub(super) fn begin_decimal(
     }
     match most {
         None => {
-            let none = Plain {
-                value: before,
-                end: start,
-            };
+            let none = no_digits(text, rule, start, before);
             read_words(text, rule, start, before, none)
         }
         Some(most) if before == 0 => read_words_up_to(text, rule, start, most),

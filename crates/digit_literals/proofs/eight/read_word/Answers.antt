@@ -9,4 +9,4 @@ returns c =
     c.args.start c.args.before _ _ _ _
     (none_plain c.args.rule c.args.text.now c.args.start c.args.before None c.requires.within
     (omega arith) tt)
-    c.front_at-front.ensures.is refl tt c.wrapping_join.ensures
+    c.front_apart-front.ensures.is refl tt c.wrapping_join.ensures

@@ -51,5 +51,5 @@ some_before rule text start digit read first off few =
 pub returns-clause-some : goal.returns-clause-some
 returns-clause-some c =
     some_before _ _ _ _ c.in_ok-read.read
-    (rw c.of.ensures at c.in_ok-decimal_at.ensures.first) c.in_ok-read.ensures.reads
+    (rw c.of.ensures at c.in_ok-first.ensures.first) c.in_ok-read.ensures.reads
     c.in_ok-read.ensures.all
