@@ -18,7 +18,9 @@
 //! At the end of the buffer a read answers `None` and counts nothing.
 
 ghost use Rattle.std.specs.Prelude.{◌≡◌, ℕ, ◌+◌, ◌<◌, ◌≤◌, length, Some, option_copied, nat_lt, not, true, IfSome, slice_get};
-ghost use Rattle.lexical_digits.specs.Separators.{place, IsSupported};
+ghost use Rattle.std.specs.Prelude.{IsTrue};
+ghost use Rattle.lexical_format.specs.Word.{is_supported};
+ghost use Rattle.lexical_digits.specs.Separators.{place};
 ghost use Rattle.lexical_digits.specs.State.{rule_of};
 ghost use Rattle.lexical_digits.specs.Looks.{IsRunOrNone, Finds, PeeksOf, NextsOf, SettlesOf, LooksHere, NoLooks, one_if};
 ghost use Rattle.lexical_digits.specs.Fields.Bytes.{IsInnerAt, IsInnerDigit, FollowsDigit, has_no_flags};
@@ -41,15 +43,23 @@ struct Found {
 /// of the place is left to the caller.
 #[cold]
 #[inline(never)]
-fn find(slc: &[u8], rule: Rule, at: usize, counted: bool, run: Option<Run>) -> Found
-    requires supported { IsSupported rule }
+fn find(
+    slc: &[u8],
+    word: u128,
+    component: Component,
+    at: usize,
+    counted: bool,
+    run: Option<Run>,
+) -> Found
+    requires supported { IsTrue (is_supported word) }
     requires within { at ≤ length slc.now }
-    requires remembered { IsRunOrNone rule.separator slc.now run }
+    requires remembered { IsRunOrNone (rule_of word component).separator slc.now run }
     ensures place { (count : ℕ) → counted ≡ nat_lt 0 count
-        → result.place ≡ place rule slc.now at count }
+        → result.place ≡ place (rule_of word component) slc.now at count }
     ensures finds { let most = 2 + one_if (not counted) in
-        Finds most rule slc.now at run result.run result.looks }
+        Finds most (rule_of word component) slc.now at run result.run result.looks }
 {
+    let rule = Rule::of(word, component);
     let mut src = SliceSource::new(slc);
     let sight = decide(&mut src, rule, at, counted, run);
     Found {
@@ -122,12 +132,12 @@ impl<'a> Bytes<'a> {
         requires { Some byte ≡ slice_get self.old.state.buffer self.old.state.cursor }
         ensures { SettlesOf component self.old self.new }
     {
-        if byte != self.rule.separator {
+        if byte != self.separator() {
             return;
         }
         if !self.tally.is_reader(component) {
-            let rule = self.switch_reader(component);
-            self.settle_decided(component, rule, false);
+            self.switch_reader(component);
+            self.settle_decided(component, false);
             return;
         }
         let (next, saw_next) = inner_digit(self.slc, self.tally, self.shortcuts, byte);
@@ -138,8 +148,7 @@ impl<'a> Bytes<'a> {
         if self.shortcuts.is_direct(byte) {
             return;
         }
-        let rule = self.rule;
-        self.settle_decided(component, rule, saw_next);
+        self.settle_decided(component, saw_next);
     }
 
     /// The byte at the cursor, by one look.
@@ -176,8 +185,7 @@ impl<'a> Bytes<'a> {
         ensures { NextsOf component self.old self.new result }
     {
         if !self.tally.is_reader(component) {
-            let rule = self.rule(component);
-            return self.next_decided(component, rule, false);
+            return self.next_decided(component, false);
         }
         if self.tally.index >= self.slc.len() {
             return None;
@@ -196,12 +204,11 @@ impl<'a> Bytes<'a> {
                 return Some(next);
             }
             saw_next = saw;
-        } else if *byte != self.rule.separator {
+        } else if *byte != self.separator() {
             self.tally.pass_other();
             return Some(byte);
         }
-        let rule = self.rule;
-        self.next_decided(component, rule, saw_next)
+        self.next_decided(component, saw_next)
     }
 
     /// The byte at the cursor, which is passed, where no component has a flag.
@@ -226,11 +233,10 @@ impl<'a> Bytes<'a> {
         }
     }
 
-    /// Lets a component read from the cursor on: stores the count of the one that read before, and
-    /// answers the rule of this one. Counts no digit and no look.
+    /// Lets a component read from the cursor on: stores the count of the one that read before.
+    /// Counts no digit and no look.
     #[inline(always)]
-    fn switch_reader(&mut self, component: Component) -> Rule
-        ensures rule { result ≡ rule_of self.old.state.word component }
+    fn switch_reader(&mut self, component: Component)
         ensures state { self.new.state ≡ self.old.state }
         ensures no_looks { NoLooks self.old self.new }
     {
@@ -238,20 +244,18 @@ impl<'a> Bytes<'a> {
         let is_counting = rule.counts(component);
         self.tally.set_reader(component, is_counting);
         self.shortcuts = Shortcuts::of(rule, is_counting);
-        self.rule = rule;
-        rule
     }
 
     /// Moves the cursor to the place of a component, by the decision. The look at the byte there is
     /// left to the caller. `saw_next` says that the byte after the cursor was looked at before.
     #[inline(always)]
-    fn settle_decided(&mut self, component: Component, rule: Rule, saw_next: bool)
-        requires rule { rule ≡ rule_of self.old.state.word component }
-        requires saw_next { saw_next ≡ true → FollowsDigit component self.old.state }
+    fn settle_decided(&mut self, component: Component, saw_next: bool)
+        requires { saw_next ≡ true → FollowsDigit component self.old.state }
         ensures { SettlesOf component self.old self.new }
     {
         let counted = 0 < self.tally.count(component);
-        let found = find(self.slc, rule, self.tally.index, counted, self.run);
+        let at = self.tally.index;
+        let found = find(self.slc, self.format, component, at, counted, self.run);
         let looks = found.looks.saturating_add(saw_next as u64);
         self.tally.move_found(found.place, looks);
         self.run = found.run;
@@ -261,12 +265,12 @@ impl<'a> Bytes<'a> {
     /// counts it if it is a digit. `saw_next` says that the byte after the cursor was looked at
     /// before.
     #[inline(always)]
-    fn next_decided(&mut self, component: Component, rule: Rule, saw_next: bool) -> Option<&'a u8>
-        requires rule { rule ≡ rule_of self.old.state.word component }
-        requires saw_next { saw_next ≡ true → FollowsDigit component self.old.state }
+    fn next_decided(&mut self, component: Component, saw_next: bool) -> Option<&'a u8>
+        requires { saw_next ≡ true → FollowsDigit component self.old.state }
         ensures { NextsOf component self.old self.new result }
     {
-        self.settle_decided(component, rule, saw_next);
+        let rule = self.rule(component);
+        self.settle_decided(component, saw_next);
         let byte = self.look()?;
         let is_counted = rule.counts_byte(component, *byte);
         self.tally.pass_seen(component, is_counted);
