@@ -17,18 +17,18 @@
 //! The decision counts the looks that it takes, by its source. It has the only loop over bytes.
 //! At the end of the buffer a read answers `None` and counts nothing.
 
-ghost use Rattle.std.specs.Prelude.{◌≡◌, ℕ, ◌+◌, ◌<◌, ◌≤◌, length, Some, option_copied, nat_lt, not, true, IfSome, slice_get};
+ghost use Rattle.std.specs.Prelude.{◌≡◌, ℕ, ◌+◌, ◌<◌, ◌≤◌, length, Some, option_copied, nat_lt, not, true, false, IfSome, slice_get};
 ghost use Rattle.std.specs.Prelude.{IsTrue};
 ghost use Rattle.lexical_format.specs.Word.{is_supported};
 ghost use Rattle.lexical_digits.specs.Separators.{place};
 ghost use Rattle.lexical_digits.specs.State.{rule_of};
-ghost use Rattle.lexical_digits.specs.Looks.{IsRunOrNone, Finds, PeeksOf, NextsOf, SettlesOf, LooksHere, NoLooks, one_if};
+ghost use Rattle.lexical_digits.specs.Looks.{separator_at, IsRunOrNone, Finds, PeeksOf, NextsOf, SettlesOf, LooksHere, NoLooks, one_if};
 ghost use Rattle.lexical_digits.specs.Fields.Bytes.{IsInnerAt, IsInnerDigit, FollowsDigit, has_no_flags};
 
 use super::Bytes;
 use super::tally::Tally;
 use crate::skip::component::Component;
-use crate::skip::decision::{ByteSource, Run, SliceSource, decide};
+use crate::skip::decision::{ByteSource, Run, SliceSource, decide, decide_lone};
 use crate::skip::rule::{Rule, Shortcuts};
 
 /// The place that a decision found, the run that it leaves, and the looks that it took.
@@ -67,6 +67,34 @@ fn find(
         run: sight.run,
         looks: src.looks,
     }
+}
+
+/// The place that a decision found where no run is looked for, and the looks that it took: two
+/// words, which a call answers in registers.
+#[derive(Clone, Copy)]
+struct Judged {
+    place: usize,
+    looks: u64,
+}
+
+/// The same as [`find`] under a rule that judges each separator by itself. It takes and answers no
+/// run, which is for speed.
+#[cold]
+#[inline(never)]
+fn find_lone(slc: &[u8], word: u128, component: Component, at: usize, counted: bool) -> Judged
+    requires supported { IsTrue (is_supported word) }
+    requires within { at ≤ length slc.now }
+    requires lone { (rule_of word component).consecutive ≡ false }
+    ensures place { (count : ℕ) → counted ≡ nat_lt 0 count
+        → result.place ≡ place (rule_of word component) slc.now at count }
+    ensures looks { result.looks ≤ 2 + one_if (not counted) }
+    ensures other_looks { separator_at (rule_of word component).separator slc.now at ≡ false
+        → result.looks ≤ 1 }
+{
+    let mut src = SliceSource::new(slc);
+    let place = decide_lone(&mut src, Rule::of(word, component), at, counted);
+    let looks = src.looks;
+    Judged { place, looks }
 }
 
 /// The byte at a position, if there is one: `get`, with an answer of one fact.
@@ -255,9 +283,15 @@ impl<'a> Bytes<'a> {
     {
         let counted = 0 < self.tally.count(component);
         let at = self.tally.index;
+        if !self.rule(component).consecutive {
+            let lone = find_lone(self.slc, self.format, component, at, counted);
+            let looks = lone.looks.saturating_add(saw_next as u64);
+            self.tally.move_seen(lone.place, looks);
+            return;
+        }
         let found = find(self.slc, self.format, component, at, counted, self.run);
         let looks = found.looks.saturating_add(saw_next as u64);
-        self.tally.move_found(found.place, looks);
+        self.tally.move_seen(found.place, looks);
         self.run = found.run;
     }
 
