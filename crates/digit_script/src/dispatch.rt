@@ -149,7 +149,9 @@ fn read<'a, I: DigitsIter<'a>>(iter: &mut I, op: Op, at_separator: bool) -> Answ
     }
 }
 
-/// Makes a call that every iterator has by its traits on the iterator of a component.
+/// Makes a call that every iterator has by its traits on the iterator of a component. It is inlined
+/// for speed: a caller that names the component needs no branch on it.
+#[inline(always)]
 fn read_on(bytes: &mut Bytes, component: Component, op: Op) -> Answer
     requires { goes_by_part op ≡ false }
     ensures { Makes (table.On component) op bytes.old bytes.new result }
@@ -243,7 +245,9 @@ fn take_n(bytes: &mut Bytes, component: Component, n: usize) -> Answer
     }
 }
 
-/// Makes a call on the iterator of a component.
+/// Makes a call on the iterator of a component. It is inlined for speed: a caller that names the
+/// component needs no branch on it.
+#[inline(always)]
 fn on_component(bytes: &mut Bytes, component: Component, op: Op) -> Answer
     ensures { Makes (table.On component) op bytes.old bytes.new result }
 {
