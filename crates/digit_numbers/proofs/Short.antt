@@ -22,7 +22,7 @@ use Rattle.digit_floats.specs.Float.{exponent_negative, parts_at, IsDecimal}
 use Rattle.digit_floats.proofs.Decimals.{same_digit}
 use Rattle.digit_numbers.specs.declared.form.Form.{Form}
 use Rattle.digit_numbers.specs.Forms.{allows_exponent}
-use Rattle.digit_numbers.specs.Numbers.{word, whole_digits, whole_end, fraction, mark, mark_at, is_float}
+use Rattle.digit_numbers.specs.Numbers.{word, whole_digits, whole_end, fraction, mark, mark_at, mark_or, is_float}
 use Rattle.digit_numbers.specs.Numbers.{allows_point, has_point, exponent, has_exponent}
 use Rattle.digit_numbers.specs.Numbers.{has_more_zeros, parts, digits_stop}
 use Rattle.digit_numbers.specs.Reads.{IsFloatAt}
@@ -72,9 +72,10 @@ same_digits : (format : Format) (negative : Bool) (whole a b c d : List ℕ) (m 
     (10 ^ (length b + (if n then digits_value 10 d else 0)))
 same_digits format negative whole a b c d m n p q r = rw (p, q, r) refl
 
-module _ (f : Form) (text : List ℕ) (at : ℕ) (one : f.other_mark ≡ None) where
-  mark_is : mark f text at ≡ f.marks.exponent
-  mark_is = rw one refl
+module _ (f : Form) (text : List ℕ) (at : ℕ) where
+  -- the mark of an exponent at a position isn't the form's other one
+  abbrev one_mark : ℕ → Type 0
+  one_mark i = mark_or f text f.other_mark i ≡ f.marks.exponent
 
   abbrev stands_point : Bool
   stands_point = stands (is_point f.marks.point) text (whole_end f text at)
@@ -86,10 +87,10 @@ module _ (f : Form) (text : List ℕ) (at : ℕ) (one : f.other_mark ≡ None) w
   abbrev digits_after : ℕ → List ℕ
   digits_after i = exponent_digits (word f text) text f.marks.exponent i
 
-  unmarked : marked_at (mark_at f text at) ≡ false
+  unmarked : one_mark (mark_at f text at) → marked_at (mark_at f text at) ≡ false
       → exponent f text at ≡ digits_after (mark_at f text at)
   unfolding exponent_digits
-  unmarked h = by (allows_exponent f.exponents (nat_lt 0 (length (fraction f text at))))
+  unmarked mark_is h = by (allows_exponent f.exponents (nat_lt 0 (length (fraction f text at))))
     where
       by : (b : Bool) → (if b then
           exponent_digits (word f text) text (mark f text at) (mark_at f text at) else [])
@@ -102,18 +103,20 @@ module _ (f : Form) (text : List ℕ) (at : ℕ) (one : f.other_mark ≡ None) w
   none_after i h = rw h refl
 
   -- digits that neither a point nor a mark follows are no float
-  pub no_float : stands_point ≡ false → marked_at (whole_end f text at) ≡ false
-      → is_float f text at ≡ false
-  no_float p m =
+  pub no_float : one_mark (whole_end f text at) → stands_point ≡ false
+      → marked_at (whole_end f text at) ≡ false → is_float f text at ≡ false
+  no_float one p m =
       let none : has_point f text at ≡ false = rw p refl in
       let here : whole_end f text at ≡ mark_at f text at = rw none refl in
       let no : marked_at (mark_at f text at) ≡ false = subst (λ i. marked_at i ≡ false) here m in
       let less : has_exponent f text at ≡ false =
-      subst (λ ds. nat_lt 0 (length ds) ≡ false) (sym (unmarked no)) (none_after _ no) in
+      subst (λ ds. nat_lt 0 (length ds) ≡ false)
+      (sym (unmarked (subst (λ (i : ℕ). one_mark i) here one) no)) (none_after _ no) in
       is_none f text at none less
 
   module _ (some : 0 < length (whole_digits f text at))
-      (pointed : stands_point ≡ true → 0 < length (fraction f text at)) where
+      (pointed : stands_point ≡ true → 0 < length (fraction f text at))
+      (one : one_mark (mantissa_end (word f text) text f.marks.point at)) where
     counts : stands_point ≡ true → allows_point f text at ≡ true
     counts s = let more = pointed s in grind (arith, nat_tests, some)
 
@@ -122,6 +125,9 @@ module _ (f : Form) (text : List ℕ) (at : ℕ) (one : f.other_mark ≡ None) w
 
     same : fraction f text at ≡ (parts f text at).fraction
     same = counts_fraction f text at counts
+
+    mark_is : mark f text at ≡ f.marks.exponent
+    mark_is = subst (λ (i : ℕ). one_mark i) end_is one
 
     same_float : exponent f text at ≡ digits_after (mark_at f text at)
         → (format : Format) (negative : Bool)
@@ -169,7 +175,7 @@ module _ (f : Form) (text : List ℕ) (at : ℕ) (one : f.other_mark ≡ None) w
       pointed_float s m =
           let no : marked_at (mark_at f text at) ≡ false =
           subst (λ i. marked_at i ≡ false) end_is m in
-          let e = unmarked no in
+          let e = unmarked mark_is no in
           let one = either stands_point (allows_point f text at) (has_exponent f text at) counts
           (λ (n : stands_point ≡ false). let a = sym s ∙ n in cc) in
           let none : has_exponent f text at ≡ false =

@@ -1,21 +1,23 @@
 -- Of functions that no caller sees: the digits of a number that were read. No public clause uses
 -- these words.
-use Rattle.std.specs.Prelude.{◌≡◌, ℕ, ◌-◌, ◌^◌, min, ◌<◌, ◌≤◌, Bool, true, false, List, [], length, is_some}
+use Rattle.std.specs.Prelude.{◌≡◌, ℕ, ◌-◌, ◌^◌, min, ◌<◌, ◌≤◌, Bool, true, false, List, [], length, is_some, IfSome}
 use Rattle.std.specs.Float.{Float, Format}
 use Rattle.std.specs.Float.Numeral.{Parts, nearest_float}
 use Rattle.std.specs.Str.Parse.{digits_value}
 use Rattle.lexical_digits.specs.declared.skip.component.Component.TheVariants.{Integer}
 use Rattle.digit_floats.specs.Float.{IsDecimal, digits_from, digits_end, fraction_digits, mantissa_end}
 use Rattle.digit_floats.specs.Parts.{integer_of, fraction_of, IsMantissa}
-use Rattle.digit_floats.specs.Hexadecimal.{IsHexMantissa, hex_integer_of, hex_fraction_of}
+use Rattle.digit_floats.specs.Hexadecimal.{IsHexadecimal, IsHexMantissa, hex_integer_of, hex_fraction_of}
 use Rattle.digit_floats.specs.declared.hexadecimal.HexMantissa.{HexMantissa}
 use Rattle.digit_floats.specs.declared.parts.Mantissa.{Mantissa}
 use Rattle.digit_floats.specs.declared.parts.Power.{Power}
 use Rattle.digit_languages.specs.declared.language.Language.{Language}
 use Rattle.digit_languages.specs.Literals.{prefix_word, word_at, digits_at}
+use Rattle.digit_languages.specs.Words.{IsLanguage}
 use Rattle.digit_numbers.specs.declared.form.Form.{Form}
 use Rattle.digit_numbers.specs.declared.number.Sign.{Sign}
-use Rattle.digit_numbers.specs.Numbers.{has_sign, is_negative, past_sign, is_float, fraction, exponent, parts, digits_stop}
+use Rattle.digit_numbers.specs.Forms.{has_hex}
+use Rattle.digit_numbers.specs.Numbers.{has_sign, is_negative, past_sign, is_float, fraction, exponent, language, parts, digits_stop}
 
 -- a mantissa is that of a word at its start, by the byte of the point
 pub record IsMantissaOf (word point : ℕ) (text : List ℕ) (m : Mantissa) : Type 0 where
@@ -81,6 +83,13 @@ pub record IsSign (f : Form) (text : List ℕ) (start : ℕ) (sign : Sign) : Typ
   pub ends : sign.end ≡ past_sign f text start
   pub onward : start ≤ sign.end
   pub within : sign.end ≤ length text
+
+-- a language is that of a form's integers after the sign at a start
+pub record IsLanguageAt (f : Form) (text : List ℕ) (start : ℕ) (l : Language) : Type 0 where
+  pub is : l ≡ language f text start
+  pub decimal : l.decimal ≡ f.integers.decimal
+  pub hexadecimal : has_hex f.hex_floats ≡ true → IfSome l.hexadecimal IsHexadecimal
+  pub serves : IsLanguage l
 
 -- an integer of a language here has no prefix, and is decimal
 pub record IsPlain (l : Language) (text : List ℕ) (at : ℕ) : Type 0 where

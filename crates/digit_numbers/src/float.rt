@@ -49,8 +49,8 @@ pub(super) fn has_mark(text: &[u8], at: usize, mark: u8) -> bool
 
 /// Whether a byte is at a position that may not follow a point.
 #[inline(always)]
-pub(super) fn has_barred(text: &[u8], form: Form, at: usize) -> bool
-    ensures is { result ≡ stands (is_barred form.after_point) text.now at }
+pub(super) fn has_barred(text: &[u8], form: &Form, at: usize) -> bool
+    ensures is { result ≡ stands (is_barred form.now.after_point) text.now at }
 {
     match text.get(at) {
         Some(byte) => form.after_point.is_barred(*byte),
@@ -60,9 +60,9 @@ pub(super) fn has_barred(text: &[u8], form: Form, at: usize) -> bool
 
 /// Whether a point that follows the integer counts.
 #[inline(always)]
-fn allows_point(text: &[u8], form: Form, mantissa: Mantissa) -> bool
-    requires is { IsMantissaAt form text.now mantissa }
-    ensures { result ≡ allows_point form text.now mantissa.start }
+fn allows_point(text: &[u8], form: &Form, mantissa: Mantissa) -> bool
+    requires is { IsMantissaAt form.now text.now mantissa }
+    ensures { result ≡ allows_point form.now text.now mantissa.start }
 {
     if mantissa.digits == mantissa.places && form.needs_integer {
         return false;
@@ -72,9 +72,9 @@ fn allows_point(text: &[u8], form: Form, mantissa: Mantissa) -> bool
 
 /// Whether more digits follow a first `0`, which the form refuses.
 #[inline(always)]
-pub fn has_more_zeros(text: &[u8], form: Form, mantissa: Mantissa) -> bool
-    requires is { IsMantissaAt form text.now mantissa }
-    ensures { result ≡ has_more_zeros form text.now mantissa.start }
+pub fn has_more_zeros(text: &[u8], form: &Form, mantissa: Mantissa) -> bool
+    requires is { IsMantissaAt form.now text.now mantissa }
+    ensures { result ≡ has_more_zeros form.now text.now mantissa.start }
 {
     !form.float_zeros && is_zero(text, mantissa.start) && mantissa.start + 1 < mantissa.whole_end
 }
@@ -99,8 +99,8 @@ fn read_exponent_apart(text: &[u8], word: u128, at: usize, mark: u8) -> Result<P
 
 /// The mark of an exponent at a position: the form's other one, if it is there.
 #[inline(always)]
-fn mark_at(text: &[u8], form: Form, at: usize) -> u8
-    ensures { result ≡ mark_or form text.now form.other_mark at }
+fn mark_at(text: &[u8], form: &Form, at: usize) -> u8
+    ensures { result ≡ mark_or form.now text.now form.now.other_mark at }
 {
     match form.other_mark {
         Some(other) if has_mark(text, at, other) => other,
@@ -108,20 +108,31 @@ fn mark_at(text: &[u8], form: Form, at: usize) -> u8
     }
 }
 
+/// Whether the form's other mark of an exponent is at a position.
+#[inline(always)]
+pub(super) fn has_other_mark(text: &[u8], form: &Form, at: usize) -> bool
+    ensures { result ≡ false → mark_or form.now text.now form.now.other_mark at ≡ form.now.marks.exponent }
+{
+    match form.other_mark {
+        Some(other) => has_mark(text, at, other),
+        None => false,
+    }
+}
+
 /// The exponent after a mantissa, if there is one.
 #[inline(always)]
 #[tactic(auto, unfolding(digit_floats::specs::Float::exponents))]
-fn read_power(text: &[u8], form: Form, mantissa: Mantissa) -> Option<Power>
-    requires form { IsForm form }
-    requires is { IsMantissaAt form text.now mantissa }
-    requires mark { mantissa.end ≡ mark_at form text.now mantissa.start }
-    ensures is { MatchOption result (has_exponent form text.now mantissa.start ≡ false)
-        (λ p. has_exponent form text.now mantissa.start ≡ true) }
+fn read_power(text: &[u8], form: &Form, mantissa: Mantissa) -> Option<Power>
+    requires form { IsForm form.now }
+    requires is { IsMantissaAt form.now text.now mantissa }
+    requires mark { mantissa.end ≡ mark_at form.now text.now mantissa.start }
+    ensures is { MatchOption result (has_exponent form.now text.now mantissa.start ≡ false)
+        (λ p. has_exponent form.now text.now mantissa.start ≡ true) }
     ensures value { IfSome result (λ p. p.value
-        ≡ min (digits_value 10 (exponent form text.now mantissa.start)) (2 ^ 64 - 1)) }
+        ≡ min (digits_value 10 (exponent form.now text.now mantissa.start)) (2 ^ 64 - 1)) }
     ensures negative { IfSome result (λ p. p.negative
-        ≡ (parts form text.now mantissa.start).exponent_negative) }
-    ensures end { IfSome result (λ p. p.end ≡ digits_stop form text.now mantissa.start) }
+        ≡ (parts form.now text.now mantissa.start).exponent_negative) }
+    ensures end { IfSome result (λ p. p.end ≡ digits_stop form.now text.now mantissa.start) }
     ensures within { IfSome result (λ p. (mantissa.end ≤ p.end) × (p.end ≤ length text.now)) }
 {
     let mark = mark_at(text, form, mantissa.end);
@@ -134,14 +145,14 @@ fn read_power(text: &[u8], form: Form, mantissa: Mantissa) -> Option<Power>
 /// The exponent 0 of a float that has none.
 #[inline(always)]
 #[tactic(auto, using(crate::proofs::Alone::no_exponent))]
-fn no_power(text: &[u8], form: Form, mantissa: Mantissa) -> Power
-    requires is { IsMantissaAt form text.now mantissa }
-    requires float { is_float form text.now mantissa.start ≡ true }
-    requires mark { mantissa.end ≡ mark_at form text.now mantissa.start }
-    requires fraction { fraction form text.now mantissa.start
-        ≡ (parts form text.now mantissa.start).fraction }
-    requires none { has_exponent form text.now mantissa.start ≡ false }
-    ensures is { IsPowerAt form text.now mantissa.start result }
+fn no_power(text: &[u8], form: &Form, mantissa: Mantissa) -> Power
+    requires is { IsMantissaAt form.now text.now mantissa }
+    requires float { is_float form.now text.now mantissa.start ≡ true }
+    requires mark { mantissa.end ≡ mark_at form.now text.now mantissa.start }
+    requires fraction { fraction form.now text.now mantissa.start
+        ≡ (parts form.now text.now mantissa.start).fraction }
+    requires none { has_exponent form.now text.now mantissa.start ≡ false }
+    ensures is { IsPowerAt form.now text.now mantissa.start result }
     ensures end { result.end ≡ mantissa.end }
 {
     Power {
@@ -155,11 +166,11 @@ fn no_power(text: &[u8], form: Form, mantissa: Mantissa) -> Power
 /// float.
 #[inline(always)]
 #[tactic(auto, using(crate::proofs::Digits::floats))]
-pub fn float_power(text: &[u8], form: Form, mantissa: Mantissa) -> Option<Power>
-    requires form { IsForm form }
-    requires is { IsMantissaAt form text.now mantissa }
-    ensures is { MatchOption result (is_float form text.now mantissa.start ≡ false)
-        (IsPowerAt form text.now mantissa.start) }
+pub fn float_power(text: &[u8], form: &Form, mantissa: Mantissa) -> Option<Power>
+    requires form { IsForm form.now }
+    requires is { IsMantissaAt form.now text.now mantissa }
+    ensures is { MatchOption result (is_float form.now text.now mantissa.start ≡ false)
+        (IsPowerAt form.now text.now mantissa.start) }
     ensures within { IfSome result (λ p. (mantissa.end ≤ p.end) × (p.end ≤ length text.now)) }
     ensures some { IfSome result (λ _. 0 < mantissa.digits) }
 {
@@ -181,17 +192,17 @@ pub fn float_power(text: &[u8], form: Form, mantissa: Mantissa) -> Option<Power>
 #[inline(always)]
 pub fn read_float<F: Float>(
     text: &[u8],
-    form: Form,
+    form: &Form,
     negative: bool,
     mantissa: Mantissa,
 ) -> Option<(F, usize)>
-    requires form { IsForm form }
-    requires is { IsMantissaAt form text.now mantissa }
-    ensures is { MatchOption result (is_float form text.now mantissa.start ≡ false)
-        (λ r. is_float form text.now mantissa.start ≡ true) }
+    requires form { IsForm form.now }
+    requires is { IsMantissaAt form.now text.now mantissa }
+    ensures is { MatchOption result (is_float form.now text.now mantissa.start ≡ false)
+        (λ r. is_float form.now text.now mantissa.start ≡ true) }
     ensures value { IfSome result (λ r. F.value r.0
-        ≡ nearest_float F.format negative (parts form text.now mantissa.start)) }
-    ensures ends { IfSome result (λ r. r.1 ≡ digits_stop form text.now mantissa.start) }
+        ≡ nearest_float F.format negative (parts form.now text.now mantissa.start)) }
+    ensures ends { IfSome result (λ r. r.1 ≡ digits_stop form.now text.now mantissa.start) }
     ensures number { IfSome result (λ r. NotNan (F.value r.0)) }
     ensures end { IfSome result (λ r. (mantissa.start < r.1) × (r.1 ≤ length text.now)) }
 {
@@ -205,15 +216,15 @@ pub fn read_float<F: Float>(
 #[inline(always)]
 fn round_at<F: Float>(
     text: &[u8],
-    form: Form,
+    form: &Form,
     negative: bool,
     mantissa: Mantissa,
     power: Power,
 ) -> F
-    requires is { IsMantissaAt form text.now mantissa }
-    requires power { IsPowerAt form text.now mantissa.start power }
+    requires is { IsMantissaAt form.now text.now mantissa }
+    requires power { IsPowerAt form.now text.now mantissa.start power }
     ensures value { F.value result ≡ nearest_float F.format negative
-        (parts form text.now mantissa.start) }
+        (parts form.now text.now mantissa.start) }
     ensures number { NotNan (F.value result) }
 {
     round_parts::<F>(text, negative, mantissa, power)
@@ -253,22 +264,22 @@ fn read_few_powered<F: Float>(
 #[inline(always)]
 fn read_marked<F: Float>(
     text: &[u8],
-    form: Form,
+    form: &Form,
     negative: bool,
     mantissa: Mantissa,
 ) -> Option<(F, usize)>
-    requires form { IsForm form }
-    requires one_mark { form.other_mark ≡ None }
-    requires is { IsMantissaAt form text.now mantissa }
+    requires form { IsForm form.now }
+    requires one_mark { mark_or form.now text.now form.now.other_mark mantissa.end ≡ form.now.marks.exponent }
+    requires is { IsMantissaAt form.now text.now mantissa }
     requires some { mantissa.places < mantissa.digits }
-    requires zeros { has_more_zeros form text.now mantissa.start ≡ false }
-    requires pointed { stands (is_point form.marks.point) text.now mantissa.whole_end ≡ true
+    requires zeros { has_more_zeros form.now text.now mantissa.start ≡ false }
+    requires pointed { stands (is_point form.now.marks.point) text.now mantissa.whole_end ≡ true
         → 0 < mantissa.places }
-    requires mark { stands (is_mark form.marks.exponent) text.now mantissa.end ≡ true }
+    requires mark { stands (is_mark form.now.marks.exponent) text.now mantissa.end ≡ true }
     requires within { mantissa.end < length text.now }
     requires few { mantissa.dropped ≡ 0 }
     ensures is { IfSome result (λ r.
-        IsFloatAt form text.now mantissa.start negative F.format (F.value r.0) r.1) }
+        IsFloatAt form.now text.now mantissa.start negative F.format (F.value r.0) r.1) }
     ensures number { IfSome result (λ r. NotNan (F.value r.0)) }
     ensures within { IfSome result (λ r. (mantissa.end ≤ r.1) × (r.1 ≤ length text.now)) }
 {
@@ -286,15 +297,15 @@ fn read_marked<F: Float>(
 /// The mantissa after its integer, if it is short.
 #[inline(always)]
 #[tactic(auto, using(crate::proofs::Short::no_point_end))]
-fn read_fraction(text: &[u8], form: Form, whole: Mantissa) -> Option<Mantissa>
-    requires form { IsForm form }
-    requires is { IsShort form.integers.decimal text.now whole }
-    ensures is { IfSome result (IsMantissaAt form text.now) }
+fn read_fraction(text: &[u8], form: &Form, whole: Mantissa) -> Option<Mantissa>
+    requires form { IsForm form.now }
+    requires is { IsShort form.now.integers.decimal text.now whole }
+    ensures is { IfSome result (IsMantissaAt form.now text.now) }
     ensures start { IfSome result (λ m. m.start ≡ whole.start) }
     ensures whole_end { IfSome result (λ m. m.whole_end ≡ whole.whole_end) }
     ensures digits { IfSome result (λ m. m.digits ≡ whole.digits + m.places) }
     ensures few { IfSome result (λ m. m.dropped ≡ 0) }
-    ensures none { stands (is_point form.marks.point) text.now whole.whole_end ≡ false
+    ensures none { stands (is_point form.now.marks.point) text.now whole.whole_end ≡ false
         → IfSome result (λ m. m.end ≡ whole.whole_end) }
 {
     read_short_fraction(text, form.integers.decimal, whole, form.marks.point)
@@ -305,15 +316,15 @@ fn read_fraction(text: &[u8], form: Form, whole: Mantissa) -> Option<Mantissa>
 #[inline(always)]
 fn round_unmarked<F: Float>(
     text: &[u8],
-    form: Form,
+    form: &Form,
     negative: bool,
     mantissa: Mantissa,
 ) -> Option<F>
-    requires is { IsMantissaAt form text.now mantissa }
+    requires is { IsMantissaAt form.now text.now mantissa }
     requires few { mantissa.dropped ≡ 0 }
-    requires none { stands (is_mark form.marks.exponent) text.now mantissa.end ≡ false }
+    requires none { stands (is_mark form.now.marks.exponent) text.now mantissa.end ≡ false }
     ensures value { IfSome result (λ x. F.value x ≡ nearest_float F.format negative
-        (parts_at form.integers.decimal text.now form.marks mantissa.start)) }
+        (parts_at form.now.integers.decimal text.now form.now.marks mantissa.start)) }
     ensures number { IfSome result (λ x. NotNan (F.value x)) }
 {
     match round_few::<F>(text, negative, mantissa) {
@@ -324,29 +335,29 @@ fn round_unmarked<F: Float>(
 
 /// Whether more digits follow a first `0`, which the form refuses: of the digits before a point.
 #[inline]
-pub fn has_short_zeros(text: &[u8], form: Form, whole: Mantissa) -> bool
-    requires is { IsShort form.integers.decimal text.now whole }
-    ensures { result ≡ has_more_zeros form text.now whole.start }
+pub fn has_short_zeros(text: &[u8], form: &Form, whole: Mantissa) -> bool
+    requires is { IsShort form.now.integers.decimal text.now whole }
+    ensures { result ≡ has_more_zeros form.now text.now whole.start }
 {
     !form.float_zeros && is_zero(text, whole.start) && whole.start + 1 < whole.whole_end
 }
 
 /// The float of the digits before a point that is there, if it is short: digits follow the point,
-/// and any mark of an exponent, which the form has there, and it refuses no first `0`.
+/// and any mark of an exponent, which isn't the form's other one, and which the form has there, and
+/// it refuses no first `0`.
 #[inline(always)]
 pub fn read_short_pointed<F: Float>(
     text: &[u8],
-    form: Form,
+    form: &Form,
     negative: bool,
     whole: Mantissa,
 ) -> Option<(F, usize)>
-    requires form { IsForm form }
-    requires one_mark { form.other_mark ≡ None }
-    requires is { IsShort form.integers.decimal text.now whole }
+    requires form { IsForm form.now }
+    requires is { IsShort form.now.integers.decimal text.now whole }
     requires some { 0 < whole.digits }
-    requires point { stands (is_point form.marks.point) text.now whole.whole_end ≡ true }
+    requires point { stands (is_point form.now.marks.point) text.now whole.whole_end ≡ true }
     ensures is { IfSome result (λ r.
-        IsFloatAt form text.now whole.start negative F.format (F.value r.0) r.1) }
+        IsFloatAt form.now text.now whole.start negative F.format (F.value r.0) r.1) }
     ensures number { IfSome result (λ r. NotNan (F.value r.0)) }
     ensures end { IfSome result (λ r. (whole.start < r.1) × (r.1 ≤ length text.now)) }
 {
@@ -355,6 +366,9 @@ pub fn read_short_pointed<F: Float>(
     }
     let mantissa = read_fraction(text, form, whole)?;
     if mantissa.places == 0 {
+        return None;
+    }
+    if has_other_mark(text, form, mantissa.end) {
         return None;
     }
     if has_mark(text, mantissa.end, form.marks.exponent) {
@@ -367,10 +381,10 @@ pub fn read_short_pointed<F: Float>(
 /// The mantissa that the digits of an integer are where no point follows them.
 #[inline(always)]
 #[tactic(auto, using(crate::proofs::Short::no_point_end), unfolding(digit_floats::specs::Float::mantissas))]
-fn mantissa_of_whole(text: &[u8], form: Form, whole: Mantissa) -> Mantissa
-    requires is { IsShort form.integers.decimal text.now whole }
-    requires point { stands (is_point form.marks.point) text.now whole.whole_end ≡ false }
-    ensures is { IsMantissaAt form text.now result }
+fn mantissa_of_whole(text: &[u8], form: &Form, whole: Mantissa) -> Mantissa
+    requires is { IsShort form.now.integers.decimal text.now whole }
+    requires point { stands (is_point form.now.marks.point) text.now whole.whole_end ≡ false }
+    ensures is { IsMantissaAt form.now text.now result }
     ensures same { result ≡ whole }
 {
     whole
@@ -381,19 +395,20 @@ fn mantissa_of_whole(text: &[u8], form: Form, whole: Mantissa) -> Mantissa
 #[inline(always)]
 pub fn read_short_power<F: Float>(
     text: &[u8],
-    form: Form,
+    form: &Form,
     negative: bool,
     whole: Mantissa,
 ) -> Option<(F, usize)>
-    requires form { IsForm form }
-    requires one_mark { form.other_mark ≡ None }
-    requires is { IsShort form.integers.decimal text.now whole }
+    requires form { IsForm form.now }
+    requires one_mark { mark_or form.now text.now form.now.other_mark whole.whole_end
+        ≡ form.now.marks.exponent }
+    requires is { IsShort form.now.integers.decimal text.now whole }
     requires some { 0 < whole.digits }
-    requires point { stands (is_point form.marks.point) text.now whole.whole_end ≡ false }
-    requires mark { stands (is_mark form.marks.exponent) text.now whole.whole_end ≡ true }
+    requires point { stands (is_point form.now.marks.point) text.now whole.whole_end ≡ false }
+    requires mark { stands (is_mark form.now.marks.exponent) text.now whole.whole_end ≡ true }
     requires within { whole.whole_end < length text.now }
     ensures is { IfSome result (λ r.
-        IsFloatAt form text.now whole.start negative F.format (F.value r.0) r.1) }
+        IsFloatAt form.now text.now whole.start negative F.format (F.value r.0) r.1) }
     ensures number { IfSome result (λ r. NotNan (F.value r.0)) }
     ensures end { IfSome result (λ r. (whole.start < r.1) × (r.1 ≤ length text.now)) }
 {

@@ -1,4 +1,4 @@
-use Rattle.std.proofs.Common.{◌≡◌, ◌<◌, true, length, sym, arith}
+use Rattle.std.proofs.Common.{◌≡◌, ◌<◌, true, length, refl, sym, arith}
 use Rattle.digit_floats.specs.Bytes.{stands, is_point}
 use Rattle.digit_numbers.specs.Numbers.{whole_digits, fraction}
 use Rattle.digit_numbers.proofs.Short.{pointed_float}
@@ -6,7 +6,7 @@ use Rattle.digit_numbers.proofs.float.read_short_pointed.Goals as goal
 
 pub returns-clause-is : goal.returns-clause-is
 returns-clause-is g c =
-    let f = c.args.form in
+    let f = c.args.form.now in
     let text = c.args.text.now in
     let m = c.in_ok-mantissa.mantissa in
     let e = c.in_ok-mantissa.ensures in
@@ -22,6 +22,6 @@ returns-clause-is g c =
     let zeros = rw (← e.start) at (sym c.if-has_short_zeros.ensures) in
     let pointed = rw is.whole_end at point in
     let no_mark = rw is.ends at unmarked in
-    rw (← e.start, is.ends) (pointed_float f text m.start c.requires.one_mark whole (λ _. more)
-    zeros
+    let one = rw is.ends at (c.if-has_other_mark.ensures refl) in
+    rw (← e.start, is.ends) (pointed_float f text m.start whole (λ _. more) one zeros
     g.F.Float.format c.args.negative _ c.in_ok-x.ensures.value pointed no_mark)
