@@ -1,3 +1,4 @@
+pub mod AfterZero
 pub mod Alone
 pub mod Decimals
 pub mod Digits

@@ -1,6 +1,6 @@
 -- Of functions that no caller sees: the digits of a number that were read. No public clause uses
 -- these words.
-use Rattle.std.specs.Prelude.{◌≡◌, ℕ, ◌-◌, ◌^◌, min, ◌<◌, ◌≤◌, Bool, true, false, List, [], length, is_some, IfSome}
+use Rattle.std.specs.Prelude.{◌≡◌, ℕ, ◌-◌, ◌^◌, min, ◌<◌, ◌≤◌, Bool, true, false, List, [], length, is_some, IfSome, ◌+◌, Result, Ok, Err}
 use Rattle.std.specs.Float.{Float, Format}
 use Rattle.std.specs.Float.Numeral.{Parts, nearest_float}
 use Rattle.std.specs.Str.Parse.{digits_value}
@@ -15,9 +15,14 @@ use Rattle.digit_languages.specs.declared.language.Language.{Language}
 use Rattle.digit_languages.specs.Literals.{prefix_word, word_at, digits_at}
 use Rattle.digit_languages.specs.Words.{IsLanguage}
 use Rattle.digit_numbers.specs.declared.form.Form.{Form}
+use Rattle.digit_numbers.specs.declared.number.NumberError.TheVariants as errors
+use Rattle.digit_numbers.specs.declared.number.Number.TheVariants as numbers
+use Rattle.digit_languages.specs.declared.literal.LanguageError.TheVariants as literals
+use Rattle.digit_languages.specs.declared.literal.LanguageError.{LanguageError}
+use Rattle.digit_languages.specs.declared.literal.Literal.{Literal}
 use Rattle.digit_numbers.specs.declared.number.Sign.{Sign}
 use Rattle.digit_numbers.specs.Forms.{has_hex}
-use Rattle.digit_numbers.specs.Numbers.{has_sign, is_negative, past_sign, is_float, fraction, exponent, language, parts, digits_stop}
+use Rattle.digit_numbers.specs.Numbers.{has_sign, is_negative, past_sign, is_float, fraction, exponent, language, parts, digits_stop, Outcome}
 
 -- a mantissa is that of a word at its start, by the byte of the point
 pub record IsMantissaOf (word point : ℕ) (text : List ℕ) (m : Mantissa) : Type 0 where
@@ -90,6 +95,14 @@ pub record IsLanguageAt (f : Form) (text : List ℕ) (start : ℕ) (l : Language
   pub decimal : l.decimal ≡ f.integers.decimal
   pub hexadecimal : has_hex f.hex_floats ≡ true → IfSome l.hexadecimal IsHexadecimal
   pub serves : IsLanguage l
+
+-- what a literal's outcome is as an outcome of a number, where a `0` begins it: if it begins none,
+-- that `0` by itself, by a word
+abbrev pub zero_or : ℕ → ℕ → Bool → Result Literal LanguageError → Outcome
+zero_or word at negative (Ok read) = Ok (numbers.Integer negative read.value read.word, read.end)
+zero_or word at negative (Err (literals.Overflow over)) = Err (errors.Overflow over)
+zero_or word at negative (Err (literals.Empty _)) = Ok (numbers.Integer negative 0 word, at + 1)
+zero_or word at negative (Err (literals.Zero _)) = Ok (numbers.Integer negative 0 word, at + 1)
 
 -- an integer of a language here has no prefix, and is decimal
 pub record IsPlain (l : Language) (text : List ℕ) (at : ℕ) : Type 0 where

@@ -63,7 +63,8 @@ fn read_end(
     requires no_float { is_float form.now text.now sign.end ≡ false }
     requires no_prefix { let l = language form.now text.now start in
         is_some (prefix_word l text.now sign.end) ≡ false }
-    ensures is { result ≡ decimal_end form.now text.now start (plain_at form.now text.now start binary64) }
+    ensures is { result
+        ≡ decimal_end form.now text.now start (plain_at form.now text.now start binary64) }
     ensures all { IfOk result (λ end. (end ≡ mantissa.whole_end → ⊥) →
         (has_byte text.now sign.end 48 ≡ true) × (end ≡ sign.end + 1)) }
     ensures end { IfOk result (λ end. (start < end) × (end ≤ length text.now)) }

@@ -111,7 +111,8 @@ fn mark_at(text: &[u8], form: &Form, at: usize) -> u8
 /// Whether the form's other mark of an exponent is at a position.
 #[inline(always)]
 pub(super) fn has_other_mark(text: &[u8], form: &Form, at: usize) -> bool
-    ensures { result ≡ false → mark_or form.now text.now form.now.other_mark at ≡ form.now.marks.exponent }
+    ensures { result ≡ false
+        → mark_or form.now text.now form.now.other_mark at ≡ form.now.marks.exponent }
 {
     match form.other_mark {
         Some(other) => has_mark(text, at, other),
@@ -269,7 +270,8 @@ fn read_marked<F: Float>(
     mantissa: Mantissa,
 ) -> Option<(F, usize)>
     requires form { IsForm form.now }
-    requires one_mark { mark_or form.now text.now form.now.other_mark mantissa.end ≡ form.now.marks.exponent }
+    requires one_mark { mark_or form.now text.now form.now.other_mark mantissa.end
+        ≡ form.now.marks.exponent }
     requires is { IsMantissaAt form.now text.now mantissa }
     requires some { mantissa.places < mantissa.digits }
     requires zeros { has_more_zeros form.now text.now mantissa.start ≡ false }

@@ -1,6 +1,6 @@
 //! The number at a position.
 
-ghost use Rattle.std.specs.Prelude.{◌≡◌, ◌+◌, ◌<◌, ◌≤◌, ◌&&◌, not, if◌then◌else◌, Some, None};
+ghost use Rattle.std.specs.Prelude.{◌≡◌, ◌+◌, ◌-◌, ◌^◌, ◌<◌, ◌≤◌, ◌&&◌, not, if◌then◌else◌, Some, None};
 ghost use Rattle.std.specs.Prelude.{length, true, false, Ok, Err, IfOk, IfSome, MatchOption, MatchResult};
 ghost use Rattle.std.specs.Prelude.{ℕ, is_some};
 ghost use Rattle.std.specs.Float.{NotNan};
@@ -14,7 +14,9 @@ ghost use Rattle.digit_numbers.specs.declared.number.Number.TheVariants.{Integer
 ghost use Rattle.digit_numbers.specs.Numbers.{mark_or, past_sign, is_float, special_here, hex_word_here, hex_word_at, hex_value, digits_stop};
 ghost use Rattle.digit_numbers.specs.Numbers.{plain_at, number_of_at, to_end};
 ghost use Rattle.digit_languages.specs.Words.{IsLanguage};
-ghost use Rattle.digit_numbers.specs.Reads.{IsLanguageAt, IsMantissaAt, IsSign};
+ghost use Rattle.digit_numbers.specs.Reads.{IsLanguageAt, IsMantissaAt, IsSign, zero_or};
+ghost use Rattle.digit_literals.specs.Numbers.{has_byte as has_zero};
+ghost use Rattle.digit_languages.specs.Literals.{literal_at};
 ghost use Rattle.digit_numbers.specs.Values.{integer_in, float_in, with_value, IsNoNan, position, message};
 ghost use Rattle.digit_numbers.specs.Specials.{special_at, name_end};
 
@@ -27,7 +29,7 @@ use super::hexadecimal::read_hex;
 use super::integer::{has_letter, is_zero, read_few, read_integer, unprefixed};
 use super::special::{may_begin, read_special};
 use digit_floats::{Float, Mantissa, read_mantissa, read_short_whole, round_integer};
-use digit_languages::{Language, LanguageError, Literal};
+use digit_languages::{Language, LanguageError, Literal, read_literal};
 use digit_literals::Integer;
 use lexical_format::NumberFormat;
 use std::error::Error;
@@ -434,6 +436,65 @@ fn read_some(text: &[u8], form: &Form, at: usize) -> Option<Mantissa>
     read_short_whole(text, form.integers.decimal, at)
 }
 
+/// The integer that a `0` begins: most have a prefix. In code of its own, and it needs no mantissa.
+#[inline(never)]
+#[tactic(auto, using(std::proofs::lemmas::Option::gets))]
+fn read_zero<F: Float>(
+    text: &[u8],
+    language: &Language,
+    sign: Sign,
+) -> Result<(Number<F>, usize), NumberError>
+    requires language { IsLanguage language.now }
+    requires within { sign.end < length text.now }
+    ensures is { let read = zero_or language.now.decimal sign.end sign.is_minus
+        (literal_at language.now text.now sign.end (2 ^ 128 - 1)) in
+        MatchResult result (λ r. read ≡ Ok (with_value F.value r.0, r.1)) (λ e. read ≡ Err e) }
+    ensures no_nan { IfOk result (λ r. IsNoNan F.value r.0) }
+    ensures end { IfOk result (λ r. (sign.end < r.1) × (r.1 ≤ length text.now)) }
+{
+    match read_literal(text, sign.end, *language, u128::MAX) {
+        Ok(read) => Ok((integer_of(sign, read), read.end)),
+        Err(LanguageError::Overflow(at)) => Err(NumberError::Overflow(at)),
+        Err(LanguageError::Empty(_) | LanguageError::Zero(_)) => {
+            let zero = Literal {
+                value: 0,
+                word: language.decimal,
+                digits: sign.end,
+                end: sign.end + 1,
+            };
+            Ok((integer_of(sign, zero), zero.end))
+        }
+    }
+}
+
+/// The integer that a `0` begins, by a form.
+#[inline(always)]
+fn read_after_zero<F: Float>(
+    text: &[u8],
+    start: usize,
+    form: &Form,
+    sign: Sign,
+) -> Result<(Number<F>, usize), NumberError>
+    requires within { start ≤ length text.now }
+    requires form { IsForm form.now }
+    requires sign { IsSign form.now text.now start sign }
+    requires zero { has_zero text.now sign.end 48 ≡ true }
+    requires some { sign.end < length text.now }
+    requires exact { is_always_float form.now.whole ≡ false }
+    requires no_float { is_float form.now text.now sign.end ≡ false }
+    ensures is { MatchResult result
+        (λ r. plain_at form.now text.now start F.format ≡ Ok (with_value F.value r.0, r.1))
+        (λ error. plain_at form.now text.now start F.format ≡ Err error) }
+    ensures no_nan { IfOk result (λ r. IsNoNan F.value r.0) }
+    ensures end { IfOk result (λ r. (start < r.1) × (r.1 ≤ length text.now)) }
+{
+    let language = language_of(form, sign.is_there);
+    match read_zero::<F>(text, &language, sign) {
+        Ok((number, end)) => Ok((number, end)),
+        Err(error) => Err(error),
+    }
+}
+
 /// The number that few digits are without a point and an exponent, if nothing is rare about them.
 #[inline(always)]
 #[tactic(auto, using(crate::proofs::Short::no_float, crate::proofs::Digits::wholes), unfolding(crate::specs::Numbers::plain_at))]
@@ -443,7 +504,7 @@ fn short_whole<F: Float>(
     form: &Form,
     sign: Sign,
     whole: Mantissa,
-) -> Option<(Number<F>, usize)>
+) -> Option<Result<(Number<F>, usize), NumberError>>
     requires within { start ≤ length text.now }
     requires form { IsForm form.now }
     requires one_mark { mark_or form.now text.now form.now.other_mark whole.whole_end
@@ -454,20 +515,26 @@ fn short_whole<F: Float>(
     requires some { 0 < whole.digits }
     requires point { stands (is_point form.now.marks.point) text.now whole.whole_end ≡ false }
     requires mark { stands (is_mark form.now.marks.exponent) text.now whole.whole_end ≡ false }
-    ensures is { IfSome result (λ r.
-        plain_at form.now text.now start F.format ≡ Ok (with_value F.value r.0, r.1)) }
-    ensures no_nan { IfSome result (λ r. IsNoNan F.value r.0) }
-    ensures end { IfSome result (λ r. (start < r.1) × (r.1 ≤ length text.now)) }
+    ensures is { IfSome result (λ o. MatchResult o
+        (λ r. plain_at form.now text.now start F.format ≡ Ok (with_value F.value r.0, r.1))
+        (λ error. plain_at form.now text.now start F.format ≡ Err error)) }
+    ensures no_nan { IfSome result (λ o. IfOk o (λ r. IsNoNan F.value r.0)) }
+    ensures end { IfSome result (λ o. IfOk o (λ r. (start < r.1) × (r.1 ≤ length text.now))) }
 {
     if form.whole.is_float() {
         if has_short_zeros(text, form, whole) {
             return None;
         }
         let x = round_short_whole::<F>(text, form.integers.decimal, sign.is_minus, whole)?;
-        return Some((Number::Float(x), whole.whole_end));
+        return Some(Ok((Number::Float(x), whole.whole_end)));
     }
-    let read = read_few(text, language_of(form, sign.is_there), whole)?;
-    Some((integer_of(sign, read), read.end))
+    if let Some(read) = read_few(text, language_of(form, sign.is_there), whole) {
+        return Some(Ok((integer_of(sign, read), read.end)));
+    }
+    if !is_zero(text, sign.end) {
+        return None;
+    }
+    Some(read_after_zero::<F>(text, start, form, sign))
 }
 
 /// The integer or decimal float that begins at a start, and the position after it, if it has few
@@ -480,28 +547,29 @@ fn read_short<F: Float>(
     start: usize,
     form: &Form,
     sign: Sign,
-) -> Option<(Number<F>, usize)>
+) -> Option<Result<(Number<F>, usize), NumberError>>
     requires within { start ≤ length text.now }
     requires form { IsForm form.now }
     requires sign { IsSign form.now text.now start sign }
-    ensures is { IfSome result (λ r.
-        plain_at form.now text.now start F.format ≡ Ok (with_value F.value r.0, r.1)) }
-    ensures no_nan { IfSome result (λ r. IsNoNan F.value r.0) }
-    ensures end { IfSome result (λ r. (start < r.1) × (r.1 ≤ length text.now)) }
+    ensures is { IfSome result (λ o. MatchResult o
+        (λ r. plain_at form.now text.now start F.format ≡ Ok (with_value F.value r.0, r.1))
+        (λ error. plain_at form.now text.now start F.format ≡ Err error)) }
+    ensures no_nan { IfSome result (λ o. IfOk o (λ r. IsNoNan F.value r.0)) }
+    ensures end { IfSome result (λ o. IfOk o (λ r. (start < r.1) × (r.1 ≤ length text.now))) }
     ensures no_separator { IfSome result (λ _.
         stands (is_separator (separator form.now.integers.decimal)) text.now sign.end ≡ false) }
 {
     let whole = read_some(text, form, sign.end)?;
     if has_byte(text, whole.whole_end, form.marks.point) {
         let (x, end) = read_short_pointed::<F>(text, form, sign.is_minus, whole)?;
-        return Some((Number::Float(x), end));
+        return Some(Ok((Number::Float(x), end)));
     }
     if has_other_mark(text, form, whole.whole_end) {
         return None;
     }
     if has_mark(text, whole.whole_end, form.marks.exponent) {
         let (x, end) = read_short_power::<F>(text, form, sign.is_minus, whole)?;
-        return Some((Number::Float(x), end));
+        return Some(Ok((Number::Float(x), end)));
     }
     short_whole::<F>(text, start, form, sign, whole)
 }
@@ -542,23 +610,23 @@ fn read_by<F: Float>(
 fn read_long<F: Float>(
     text: &[u8],
     start: usize,
-    form: Form,
+    form: &Form,
 ) -> Result<(Number<F>, usize), NumberError>
     requires within { start ≤ length text.now }
-    requires form { IsForm form }
-    requires no_special { special_here form text.now start ≡ None }
+    requires form { IsForm form.now }
+    requires no_special { special_here form.now text.now start ≡ None }
     ensures is { MatchResult result
-        (λ r. number_of_at form text.now start F.format ≡ Ok (with_value F.value r.0, r.1))
-        (λ error. number_of_at form text.now start F.format ≡ Err error) }
+        (λ r. number_of_at form.now text.now start F.format ≡ Ok (with_value F.value r.0, r.1))
+        (λ error. number_of_at form.now text.now start F.format ≡ Err error) }
     ensures no_nan { IfOk result (λ r. IsNoNan F.value r.0) }
     ensures end { IfOk result (λ r. (start < r.1) × (r.1 ≤ length text.now)) }
 {
-    let sign = read_sign(text, &form, start);
+    let sign = read_sign(text, form, start);
     if sign.is_there && !form.signed_prefix {
         let language = unprefixed(form.integers);
-        return read_by::<F>(text, start, &form, &language, sign);
+        return read_by::<F>(text, start, form, &language, sign);
     }
-    read_by::<F>(text, start, &form, &form.integers, sign)
+    read_by::<F>(text, start, form, &form.integers, sign)
 }
 
 /// [`read_long`]. What its call takes and answers in memory belongs to this function, so it is set
@@ -578,7 +646,8 @@ fn read_rest<F: Float>(
     ensures no_nan { IfOk result (λ r. IsNoNan F.value r.0) }
     ensures end { IfOk result (λ r. (start < r.1) × (r.1 ≤ length text.now)) }
 {
-    match read_long::<F>(text, start, *form) {
+    let apart = *form;
+    match read_long::<F>(text, start, &apart) {
         Ok((number, end)) => Ok((number, end)),
         Err(error) => Err(error),
     }
@@ -619,8 +688,8 @@ pub fn read_number_of<F: Float>(
         return Ok((Number::Float(x), end));
     }
     if has_no_hex(text, start, &form, sign) {
-        if let Some((number, end)) = read_short::<F>(text, start, &form, sign) {
-            return Ok((number, end));
+        if let Some(read) = read_short::<F>(text, start, &form, sign) {
+            return read;
         }
     }
     read_rest::<F>(text, start, &form)

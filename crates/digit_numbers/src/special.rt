@@ -113,7 +113,8 @@ fn special_end(
 ) -> Option<usize>
     requires form { IsForm form.now }
     requires within { at ≤ length text.now }
-    ensures is { MatchOption result (is_here form.now text.now at is_signed is_minus special ≡ false)
+    ensures is { MatchOption result
+        (is_here form.now text.now at is_signed is_minus special ≡ false)
         (λ end. is_here form.now text.now at is_signed is_minus special ≡ true) }
     ensures end { IfSome result (λ end. end ≡ name_end form.now text.now at special) }
     ensures within { IfSome result (λ end. (at < end) × (end ≤ length text.now)) }

@@ -32,7 +32,8 @@ returns-then-wanted-eq0-clause-end c =
 pub returns-then-not-has_same-clause-is : goal.returns-then-not-has_same-clause-is
 returns-then-not-has_same-clause-is c =
     c.loop-n.invariant.begins
-    ∙ starts_not c.args.form.now.integers.decimal c.args.text.now c.args.form.now.specials c.args.name.now
+    ∙ starts_not c.args.form.now.integers.decimal c.args.text.now c.args.form.now.specials
+    c.args.name.now
     c.loop-n.end c.loop-n.n c.loop-n-test.true c.if-wanted-eq0.false c.loop-n.invariant.settled
     (sym c.has_same.ensures ∙ c.if-not-has_same.true)
 
