@@ -44,7 +44,7 @@ pub fn is_zero(text: &[u8], at: usize) -> bool
 
 /// Whether a letter is at a position.
 #[inline(always)]
-pub fn has_letter(text: &[u8], at: usize) -> bool
+fn has_letter(text: &[u8], at: usize) -> bool
     ensures { result ≡ holds_of is_ascii_alphabetic (slice_get text.now at) }
 {
     match text.get(at) {

@@ -26,7 +26,7 @@ use super::float::{
 };
 use super::form::{Form, Special};
 use super::hexadecimal::read_hex;
-use super::integer::{has_letter, is_zero, read_few, read_integer, unprefixed};
+use super::integer::{is_zero, read_few, read_integer, unprefixed};
 use super::special::{may_begin, read_special};
 use digit_floats::{Float, Mantissa, read_mantissa, read_short_whole, round_integer};
 use digit_languages::{Language, LanguageError, Literal, read_literal};
@@ -413,12 +413,12 @@ fn read_plain<F: Float>(
 
 /// Whether no hexadecimal float is after the sign, as far as its first two bytes tell.
 #[inline(always)]
-#[tactic(auto, using(crate::proofs::Zeros::no_hex, crate::proofs::Zeros::no_prefix), unfolding(crate::specs::Numbers::hex_word_at))]
+#[tactic(auto, using(crate::proofs::Zeros::no_hex, crate::proofs::Zeros::no_x), unfolding(crate::specs::Numbers::hex_word_at))]
 fn has_no_hex(text: &[u8], start: usize, form: &Form, sign: Sign) -> bool
     requires sign { IsSign form.now text.now start sign }
     ensures { result ≡ true → hex_word_here form.now text.now start ≡ None }
 {
-    !form.hex_floats.exist() || !is_zero(text, sign.end) || !has_letter(text, sign.end + 1)
+    !form.hex_floats.exist() || !is_zero(text, sign.end) || !has_mark(text, sign.end + 1, b'x')
 }
 
 /// The digits of a number before a point, after any sign, if they are few.
