@@ -14,7 +14,7 @@ split zero xs = refl
 split (suc n) [] = refl
 split (suc n) (x ∷ xs) = ap (λ t. x ∷ t) (split n xs)
 
-drop_digits : (n : ℕ) (xs : List ℕ) → AllDigits 10 xs → AllDigits 10 (drop n xs)
+pub drop_digits : (n : ℕ) (xs : List ℕ) → AllDigits 10 xs → AllDigits 10 (drop n xs)
 drop_digits zero xs h = h
 drop_digits (suc n) [] h = h
 drop_digits (suc n) (x ∷ xs) h = drop_digits n xs h.1
@@ -39,6 +39,12 @@ module _ (digits : List ℕ) (value more : ℕ) (h : IsOfFirstDigits 10 19 digit
 
   count : length (drop 19 s) ≡ more
   count = length-drop 19 s ∙ sym h.after
+
+  -- the first ones, and the others with less than a unit of their last
+  pub first_and_rest : (digits_value 10 digits
+      ≡ value * 10 ^ more + digits_value 10 (drop 19 (significant digits)))
+      × (digits_value 10 (drop 19 (significant digits)) < 10 ^ more)
+  first_and_rest = (rw (h.is, ← count) whole, rw (← count) rest)
 
   abbrev n : ℕ
   n = digits_value 10 digits

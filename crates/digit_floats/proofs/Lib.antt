@@ -12,7 +12,9 @@ mod HexDigits
 mod Huge
 mod Kept
 mod Mantissas
+mod Middles
 pub mod Numbers
+mod Others
 mod Outcomes
 mod Product
 mod Rows

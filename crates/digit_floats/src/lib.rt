@@ -10,12 +10,14 @@ mod hexadecimal;
 pub mod laws;
 mod list;
 mod long;
+mod middle;
 mod near;
 mod parts;
 mod powers;
 mod read;
 mod round;
 mod scaled;
+mod zeros;
 
 pub use self::binary::round_integer;
 pub use self::decimal::{Decimal, decimal_of, read_decimal_from};

@@ -9,6 +9,7 @@ ghost use Rattle.digit_floats.specs.Parts.{integer_of, fraction_of, IsMantissa};
 use super::exact::round_exact;
 use super::float::{Float, signed};
 use super::long::round_digits;
+use super::middle::round_middle;
 use super::near::{round_cut, round_from};
 use super::parts::{Mantissa, Power};
 
@@ -107,6 +108,29 @@ pub fn round_short<F: Float>(
     }
 }
 
+/// [`round_parts`] of a number that no product tells, in code of its own.
+#[cold]
+#[inline(never)]
+fn round_apart<F: Float>(text: &[u8], negative: bool, mantissa: Mantissa, power: Power) -> F
+    requires { IsMantissa text.now mantissa }
+    ensures { (n : ℕ) → power.value ≡ min n (2 ^ 64 - 1)
+        → F.value result ≡ round F.format negative
+        (digits_value 10 (integer_of text.now mantissa ++ fraction_of text.now mantissa)
+        * 10 ^ (if power.negative then 0 else n))
+        (10 ^ (mantissa.places + (if power.negative then n else 0))) }
+{
+    if let Some(x) = round_middle::<F>(text, negative, mantissa, power) {
+        return x;
+    }
+    round_digits::<F>(
+        negative,
+        &text[mantissa.start..mantissa.whole_end],
+        &text[mantissa.fraction_start..mantissa.end],
+        mantissa.places as u64,
+        power,
+    )
+}
+
 /// The float nearest to the number that integer, fraction and exponent of a text make, with a sign.
 /// `mantissa` and `power` are what [`read_mantissa`](crate::read_mantissa) and
 /// [`read_exponent`](crate::read_exponent) answered of this text.
@@ -140,11 +164,5 @@ pub fn round_parts<F: Float>(text: &[u8], negative: bool, mantissa: Mantissa, po
             return x;
         }
     }
-    round_digits::<F>(
-        negative,
-        &text[mantissa.start..mantissa.whole_end],
-        &text[mantissa.fraction_start..mantissa.end],
-        places,
-        power,
-    )
+    round_apart::<F>(text, negative, mantissa, power)
 }

@@ -12,6 +12,7 @@ ghost use Rattle.digit_floats.specs.Parts.{IsMantissa, integer_of, fraction_of};
 ghost use Rattle.digit_floats.specs.Scaled.{is_exact, first_value, scaled_value, fitting, fault_at, scaled_at, read_scaled_at, whole_of, position, message};
 
 use super::parts::{Mantissa, read_mantissa};
+use super::zeros::are_zeros_after;
 use digit_literals::{Integer, LiteralError, read_wide_from};
 use std::error::Error;
 use std::fmt;
@@ -88,17 +89,6 @@ fn keep_first(bytes: &[u8], before: u128, count: usize) -> Option<u128>
     Some(value)
 }
 
-/// Whether all digits of some bytes but the first are zeros.
-fn are_zeros(bytes: &[u8], count: usize) -> bool
-    ensures { result ≡ list_all (λ d. d == 48) (drop count (filter is_ascii_digit bytes.now)) }
-{
-    bytes
-        .iter()
-        .filter(|byte| byte.is_ascii_digit())
-        .skip(count)
-        .all(|byte| *byte == b'0')
-}
-
 /// Ten to a power.
 fn ten_to(n: usize) -> u128
     requires { n ≤ 38 }
@@ -160,7 +150,8 @@ fn is_exact(text: &[u8], mantissa: Mantissa, places: usize) -> bool
     requires { IsMantissa text.now mantissa }
     ensures { result ≡ is_exact (fraction_of text.now mantissa) places }
 {
-    mantissa.places <= places || are_zeros(&text[mantissa.fraction_start..mantissa.end], places)
+    let fraction = &text[mantissa.fraction_start..mantissa.end];
+    mantissa.places <= places || are_zeros_after(fraction, mantissa.places, places)
 }
 
 /// A value with a digit of a fraction after it, if the number is neither too large nor too fine
