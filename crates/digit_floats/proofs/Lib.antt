@@ -16,6 +16,7 @@ mod Middles
 pub mod Numbers
 mod Others
 mod Outcomes
+mod Plains
 mod Product
 mod Rows
 mod Signs

@@ -12,7 +12,7 @@ few_kept p (byte ∷ bytes) = by (p byte) refl (few_kept p bytes)
     by true e less = rw e (omega (arith, less))
     by false e less = rw e (omega (arith, less))
 
-all_kept : (p : ℕ → Bool) (bytes : List ℕ) → length (filter p bytes) ≡ length bytes
+pub all_kept : (p : ℕ → Bool) (bytes : List ℕ) → length (filter p bytes) ≡ length bytes
     → filter p bytes ≡ bytes
 all_kept p [] h = refl
 all_kept p (byte ∷ bytes) h = by (p byte) refl (all_kept p bytes) (few_kept p bytes) h

@@ -9,5 +9,6 @@ pub mod Follows
 pub mod Hexadecimal
 pub mod Near
 pub mod Parts
+pub mod Plain
 pub mod Separators
 pub mod Scaled

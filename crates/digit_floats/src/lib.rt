@@ -1,6 +1,7 @@
 //! The nearest `f64` or `f32` of a text with digit separators, and its decimal number.
 #![tactic(auto)]
 
+mod apart;
 mod binary;
 mod decimal;
 mod error;
@@ -13,6 +14,7 @@ mod long;
 mod middle;
 mod near;
 mod parts;
+mod plain;
 mod powers;
 mod read;
 mod round;

@@ -67,8 +67,7 @@ fn places_left(places: u64, cut: u64, power: Power) -> Option<u64>
 /// [`round_parts`](crate::round_parts), where the first 19 digits are a whole number over a few
 /// twos, and those after them follow the point. Only for speed: the middle between two floats, and
 /// a number just above it, needs no text for std then.
-#[cold]
-#[inline(never)]
+#[inline(always)]
 pub fn round_middle<F: Float>(
     text: &[u8],
     negative: bool,
