@@ -15,7 +15,9 @@ ghost use Rattle.digit_literals.specs.Reads.{ArePlain, IsFirst, IsOffSlice, Pass
 use super::component::{pass_digits, read_digits_up_to};
 use super::eight::{Plain, no_digits, read_word, read_words};
 use super::reading::Digits;
-use super::slice::{ReadTo, begin, begin_decimal, end_bare, read_bare, read_on, read_slice};
+use super::slice::{
+    ReadTo, begin, begin_decimal, end_bare, first_digit, read_bare, read_on, read_slice,
+};
 use super::wide::ten_to;
 use lexical_digits::iterator::Iter;
 use lexical_digits::skip::{Bytes, Component, Rule};
@@ -408,6 +410,9 @@ fn bare_slice(
     if let Some(read) = end_bare(text, rule, start, 0, plain) {
         return Some(read);
     }
+    if has_separator(text, rule, plain.end) {
+        return None;
+    }
     let rest = bare_rest(text, word, component, start, 0, plain);
     if rest.end > text.len() {
         return None;
@@ -441,6 +446,15 @@ fn bare_by_words(
     let none = no_digits(text, rule, start, before);
     let plain = read_words(text, rule, start, before, none);
     read_bare(text, rule, start, before, plain)
+}
+
+/// Whether a separator of a rule is at a position.
+#[inline(always)]
+fn has_separator(text: &[u8], rule: Rule, at: usize) -> bool {
+    match text.get(at) {
+        Some(byte) => rule.is_separator(*byte),
+        None => false,
+    }
 }
 
 /// The end of digits after which a separator is, so that there may be more: no text is as long.
@@ -479,6 +493,21 @@ fn bare_rest(
     }
 }
 
+/// The digits that are read before the loop: by words, or the first, if it is known.
+#[inline(always)]
+fn begin_first(text: &[u8], rule: Rule, start: usize, before: u64) -> Plain
+    requires radix { rule.radix ≡ 10 }
+    requires within { start ≤ length text.now }
+    ensures { ArePlain rule text.now start before None result.end result.value }
+{
+    // where separators are dropped between digits, few numbers have eight in a row
+    if !rule.internal {
+        return begin_decimal(text, rule, start, before, None, None);
+    }
+    let first = first_digit(text, rule, start, before, u128::from(u64::MAX));
+    begin(text, rule, 10, start, before, first, None)
+}
+
 /// Reads the digits of a rule with radix 10 from `start` on, where the slice is enough, and 19
 /// digits fit and no more are there.
 #[inline(always)]
@@ -493,7 +522,7 @@ fn decimals_slice(text: &[u8], rule: Rule, start: usize, before: u64, most: u64)
         return None;
     }
     // no digit is tested for being too large: 19 never are
-    let plain = begin_decimal(text, rule, start, before, None, None);
+    let plain = begin_first(text, rule, start, before);
     let read = read_on(text, rule, 10, start, before, plain, None)?;
     if are_few(before, read.count) {
         Some(read)
