@@ -1,7 +1,6 @@
 //! A decimal number as an integer, in units of its last place.
 
-ghost use Rattle.std.specs.Prelude.{◌≡◌, ◌==◌, ◌+◌, ◌-◌, ◌*◌, ◌^◌, ◌<◌, ◌≤◌, ℕ, true, false, length, filter, take, drop, IfOk, IfSome, Some, Ok, Err, IsTrue, MatchOption, MatchResult};
-ghost use Rattle.std.specs.List.{list_all};
+ghost use Rattle.std.specs.Prelude.{◌≡◌, ◌==◌, ◌+◌, ◌-◌, ◌*◌, ◌^◌, ◌<◌, ◌≤◌, ℕ, true, false, length, filter, take, IfOk, IfSome, Some, Ok, Err, IsTrue, MatchOption, MatchResult};
 ghost use Rattle.std.specs.Char.{is_ascii_digit, digit_value};
 ghost use Rattle.std.specs.Str.Parse.{digits_value, digits_value_after};
 ghost use Rattle.lexical_format.specs.Word.{is_supported};

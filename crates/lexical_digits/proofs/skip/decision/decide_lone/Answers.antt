@@ -4,7 +4,8 @@ use Rattle.lexical_digits.proofs.skip.decision.decide_lone.Goals as goal
 
 pub left_of-left-requires : goal.left_of-left-requires
 left_of-left-requires g c = rw (c.at-byte.ensures.content)
-    (span_alone c.args.rule _ c.requires.supported c.requires.lone c.args.at (grind (arith, judged)))
+    (span_alone c.args.rule _ c.requires.supported c.requires.lone c.args.at
+    (grind (arith, judged)))
 
 pub returns-then-drops-clause-place : goal.returns-then-drops-clause-place
 returns-then-drops-clause-place g c =

@@ -46,7 +46,8 @@ returns-then-not-rule c =
     ∙ ap (with_cursor a.state) (lone.place _ refl) in
     let looks : c.saturating_add-looks.result
     ≡ saturating c.find_lone-lone.result.looks (one_if c.args.saw_next) = search rules in
-    rw (sym c.self.view_is) (arrives k a _ c.args.saw_next c.find_lone-lone.result.looks follows left
+    rw (sym c.self.view_is)
+    (arrives k a _ c.args.saw_next c.find_lone-lone.result.looks follows left
     (finds_lone (rule_of b.format k) b.slc.now b.tally.index b.run _ _ single known lone.looks
     lone.other_looks)
     (c.move_seen.ensures.looks ∙ rw looks refl))
