@@ -3,8 +3,7 @@ use Rattle.std.proofs.Common.{◌≡◌, ℕ, ◌<◌, ◌≤◌, Bool, false, l
 use Rattle.lexical_digits.specs.Laws.Terms.{digit_value, Rule, Shortcuts, separator, is_digit, is_separator, IsSupported, Component, Inside, rule_of, counts, is_direct, is_direct_by, AreShortcuts, nat_tests}
 use Rattle.lexical_digits.proofs.Rule.Supported.{supported_rule}
 
--- the digits of a radix are those with a value below it
-pub digit_by : (rule : Rule) (byte : ℕ) → rule.radix ≤ 36
+digit_by : (rule : Rule) (byte : ℕ) → rule.radix ≤ 36
     → ltb (unwrap_or (digit_value byte) 36) rule.radix ≡ is_digit rule byte
 unfolding is_digit digit_value
 digit_by rule byte high = grind (arith, nat_tests)

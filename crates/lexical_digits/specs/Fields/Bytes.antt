@@ -1,13 +1,12 @@
 -- What the fields of a `Bytes` stand for, and what they have in common.
-use Rattle.std.specs.Prelude.{◌≡◌, ℕ, ◌+◌, ◌<◌, Bool, true, false, ◌&&◌, Option, Some, List, slice_get}
+use Rattle.std.specs.Prelude.{◌≡◌, ℕ, ◌+◌, ◌<◌, Bool, true, ◌&&◌, Option, Some, List, slice_get}
 use Rattle.lexical_format.specs.Word.{separator}
 use Rattle.lexical_digits.specs.declared.skip.component.Component.{Component}
 use Rattle.lexical_digits.specs.declared.skip.component.Component.TheVariants.{Integer, Fraction, Exponent, Special}
 use Rattle.lexical_digits.specs.declared.skip.decision.Run.{Run}
 use Rattle.lexical_digits.specs.declared.skip.bytes.tally.Tally.{Tally}
 use Rattle.lexical_digits.specs.declared.skip.rule.Shortcuts.{Shortcuts}
-use Rattle.lexical_digits.specs.Separators.{is_digit, is_separator}
-use Rattle.lexical_digits.specs.State.{State, IsState, rule, rule_of, own, is_contiguous, counts}
+use Rattle.lexical_digits.specs.State.{State, IsState, rule_of, own, is_contiguous, counts}
 use Rattle.lexical_digits.specs.Looks.{Held, Remembers, separator_at}
 use Rattle.lexical_digits.specs.Fields.Tally.{state_of, looks_of}
 use Rattle.lexical_digits.specs.Fields.Shortcuts.{is_direct_by, AreShortcuts, IsInner}
@@ -35,12 +34,6 @@ held_of buffer word t run holds remembers = record {
   holds = holds;
   remembers = remembers;
 }
-
--- a byte at the cursor that is neither a digit of a component nor a separator
-pub record IsPlain (k : Component) (s : State) (byte : ℕ) : Type 0 where
-  pub here : Some byte ≡ slice_get s.buffer s.cursor
-  pub no_separator : is_separator (separator s.word) byte ≡ false
-  pub no_digit : is_digit (rule k s) byte ≡ false
 
 -- a separator that is dropped before a digit, since a digit was counted before it
 pub record IsInnerAt (t : Tally) (s : Shortcuts) (byte : ℕ) : Type 0 where

@@ -57,7 +57,7 @@ pub use Rattle.lexical_digits.specs.Looks.{NoLooks, far, has_scanned, needs_run,
 pub use Rattle.lexical_digits.specs.Looks.{owed_by, run_holds, run_length, scans}
 pub use Rattle.lexical_digits.specs.Iterators.{Nexts, items_in, after_items_in, zeros_in}
 pub use Rattle.lexical_digits.specs.Iterators.{after_zeros_in}
-pub use Rattle.lexical_digits.specs.Fields.Bytes.{FollowsDigit, IsPlain, IsInnerAt, IsInnerDigit, IsReading}
+pub use Rattle.lexical_digits.specs.Fields.Bytes.{FollowsDigit, IsInnerAt, IsInnerDigit, IsReading}
 pub use Rattle.lexical_digits.specs.Fields.Bytes.{has_no_flags, held_of}
 unfoldable pub use Rattle.lexical_digits.specs.Looks.{separator_at}
 pub use Rattle.lexical_digits.specs.Fields.Shortcuts.{AreShortcuts, IsInner, is_direct}

@@ -18,7 +18,7 @@ use super::component::Component;
 use super::decision::Run;
 use super::rule::{Rule, Shortcuts};
 use crate::iterator::Iter;
-use lexical_format::{NumberFormat, digit_value};
+use lexical_format::NumberFormat;
 use std::alloc::AllocError;
 use std::convert::Infallible;
 use std::marker::Model;
@@ -144,7 +144,7 @@ impl<'a> Bytes<'a> {
     pub fn is_digit_of(&self, component: Component, value: u8) -> bool
         ensures { result ≡ is_digit (rule component self.now.state) value }
     {
-        u32::from(digit_value(value)) < self.rule(component).radix
+        self.rule(component).is_digit(value)
     }
 
     /// Whether a component has none of its flags.

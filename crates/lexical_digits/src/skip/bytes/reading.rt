@@ -13,8 +13,7 @@
 //! | a lone separator from a counted digit to a digit | after it: two looks | passes both: four |
 //! | any other separator | by the decision | by the decision; after one look it passes the byte |
 //!
-//! `next_of` lets its component read first, but at a byte that is neither digit nor separator; a
-//! peek does so at a separator, and asks the decision.
+//! `next_of` lets its component read first; a peek does so at a separator, and asks the decision.
 //! The decision counts the looks that it takes, by its source. It has the only loop over bytes.
 //! At the end of the buffer a read answers `None` and counts nothing.
 
@@ -24,7 +23,7 @@ ghost use Rattle.lexical_format.specs.Word.{is_supported};
 ghost use Rattle.lexical_digits.specs.Separators.{place};
 ghost use Rattle.lexical_digits.specs.State.{rule_of};
 ghost use Rattle.lexical_digits.specs.Looks.{separator_at, IsRunOrNone, Finds, PeeksOf, NextsOf, SettlesOf, LooksHere, NoLooks, one_if};
-ghost use Rattle.lexical_digits.specs.Fields.Bytes.{IsPlain, IsInnerAt, IsInnerDigit, FollowsDigit, has_no_flags};
+ghost use Rattle.lexical_digits.specs.Fields.Bytes.{IsInnerAt, IsInnerDigit, FollowsDigit, has_no_flags};
 
 use super::Bytes;
 use super::tally::Tally;
@@ -201,36 +200,13 @@ impl<'a> Bytes<'a> {
         if self.has_no_flags {
             return self.next_unflagged(component);
         }
-        if !self.tally.is_reader(component) {
-            if let Some(byte) = self.plain_byte(component) {
-                self.tally.pass_other();
-                return Some(byte);
-            }
-            self.switch_reader(component);
-        }
+        self.read_as(component);
         self.next_flagged(component)
-    }
-
-    /// The byte at the cursor, if it is neither a digit of a component nor a separator: the
-    /// component takes it and counts nothing. So it need not read first, which is for speed. The
-    /// step that passes the byte counts the looks, or else the read that comes after this one.
-    #[inline(always)]
-    fn plain_byte(&self, component: Component) -> Option<&'a u8>
-        ensures { IfSome result (λ byte. IsPlain component self.now.state byte.now) }
-    {
-        let byte = byte_at(self.slc, self.tally.index)?;
-        if *byte == self.separator() {
-            return None;
-        }
-        if self.is_digit_of(component, *byte) {
-            return None;
-        }
-        Some(byte)
     }
 
     /// The next byte that a component keeps, where any component may have a flag. The cursor moves
     /// past that byte, and the component counts it if it is a digit.
-    /// `next_of` lets the component read before. The other case stores no rule,
+    /// `next_of` calls `read_as` before, so the component reads. The other case stores no rule,
     /// since a compiler keeps fields in registers only in a loop with few stores.
     #[inline(always)]
     fn next_flagged(&mut self, component: Component) -> Option<&'a u8>
