@@ -1,8 +1,9 @@
 -- One turn of a loop that reads a list into a slice.
-use Rattle.std.proofs.Common.{◌≡◌, ℕ, zero, suc, ◌+◌, ◌-◌, ◌<◌, ◌≤◌, List, [], ◌∷◌, ◌++◌, map, length, take, drop, ◌/◌, ◌%◌, ◌^◌, refl, sym, ◌∙◌, inl, inr, arith}
+use Rattle.std.proofs.Common.{◌≡◌, ℕ, zero, suc, ◌+◌, ◌-◌, ◌<◌, ◌≤◌, List, [], ◌∷◌, ◌++◌, map, length, take, drop, ◌/◌, ◌%◌, ◌^◌, refl, sym, ◌∙◌, ap, inl, inr, ◌*◌, arith}
 use Rattle.std.specs.Prelude.{Bool, true, false, Option, Some, None, slice_get, ◌&&◌, ◌==◌, min, nat_lt, if◌then◌else◌, Result, Ok, Err, set}
 use Rattle.std.proofs.lemmas.List.{take_more_set, drop-set-lt, drop-drop, length-set, map-append, append_assoc, length-map, length-take-le, append-nil}
-use Rattle.std.proofs.Math.Nat.{div-eq_of_lt, min-eq_left, min-eq_right, mod-eq_of_lt, pow-le-pow_right, zero-div}
+use Rattle.std.proofs.lemmas.Nat.{pow-add}
+use Rattle.std.proofs.Math.Nat.{mod-add-div, add-mul-div_left, add-mul-mod_self_right, one-le-pow, pow-suc, div-eq_of_lt, min-eq_left, min-eq_right, mod-eq_of_lt, pow-le-pow_right, zero-div}
 use Rattle.std.proofs.lemmas.Bool.Decides.{nat_tests}
 use Rattle.lexical_format.specs.Word.{bit}
 use Rattle.lexical_digits.specs.ByteSet.{accepts}
@@ -31,6 +32,23 @@ separator_is_no_blank gap text at h =
         → holds_of (is_blank gap) byte ≡ false
     other None e = refl
     other (Some byte) e = grind (arith, e)
+
+-- the lower bits of a number
+pub low_bit : (n place : ℕ) → place < 64 → bit (n % 2 ^ 64) place ≡ bit n place
+low_bit n place l =
+    let more : ℕ = 63 - place in
+    let q : ℕ = n / 2 ^ 64 in
+    let split : 64 ≡ place + suc more = omega (arith, l) in
+    let power : 2 ^ 64 ≡ 2 ^ place * (2 ^ more * 2) =
+    rw (← split, pow-suc 2 more) at (pow-add 2 place (suc more)) in
+    let some : 0 < 2 ^ place = one-le-pow place 2 (omega arith) in
+    let same : 2 ^ place * (2 ^ more * 2) * q ≡ 2 ^ place * (2 ^ more * q * 2) = grind arith in
+    let all : n ≡ n % 2 ^ 64 + 2 ^ place * (2 ^ more * q * 2) =
+    sym (mod-add-div n (2 ^ 64)) ∙ ap (λ m. n % 2 ^ 64 + m * q) power
+    ∙ ap (λ m. n % 2 ^ 64 + m) same in
+    let halves : n / 2 ^ place ≡ (n % 2 ^ 64) / 2 ^ place + 2 ^ more * q * 2 =
+    ap (λ m. m / 2 ^ place) all ∙ add-mul-div_left (n % 2 ^ 64) (2 ^ more * q * 2) some in
+    rw (halves, add-mul-mod_self_right ((n % 2 ^ 64) / 2 ^ place) (2 ^ more * q) 2) refl
 
 -- a number has no bit above its highest
 none_above : (n place : ℕ) → n < 2 ^ 63 → 63 ≤ place → bit n place ≡ false

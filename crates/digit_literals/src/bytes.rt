@@ -52,8 +52,8 @@ pub fn expect_byte(text: &[u8], at: usize, byte: u8) -> Result<usize, usize>
     }
 }
 
-/// Whether a set has a byte. If all its bytes are below 63, as blanks and commas are, this is no
-/// branch on the byte.
+/// Whether a set has a byte: by 64 bits for most bytes of a text. If all bytes of the set are below
+/// 63, as blanks and commas are, this is no branch on the byte.
 #[inline(always)]
 pub(super) fn accepts(set: ByteSet, byte: u8) -> bool
     ensures { result ≡ accepts set byte }
@@ -62,7 +62,12 @@ pub(super) fn accepts(set: ByteSet, byte: u8) -> bool
         let low = (set.low % (1 << 64)) as u64;
         return (low >> byte.min(63)) % 2 == 1;
     }
-    set.accepts(byte)
+    if byte < 64 {
+        let low = (set.low % (1 << 64)) as u64;
+        (low >> byte) % 2 == 1
+    } else {
+        set.accepts(byte)
+    }
 }
 
 /// Whether a byte of a set is at a position.

@@ -5,7 +5,7 @@ ghost use Rattle.std.specs.Char.{is_ascii_digit};
 ghost use Rattle.lexical_format.specs.Word.{is_supported};
 ghost use Rattle.lexical_digits.specs.Cursor.{holds_of};
 ghost use Rattle.lexical_digits.specs.State.{rule, rule_of};
-ghost use Rattle.lexical_digits.specs.Separators.{IsSupported};
+ghost use Rattle.lexical_digits.specs.Separators.{IsSupported, is_separator};
 ghost use Rattle.lexical_digits.specs.Looks.{owed, needs_run};
 ghost use Rattle.lexical_digits.specs.Stop.{stop, leading_digits_of, past_digits_of};
 ghost use Rattle.digit_literals.specs.After.{digits_between};
@@ -383,8 +383,8 @@ fn few_of(
 }
 
 /// Reads the decimal digits of an integer from `start` on, where no separator is met, and the first
-/// is known: those of one word in place, and more of them by [`bare_rest`]; of the last seven bytes
-/// of a text one by one.
+/// is known: that one in place if it is alone, those of one word, and more by [`bare_rest`]; of the
+/// last seven bytes of a text one by one.
 #[inline(always)]
 fn bare_slice(
     text: &[u8],
@@ -402,9 +402,13 @@ fn bare_slice(
     ensures all { IfSome result (λ read. read.is_too_large ≡ false) }
 {
     let rule = Rule::of(word, component);
+    let one = begin(text, rule, 10, start, 0, Some(first), None);
+    // often the only one before a point
+    if let Some(read) = end_bare(text, rule, start, 0, one) {
+        return Some(read);
+    }
     if text.len() - start < 8 {
-        let plain = begin(text, rule, 10, start, 0, Some(first), None);
-        return read_bare(text, rule, start, 0, plain);
+        return read_bare(text, rule, start, 0, one);
     }
     let plain = read_word(text, rule, start, 0);
     if let Some(read) = end_bare(text, rule, start, 0, plain) {
@@ -450,7 +454,9 @@ fn bare_by_words(
 
 /// Whether a separator of a rule is at a position.
 #[inline(always)]
-fn has_separator(text: &[u8], rule: Rule, at: usize) -> bool {
+fn has_separator(text: &[u8], rule: Rule, at: usize) -> bool
+    ensures { result ≡ holds_of (is_separator rule.separator) (slice_get text.now at) }
+{
     match text.get(at) {
         Some(byte) => rule.is_separator(*byte),
         None => false,
