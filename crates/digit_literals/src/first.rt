@@ -383,8 +383,8 @@ fn few_of(
 }
 
 /// Reads the decimal digits of an integer from `start` on, where no separator is met, and the first
-/// is known: that one in place if it is alone, those of one word, and more by [`bare_rest`]; of the
-/// last seven bytes of a text one by one.
+/// is known: those of one word in place, and more of them by [`bare_rest`]; of the last seven bytes
+/// of a text one by one.
 #[inline(always)]
 fn bare_slice(
     text: &[u8],
@@ -402,13 +402,9 @@ fn bare_slice(
     ensures all { IfSome result (λ read. read.is_too_large ≡ false) }
 {
     let rule = Rule::of(word, component);
-    let one = begin(text, rule, 10, start, 0, Some(first), None);
-    // often the only one before a point
-    if let Some(read) = end_bare(text, rule, start, 0, one) {
-        return Some(read);
-    }
     if text.len() - start < 8 {
-        return read_bare(text, rule, start, 0, one);
+        let plain = begin(text, rule, 10, start, 0, Some(first), None);
+        return read_bare(text, rule, start, 0, plain);
     }
     let plain = read_word(text, rule, start, 0);
     if let Some(read) = end_bare(text, rule, start, 0, plain) {

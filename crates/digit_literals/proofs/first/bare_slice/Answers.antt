@@ -9,7 +9,3 @@ end_bare-requires-clause-supported c =
 pub read_bare-requires-clause-supported : goal.read_bare-requires-clause-supported
 read_bare-requires-clause-supported c =
     grind (arith, supported_rule c.args.word c.args.component c.requires.supported)
-
-pub end_bare-requires-2-clause-supported : goal.end_bare-requires-2-clause-supported
-end_bare-requires-2-clause-supported c =
-    grind (arith, supported_rule c.args.word c.args.component c.requires.supported)
