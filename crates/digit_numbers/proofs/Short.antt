@@ -25,7 +25,7 @@ use Rattle.digit_numbers.specs.Forms.{allows_exponent}
 use Rattle.digit_numbers.specs.Numbers.{word, whole_digits, whole_end, fraction, mark, mark_at, mark_or, is_float}
 use Rattle.digit_numbers.specs.Numbers.{allows_point, has_point, exponent, has_exponent}
 use Rattle.digit_numbers.specs.Numbers.{has_more_zeros, parts, digits_stop}
-use Rattle.digit_numbers.specs.Reads.{IsFloatAt}
+use Rattle.digit_numbers.specs.Reads.{IsFloatAt, marks_by}
 use Rattle.digit_numbers.proofs.Digits.{counts_fraction, counts_end, is, is_none}
 
 -- no exponent follows a byte that is no mark
@@ -72,20 +72,20 @@ same_digits : (format : Format) (negative : Bool) (whole a b c d : List ℕ) (m 
     (10 ^ (length b + (if n then digits_value 10 d else 0)))
 same_digits format negative whole a b c d m n p q r = rw (p, q, r) refl
 
-module _ (f : Form) (text : List ℕ) (at : ℕ) where
-  -- the mark of an exponent at a position isn't the form's other one
+-- `by_mark` is the mark of an exponent that is looked for after the digits
+module _ (f : Form) (by_mark : ℕ) (text : List ℕ) (at : ℕ) where
   abbrev one_mark : ℕ → Type 0
-  one_mark i = mark_or f text f.other_mark i ≡ f.marks.exponent
+  one_mark i = mark_or f text f.other_mark i ≡ by_mark
 
   abbrev stands_point : Bool
   stands_point = stands (is_point f.marks.point) text (whole_end f text at)
 
   abbrev marked_at : ℕ → Bool
-  marked_at i = stands (is_mark f.marks.exponent) text i
+  marked_at i = stands (is_mark by_mark) text i
 
   -- the exponent that a mark begins, whether the form has one here or not
   abbrev digits_after : ℕ → List ℕ
-  digits_after i = exponent_digits (word f text) text f.marks.exponent i
+  digits_after i = exponent_digits (word f text) text by_mark i
 
   unmarked : one_mark (mark_at f text at) → marked_at (mark_at f text at) ≡ false
       → exponent f text at ≡ digits_after (mark_at f text at)
@@ -102,10 +102,9 @@ module _ (f : Form) (text : List ℕ) (at : ℕ) where
   unfolding exponent_digits
   none_after i h = rw h refl
 
-  -- digits that neither a point nor a mark follows are no float
-  pub no_float : one_mark (whole_end f text at) → stands_point ≡ false
+  no_exponent : one_mark (whole_end f text at) → stands_point ≡ false
       → marked_at (whole_end f text at) ≡ false → is_float f text at ≡ false
-  no_float one p m =
+  no_exponent one p m =
       let none : has_point f text at ≡ false = rw p refl in
       let here : whole_end f text at ≡ mark_at f text at = rw none refl in
       let no : marked_at (mark_at f text at) ≡ false = subst (λ i. marked_at i ≡ false) here m in
@@ -126,29 +125,28 @@ module _ (f : Form) (text : List ℕ) (at : ℕ) where
     same : fraction f text at ≡ (parts f text at).fraction
     same = counts_fraction f text at counts
 
-    mark_is : mark f text at ≡ f.marks.exponent
+    mark_is : mark f text at ≡ by_mark
     mark_is = subst (λ (i : ℕ). one_mark i) end_is one
 
     same_float : exponent f text at ≡ digits_after (mark_at f text at)
         → (format : Format) (negative : Bool)
-        → nearest_float format negative (parts_at (word f text) text f.marks at)
+        → nearest_float format negative (parts_at (word f text) text (marks_by f by_mark) at)
         ≡ nearest_float format negative (parts f text at)
     same_float e format negative =
         same_digits format negative (whole_digits f text at) _ _ _ _ _ _ same
         (ap digits_after end_is ∙ sym e)
-        (ap (λ i. exponent_negative (word f text) text f.marks.exponent i) end_is
+        (ap (λ i. exponent_negative (word f text) text by_mark i) end_is
         ∙ ap (λ m. exponent_negative (word f text) text m (mark_at f text at)) (sym mark_is))
 
     stop_is : exponent f text at ≡ digits_after (mark_at f text at)
         → (marked_at (mark_at f text at) ≡ true
         → 0 < length (digits_after (mark_at f text at)))
-        → exponent_end (word f text) text f.marks.exponent (mark_at f text at) ≡ digits_stop f text
-        at
+        → exponent_end (word f text) text by_mark (mark_at f text at) ≡ digits_stop f text at
     unfolding exponent_end
     stop_is e more = by (marked_at (mark_at f text at)) refl
       where
         by : (b : Bool) → marked_at (mark_at f text at) ≡ b
-            → exponent_end (word f text) text f.marks.exponent (mark_at f text at)
+            → exponent_end (word f text) text by_mark (mark_at f text at)
             ≡ digits_stop f text at
         by true h =
             let l = more h in
@@ -164,7 +162,7 @@ module _ (f : Form) (text : List ℕ) (at : ℕ) where
 
     module _ (zeros : has_more_zeros f text at ≡ false) (format : Format) (negative : Bool)
         (x : Float) (value : x ≡ nearest_float format negative
-        (parts_at (word f text) text f.marks at)) where
+        (parts_at (word f text) text (marks_by f by_mark) at)) where
       positive : 0 < length (whole_digits f text at) + length (fraction f text at)
       positive = omega (arith, some)
 
@@ -194,7 +192,7 @@ module _ (f : Form) (text : List ℕ) (at : ℕ) where
           → 0 < length (digits_after (mantissa_end (word f text) text f.marks.point at)))
           → (stands_point ≡ false
           → marked_at (mantissa_end (word f text) text f.marks.point at) ≡ true)
-          → IsFloatAt f text at negative format x (exponent_end (word f text) text f.marks.exponent
+          → IsFloatAt f text at negative format x (exponent_end (word f text) text by_mark
           (mantissa_end (word f text) text f.marks.point at))
       powered_float allowed follows marked =
           let e : exponent f text at ≡ digits_after (mark_at f text at) =
@@ -212,5 +210,14 @@ module _ (f : Form) (text : List ℕ) (at : ℕ) where
                 (either stands_point (allows_point f text at) (has_exponent f text at) counts
                 power);
             value = value ∙ same_float e format negative;
-            ends = ap (λ i. exponent_end (word f text) text f.marks.exponent i) end_is ∙ last;
+            ends = ap (λ i. exponent_end (word f text) text by_mark i) end_is ∙ last;
           }
+
+-- digits that neither a point nor a mark follows are no float
+pub no_float : (f : Form) (text : List ℕ) (at : ℕ)
+    → stands (is_point f.marks.point) text (whole_end f text at) ≡ false
+    → stands (is_mark (mark_or f text f.other_mark (whole_end f text at))) text
+    (whole_end f text at) ≡ false
+    → is_float f text at ≡ false
+no_float f text at p m =
+    no_exponent f (mark_or f text f.other_mark (whole_end f text at)) text at refl p m

@@ -10,6 +10,7 @@ use Rattle.digit_floats.specs.Parts.{integer_of, fraction_of, IsMantissa}
 use Rattle.digit_floats.specs.Hexadecimal.{IsHexadecimal, IsHexMantissa, hex_integer_of, hex_fraction_of}
 use Rattle.digit_floats.specs.declared.hexadecimal.HexMantissa.{HexMantissa}
 use Rattle.digit_floats.specs.declared.parts.Mantissa.{Mantissa}
+use Rattle.digit_floats.specs.declared.parts.Marks.{Marks}
 use Rattle.digit_floats.specs.declared.parts.Power.{Power}
 use Rattle.digit_languages.specs.declared.language.Language.{Language}
 use Rattle.digit_languages.specs.Literals.{prefix_word, word_at, digits_at}
@@ -36,6 +37,10 @@ pub record IsMantissaOf (word point : ℕ) (text : List ℕ) (m : Mantissa) : Ty
 -- the same of a form
 abbrev pub IsMantissaAt : Form → List ℕ → Mantissa → Type 0
 IsMantissaAt f text m = IsMantissaOf f.integers.decimal f.marks.point text m
+
+-- the marks of a form, by the mark of an exponent that is looked for
+abbrev pub marks_by : Form → ℕ → Marks
+marks_by f mark = record { point = f.marks.point; exponent = mark }
 
 -- the same of hexadecimal digits, by a word
 pub record IsHexAt (f : Form) (word : ℕ) (text : List ℕ) (m : HexMantissa) : Type 0 where

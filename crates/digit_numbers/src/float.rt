@@ -1,6 +1,6 @@
 // The float at a position, by a form.
 
-ghost use Rattle.std.specs.Prelude.{◌≡◌, Err, ◌+◌, ◌-◌, ◌*◌, ◌^◌, ◌++◌, ◌<◌, ◌≤◌, false, true, min, length, [], None, IfSome, IfOk, IfErr, OnOk, MatchOption, IsTrue};
+ghost use Rattle.std.specs.Prelude.{◌≡◌, ℕ, Err, ◌+◌, ◌-◌, ◌*◌, ◌^◌, ◌++◌, ◌<◌, ◌≤◌, false, true, min, length, [], None, IfSome, IfOk, IfErr, OnOk, MatchOption, IsTrue};
 ghost use Rattle.std.specs.Float.{NotNan};
 ghost use Rattle.std.specs.Float.Ieee.{round};
 ghost use Rattle.std.specs.Float.Numeral.{nearest_float};
@@ -15,7 +15,7 @@ ghost use Rattle.digit_floats.specs.Float.{IsDecimal, digits_from, digits_end, e
 ghost use Rattle.digit_floats.specs.Parts.{integer_of, fraction_of, IsMantissa, IsShort};
 ghost use Rattle.digit_numbers.specs.Forms.{IsForm, is_barred};
 ghost use Rattle.digit_numbers.specs.Numbers.{allows_point, digits_stop, exponent, fraction, has_exponent, has_more_zeros, is_float, mark_at, mark_or, parts, whole_end};
-ghost use Rattle.digit_numbers.specs.Reads.{IsMantissaAt, IsMantissaOf, IsWholeOf, IsPowerAt, IsFloatAt, whole_of};
+ghost use Rattle.digit_numbers.specs.Reads.{IsMantissaAt, IsMantissaOf, IsWholeOf, IsPowerAt, IsFloatAt, marks_by, whole_of};
 
 use super::form::Form;
 use super::integer::is_zero;
@@ -99,24 +99,12 @@ fn read_exponent_apart(text: &[u8], word: u128, at: usize, mark: u8) -> Result<P
 
 /// The mark of an exponent at a position: the form's other one, if it is there.
 #[inline(always)]
-fn mark_at(text: &[u8], form: &Form, at: usize) -> u8
+pub(super) fn mark_at(text: &[u8], form: &Form, at: usize) -> u8
     ensures { result ≡ mark_or form.now text.now form.now.other_mark at }
 {
     match form.other_mark {
         Some(other) if has_mark(text, at, other) => other,
         _ => form.marks.exponent,
-    }
-}
-
-/// Whether the form's other mark of an exponent is at a position.
-#[inline(always)]
-pub(super) fn has_other_mark(text: &[u8], form: &Form, at: usize) -> bool
-    ensures { result ≡ false
-        → mark_or form.now text.now form.now.other_mark at ≡ form.now.marks.exponent }
-{
-    match form.other_mark {
-        Some(other) => has_mark(text, at, other),
-        None => false,
     }
 }
 
@@ -266,18 +254,18 @@ fn read_few_powered<F: Float>(
 fn read_marked<F: Float>(
     text: &[u8],
     form: &Form,
+    mark: u8,
     negative: bool,
     mantissa: Mantissa,
 ) -> Option<(F, usize)>
     requires form { IsForm form.now }
-    requires one_mark { mark_or form.now text.now form.now.other_mark mantissa.end
-        ≡ form.now.marks.exponent }
+    requires one_mark { mark_or form.now text.now form.now.other_mark mantissa.end ≡ mark }
     requires is { IsMantissaAt form.now text.now mantissa }
     requires some { mantissa.places < mantissa.digits }
     requires zeros { has_more_zeros form.now text.now mantissa.start ≡ false }
     requires pointed { stands (is_point form.now.marks.point) text.now mantissa.whole_end ≡ true
         → 0 < mantissa.places }
-    requires mark { stands (is_mark form.now.marks.exponent) text.now mantissa.end ≡ true }
+    requires mark { stands (is_mark mark) text.now mantissa.end ≡ true }
     requires within { mantissa.end < length text.now }
     requires few { mantissa.dropped ≡ 0 }
     ensures is { IfSome result (λ r.
@@ -290,7 +278,11 @@ fn read_marked<F: Float>(
         return None;
     }
     let word = form.integers.decimal;
-    match read_few_powered::<F>(text, word, form.marks, negative, mantissa) {
+    let marks = Marks {
+        point: form.marks.point,
+        exponent: mark,
+    };
+    match read_few_powered::<F>(text, word, marks, negative, mantissa) {
         Some((x, end)) => Some((x, end)),
         None => None,
     }
@@ -324,9 +316,10 @@ fn round_unmarked<F: Float>(
 ) -> Option<F>
     requires is { IsMantissaAt form.now text.now mantissa }
     requires few { mantissa.dropped ≡ 0 }
-    requires none { stands (is_mark form.now.marks.exponent) text.now mantissa.end ≡ false }
-    ensures value { IfSome result (λ x. F.value x ≡ nearest_float F.format negative
-        (parts_at form.now.integers.decimal text.now form.now.marks mantissa.start)) }
+    ensures value { IfSome result (λ x. (mark : ℕ)
+        → stands (is_mark mark) text.now mantissa.end ≡ false
+        → F.value x ≡ nearest_float F.format negative
+        (parts_at form.now.integers.decimal text.now (marks_by form.now mark) mantissa.start)) }
     ensures number { IfSome result (λ x. NotNan (F.value x)) }
 {
     match round_few::<F>(text, negative, mantissa) {
@@ -344,20 +337,25 @@ pub fn has_short_zeros(text: &[u8], form: &Form, whole: Mantissa) -> bool
     !form.float_zeros && is_zero(text, whole.start) && whole.start + 1 < whole.whole_end
 }
 
-/// The float of the digits before a point that is there, if it is short: digits follow the point,
-/// and any mark of an exponent, which isn't the form's other one, and which the form has there, and
-/// it refuses no first `0`.
+/// The float of the digits before a point, or the mark of an exponent, that is there, if it is
+/// short: digits follow the point, and any mark, which the form has there, and it refuses no
+/// first `0`.
 #[inline(always)]
-pub fn read_short_pointed<F: Float>(
+pub fn read_short_float<F: Float>(
     text: &[u8],
     form: &Form,
     negative: bool,
     whole: Mantissa,
+    is_pointed: bool,
 ) -> Option<(F, usize)>
     requires form { IsForm form.now }
     requires is { IsShort form.now.integers.decimal text.now whole }
     requires some { 0 < whole.digits }
-    requires point { stands (is_point form.now.marks.point) text.now whole.whole_end ≡ true }
+    requires point { is_pointed
+        ≡ stands (is_point form.now.marks.point) text.now whole.whole_end }
+    requires mark { is_pointed ≡ false
+        → stands (is_mark (mark_or form.now text.now form.now.other_mark whole.whole_end))
+        text.now whole.whole_end ≡ true }
     ensures is { IfSome result (λ r.
         IsFloatAt form.now text.now whole.start negative F.format (F.value r.0) r.1) }
     ensures number { IfSome result (λ r. NotNan (F.value r.0)) }
@@ -367,58 +365,16 @@ pub fn read_short_pointed<F: Float>(
         return None;
     }
     let mantissa = read_fraction(text, form, whole)?;
-    if mantissa.places == 0 {
+    if is_pointed && mantissa.places == 0 {
         return None;
     }
-    if has_other_mark(text, form, mantissa.end) {
-        return None;
-    }
-    if has_mark(text, mantissa.end, form.marks.exponent) {
-        return read_marked::<F>(text, form, negative, mantissa);
+    let mark = mark_at(text, form, mantissa.end);
+    // the only place, so that the exponent is inlined once
+    if has_mark(text, mantissa.end, mark) {
+        return read_marked::<F>(text, form, mark, negative, mantissa);
     }
     let x = round_unmarked::<F>(text, form, negative, mantissa)?;
     Some((x, mantissa.end))
-}
-
-/// The mantissa that the digits of an integer are where no point follows them.
-#[inline(always)]
-#[tactic(auto, using(crate::proofs::Short::no_point_end), unfolding(digit_floats::specs::Float::mantissas))]
-fn mantissa_of_whole(text: &[u8], form: &Form, whole: Mantissa) -> Mantissa
-    requires is { IsShort form.now.integers.decimal text.now whole }
-    requires point { stands (is_point form.now.marks.point) text.now whole.whole_end ≡ false }
-    ensures is { IsMantissaAt form.now text.now result }
-    ensures same { result ≡ whole }
-{
-    whole
-}
-
-/// The float of the digits before the mark of an exponent that is there, if it is short: the form
-/// has an exponent there, digits follow the mark, and it refuses no first `0`.
-#[inline(always)]
-pub fn read_short_power<F: Float>(
-    text: &[u8],
-    form: &Form,
-    negative: bool,
-    whole: Mantissa,
-) -> Option<(F, usize)>
-    requires form { IsForm form.now }
-    requires one_mark { mark_or form.now text.now form.now.other_mark whole.whole_end
-        ≡ form.now.marks.exponent }
-    requires is { IsShort form.now.integers.decimal text.now whole }
-    requires some { 0 < whole.digits }
-    requires point { stands (is_point form.now.marks.point) text.now whole.whole_end ≡ false }
-    requires mark { stands (is_mark form.now.marks.exponent) text.now whole.whole_end ≡ true }
-    requires within { whole.whole_end < length text.now }
-    ensures is { IfSome result (λ r.
-        IsFloatAt form.now text.now whole.start negative F.format (F.value r.0) r.1) }
-    ensures number { IfSome result (λ r. NotNan (F.value r.0)) }
-    ensures end { IfSome result (λ r. (whole.start < r.1) × (r.1 ≤ length text.now)) }
-{
-    if has_short_zeros(text, form, whole) {
-        return None;
-    }
-    let mantissa = mantissa_of_whole(text, form, whole);
-    read_marked::<F>(text, form, negative, mantissa)
 }
 
 /// The float that few digits are by themselves, if one division tells.

@@ -21,8 +21,8 @@ ghost use Rattle.digit_numbers.specs.Values.{integer_in, float_in, with_value, I
 ghost use Rattle.digit_numbers.specs.Specials.{special_at, name_end};
 
 use super::float::{
-    has_byte, has_mark, has_more_zeros, has_other_mark, has_short_zeros, read_float, read_large,
-    read_short_pointed, read_short_power, round_short_whole, round_whole, zero_alone,
+    has_byte, has_mark, has_more_zeros, has_short_zeros, mark_at, read_float, read_large,
+    read_short_float, round_short_whole, round_whole, zero_alone,
 };
 use super::form::{Form, Special};
 use super::hexadecimal::read_hex;
@@ -507,14 +507,13 @@ fn short_whole<F: Float>(
 ) -> Option<Result<(Number<F>, usize), NumberError>>
     requires within { start ≤ length text.now }
     requires form { IsForm form.now }
-    requires one_mark { mark_or form.now text.now form.now.other_mark whole.whole_end
-        ≡ form.now.marks.exponent }
     requires sign { IsSign form.now text.now start sign }
     requires is { IsShort form.now.integers.decimal text.now whole }
     requires start { whole.start ≡ sign.end }
     requires some { 0 < whole.digits }
     requires point { stands (is_point form.now.marks.point) text.now whole.whole_end ≡ false }
-    requires mark { stands (is_mark form.now.marks.exponent) text.now whole.whole_end ≡ false }
+    requires mark { stands (is_mark (mark_or form.now text.now form.now.other_mark whole.whole_end))
+        text.now whole.whole_end ≡ false }
     ensures is { IfSome result (λ o. MatchResult o
         (λ r. plain_at form.now text.now start F.format ≡ Ok (with_value F.value r.0, r.1))
         (λ error. plain_at form.now text.now start F.format ≡ Err error)) }
@@ -560,15 +559,10 @@ fn read_short<F: Float>(
         stands (is_separator (separator form.now.integers.decimal)) text.now sign.end ≡ false) }
 {
     let whole = read_some(text, form, sign.end)?;
-    if has_byte(text, whole.whole_end, form.marks.point) {
-        let (x, end) = read_short_pointed::<F>(text, form, sign.is_minus, whole)?;
-        return Some(Ok((Number::Float(x), end)));
-    }
-    if has_other_mark(text, form, whole.whole_end) {
-        return None;
-    }
-    if has_mark(text, whole.whole_end, form.marks.exponent) {
-        let (x, end) = read_short_power::<F>(text, form, sign.is_minus, whole)?;
+    let is_pointed = has_byte(text, whole.whole_end, form.marks.point);
+    let mark = mark_at(text, form, whole.whole_end);
+    if is_pointed || has_mark(text, whole.whole_end, mark) {
+        let (x, end) = read_short_float::<F>(text, form, sign.is_minus, whole, is_pointed)?;
         return Some(Ok((Number::Float(x), end)));
     }
     short_whole::<F>(text, start, form, sign, whole)

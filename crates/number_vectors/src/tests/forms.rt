@@ -610,10 +610,18 @@ fn a_point_before_an_operator_is_none(rt: HostRuntime) {
 }
 
 /// The same of JSON's grammar where a `d` may mark an exponent too.
-static OTHER_MARK_ENDS: [(&[u8], Value, usize); 7] = [
+static OTHER_MARK_ENDS: [(&[u8], Value, usize); 14] = [
     (b"1d5", Real(100000.0), 3),
     (b"25D-2", Real(0.25), 5),
     (b"1.5d1;", Real(15.0), 5),
+    (b"1.5d", Real(1.5), 3),
+    (b"1.5ed2", Real(1.5), 3),
+    (b"1.d5", Int(false, 1), 1),
+    (b"-1d400,", Real(-INFINITE), 6),
+    (b"0d5 and", Real(0.0), 3),
+    // the long way: more than 19 digits, of the number and of its exponent
+    (b"12345678901234567890d1", Real(123456789012345678900.0), 22),
+    (b"1d00000000000000000001", Real(10.0), 22),
     (b"2E1", Real(20.0), 3),
     (b"1d", Int(false, 1), 1),
     (b"1ed5", Int(false, 1), 1),

@@ -19,5 +19,6 @@ returns-in-Some-clause-is g c =
     let mark = rw is.ends at c.requires.mark in
     let allowed = rw places at (sym c.if-not-allow.ensures) in
     let one = rw is.ends at c.requires.one_mark in
-    rw (e.ends, is.ends) (powered_float f text m.start whole pointed one c.requires.zeros
-    g.F.Float.format c.args.negative _ e.value allowed (λ _. follows) (λ _. mark))
+    rw (e.ends, is.ends) (powered_float f c.args.mark text m.start whole pointed one
+    c.requires.zeros g.F.Float.format c.args.negative _ e.value allowed (λ _. follows)
+    (λ _. mark))
