@@ -282,7 +282,7 @@ fn decimal_at(text: &[u8], rule: Rule, at: usize) -> Option<u32>
 /// Reads the decimal digits of a component that begins at `start`, where there are 1 to 19, and no
 /// separator is met. Otherwise it answers `None`, and [`read_first_digits_from`] reads them. It is
 /// small, and calls nothing.
-#[inline]
+#[inline(always)]
 pub fn read_some_digits_from(
     text: &[u8],
     word: u128,
@@ -382,9 +382,14 @@ fn few_of(
     Some(read)
 }
 
+/// Fewer bytes are most often a text that is one number: without its sign an `f64` is printed in 24
+/// at most. Where all numbers of a caller have as many digits before the point, a processor guesses
+/// the end of the integer sooner than a word tells it (the rows `x: in [0, 1)`).
+const SHORT: usize = 24;
+
 /// Reads the decimal digits of an integer from `start` on, where no separator is met, and the first
-/// is known: those of one word in place, and more of them by [`bare_rest`]; of the last seven bytes
-/// of a text one by one.
+/// is known: those of one word, and more of them by [`bare_rest`]; of the last bytes of a text one
+/// by one.
 #[inline(always)]
 fn bare_slice(
     text: &[u8],
@@ -402,7 +407,7 @@ fn bare_slice(
     ensures all { IfSome result (λ read. read.is_too_large ≡ false) }
 {
     let rule = Rule::of(word, component);
-    if text.len() - start < 8 {
+    if text.len() - start < SHORT {
         let plain = begin(text, rule, 10, start, 0, Some(first), None);
         return read_bare(text, rule, start, 0, plain);
     }

@@ -257,6 +257,29 @@ fn padded(
     Ok(text)
 }
 
+/// A text, and the float that it begins with and its end. The value is what the digits write.
+const IN_TEXTS: [(&[u8], f64, usize); 8] = [
+    (b"7,  ,  ,  ,  ,  ,  ,  ,  ,  ,  ,", 7.0, 1),
+    (b"122.5;  ;  ;  ;  ;  ;  ;  ;  ;  ;", 122.5, 5),
+    (b"1234567.5e2 to 12345678.5e2 meters", 123456750.0, 11),
+    (b"12345678.25 to 87654321.75 meters", 12345678.25, 11),
+    (b"1_234_567.5, and then 1_234_567.5", 1234567.5, 11),
+    (b"123456789012345.25x, 123456789012", 123456789012345.25, 18),
+    (b"0.0000000000000000000000e1 or 0.0", 0.0, 26),
+    (b"1_.5 is one, since no digit is after", 1.0, 1),
+];
+
+#[test]
+#[tactic(auto, unfolding(lexical_format::proofs::OnLiterals::lexical_on_literals))]
+fn a_float_is_the_same_however_long_its_text_is(rt: HostRuntime) {
+    for (text, value, end) in IN_TEXTS {
+        for len in end..text.len() {
+            let answer = read_float::<f64>(text.get(..len).unwrap_or(b""), PYTHON_LITERAL);
+            assert!(&rt; answer == Ok((value, end)), "{text:?}, {len}: {answer:?}");
+        }
+    }
+}
+
 /// Long numbers; their bits follow from the row's words.
 #[test]
 fn a_number_of_any_length_is_read(rt: HostRuntime) -> Result<(), AllocError> {
