@@ -244,8 +244,7 @@ fn read_few_part(
 }
 
 /// The integer of a mantissa from a position on, where it has 1 to 19 digits, and no separator is
-/// met. Otherwise it answers `None`, and [`read_mantissa`] reads it. It is small, and calls
-/// nothing.
+/// met. Otherwise it answers `None`, and [`read_mantissa`] reads it. It is small.
 #[inline(always)]
 pub fn read_short_whole(text: &[u8], word: u128, at: usize) -> Option<Mantissa>
     requires supported { IsTrue (is_supported word) }
@@ -386,8 +385,8 @@ fn read_power_digits(text: &[u8], word: u128, at: usize) -> Option<(FirstDigits,
     read_some_digits_from(text, word, Component::Exponent, at)
 }
 
-/// [`read_power_digits`] in code of its own: with it in place, what reads the numbers of a form
-/// would be too large to be inlined (the rows `z: JSON`).
+/// [`read_power_digits`], which may be out of line: with it in place, what reads the numbers of a
+/// form would be too large to be inlined (the rows `z: JSON`).
 #[inline]
 fn read_power_digits_apart(text: &[u8], word: u128, at: usize) -> Option<(FirstDigits, usize)>
     requires supported { IsTrue (is_supported word) }
@@ -499,7 +498,7 @@ pub fn read_parts(text: &[u8], word: u128, marks: Marks, start: usize) -> Result
 
 /// [`read_parts`] of a number whose integer has a digit, where integer and fraction have at most 19
 /// digits, an exponent has 1 to 19, and no separator is met. Otherwise it answers `None`. It is
-/// small, and calls nothing.
+/// small.
 #[inline(always)]
 pub fn read_short_parts(text: &[u8], word: u128, marks: Marks, start: usize) -> Option<Parts>
     requires supported { IsTrue (is_supported word) }

@@ -281,7 +281,7 @@ fn decimal_at(text: &[u8], rule: Rule, at: usize) -> Option<u32>
 
 /// Reads the decimal digits of a component that begins at `start`, where there are 1 to 19, and no
 /// separator is met. Otherwise it answers `None`, and [`read_first_digits_from`] reads them. It is
-/// small, and calls nothing.
+/// small.
 #[inline(always)]
 pub fn read_some_digits_from(
     text: &[u8],
@@ -382,9 +382,10 @@ fn few_of(
     Some(read)
 }
 
-/// Fewer bytes are most often a text that is one number: without its sign an `f64` is printed in 24
-/// at most. Where all numbers of a caller have as many digits before the point, a processor guesses
-/// the end of the integer sooner than a word tells it (the rows `x: in [0, 1)`).
+/// Fewer bytes are most often a text that is one number: without its sign the shortest form of an
+/// `f64` with an exponent has 23 at most. Where all numbers of a caller have as many digits before
+/// the point, a processor guesses the end of the integer sooner than a word tells it (the rows
+/// `x: in [0, 1)`).
 const SHORT: usize = 24;
 
 /// Reads the decimal digits of an integer from `start` on, where no separator is met, and the first

@@ -4,7 +4,7 @@ use super::steps::Part::{Fraction, Integer, Whole};
 use super::steps::Step::{Cursor, Drains, Increment, MoveTo, Next, Peek};
 use super::steps::{assert_goes, assert_part, assert_turns};
 use super::{CONSECUTIVE, INTERNAL, LEADING, UNFLAGGED, bytes_of};
-use lexical_digits::skip::Bytes;
+use lexical_digits::skip::{Bytes, Component};
 use lexical_format::{FRACTION_CONSECUTIVE_DIGIT_SEPARATOR, FRACTION_LEADING_DIGIT_SEPARATOR};
 use std::alloc::{AllocError, Global};
 use std::process::Abort;
@@ -30,6 +30,26 @@ fn separators_between(
 fn assert_looks(rt: &impl Abort, bytes: &Bytes, least: u64, most: u64) {
     let looks = bytes.looks();
     assert!(rt; least <= looks && looks <= most, "{looks}");
+}
+
+/// Flags, a text, and the looks that `next` of the integer takes up to its end. After a separator
+/// that was judged, the next one is passed without a decision only if a digit is between them.
+const LOOKS_TO_THE_END: [(u128, &[u8], u64); 4] = [
+    (INTERNAL, b"1_2_3", 10),
+    (INTERNAL, b"1__2_3", 12),
+    (INTERNAL, b"12_.3_4", 16),
+    (INTERNAL | CONSECUTIVE, b"1__2_3_4_5_6_7", 40),
+];
+
+#[test]
+fn a_judged_separator_is_followed_by_as_many_looks(rt: HostRuntime) {
+    for (flags, text, looks) in LOOKS_TO_THE_END {
+        let mut bytes = bytes_of(&rt, text, UNFLAGGED | flags);
+        for _ in text {
+            bytes.next_of(Component::Integer);
+        }
+        assert_looks(&rt, &bytes, looks, looks);
+    }
 }
 
 #[test]

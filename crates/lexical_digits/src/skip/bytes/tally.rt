@@ -184,6 +184,8 @@ impl Tally {
         ensures { let looks = saturating (looks_of self.old) looks in
             Leaves self.old self.new (λ s. with_cursor s place) place looks }
     {
+        // no digit is between the place and the next separator until one is passed
+        self.set_reader(self.reader, self.is_counting);
         self.move_onward(place);
         self.looks_left = self.looks_left.saturating_sub(looks);
     }
