@@ -52,6 +52,46 @@ fn a_judged_separator_is_followed_by_as_many_looks(rt: HostRuntime) {
     }
 }
 
+/// Flags, and the looks of all 729 texts of six bytes out of `1_.` together, each read by `peek`
+/// and `next` of the integer by turns. The contracts say how many a call takes at most; these
+/// numbers are those of the code before the pass for speed.
+const LOOKS_OF_ALL: [(u128, u64); 6] = [
+    (INTERNAL, 17_362),
+    (LEADING, 16_492),
+    (INTERNAL | LEADING, 16_000),
+    (INTERNAL | CONSECUTIVE, 19_218),
+    (LEADING | CONSECUTIVE, 17_069),
+    (INTERNAL | LEADING | CONSECUTIVE, 15_839),
+];
+
+/// The text of six bytes out of `1_.` with a number.
+fn text_of(number: usize) -> [u8; 6] {
+    let mut text = [b'1'; 6];
+    let mut rest = number;
+    for at in 0..6 {
+        text[at] = [b'1', b'_', b'.'][rest % 3];
+        rest /= 3;
+    }
+    text
+}
+
+#[test]
+fn all_short_texts_take_as_many_looks(rt: HostRuntime) {
+    for (flags, looks) in LOOKS_OF_ALL {
+        let mut sum = 0u64;
+        for number in 0..729 {
+            let text = text_of(number);
+            let mut bytes = bytes_of(&rt, &text, UNFLAGGED | flags);
+            for _ in 0..6 {
+                bytes.peek_of(Component::Integer);
+                bytes.next_of(Component::Integer);
+            }
+            sum = sum.wrapping_add(bytes.looks());
+        }
+        assert!(&rt; sum == looks, "{flags}: {sum}");
+    }
+}
+
 #[test]
 fn a_run_that_is_kept_is_scanned_once(rt: HostRuntime) -> Result<(), Fail> {
     let text = separators_between(rt.alloc(), b'1', 1_000, b'.')?;
