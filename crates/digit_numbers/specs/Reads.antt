@@ -4,7 +4,11 @@ use Rattle.std.specs.Prelude.{◌≡◌, ℕ, ◌-◌, ◌^◌, min, ◌<◌, �
 use Rattle.std.specs.Float.{Float, Format}
 use Rattle.std.specs.Float.Numeral.{Parts, nearest_float}
 use Rattle.std.specs.Str.Parse.{digits_value}
+use Rattle.lexical_format.specs.Word.{separator}
 use Rattle.lexical_digits.specs.declared.skip.component.Component.TheVariants.{Integer}
+use Rattle.lexical_digits.specs.Separators.{is_separator}
+use Rattle.digit_literals.specs.Numbers.{has_byte}
+use Rattle.digit_floats.specs.Bytes.{stands}
 use Rattle.digit_floats.specs.Float.{IsDecimal, digits_from, digits_end, fraction_digits, mantissa_end}
 use Rattle.digit_floats.specs.Parts.{integer_of, fraction_of, IsMantissa}
 use Rattle.digit_floats.specs.Hexadecimal.{IsHexadecimal, IsHexMantissa, hex_integer_of, hex_fraction_of}
@@ -22,7 +26,7 @@ use Rattle.digit_languages.specs.declared.literal.LanguageError.TheVariants as l
 use Rattle.digit_languages.specs.declared.literal.LanguageError.{LanguageError}
 use Rattle.digit_languages.specs.declared.literal.Literal.{Literal}
 use Rattle.digit_numbers.specs.declared.number.Sign.{Sign}
-use Rattle.digit_numbers.specs.Forms.{has_hex}
+use Rattle.digit_numbers.specs.Forms.{has_hex, is_always_float}
 use Rattle.digit_numbers.specs.Numbers.{has_sign, is_negative, past_sign, is_float, fraction, exponent, language, parts, digits_stop, Outcome}
 
 -- a mantissa is that of a word at its start, by the byte of the point
@@ -68,6 +72,14 @@ whole_of word text at = record {
   exponent = [];
   len = digits_end word text Integer at - at;
 }
+
+-- an integer is at a position, after any sign: a `0` begins it, and no float is there
+pub record IsAfterZero (f : Form) (text : List ℕ) (at : ℕ) : Type 0 where
+  pub zero : has_byte text at 48 ≡ true
+  pub some : at < length text
+  pub exact : is_always_float f.whole ≡ false
+  pub no_float : is_float f text at ≡ false
+  pub apart : stands (is_separator (separator f.integers.decimal)) text at ≡ false
 
 -- a power is that of the float at a position, or 0 if it has no exponent; and a point counts there,
 -- if one stands

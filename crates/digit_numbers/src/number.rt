@@ -1,7 +1,7 @@
 //! The number at a position.
 
 ghost use Rattle.std.specs.Prelude.{◌≡◌, ◌+◌, ◌-◌, ◌^◌, ◌<◌, ◌≤◌, ◌&&◌, not, if◌then◌else◌, Some, None};
-ghost use Rattle.std.specs.Prelude.{length, true, false, Ok, Err, IfOk, IfSome, MatchOption, MatchResult};
+ghost use Rattle.std.specs.Prelude.{length, true, false, Ok, Err, IfOk, IfErr, IfSome, MatchOption, MatchResult};
 ghost use Rattle.std.specs.Prelude.{ℕ, is_some};
 ghost use Rattle.std.specs.Float.{NotNan};
 ghost use Rattle.lexical_format.specs.Word.{separator};
@@ -14,8 +14,7 @@ ghost use Rattle.digit_numbers.specs.declared.number.Number.TheVariants.{Integer
 ghost use Rattle.digit_numbers.specs.Numbers.{mark_or, past_sign, is_float, special_here, hex_word_here, hex_word_at, hex_value, digits_stop};
 ghost use Rattle.digit_numbers.specs.Numbers.{plain_at, number_of_at, to_end};
 ghost use Rattle.digit_languages.specs.Words.{IsLanguage};
-ghost use Rattle.digit_numbers.specs.Reads.{IsLanguageAt, IsMantissaAt, IsSign, zero_or};
-ghost use Rattle.digit_literals.specs.Numbers.{has_byte as has_zero};
+ghost use Rattle.digit_numbers.specs.Reads.{IsAfterZero, IsLanguageAt, IsMantissaAt, IsSign, zero_or};
 ghost use Rattle.digit_languages.specs.Literals.{literal_at};
 ghost use Rattle.digit_numbers.specs.Values.{integer_in, float_in, with_value, IsNoNan, position, message};
 ghost use Rattle.digit_numbers.specs.Specials.{special_at, name_end};
@@ -436,8 +435,8 @@ fn read_some(text: &[u8], form: &Form, at: usize) -> Option<Mantissa>
     read_short_whole(text, form.integers.decimal, at)
 }
 
-/// The integer that a `0` begins: most have a prefix. In code of its own, and it needs no mantissa.
-#[inline(never)]
+/// The integer that a `0` begins: most have a prefix. It needs no mantissa.
+#[inline(always)]
 #[tactic(auto, using(std::proofs::lemmas::Option::gets))]
 fn read_zero<F: Float>(
     text: &[u8],
@@ -473,26 +472,31 @@ fn read_after_zero<F: Float>(
     text: &[u8],
     start: usize,
     form: &Form,
+    language: &Language,
     sign: Sign,
 ) -> Result<(Number<F>, usize), NumberError>
     requires within { start ≤ length text.now }
     requires form { IsForm form.now }
+    requires language { IsLanguageAt form.now text.now start language.now }
     requires sign { IsSign form.now text.now start sign }
-    requires zero { has_zero text.now sign.end 48 ≡ true }
-    requires some { sign.end < length text.now }
-    requires exact { is_always_float form.now.whole ≡ false }
-    requires no_float { is_float form.now text.now sign.end ≡ false }
+    requires zero { IsAfterZero form.now text.now sign.end }
     ensures is { MatchResult result
         (λ r. plain_at form.now text.now start F.format ≡ Ok (with_value F.value r.0, r.1))
         (λ error. plain_at form.now text.now start F.format ≡ Err error) }
     ensures no_nan { IfOk result (λ r. IsNoNan F.value r.0) }
     ensures end { IfOk result (λ r. (start < r.1) × (r.1 ≤ length text.now)) }
 {
-    let language = language_of(form, sign.is_there);
-    match read_zero::<F>(text, &language, sign) {
+    match read_zero::<F>(text, language, sign) {
         Ok((number, end)) => Ok((number, end)),
         Err(error) => Err(error),
     }
+}
+
+/// What is left to [`read_long`]: an integer that a `0` begins, or any number.
+#[derive(Clone, Copy, PartialEq, Eq)]
+enum Left {
+    AfterZero,
+    Other,
 }
 
 /// The number that few digits are without a point and an exponent, if nothing is rare about them.
@@ -504,41 +508,43 @@ fn short_whole<F: Float>(
     form: &Form,
     sign: Sign,
     whole: Mantissa,
-) -> Option<Result<(Number<F>, usize), NumberError>>
-    requires within { start ≤ length text.now }
+) -> Result<(Number<F>, usize), Left>
     requires form { IsForm form.now }
     requires sign { IsSign form.now text.now start sign }
     requires is { IsShort form.now.integers.decimal text.now whole }
     requires start { whole.start ≡ sign.end }
     requires some { 0 < whole.digits }
+    requires apart { let separates = is_separator (separator form.now.integers.decimal) in
+        stands separates text.now sign.end ≡ false }
     requires point { stands (is_point form.now.marks.point) text.now whole.whole_end ≡ false }
     requires mark { stands (is_mark (mark_or form.now text.now form.now.other_mark whole.whole_end))
         text.now whole.whole_end ≡ false }
-    ensures is { IfSome result (λ o. MatchResult o
-        (λ r. plain_at form.now text.now start F.format ≡ Ok (with_value F.value r.0, r.1))
-        (λ error. plain_at form.now text.now start F.format ≡ Err error)) }
-    ensures no_nan { IfSome result (λ o. IfOk o (λ r. IsNoNan F.value r.0)) }
-    ensures end { IfSome result (λ o. IfOk o (λ r. (start < r.1) × (r.1 ≤ length text.now))) }
+    ensures is { IfOk result (λ r.
+        plain_at form.now text.now start F.format ≡ Ok (with_value F.value r.0, r.1)) }
+    ensures no_nan { IfOk result (λ r. IsNoNan F.value r.0) }
+    ensures end { IfOk result (λ r. (start < r.1) × (r.1 ≤ length text.now)) }
+    ensures zero { IfErr result (λ left.
+        left ≡ Left.AfterZero → IsAfterZero form.now text.now sign.end) }
 {
     if form.whole.is_float() {
         if has_short_zeros(text, form, whole) {
-            return None;
+            return Err(Left::Other);
         }
-        let x = round_short_whole::<F>(text, form.integers.decimal, sign.is_minus, whole)?;
-        return Some(Ok((Number::Float(x), whole.whole_end)));
+        return match round_short_whole::<F>(text, form.integers.decimal, sign.is_minus, whole) {
+            Some(x) => Ok((Number::Float(x), whole.whole_end)),
+            None => Err(Left::Other),
+        };
     }
-    if let Some(read) = read_few(text, language_of(form, sign.is_there), whole) {
-        return Some(Ok((integer_of(sign, read), read.end)));
+    match read_few(text, language_of(form, sign.is_there), whole) {
+        Some(read) => Ok((integer_of(sign, read), read.end)),
+        None if is_zero(text, sign.end) => Err(Left::AfterZero),
+        None => Err(Left::Other),
     }
-    if !is_zero(text, sign.end) {
-        return None;
-    }
-    Some(read_after_zero::<F>(text, start, form, sign))
 }
 
 /// The integer or decimal float that begins at a start, and the position after it, if it has few
 /// digits, and nothing is rare about it. It is small, so that it is inlined where it is called;
-/// what it leaves is read again by [`read_long`].
+/// what it leaves is read by [`read_long`].
 #[inline(always)]
 #[tactic(auto, unfolding(crate::specs::Numbers::plain_at))]
 fn read_short<F: Float>(
@@ -546,24 +552,29 @@ fn read_short<F: Float>(
     start: usize,
     form: &Form,
     sign: Sign,
-) -> Option<Result<(Number<F>, usize), NumberError>>
+) -> Result<(Number<F>, usize), Left>
     requires within { start ≤ length text.now }
     requires form { IsForm form.now }
     requires sign { IsSign form.now text.now start sign }
-    ensures is { IfSome result (λ o. MatchResult o
-        (λ r. plain_at form.now text.now start F.format ≡ Ok (with_value F.value r.0, r.1))
-        (λ error. plain_at form.now text.now start F.format ≡ Err error)) }
-    ensures no_nan { IfSome result (λ o. IfOk o (λ r. IsNoNan F.value r.0)) }
-    ensures end { IfSome result (λ o. IfOk o (λ r. (start < r.1) × (r.1 ≤ length text.now))) }
-    ensures no_separator { IfSome result (λ _.
+    ensures is { IfOk result (λ r.
+        plain_at form.now text.now start F.format ≡ Ok (with_value F.value r.0, r.1)) }
+    ensures no_nan { IfOk result (λ r. IsNoNan F.value r.0) }
+    ensures end { IfOk result (λ r. (start < r.1) × (r.1 ≤ length text.now)) }
+    ensures no_separator { IfOk result (λ _.
         stands (is_separator (separator form.now.integers.decimal)) text.now sign.end ≡ false) }
+    ensures zero { IfErr result (λ left.
+        left ≡ Left.AfterZero → IsAfterZero form.now text.now sign.end) }
 {
-    let whole = read_some(text, form, sign.end)?;
+    let Some(whole) = read_some(text, form, sign.end) else {
+        return Err(Left::Other);
+    };
     let is_pointed = has_byte(text, whole.whole_end, form.marks.point);
     let mark = mark_at(text, form, whole.whole_end);
     if is_pointed || has_mark(text, whole.whole_end, mark) {
-        let (x, end) = read_short_float::<F>(text, form, sign.is_minus, whole, is_pointed)?;
-        return Some(Ok((Number::Float(x), end)));
+        return match read_short_float::<F>(text, form, sign.is_minus, whole, is_pointed) {
+            Some((x, end)) => Ok((Number::Float(x), end)),
+            None => Err(Left::Other),
+        };
     }
     short_whole::<F>(text, start, form, sign, whole)
 }
@@ -578,18 +589,24 @@ fn read_by<F: Float>(
     form: &Form,
     language: &Language,
     sign: Sign,
+    left: Left,
 ) -> Result<(Number<F>, usize), NumberError>
     requires within { start ≤ length text.now }
     requires form { IsForm form.now }
     requires language { IsLanguageAt form.now text.now start language.now }
     requires sign { IsSign form.now text.now start sign }
     requires no_special { special_here form.now text.now start ≡ None }
+    requires no_hex { left ≡ Left.AfterZero → hex_word_here form.now text.now start ≡ None }
+    requires zero { left ≡ Left.AfterZero → IsAfterZero form.now text.now sign.end }
     ensures is { MatchResult result
         (λ r. number_of_at form.now text.now start F.format ≡ Ok (with_value F.value r.0, r.1))
         (λ error. number_of_at form.now text.now start F.format ≡ Err error) }
     ensures no_nan { IfOk result (λ r. IsNoNan F.value r.0) }
     ensures end { IfOk result (λ r. (start < r.1) × (r.1 ≤ length text.now)) }
 {
+    if left == Left::AfterZero {
+        return read_after_zero::<F>(text, start, form, language, sign);
+    }
     if let Some((x, end)) = hex_of::<F>(text, form, language, sign.is_minus, sign.end) {
         return Ok((Number::Float(x), end));
     }
@@ -605,10 +622,14 @@ fn read_long<F: Float>(
     text: &[u8],
     start: usize,
     form: &Form,
+    left: Left,
 ) -> Result<(Number<F>, usize), NumberError>
     requires within { start ≤ length text.now }
     requires form { IsForm form.now }
     requires no_special { special_here form.now text.now start ≡ None }
+    requires no_hex { left ≡ Left.AfterZero → hex_word_here form.now text.now start ≡ None }
+    requires zero { left ≡ Left.AfterZero
+        → IsAfterZero form.now text.now (past_sign form.now text.now start) }
     ensures is { MatchResult result
         (λ r. number_of_at form.now text.now start F.format ≡ Ok (with_value F.value r.0, r.1))
         (λ error. number_of_at form.now text.now start F.format ≡ Err error) }
@@ -618,9 +639,9 @@ fn read_long<F: Float>(
     let sign = read_sign(text, form, start);
     if sign.is_there && !form.signed_prefix {
         let language = unprefixed(form.integers);
-        return read_by::<F>(text, start, form, &language, sign);
+        return read_by::<F>(text, start, form, &language, sign, left);
     }
-    read_by::<F>(text, start, form, &form.integers, sign)
+    read_by::<F>(text, start, form, &form.integers, sign, left)
 }
 
 /// [`read_long`]. What its call takes and answers in memory belongs to this function, so it is set
@@ -630,10 +651,14 @@ fn read_rest<F: Float>(
     text: &[u8],
     start: usize,
     form: &Form,
+    left: Left,
 ) -> Result<(Number<F>, usize), NumberError>
     requires within { start ≤ length text.now }
     requires form { IsForm form.now }
     requires no_special { special_here form.now text.now start ≡ None }
+    requires no_hex { left ≡ Left.AfterZero → hex_word_here form.now text.now start ≡ None }
+    requires zero { left ≡ Left.AfterZero
+        → IsAfterZero form.now text.now (past_sign form.now text.now start) }
     ensures is { MatchResult result
         (λ r. number_of_at form.now text.now start F.format ≡ Ok (with_value F.value r.0, r.1))
         (λ error. number_of_at form.now text.now start F.format ≡ Err error) }
@@ -641,7 +666,7 @@ fn read_rest<F: Float>(
     ensures end { IfOk result (λ r. (start < r.1) × (r.1 ≤ length text.now)) }
 {
     let apart = *form;
-    match read_long::<F>(text, start, &apart) {
+    match read_long::<F>(text, start, &apart, left) {
         Ok((number, end)) => Ok((number, end)),
         Err(error) => Err(error),
     }
@@ -681,12 +706,15 @@ pub fn read_number_of<F: Float>(
         let x = special.value.float::<F>(sign.is_minus);
         return Ok((Number::Float(x), end));
     }
-    if has_no_hex(text, start, &form, sign) {
-        if let Some(read) = read_short::<F>(text, start, &form, sign) {
-            return read;
+    let left = if has_no_hex(text, start, &form, sign) {
+        match read_short::<F>(text, start, &form, sign) {
+            Ok((number, end)) => return Ok((number, end)),
+            Err(left) => left,
         }
-    }
-    read_rest::<F>(text, start, &form)
+    } else {
+        Left::Other
+    };
+    read_rest::<F>(text, start, &form, left)
 }
 
 /// The number of a form that a text is, as by [`read_number_of`].
