@@ -152,7 +152,12 @@ static YAML_ENDS: [(&[u8], Value, usize); 20] = [
 ];
 
 /// The same of TOML.
-static TOML_ENDS: [(&[u8], Value, usize); 1] = [(b"inf_", Real(INFINITE), 3)];
+static TOML_ENDS: [(&[u8], Value, usize); 4] = [
+    (b"inf_", Real(INFINITE), 3),
+    (b"-0x1F", Int(true, 0), 2),
+    (b"-0x1F, and more than 32 bytes of text", Int(true, 0), 2),
+    (b"0x1F, and more than 32 bytes of text", Int(false, 31), 4),
+];
 
 /// A literal of C++, and its value by g++.
 static OF_CXX: [(&[u8], Value); 26] = [
@@ -378,6 +383,30 @@ fn assert_values(rt: &impl Abort, form: Form, rows: &[(&[u8], Value)]) {
     for (text, value) in rows {
         let read = value_of(read_number_of::<f64>(text, 0, form));
         assert!(rt; read == (*value, text.len()), "{text:?}: {read:?}");
+    }
+}
+
+/// What a text is by a form.
+fn parse_by(rt: &impl Abort, form: Form, text: &[u8]) -> Result<Number<f64>, NumberError> {
+    assert!(rt; is_form(form));
+    parse_number_of::<f64>(text, form)
+}
+
+/// Texts of Rust that are a number: 30 and 31 bits after their prefix, and a text of 33 bytes with
+/// separators.
+static LONG_RUST: [(&[u8], Value); 3] = [
+    (b"0b111111111111111111111111111111", Int(false, 1073741823)),
+    (b"0b1111111111111111111111111111111", Int(false, 2147483647)),
+    (b"0x0000_0000_0000_0000_0000_0000_FF", Int(false, 255)),
+];
+
+#[test]
+fn a_prefix_is_parsed_in_a_long_text(rt: HostRuntime) {
+    assert_values(&rt, RUST, &LONG_RUST);
+    for (text, value) in LONG_RUST {
+        let read = parse_by(&rt, RUST, text);
+        let (parsed, _) = value_of(read.map(|number| (number, text.len())));
+        assert!(&rt; parsed == value, "{text:?}: {parsed:?}");
     }
 }
 
@@ -666,6 +695,35 @@ fn marks_are_no_other_part_of_a_number(rt: HostRuntime) {
     };
     assert!(&rt; is_form(Form { marks, ..JSON }));
     assert!(&rt; !is_form(Form { marks, ..RUST }));
+}
+
+/// The number of that many digits `1`.
+fn ones(digits: usize) -> u128 {
+    let mut value = 0u128;
+    for _ in 0..digits {
+        value = value.wrapping_mul(10).wrapping_add(1);
+    }
+    value
+}
+
+#[test]
+fn an_integer_is_parsed_alike_from_short_and_long_texts(rt: HostRuntime) {
+    for len in 18..39 {
+        let mut text = [b'1'; 40];
+        let number = parse_by(&rt, JSON, &text[..len]);
+        let is = Number::Integer {
+            negative: false,
+            magnitude: ones(len),
+            word: JSON.integers.decimal,
+        };
+        assert!(&rt; number == Ok(is), "{len}: {number:?}");
+        text[len - 1] = b'x';
+        let fault = parse_by(&rt, JSON, text.get(..len).unwrap_or(b""));
+        assert!(&rt;
+            fault == Err(NumberError::Invalid(len - 1)),
+            "{len}: {fault:?}"
+        );
+    }
 }
 
 #[test]

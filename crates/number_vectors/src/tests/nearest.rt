@@ -1,6 +1,6 @@
 //! The nearest floats of texts, by `PYTHON_LITERAL`: one `_` between two digits of each component.
 
-use digit_floats::{FloatError, parse_float, parse_float_from, read_float};
+use digit_floats::{FloatError, parse_float, parse_float_from, read_float, read_short_whole};
 use lexical_format::words::{JAVA_LITERAL, PYTHON_LITERAL};
 use lexical_format::{
     FRACTION_LEADING_DIGIT_SEPARATOR, INTEGER_TRAILING_DIGIT_SEPARATOR, NumberFormat, STANDARD,
@@ -257,16 +257,54 @@ fn padded(
     Ok(text)
 }
 
+/// `1.` and zeros.
+const ONE: [u8; 40] = *b"1.00000000000000000000000000000000000000";
+
+#[test]
+#[tactic(auto, unfolding(lexical_format::proofs::OnLiterals::lexical_on_literals))]
+fn a_float_is_parsed_alike_from_short_and_long_texts(rt: HostRuntime) {
+    for len in 28..37 {
+        let mut text = ONE;
+        let one = parse_float::<f64>(&text[..len], PYTHON_LITERAL);
+        assert!(&rt; one == Ok(1.0), "{len}: {one:?}");
+        let last = parse_float_from::<f64>(&text[..len], PYTHON_LITERAL, len - 2);
+        assert!(&rt; last == Ok(0.0), "{len}: {last:?}");
+        text[len - 1] = b'x';
+        let text = text.get(..len).unwrap_or(b"");
+        let fault = parse_float::<f64>(text, PYTHON_LITERAL);
+        assert!(&rt;
+            fault == Err(FloatError::Invalid(len - 1)),
+            "{len}: {fault:?}"
+        );
+    }
+}
+
 /// A text, and the float that it begins with and its end. The value is what the digits write.
 const IN_TEXTS: [(&[u8], f64, usize); 8] = [
-    (b"7,  ,  ,  ,  ,  ,  ,  ,  ,  ,  ,", 7.0, 1),
-    (b"122.5;  ;  ;  ;  ;  ;  ;  ;  ;  ;", 122.5, 5),
-    (b"1234567.5e2 to 12345678.5e2 meters", 123456750.0, 11),
-    (b"12345678.25 to 87654321.75 meters", 12345678.25, 11),
-    (b"1_234_567.5, and then 1_234_567.5", 1234567.5, 11),
-    (b"123456789012345.25x, 123456789012", 123456789012345.25, 18),
-    (b"0.0000000000000000000000e1 or 0.0", 0.0, 26),
-    (b"1_.5 is one, since no digit is after", 1.0, 1),
+    (b"7,  ,  ,  ,  ,  ,  ,  ,  ,  ,  ,  ,  ,  ,  ,", 7.0, 1),
+    (b"122.5;  ;  ;  ;  ;  ;  ;  ;  ;  ;  ;  ;  ;  ;", 122.5, 5),
+    (
+        b"1234567.5e2 to 12345678.5e2 meters, and no more",
+        123456750.0,
+        11,
+    ),
+    (
+        b"12345678.25 to 87654321.75 meters, and no more",
+        12345678.25,
+        11,
+    ),
+    (
+        b"1_234_567.5, and then 1_234_567.5 once more",
+        1234567.5,
+        11,
+    ),
+    (
+        b"123456789012345.25x, 123456789012, and more",
+        123456789012345.25,
+        18,
+    ),
+    (b"0.0000000000000000000000e1 or 0.0, or 0.00", 0.0, 26),
+    (b"1_.5 is one, since no digit is after the line", 1.0, 1),
 ];
 
 #[test]
@@ -276,6 +314,45 @@ fn a_float_is_the_same_however_long_its_text_is(rt: HostRuntime) {
         for len in end..text.len() {
             let answer = read_float::<f64>(text.get(..len).unwrap_or(b""), PYTHON_LITERAL);
             assert!(&rt; answer == Ok((value, end)), "{text:?}, {len}: {answer:?}");
+        }
+    }
+}
+
+/// The value and the end of the digits from a position on, if there are 1 to 19 and no `_` follows:
+/// one by one.
+fn short_digits(text: &[u8], start: usize) -> Option<(u64, usize)> {
+    let mut value = 0u64;
+    let mut end = start;
+    for at in start..text.len() {
+        if !text[at].is_ascii_digit() {
+            break;
+        }
+        value = value
+            .wrapping_mul(10)
+            .wrapping_add(u64::from(text[at] & 15));
+        end = at + 1;
+    }
+    let is_short = start < end && end - start <= 19 && text.get(end) != Some(&b'_');
+    if is_short { Some((value, end)) } else { None }
+}
+
+#[test]
+#[tactic(auto, unfolding(lexical_format::proofs::OnLiterals::lexical_on_literals))]
+fn a_short_integer_is_the_same_however_long_its_text_is(rt: HostRuntime) {
+    for start in 0..40 {
+        for digits in 0..22 {
+            let mut text = [b' '; 80];
+            for at in start..start + digits {
+                text[at] = b'1' + (at % 9) as u8;
+            }
+            text[start + digits] = if start % 3 == 0 { b'_' } else { b'.' };
+            for more in [0, 1, 2, 8, 16] {
+                let text = &text[..start + digits + more];
+                let whole = read_short_whole(text, PYTHON_LITERAL, start);
+                let read = whole.map(|whole| (whole.value, whole.whole_end));
+                let is = short_digits(text, start);
+                assert!(&rt; read == is, "{start}, {digits}, {more}: {read:?}");
+            }
         }
     }
 }
