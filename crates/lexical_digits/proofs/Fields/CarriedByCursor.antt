@@ -46,7 +46,7 @@ abbrev Carries : Inside → Tally → Option Run → Type 0
 Carries b u run =
     IsState (state_of b.slc.now b.format u)
     × ((b.has_no_flags ≡ has_no_flags b.format)
-    × (IsReading b.format u.reader u.is_counting b.shortcuts
+    × (IsReading b.format u.reader u.is_counting b.rule b.shortcuts
     × (Remembers (separator b.format) b.slc.now run × Unit {0})))
 
 -- a step more from a tally that carries them
@@ -80,9 +80,9 @@ remembered b u run h r = (h.0, (h.1.0, (h.1.1.0, (r, tt))))
 pub reading_of : (k q : Component) (word : ℕ) (t u : Bool) (r : Rule) (s : Shortcuts)
     → r ≡ rule_of word k → t ≡ counts k word → AreShortcuts r s
     → (s.inner_separator < 256 → IsInner r t s.inner_separator) → q ≡ k → u ≡ t
-    → IsReading word q u s
+    → IsReading word q u r s
 reading_of k q word t u r s same counting direct inner e f =
-    rw (e, f) (record { counting = counting; direct = rw same at direct; inner = rw same at inner })
+    rw (e, f) (record { counting = counting; rule = same; direct = direct; inner = inner })
 
 -- ---- where bytes were passed since `counted_from`, something was counted
 

@@ -2,7 +2,7 @@
 use Rattle.std.proofs.Common.{◌||◌, not, ltb, ◌≡◌, ℕ, ◌+◌, ◌<◌, ◌≤◌, Bool, true, false, Some, List, length, refl, sym, ap, ◌∙◌, arith, slice_get, Bor}
 use Rattle.lexical_digits.specs.Laws.Terms.{separator, Component, Rule, Inside, Tally, class, is_digit, is_separator, right_side, place, is_kept, holds_separator, IsSupported, State, with_cursor, rule, rule_of, own, counts, saturating, place_of, separator_at, Held, SettlesOf, NextsOf, passed_by, state_of, is_direct, IsInner, IsInnerAt, IsInnerDigit, FollowsDigit, false≢true, and_right, or_from, not_from_true, lt-ltb, nat_tests, slice_get_within}
 use Rattle.lexical_digits.proofs.Rule.Supported.{supported_rule}
-use Rattle.lexical_digits.proofs.Fields.DirectBytes.{counts_by, direct_by}
+use Rattle.lexical_digits.proofs.Fields.DirectBytes.{rule_by, counts_by, direct_by}
 use Rattle.lexical_digits.proofs.Fields.CarriedByCursor.{counted_since}
 use Rattle.lexical_digits.proofs.Looks.Owed.{separator_of, costs_unscanned}
 use Rattle.lexical_digits.proofs.Looks.WhereSeparatorsStand.{holds_separator_at}
@@ -65,7 +65,7 @@ module _ (b : Inside) (k : Component) (reader : b.tally.reader ≡ k) (byte : �
     (fits : byte < 256) (at : Some byte ≡ slice_get b.slc.now b.tally.index) where
   inner_by : IsInnerAt b.tally b.shortcuts byte
       → IsInner (rule_of b.format k) b.tally.is_counting byte
-  inner_by is = rw (is.inner, reader) at
+  inner_by is = rw (is.inner, rule_by b k reader) at
       (b.reading.inner (omega (arith, is.inner, fits)))
 
   pub follows_by : IsInnerAt b.tally b.shortcuts byte

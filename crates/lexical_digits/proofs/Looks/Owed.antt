@@ -1,7 +1,7 @@
 -- What a read owes: a run that it scans lies behind what was scanned before.
 use Rattle.std.proofs.Common.{◌&&◌, ap, ◌≡◌, ℕ, ◌+◌, ◌-◌, ◌^◌, ◌≤◌, min, Bool, true, false, not, ltb, Option, Some, None, List, length, refl, sym, ◌∙◌, arith, pos, ◌≤ℤ◌, ◌+ℤ◌, ◌*◌, is_some}
 use Rattle.std.proofs.Math.Bool.{and-not_self}
-use Rattle.lexical_digits.specs.Laws.Terms.{Component, Rule, separator, State, rule, rule_of, own, saturating, byte_at_place, settled, separator_at, IsRunOrNone, run_holds, run_length, scans, Finds, one_if, far, owed_by, Held, owed, Costs, NoLooks, Remembers, has_scanned, needs_run, FollowsDigit, SettlesOf, LooksBetween, not-true, false≢true, and_left, and_parts, nat_tests, ints}
+use Rattle.lexical_digits.specs.Laws.Terms.{Component, separator, State, rule, rule_of, own, saturating, byte_at_place, settled, separator_at, IsRunOrNone, run_holds, run_length, scans, Finds, one_if, far, owed_by, Held, owed, Costs, NoLooks, Remembers, has_scanned, needs_run, FollowsDigit, SettlesOf, LooksBetween, not-true, false≢true, and_left, and_parts, nat_tests, ints}
 use Rattle.lexical_digits.specs.declared.skip.decision.Run.{Run}
 use Rattle.lexical_digits.specs.Laws.Table.{place_from}
 
@@ -141,22 +141,3 @@ pub costs_then : (k : Component) (a m b : Held) → Costs k a m → NoLooks m b 
 costs_then k a m b costs no_looks owes = grind (arith, ints, costs, no_looks)
 
 pub ruleset owed_by_moves = (owed_onward, owed_back)
-
--- a decision that looks for no run
-pub finds_lone : (rule : Rule) (buffer : List ℕ) (at : ℕ) (run : Option Run) (most looks : ℕ)
-    → rule.consecutive ≡ false → IsRunOrNone rule.separator buffer run → looks ≤ most
-    → (separator_at rule.separator buffer at ≡ false → looks ≤ 1)
-    → Finds most rule buffer at run run looks
-finds_lone rule buffer at run most looks single is_run few other = record {
-  is_run = is_run;
-  unscanned_run = λ _. refl;
-  unscanned_looks = λ _. few;
-  scanned_run = λ e. absurd (false≢true (rw single at e));
-  scanned_looks = λ e. absurd (false≢true (rw single at e));
-  without_separator = other;
-}
-
-pub run_or_none : (separator : ℕ) (buffer : List ℕ) (run : Option Run)
-    → Remembers separator buffer run → IsRunOrNone separator buffer run
-run_or_none separator buffer None remembers = tt
-run_or_none separator buffer (Some run) remembers = remembers run refl

@@ -3,6 +3,7 @@ use Rattle.std.specs.Prelude.{◌≡◌, ℕ, ◌+◌, ◌<◌, Bool, true, ◌&
 use Rattle.lexical_format.specs.Word.{separator}
 use Rattle.lexical_digits.specs.declared.skip.component.Component.{Component}
 use Rattle.lexical_digits.specs.declared.skip.component.Component.TheVariants.{Integer, Fraction, Exponent, Special}
+use Rattle.lexical_digits.specs.declared.skip.rule.Rule.{Rule}
 use Rattle.lexical_digits.specs.declared.skip.decision.Run.{Run}
 use Rattle.lexical_digits.specs.declared.skip.bytes.tally.Tally.{Tally}
 use Rattle.lexical_digits.specs.declared.skip.rule.Shortcuts.{Shortcuts}
@@ -12,11 +13,12 @@ use Rattle.lexical_digits.specs.Fields.Tally.{state_of, looks_of}
 use Rattle.lexical_digits.specs.Fields.Shortcuts.{is_direct_by, AreShortcuts, IsInner}
 
 -- what is decoded of the word for the component that reads
-pub record IsReading (word : ℕ) (reader : Component) (is_counting : Bool) (s : Shortcuts)
-    : Type 0 where
+pub record IsReading (word : ℕ) (reader : Component) (is_counting : Bool) (r : Rule)
+    (s : Shortcuts) : Type 0 where
   pub counting : is_counting ≡ counts reader word
-  pub direct : AreShortcuts (rule_of word reader) s
-  pub inner : s.inner_separator < 256 → IsInner (rule_of word reader) is_counting s.inner_separator
+  pub rule : r ≡ rule_of word reader
+  pub direct : AreShortcuts r s
+  pub inner : s.inner_separator < 256 → IsInner r is_counting s.inner_separator
 
 -- no component has a flag
 abbrev pub has_no_flags : ℕ → Bool

@@ -18,7 +18,6 @@ use super::component::Component;
 use super::decision::Run;
 use super::rule::{Rule, Shortcuts};
 use crate::iterator::Iter;
-use lexical_format::NumberFormat;
 use std::alloc::AllocError;
 use std::convert::Infallible;
 use std::marker::Model;
@@ -33,6 +32,8 @@ pub struct Bytes<'a> {
     format: u128,
     /// Whether no component of the word has a flag.
     has_no_flags: bool,
+    /// The rule of the component that reads.
+    rule: Rule,
     /// The direct bytes of the component that reads.
     shortcuts: Shortcuts,
     /// The cursor, the counts, the looks, and the component that reads.
@@ -43,8 +44,8 @@ pub struct Bytes<'a> {
     ghost holds: { IsState (state_of slc.now format tally) },
     // `has_no_flags` is of the word.
     ghost flags: { has_no_flags ≡ has_no_flags_of format },
-    // `shortcuts` and `is_counting` are those of the component that reads.
-    ghost reading: { IsReading format tally.reader tally.is_counting shortcuts },
+    // `rule`, `shortcuts` and `is_counting` are those of the component that reads.
+    ghost reading: { IsReading format tally.reader tally.is_counting rule shortcuts },
     // `run` is a maximal run of this buffer, or none.
     ghost remembers: { Remembers (separator format) slc.now run },
 }
@@ -98,6 +99,7 @@ impl<'a> Bytes<'a> {
             slc,
             format,
             has_no_flags: has_no_flags(format),
+            rule,
             shortcuts: Shortcuts::of(rule, is_counting),
             tally: Tally::new(0, Component::Integer, is_counting),
             run: None,
@@ -111,22 +113,12 @@ impl<'a> Bytes<'a> {
         self.tally.looks()
     }
 
-    /// The separator of the word; zero means that no byte is one.
-    #[inline(always)]
-    fn separator(&self) -> u8
-        ensures { result ≡ separator self.now.state.word }
-    {
-        NumberFormat::new(self.format).digit_separator()
-    }
-
     /// Whether a byte is the separator. A separator of zero means that no byte is one.
     #[inline(always)]
-    #[tactic(auto, unfolding(crate::specs::Separators::is_separator))]
     pub(crate) fn is_separator(&self, value: u8) -> bool
         ensures { result ≡ is_separator (separator self.now.state.word) value }
     {
-        let separator = self.separator();
-        separator != 0 && value == separator
+        self.rule.is_separator(value)
     }
 
     /// The rule of a component by the word.
@@ -295,6 +287,7 @@ impl<'a> Bytes<'a> {
             slc: &self.slc[..end],
             format: self.format,
             has_no_flags: self.has_no_flags,
+            rule: self.rule,
             shortcuts: self.shortcuts,
             tally: Tally::new(self.tally.index, self.tally.reader, self.tally.is_counting),
             run: None, // a view remembers no run
@@ -316,6 +309,7 @@ impl<'a> Clone for Bytes<'a> {
             slc: self.slc,
             format: self.format,
             has_no_flags: self.has_no_flags,
+            rule: self.rule,
             shortcuts: self.shortcuts,
             tally: self.tally,
             run: self.run,
@@ -386,7 +380,7 @@ impl<'a> Iter<'a> for Bytes<'a> {
 
     #[inline(always)]
     fn is_contiguous(&self) -> bool {
-        self.separator() == 0
+        self.rule.separator == 0
     }
 
     #[inline(always)]

@@ -95,38 +95,6 @@ pub fn decide<S: ByteSource>(
     }
 }
 
-/// The place that [`decide`] answers under a rule that judges each separator by itself. It takes
-/// and answers no run, which is for speed.
-#[inline(always)]
-#[tactic(auto, using(crate::proofs::Looks::Spans::judged))]
-pub(super) fn decide_lone<S: ByteSource>(src: &mut S, rule: Rule, at: usize, counted: bool) -> usize
-    requires supported { IsSupported rule }
-    requires within { at ≤ length (S.content src.old) }
-    requires lone { rule.consecutive ≡ false }
-    ensures place { (count : ℕ) → counted ≡ nat_lt 0 count
-        → result ≡ place rule (S.content src.old) at count }
-    ensures content { S.content src.new ≡ S.content src.old }
-    ensures looks { LooksBetween (S.looks src.old) 0 (2 + one_if (not counted)) (S.looks src.new) }
-    ensures other_looks { separator_at rule.separator (S.content src.old) at ≡ false
-        → LooksBetween (S.looks src.old) 0 1 (S.looks src.new) }
-{
-    let length = src.length();
-    if at == length {
-        return at;
-    }
-    let byte = src.at(at);
-    if !rule.is_separator(byte) {
-        return at;
-    }
-    let span = Run {
-        from: at,
-        to: at + 1,
-    };
-    let left = left_of(src, rule, at, counted, span);
-    let right = class_at(src, rule, span.to);
-    if rule.drops(left, right) { span.to } else { at }
-}
-
 /// The run to remember after a separator was judged by a span.
 #[inline(always)]
 fn run_after(rule: Rule, span: Run, run: Option<Run>) -> Option<Run>

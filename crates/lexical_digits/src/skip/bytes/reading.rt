@@ -17,18 +17,16 @@
 //! The decision counts the looks that it takes, by its source. It has the only loop over bytes.
 //! At the end of the buffer a read answers `None` and counts nothing.
 
-ghost use Rattle.std.specs.Prelude.{◌≡◌, ℕ, ◌+◌, ◌<◌, ◌≤◌, length, Some, option_copied, nat_lt, not, true, false, IfSome, slice_get};
-ghost use Rattle.std.specs.Prelude.{IsTrue};
-ghost use Rattle.lexical_format.specs.Word.{is_supported};
-ghost use Rattle.lexical_digits.specs.Separators.{place};
+ghost use Rattle.std.specs.Prelude.{◌≡◌, ℕ, ◌+◌, ◌<◌, ◌≤◌, length, Some, option_copied, nat_lt, not, true, IfSome, slice_get};
+ghost use Rattle.lexical_digits.specs.Separators.{place, IsSupported};
 ghost use Rattle.lexical_digits.specs.State.{rule_of};
-ghost use Rattle.lexical_digits.specs.Looks.{separator_at, IsRunOrNone, Finds, PeeksOf, NextsOf, SettlesOf, LooksHere, NoLooks, one_if};
+ghost use Rattle.lexical_digits.specs.Looks.{IsRunOrNone, Finds, PeeksOf, NextsOf, SettlesOf, LooksHere, NoLooks, one_if};
 ghost use Rattle.lexical_digits.specs.Fields.Bytes.{IsInnerAt, IsInnerDigit, FollowsDigit, has_no_flags};
 
 use super::Bytes;
 use super::tally::Tally;
 use crate::skip::component::Component;
-use crate::skip::decision::{ByteSource, Run, SliceSource, decide, decide_lone};
+use crate::skip::decision::{ByteSource, Run, SliceSource, decide};
 use crate::skip::rule::{Rule, Shortcuts};
 
 /// The place that a decision found, the run that it leaves, and the looks that it took.
@@ -43,23 +41,15 @@ struct Found {
 /// of the place is left to the caller.
 #[cold]
 #[inline(never)]
-fn find(
-    slc: &[u8],
-    word: u128,
-    component: Component,
-    at: usize,
-    counted: bool,
-    run: Option<Run>,
-) -> Found
-    requires supported { IsTrue (is_supported word) }
+fn find(slc: &[u8], rule: Rule, at: usize, counted: bool, run: Option<Run>) -> Found
+    requires supported { IsSupported rule }
     requires within { at ≤ length slc.now }
-    requires remembered { IsRunOrNone (rule_of word component).separator slc.now run }
+    requires remembered { IsRunOrNone rule.separator slc.now run }
     ensures place { (count : ℕ) → counted ≡ nat_lt 0 count
-        → result.place ≡ place (rule_of word component) slc.now at count }
+        → result.place ≡ place rule slc.now at count }
     ensures finds { let most = 2 + one_if (not counted) in
-        Finds most (rule_of word component) slc.now at run result.run result.looks }
+        Finds most rule slc.now at run result.run result.looks }
 {
-    let rule = Rule::of(word, component);
     let mut src = SliceSource::new(slc);
     let sight = decide(&mut src, rule, at, counted, run);
     Found {
@@ -67,34 +57,6 @@ fn find(
         run: sight.run,
         looks: src.looks,
     }
-}
-
-/// The place that a decision found where no run is looked for, and the looks that it took: two
-/// words, which a call answers in registers.
-#[derive(Clone, Copy)]
-struct Judged {
-    place: usize,
-    looks: u64,
-}
-
-/// The same as [`find`] under a rule that judges each separator by itself. It takes and answers no
-/// run, which is for speed.
-#[cold]
-#[inline(never)]
-fn find_lone(slc: &[u8], word: u128, component: Component, at: usize, counted: bool) -> Judged
-    requires supported { IsTrue (is_supported word) }
-    requires within { at ≤ length slc.now }
-    requires lone { (rule_of word component).consecutive ≡ false }
-    ensures place { (count : ℕ) → counted ≡ nat_lt 0 count
-        → result.place ≡ place (rule_of word component) slc.now at count }
-    ensures looks { result.looks ≤ 2 + one_if (not counted) }
-    ensures other_looks { separator_at (rule_of word component).separator slc.now at ≡ false
-        → result.looks ≤ 1 }
-{
-    let mut src = SliceSource::new(slc);
-    let place = decide_lone(&mut src, Rule::of(word, component), at, counted);
-    let looks = src.looks;
-    Judged { place, looks }
 }
 
 /// The byte at a position, if there is one: `get`, with an answer of one fact.
@@ -160,12 +122,12 @@ impl<'a> Bytes<'a> {
         requires { Some byte ≡ slice_get self.old.state.buffer self.old.state.cursor }
         ensures { SettlesOf component self.old self.new }
     {
-        if byte != self.separator() {
+        if byte != self.rule.separator {
             return;
         }
         if !self.tally.is_reader(component) {
-            self.switch_reader(component);
-            self.settle_decided(component, false);
+            let rule = self.switch_reader(component);
+            self.settle_decided(component, rule, false);
             return;
         }
         let (next, saw_next) = inner_digit(self.slc, self.tally, self.shortcuts, byte);
@@ -176,7 +138,8 @@ impl<'a> Bytes<'a> {
         if self.shortcuts.is_direct(byte) {
             return;
         }
-        self.settle_decided(component, saw_next);
+        let rule = self.rule;
+        self.settle_decided(component, rule, saw_next);
     }
 
     /// The byte at the cursor, by one look.
@@ -213,7 +176,8 @@ impl<'a> Bytes<'a> {
         ensures { NextsOf component self.old self.new result }
     {
         if !self.tally.is_reader(component) {
-            return self.next_decided(component, false);
+            let rule = self.rule(component);
+            return self.next_decided(component, rule, false);
         }
         if self.tally.index >= self.slc.len() {
             return None;
@@ -232,11 +196,12 @@ impl<'a> Bytes<'a> {
                 return Some(next);
             }
             saw_next = saw;
-        } else if *byte != self.separator() {
+        } else if *byte != self.rule.separator {
             self.tally.pass_other();
             return Some(byte);
         }
-        self.next_decided(component, saw_next)
+        let rule = self.rule;
+        self.next_decided(component, rule, saw_next)
     }
 
     /// The byte at the cursor, which is passed, where no component has a flag.
@@ -261,10 +226,11 @@ impl<'a> Bytes<'a> {
         }
     }
 
-    /// Lets a component read from the cursor on: stores the count of the one that read before.
-    /// Counts no digit and no look.
+    /// Lets a component read from the cursor on: stores the count of the one that read before, and
+    /// answers the rule of this one. Counts no digit and no look.
     #[inline(always)]
-    fn switch_reader(&mut self, component: Component)
+    fn switch_reader(&mut self, component: Component) -> Rule
+        ensures rule { result ≡ rule_of self.old.state.word component }
         ensures state { self.new.state ≡ self.old.state }
         ensures no_looks { NoLooks self.old self.new }
     {
@@ -272,26 +238,22 @@ impl<'a> Bytes<'a> {
         let is_counting = rule.counts(component);
         self.tally.set_reader(component, is_counting);
         self.shortcuts = Shortcuts::of(rule, is_counting);
+        self.rule = rule;
+        rule
     }
 
     /// Moves the cursor to the place of a component, by the decision. The look at the byte there is
     /// left to the caller. `saw_next` says that the byte after the cursor was looked at before.
     #[inline(always)]
-    fn settle_decided(&mut self, component: Component, saw_next: bool)
-        requires { saw_next ≡ true → FollowsDigit component self.old.state }
+    fn settle_decided(&mut self, component: Component, rule: Rule, saw_next: bool)
+        requires rule { rule ≡ rule_of self.old.state.word component }
+        requires saw_next { saw_next ≡ true → FollowsDigit component self.old.state }
         ensures { SettlesOf component self.old self.new }
     {
         let counted = 0 < self.tally.count(component);
-        let at = self.tally.index;
-        if !self.rule(component).consecutive {
-            let lone = find_lone(self.slc, self.format, component, at, counted);
-            let looks = lone.looks.saturating_add(saw_next as u64);
-            self.tally.move_seen(lone.place, looks);
-            return;
-        }
-        let found = find(self.slc, self.format, component, at, counted, self.run);
+        let found = find(self.slc, rule, self.tally.index, counted, self.run);
         let looks = found.looks.saturating_add(saw_next as u64);
-        self.tally.move_seen(found.place, looks);
+        self.tally.move_found(found.place, looks);
         self.run = found.run;
     }
 
@@ -299,12 +261,12 @@ impl<'a> Bytes<'a> {
     /// counts it if it is a digit. `saw_next` says that the byte after the cursor was looked at
     /// before.
     #[inline(always)]
-    fn next_decided(&mut self, component: Component, saw_next: bool) -> Option<&'a u8>
-        requires { saw_next ≡ true → FollowsDigit component self.old.state }
+    fn next_decided(&mut self, component: Component, rule: Rule, saw_next: bool) -> Option<&'a u8>
+        requires rule { rule ≡ rule_of self.old.state.word component }
+        requires saw_next { saw_next ≡ true → FollowsDigit component self.old.state }
         ensures { NextsOf component self.old self.new result }
     {
-        let rule = self.rule(component);
-        self.settle_decided(component, saw_next);
+        self.settle_decided(component, rule, saw_next);
         let byte = self.look()?;
         let is_counted = rule.counts_byte(component, *byte);
         self.tally.pass_seen(component, is_counted);

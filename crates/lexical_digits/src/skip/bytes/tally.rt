@@ -140,7 +140,7 @@ impl Tally {
         ensures { Leaves self.old self.new (λ s. with_cursor s index) index (looks_of self.old) }
     {
         if index < self.index {
-            self.move_back(index);
+            self.move_found(index, 0);
         } else {
             self.move_onward(index);
         }
@@ -158,36 +158,24 @@ impl Tally {
         self.looked_from += bytes;
     }
 
-    /// Moves the cursor to any position, and stores the counts and the looks. Counts no digit and
-    /// no look.
+    /// Moves the cursor to a place that was found by that many looks. Counts no digit.
     #[inline(always)]
-    fn move_back(&mut self, index: usize)
-        ensures { Leaves self.old self.new (λ s. with_cursor s index) index (looks_of self.old) }
+    pub(super) fn move_found(&mut self, place: usize, looks: u64)
+        ensures { let looks = saturating (looks_of self.old) looks in
+            Leaves self.old self.new (λ s. with_cursor s place) place looks }
     {
+        let looks_left = u64::MAX - self.looks();
         *self = Tally {
-            index,
-            counted_from: index,
-            looked_from: index,
-            looks_left: u64::MAX - self.looks(),
+            index: place,
+            counted_from: place,
+            looked_from: place,
+            looks_left: looks_left.saturating_sub(looks),
             integer: self.count(Component::Integer),
             fraction: self.count(Component::Fraction),
             exponent: self.count(Component::Exponent),
             reader: self.reader,
             is_counting: self.is_counting,
         };
-    }
-
-    /// Moves the cursor onward to a place that was found by that many looks. Counts no digit.
-    #[inline(always)]
-    pub(super) fn move_seen(&mut self, place: usize, looks: u64)
-        requires { self.old.index ≤ place }
-        ensures { let looks = saturating (looks_of self.old) looks in
-            Leaves self.old self.new (λ s. with_cursor s place) place looks }
-    {
-        // no digit is between the place and the next separator until one is passed
-        self.set_reader(self.reader, self.is_counting);
-        self.move_onward(place);
-        self.looks_left = self.looks_left.saturating_sub(looks);
     }
 
     /// Counts that many digits for a component.

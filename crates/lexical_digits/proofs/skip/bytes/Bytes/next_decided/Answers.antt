@@ -25,7 +25,7 @@ returns c =
     let peeks =
     peeks_settled c.args.component c.args.self.now _ _ _ c.settle_decided.ensures look in
     steps_past c.args.component _ _ c.in_ok-byte.byte peeks _ _
-    (rw c.rule-rule.ensures.value at c.counts_byte-is_counted.ensures)
+    (rw c.requires.rule at c.counts_byte-is_counted.ensures)
     (c.pass_seen.ensures.state b.slc.now b.format)
     (record { run = refl; looks = c.pass_seen.ensures.looks })
     (owes_no_more b c.pass_seen.ensures refl (omega arith))

@@ -1,11 +1,11 @@
 use Rattle.std.proofs.Common.{false, refl, sym, ◌∙◌, ◌<◌, ap, arith, min, length, ◌+◌, ◌-◌, ◌^◌}
-use Rattle.lexical_digits.specs.Laws.Terms.{is_digit, rule_of, state_of, counts, slice_get_within, slice_get_past, separator, false≢true, and_right, or_parts}
+use Rattle.lexical_digits.specs.Laws.Terms.{is_digit, rule_of, state_of, counts, slice_get_within, slice_get_past, false≢true, and_right, or_parts}
 use Rattle.lexical_digits.proofs.Fields.CarriedByCursor.{state_passed, state_moved, carried, carried_on}
-use Rattle.lexical_digits.proofs.Fields.DirectBytes.{direct_by, counts_by, not_separator}
+use Rattle.lexical_digits.proofs.Fields.DirectBytes.{rule_by, direct_by, counts_by, other_by, not_separator}
 use Rattle.lexical_digits.proofs.Fields.AtTheCursor.{here_byte, here_direct, direct_counts, yields_by, yields_end}
 use Rattle.lexical_digits.proofs.Fields.InnerSeparator.{over_by, yields_over, follows_by}
 use Rattle.lexical_digits.proofs.skip.bytes.Bytes.next_flagged.Goals as goal
-use Rattle.lexical_digits.proofs.skip.bytes.Bytes.next_flagged.Goals.{then-self-byte+in_default, else-self-byte+else-byte-separator}
+use Rattle.lexical_digits.proofs.skip.bytes.Bytes.next_flagged.Goals.{then-self-byte+in_default, else-self-byte+else-byte-self}
 
 pub returns-then-self : goal.returns-then-self
 returns-then-self c =
@@ -60,35 +60,38 @@ returns-in-Some c =
 
 -- ---- neither digit nor separator
 
-pub invariant_of-self-inside-then-byte-separator :
-    goal.invariant_of-self-inside-then-byte-separator
-invariant_of-self-inside-then-byte-separator c =
+pub invariant_of-self-inside-then-byte-self :
+    goal.invariant_of-self-inside-then-byte-self
+invariant_of-self-inside-then-byte-self c =
     let within = slice_get_within c.self.inside.slc.now _ _ (sym c.byte_within-byte.ensures) in
-    carried c.self.inside c.pass_other-then-byte-separator.ensures
+    carried c.self.inside c.pass_other-then-byte-self.ensures
     (state_moved _ _ c.self.inside.holds (omega (arith, within)))
 
-pub returns-then-byte-separator : goal.returns-then-byte-separator
-returns-then-byte-separator c =
+pub returns-then-byte-self : goal.returns-then-byte-self
+returns-then-byte-self c =
     let b = c.self.inside in
     let k = c.args.component in
     let reader = c.is_reader.ensures c.if-not-is_reader.false in
     let direct = direct_by b k reader _ _ c.is_direct.ensures.fits
     (sym c.is_direct.ensures.value ∙ c.if-is_direct.false) in
     let digit = is_digit (rule_of b.format k) c.byte_within-byte.result.now in
-    let differs = rw (c.separator.ensures, ← c.self.view_is) at c.if-byte-separator.true in
-    let other = not_separator (separator b.format) _ differs in
+    let other = other_by b k reader _ (not_separator _ _ c.if-byte-self.true) in
     rw (sym c.self.view_is) (yields_by k _ _ _ (here_byte k _ _ c.byte_within-byte.ensures other)
-    c.byte_within-byte.ensures refl c.pass_other-then-byte-separator.ensures.looks false
+    c.byte_within-byte.ensures refl c.pass_other-then-byte-self.ensures.looks false
     (sym (and_right (counts k b.format) digit (or_parts _ digit direct).1))
-    (c.pass_other-then-byte-separator.ensures.state b.slc.now b.format))
+    (c.pass_other-then-byte-self.ensures.state b.slc.now b.format))
 
 -- ---- another separator
 
-pub next_decided-requires-2 : goal.next_decided-requires-2
-next_decided-requires-2 c = elim c.if-self-byte.branch [
+pub next_decided-requires-2-clause-rule : goal.next_decided-requires-2-clause-rule
+next_decided-requires-2-clause-rule c = rw (sym c.self.view_is)
+    (rule_by c.self.inside _ (c.is_reader.ensures c.if-not-is_reader.false))
+
+pub next_decided-requires-2-clause-saw_next : goal.next_decided-requires-2-clause-saw_next
+next_decided-requires-2-clause-saw_next c = elim c.if-self-byte.branch [
   | then-self-byte+in_default w ↦ λ e. rw (sym c.self.view_is)
       (follows_by c.self.inside _ (c.is_reader.ensures c.if-not-is_reader.false) _
       c.is_direct.ensures.fits c.byte_within-byte.ensures
       (w.inner_digit-saw.ensures.saw_next (sym w.saw_next-is ∙ e)))
-  | else-self-byte+else-byte-separator w ↦ λ e. absurd (false≢true (sym w.saw_next-is ∙ e))
+  | else-self-byte+else-byte-self w ↦ λ e. absurd (false≢true (sym w.saw_next-is ∙ e))
 ]

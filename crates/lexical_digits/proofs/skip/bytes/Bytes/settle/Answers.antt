@@ -1,26 +1,25 @@
 use Rattle.std.proofs.Common.{refl, sym, ◌∙◌, arith}
-use Rattle.lexical_digits.specs.Laws.Terms.{slice_get_within, separator}
+use Rattle.lexical_digits.specs.Laws.Terms.{slice_get_within}
 use Rattle.lexical_digits.proofs.Fields.CarriedByCursor.{state_moved, carried}
-use Rattle.lexical_digits.proofs.Fields.DirectBytes.{direct_by, not_separator}
+use Rattle.lexical_digits.proofs.Fields.DirectBytes.{rule_by, direct_by, other_by, not_separator}
 use Rattle.lexical_digits.proofs.Fields.AtTheCursor.{here_byte, here_direct, settles_here, settles_switched}
 use Rattle.lexical_digits.proofs.Fields.InnerSeparator.{over_by, settles_over, follows_by}
 use Rattle.lexical_digits.proofs.skip.bytes.Bytes.settle.Goals as goal
 
 -- ---- no separator
 
-pub returns-then-byte-separator : goal.returns-then-byte-separator
-returns-then-byte-separator c =
+pub returns-then-byte-self : goal.returns-then-byte-self
+returns-then-byte-self c =
     let b = c.self.inside in
-    let differs = rw (c.separator.ensures, ← c.self.view_is) at c.if-byte-separator.true in
-    let other = not_separator (separator b.format) c.args.byte differs in
+    let other = not_separator b.rule.separator c.args.byte c.if-byte-self.true in
     let at = rw (sym c.self.view_is) at c.requires in
-    rw (sym c.self.view_is) (settles_here _ _ (here_byte _ _ _ at other))
+    rw (sym c.self.view_is) (settles_here _ _ (here_byte _ _ _ at (other_by b _ refl _ other)))
 
 -- ---- another component reads
 
 pub returns-then-not-is_reader : goal.returns-then-not-is_reader
 returns-then-not-is_reader c = settles_switched c.args.component _ _ _
-    c.switch_reader.ensures.state c.switch_reader.ensures.no_looks
+    c.switch_reader-rule.ensures.state c.switch_reader-rule.ensures.no_looks
     c.settle_decided.ensures
 
 -- ---- a lone separator, and the digit after it
@@ -52,8 +51,12 @@ returns-then-is_direct c =
 
 -- ---- another separator
 
-pub settle_decided-requires-2 : goal.settle_decided-requires-2
-settle_decided-requires-2 c e = rw (sym c.self.view_is)
+pub settle_decided-requires-2-clause-rule : goal.settle_decided-requires-2-clause-rule
+settle_decided-requires-2-clause-rule c = rw (sym c.self.view_is)
+    (rule_by c.self.inside _ (c.is_reader.ensures c.if-not-is_reader.false))
+
+pub settle_decided-requires-2-clause-saw_next : goal.settle_decided-requires-2-clause-saw_next
+settle_decided-requires-2-clause-saw_next c e = rw (sym c.self.view_is)
     (follows_by c.self.inside _ (c.is_reader.ensures c.if-not-is_reader.false) _
     c.ranges.byte.fits (rw (sym c.self.view_is) at c.requires)
     (c.inner_digit-saw_next.ensures.saw_next e))
