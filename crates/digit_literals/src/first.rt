@@ -383,15 +383,17 @@ fn few_of(
 }
 
 /// A text of fewer bytes is most often one number: the shortest form of an `f64` has 24 at most. Of
-/// such a text [`read_some_digits_from`] reads digits one by one, and of a longer text eight at a
-/// time: where all numbers of a caller have the same number of digits before the point, a processor
-/// guesses the end of the integer sooner than eight bytes tell it (the rows `x: in [0, 1)`). The
-/// code of a caller that tests this length first has one of the two ways. The value may change.
+/// such a text [`read_some_digits_from`] reads the digits of an integer one by one, and of a longer
+/// text eight at a time: where all numbers of a caller have the same number of digits before the
+/// point, a processor guesses the end of the integer sooner than eight bytes tell it (the rows
+/// `x: in [0, 1)`). The code of a caller that tests this length first has one of the two ways. The
+/// value may change.
 pub const SHORT_TEXT: usize = 32;
 
-/// Reads the decimal digits of an integer from `start` on, where no separator is met, and the first
-/// is known: those of one word, and more of them, and those of the last seven bytes, by
-/// [`bare_rest`]; of a short text one by one.
+/// Reads the decimal digits of a component from `start` on, where no separator is met, and the
+/// first is known: those of one word, and more of them, and those of the last seven bytes, by
+/// [`bare_rest`]; of a short text one by one. So are those of an exponent, which are few: the code
+/// stays small enough to be inlined (the rows `z: JSON, 1 to 3 digits, an exponent`).
 #[inline(always)]
 fn bare_slice(
     text: &[u8],
@@ -409,7 +411,7 @@ fn bare_slice(
     ensures all { IfSome result (λ read. read.is_too_large ≡ false) }
 {
     let rule = Rule::of(word, component);
-    if text.len() < SHORT_TEXT {
+    if component == Component::Exponent || text.len() < SHORT_TEXT {
         let plain = begin(text, rule, 10, start, 0, Some(first), None);
         return read_bare(text, rule, start, 0, plain);
     }
