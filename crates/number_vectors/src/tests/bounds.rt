@@ -1,6 +1,9 @@
 //! The bounds of each integer type.
 
-use digit_literals::{Integer, ParseError, parse_number};
+use digit_literals::{
+    Integer, LiteralError, ParseError, parse_number, read_integer_from, read_number,
+};
+use lexical_format::STANDARD;
 use lexical_format::words::PYTHON_LITERAL;
 
 /// The number that a text is, with `_` between two digits.
@@ -265,4 +268,38 @@ fn isize_bounds(rt: HostRuntime) {
     for (text, answer) in rows {
         assert!(&rt; parse::<isize>(text) == answer, "{}", text.len());
     }
+}
+
+/// The number of a type that a text begins with, by a word without separators.
+fn read<T: Integer>(text: &[u8]) -> Result<(T, usize), LiteralError> {
+    read_number::<T>(text, STANDARD)
+}
+
+#[test]
+fn the_last_digit_of_a_number_in_a_text_is_compared(rt: HostRuntime) {
+    assert!(&rt; read::<u8>(b"255,") == Ok((u8::MAX, 3)));
+    assert!(&rt; read::<u8>(b"256,") == Err(LiteralError::Overflow(2)));
+    assert!(&rt; read::<u8>(b"260,") == Err(LiteralError::Overflow(2)));
+    assert!(&rt; read::<u8>(b"255,1234") == Ok((u8::MAX, 3)));
+    assert!(&rt; read::<u8>(b"256,1234") == Err(LiteralError::Overflow(2)));
+    assert!(&rt; read::<i8>(b"-128,") == Ok((i8::MIN, 4)));
+    assert!(&rt; read::<i8>(b"-129,") == Err(LiteralError::Overflow(3)));
+    assert!(&rt; read::<u16>(b"65535,") == Ok((u16::MAX, 5)));
+    assert!(&rt; read::<u16>(b"65536,") == Err(LiteralError::Overflow(4)));
+    assert!(&rt; read::<u32>(b"4294967295,") == Ok((u32::MAX, 10)));
+    assert!(&rt; read::<u32>(b"4294967296,") == Err(LiteralError::Overflow(9)));
+    assert!(&rt; read::<u64>(b"18446744073709551615,") == Ok((u64::MAX, 20)));
+    assert!(&rt; read::<u64>(b"18446744073709551616,") == Err(LiteralError::Overflow(19)));
+}
+
+#[test]
+fn an_integer_up_to_a_small_value_ends_before_the_next_digit(rt: HostRuntime) {
+    assert!(&rt; read_integer_from(b"0", STANDARD, 0, 0) == Ok((0, 1)));
+    assert!(&rt; read_integer_from(b"1", STANDARD, 0, 0) == Err(LiteralError::Overflow(0)));
+    assert!(&rt; read_integer_from(b"9", STANDARD, 0, 9) == Ok((9, 1)));
+    assert!(&rt; read_integer_from(b"10", STANDARD, 0, 9) == Err(LiteralError::Overflow(1)));
+    assert!(&rt; read_integer_from(b"12", STANDARD, 0, 12) == Ok((12, 2)));
+    assert!(&rt; read_integer_from(b"13", STANDARD, 0, 12) == Err(LiteralError::Overflow(1)));
+    assert!(&rt; read_integer_from(b"12,12345", STANDARD, 0, 12) == Ok((12, 2)));
+    assert!(&rt; read_integer_from(b"13,12345", STANDARD, 0, 12) == Err(LiteralError::Overflow(1)));
 }
