@@ -392,8 +392,8 @@ pub const SHORT_TEXT: usize = 32;
 
 /// Reads the decimal digits of a component from `start` on, where no separator is met, and the
 /// first is known: those of one word, and more of them, and those of the last seven bytes, by
-/// [`bare_rest`]; of a short text one by one. So are those of an exponent, which are few: the code
-/// stays small enough to be inlined (the rows `z: JSON, 1 to 3 digits, an exponent`).
+/// [`bare_rest`]; of a short text, and of an exponent, one by one. An exponent has few digits, and
+/// its code stays small enough to be inlined (the rows `z: JSON, 1 to 3 digits, an exponent`).
 #[inline(always)]
 fn bare_slice(
     text: &[u8],

@@ -293,7 +293,7 @@ fn the_last_digit_of_a_number_in_a_text_is_compared(rt: HostRuntime) {
 }
 
 #[test]
-fn an_integer_up_to_a_small_value_ends_before_the_next_digit(rt: HostRuntime) {
+fn an_integer_up_to_a_small_value_is_compared_with_it(rt: HostRuntime) {
     assert!(&rt; read_integer_from(b"0", STANDARD, 0, 0) == Ok((0, 1)));
     assert!(&rt; read_integer_from(b"1", STANDARD, 0, 0) == Err(LiteralError::Overflow(0)));
     assert!(&rt; read_integer_from(b"9", STANDARD, 0, 9) == Ok((9, 1)));
