@@ -271,6 +271,7 @@ fn isize_bounds(rt: HostRuntime) {
 }
 
 /// The number of a type that a text begins with, by a word without separators.
+#[tactic(auto, unfolding(lexical_format::proofs::OnLiterals::lexical_on_literals))]
 fn read<T: Integer>(text: &[u8]) -> Result<(T, usize), LiteralError> {
     read_number::<T>(text, STANDARD)
 }
@@ -292,14 +293,20 @@ fn the_last_digit_of_a_number_in_a_text_is_compared(rt: HostRuntime) {
     assert!(&rt; read::<u64>(b"18446744073709551616,") == Err(LiteralError::Overflow(19)));
 }
 
+/// The integer that a text begins with, up to a greatest value, by the same word.
+#[tactic(auto, unfolding(lexical_format::proofs::OnLiterals::lexical_on_literals))]
+fn read_up_to(text: &[u8], most: u64) -> Result<(u64, usize), LiteralError> {
+    read_integer_from(text, STANDARD, 0, most)
+}
+
 #[test]
 fn an_integer_up_to_a_small_value_is_compared_with_it(rt: HostRuntime) {
-    assert!(&rt; read_integer_from(b"0", STANDARD, 0, 0) == Ok((0, 1)));
-    assert!(&rt; read_integer_from(b"1", STANDARD, 0, 0) == Err(LiteralError::Overflow(0)));
-    assert!(&rt; read_integer_from(b"9", STANDARD, 0, 9) == Ok((9, 1)));
-    assert!(&rt; read_integer_from(b"10", STANDARD, 0, 9) == Err(LiteralError::Overflow(1)));
-    assert!(&rt; read_integer_from(b"12", STANDARD, 0, 12) == Ok((12, 2)));
-    assert!(&rt; read_integer_from(b"13", STANDARD, 0, 12) == Err(LiteralError::Overflow(1)));
-    assert!(&rt; read_integer_from(b"12,12345", STANDARD, 0, 12) == Ok((12, 2)));
-    assert!(&rt; read_integer_from(b"13,12345", STANDARD, 0, 12) == Err(LiteralError::Overflow(1)));
+    assert!(&rt; read_up_to(b"0", 0) == Ok((0, 1)));
+    assert!(&rt; read_up_to(b"1", 0) == Err(LiteralError::Overflow(0)));
+    assert!(&rt; read_up_to(b"9", 9) == Ok((9, 1)));
+    assert!(&rt; read_up_to(b"10", 9) == Err(LiteralError::Overflow(1)));
+    assert!(&rt; read_up_to(b"12", 12) == Ok((12, 2)));
+    assert!(&rt; read_up_to(b"13", 12) == Err(LiteralError::Overflow(1)));
+    assert!(&rt; read_up_to(b"12,12345", 12) == Ok((12, 2)));
+    assert!(&rt; read_up_to(b"13,12345", 12) == Err(LiteralError::Overflow(1)));
 }
