@@ -135,15 +135,18 @@ impl Gap {
     /// The first position from this one on without a blank, or the end of the text. Requires that
     /// the position is within the text.
     #[inline(always)]
-    #[tactic(auto, using(crate::proofs::Passing::passing), unfolding(crate::specs::Lists::past_blanks))]
+    #[tactic(auto, using(crate::proofs::Passing::passing, crate::proofs::Lists::no_blank), unfolding(crate::specs::Lists::past_blanks))]
     pub fn past_blanks(self, text: &[u8], at: usize) -> usize
         requires { at ≤ length text.now }
         ensures is { result ≡ past_blanks self text.now at }
         ensures onward { at ≤ result }
         ensures within { result ≤ length text.now }
     {
-        // whether there is one or none is no branch
-        let next = at + usize::from(self.has_blank(text, at));
+        // most lists have no blank, or one after each separator: neither takes a loop
+        if !self.has_blank(text, at) {
+            return at;
+        }
+        let next = at + 1;
         if self.has_blank(text, next) {
             next + self.count_blanks(&text[next..])
         } else {
