@@ -52,22 +52,31 @@ pub fn expect_byte(text: &[u8], at: usize, byte: u8) -> Result<usize, usize>
     }
 }
 
-/// Whether a set has a byte: by 64 bits for most bytes of a text. If all bytes of the set are below
-/// 63, as blanks and commas are, this is no branch on the byte.
+/// Whether a set has a byte. For most bytes of a text 64 bits are enough.
 #[inline(always)]
+#[tactic(auto, using(crate::proofs::Lists::low_bit))]
 pub(super) fn accepts(set: ByteSet, byte: u8) -> bool
     ensures { result ≡ accepts set byte }
 {
-    if set.high == 0 && set.low < 1 << 63 {
-        let low = (set.low % (1 << 64)) as u64;
-        return (low >> byte.min(63)) % 2 == 1;
-    }
     if byte < 64 {
         let low = (set.low % (1 << 64)) as u64;
         (low >> byte) % 2 == 1
     } else {
         set.accepts(byte)
     }
+}
+
+/// [`accepts`], where any byte may be: if all bytes of the set are below 63, as blanks and commas
+/// are, this is no branch on the byte, which no processor could guess.
+#[inline(always)]
+fn accepts_any(set: ByteSet, byte: u8) -> bool
+    ensures { result ≡ accepts set byte }
+{
+    if set.high == 0 && set.low < 1 << 63 {
+        let low = (set.low % (1 << 64)) as u64;
+        return (low >> byte.min(63)) % 2 == 1;
+    }
+    accepts(set, byte)
 }
 
 /// Whether a byte of a set is at a position.
@@ -77,7 +86,7 @@ fn has_any(text: &[u8], at: usize, set: ByteSet) -> bool
     ensures within { result ≡ true → at < length text.now }
 {
     match text.get(at) {
-        Some(byte) => accepts(set, *byte),
+        Some(byte) => accepts_any(set, *byte),
         None => false,
     }
 }
@@ -88,7 +97,9 @@ fn count_bytes(text: &[u8], set: ByteSet) -> usize
     ensures is { result ≡ length (take_while (accepts set) text.now) }
     ensures within { result ≤ length text.now }
 {
-    text.iter().take_while(|byte| accepts(set, **byte)).count()
+    text.iter()
+        .take_while(|byte| accepts_any(set, **byte))
+        .count()
 }
 
 /// The first position from this one on whose byte isn't in a set, or the end of the text. Requires
@@ -105,8 +116,11 @@ pub fn past_bytes(text: &[u8], at: usize, set: ByteSet) -> usize
     ensures onward { at ≤ result }
     ensures within { result ≤ length text.now }
 {
-    // whether there is one or none is no branch
-    let next = at + usize::from(has_any(text, at, set));
+    // most often none is here, or one: neither takes a loop
+    if !has_any(text, at, set) {
+        return at;
+    }
+    let next = at + 1;
     if has_any(text, next, set) {
         next + count_bytes(&text[next..], set)
     } else {

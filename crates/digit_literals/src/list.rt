@@ -107,8 +107,7 @@ impl Gap {
     fn is_blank(self, byte: u8) -> bool
         ensures { result ≡ is_blank self byte }
     {
-        // `&`, so that no branch depends on the byte
-        accepts(self.blanks, byte) & !accepts(self.separators, byte)
+        accepts(self.blanks, byte) && !accepts(self.separators, byte)
     }
 
     /// How many blanks a text begins with.

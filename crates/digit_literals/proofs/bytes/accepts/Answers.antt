@@ -1,11 +1,7 @@
 use Rattle.std.proofs.Common.{◌≡◌, nat_lt, true, arith}
 use Rattle.std.proofs.lemmas.Bool.Decides.{nat_tests}
-use Rattle.digit_literals.proofs.Lists.{low_bit, low_set}
+use Rattle.digit_literals.proofs.Lists.{low_bit}
 use Rattle.digit_literals.proofs.bytes.accepts.Goals as goal
-
-pub returns-then-set : goal.returns-then-set
-returns-then-set c =
-    low_set c.args.set c.args.byte c.min.result c.if-set-eq0.true c.if-set.true c.min.ensures
 
 pub returns-then-byte-lt64 : goal.returns-then-byte-lt64
 returns-then-byte-lt64 c =
