@@ -10,7 +10,6 @@ use super::error::FloatError;
 use super::float::Float;
 use super::parts::{Marks, Parts, read_short_parts};
 use super::round::{round_parts, round_short};
-use digit_literals::SHORT_TEXT;
 
 /// [`read_float_from`], whatever the number is. In code of its own, so that the one of a short
 /// number has all registers (the rows `x: f64`).
@@ -109,9 +108,9 @@ pub fn read_float<F: Float>(text: &[u8], word: u128) -> Result<(F, usize), Float
     read_float_from::<F>(text, word, 0)
 }
 
-/// [`parse_float_from`], in the code of its caller.
+/// The float that a text is from a position on, as by [`read_float_from`].
 #[inline(always)]
-fn parse_here<F: Float>(text: &[u8], word: u128, start: usize) -> Result<F, FloatError>
+pub fn parse_float_from<F: Float>(text: &[u8], word: u128, start: usize) -> Result<F, FloatError>
     requires supported { IsTrue (is_supported word) }
     requires decimal { IsDecimal word }
     requires within { start ≤ length text.now }
@@ -125,41 +124,6 @@ fn parse_here<F: Float>(text: &[u8], word: u128, start: usize) -> Result<F, Floa
         return Err(FloatError::Invalid(end));
     }
     Ok(x)
-}
-
-/// [`parse_float_from`] in code of its own, for texts that aren't short: the code of a short text
-/// then reads the integer in one way, digit by digit (the rows `x: in [0, 1)`).
-#[inline(never)]
-fn parse_apart<F: Float>(text: &[u8], word: u128, start: usize) -> Result<F, FloatError>
-    requires supported { IsTrue (is_supported word) }
-    requires decimal { IsDecimal word }
-    requires within { start ≤ length text.now }
-    ensures parses { MatchResult result
-        (λ x. parse_at word text.now plain_marks F.format start ≡ Ok (F.value x))
-        (λ error. parse_at word text.now plain_marks F.format start ≡ Err error) }
-    ensures no_nan { IfOk result (λ x. NotNan (F.value x)) }
-{
-    parse_here::<F>(text, word, start)
-}
-
-/// The float that a text is from a position on, as by [`read_float_from`].
-#[inline(always)]
-pub fn parse_float_from<F: Float>(text: &[u8], word: u128, start: usize) -> Result<F, FloatError>
-    requires supported { IsTrue (is_supported word) }
-    requires decimal { IsDecimal word }
-    requires within { start ≤ length text.now }
-    ensures parses { MatchResult result
-        (λ x. parse_at word text.now plain_marks F.format start ≡ Ok (F.value x))
-        (λ error. parse_at word text.now plain_marks F.format start ≡ Err error) }
-    ensures no_nan { IfOk result (λ x. NotNan (F.value x)) }
-{
-    if text.len() < SHORT_TEXT {
-        return parse_here::<F>(text, word, start);
-    }
-    match parse_apart::<F>(text, word, start) {
-        Ok(x) => Ok(x),
-        Err(error) => Err(error),
-    }
 }
 
 /// The float that a text is, as by [`read_float_from`].

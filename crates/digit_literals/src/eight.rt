@@ -202,33 +202,6 @@ pub(super) fn no_digits(text: &[u8], rule: Rule, start: usize, before: u64) -> P
     }
 }
 
-/// [`front_at`] in code of its own, so that what calls it stays small.
-#[inline(never)]
-fn front_apart(text: &[u8], at: usize) -> Front
-    requires { at + 8 ≤ length text.now }
-    ensures is { IsWritten text.now at result.count result.value }
-    ensures few { result.count ≤ 8 }
-{
-    front_at(text, at)
-}
-
-/// Digits from `start` on after the value `before`, by one word, if eight bytes are there.
-#[inline(always)]
-pub(super) fn read_word(text: &[u8], rule: Rule, start: usize, before: u64) -> Plain
-    requires radix { rule.radix ≡ 10 }
-    requires within { start ≤ length text.now }
-    ensures { ArePlain rule text.now start before None result.end result.value }
-{
-    if text.len() - start < 8 {
-        return no_digits(text, rule, start, before);
-    }
-    let front = front_apart(text, start);
-    Plain {
-        value: wrapping_join(before, front),
-        end: start + front.count,
-    }
-}
-
 /// Digits from `start` on, after the value `before`, of which some were read: all up to the first
 /// other byte, or up to the last seven bytes of the text.
 #[inline(always)]

@@ -5,18 +5,18 @@ ghost use Rattle.std.specs.Char.{is_ascii_digit};
 ghost use Rattle.lexical_format.specs.Word.{is_supported};
 ghost use Rattle.lexical_digits.specs.Cursor.{holds_of};
 ghost use Rattle.lexical_digits.specs.State.{rule, rule_of};
-ghost use Rattle.lexical_digits.specs.Separators.{IsSupported, is_separator};
+ghost use Rattle.lexical_digits.specs.Separators.{IsSupported};
 ghost use Rattle.lexical_digits.specs.Looks.{owed, needs_run};
 ghost use Rattle.lexical_digits.specs.Stop.{stop, leading_digits_of, past_digits_of};
 ghost use Rattle.digit_literals.specs.After.{digits_between};
 ghost use Rattle.digit_literals.specs.First.{ReadsFirst};
-ghost use Rattle.digit_literals.specs.Reads.{ArePlain, IsFirst, IsOffSlice, PassesAll, bare_read};
+ghost use Rattle.digit_literals.specs.Reads.{ArePlain, IsFirst, IsOffSlice, PassesAll};
 
 use super::component::{pass_digits, read_digits_up_to};
-use super::eight::{Plain, no_digits, read_word, read_words};
+use super::eight::{Plain, no_digits, read_words};
 use super::reading::Digits;
 use super::slice::{
-    ReadTo, begin, begin_decimal, end_bare, first_digit, read_bare, read_on, read_slice,
+    ReadTo, begin, begin_decimal, first_digit, read_bare, read_on, read_slice,
 };
 use super::wide::ten_to;
 use lexical_digits::iterator::Iter;
@@ -281,7 +281,7 @@ fn decimal_at(text: &[u8], rule: Rule, at: usize) -> Option<u32>
 
 /// Reads the decimal digits of a component that begins at `start`, where there are 1 to 19, and no
 /// separator is met. Otherwise it answers `None`, and [`read_first_digits_from`] reads them. It is
-/// small.
+/// small, and calls nothing.
 #[inline(always)]
 pub fn read_some_digits_from(
     text: &[u8],
@@ -382,18 +382,9 @@ fn few_of(
     Some(read)
 }
 
-/// A text of fewer bytes is most often one number: the shortest form of an `f64` has 24 at most. Of
-/// such a text [`read_some_digits_from`] reads the digits of an integer one by one, and of a longer
-/// text eight at a time: where all numbers of a caller have the same number of digits before the
-/// point, a processor guesses the end of the integer sooner than eight bytes tell it (the rows
-/// `x: in [0, 1)`). The code of a caller that tests this length first has one of the two ways. The
-/// value may change.
-pub const SHORT_TEXT: usize = 32;
-
-/// Reads the decimal digits of a component from `start` on, where no separator is met, and the
-/// first is known: those of one word, and more of them, and those of the last seven bytes, by
-/// [`bare_rest`]; of a short text, and of an exponent, one by one. An exponent has few digits, and
-/// its code stays small enough to be inlined (the rows `z: JSON, 1 to 3 digits, an exponent`).
+/// Reads the decimal digits of a component from `start` on one by one, where no separator is met,
+/// and the first is known: those of an integer or an exponent, which has few, most often as many as
+/// the one before.
 #[inline(always)]
 fn bare_slice(
     text: &[u8],
@@ -411,27 +402,8 @@ fn bare_slice(
     ensures all { IfSome result (λ read. read.is_too_large ≡ false) }
 {
     let rule = Rule::of(word, component);
-    if component == Component::Exponent || text.len() < SHORT_TEXT {
-        let plain = begin(text, rule, 10, start, 0, Some(first), None);
-        return read_bare(text, rule, start, 0, plain);
-    }
-    let plain = read_word(text, rule, start, 0);
-    if let Some(read) = end_bare(text, rule, start, 0, plain) {
-        return Some(read);
-    }
-    if has_separator(text, rule, plain.end) {
-        return None;
-    }
-    let rest = bare_rest(text, word, component, start, 0, plain);
-    if rest.end > text.len() {
-        return None;
-    }
-    Some(ReadTo {
-        value: rest.value,
-        count: rest.end - start,
-        end: rest.end,
-        is_too_large: false,
-    })
+    let plain = begin(text, rule, 10, start, 0, Some(first), None);
+    read_bare(text, rule, start, 0, plain)
 }
 
 /// Reads the decimal digits of a fraction from `start` on, where no separator is met: by words, and
@@ -455,53 +427,6 @@ fn bare_by_words(
     let none = no_digits(text, rule, start, before);
     let plain = read_words(text, rule, start, before, none);
     read_bare(text, rule, start, before, plain)
-}
-
-/// Whether a separator of a rule is at a position.
-#[inline(always)]
-fn has_separator(text: &[u8], rule: Rule, at: usize) -> bool
-    ensures { result ≡ holds_of (is_separator rule.separator) (slice_get text.now at) }
-{
-    match text.get(at) {
-        Some(byte) => rule.is_separator(*byte),
-        None => false,
-    }
-}
-
-/// The end of digits after which a separator is, so that there may be more: no text is as long.
-const NOWHERE: Plain = Plain {
-    value: 0,
-    end: usize::MAX,
-};
-
-/// [`bare_slice`] after the digits that were read before, in code of its own. Two values, so that
-/// the answer is in registers.
-#[inline(never)]
-fn bare_rest(
-    text: &[u8],
-    word: u128,
-    component: Component,
-    start: usize,
-    before: u64,
-    plain: Plain,
-) -> Plain
-    requires supported { IsTrue (is_supported word) }
-    requires decimal { (rule_of word component).radix ≡ 10 }
-    requires plain { let r = rule_of word component in
-        ArePlain r text.now start before None plain.end plain.value }
-    ensures onward { start ≤ result.end }
-    ensures reads { let r = rule_of word component in result.end ≤ length text.now →
-        IsOffSlice r text.now start before None (bare_read start result.value result.end) }
-{
-    let rule = Rule::of(word, component);
-    let more = read_words(text, rule, start, before, plain);
-    match read_bare(text, rule, start, before, more) {
-        Some(read) => Plain {
-            value: read.value,
-            end: read.end,
-        },
-        None => NOWHERE,
-    }
 }
 
 /// The digits that are read before the loop: by words, or the first, if it is known.

@@ -35,7 +35,7 @@ pub use self::bytes::{BLANKS, byte_at, expect_byte, has_byte, name_end, past_byt
 pub use self::component::{pass_digits, pass_zeros, read_digits_of, read_digits_up_to};
 pub use self::exactly::{read_at_most, read_exactly};
 pub use self::first::{
-    FirstDigits, SHORT_TEXT, read_few_digits_from, read_first_digits, read_first_digits_from,
+    FirstDigits, read_few_digits_from, read_first_digits, read_first_digits_from,
     read_some_digits_from,
 };
 pub use self::integer::{count_digits, read_integer, read_integer_from, stop_from};

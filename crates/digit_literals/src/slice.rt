@@ -289,7 +289,7 @@ pub(super) fn read_bare(
     requires plain { ArePlain rule text.now start before None plain.end plain.value }
     ensures reads { IfSome result (IsOffSlice rule text.now start before None) }
     ensures all { IfSome result (λ read. read.is_too_large ≡ false) }
-    ensures bare { IfSome result (λ read. start + read.count ≡ read.end) }
+    ensures onward { IfSome result (λ read. plain.end ≤ start + read.count) }
 {
     let mut value = plain.value;
     for at in plain.end..text.len() {
@@ -314,42 +314,6 @@ pub(super) fn read_bare(
         end,
         is_too_large: false,
     })
-}
-
-/// [`read_bare`], if no digit follows those that were read.
-#[inline(always)]
-#[tactic(auto, using(crate::proofs::Passed::reading))]
-pub(super) fn end_bare(
-    text: &[u8],
-    rule: Rule,
-    start: usize,
-    before: u64,
-    plain: Plain,
-) -> Option<ReadTo>
-    requires supported { IsSupported rule }
-    requires radix { rule.radix ≡ 10 }
-    requires plain { ArePlain rule text.now start before None plain.end plain.value }
-    ensures reads { IfSome result (IsOffSlice rule text.now start before None) }
-    ensures all { IfSome result (λ read. read.is_too_large ≡ false) }
-    ensures bare { IfSome result (λ read. start + read.count ≡ read.end) }
-{
-    let all = ReadTo {
-        value: plain.value,
-        count: plain.end - start,
-        end: plain.end,
-        is_too_large: false,
-    };
-    if plain.end == text.len() {
-        return Some(all);
-    }
-    let byte = text[plain.end];
-    if char_is_digit_const(byte, 10) {
-        return None;
-    }
-    if rule.is_separator(byte) {
-        return None;
-    }
-    Some(all)
 }
 
 /// The digit at the place of a component, if one is there.

@@ -29,7 +29,7 @@ use super::integer::{is_zero, read_few, read_integer, unprefixed};
 use super::special::{may_begin, read_special};
 use digit_floats::{Float, Mantissa, read_mantissa, read_short_whole, round_integer};
 use digit_languages::{Language, LanguageError, Literal, read_literal};
-use digit_literals::{Integer, SHORT_TEXT};
+use digit_literals::Integer;
 use lexical_format::NumberFormat;
 use std::error::Error;
 use std::fmt;
@@ -717,33 +717,6 @@ pub fn read_number_of<F: Float>(
     read_rest::<F>(text, start, &form, left)
 }
 
-/// [`parse_number_of`], in the code of its caller.
-#[inline(always)]
-fn parse_here<F: Float>(text: &[u8], form: &Form) -> Result<Number<F>, NumberError>
-    requires { IsForm form.now }
-    ensures is { let read = to_end text.now (number_of_at form.now text.now 0 F.format) in
-        MatchResult result (λ n. read ≡ Ok (with_value F.value n)) (λ error. read ≡ Err error) }
-    ensures no_nan { special_here form.now text.now 0 ≡ None → IfOk result (IsNoNan F.value) }
-{
-    let (number, end) = read_number_of::<F>(text, 0, *form)?;
-    if end < text.len() {
-        return Err(NumberError::Invalid(end));
-    }
-    Ok(number)
-}
-
-/// [`parse_number_of`] in code of its own, for texts that aren't short: the code of a short text
-/// then reads the integer in one way, digit by digit (the rows `z: JSON`).
-#[inline(never)]
-fn parse_apart<F: Float>(text: &[u8], form: &Form) -> Result<Number<F>, NumberError>
-    requires { IsForm form.now }
-    ensures is { let read = to_end text.now (number_of_at form.now text.now 0 F.format) in
-        MatchResult result (λ n. read ≡ Ok (with_value F.value n)) (λ error. read ≡ Err error) }
-    ensures no_nan { special_here form.now text.now 0 ≡ None → IfOk result (IsNoNan F.value) }
-{
-    parse_here::<F>(text, form)
-}
-
 /// The number of a form that a text is, as by [`read_number_of`].
 #[inline(always)]
 pub fn parse_number_of<F: Float>(text: &[u8], form: Form) -> Result<Number<F>, NumberError>
@@ -752,12 +725,9 @@ pub fn parse_number_of<F: Float>(text: &[u8], form: Form) -> Result<Number<F>, N
         MatchResult result (λ n. read ≡ Ok (with_value F.value n)) (λ error. read ≡ Err error) }
     ensures no_nan { special_here form text.now 0 ≡ None → IfOk result (IsNoNan F.value) }
 {
-    if text.len() < SHORT_TEXT {
-        return parse_here::<F>(text, &form);
+    let (number, end) = read_number_of::<F>(text, 0, form)?;
+    if end < text.len() {
+        return Err(NumberError::Invalid(end));
     }
-    let apart = form;
-    match parse_apart::<F>(text, &apart) {
-        Ok(number) => Ok(number),
-        Err(error) => Err(error),
-    }
+    Ok(number)
 }
