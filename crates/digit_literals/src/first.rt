@@ -16,7 +16,7 @@ use super::component::{pass_digits, read_digits_up_to};
 use super::eight::{Plain, no_digits, read_words};
 use super::reading::Digits;
 use super::slice::{
-    ReadTo, begin, begin_decimal, first_digit, read_bare, read_on, read_slice,
+    ReadTo, Way, begin, begin_decimal, first_digit, read_bare, read_on, read_slice,
 };
 use super::wide::ten_to;
 use lexical_digits::iterator::Iter;
@@ -173,7 +173,7 @@ fn read_first_again(
 {
     let rule = Rule::of(word, component);
     if rule.radix == 10 {
-        if let Some(read) = read_slice(text, rule, start, before, None, Some(most)) {
+        if let Some(read) = read_slice(text, rule, start, before, None, Some(most), Way::ByEights) {
             if !read.is_too_large {
                 return FirstRead {
                     digits: FirstDigits {
@@ -239,7 +239,7 @@ fn count_rest(text: &[u8], rule: Rule, start: usize) -> Option<ReadTo>
     requires within { start ≤ length text.now }
     ensures { IfSome result (IsOffSlice rule text.now start 0 None) }
 {
-    read_slice(text, rule, start, 0, None, None)
+    read_slice(text, rule, start, 0, None, None, Way::ByEights)
 }
 
 /// The greatest value of 19 digits.
@@ -438,7 +438,7 @@ fn begin_first(text: &[u8], rule: Rule, start: usize, before: u64) -> Plain
 {
     // where separators are dropped between digits, few numbers have eight in a row
     if !rule.internal {
-        return begin_decimal(text, rule, start, before, None, None);
+        return begin_decimal(text, rule, start, before, None, None, Way::ByEights);
     }
     let first = first_digit(text, rule, start, before, u128::from(u64::MAX));
     begin(text, rule, 10, start, before, first, None)

@@ -15,7 +15,7 @@ ghost use Rattle.digit_literals.specs.Reads.{ReadsTo, IsFirst, integer_of};
 use super::LiteralError;
 use super::eight::{NONE, Whole, read_few, read_whole};
 use super::groups::read_grouped;
-use super::slice::{ReadTo, first_digit, read_bytes, read_slice};
+use super::slice::{ReadTo, Way, first_digit, read_bytes, read_slice};
 use lexical_digits::iterator::Iter;
 use lexical_digits::skip::{Bytes, Component, Rule};
 
@@ -73,8 +73,8 @@ pub fn read_integer_from(
     let rule = Rule::of(word, Component::Integer);
     // A compiler sees that without inner separators no digit follows a first byte that is none.
     match first_digit(text, rule, start, 0, u128::from(most)) {
-        None if !rule.internal => read_integer_known(text, word, start, None, most),
-        first => read_integer_known(text, word, start, first, most),
+        None if !rule.internal => read_integer_known(text, word, start, None, most, Way::ByEights),
+        first => read_integer_known(text, word, start, first, most, Way::ByEights),
     }
 }
 
@@ -87,6 +87,7 @@ pub(super) fn read_integer_known(
     start: usize,
     first: Option<u32>,
     most: u64,
+    way: Way,
 ) -> Result<(u64, usize), LiteralError>
     requires supported { IsTrue (is_supported word) }
     requires within { start ≤ length text.now }
@@ -102,7 +103,15 @@ pub(super) fn read_integer_known(
         IfOverflow result (λ at. (start ≤ at) × (at < n)) }
 {
     // not by `read_known`: a test where the two ways meet again costs more than the code twice
-    match read_component_slice(text, word, Component::Integer, start, first, Some(most)) {
+    match read_component_slice(
+        text,
+        word,
+        Component::Integer,
+        start,
+        first,
+        Some(most),
+        way,
+    ) {
         Some(read) => integer_of(read, read.end == start),
         None => {
             let read = read_fresh_bytes(text, word, Component::Integer, start, Some(most));
@@ -300,7 +309,7 @@ pub(super) fn read_known(
     ensures reads { ReadsTo (rule_of word component) text.now start 0 most result.0 0 }
     ensures empty { result.1 ≡ (result.0.count == 0) }
 {
-    match read_component_slice(text, word, component, start, first, most) {
+    match read_component_slice(text, word, component, start, first, most, Way::ByEights) {
         Some(read) => (read, read.end == start),
         None => {
             let read = read_fresh_bytes(text, word, component, start, most);
@@ -336,6 +345,7 @@ pub(super) fn read_component_slice(
     start: usize,
     first: Option<u32>,
     most: Option<u64>,
+    way: Way,
 ) -> Option<ReadTo>
     requires supported { IsTrue (is_supported word) }
     requires within { start ≤ length text.now }
@@ -345,7 +355,7 @@ pub(super) fn read_component_slice(
         IfSome result (λ read. ReadsTo r text.now start 0 most read 0) }
     ensures empty { IfSome result (λ read. (read.end == start) ≡ (read.count == 0)) }
 {
-    read_slice(text, Rule::of(word, component), start, 0, first, most)
+    read_slice(text, Rule::of(word, component), start, 0, first, most, way)
 }
 
 /// Reads the digits of a component from `start` on by a `Bytes`, whatever separators are met: up to

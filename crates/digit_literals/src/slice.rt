@@ -108,6 +108,15 @@ pub(super) fn first_digit(
     }
 }
 
+/// How digits are read where eight bytes are there, and the radix is 10. It is only for speed.
+#[derive(Clone, Copy, Debug, PartialEq, Eq)]
+pub(super) enum Way {
+    /// Eight bytes at a time: how many digits there are is no branch.
+    ByEights,
+    /// One by one: a processor may guess where they end.
+    OneByOne,
+}
+
 /// Reads the digits of a rule from `start` on, after the value `before`, up to where they end, or
 /// up to the first with which the value is above `most`. `None` where a separator is met that isn't
 /// a lone one between two digits. Without `most` the value is its lowest 64 bits. The digit at
@@ -120,6 +129,7 @@ pub(super) fn read_slice(
     before: u64,
     first: Option<u32>,
     most: Option<u64>,
+    way: Way,
 ) -> Option<ReadTo>
     requires supported { IsSupported rule }
     requires within { start ≤ length text.now }
@@ -129,7 +139,7 @@ pub(super) fn read_slice(
 {
     // A compiler makes code of its own for a radix that is written out.
     if rule.radix == 10 {
-        let plain = begin_decimal(text, rule, start, before, first, most);
+        let plain = begin_decimal(text, rule, start, before, first, most, way);
         read_on(text, rule, 10, start, before, plain, most)
     } else {
         read_radix(text, rule, rule.radix, start, before, first, most)
@@ -167,7 +177,7 @@ pub(super) fn begin(
     }
 }
 
-/// [`begin`] in radix 10: by words, if eight bytes are there.
+/// [`begin`] in radix 10: by words, if eight bytes are there, and these are the way.
 #[inline(always)]
 pub(super) fn begin_decimal(
     text: &[u8],
@@ -176,6 +186,7 @@ pub(super) fn begin_decimal(
     before: u64,
     first: Option<u32>,
     most: Option<u64>,
+    way: Way,
 ) -> Plain
     requires radix { rule.radix ≡ 10 }
     requires within { start ≤ length text.now }
@@ -183,7 +194,7 @@ pub(super) fn begin_decimal(
     requires first { IfSome first (IsFirst rule text.now start before most) }
     ensures { ArePlain rule text.now start before most result.end result.value }
 {
-    if text.len() - start < 8 {
+    if way == Way::OneByOne || text.len() - start < 8 {
         return begin(text, rule, 10, start, before, first, most);
     }
     match most {

@@ -65,6 +65,72 @@ fn a_list_ends_where_no_number_follows(rt: HostRuntime) {
     a_list_goes_on::<u8>(b"1,2", STANDARD, COMMAS);
 }
 
+/// The `i16` of a text, in 16 places that hold 7: these, how many were read, and why no more.
+#[tactic(auto, unfolding(lexical_format::proofs::OnLiterals::lexical_on_literals))]
+fn sixteen(text: &[u8]) -> ([i16; 16], usize, ListEnd<LiteralError>) {
+    let mut out = [7; 16];
+    let read = read_list::<i16>(text, 0, STANDARD, COMMAS, &mut out);
+    (out, read.count, read.end)
+}
+
+#[test]
+fn after_alike_numbers_any_number_may_follow(rt: HostRuntime) {
+    let rows: [(&[u8], [i16; 16], usize, ListEnd<LiteralError>); 8] = [
+        (
+            b"1,2,3,4,5,6,7,8,9,0,1,2,3,4,5,6",
+            [1, 2, 3, 4, 5, 6, 7, 8, 9, 0, 1, 2, 3, 4, 5, 6],
+            16,
+            ListEnd::Over(31),
+        ),
+        (
+            b"1,2,3,4,5,6,7,8,90,10,11,12345,1]",
+            [1, 2, 3, 4, 5, 6, 7, 8, 90, 10, 11, 12345, 1, 7, 7, 7],
+            13,
+            ListEnd::Over(32),
+        ),
+        (
+            b"1,2,3,4,5,6,7,8,9,10, 32767,-32768",
+            [1, 2, 3, 4, 5, 6, 7, 8, 9, 10, 32767, -32768, 7, 7, 7, 7],
+            12,
+            ListEnd::Over(34),
+        ),
+        (
+            b"-1,-2,-3,-4,-5,-6,-7,-8,-9,-10,-1,2]",
+            [-1, -2, -3, -4, -5, -6, -7, -8, -9, -10, -1, 2, 7, 7, 7, 7],
+            12,
+            ListEnd::Over(35),
+        ),
+        (
+            b"10,11,12,13,14,15,16,17,18,19,1,200",
+            [10, 11, 12, 13, 14, 15, 16, 17, 18, 19, 1, 200, 7, 7, 7, 7],
+            12,
+            ListEnd::Over(35),
+        ),
+        (
+            b"1,2,3,4,5,6,7,8,9,0,x",
+            [1, 2, 3, 4, 5, 6, 7, 8, 9, 0, 7, 7, 7, 7, 7, 7],
+            10,
+            ListEnd::Fault(LiteralError::Empty(20)),
+        ),
+        (
+            b"1,2,3,4,5,6,7,8,9,0,32768",
+            [1, 2, 3, 4, 5, 6, 7, 8, 9, 0, 7, 7, 7, 7, 7, 7],
+            10,
+            ListEnd::Fault(LiteralError::Overflow(24)),
+        ),
+        (
+            b"1,2,3,4,5,6,7,8,9,0,-32769",
+            [1, 2, 3, 4, 5, 6, 7, 8, 9, 0, 7, 7, 7, 7, 7, 7],
+            10,
+            ListEnd::Fault(LiteralError::Overflow(25)),
+        ),
+    ];
+    for (text, out, count, end) in rows {
+        let answer = sixteen(text);
+        assert!(rt; answer == (out, count, end), "{text:?}: {answer:?}");
+    }
+}
+
 #[test]
 #[tactic(auto, unfolding(lexical_format::proofs::OnLiterals::lexical_on_literals))]
 fn lists_of_floats_and_of_a_form(rt: HostRuntime) {
