@@ -123,7 +123,7 @@ fn read_leading(
     let text = bytes.get_buffer();
     let at = bytes.cursor();
     let first = most.and_then(|most| first_digit(text, rule, at, before, u128::from(most)));
-    if let Some(read) = read_slice(text, rule, at, before, first, most, Way::ByEights) {
+    if let Some(read) = read_slice(text, rule, at, before, first, most, Way::OneByOne) {
         bytes.pass_read(component, read.end, read.count);
         return read.outcome();
     }

@@ -73,8 +73,8 @@ pub fn read_integer_from(
     let rule = Rule::of(word, Component::Integer);
     // A compiler sees that without inner separators no digit follows a first byte that is none.
     match first_digit(text, rule, start, 0, u128::from(most)) {
-        None if !rule.internal => read_integer_known(text, word, start, None, most, Way::ByEights),
-        first => read_integer_known(text, word, start, first, most, Way::ByEights),
+        None if !rule.internal => read_integer_known(text, word, start, None, most, Way::OneByOne),
+        first => read_integer_known(text, word, start, first, most, Way::OneByOne),
     }
 }
 
@@ -309,7 +309,7 @@ pub(super) fn read_known(
     ensures reads { ReadsTo (rule_of word component) text.now start 0 most result.0 0 }
     ensures empty { result.1 ≡ (result.0.count == 0) }
 {
-    match read_component_slice(text, word, component, start, first, most, Way::ByEights) {
+    match read_component_slice(text, word, component, start, first, most, Way::OneByOne) {
         Some(read) => (read, read.end == start),
         None => {
             let read = read_fresh_bytes(text, word, component, start, most);

@@ -377,7 +377,7 @@ pub fn read_number_from<T: Integer>(
     ensures overflow_at { let n = length text.now in
         IfOverflow result (λ at. (start ≤ at) × (at < n)) }
 {
-    read_number_by::<T>(text, word, start, Way::ByEights)
+    read_number_by::<T>(text, word, start, Way::OneByOne)
 }
 
 /// Whether a number has a `-`, and where its digits begin, as [`read_sign`] says: by no branch that
@@ -604,7 +604,7 @@ pub fn parse_number_from<T: Integer>(text: &[u8], word: u128, start: usize) -> R
     }
     let head = read_sign::<T>(text, word, start);
     let most = greatest::<T>(head.is_negative);
-    let number = match read_wide_known(text, word, head.begin, head.first, most, Way::ByEights) {
+    let number = match read_wide_known(text, word, head.begin, head.first, most, Way::OneByOne) {
         Ok((magnitude, end)) => Ok((T::of_magnitude(head.is_negative, magnitude), end)),
         Err(error) => Err(error),
     };

@@ -111,9 +111,11 @@ pub(super) fn first_digit(
 /// How digits are read where eight bytes are there, and the radix is 10. It is only for speed.
 #[derive(Clone, Copy, Debug, PartialEq, Eq)]
 pub(super) enum Way {
-    /// Eight bytes at a time: how many digits there are is no branch.
+    /// Eight bytes at a time: how many digits there are is no branch, but what follows waits for
+    /// them. In lists, and of long numbers.
     ByEights,
-    /// One by one: a processor may guess where they end.
+    /// One by one: where digits end is a branch, which a processor guesses if they are most often
+    /// as many.
     OneByOne,
 }
 

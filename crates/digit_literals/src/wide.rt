@@ -45,7 +45,7 @@ pub fn read_wide_from(
     ensures overflow_at { let n = length text.now in
         IfOverflow result (λ at. (start ≤ at) × (at < n)) }
 {
-    read_wide_known(text, word, start, None, most, Way::ByEights)
+    read_wide_known(text, word, start, None, most, Way::OneByOne)
 }
 
 /// [`read_wide_from`], where the digit at `start` may be known.
