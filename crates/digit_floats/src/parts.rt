@@ -499,7 +499,7 @@ pub fn read_parts(text: &[u8], word: u128, marks: Marks, start: usize) -> Result
 
 /// [`read_parts`] of a number whose integer has a digit, where integer and fraction have at most 19
 /// digits, an exponent has 1 to 19, and no separator is met. Otherwise it answers `None`. It is
-/// small, and calls nothing.
+/// small.
 #[inline(always)]
 pub fn read_short_parts(text: &[u8], word: u128, marks: Marks, start: usize) -> Option<Parts>
     requires supported { IsTrue (is_supported word) }

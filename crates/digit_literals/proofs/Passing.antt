@@ -1,7 +1,6 @@
--- Bytes that are passed as long as a test holds: one, or none.
-use Rattle.std.proofs.Common.{◌≡◌, ℕ, zero, suc, ◌+◌, ◌-◌, List, [], ◌∷◌, length, take, drop, take_while, refl, sym, arith}
+-- Bytes that are passed as long as a test holds: one, or none, or the first and others.
+use Rattle.std.proofs.Common.{◌≡◌, ℕ, zero, suc, ◌+◌, ◌-◌, List, [], ◌∷◌, length, take, drop, take_while, refl, arith}
 use Rattle.std.specs.Prelude.{Bool, true, false, slice_get}
-use mir.Val.{bool_byte}
 use Rattle.std.proofs.lemmas.List.{drop_all, take_rest}
 use Rattle.std.proofs.lemmas.List.Sums.{take_while-cons}
 use Rattle.lexical_digits.specs.Cursor.{holds_of}
@@ -21,21 +20,14 @@ one_passed p (x ∷ xs) (suc i) e =
     let next : suc i + 1 ≡ suc (i + 1) = omega arith in
     rw next (one_passed p xs i e)
 
--- where more than one is passed, the first is one of them
-pub first_and_others : (p : ℕ → Bool) (xs : List ℕ) (i more count : ℕ) (here : Bool)
-    → here ≡ holds_of p (slice_get xs i) → more ≡ bool_byte here
-    → holds_of p (slice_get xs (i + more)) ≡ true
-    → count ≡ length (take_while p (take (length xs - (i + more)) (drop (i + more) xs)))
-    → i + more + count ≡ i + length (take_while p (drop i xs))
-first_and_others p xs i more count true here one next is =
-    let same : i + more ≡ i + 1 = omega (arith, one) in
-    let rest : count ≡ length (take_while p (drop (i + more) xs)) =
-    rw (take_rest xs (i + more)) at is in
-    let others : count ≡ length (take_while p (drop (i + 1) xs)) = rw same at rest in
-    omega (arith, one, others, one_passed p xs i (sym here))
-first_and_others p xs i more count false here none next is =
-    let same : i + more ≡ i = omega (arith, none) in
-    let there : holds_of p (slice_get xs i) ≡ true = rw same at next in
-    absurd (grind (arith, here, there))
+-- where the first is passed, it and the others after it
+pub first_and_others : (p : ℕ → Bool) (xs : List ℕ) (i count : ℕ)
+    → holds_of p (slice_get xs i) ≡ true
+    → count ≡ length (take_while p (take (length xs - (i + 1)) (drop (i + 1) xs)))
+    → i + 1 + count ≡ i + length (take_while p (drop i xs))
+first_and_others p xs i count here is =
+    let rest : count ≡ length (take_while p (drop (i + 1) xs)) =
+    rw (take_rest xs (i + 1)) at is in
+    omega (arith, rest, one_passed p xs i here)
 
 pub ruleset passing = (none_passed, one_passed)

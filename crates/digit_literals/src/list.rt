@@ -205,9 +205,9 @@ impl Gap {
     }
 }
 
-/// The last numbers of a list. It is only for speed, of lists of digits: where the last eight
-/// numbers have one byte each, or two, the next one has most often as many, and a processor guesses
-/// where it ends. Where longer numbers end, and others, eight bytes tell sooner.
+/// The last numbers of a list. It is only for speed, of lists of digits: where the last nine
+/// numbers have one byte each, or two each, the next one has most often as many, and a processor
+/// guesses where it ends. Where longer numbers end, and others, eight bytes tell sooner.
 #[derive(Clone, Copy)]
 struct Last {
     /// How many bytes the last one has.

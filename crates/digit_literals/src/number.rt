@@ -322,7 +322,7 @@ fn read_sign<T: Integer>(text: &[u8], word: u128, start: usize) -> Head
     head
 }
 
-/// [`read_number_from`], its digits in a way.
+/// [`read_number_from`], whose digits are read in this way.
 #[inline(always)]
 pub(super) fn read_number_by<T: Integer>(
     text: &[u8],

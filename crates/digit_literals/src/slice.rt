@@ -112,7 +112,7 @@ pub(super) fn first_digit(
 #[derive(Clone, Copy, Debug, PartialEq, Eq)]
 pub(super) enum Way {
     /// Eight bytes at a time: how many digits there are is no branch, but what follows waits for
-    /// them. In lists, and of long numbers.
+    /// them. In lists of types of up to 64 bits, of first digits, and of long numbers.
     ByEights,
     /// One by one: where digits end is a branch, which a processor guesses if they are most often
     /// as many.

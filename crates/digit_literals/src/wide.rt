@@ -48,7 +48,8 @@ pub fn read_wide_from(
     read_wide_known(text, word, start, None, most, Way::OneByOne)
 }
 
-/// [`read_wide_from`], where the digit at `start` may be known.
+/// [`read_wide_from`], where the digit at `start` may be known. The way is that of a type of up to
+/// 64 bits.
 #[inline(always)]
 pub(super) fn read_wide_known(
     text: &[u8],
