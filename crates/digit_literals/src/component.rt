@@ -10,7 +10,7 @@ ghost use Rattle.digit_literals.specs.After.{past_digits_to, digits_read, IsDigi
 ghost use Rattle.digit_literals.specs.Reads.{ReadsOn};
 
 use super::reading::{Digits, TooLarge};
-use super::slice::{Way, first_digit, read_bytes, read_slice};
+use super::slice::{first_digit, read_bytes, read_slice};
 use super::zeros::{pass_zeros_bytes, read_zeros};
 use lexical_digits::iterator::Iter;
 use lexical_digits::skip::{Bytes, Component};
@@ -123,7 +123,7 @@ fn read_leading(
     let text = bytes.get_buffer();
     let at = bytes.cursor();
     let first = most.and_then(|most| first_digit(text, rule, at, before, u128::from(most)));
-    if let Some(read) = read_slice(text, rule, at, before, first, most, Way::OneByOne) {
+    if let Some(read) = read_slice(text, rule, at, before, first, most) {
         bytes.pass_read(component, read.end, read.count);
         return read.outcome();
     }

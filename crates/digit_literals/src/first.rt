@@ -16,7 +16,7 @@ use super::component::{pass_digits, read_digits_up_to};
 use super::eight::{Plain, no_digits, read_words};
 use super::reading::Digits;
 use super::slice::{
-    ReadTo, Way, begin, begin_decimal, first_digit, read_bare, read_on, read_slice,
+    ReadTo, Way, begin, begin_decimal, first_digit, read_bare, read_on, read_slice_by,
 };
 use super::wide::ten_to;
 use lexical_digits::iterator::Iter;
@@ -173,7 +173,15 @@ fn read_first_again(
 {
     let rule = Rule::of(word, component);
     if rule.radix == 10 {
-        if let Some(read) = read_slice(text, rule, start, before, None, Some(most), Way::ByEights) {
+        if let Some(read) = read_slice_by(
+            text,
+            rule,
+            start,
+            before,
+            None,
+            Some(most),
+            Way::ByEights,
+        ) {
             if !read.is_too_large {
                 return FirstRead {
                     digits: FirstDigits {
@@ -239,7 +247,7 @@ fn count_rest(text: &[u8], rule: Rule, start: usize) -> Option<ReadTo>
     requires within { start ≤ length text.now }
     ensures { IfSome result (IsOffSlice rule text.now start 0 None) }
 {
-    read_slice(text, rule, start, 0, None, None, Way::ByEights)
+    read_slice_by(text, rule, start, 0, None, None, Way::ByEights)
 }
 
 /// The greatest value of 19 digits.

@@ -15,7 +15,7 @@ ghost use Rattle.digit_literals.specs.Reads.{ReadsTo, IsFirst, integer_of};
 use super::LiteralError;
 use super::eight::{NONE, Whole, read_few, read_whole};
 use super::groups::read_grouped;
-use super::slice::{ReadTo, Way, first_digit, read_bytes, read_slice};
+use super::slice::{ReadTo, Way, first_digit, read_bytes, read_slice, read_slice_by};
 use lexical_digits::iterator::Iter;
 use lexical_digits::skip::{Bytes, Component, Rule};
 
@@ -103,7 +103,7 @@ pub(super) fn read_integer_known(
         IfOverflow result (λ at. (start ≤ at) × (at < n)) }
 {
     // not by `read_known`: a test where the two ways meet again costs more than the code twice
-    match read_component_slice(
+    match read_component_slice_by(
         text,
         word,
         Component::Integer,
@@ -309,7 +309,7 @@ pub(super) fn read_known(
     ensures reads { ReadsTo (rule_of word component) text.now start 0 most result.0 0 }
     ensures empty { result.1 ≡ (result.0.count == 0) }
 {
-    match read_component_slice(text, word, component, start, first, most, Way::OneByOne) {
+    match read_component_slice(text, word, component, start, first, most) {
         Some(read) => (read, read.end == start),
         None => {
             let read = read_fresh_bytes(text, word, component, start, most);
@@ -345,6 +345,27 @@ pub(super) fn read_component_slice(
     start: usize,
     first: Option<u32>,
     most: Option<u64>,
+) -> Option<ReadTo>
+    requires supported { IsTrue (is_supported word) }
+    requires within { start ≤ length text.now }
+    requires first { let r = rule_of word component in
+        IfSome first (IsFirst r text.now start 0 most) }
+    ensures reads { let r = rule_of word component in
+        IfSome result (λ read. ReadsTo r text.now start 0 most read 0) }
+    ensures empty { IfSome result (λ read. (read.end == start) ≡ (read.count == 0)) }
+{
+    read_slice(text, Rule::of(word, component), start, 0, first, most)
+}
+
+/// [`read_component_slice`], whose digits are read in this way.
+#[inline(always)]
+pub(super) fn read_component_slice_by(
+    text: &[u8],
+    word: u128,
+    component: Component,
+    start: usize,
+    first: Option<u32>,
+    most: Option<u64>,
     way: Way,
 ) -> Option<ReadTo>
     requires supported { IsTrue (is_supported word) }
@@ -355,7 +376,7 @@ pub(super) fn read_component_slice(
         IfSome result (λ read. ReadsTo r text.now start 0 most read 0) }
     ensures empty { IfSome result (λ read. (read.end == start) ≡ (read.count == 0)) }
 {
-    read_slice(text, Rule::of(word, component), start, 0, first, most, way)
+    read_slice_by(text, Rule::of(word, component), start, 0, first, most, way)
 }
 
 /// Reads the digits of a component from `start` on by a `Bytes`, whatever separators are met: up to

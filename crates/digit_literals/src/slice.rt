@@ -131,7 +131,6 @@ pub(super) fn read_slice(
     before: u64,
     first: Option<u32>,
     most: Option<u64>,
-    way: Way,
 ) -> Option<ReadTo>
     requires supported { IsSupported rule }
     requires within { start ≤ length text.now }
@@ -141,10 +140,36 @@ pub(super) fn read_slice(
 {
     // A compiler makes code of its own for a radix that is written out.
     if rule.radix == 10 {
+        read_radix(text, rule, 10, start, before, first, most)
+    } else {
+        read_radix(text, rule, rule.radix, start, before, first, most)
+    }
+}
+
+/// [`read_slice`], whose digits are read in this way. Apart from it, since it is large: with it in
+/// their place, literals of a constant language would be read by a call (the rows `w`).
+#[inline(always)]
+pub(super) fn read_slice_by(
+    text: &[u8],
+    rule: Rule,
+    start: usize,
+    before: u64,
+    first: Option<u32>,
+    most: Option<u64>,
+    way: Way,
+) -> Option<ReadTo>
+    requires supported { IsSupported rule }
+    requires within { start ≤ length text.now }
+    requires fits { IfSome most (λ m. before ≤ m) }
+    requires first { IfSome first (IsFirst rule text.now start before most) }
+    ensures { IfSome result (IsOffSlice rule text.now start before most) }
+{
+    if rule.radix == 10 {
         let plain = begin_decimal(text, rule, start, before, first, most, way);
         read_on(text, rule, 10, start, before, plain, most)
     } else {
-        read_radix(text, rule, rule.radix, start, before, first, most)
+        let radix = rule.radix;
+        read_radix(text, rule, radix, start, before, first, most)
     }
 }
 

@@ -14,7 +14,7 @@ ghost use Rattle.digit_literals.specs.declared.LiteralError.TheVariants.{Empty, 
 
 use super::LiteralError;
 use super::integer::{integer_of, read_integer_known, read_known, stop_from};
-use super::slice::{ReadTo, Way, read_slice};
+use super::slice::{ReadTo, Way, read_slice_by};
 use lexical_digits::skip::{Component, Rule};
 use lexical_format::char_to_digit_const;
 
@@ -275,7 +275,7 @@ fn read_pieces(
     let mut value = u128::from(before);
     let mut at = from;
     while at < text.len() {
-        let read = read_slice(text, rule, at, 0, None, Some(u64::MAX), Way::ByEights)?;
+        let read = read_slice_by(text, rule, at, 0, None, Some(u64::MAX), Way::ByEights)?;
         value = join(value, rule.radix, read)?;
         if !read.is_too_large {
             return Some((value, read.end));
