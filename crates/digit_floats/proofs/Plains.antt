@@ -10,7 +10,7 @@ use Rattle.lexical_digits.specs.Separators.{is_digit, is_separator, IsSupported}
 use Rattle.lexical_digits.specs.Stop.{stop}
 use Rattle.digit_literals.specs.After.{digits_between}
 use Rattle.digit_literals.specs.First.{ReadsFirst}
-use Rattle.digit_literals.specs.Reads.{ArePlain, IsOffSlice, bare_read}
+use Rattle.digit_literals.specs.Reads.{ArePlain, IsOffSlice}
 use Rattle.digit_literals.proofs.ForCallers.{value_more, all_digits}
 use Rattle.digit_literals.proofs.Passed.{reading}
 use Rattle.digit_literals.proofs.Plain.{passed, counted, decimal, lt_or_le}
@@ -168,9 +168,11 @@ module _ (rule : Rule) (text : List ℕ) (start end : ℕ) (supported : IsSuppor
   pub all_count : end ≡ start + length (digits_between rule text start end)
   all_count = counted rule text start plain
 
+  -- as many digits were read as bytes
   off : (end < length text → is_digit rule (slice_index text end) ≡ false)
       → (end < length text → is_separator rule.separator (slice_index text end) ≡ false)
-      → IsOffSlice rule text start 0 None (bare_read start value end)
+      → IsOffSlice rule text start 0 None
+      (record { value = value; count = end - start; end = end; is_too_large = false })
   off other apart =
       let all = counted rule text start plain in
       let kept = passed rule text start plain in

@@ -92,11 +92,6 @@ pub record Passes (k : Component) (before : ℕ) (most : Option ℕ) (a b : Held
   pub owes : owed b ≤ℤ (owed a +ℤ pos (8 * read.count + 4))
   pub at_least : min (a.looks + 2 * read.count) (2 ^ 64 - 1) ≤ b.looks
 
--- digits that were read, as many as bytes
-abbrev pub bare_read : ℕ → ℕ → ℕ → ReadTo
-bare_read start value end =
-    record { value = value; count = end - start; end = end; is_too_large = false }
-
 -- what a reader of digits answers
 abbrev pub outcome : ReadTo → Result Digits TooLarge
 outcome read =
