@@ -74,13 +74,9 @@ pub(super) fn add_digit(value: u64, radix: u32, digit: u32, most: u64) -> Option
     ensures { let more = value * radix + digit in
         MatchOption result (most < more) (λ v. (v ≡ more) × (v ≤ most)) }
 {
-    if radix == 10 && digit < 10 {
-        // one comparison shows most often that the value fits, and no product is tested
-        let before = most / 10;
-        if value < before || (value == before && u64::from(digit) <= most % 10) {
-            return Some(value * 10 + u64::from(digit));
-        }
-        return None;
+    // the usual case: one comparison shows that the value fits
+    if radix == 10 && digit < 10 && value < most / 10 {
+        return Some(value * 10 + u64::from(digit));
     }
     let more = value
         .checked_mul(u64::from(radix))?
