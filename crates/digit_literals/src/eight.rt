@@ -99,6 +99,18 @@ fn eight_from(text: &[u8], at: usize) -> Option<u64>
     Some(value_of(digits_at(text, at)?))
 }
 
+/// [`eight_from`], if eight bytes are there.
+#[inline]
+fn eight_at(text: &[u8], at: usize) -> Option<u64>
+    requires { at ≤ length text.now }
+    ensures { IfSome result (IsWritten text.now at 8) }
+{
+    if text.len() - at < 8 {
+        return None;
+    }
+    eight_from(text, at)
+}
+
 /// Digits with no separator among them.
 #[derive(Clone, Copy)]
 pub(super) struct Plain {
@@ -107,6 +119,23 @@ pub(super) struct Plain {
     pub(super) value: u64,
     /// The position after them.
     pub(super) end: usize,
+}
+
+/// Digits from `start` on by eights, after the value `before`, as long as eight are there. All
+/// others are left.
+#[inline(always)]
+pub(super) fn read_eights(text: &[u8], rule: Rule, start: usize, before: u64) -> Plain
+    requires radix { rule.radix ≡ 10 }
+    requires within { start ≤ length text.now }
+    ensures { ArePlain rule text.now start before None result.end result.value }
+{
+    let mut value = before;
+    let mut end = start;
+    while let Some(next) = eight_at(text, end) {
+        value = value.wrapping_mul(100_000_000).wrapping_add(next);
+        end += 8;
+    }
+    Plain { value, end }
 }
 
 /// The number that the first of eight digits write, whatever the others are.

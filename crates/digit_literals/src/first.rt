@@ -13,11 +13,9 @@ ghost use Rattle.digit_literals.specs.First.{ReadsFirst};
 ghost use Rattle.digit_literals.specs.Reads.{ArePlain, IsFirst, IsOffSlice, PassesAll};
 
 use super::component::{pass_digits, read_digits_up_to};
-use super::eight::{Plain, no_digits, read_words};
+use super::eight::{Plain, read_eights};
 use super::reading::Digits;
-use super::slice::{
-    ReadTo, Way, begin, begin_decimal, first_digit, read_bare, read_on, read_slice_by,
-};
+use super::slice::{ReadTo, Way, begin, first_digit, read_bare, read_on, read_radix, read_slice_by};
 use super::wide::ten_to;
 use lexical_digits::iterator::Iter;
 use lexical_digits::skip::{Bytes, Component, Rule};
@@ -107,7 +105,7 @@ pub fn read_first_digits_from(
     ensures end { result.1 ≤ length text.now }
 {
     let rule = Rule::of(word, component);
-    if let Some(read) = decimals_slice(text, rule, start, before, most) {
+    if let Some(read) = decimals_slice(text, rule, start, before, most, is_long(component)) {
         let all = FirstDigits {
             value: read.value,
             count: read.count,
@@ -173,15 +171,7 @@ fn read_first_again(
 {
     let rule = Rule::of(word, component);
     if rule.radix == 10 {
-        if let Some(read) = read_slice_by(
-            text,
-            rule,
-            start,
-            before,
-            None,
-            Some(most),
-            Way::ByEights,
-        ) {
+        if let Some(read) = read_up_to(text, rule, start, before, most) {
             if !read.is_too_large {
                 return FirstRead {
                     digits: FirstDigits {
@@ -205,6 +195,25 @@ fn read_first_again(
         }
     }
     read_first_fresh_bytes(text, word, component, start, before, most)
+}
+
+/// The digits of a rule with radix 10 from `start` on, up to the first with which the value is too
+/// large: by words where 19 digits fit, since there are more then, or a separator. Otherwise there
+/// may be few.
+#[inline(always)]
+fn read_up_to(text: &[u8], rule: Rule, start: usize, before: u64, most: u64) -> Option<ReadTo>
+    requires supported { IsSupported rule }
+    requires radix { rule.radix ≡ 10 }
+    requires within { start ≤ length text.now }
+    requires fits { before ≤ most }
+    ensures { IfSome result (IsOffSlice rule text.now start before (Some most)) }
+{
+    if most >= MOST_OF_19 {
+        let way = Way::ByEights;
+        return read_slice_by(text, rule, start, before, None, Some(most), way);
+    }
+    let first = first_digit(text, rule, start, before, u128::from(most));
+    read_radix(text, rule, 10, start, before, first, Some(most))
 }
 
 /// [`read_first_digits_from`] by a `Bytes`, whatever separators are met and however many digits
@@ -276,6 +285,28 @@ fn are_few(before: u64, count: usize) -> bool
     before == 0 || is_below(before, count)
 }
 
+/// Whether a component of a float often has eight digits or more.
+#[inline(always)]
+fn is_long(component: Component) -> bool {
+    component == Component::Fraction
+}
+
+/// The digits that are read before the loop: by eights, or the first, if it is known.
+#[inline(always)]
+fn read_plain(text: &[u8], rule: Rule, start: usize, before: u64, by_eights: bool) -> Plain
+    requires radix { rule.radix ≡ 10 }
+    requires within { start ≤ length text.now }
+    ensures { ArePlain rule text.now start before None result.end result.value }
+{
+    // where separators are dropped between digits, few numbers have eight in a row
+    if by_eights && !rule.internal {
+        read_eights(text, rule, start, before)
+    } else {
+        let first = first_digit(text, rule, start, before, u128::from(u64::MAX));
+        begin(text, rule, 10, start, before, first, None)
+    }
+}
+
 /// The decimal digit at a position, if one is there.
 #[inline(always)]
 #[tactic(auto, using(std::proofs::lemmas::Option::gets), unfolding(lexical_format::specs::Digits::digit_value))]
@@ -290,7 +321,7 @@ fn decimal_at(text: &[u8], rule: Rule, at: usize) -> Option<u32>
 /// Reads the decimal digits of a component that begins at `start`, where there are 1 to 19, and no
 /// separator is met. Otherwise it answers `None`, and [`read_first_digits_from`] reads them. It is
 /// small, and calls nothing.
-#[inline(always)]
+#[inline]
 pub fn read_some_digits_from(
     text: &[u8],
     word: u128,
@@ -313,9 +344,10 @@ pub fn read_some_digits_from(
     ensures some { IfSome result (λ read. 0 < read.0.count) }
     ensures digit { IfSome result (λ _. holds_of is_ascii_digit (slice_get text.now start) ≡ true) }
 {
-    let first = decimal_at(text, Rule::of(word, component), start)?;
-    let digits = bare_slice(text, word, component, start, first)?;
-    let read = few_of(text, word, component, start, 0, 0, digits)?;
+    let rule = Rule::of(word, component);
+    let first = decimal_at(text, rule, start)?;
+    let plain = begin(text, rule, 10, start, 0, Some(first), None);
+    let read = few_slice(text, rule, start, 0, 0, plain)?;
     let all = FirstDigits {
         value: read.value,
         count: read.count,
@@ -352,8 +384,9 @@ pub fn read_few_digits_from(
     ensures onward { IfSome result (λ read. start + read.0.count ≤ read.1) }
     ensures end { IfSome result (λ read. read.1 ≤ length text.now) }
 {
-    let digits = bare_by_words(text, word, component, start, before)?;
-    let read = few_of(text, word, component, start, before, counted, digits)?;
+    let rule = Rule::of(word, component);
+    let plain = read_plain(text, rule, start, before, true);
+    let read = few_slice(text, rule, start, before, counted, plain)?;
     let all = FirstDigits {
         value: read.value,
         count: read.count,
@@ -362,100 +395,46 @@ pub fn read_few_digits_from(
     Some((all, read.end))
 }
 
-/// Digits that were read, if with those before they are at most 19.
+/// Reads the digits of a rule with radix 10 from `start` on, where no separator is met, and with
+/// those before at most 19 are there. Some of them were read.
 #[inline(always)]
-fn few_of(
+fn few_slice(
     text: &[u8],
-    word: u128,
-    component: Component,
+    rule: Rule,
     start: usize,
     before: u64,
     counted: usize,
-    read: ReadTo,
+    plain: Plain,
 ) -> Option<ReadTo>
-    requires decimal { (rule_of word component).radix ≡ 10 }
+    requires supported { IsSupported rule }
+    requires radix { rule.radix ≡ 10 }
     requires before { before < 10 ^ counted }
     requires counted { counted ≤ 19 }
-    requires reads { IsOffSlice (rule_of word component) text.now start before None read }
-    requires all { read.is_too_large ≡ false }
-    ensures reads { let r = rule_of word component in
-        IfSome result (IsOffSlice r text.now start before (Some (10 ^ 19 - 1))) }
+    requires plain { ArePlain rule text.now start before None plain.end plain.value }
+    ensures reads { IfSome result (IsOffSlice rule text.now start before (Some (10 ^ 19 - 1))) }
     ensures all { IfSome result (λ read. read.is_too_large ≡ false) }
     ensures few { IfSome result (λ read. counted + read.count ≤ 19) }
     ensures below { IfSome result (λ read. read.value < 10 ^ (counted + read.count)) }
+    ensures onward { IfSome result (λ read. plain.end ≤ start + read.count) }
 {
+    let read = read_bare(text, rule, start, before, plain)?;
     if read.count > 19 - counted {
         return None;
     }
     Some(read)
 }
 
-/// Reads the decimal digits of a component from `start` on one by one, where no separator is met,
-/// and the first is known: those of an integer or an exponent, which has few, most often as many as
-/// the one before.
-#[inline(always)]
-fn bare_slice(
-    text: &[u8],
-    word: u128,
-    component: Component,
-    start: usize,
-    first: u32,
-) -> Option<ReadTo>
-    requires supported { IsTrue (is_supported word) }
-    requires decimal { (rule_of word component).radix ≡ 10 }
-    requires within { start ≤ length text.now }
-    requires first { IsFirst (rule_of word component) text.now start 0 None first }
-    ensures reads { let r = rule_of word component in
-        IfSome result (IsOffSlice r text.now start 0 None) }
-    ensures all { IfSome result (λ read. read.is_too_large ≡ false) }
-{
-    let rule = Rule::of(word, component);
-    let plain = begin(text, rule, 10, start, 0, Some(first), None);
-    read_bare(text, rule, start, 0, plain)
-}
-
-/// Reads the decimal digits of a fraction from `start` on, where no separator is met: by words, and
-/// those of the last seven bytes of a text one by one.
-#[inline(always)]
-fn bare_by_words(
-    text: &[u8],
-    word: u128,
-    component: Component,
-    start: usize,
-    before: u64,
-) -> Option<ReadTo>
-    requires supported { IsTrue (is_supported word) }
-    requires decimal { (rule_of word component).radix ≡ 10 }
-    requires within { start ≤ length text.now }
-    ensures reads { let r = rule_of word component in
-        IfSome result (IsOffSlice r text.now start before None) }
-    ensures all { IfSome result (λ read. read.is_too_large ≡ false) }
-{
-    let rule = Rule::of(word, component);
-    let none = no_digits(text, rule, start, before);
-    let plain = read_words(text, rule, start, before, none);
-    read_bare(text, rule, start, before, plain)
-}
-
-/// The digits that are read before the loop: by words, or the first, if it is known.
-#[inline(always)]
-fn begin_first(text: &[u8], rule: Rule, start: usize, before: u64) -> Plain
-    requires radix { rule.radix ≡ 10 }
-    requires within { start ≤ length text.now }
-    ensures { ArePlain rule text.now start before None result.end result.value }
-{
-    // where separators are dropped between digits, few numbers have eight in a row
-    if !rule.internal {
-        return begin_decimal(text, rule, start, before, None, None, Way::ByEights);
-    }
-    let first = first_digit(text, rule, start, before, u128::from(u64::MAX));
-    begin(text, rule, 10, start, before, first, None)
-}
-
 /// Reads the digits of a rule with radix 10 from `start` on, where the slice is enough, and 19
 /// digits fit and no more are there.
 #[inline(always)]
-fn decimals_slice(text: &[u8], rule: Rule, start: usize, before: u64, most: u64) -> Option<ReadTo>
+fn decimals_slice(
+    text: &[u8],
+    rule: Rule,
+    start: usize,
+    before: u64,
+    most: u64,
+    by_eights: bool,
+) -> Option<ReadTo>
     requires supported { IsSupported rule }
     requires within { start ≤ length text.now }
     requires fits { before ≤ most }
@@ -466,7 +445,7 @@ fn decimals_slice(text: &[u8], rule: Rule, start: usize, before: u64, most: u64)
         return None;
     }
     // no digit is tested for being too large: 19 never are
-    let plain = begin_first(text, rule, start, before);
+    let plain = read_plain(text, rule, start, before, by_eights);
     let read = read_on(text, rule, 10, start, before, plain, None)?;
     if are_few(before, read.count) {
         Some(read)
@@ -489,7 +468,14 @@ fn read_first_slice(
     ensures leaves { IfNone result (bytes.new ≡ bytes.old) }
 {
     let rule = bytes.rule(component);
-    let read = decimals_slice(bytes.get_buffer(), rule, bytes.cursor(), before, most)?;
+    let read = decimals_slice(
+        bytes.get_buffer(),
+        rule,
+        bytes.cursor(),
+        before,
+        most,
+        is_long(component),
+    )?;
     bytes.pass_read(component, read.end, read.count);
     Some(Digits {
         value: read.value,

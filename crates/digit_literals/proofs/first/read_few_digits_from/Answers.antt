@@ -2,11 +2,16 @@ use Rattle.std.proofs.Common.{◌-◌, ◌^◌, arith}
 use Rattle.lexical_digits.specs.Laws.Terms.{IsState}
 use Rattle.lexical_digits.specs.State.{start, with_cursor}
 use Rattle.lexical_digits.proofs.Calls.Stops.{leading_between}
+use Rattle.lexical_digits.proofs.Rule.Supported.{supported_rule}
 use Rattle.digit_literals.specs.declared.reading.Digits.{Digits}
 use Rattle.digit_literals.specs.After.{IsDigits}
 use Rattle.digit_literals.proofs.Firsts.{reads_all}
 use Rattle.digit_literals.proofs.States.{own_of_fresh}
 use Rattle.digit_literals.proofs.first.read_few_digits_from.Goals as goal
+
+pub few_slice-requires-clause-supported : goal.few_slice-requires-clause-supported
+few_slice-requires-clause-supported c =
+    grind (arith, supported_rule c.args.word c.args.component c.requires.supported)
 
 pub returns-clause-end : goal.returns-clause-end
 returns-clause-end c = (c.in_ok-read.ensures.reads.reads 0).within
@@ -17,7 +22,7 @@ returns-clause-first c =
     let s = with_cursor (start c.args.text.now c.args.word) c.args.start in
     let valid : IsState s = grind arith in
     let none = own_of_fresh k c.args.text.now c.args.word c.args.start in
-    let reads = c.in_ok-read.ensures.reads.reads 0 in
+    let reads = rw c.of-rule.ensures at c.in_ok-read.ensures.reads.reads 0 in
     let all : Digits = record { value = c.in_ok-read.read.value; count = c.in_ok-read.read.count }
     in
     let between = leading_between k s valid in

@@ -22,8 +22,8 @@ not_false : (b : Bool) → not b ≡ false → b ≡ true
 not_false true e = refl
 not_false false e = sym e
 
-pub read_slice_by-requires-clause-supported : goal.read_slice_by-requires-clause-supported
-read_slice_by-requires-clause-supported c =
+pub read_up_to-requires-clause-supported : goal.read_up_to-requires-clause-supported
+read_up_to-requires-clause-supported c =
     grind (arith, supported_rule c.args.word c.args.component c.requires.supported)
 
 pub count_rest-requires-clause-supported : goal.count_rest-requires-clause-supported
