@@ -252,27 +252,18 @@ pub(super) fn read_words(text: &[u8], rule: Rule, start: usize, before: u64, pla
     Plain { value, end }
 }
 
-/// The greatest value of 16 digits.
-const MOST_OF_16: u64 = 9_999_999_999_999_999;
-
 /// Digits from `start` on whose value is at most `most`, by a word, and by a second one if eight
-/// bytes more are there and 16 digits are never too large. None if those of the first are: the loop
-/// that goes on tells which of them is.
+/// bytes more are there: 16 digits are never too large.
 #[inline(always)]
 pub(super) fn read_words_up_to(text: &[u8], rule: Rule, start: usize, most: u64) -> Plain
     requires radix { rule.radix ≡ 10 }
     requires within { start + 8 ≤ length text.now }
+    requires large { 10 ^ 19 - 1 ≤ most }
     ensures { ArePlain rule text.now start 0 (Some most) result.end result.value }
 {
     let first = front_at(text, start);
-    if first.value > most {
-        return Plain {
-            value: 0,
-            end: start,
-        };
-    }
     let end = start + first.count;
-    if first.count < 8 || most < MOST_OF_16 || text.len() - end < 8 {
+    if first.count < 8 || text.len() - end < 8 {
         return Plain {
             value: first.value,
             end,

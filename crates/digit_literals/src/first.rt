@@ -15,7 +15,9 @@ ghost use Rattle.digit_literals.specs.Reads.{ArePlain, IsFirst, IsOffSlice, Pass
 use super::component::{pass_digits, read_digits_up_to};
 use super::eight::{Plain, read_eights};
 use super::reading::Digits;
-use super::slice::{ReadTo, Way, begin, first_digit, read_bare, read_on, read_radix, read_slice_by};
+use super::slice::{
+    ReadTo, begin, first_digit, read_bare, read_on, read_radix, read_slice_by_words,
+};
 use super::wide::ten_to;
 use lexical_digits::iterator::Iter;
 use lexical_digits::skip::{Bytes, Component, Rule};
@@ -209,8 +211,7 @@ fn read_up_to(text: &[u8], rule: Rule, start: usize, before: u64, most: u64) -> 
     ensures { IfSome result (IsOffSlice rule text.now start before (Some most)) }
 {
     if most >= MOST_OF_19 {
-        let way = Way::ByEights;
-        return read_slice_by(text, rule, start, before, None, Some(most), way);
+        return read_slice_by_words(text, rule, start, before, Some(most));
     }
     let first = first_digit(text, rule, start, before, u128::from(most));
     read_radix(text, rule, 10, start, before, first, Some(most))
@@ -256,7 +257,7 @@ fn count_rest(text: &[u8], rule: Rule, start: usize) -> Option<ReadTo>
     requires within { start ≤ length text.now }
     ensures { IfSome result (IsOffSlice rule text.now start 0 None) }
 {
-    read_slice_by(text, rule, start, 0, None, None, Way::ByEights)
+    read_slice_by_words(text, rule, start, 0, None)
 }
 
 /// The greatest value of 19 digits.

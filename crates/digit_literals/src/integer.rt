@@ -15,7 +15,7 @@ ghost use Rattle.digit_literals.specs.Reads.{ReadsTo, IsFirst, integer_of};
 use super::LiteralError;
 use super::eight::{NONE, Whole, read_few, read_whole};
 use super::groups::read_grouped;
-use super::slice::{ReadTo, Way, first_digit, read_bytes, read_slice, read_slice_by};
+use super::slice::{ReadTo, first_digit, read_bytes, read_slice};
 use lexical_digits::iterator::Iter;
 use lexical_digits::skip::{Bytes, Component, Rule};
 
@@ -73,8 +73,8 @@ pub fn read_integer_from(
     let rule = Rule::of(word, Component::Integer);
     // A compiler sees that without inner separators no digit follows a first byte that is none.
     match first_digit(text, rule, start, 0, u128::from(most)) {
-        None if !rule.internal => read_integer_known(text, word, start, None, most, Way::OneByOne),
-        first => read_integer_known(text, word, start, first, most, Way::OneByOne),
+        None if !rule.internal => read_integer_known(text, word, start, None, most),
+        first => read_integer_known(text, word, start, first, most),
     }
 }
 
@@ -87,7 +87,6 @@ pub(super) fn read_integer_known(
     start: usize,
     first: Option<u32>,
     most: u64,
-    way: Way,
 ) -> Result<(u64, usize), LiteralError>
     requires supported { IsTrue (is_supported word) }
     requires within { start ≤ length text.now }
@@ -103,15 +102,7 @@ pub(super) fn read_integer_known(
         IfOverflow result (λ at. (start ≤ at) × (at < n)) }
 {
     // not by `read_known`: a test where the two ways meet again costs more than the code twice
-    match read_component_slice_by(
-        text,
-        word,
-        Component::Integer,
-        start,
-        first,
-        Some(most),
-        way,
-    ) {
+    match read_component_slice(text, word, Component::Integer, start, first, Some(most)) {
         Some(read) => integer_of(read, read.end == start),
         None => {
             let read = read_fresh_bytes(text, word, Component::Integer, start, Some(most));
@@ -355,28 +346,6 @@ pub(super) fn read_component_slice(
     ensures empty { IfSome result (λ read. (read.end == start) ≡ (read.count == 0)) }
 {
     read_slice(text, Rule::of(word, component), start, 0, first, most)
-}
-
-/// [`read_component_slice`], whose digits are read in this way.
-#[inline(always)]
-pub(super) fn read_component_slice_by(
-    text: &[u8],
-    word: u128,
-    component: Component,
-    start: usize,
-    first: Option<u32>,
-    most: Option<u64>,
-    way: Way,
-) -> Option<ReadTo>
-    requires supported { IsTrue (is_supported word) }
-    requires within { start ≤ length text.now }
-    requires first { let r = rule_of word component in
-        IfSome first (IsFirst r text.now start 0 most) }
-    ensures reads { let r = rule_of word component in
-        IfSome result (λ read. ReadsTo r text.now start 0 most read 0) }
-    ensures empty { IfSome result (λ read. (read.end == start) ≡ (read.count == 0)) }
-{
-    read_slice_by(text, Rule::of(word, component), start, 0, first, most, way)
 }
 
 /// Reads the digits of a component from `start` on by a `Bytes`, whatever separators are met: up to

@@ -11,8 +11,7 @@ ghost use Rattle.digit_literals.specs.Numbers.{number_at};
 
 use super::LiteralError;
 use super::bytes::{BLANKS, accepts};
-use super::number::{Integer, read_number_by};
-use super::slice::Way;
+use super::number::{Integer, read_number_from};
 use lexical_digits::ops::ByteSet;
 
 /// What is between two numbers of a list: one separator, with any blanks around it.
@@ -135,22 +134,18 @@ impl Gap {
     /// The first position from this one on without a blank, or the end of the text. Requires that
     /// the position is within the text.
     #[inline(always)]
-    #[tactic(auto, using(crate::proofs::Passing::passing, crate::proofs::Lists::no_blank), unfolding(crate::specs::Lists::past_blanks))]
+    #[tactic(auto, using(crate::proofs::Lists::no_blank), unfolding(crate::specs::Lists::past_blanks))]
     pub fn past_blanks(self, text: &[u8], at: usize) -> usize
         requires { at ≤ length text.now }
         ensures is { result ≡ past_blanks self text.now at }
         ensures onward { at ≤ result }
         ensures within { result ≤ length text.now }
     {
-        // most lists have no blank, or one after each separator: neither takes a loop
-        if !self.has_blank(text, at) {
-            return at;
-        }
-        let next = at + 1;
-        if self.has_blank(text, next) {
-            next + self.count_blanks(&text[next..])
+        // the usual case, in which none is counted
+        if self.has_blank(text, at) {
+            at + self.count_blanks(&text[at..])
         } else {
-            next
+            at
         }
     }
 
@@ -205,49 +200,11 @@ impl Gap {
     }
 }
 
-/// The last numbers of a list. It is only for speed, of lists of digits: where the last nine
-/// numbers have one byte each, or two each, the next one has most often as many, and a processor
-/// guesses where it ends. Where longer numbers end, and others, eight bytes tell sooner.
-#[derive(Clone, Copy)]
-struct Last {
-    /// How many bytes the last one has.
-    bytes: usize,
-    /// For each of the last eight, whether it has another number of bytes than the one before.
-    changes: u8,
-}
-
-impl Last {
-    /// Before the first number.
-    const NONE: Last = Last {
-        bytes: 0,
-        changes: u8::MAX,
-    };
-
-    /// The last numbers, after one more of so many bytes.
-    #[inline(always)]
-    fn then(self, bytes: usize) -> Last {
-        Last {
-            bytes,
-            changes: (self.changes << 1) | u8::from(bytes != self.bytes),
-        }
-    }
-
-    /// How the next number is read.
-    #[inline(always)]
-    fn way(self) -> Way {
-        if self.changes == 0 && self.bytes <= 2 {
-            Way::OneByOne
-        } else {
-            Way::ByEights
-        }
-    }
-}
-
-/// The numbers of a type from `start` on, read into a slice: each as by
-/// [`read_number_from`](crate::read_number_from), with what `gap` says between two of them. It
-/// reads until the slice is full, the list is over, or no number is where one has to be. The front
-/// of the slice has the numbers that were read, its rest isn't touched. Takes no memory. Requires
-/// that `start` is within the text and the word is supported.
+/// The numbers of a type from `start` on, read into a slice: each as by [`read_number_from`], with
+/// what `gap` says between two of them. It reads until the slice is full, the list is over, or no
+/// number is where one has to be. The front of the slice has the numbers that were read, its rest
+/// isn't touched. Takes no memory. Requires that `start` is within the text and the word is
+/// supported.
 ///
 /// Blanks before the first number are passed. A list that fills the slice and has no separator
 /// after its last number is [`Over`](ListEnd::Over), not [`Full`](ListEnd::Full). From the position
@@ -280,10 +237,9 @@ pub fn read_list<T: Integer>(
     ensures over { IfOver result.end (λ at. (start ≤ at) × (at ≤ length text.now)) }
 {
     let mut at = start;
-    let mut last = Last::NONE;
     for count in 0..out.len() {
         let place = gap.past_blanks(text, at);
-        let (value, end) = match read_number_by::<T>(text, word, place, last.way()) {
+        let (value, end) = match read_number_from::<T>(text, word, place) {
             Ok(read) => read,
             Err(error) => {
                 let end = gap.no_number(place, error.position(), error);
@@ -291,7 +247,6 @@ pub fn read_list<T: Integer>(
             }
         };
         out[count] = value;
-        last = last.then(end - place);
         match gap.next_after(text, end) {
             Ok(next) => at = next,
             Err(over) => {

@@ -12,7 +12,7 @@ ghost use Rattle.digit_literals.specs.Reads.{IsFirst};
 
 use super::hexadecimal::read_hexadecimal;
 use super::integer::{read_few_integer, read_long_integer};
-use super::slice::{Way, first_digit};
+use super::slice::first_digit;
 use super::wide::{read_again, read_wide_known};
 use super::{LiteralError, ParseError};
 use lexical_digits::skip::{Component, Rule};
@@ -322,32 +322,6 @@ fn read_sign<T: Integer>(text: &[u8], word: u128, start: usize) -> Head
     head
 }
 
-/// [`read_number_from`], whose digits are read in this way.
-#[inline(always)]
-pub(super) fn read_number_by<T: Integer>(
-    text: &[u8],
-    word: u128,
-    start: usize,
-    way: Way,
-) -> Result<(T, usize), LiteralError>
-    requires supported { IsTrue (is_supported word) }
-    requires within { start ≤ length text.now }
-    ensures is { let r = rule_of word Integer in MatchResult result
-        (λ read. number_at T.MIN_MAGNITUDE T.MAX r text.now start ≡ Ok (T.number read.0, read.1))
-        (λ error. number_at T.MIN_MAGNITUDE T.MAX r text.now start ≡ Err error) }
-    ensures end { let n = length text.now in
-        IfOk result (λ read. (start < read.1) × (read.1 ≤ n)) }
-    ensures empty_at { let n = length text.now in
-        IfEmpty result (λ at. (start ≤ at) × (at ≤ n)) }
-    ensures overflow_at { let n = length text.now in
-        IfOverflow result (λ at. (start ≤ at) × (at < n)) }
-{
-    let head = read_sign::<T>(text, word, start);
-    let most = greatest::<T>(head.is_negative);
-    let (magnitude, end) = read_wide_known(text, word, head.begin, head.first, most, way)?;
-    Ok((T::of_magnitude(head.is_negative, magnitude), end))
-}
-
 /// The number of a type that begins at `start`, and where it ends: an optional `+` or `-` if the
 /// type has a sign, and then an integer. Requires that `start` is within the text and the word is
 /// supported.
@@ -377,7 +351,10 @@ pub fn read_number_from<T: Integer>(
     ensures overflow_at { let n = length text.now in
         IfOverflow result (λ at. (start ≤ at) × (at < n)) }
 {
-    read_number_by::<T>(text, word, start, Way::OneByOne)
+    let head = read_sign::<T>(text, word, start);
+    let most = greatest::<T>(head.is_negative);
+    let (magnitude, end) = read_wide_known(text, word, head.begin, head.first, most)?;
+    Ok((T::of_magnitude(head.is_negative, magnitude), end))
 }
 
 /// Whether a number has a `-`, and where its digits begin, as [`read_sign`] says: by no branch that
@@ -604,7 +581,7 @@ pub fn parse_number_from<T: Integer>(text: &[u8], word: u128, start: usize) -> R
     }
     let head = read_sign::<T>(text, word, start);
     let most = greatest::<T>(head.is_negative);
-    let number = match read_wide_known(text, word, head.begin, head.first, most, Way::OneByOne) {
+    let number = match read_wide_known(text, word, head.begin, head.first, most) {
         Ok((magnitude, end)) => Ok((T::of_magnitude(head.is_negative, magnitude), end)),
         Err(error) => Err(error),
     };

@@ -1,7 +1,7 @@
 //! Digits that are read off a slice. Where another separator than a lone one between two digits is
 //! met, a `Bytes` reads them.
 
-ghost use Rattle.std.specs.Prelude.{◌≡◌, ◌*◌, ◌+◌, ◌%◌, ◌^◌, ◌<◌, ◌≤◌, length, slice_index, true, false, Some, None, option_and_then, IfSome, IfNone, MatchOption};
+ghost use Rattle.std.specs.Prelude.{◌≡◌, ◌*◌, ◌+◌, ◌-◌, ◌%◌, ◌^◌, ◌<◌, ◌≤◌, length, slice_index, true, false, Some, None, option_and_then, IfSome, IfNone, MatchOption};
 ghost use Rattle.lexical_format.specs.Digits.{digit_of_radix};
 ghost use Rattle.lexical_digits.specs.Separators.{is_digit, IsSupported};
 ghost use Rattle.lexical_digits.specs.CallTable.{byte_at_place, settled};
@@ -108,17 +108,6 @@ pub(super) fn first_digit(
     }
 }
 
-/// How digits are read where eight bytes are there, and the radix is 10. It is only for speed.
-#[derive(Clone, Copy, Debug, PartialEq, Eq)]
-pub(super) enum Way {
-    /// Eight bytes at a time: how many digits there are is no branch, but what follows waits for
-    /// them. In lists of types of up to 64 bits, of first digits, and of long numbers.
-    ByEights,
-    /// One by one: where digits end is a branch, which a processor guesses if they are most often
-    /// as many.
-    OneByOne,
-}
-
 /// Reads the digits of a rule from `start` on, after the value `before`, up to where they end, or
 /// up to the first with which the value is above `most`. `None` where a separator is met that isn't
 /// a lone one between two digits. Without `most` the value is its lowest 64 bits. The digit at
@@ -146,30 +135,29 @@ pub(super) fn read_slice(
     }
 }
 
-/// [`read_slice`], whose digits are read in this way. Apart from it, since it is large: with it in
-/// their place, literals of a constant language would be read by a call (the rows `w`).
+/// [`read_slice`], whose decimal digits are read eight bytes at a time: of numbers that most often
+/// have many, up to a greatest value that 19 digits fit. Of few digits, what follows would wait for
+/// how many there are.
 #[inline(always)]
-pub(super) fn read_slice_by(
+pub(super) fn read_slice_by_words(
     text: &[u8],
     rule: Rule,
     start: usize,
     before: u64,
-    first: Option<u32>,
     most: Option<u64>,
-    way: Way,
 ) -> Option<ReadTo>
     requires supported { IsSupported rule }
     requires within { start ≤ length text.now }
     requires fits { IfSome most (λ m. before ≤ m) }
-    requires first { IfSome first (IsFirst rule text.now start before most) }
+    requires large { IfSome most (λ m. 10 ^ 19 - 1 ≤ m) }
     ensures { IfSome result (IsOffSlice rule text.now start before most) }
 {
     if rule.radix == 10 {
-        let plain = begin_decimal(text, rule, start, before, first, most, way);
+        let plain = begin_by_words(text, rule, start, before, most);
         read_on(text, rule, 10, start, before, plain, most)
     } else {
         let radix = rule.radix;
-        read_radix(text, rule, radix, start, before, first, most)
+        read_radix(text, rule, radix, start, before, None, most)
     }
 }
 
@@ -204,25 +192,17 @@ pub(super) fn begin(
     }
 }
 
-/// [`begin`] in radix 10: by words, if eight bytes are there, and these are the way.
+/// The digits that are read before the loop, in radix 10: by words, if eight bytes are there.
 #[inline(always)]
-pub(super) fn begin_decimal(
-    text: &[u8],
-    rule: Rule,
-    start: usize,
-    before: u64,
-    first: Option<u32>,
-    most: Option<u64>,
-    way: Way,
-) -> Plain
+fn begin_by_words(text: &[u8], rule: Rule, start: usize, before: u64, most: Option<u64>) -> Plain
     requires radix { rule.radix ≡ 10 }
     requires within { start ≤ length text.now }
     requires fits { IfSome most (λ m. before ≤ m) }
-    requires first { IfSome first (IsFirst rule text.now start before most) }
+    requires large { IfSome most (λ m. 10 ^ 19 - 1 ≤ m) }
     ensures { ArePlain rule text.now start before most result.end result.value }
 {
-    if way == Way::OneByOne || text.len() - start < 8 {
-        return begin(text, rule, 10, start, before, first, most);
+    if text.len() - start < 8 {
+        return begin(text, rule, 10, start, before, None, most);
     }
     match most {
         None => {

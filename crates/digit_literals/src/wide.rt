@@ -14,7 +14,7 @@ ghost use Rattle.digit_literals.specs.declared.LiteralError.TheVariants.{Empty, 
 
 use super::LiteralError;
 use super::integer::{integer_of, read_integer_known, read_known, stop_from};
-use super::slice::{ReadTo, Way, read_slice_by};
+use super::slice::{ReadTo, read_slice_by_words};
 use lexical_digits::skip::{Component, Rule};
 use lexical_format::char_to_digit_const;
 
@@ -45,11 +45,10 @@ pub fn read_wide_from(
     ensures overflow_at { let n = length text.now in
         IfOverflow result (λ at. (start ≤ at) × (at < n)) }
 {
-    read_wide_known(text, word, start, None, most, Way::OneByOne)
+    read_wide_known(text, word, start, None, most)
 }
 
-/// [`read_wide_from`], where the digit at `start` may be known. The way is that of a type of up to
-/// 64 bits.
+/// [`read_wide_from`], where the digit at `start` may be known.
 #[inline(always)]
 pub(super) fn read_wide_known(
     text: &[u8],
@@ -57,7 +56,6 @@ pub(super) fn read_wide_known(
     start: usize,
     first: Option<u32>,
     most: u128,
-    way: Way,
 ) -> Result<(u128, usize), LiteralError>
     requires supported { IsTrue (is_supported word) }
     requires within { start ≤ length text.now }
@@ -73,7 +71,7 @@ pub(super) fn read_wide_known(
         IfOverflow result (λ at. (start ≤ at) × (at < n)) }
 {
     if most <= u128::from(u64::MAX) {
-        let (value, end) = read_integer_known(text, word, start, first, most as u64, way)?;
+        let (value, end) = read_integer_known(text, word, start, first, most as u64)?;
         return Ok((u128::from(value), end));
     }
     let (read, is_empty) = read_known(text, word, Component::Integer, start, first, Some(u64::MAX));
@@ -275,7 +273,7 @@ fn read_pieces(
     let mut value = u128::from(before);
     let mut at = from;
     while at < text.len() {
-        let read = read_slice_by(text, rule, at, 0, None, Some(u64::MAX), Way::ByEights)?;
+        let read = read_slice_by_words(text, rule, at, 0, Some(u64::MAX))?;
         value = join(value, rule.radix, read)?;
         if !read.is_too_large {
             return Some((value, read.end));

@@ -25,11 +25,12 @@ pub returns-then-first-lt8 : goal.returns-then-first-lt8
 returns-then-first-lt8 c =
     one_word c.args.rule c.args.text.now c.args.start c.args.most _ _ c.requires.radix
     (omega (arith, c.requires.within)) c.front_at-first.ensures.is
-    (omega (arith, c.if-first-most.false))
+    (omega (arith, c.requires.large, c.front_at-first.ensures.below))
 
 pub returns : goal.returns
 returns c =
     two_words c.args.rule c.args.text.now c.args.start c.args.most _ _ c.requires.radix
     (omega (arith, c.requires.within)) c.front_at-first.ensures.is _ _ c.join.result
-    (omega (arith, c.if-first-most.false)) c.front_at-second.ensures.is c.join.ensures.is
-    (omega (arith, c.join.ensures.below, c.if-most-lt-MOST_OF_16.false))
+    (omega (arith, c.requires.large, c.front_at-first.ensures.below))
+    c.front_at-second.ensures.is c.join.ensures.is
+    (omega (arith, c.join.ensures.below, c.requires.large))

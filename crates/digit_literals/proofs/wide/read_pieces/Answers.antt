@@ -14,8 +14,9 @@ loop-at-init c =
       is = rw c.from-value.ensures c.requires.before;
     }
 
-pub read_slice_by-requires-clause-supported : goal.read_slice_by-requires-clause-supported
-read_slice_by-requires-clause-supported c =
+pub read_slice_by_words-requires-clause-supported
+    : goal.read_slice_by_words-requires-clause-supported
+read_slice_by_words-requires-clause-supported c =
     supported_by _ c.args.word Integer c.of-rule.ensures c.requires.supported
 
 pub returns-then-not-read-clause-is : goal.returns-then-not-read-clause-is
