@@ -8,8 +8,9 @@ ghost use Rattle.digit_floats.specs.Float.{IsDecimal, plain_marks, read_at, pars
 use super::apart::read_long_parts;
 use super::error::FloatError;
 use super::float::Float;
-use super::parts::{Marks, Parts, read_short_parts};
+use super::parts::{Marks, Parts, read_parts, read_short_parts};
 use super::round::{round_parts, round_short};
+use lexical_digits::skip::{Component, Rule};
 
 /// [`read_float_from`], whatever the number is. In code of its own, so that the one of a short
 /// number has all registers (the rows `x: f64`).
@@ -35,8 +36,38 @@ fn read_float_apart<F: Float>(
     Ok((x, parts.power.end))
 }
 
-/// [`read_float_apart`], whose answer in memory belongs to this function, so it is set only where
-/// that is called.
+/// [`read_float_apart`] of numbers in groups, in code of its own: few have eight digits in a row.
+#[inline(never)]
+#[tactic(auto, using(crate::proofs::Numbers::round_number))]
+fn read_float_in_groups<F: Float>(
+    text: &[u8],
+    word: u128,
+    start: usize,
+) -> Result<(F, usize), FloatError>
+    requires supported { IsTrue (is_supported word) }
+    requires decimal { IsDecimal word }
+    requires within { start ≤ length text.now }
+    ensures reads { MatchResult result
+        (λ r. read_at word text.now plain_marks F.format start ≡ Ok (F.value r.0, r.1))
+        (λ error. read_at word text.now plain_marks F.format start ≡ Err error) }
+    ensures no_nan { IfOk result (λ r. NotNan (F.value r.0)) }
+    ensures onward { IfOk result (λ r. start < r.1) }
+    ensures within { IfOk result (λ r. r.1 ≤ length text.now) }
+{
+    let parts = read_parts(text, word, Marks::PLAIN, start)?;
+    let x = round_parts::<F>(text, parts.negative, parts.mantissa, parts.power);
+    Ok((x, parts.power.end))
+}
+
+/// Whether a word drops separators between digits of an integer or a fraction. Of a constant word a
+/// compiler knows it.
+#[inline(always)]
+fn has_groups(word: u128) -> bool {
+    Rule::of(word, Component::Integer).internal || Rule::of(word, Component::Fraction).internal
+}
+
+/// [`read_float_apart`], or by groups, whose answer in memory belongs to this function, so it is
+/// set only where they are called.
 #[inline(always)]
 fn read_float_rest<F: Float>(
     text: &[u8],
@@ -53,7 +84,12 @@ fn read_float_rest<F: Float>(
     ensures onward { IfOk result (λ r. start < r.1) }
     ensures within { IfOk result (λ r. r.1 ≤ length text.now) }
 {
-    match read_float_apart::<F>(text, word, start) {
+    let read = if has_groups(word) {
+        read_float_in_groups::<F>(text, word, start)
+    } else {
+        read_float_apart::<F>(text, word, start)
+    };
+    match read {
         Ok((x, end)) => Ok((x, end)),
         Err(error) => Err(error),
     }
