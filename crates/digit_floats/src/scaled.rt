@@ -149,8 +149,12 @@ fn is_exact(text: &[u8], mantissa: Mantissa, places: usize) -> bool
     requires { IsMantissa text.now mantissa }
     ensures { result ≡ is_exact (fraction_of text.now mantissa) places }
 {
-    let fraction = &text[mantissa.fraction_start..mantissa.end];
-    mantissa.places <= places || are_zeros_after(fraction, mantissa.places, places)
+    mantissa.places <= places
+        || are_zeros_after(
+            &text[mantissa.fraction_start..mantissa.end],
+            mantissa.places,
+            places,
+        )
 }
 
 /// A value with a digit of a fraction after it, if the number is neither too large nor too fine

@@ -29,6 +29,7 @@ fn are_zeros(bytes: &[u8], count: usize) -> bool
 
 /// Whether all digits of some bytes but the first are zeros, where there are so many digits, and no
 /// fewer than those first.
+#[inline(never)]
 #[tactic(auto, using(crate::proofs::Others::all_digits))]
 pub fn are_zeros_after(bytes: &[u8], digits: usize, count: usize) -> bool
     requires digits { digits ≡ length (filter is_ascii_digit bytes.now) }
