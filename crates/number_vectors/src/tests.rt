@@ -7,6 +7,7 @@ ghost use Rattle.lexical_digits.specs.State.{start};
 mod bounds;
 mod decimals;
 mod every_byte;
+mod few_digits;
 mod floats;
 mod forms;
 mod hex_floats;
