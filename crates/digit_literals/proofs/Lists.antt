@@ -1,19 +1,16 @@
 -- One turn of a loop that reads a list into a slice.
-use Rattle.std.proofs.Common.{◌≡◌, ℕ, zero, suc, ◌+◌, ◌-◌, ◌<◌, ◌≤◌, List, [], ◌∷◌, ◌++◌, map, length, take, drop, ◌/◌, ◌%◌, ◌^◌, refl, sym, ◌∙◌, ap, inl, inr, ◌*◌, arith}
-use Rattle.std.specs.Prelude.{Bool, true, false, Option, Some, None, slice_get, ◌&&◌, ◌==◌, min, nat_lt, if◌then◌else◌, Result, Ok, Err, set}
+use Rattle.std.proofs.Common.{◌≡◌, ℕ, zero, suc, ◌+◌, ◌-◌, ◌<◌, ◌≤◌, List, [], ◌∷◌, ◌++◌, map, length, take, drop, ◌/◌, ◌%◌, ◌^◌, refl, sym, ◌∙◌, ap, ◌*◌, arith}
+use Rattle.std.specs.Prelude.{Bool, true, false, Option, Some, None, slice_get, ◌&&◌, ◌==◌, if◌then◌else◌, Result, Ok, Err, set}
 use Rattle.std.proofs.lemmas.List.{take_more_set, drop-set-lt, drop-drop, length-set, map-append, append_assoc, length-map, length-take-le, append-nil}
 use Rattle.std.proofs.lemmas.Nat.{pow-add}
-use Rattle.std.proofs.Math.Nat.{mod-add-div, add-mul-div_left, add-mul-mod_self_right, one-le-pow, pow-suc, div-eq_of_lt, min-eq_left, min-eq_right, mod-eq_of_lt, pow-le-pow_right, zero-div}
-use Rattle.std.proofs.lemmas.Bool.Decides.{nat_tests}
+use Rattle.std.proofs.Math.Nat.{mod-add-div, add-mul-div_left, add-mul-mod_self_right, one-le-pow, pow-suc}
 use Rattle.lexical_format.specs.Word.{bit}
 use Rattle.lexical_digits.specs.ByteSet.{accepts}
-use Rattle.lexical_digits.specs.declared.ops.ByteSet.{ByteSet}
 use Rattle.lexical_digits.specs.Cursor.{holds_of}
 use Rattle.digit_literals.specs.declared.list.Gap.{Gap}
 use Rattle.digit_literals.specs.declared.list.ListEnd.{ListEnd}
 use Rattle.digit_literals.specs.declared.list.ListEnd.TheVariants.{Full, Over, Fault}
 use Rattle.digit_literals.proofs.Passing.{none_passed}
-use Rattle.digit_literals.proofs.Plain.{lt_or_le}
 use Rattle.digit_literals.specs.Lists.{Numbers, is_blank, has_blank, has_separator, past_blanks, next_after, no_number, before, and_then, after_number, from_number, list_at, Fills}
 
 -- where no blank is, none is passed
@@ -49,34 +46,6 @@ low_bit n place l =
     let halves : n / 2 ^ place ≡ (n % 2 ^ 64) / 2 ^ place + 2 ^ more * q * 2 =
     ap (λ m. m / 2 ^ place) all ∙ add-mul-div_left (n % 2 ^ 64) (2 ^ more * q * 2) some in
     rw (halves, add-mul-mod_self_right ((n % 2 ^ 64) / 2 ^ place) (2 ^ more * q) 2) refl
-
--- a number has no bit above its highest
-none_above : (n place : ℕ) → n < 2 ^ 63 → 63 ≤ place → bit n place ≡ false
-none_above n place l high =
-    let power : 2 ^ 63 ≤ 2 ^ place = pow-le-pow_right (omega arith) high in
-    let none : n / 2 ^ place ≡ 0 = div-eq_of_lt (omega (arith, l, power)) in
-    rw none refl
-
--- a set of bytes below 63 has a byte: a test of one bit, the one above them for all other bytes
-pub low_set : (set : ByteSet) (byte place : ℕ) → set.high ≡ 0 → set.low < 2 ^ 63
-    → place ≡ min byte 63 → bit (set.low % 2 ^ 64) place ≡ accepts set byte
-low_set set byte place none few is =
-    let low : set.low % 2 ^ 64 ≡ set.low = mod-eq_of_lt (omega (arith, few)) in
-    elim (lt_or_le byte 63) [
-      | inl l ↦
-          let same : place ≡ byte = is ∙ min-eq_left (omega (arith, l)) in
-          let small : nat_lt byte 128 ≡ true = grind (arith, nat_tests, l) in
-          rw (low, same, small) refl
-      | inr l ↦
-          let last : place ≡ 63 = is ∙ min-eq_right l in
-          rw (low, last, none_above set.low 63 few (omega arith))
-          (sym (other (nat_lt byte 128) (none_above set.low byte few l)))
-    ]
-  where
-    other : (small : Bool) → bit set.low byte ≡ false
-        → (if small then bit set.low byte else bit set.high (byte - 128)) ≡ false
-    other true e = e
-    other false e = rw (none, zero-div (2 ^ (byte - 128))) refl
 
 module _ {V A E : Type 0} (value : V → A) (one : ℕ → Result (A × ℕ) E) (position : E → ℕ)
     (gap : Gap) (text : List ℕ) where

@@ -66,19 +66,6 @@ pub(super) fn accepts(set: ByteSet, byte: u8) -> bool
     }
 }
 
-/// [`accepts`], where any byte may be: if all bytes of the set are below 63, as blanks and commas
-/// are, this is no branch on the byte, which no processor could guess.
-#[inline(always)]
-fn accepts_any(set: ByteSet, byte: u8) -> bool
-    ensures { result ≡ accepts set byte }
-{
-    if set.high == 0 && set.low < 1 << 63 {
-        let low = (set.low % (1 << 64)) as u64;
-        return (low >> byte.min(63)) % 2 == 1;
-    }
-    accepts(set, byte)
-}
-
 /// Whether a byte of a set is at a position.
 #[inline(always)]
 fn has_any(text: &[u8], at: usize, set: ByteSet) -> bool
@@ -86,7 +73,7 @@ fn has_any(text: &[u8], at: usize, set: ByteSet) -> bool
     ensures within { result ≡ true → at < length text.now }
 {
     match text.get(at) {
-        Some(byte) => accepts_any(set, *byte),
+        Some(byte) => accepts(set, *byte),
         None => false,
     }
 }
@@ -97,9 +84,7 @@ fn count_bytes(text: &[u8], set: ByteSet) -> usize
     ensures is { result ≡ length (take_while (accepts set) text.now) }
     ensures within { result ≤ length text.now }
 {
-    text.iter()
-        .take_while(|byte| accepts_any(set, **byte))
-        .count()
+    text.iter().take_while(|byte| accepts(set, **byte)).count()
 }
 
 /// The first position from this one on whose byte isn't in a set, or the end of the text. Requires
@@ -121,11 +106,11 @@ pub fn past_bytes(text: &[u8], at: usize, set: ByteSet) -> usize
         return at;
     }
     let next = at + 1;
-    if has_any(text, next, set) {
-        next + count_bytes(&text[next..], set)
-    } else {
-        next
+    if !has_any(text, next, set) {
+        return next;
     }
+    let rest = next + 1;
+    rest + count_bytes(&text[rest..], set)
 }
 
 /// Whether each byte may be part of a name. A load takes no branch between letters, digits and

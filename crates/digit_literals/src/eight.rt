@@ -289,8 +289,7 @@ fn join_up_to(value: u64, next: Front, most: u64) -> Option<u64>
 }
 
 /// Digits from `start` on after the value `before`, by words, as long as their value is at most
-/// `most` and eight bytes are there. In code of its own: the digits after a point, where there are
-/// more than 19.
+/// `most` and eight bytes are there. In code of its own.
 #[inline(never)]
 pub(super) fn read_more_up_to(
     text: &[u8],

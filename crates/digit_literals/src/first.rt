@@ -118,8 +118,9 @@ pub fn read_first_digits_from(
     read_first_rest(text, word, component, start, before, most)
 }
 
-/// [`read_first_again`], whose answer in memory belongs to this function, so it is set only where
-/// that is called.
+/// [`read_first_digits_from`] again, whose answer in memory belongs to this function, so it is set
+/// only where that is called. By words where 19 digits fit, since there are more then, or a
+/// separator; otherwise there may be few.
 #[inline(always)]
 fn read_first_rest(
     text: &[u8],
@@ -139,7 +140,11 @@ fn read_first_rest(
     ensures onward { start + result.0.count ≤ result.1 }
     ensures end { result.1 ≤ length text.now }
 {
-    let read = read_first_again(text, word, component, start, before, most);
+    let read = if most >= MOST_OF_19 {
+        read_first_long(text, word, component, start, before, most)
+    } else {
+        read_first_again(text, word, component, start, before, most)
+    };
     (read.digits, read.end)
 }
 
@@ -150,7 +155,7 @@ struct FirstRead {
     end: usize,
 }
 
-/// [`read_first_digits_from`] again, where a digit may be too large: the others are counted.
+/// [`read_first_digits_from`] again, one by one.
 #[cold]
 #[inline(never)]
 fn read_first_again(
@@ -171,9 +176,59 @@ fn read_first_again(
     ensures onward { start + result.digits.count ≤ result.end }
     ensures end { result.end ≤ length text.now }
 {
+    read_and_count(text, word, component, start, before, most, false)
+}
+
+/// [`read_first_digits_from`] again, by words.
+#[cold]
+#[inline(never)]
+fn read_first_long(
+    text: &[u8],
+    word: u128,
+    component: Component,
+    start: usize,
+    before: u64,
+    most: u64,
+) -> FirstRead
+    requires supported { IsTrue (is_supported word) }
+    requires within { start ≤ length text.now }
+    requires fits { before ≤ most }
+    requires large { 10 ^ 19 - 1 ≤ most }
+    ensures first { let r = rule_of word component in
+        let digits = digits_between r text.now start (stop r text.now start 0) in
+        ReadsFirst r.radix most before digits result.digits }
+    ensures stops { result.end ≡ stop (rule_of word component) text.now start 0 }
+    ensures onward { start + result.digits.count ≤ result.end }
+    ensures end { result.end ≤ length text.now }
+{
+    read_and_count(text, word, component, start, before, most, true)
+}
+
+/// [`read_first_digits_from`] again, where a digit may be too large: the others are counted.
+#[inline(always)]
+fn read_and_count(
+    text: &[u8],
+    word: u128,
+    component: Component,
+    start: usize,
+    before: u64,
+    most: u64,
+    by_words: bool,
+) -> FirstRead
+    requires supported { IsTrue (is_supported word) }
+    requires within { start ≤ length text.now }
+    requires fits { before ≤ most }
+    requires large { by_words ≡ true → 10 ^ 19 - 1 ≤ most }
+    ensures first { let r = rule_of word component in
+        let digits = digits_between r text.now start (stop r text.now start 0) in
+        ReadsFirst r.radix most before digits result.digits }
+    ensures stops { result.end ≡ stop (rule_of word component) text.now start 0 }
+    ensures onward { start + result.digits.count ≤ result.end }
+    ensures end { result.end ≤ length text.now }
+{
     let rule = Rule::of(word, component);
     if rule.radix == 10 {
-        if let Some(read) = read_up_to(text, rule, start, before, most) {
+        if let Some(read) = read_up_to(text, rule, start, before, most, by_words) {
             if !read.is_too_large {
                 return FirstRead {
                     digits: FirstDigits {
@@ -184,7 +239,7 @@ fn read_first_again(
                     end: read.end,
                 };
             }
-            if let Some(rest) = count_rest(text, rule, read.end) {
+            if let Some(rest) = count_rest(text, rule, read.end, by_words) {
                 return FirstRead {
                     digits: FirstDigits {
                         value: read.value,
@@ -200,17 +255,24 @@ fn read_first_again(
 }
 
 /// The digits of a rule with radix 10 from `start` on, up to the first with which the value is too
-/// large: by words where 19 digits fit, since there are more then, or a separator. Otherwise there
-/// may be few.
+/// large.
 #[inline(always)]
-fn read_up_to(text: &[u8], rule: Rule, start: usize, before: u64, most: u64) -> Option<ReadTo>
+fn read_up_to(
+    text: &[u8],
+    rule: Rule,
+    start: usize,
+    before: u64,
+    most: u64,
+    by_words: bool,
+) -> Option<ReadTo>
     requires supported { IsSupported rule }
     requires radix { rule.radix ≡ 10 }
     requires within { start ≤ length text.now }
     requires fits { before ≤ most }
+    requires large { by_words ≡ true → 10 ^ 19 - 1 ≤ most }
     ensures { IfSome result (IsOffSlice rule text.now start before (Some most)) }
 {
-    if most >= MOST_OF_19 {
+    if by_words {
         return read_slice_by_words(text, rule, start, before, Some(most));
     }
     let first = first_digit(text, rule, start, before, u128::from(most));
@@ -251,13 +313,16 @@ fn read_first_fresh_bytes(
 
 /// Counts the digits of a rule with radix 10 from `start` on, where the slice is enough.
 #[inline(always)]
-fn count_rest(text: &[u8], rule: Rule, start: usize) -> Option<ReadTo>
+fn count_rest(text: &[u8], rule: Rule, start: usize, by_words: bool) -> Option<ReadTo>
     requires supported { IsSupported rule }
     requires radix { rule.radix ≡ 10 }
     requires within { start ≤ length text.now }
     ensures { IfSome result (IsOffSlice rule text.now start 0 None) }
 {
-    read_slice_by_words(text, rule, start, 0, None)
+    if by_words {
+        return read_slice_by_words(text, rule, start, 0, None);
+    }
+    read_radix(text, rule, 10, start, 0, None, None)
 }
 
 /// The greatest value of 19 digits.

@@ -8,7 +8,7 @@ use Rattle.digit_literals.specs.declared.reading.Digits.{Digits}
 use Rattle.digit_literals.specs.After.{past_digits_to, IsDigits}
 use Rattle.digit_literals.proofs.Firsts.{reads_all, rest_is, stop_is, stop_after}
 use Rattle.digit_literals.proofs.States.{own_of_fresh}
-use Rattle.digit_literals.proofs.first.read_first_again.Goals as goal
+use Rattle.digit_literals.proofs.first.read_and_count.Goals as goal
 
 not_true : (b : Bool) → not b ≡ true → b ≡ false
 not_true true e = sym e
