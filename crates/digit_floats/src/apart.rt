@@ -1,6 +1,6 @@
-//! Sign, mantissa and exponent of a number of many digits. It is only for speed: what
-//! [`read_parts`](super::parts::read_parts) answers, where most numbers have no separator and more
-//! than 19 digits.
+//! Sign, mantissa and exponent of a number that the short way left, by a word that drops no
+//! separator between two digits: what [`read_parts`](super::parts::read_parts) answers. It is only
+//! for speed, of numbers with more than 19 digits.
 
 ghost use Rattle.std.specs.Prelude.{◌≡◌, ◌+◌, ◌-◌, ◌^◌, ◌<◌, ◌≤◌, length, filter, slice_range, IsTrue, IfOk, Ok, Err, MatchResult};
 ghost use Rattle.std.specs.Char.{is_ascii_digit};
@@ -102,7 +102,8 @@ fn read_long_mantissa(text: &[u8], word: u128, at: usize, point: u8) -> Mantissa
     }
 }
 
-/// Reads a number from a position on, of which most have more than 19 digits.
+/// Reads a number from a position on. It is faster than [`read_parts`](super::parts::read_parts)
+/// where there are more than 19 digits.
 #[inline(always)]
 pub fn read_long_parts(
     text: &[u8],

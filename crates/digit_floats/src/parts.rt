@@ -386,24 +386,6 @@ fn read_power_digits(text: &[u8], word: u128, at: usize) -> Option<(FirstDigits,
     read_some_digits_from(text, word, Component::Exponent, at)
 }
 
-/// [`read_power_digits`], which may be out of line: with it in place, what reads the numbers of a
-/// form would be too large to be inlined (the rows `z: JSON`).
-#[inline]
-fn read_power_digits_apart(text: &[u8], word: u128, at: usize) -> Option<(FirstDigits, usize)>
-    requires supported { IsTrue (is_supported word) }
-    requires decimal { exponent_radix word ≡ 10 }
-    requires within { at ≤ length text.now }
-    ensures first { IfSome result (λ r. ReadsFirst 10 (10 ^ 19 - 1) 0
-        (digits_from word text.now Exponent at) r.0) }
-    ensures all { IfSome result (λ r. r.0.dropped ≡ 0) }
-    ensures end { IfSome result (λ r. r.1 ≡ digits_end word text.now Exponent at) }
-    ensures onward { IfSome result (λ r. at + r.0.count ≤ r.1) }
-    ensures within { IfSome result (λ r. r.1 ≤ length text.now) }
-    ensures some { IfSome result (λ r. 0 < r.0.count) }
-{
-    read_power_digits(text, word, at)
-}
-
 /// [`read_exponent`] where its mark is at a position, if 1 to 19 digits follow, and no separator is
 /// met. Otherwise it answers `None`.
 #[inline(always)]
@@ -421,7 +403,7 @@ pub fn read_short_exponent(text: &[u8], word: u128, at: usize, mark: u8) -> Opti
     ensures some { IfSome result (λ _. 0 < length (exponent_digits word text.now mark at)) }
 {
     let (negative, start) = read_sign(text, at + 1);
-    let (part, end) = read_power_digits_apart(text, word, start)?;
+    let (part, end) = read_power_digits(text, word, start)?;
     Some(Power {
         negative,
         value: part.value,
@@ -445,19 +427,13 @@ fn read_short_power(text: &[u8], word: u128, at: usize, mark: u8) -> Option<Powe
     ensures some { IfSome result (λ _. stands (is_mark mark) text.now at ≡ true
         → 0 < length (exponent_digits word text.now mark at)) }
 {
-    if !has_mark(text, at, mark) {
-        return Some(Power {
-            negative: false,
-            value: 0,
-            end: at,
-        });
+    if has_mark(text, at, mark) {
+        return read_short_exponent(text, word, at, mark);
     }
-    let (negative, start) = read_sign(text, at + 1);
-    let (part, end) = read_power_digits(text, word, start)?;
     Some(Power {
-        negative,
-        value: part.value,
-        end,
+        negative: false,
+        value: 0,
+        end: at,
     })
 }
 
@@ -499,7 +475,7 @@ pub fn read_parts(text: &[u8], word: u128, marks: Marks, start: usize) -> Result
 
 /// [`read_parts`] of a number whose integer has a digit, where integer and fraction have at most 19
 /// digits, an exponent has 1 to 19, and no separator is met. Otherwise it answers `None`. It is
-/// small.
+/// small, and calls nothing.
 #[inline(always)]
 pub fn read_short_parts(text: &[u8], word: u128, marks: Marks, start: usize) -> Option<Parts>
     requires supported { IsTrue (is_supported word) }

@@ -32,7 +32,7 @@ fn are_eight_digits(text: &[u8], rule: Rule, at: usize) -> bool
         & text[at + 7].is_ascii_digit()
 }
 
-/// Whether eight digits begin a component at a position: with fewer, a word reads them in place.
+/// Whether eight digits begin a component at a position.
 #[inline(always)]
 pub fn begins_long(text: &[u8], word: u128, component: Component, at: usize) -> bool
     requires decimal { (rule_of word component).radix ≡ 10 }

@@ -11,7 +11,7 @@ ghost use Rattle.digit_floats.specs.Parts.{IsMantissa, integer_of, fraction_of};
 ghost use Rattle.digit_floats.specs.Scaled.{is_exact, first_value, scaled_value, fitting, fault_at, scaled_at, read_scaled_at, whole_of, position, message};
 
 use super::parts::{Mantissa, read_mantissa};
-use super::zeros::are_zeros_after;
+use super::zeros::are_zeros;
 use digit_literals::{Integer, LiteralError, read_wide_from};
 use std::error::Error;
 use std::fmt;
@@ -149,12 +149,7 @@ fn is_exact(text: &[u8], mantissa: Mantissa, places: usize) -> bool
     requires { IsMantissa text.now mantissa }
     ensures { result ≡ is_exact (fraction_of text.now mantissa) places }
 {
-    mantissa.places <= places
-        || are_zeros_after(
-            &text[mantissa.fraction_start..mantissa.end],
-            mantissa.places,
-            places,
-        )
+    mantissa.places <= places || are_zeros(&text[mantissa.fraction_start..mantissa.end], places)
 }
 
 /// A value with a digit of a fraction after it, if the number is neither too large nor too fine

@@ -17,7 +17,7 @@ fn are_all_zeros(bytes: &[u8]) -> bool
 }
 
 /// Whether all digits of some bytes but the first are zeros.
-fn are_zeros(bytes: &[u8], count: usize) -> bool
+pub fn are_zeros(bytes: &[u8], count: usize) -> bool
     ensures { result ≡ list_all (λ d. d == 48) (drop count (filter is_ascii_digit bytes.now)) }
 {
     bytes
