@@ -1,4 +1,3 @@
-pub mod AfterZero
 pub mod Alone
 pub mod Decimals
 pub mod Digits

@@ -22,10 +22,10 @@ use Rattle.digit_floats.specs.Float.{exponent_negative, parts_at, IsDecimal}
 use Rattle.digit_floats.proofs.Decimals.{same_digit}
 use Rattle.digit_numbers.specs.declared.form.Form.{Form}
 use Rattle.digit_numbers.specs.Forms.{allows_exponent}
-use Rattle.digit_numbers.specs.Numbers.{word, whole_digits, whole_end, fraction, mark, mark_at, mark_or, is_float}
+use Rattle.digit_numbers.specs.Numbers.{word, whole_digits, whole_end, fraction, mark, mark_at, is_float}
 use Rattle.digit_numbers.specs.Numbers.{allows_point, has_point, exponent, has_exponent}
 use Rattle.digit_numbers.specs.Numbers.{has_more_zeros, parts, digits_stop}
-use Rattle.digit_numbers.specs.Reads.{IsFloatAt, marks_by}
+use Rattle.digit_numbers.specs.Reads.{IsFloatAt}
 use Rattle.digit_numbers.proofs.Digits.{counts_fraction, counts_end, is, is_none}
 
 -- no exponent follows a byte that is no mark
@@ -72,25 +72,24 @@ same_digits : (format : Format) (negative : Bool) (whole a b c d : List ℕ) (m 
     (10 ^ (length b + (if n then digits_value 10 d else 0)))
 same_digits format negative whole a b c d m n p q r = rw (p, q, r) refl
 
--- `by_mark` is the mark of an exponent that is looked for after the digits
-module _ (f : Form) (by_mark : ℕ) (text : List ℕ) (at : ℕ) where
-  abbrev one_mark : ℕ → Type 0
-  one_mark i = mark_or f text f.other_mark i ≡ by_mark
+module _ (f : Form) (text : List ℕ) (at : ℕ) (one : f.other_mark ≡ None) where
+  mark_is : mark f text at ≡ f.marks.exponent
+  mark_is = rw one refl
 
   abbrev stands_point : Bool
   stands_point = stands (is_point f.marks.point) text (whole_end f text at)
 
   abbrev marked_at : ℕ → Bool
-  marked_at i = stands (is_mark by_mark) text i
+  marked_at i = stands (is_mark f.marks.exponent) text i
 
   -- the exponent that a mark begins, whether the form has one here or not
   abbrev digits_after : ℕ → List ℕ
-  digits_after i = exponent_digits (word f text) text by_mark i
+  digits_after i = exponent_digits (word f text) text f.marks.exponent i
 
-  unmarked : one_mark (mark_at f text at) → marked_at (mark_at f text at) ≡ false
+  unmarked : marked_at (mark_at f text at) ≡ false
       → exponent f text at ≡ digits_after (mark_at f text at)
   unfolding exponent_digits
-  unmarked mark_is h = by (allows_exponent f.exponents (nat_lt 0 (length (fraction f text at))))
+  unmarked h = by (allows_exponent f.exponents (nat_lt 0 (length (fraction f text at))))
     where
       by : (b : Bool) → (if b then
           exponent_digits (word f text) text (mark f text at) (mark_at f text at) else [])
@@ -102,20 +101,19 @@ module _ (f : Form) (by_mark : ℕ) (text : List ℕ) (at : ℕ) where
   unfolding exponent_digits
   none_after i h = rw h refl
 
-  no_exponent : one_mark (whole_end f text at) → stands_point ≡ false
-      → marked_at (whole_end f text at) ≡ false → is_float f text at ≡ false
-  no_exponent one p m =
+  -- digits that neither a point nor a mark follows are no float
+  pub no_float : stands_point ≡ false → marked_at (whole_end f text at) ≡ false
+      → is_float f text at ≡ false
+  no_float p m =
       let none : has_point f text at ≡ false = rw p refl in
       let here : whole_end f text at ≡ mark_at f text at = rw none refl in
       let no : marked_at (mark_at f text at) ≡ false = subst (λ i. marked_at i ≡ false) here m in
       let less : has_exponent f text at ≡ false =
-      subst (λ ds. nat_lt 0 (length ds) ≡ false)
-      (sym (unmarked (subst (λ (i : ℕ). one_mark i) here one) no)) (none_after _ no) in
+      subst (λ ds. nat_lt 0 (length ds) ≡ false) (sym (unmarked no)) (none_after _ no) in
       is_none f text at none less
 
   module _ (some : 0 < length (whole_digits f text at))
-      (pointed : stands_point ≡ true → 0 < length (fraction f text at))
-      (one : one_mark (mantissa_end (word f text) text f.marks.point at)) where
+      (pointed : stands_point ≡ true → 0 < length (fraction f text at)) where
     counts : stands_point ≡ true → allows_point f text at ≡ true
     counts s = let more = pointed s in grind (arith, nat_tests, some)
 
@@ -125,28 +123,26 @@ module _ (f : Form) (by_mark : ℕ) (text : List ℕ) (at : ℕ) where
     same : fraction f text at ≡ (parts f text at).fraction
     same = counts_fraction f text at counts
 
-    mark_is : mark f text at ≡ by_mark
-    mark_is = subst (λ (i : ℕ). one_mark i) end_is one
-
     same_float : exponent f text at ≡ digits_after (mark_at f text at)
         → (format : Format) (negative : Bool)
-        → nearest_float format negative (parts_at (word f text) text (marks_by f by_mark) at)
+        → nearest_float format negative (parts_at (word f text) text f.marks at)
         ≡ nearest_float format negative (parts f text at)
     same_float e format negative =
         same_digits format negative (whole_digits f text at) _ _ _ _ _ _ same
         (ap digits_after end_is ∙ sym e)
-        (ap (λ i. exponent_negative (word f text) text by_mark i) end_is
+        (ap (λ i. exponent_negative (word f text) text f.marks.exponent i) end_is
         ∙ ap (λ m. exponent_negative (word f text) text m (mark_at f text at)) (sym mark_is))
 
     stop_is : exponent f text at ≡ digits_after (mark_at f text at)
         → (marked_at (mark_at f text at) ≡ true
         → 0 < length (digits_after (mark_at f text at)))
-        → exponent_end (word f text) text by_mark (mark_at f text at) ≡ digits_stop f text at
+        → exponent_end (word f text) text f.marks.exponent (mark_at f text at) ≡ digits_stop f text
+        at
     unfolding exponent_end
     stop_is e more = by (marked_at (mark_at f text at)) refl
       where
         by : (b : Bool) → marked_at (mark_at f text at) ≡ b
-            → exponent_end (word f text) text by_mark (mark_at f text at)
+            → exponent_end (word f text) text f.marks.exponent (mark_at f text at)
             ≡ digits_stop f text at
         by true h =
             let l = more h in
@@ -162,7 +158,7 @@ module _ (f : Form) (by_mark : ℕ) (text : List ℕ) (at : ℕ) where
 
     module _ (zeros : has_more_zeros f text at ≡ false) (format : Format) (negative : Bool)
         (x : Float) (value : x ≡ nearest_float format negative
-        (parts_at (word f text) text (marks_by f by_mark) at)) where
+        (parts_at (word f text) text f.marks at)) where
       positive : 0 < length (whole_digits f text at) + length (fraction f text at)
       positive = omega (arith, some)
 
@@ -173,7 +169,7 @@ module _ (f : Form) (by_mark : ℕ) (text : List ℕ) (at : ℕ) where
       pointed_float s m =
           let no : marked_at (mark_at f text at) ≡ false =
           subst (λ i. marked_at i ≡ false) end_is m in
-          let e = unmarked mark_is no in
+          let e = unmarked no in
           let one = either stands_point (allows_point f text at) (has_exponent f text at) counts
           (λ (n : stands_point ≡ false). let a = sym s ∙ n in cc) in
           let none : has_exponent f text at ≡ false =
@@ -192,7 +188,7 @@ module _ (f : Form) (by_mark : ℕ) (text : List ℕ) (at : ℕ) where
           → 0 < length (digits_after (mantissa_end (word f text) text f.marks.point at)))
           → (stands_point ≡ false
           → marked_at (mantissa_end (word f text) text f.marks.point at) ≡ true)
-          → IsFloatAt f text at negative format x (exponent_end (word f text) text by_mark
+          → IsFloatAt f text at negative format x (exponent_end (word f text) text f.marks.exponent
           (mantissa_end (word f text) text f.marks.point at))
       powered_float allowed follows marked =
           let e : exponent f text at ≡ digits_after (mark_at f text at) =
@@ -210,14 +206,5 @@ module _ (f : Form) (by_mark : ℕ) (text : List ℕ) (at : ℕ) where
                 (either stands_point (allows_point f text at) (has_exponent f text at) counts
                 power);
             value = value ∙ same_float e format negative;
-            ends = ap (λ i. exponent_end (word f text) text by_mark i) end_is ∙ last;
+            ends = ap (λ i. exponent_end (word f text) text f.marks.exponent i) end_is ∙ last;
           }
-
--- digits that neither a point nor a mark follows are no float
-pub no_float : (f : Form) (text : List ℕ) (at : ℕ)
-    → stands (is_point f.marks.point) text (whole_end f text at) ≡ false
-    → stands (is_mark (mark_or f text f.other_mark (whole_end f text at))) text
-    (whole_end f text at) ≡ false
-    → is_float f text at ≡ false
-no_float f text at p m =
-    no_exponent f (mark_or f text f.other_mark (whole_end f text at)) text at refl p m

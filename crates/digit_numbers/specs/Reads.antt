@@ -1,33 +1,21 @@
 -- Of functions that no caller sees: the digits of a number that were read. No public clause uses
 -- these words.
-use Rattle.std.specs.Prelude.{◌≡◌, ℕ, ◌-◌, ◌^◌, min, ◌<◌, ◌≤◌, Bool, true, false, List, [], length, is_some, IfSome, ◌+◌, Result, Ok, Err}
+use Rattle.std.specs.Prelude.{◌≡◌, ℕ, ◌-◌, ◌^◌, min, ◌<◌, ◌≤◌, Bool, true, false, List, [], length, is_some}
 use Rattle.std.specs.Float.{Float, Format}
 use Rattle.std.specs.Float.Numeral.{Parts, nearest_float}
 use Rattle.std.specs.Str.Parse.{digits_value}
-use Rattle.lexical_format.specs.Word.{separator}
 use Rattle.lexical_digits.specs.declared.skip.component.Component.TheVariants.{Integer}
-use Rattle.lexical_digits.specs.Separators.{is_separator}
-use Rattle.digit_literals.specs.Numbers.{has_byte}
-use Rattle.digit_floats.specs.Bytes.{stands}
 use Rattle.digit_floats.specs.Float.{IsDecimal, digits_from, digits_end, fraction_digits, mantissa_end}
 use Rattle.digit_floats.specs.Parts.{integer_of, fraction_of, IsMantissa}
-use Rattle.digit_floats.specs.Hexadecimal.{IsHexadecimal, IsHexMantissa, hex_integer_of, hex_fraction_of}
+use Rattle.digit_floats.specs.Hexadecimal.{IsHexMantissa, hex_integer_of, hex_fraction_of}
 use Rattle.digit_floats.specs.declared.hexadecimal.HexMantissa.{HexMantissa}
 use Rattle.digit_floats.specs.declared.parts.Mantissa.{Mantissa}
-use Rattle.digit_floats.specs.declared.parts.Marks.{Marks}
 use Rattle.digit_floats.specs.declared.parts.Power.{Power}
 use Rattle.digit_languages.specs.declared.language.Language.{Language}
 use Rattle.digit_languages.specs.Literals.{prefix_word, word_at, digits_at}
-use Rattle.digit_languages.specs.Words.{IsLanguage}
 use Rattle.digit_numbers.specs.declared.form.Form.{Form}
-use Rattle.digit_numbers.specs.declared.number.NumberError.TheVariants as errors
-use Rattle.digit_numbers.specs.declared.number.Number.TheVariants as numbers
-use Rattle.digit_languages.specs.declared.literal.LanguageError.TheVariants as literals
-use Rattle.digit_languages.specs.declared.literal.LanguageError.{LanguageError}
-use Rattle.digit_languages.specs.declared.literal.Literal.{Literal}
 use Rattle.digit_numbers.specs.declared.number.Sign.{Sign}
-use Rattle.digit_numbers.specs.Forms.{has_hex, is_always_float}
-use Rattle.digit_numbers.specs.Numbers.{has_sign, is_negative, past_sign, is_float, fraction, exponent, language, parts, digits_stop, Outcome}
+use Rattle.digit_numbers.specs.Numbers.{has_sign, is_negative, past_sign, is_float, fraction, exponent, parts, digits_stop}
 
 -- a mantissa is that of a word at its start, by the byte of the point
 pub record IsMantissaOf (word point : ℕ) (text : List ℕ) (m : Mantissa) : Type 0 where
@@ -41,10 +29,6 @@ pub record IsMantissaOf (word point : ℕ) (text : List ℕ) (m : Mantissa) : Ty
 -- the same of a form
 abbrev pub IsMantissaAt : Form → List ℕ → Mantissa → Type 0
 IsMantissaAt f text m = IsMantissaOf f.integers.decimal f.marks.point text m
-
--- the marks of a form, by the mark of an exponent that is looked for
-abbrev pub marks_by : Form → ℕ → Marks
-marks_by f mark = record { point = f.marks.point; exponent = mark }
 
 -- the same of hexadecimal digits, by a word
 pub record IsHexAt (f : Form) (word : ℕ) (text : List ℕ) (m : HexMantissa) : Type 0 where
@@ -73,14 +57,6 @@ whole_of word text at = record {
   len = digits_end word text Integer at - at;
 }
 
--- an integer is at a position, after any sign: a `0` begins it, and no float is there
-pub record IsAfterZero (f : Form) (text : List ℕ) (at : ℕ) : Type 0 where
-  pub zero : has_byte text at 48 ≡ true
-  pub some : at < length text
-  pub exact : is_always_float f.whole ≡ false
-  pub no_float : is_float f text at ≡ false
-  pub apart : stands (is_separator (separator f.integers.decimal)) text at ≡ false
-
 -- a power is that of the float at a position, or 0 if it has no exponent; and a point counts there,
 -- if one stands
 pub record IsPowerAt (f : Form) (text : List ℕ) (at : ℕ) (p : Power) : Type 0 where
@@ -105,21 +81,6 @@ pub record IsSign (f : Form) (text : List ℕ) (start : ℕ) (sign : Sign) : Typ
   pub ends : sign.end ≡ past_sign f text start
   pub onward : start ≤ sign.end
   pub within : sign.end ≤ length text
-
--- a language is that of a form's integers after the sign at a start
-pub record IsLanguageAt (f : Form) (text : List ℕ) (start : ℕ) (l : Language) : Type 0 where
-  pub is : l ≡ language f text start
-  pub decimal : l.decimal ≡ f.integers.decimal
-  pub hexadecimal : has_hex f.hex_floats ≡ true → IfSome l.hexadecimal IsHexadecimal
-  pub serves : IsLanguage l
-
--- what a literal's outcome is as an outcome of a number, where a `0` begins it: if it begins none,
--- that `0` by itself, by a word
-abbrev pub zero_or : ℕ → ℕ → Bool → Result Literal LanguageError → Outcome
-zero_or word at negative (Ok read) = Ok (numbers.Integer negative read.value read.word, read.end)
-zero_or word at negative (Err (literals.Overflow over)) = Err (errors.Overflow over)
-zero_or word at negative (Err (literals.Empty _)) = Ok (numbers.Integer negative 0 word, at + 1)
-zero_or word at negative (Err (literals.Zero _)) = Ok (numbers.Integer negative 0 word, at + 1)
 
 -- an integer of a language here has no prefix, and is decimal
 pub record IsPlain (l : Language) (text : List ℕ) (at : ℕ) : Type 0 where

@@ -24,10 +24,10 @@ use digit_floats::{Decimal, Mantissa, Power, decimal_of};
 use digit_languages::{LanguageError, prefix_word};
 
 /// Whether a special value or a prefix is after the sign.
-fn is_named(text: &[u8], start: usize, form: &Form, sign: Sign) -> bool
-    requires form { IsForm form.now }
-    requires sign { IsSign form.now text.now start sign }
-    ensures { result ≡ is_named form.now text.now start }
+fn is_named(text: &[u8], start: usize, form: Form, sign: Sign) -> bool
+    requires form { IsForm form }
+    requires sign { IsSign form text.now start sign }
+    ensures { result ≡ is_named form text.now start }
 {
     let special = special_of(text, form, sign.end, sign.is_there, sign.is_minus);
     special.is_some() || prefix_word(language_of(form, sign.is_there), text, sign.end).is_some()
@@ -51,20 +51,19 @@ fn zero_end(text: &[u8], at: usize) -> Result<usize, NumberError>
 fn read_end(
     text: &[u8],
     start: usize,
-    form: &Form,
+    form: Form,
     sign: Sign,
     mantissa: Mantissa,
 ) -> Result<usize, NumberError>
     requires within { start ≤ length text.now }
-    requires form { IsForm form.now }
-    requires sign { IsSign form.now text.now start sign }
-    requires digits { IsMantissaAt form.now text.now mantissa }
+    requires form { IsForm form }
+    requires sign { IsSign form text.now start sign }
+    requires digits { IsMantissaAt form text.now mantissa }
     requires start { mantissa.start ≡ sign.end }
-    requires no_float { is_float form.now text.now sign.end ≡ false }
-    requires no_prefix { let l = language form.now text.now start in
+    requires no_float { is_float form text.now sign.end ≡ false }
+    requires no_prefix { let l = language form text.now start in
         is_some (prefix_word l text.now sign.end) ≡ false }
-    ensures is { result
-        ≡ decimal_end form.now text.now start (plain_at form.now text.now start binary64) }
+    ensures is { result ≡ decimal_end form text.now start (plain_at form text.now start binary64) }
     ensures all { IfOk result (λ end. (end ≡ mantissa.whole_end → ⊥) →
         (has_byte text.now sign.end 48 ≡ true) × (end ≡ sign.end + 1)) }
     ensures end { IfOk result (λ end. (start < end) × (end ≤ length text.now)) }
@@ -79,8 +78,7 @@ fn read_end(
         }
         return Ok(mantissa.whole_end);
     }
-    let language = language_of(form, sign.is_there);
-    match read_integer(text, &language, at) {
+    match read_integer(text, language_of(form, sign.is_there), at) {
         Ok(read) if read.word == form.integers.decimal => Ok(read.end),
         Ok(_) => Err(NumberError::Empty(at)),
         Err(LanguageError::Overflow(over)) if is_zero(text, at) => Err(NumberError::Overflow(over)),
@@ -92,12 +90,12 @@ fn read_end(
 
 /// The decimal number of the digits before a point that end at a position: all that a mantissa has,
 /// or a lone `0`.
-fn whole_to(text: &[u8], form: &Form, negative: bool, mantissa: Mantissa, end: usize) -> Decimal
-    requires form { IsForm form.now }
-    requires is { IsMantissaAt form.now text.now mantissa }
+fn whole_to(text: &[u8], form: Form, negative: bool, mantissa: Mantissa, end: usize) -> Decimal
+    requires form { IsForm form }
+    requires is { IsMantissaAt form text.now mantissa }
     requires all { (end ≡ mantissa.whole_end → ⊥) →
         (has_byte text.now mantissa.start 48 ≡ true) × (end ≡ mantissa.start + 1) }
-    ensures { let r = rule_of form.now.integers.decimal Integer in result
+    ensures { let r = rule_of form.integers.decimal Integer in result
         ≡ decimal_of negative (digits_between r text.now mantissa.start end) [] (pos 0) }
 {
     if end != mantissa.whole_end {
@@ -118,10 +116,10 @@ fn whole_to(text: &[u8], form: &Form, negative: bool, mantissa: Mantissa, end: u
 }
 
 /// The decimal number of a float's mantissa and power.
-fn of_float(text: &[u8], form: &Form, negative: bool, mantissa: Mantissa, power: Power) -> Decimal
-    requires is { IsMantissaAt form.now text.now mantissa }
-    requires power { IsPowerAt form.now text.now mantissa.start power }
-    ensures { result ≡ decimal_of_parts negative (parts form.now text.now mantissa.start) }
+fn of_float(text: &[u8], form: Form, negative: bool, mantissa: Mantissa, power: Power) -> Decimal
+    requires is { IsMantissaAt form text.now mantissa }
+    requires power { IsPowerAt form text.now mantissa.start power }
+    ensures { result ≡ decimal_of_parts negative (parts form text.now mantissa.start) }
 {
     decimal_of(text, negative, mantissa, power)
 }
@@ -131,15 +129,15 @@ fn of_float(text: &[u8], form: &Form, negative: bool, mantissa: Mantissa, power:
 fn read_plain(
     text: &[u8],
     start: usize,
-    form: &Form,
+    form: Form,
     sign: Sign,
 ) -> Result<(Decimal, usize), NumberError>
     requires within { start ≤ length text.now }
-    requires form { IsForm form.now }
-    requires sign { IsSign form.now text.now start sign }
-    requires no_name { is_named form.now text.now start ≡ false }
-    ensures is { result ≡ with_decimal form.now text.now start
-        (decimal_end form.now text.now start (plain_at form.now text.now start binary64)) }
+    requires form { IsForm form }
+    requires sign { IsSign form text.now start sign }
+    requires no_name { is_named form text.now start ≡ false }
+    ensures is { result ≡ with_decimal form text.now start
+        (decimal_end form text.now start (plain_at form text.now start binary64)) }
     ensures end { IfOk result (λ r. (start < r.1) × (r.1 ≤ length text.now)) }
 {
     let mantissa = read_digits(text, form, sign.end);
@@ -173,9 +171,9 @@ pub fn read_decimal_of(
     ensures is { result ≡ decimal_of_at form text.now start }
     ensures end { IfOk result (λ r. (start < r.1) × (r.1 ≤ length text.now)) }
 {
-    let sign = read_sign(text, &form, start);
-    if is_named(text, start, &form, sign) || has_separator(text, form.integers.decimal, sign.end) {
+    let sign = read_sign(text, form, start);
+    if is_named(text, start, form, sign) || has_separator(text, form.integers.decimal, sign.end) {
         return Err(NumberError::Empty(sign.end));
     }
-    read_plain(text, start, &form, sign)
+    read_plain(text, start, form, sign)
 }

@@ -1,6 +1,6 @@
 // The float at a position, by a form.
 
-ghost use Rattle.std.specs.Prelude.{◌≡◌, ℕ, Err, ◌+◌, ◌-◌, ◌*◌, ◌^◌, ◌++◌, ◌<◌, ◌≤◌, false, true, min, length, [], None, IfSome, IfOk, IfErr, OnOk, MatchOption, IsTrue};
+ghost use Rattle.std.specs.Prelude.{◌≡◌, Err, ◌+◌, ◌-◌, ◌*◌, ◌^◌, ◌++◌, ◌<◌, ◌≤◌, false, true, min, length, [], None, IfSome, IfOk, IfErr, OnOk, MatchOption, IsTrue};
 ghost use Rattle.std.specs.Float.{NotNan};
 ghost use Rattle.std.specs.Float.Ieee.{round};
 ghost use Rattle.std.specs.Float.Numeral.{nearest_float};
@@ -15,7 +15,7 @@ ghost use Rattle.digit_floats.specs.Float.{IsDecimal, digits_from, digits_end, e
 ghost use Rattle.digit_floats.specs.Parts.{integer_of, fraction_of, IsMantissa, IsShort};
 ghost use Rattle.digit_numbers.specs.Forms.{IsForm, is_barred};
 ghost use Rattle.digit_numbers.specs.Numbers.{allows_point, digits_stop, exponent, fraction, has_exponent, has_more_zeros, is_float, mark_at, mark_or, parts, whole_end};
-ghost use Rattle.digit_numbers.specs.Reads.{IsMantissaAt, IsMantissaOf, IsWholeOf, IsPowerAt, IsFloatAt, marks_by, whole_of};
+ghost use Rattle.digit_numbers.specs.Reads.{IsMantissaAt, IsMantissaOf, IsWholeOf, IsPowerAt, IsFloatAt, whole_of};
 
 use super::form::Form;
 use super::integer::is_zero;
@@ -49,8 +49,8 @@ pub(super) fn has_mark(text: &[u8], at: usize, mark: u8) -> bool
 
 /// Whether a byte is at a position that may not follow a point.
 #[inline(always)]
-pub(super) fn has_barred(text: &[u8], form: &Form, at: usize) -> bool
-    ensures is { result ≡ stands (is_barred form.now.after_point) text.now at }
+pub(super) fn has_barred(text: &[u8], form: Form, at: usize) -> bool
+    ensures is { result ≡ stands (is_barred form.after_point) text.now at }
 {
     match text.get(at) {
         Some(byte) => form.after_point.is_barred(*byte),
@@ -60,9 +60,9 @@ pub(super) fn has_barred(text: &[u8], form: &Form, at: usize) -> bool
 
 /// Whether a point that follows the integer counts.
 #[inline(always)]
-fn allows_point(text: &[u8], form: &Form, mantissa: Mantissa) -> bool
-    requires is { IsMantissaAt form.now text.now mantissa }
-    ensures { result ≡ allows_point form.now text.now mantissa.start }
+fn allows_point(text: &[u8], form: Form, mantissa: Mantissa) -> bool
+    requires is { IsMantissaAt form text.now mantissa }
+    ensures { result ≡ allows_point form text.now mantissa.start }
 {
     if mantissa.digits == mantissa.places && form.needs_integer {
         return false;
@@ -72,9 +72,9 @@ fn allows_point(text: &[u8], form: &Form, mantissa: Mantissa) -> bool
 
 /// Whether more digits follow a first `0`, which the form refuses.
 #[inline(always)]
-pub fn has_more_zeros(text: &[u8], form: &Form, mantissa: Mantissa) -> bool
-    requires is { IsMantissaAt form.now text.now mantissa }
-    ensures { result ≡ has_more_zeros form.now text.now mantissa.start }
+pub fn has_more_zeros(text: &[u8], form: Form, mantissa: Mantissa) -> bool
+    requires is { IsMantissaAt form text.now mantissa }
+    ensures { result ≡ has_more_zeros form text.now mantissa.start }
 {
     !form.float_zeros && is_zero(text, mantissa.start) && mantissa.start + 1 < mantissa.whole_end
 }
@@ -99,8 +99,8 @@ fn read_exponent_apart(text: &[u8], word: u128, at: usize, mark: u8) -> Result<P
 
 /// The mark of an exponent at a position: the form's other one, if it is there.
 #[inline(always)]
-pub(super) fn mark_at(text: &[u8], form: &Form, at: usize) -> u8
-    ensures { result ≡ mark_or form.now text.now form.now.other_mark at }
+fn mark_at(text: &[u8], form: Form, at: usize) -> u8
+    ensures { result ≡ mark_or form text.now form.other_mark at }
 {
     match form.other_mark {
         Some(other) if has_mark(text, at, other) => other,
@@ -111,17 +111,17 @@ pub(super) fn mark_at(text: &[u8], form: &Form, at: usize) -> u8
 /// The exponent after a mantissa, if there is one.
 #[inline(always)]
 #[tactic(auto, unfolding(digit_floats::specs::Float::exponents))]
-fn read_power(text: &[u8], form: &Form, mantissa: Mantissa) -> Option<Power>
-    requires form { IsForm form.now }
-    requires is { IsMantissaAt form.now text.now mantissa }
-    requires mark { mantissa.end ≡ mark_at form.now text.now mantissa.start }
-    ensures is { MatchOption result (has_exponent form.now text.now mantissa.start ≡ false)
-        (λ p. has_exponent form.now text.now mantissa.start ≡ true) }
+fn read_power(text: &[u8], form: Form, mantissa: Mantissa) -> Option<Power>
+    requires form { IsForm form }
+    requires is { IsMantissaAt form text.now mantissa }
+    requires mark { mantissa.end ≡ mark_at form text.now mantissa.start }
+    ensures is { MatchOption result (has_exponent form text.now mantissa.start ≡ false)
+        (λ p. has_exponent form text.now mantissa.start ≡ true) }
     ensures value { IfSome result (λ p. p.value
-        ≡ min (digits_value 10 (exponent form.now text.now mantissa.start)) (2 ^ 64 - 1)) }
+        ≡ min (digits_value 10 (exponent form text.now mantissa.start)) (2 ^ 64 - 1)) }
     ensures negative { IfSome result (λ p. p.negative
-        ≡ (parts form.now text.now mantissa.start).exponent_negative) }
-    ensures end { IfSome result (λ p. p.end ≡ digits_stop form.now text.now mantissa.start) }
+        ≡ (parts form text.now mantissa.start).exponent_negative) }
+    ensures end { IfSome result (λ p. p.end ≡ digits_stop form text.now mantissa.start) }
     ensures within { IfSome result (λ p. (mantissa.end ≤ p.end) × (p.end ≤ length text.now)) }
 {
     let mark = mark_at(text, form, mantissa.end);
@@ -134,14 +134,14 @@ fn read_power(text: &[u8], form: &Form, mantissa: Mantissa) -> Option<Power>
 /// The exponent 0 of a float that has none.
 #[inline(always)]
 #[tactic(auto, using(crate::proofs::Alone::no_exponent))]
-fn no_power(text: &[u8], form: &Form, mantissa: Mantissa) -> Power
-    requires is { IsMantissaAt form.now text.now mantissa }
-    requires float { is_float form.now text.now mantissa.start ≡ true }
-    requires mark { mantissa.end ≡ mark_at form.now text.now mantissa.start }
-    requires fraction { fraction form.now text.now mantissa.start
-        ≡ (parts form.now text.now mantissa.start).fraction }
-    requires none { has_exponent form.now text.now mantissa.start ≡ false }
-    ensures is { IsPowerAt form.now text.now mantissa.start result }
+fn no_power(text: &[u8], form: Form, mantissa: Mantissa) -> Power
+    requires is { IsMantissaAt form text.now mantissa }
+    requires float { is_float form text.now mantissa.start ≡ true }
+    requires mark { mantissa.end ≡ mark_at form text.now mantissa.start }
+    requires fraction { fraction form text.now mantissa.start
+        ≡ (parts form text.now mantissa.start).fraction }
+    requires none { has_exponent form text.now mantissa.start ≡ false }
+    ensures is { IsPowerAt form text.now mantissa.start result }
     ensures end { result.end ≡ mantissa.end }
 {
     Power {
@@ -155,11 +155,11 @@ fn no_power(text: &[u8], form: &Form, mantissa: Mantissa) -> Power
 /// float.
 #[inline(always)]
 #[tactic(auto, using(crate::proofs::Digits::floats))]
-pub fn float_power(text: &[u8], form: &Form, mantissa: Mantissa) -> Option<Power>
-    requires form { IsForm form.now }
-    requires is { IsMantissaAt form.now text.now mantissa }
-    ensures is { MatchOption result (is_float form.now text.now mantissa.start ≡ false)
-        (IsPowerAt form.now text.now mantissa.start) }
+pub fn float_power(text: &[u8], form: Form, mantissa: Mantissa) -> Option<Power>
+    requires form { IsForm form }
+    requires is { IsMantissaAt form text.now mantissa }
+    ensures is { MatchOption result (is_float form text.now mantissa.start ≡ false)
+        (IsPowerAt form text.now mantissa.start) }
     ensures within { IfSome result (λ p. (mantissa.end ≤ p.end) × (p.end ≤ length text.now)) }
     ensures some { IfSome result (λ _. 0 < mantissa.digits) }
 {
@@ -181,17 +181,17 @@ pub fn float_power(text: &[u8], form: &Form, mantissa: Mantissa) -> Option<Power
 #[inline(always)]
 pub fn read_float<F: Float>(
     text: &[u8],
-    form: &Form,
+    form: Form,
     negative: bool,
     mantissa: Mantissa,
 ) -> Option<(F, usize)>
-    requires form { IsForm form.now }
-    requires is { IsMantissaAt form.now text.now mantissa }
-    ensures is { MatchOption result (is_float form.now text.now mantissa.start ≡ false)
-        (λ r. is_float form.now text.now mantissa.start ≡ true) }
+    requires form { IsForm form }
+    requires is { IsMantissaAt form text.now mantissa }
+    ensures is { MatchOption result (is_float form text.now mantissa.start ≡ false)
+        (λ r. is_float form text.now mantissa.start ≡ true) }
     ensures value { IfSome result (λ r. F.value r.0
-        ≡ nearest_float F.format negative (parts form.now text.now mantissa.start)) }
-    ensures ends { IfSome result (λ r. r.1 ≡ digits_stop form.now text.now mantissa.start) }
+        ≡ nearest_float F.format negative (parts form text.now mantissa.start)) }
+    ensures ends { IfSome result (λ r. r.1 ≡ digits_stop form text.now mantissa.start) }
     ensures number { IfSome result (λ r. NotNan (F.value r.0)) }
     ensures end { IfSome result (λ r. (mantissa.start < r.1) × (r.1 ≤ length text.now)) }
 {
@@ -205,15 +205,15 @@ pub fn read_float<F: Float>(
 #[inline(always)]
 fn round_at<F: Float>(
     text: &[u8],
-    form: &Form,
+    form: Form,
     negative: bool,
     mantissa: Mantissa,
     power: Power,
 ) -> F
-    requires is { IsMantissaAt form.now text.now mantissa }
-    requires power { IsPowerAt form.now text.now mantissa.start power }
+    requires is { IsMantissaAt form text.now mantissa }
+    requires power { IsPowerAt form text.now mantissa.start power }
     ensures value { F.value result ≡ nearest_float F.format negative
-        (parts form.now text.now mantissa.start) }
+        (parts form text.now mantissa.start) }
     ensures number { NotNan (F.value result) }
 {
     round_parts::<F>(text, negative, mantissa, power)
@@ -253,23 +253,22 @@ fn read_few_powered<F: Float>(
 #[inline(always)]
 fn read_marked<F: Float>(
     text: &[u8],
-    form: &Form,
-    mark: u8,
+    form: Form,
     negative: bool,
     mantissa: Mantissa,
 ) -> Option<(F, usize)>
-    requires form { IsForm form.now }
-    requires one_mark { mark_or form.now text.now form.now.other_mark mantissa.end ≡ mark }
-    requires is { IsMantissaAt form.now text.now mantissa }
+    requires form { IsForm form }
+    requires one_mark { form.other_mark ≡ None }
+    requires is { IsMantissaAt form text.now mantissa }
     requires some { mantissa.places < mantissa.digits }
-    requires zeros { has_more_zeros form.now text.now mantissa.start ≡ false }
-    requires pointed { stands (is_point form.now.marks.point) text.now mantissa.whole_end ≡ true
+    requires zeros { has_more_zeros form text.now mantissa.start ≡ false }
+    requires pointed { stands (is_point form.marks.point) text.now mantissa.whole_end ≡ true
         → 0 < mantissa.places }
-    requires mark { stands (is_mark mark) text.now mantissa.end ≡ true }
+    requires mark { stands (is_mark form.marks.exponent) text.now mantissa.end ≡ true }
     requires within { mantissa.end < length text.now }
     requires few { mantissa.dropped ≡ 0 }
     ensures is { IfSome result (λ r.
-        IsFloatAt form.now text.now mantissa.start negative F.format (F.value r.0) r.1) }
+        IsFloatAt form text.now mantissa.start negative F.format (F.value r.0) r.1) }
     ensures number { IfSome result (λ r. NotNan (F.value r.0)) }
     ensures within { IfSome result (λ r. (mantissa.end ≤ r.1) × (r.1 ≤ length text.now)) }
 {
@@ -278,11 +277,7 @@ fn read_marked<F: Float>(
         return None;
     }
     let word = form.integers.decimal;
-    let marks = Marks {
-        point: form.marks.point,
-        exponent: mark,
-    };
-    match read_few_powered::<F>(text, word, marks, negative, mantissa) {
+    match read_few_powered::<F>(text, word, form.marks, negative, mantissa) {
         Some((x, end)) => Some((x, end)),
         None => None,
     }
@@ -291,15 +286,15 @@ fn read_marked<F: Float>(
 /// The mantissa after its integer, if it is short.
 #[inline(always)]
 #[tactic(auto, using(crate::proofs::Short::no_point_end))]
-fn read_fraction(text: &[u8], form: &Form, whole: Mantissa) -> Option<Mantissa>
-    requires form { IsForm form.now }
-    requires is { IsShort form.now.integers.decimal text.now whole }
-    ensures is { IfSome result (IsMantissaAt form.now text.now) }
+fn read_fraction(text: &[u8], form: Form, whole: Mantissa) -> Option<Mantissa>
+    requires form { IsForm form }
+    requires is { IsShort form.integers.decimal text.now whole }
+    ensures is { IfSome result (IsMantissaAt form text.now) }
     ensures start { IfSome result (λ m. m.start ≡ whole.start) }
     ensures whole_end { IfSome result (λ m. m.whole_end ≡ whole.whole_end) }
     ensures digits { IfSome result (λ m. m.digits ≡ whole.digits + m.places) }
     ensures few { IfSome result (λ m. m.dropped ≡ 0) }
-    ensures none { stands (is_point form.now.marks.point) text.now whole.whole_end ≡ false
+    ensures none { stands (is_point form.marks.point) text.now whole.whole_end ≡ false
         → IfSome result (λ m. m.end ≡ whole.whole_end) }
 {
     read_short_fraction(text, form.integers.decimal, whole, form.marks.point)
@@ -310,16 +305,15 @@ fn read_fraction(text: &[u8], form: &Form, whole: Mantissa) -> Option<Mantissa>
 #[inline(always)]
 fn round_unmarked<F: Float>(
     text: &[u8],
-    form: &Form,
+    form: Form,
     negative: bool,
     mantissa: Mantissa,
 ) -> Option<F>
-    requires is { IsMantissaAt form.now text.now mantissa }
+    requires is { IsMantissaAt form text.now mantissa }
     requires few { mantissa.dropped ≡ 0 }
-    ensures value { IfSome result (λ x. (mark : ℕ)
-        → stands (is_mark mark) text.now mantissa.end ≡ false
-        → F.value x ≡ nearest_float F.format negative
-        (parts_at form.now.integers.decimal text.now (marks_by form.now mark) mantissa.start)) }
+    requires none { stands (is_mark form.marks.exponent) text.now mantissa.end ≡ false }
+    ensures value { IfSome result (λ x. F.value x ≡ nearest_float F.format negative
+        (parts_at form.integers.decimal text.now form.marks mantissa.start)) }
     ensures number { IfSome result (λ x. NotNan (F.value x)) }
 {
     match round_few::<F>(text, negative, mantissa) {
@@ -330,34 +324,29 @@ fn round_unmarked<F: Float>(
 
 /// Whether more digits follow a first `0`, which the form refuses: of the digits before a point.
 #[inline]
-pub fn has_short_zeros(text: &[u8], form: &Form, whole: Mantissa) -> bool
-    requires is { IsShort form.now.integers.decimal text.now whole }
-    ensures { result ≡ has_more_zeros form.now text.now whole.start }
+pub fn has_short_zeros(text: &[u8], form: Form, whole: Mantissa) -> bool
+    requires is { IsShort form.integers.decimal text.now whole }
+    ensures { result ≡ has_more_zeros form text.now whole.start }
 {
     !form.float_zeros && is_zero(text, whole.start) && whole.start + 1 < whole.whole_end
 }
 
-/// The float of the digits before a point, or the mark of an exponent, that is there, if it is
-/// short: digits follow the point, and any mark, which the form has there, and it refuses no
-/// first `0`.
+/// The float of the digits before a point that is there, if it is short: digits follow the point,
+/// and any mark of an exponent, which the form has there, and it refuses no first `0`.
 #[inline(always)]
-pub fn read_short_float<F: Float>(
+pub fn read_short_pointed<F: Float>(
     text: &[u8],
-    form: &Form,
+    form: Form,
     negative: bool,
     whole: Mantissa,
-    is_pointed: bool,
 ) -> Option<(F, usize)>
-    requires form { IsForm form.now }
-    requires is { IsShort form.now.integers.decimal text.now whole }
+    requires form { IsForm form }
+    requires one_mark { form.other_mark ≡ None }
+    requires is { IsShort form.integers.decimal text.now whole }
     requires some { 0 < whole.digits }
-    requires point { is_pointed
-        ≡ stands (is_point form.now.marks.point) text.now whole.whole_end }
-    requires mark { is_pointed ≡ false
-        → stands (is_mark (mark_or form.now text.now form.now.other_mark whole.whole_end))
-        text.now whole.whole_end ≡ true }
+    requires point { stands (is_point form.marks.point) text.now whole.whole_end ≡ true }
     ensures is { IfSome result (λ r.
-        IsFloatAt form.now text.now whole.start negative F.format (F.value r.0) r.1) }
+        IsFloatAt form text.now whole.start negative F.format (F.value r.0) r.1) }
     ensures number { IfSome result (λ r. NotNan (F.value r.0)) }
     ensures end { IfSome result (λ r. (whole.start < r.1) × (r.1 ≤ length text.now)) }
 {
@@ -365,16 +354,54 @@ pub fn read_short_float<F: Float>(
         return None;
     }
     let mantissa = read_fraction(text, form, whole)?;
-    if is_pointed && mantissa.places == 0 {
+    if mantissa.places == 0 {
         return None;
     }
-    let mark = mark_at(text, form, mantissa.end);
-    // the only place, so that the exponent is inlined once
-    if has_mark(text, mantissa.end, mark) {
-        return read_marked::<F>(text, form, mark, negative, mantissa);
+    if has_mark(text, mantissa.end, form.marks.exponent) {
+        return read_marked::<F>(text, form, negative, mantissa);
     }
     let x = round_unmarked::<F>(text, form, negative, mantissa)?;
     Some((x, mantissa.end))
+}
+
+/// The mantissa that the digits of an integer are where no point follows them.
+#[inline(always)]
+#[tactic(auto, using(crate::proofs::Short::no_point_end), unfolding(digit_floats::specs::Float::mantissas))]
+fn mantissa_of_whole(text: &[u8], form: Form, whole: Mantissa) -> Mantissa
+    requires is { IsShort form.integers.decimal text.now whole }
+    requires point { stands (is_point form.marks.point) text.now whole.whole_end ≡ false }
+    ensures is { IsMantissaAt form text.now result }
+    ensures same { result ≡ whole }
+{
+    whole
+}
+
+/// The float of the digits before the mark of an exponent that is there, if it is short: the form
+/// has an exponent there, digits follow the mark, and it refuses no first `0`.
+#[inline(always)]
+pub fn read_short_power<F: Float>(
+    text: &[u8],
+    form: Form,
+    negative: bool,
+    whole: Mantissa,
+) -> Option<(F, usize)>
+    requires form { IsForm form }
+    requires one_mark { form.other_mark ≡ None }
+    requires is { IsShort form.integers.decimal text.now whole }
+    requires some { 0 < whole.digits }
+    requires point { stands (is_point form.marks.point) text.now whole.whole_end ≡ false }
+    requires mark { stands (is_mark form.marks.exponent) text.now whole.whole_end ≡ true }
+    requires within { whole.whole_end < length text.now }
+    ensures is { IfSome result (λ r.
+        IsFloatAt form text.now whole.start negative F.format (F.value r.0) r.1) }
+    ensures number { IfSome result (λ r. NotNan (F.value r.0)) }
+    ensures end { IfSome result (λ r. (whole.start < r.1) × (r.1 ≤ length text.now)) }
+{
+    if has_short_zeros(text, form, whole) {
+        return None;
+    }
+    let mantissa = mantissa_of_whole(text, form, whole);
+    read_marked::<F>(text, form, negative, mantissa)
 }
 
 /// The float that few digits are by themselves, if one division tells.
@@ -431,12 +458,12 @@ pub fn whole_of(text: &[u8], word: u128, mantissa: Mantissa) -> Mantissa
         ≡ digits_from word text.now Integer mantissa.start }
     ensures fraction { fraction_of text.now result ≡ [] }
 {
-    if mantissa.places == 0 {
-        return mantissa;
+    if mantissa.places > 0 {
+        // no point is found
+        let other = other_byte(text, mantissa.whole_end);
+        return read_mantissa(text, word, mantissa.start, other);
     }
-    // no point is found
-    let other = other_byte(text, mantissa.whole_end);
-    read_mantissa(text, word, mantissa.start, other)
+    mantissa
 }
 
 /// The zero that a first `0` is by itself.

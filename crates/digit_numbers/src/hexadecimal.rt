@@ -49,9 +49,9 @@ fn hex_word(text: &[u8], language: Language, at: usize) -> Option<u128>
 
 /// Whether a point that follows the integer counts.
 #[inline(always)]
-fn allows_point(text: &[u8], form: &Form, word: u128, mantissa: HexMantissa) -> bool
-    requires is { IsHexAt form.now word text.now mantissa }
-    ensures { result ≡ allows_point (hex_form form.now word) text.now mantissa.start }
+fn allows_point(text: &[u8], form: Form, word: u128, mantissa: HexMantissa) -> bool
+    requires is { IsHexAt form word text.now mantissa }
+    ensures { result ≡ allows_point (hex_form form word) text.now mantissa.start }
 {
     if mantissa.digits == mantissa.places && form.needs_integer {
         return false;
@@ -61,9 +61,9 @@ fn allows_point(text: &[u8], form: &Form, word: u128, mantissa: HexMantissa) -> 
 
 /// Whether separators without a digit are before a point, and the word drops none after digits.
 #[inline(always)]
-fn is_bare(text: &[u8], form: &Form, word: u128, mantissa: HexMantissa) -> bool
-    requires is { IsHexAt form.now word text.now mantissa }
-    ensures { result ≡ is_bare (hex_form form.now word) text.now mantissa.start }
+fn is_bare(text: &[u8], form: Form, word: u128, mantissa: HexMantissa) -> bool
+    requires is { IsHexAt form word text.now mantissa }
+    ensures { result ≡ is_bare (hex_form form word) text.now mantissa.start }
 {
     mantissa.digits == mantissa.places
         && mantissa.start < mantissa.whole_end
@@ -81,21 +81,21 @@ fn drops_trailing(word: u128) -> bool
 /// The exponent after a mantissa, if there is one.
 #[inline(always)]
 #[tactic(auto, unfolding(digit_floats::specs::Float::exponents))]
-fn read_power(text: &[u8], form: &Form, word: u128, mantissa: HexMantissa) -> Option<Power>
+fn read_power(text: &[u8], form: Form, word: u128, mantissa: HexMantissa) -> Option<Power>
     requires supported { IsTrue (is_supported word) }
     requires hexadecimal { IsHexadecimal word }
-    requires is { IsHexAt form.now word text.now mantissa }
-    requires mark { mantissa.end ≡ mark_at (hex_form form.now word) text.now mantissa.start }
+    requires is { IsHexAt form word text.now mantissa }
+    requires mark { mantissa.end ≡ mark_at (hex_form form word) text.now mantissa.start }
     ensures is { MatchOption result
-        (has_exponent (hex_form form.now word) text.now mantissa.start ≡ false)
-        (λ p. has_exponent (hex_form form.now word) text.now mantissa.start ≡ true) }
+        (has_exponent (hex_form form word) text.now mantissa.start ≡ false)
+        (λ p. has_exponent (hex_form form word) text.now mantissa.start ≡ true) }
     ensures power { IfSome result (IsPower text.now mantissa.end) }
     ensures digits { IfSome result (λ p. exponent_of text.now mantissa.end p
-        ≡ exponent (hex_form form.now word) text.now mantissa.start) }
+        ≡ exponent (hex_form form word) text.now mantissa.start) }
     ensures negative { IfSome result (λ p. p.negative
-        ≡ (parts (hex_form form.now word) text.now mantissa.start).exponent_negative) }
+        ≡ (parts (hex_form form word) text.now mantissa.start).exponent_negative) }
     ensures end { IfSome result (λ p.
-        p.end ≡ digits_stop (hex_form form.now word) text.now mantissa.start) }
+        p.end ≡ digits_stop (hex_form form word) text.now mantissa.start) }
     ensures within { IfSome result (λ p. (mantissa.end ≤ p.end) × (p.end ≤ length text.now)) }
 {
     if !has_mark(text, mantissa.end, b'p') {
@@ -109,17 +109,17 @@ fn read_power(text: &[u8], form: &Form, word: u128, mantissa: HexMantissa) -> Op
 #[tactic(auto, using(crate::proofs::Alone::no_exponent, crate::proofs::Alone::hex_alone))]
 fn round_alone<F: Float>(
     text: &[u8],
-    form: &Form,
+    form: Form,
     word: u128,
     negative: bool,
     mantissa: HexMantissa,
 ) -> F
-    requires is { IsHexAt form.now word text.now mantissa }
-    requires none { has_exponent (hex_form form.now word) text.now mantissa.start ≡ false }
-    requires fraction { let h = hex_form form.now word in fraction h text.now mantissa.start
+    requires is { IsHexAt form word text.now mantissa }
+    requires none { has_exponent (hex_form form word) text.now mantissa.start ≡ false }
+    requires fraction { let h = hex_form form word in fraction h text.now mantissa.start
         ≡ (parts h text.now mantissa.start).fraction }
     ensures value { F.value result
-        ≡ hex_value (hex_form form.now word) text.now mantissa.start F.format negative }
+        ≡ hex_value (hex_form form word) text.now mantissa.start F.format negative }
     ensures number { NotNan (F.value result) }
 {
     let power = Power {
@@ -136,20 +136,20 @@ fn round_alone<F: Float>(
 #[tactic(auto, using(crate::proofs::Digits::hexes), unfolding(crate::specs::Numbers::is_hex_here))]
 fn read_digits<F: Float>(
     text: &[u8],
-    form: &Form,
+    form: Form,
     word: u128,
     negative: bool,
     at: usize,
 ) -> Option<(F, usize)>
-    requires form { IsForm form.now }
+    requires form { IsForm form }
     requires supported { IsTrue (is_supported word) }
     requires hexadecimal { IsHexadecimal word }
     requires within { at ≤ length text.now }
-    ensures is { MatchOption result (is_hex_here (hex_form form.now word) text.now at ≡ false)
-        (λ r. is_hex_here (hex_form form.now word) text.now at ≡ true) }
+    ensures is { MatchOption result (is_hex_here (hex_form form word) text.now at ≡ false)
+        (λ r. is_hex_here (hex_form form word) text.now at ≡ true) }
     ensures value { IfSome result (λ r.
-        F.value r.0 ≡ hex_value (hex_form form.now word) text.now at F.format negative) }
-    ensures ends { IfSome result (λ r. r.1 ≡ digits_stop (hex_form form.now word) text.now at) }
+        F.value r.0 ≡ hex_value (hex_form form word) text.now at F.format negative) }
+    ensures ends { IfSome result (λ r. r.1 ≡ digits_stop (hex_form form word) text.now at) }
     ensures number { IfSome result (λ r. NotNan (F.value r.0)) }
     ensures within { IfSome result (λ r. (at < r.1) × (r.1 ≤ length text.now)) }
 {
@@ -178,28 +178,28 @@ fn read_digits<F: Float>(
 #[tactic(auto, unfolding(crate::specs::Numbers::hex_word_at))]
 pub fn read_hex<F: Float>(
     text: &[u8],
-    form: &Form,
-    language: &Language,
+    form: Form,
+    language: Language,
     negative: bool,
     at: usize,
 ) -> Option<(F, usize)>
-    requires form { IsForm form.now }
-    requires language { IsLanguage language.now }
-    requires hexadecimal { has_hex form.now.hex_floats ≡ true
-        → IfSome language.now.hexadecimal IsHexadecimal }
+    requires form { IsForm form }
+    requires language { IsLanguage language }
+    requires hexadecimal { has_hex form.hex_floats ≡ true
+        → IfSome language.hexadecimal IsHexadecimal }
     requires within { at ≤ length text.now }
-    ensures is { MatchOption result (hex_word_at form.now language.now text.now at ≡ None)
-        (λ r. is_some (hex_word_at form.now language.now text.now at) ≡ true) }
+    ensures is { MatchOption result (hex_word_at form language text.now at ≡ None)
+        (λ r. is_some (hex_word_at form language text.now at) ≡ true) }
     ensures reads { IfSome result (λ r. (word : ℕ) →
-        hex_word_at form.now language.now text.now at ≡ Some word →
-        (F.value r.0 ≡ hex_value (hex_form form.now word) text.now (at + 2) F.format negative)
-        × (r.1 ≡ digits_stop (hex_form form.now word) text.now (at + 2))) }
+        hex_word_at form language text.now at ≡ Some word →
+        (F.value r.0 ≡ hex_value (hex_form form word) text.now (at + 2) F.format negative)
+        × (r.1 ≡ digits_stop (hex_form form word) text.now (at + 2))) }
     ensures number { IfSome result (λ r. NotNan (F.value r.0)) }
     ensures within { IfSome result (λ r. (at < r.1) × (r.1 ≤ length text.now)) }
 {
     if !form.hex_floats.exist() {
         return None;
     }
-    let word = hex_word(text, *language, at)?;
+    let word = hex_word(text, language, at)?;
     read_digits::<F>(text, form, word, negative, at + 2)
 }

@@ -55,13 +55,13 @@ fn has_letter(text: &[u8], at: usize) -> bool
 
 /// [`read_literal`] up to 128 bits. In code of its own.
 #[inline(never)]
-pub fn read_integer(text: &[u8], language: &Language, at: usize) -> Result<Literal, LanguageError>
-    requires language { IsLanguage language.now }
+pub fn read_integer(text: &[u8], language: Language, at: usize) -> Result<Literal, LanguageError>
+    requires language { IsLanguage language }
     requires within { at ≤ length text.now }
-    ensures is { result ≡ literal_at language.now text.now at (2 ^ 128 - 1) }
+    ensures is { result ≡ literal_at language text.now at (2 ^ 128 - 1) }
     ensures end { IfOk result (λ read. (at < read.end) × (read.end ≤ length text.now)) }
 {
-    read_literal(text, at, *language, u128::MAX)
+    read_literal(text, at, language, u128::MAX)
 }
 
 /// Whether no prefix begins at a position, and no first `0` that says octal, or that more digits

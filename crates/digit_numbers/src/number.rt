@@ -1,7 +1,7 @@
 //! The number at a position.
 
-ghost use Rattle.std.specs.Prelude.{◌≡◌, ◌+◌, ◌-◌, ◌^◌, ◌<◌, ◌≤◌, ◌&&◌, not, if◌then◌else◌, Some, None};
-ghost use Rattle.std.specs.Prelude.{length, true, false, Ok, Err, IfOk, IfErr, IfSome, MatchOption, MatchResult};
+ghost use Rattle.std.specs.Prelude.{◌≡◌, ◌+◌, ◌<◌, ◌≤◌, ◌&&◌, not, if◌then◌else◌, Some, None};
+ghost use Rattle.std.specs.Prelude.{length, true, false, Ok, Err, IfOk, IfSome, MatchOption, MatchResult};
 ghost use Rattle.std.specs.Prelude.{ℕ, is_some};
 ghost use Rattle.std.specs.Float.{NotNan};
 ghost use Rattle.lexical_format.specs.Word.{separator};
@@ -11,24 +11,23 @@ ghost use Rattle.digit_numbers.specs.Forms.{IsForm, has_hex, hex_form, is_always
 ghost use Rattle.digit_floats.specs.Parts.{IsShort};
 ghost use Rattle.digit_floats.specs.Hexadecimal.{IsHexadecimal};
 ghost use Rattle.digit_numbers.specs.declared.number.Number.TheVariants.{Integer};
-ghost use Rattle.digit_numbers.specs.Numbers.{mark_or, past_sign, is_float, special_here, hex_word_here, hex_word_at, hex_value, digits_stop};
+ghost use Rattle.digit_numbers.specs.Numbers.{past_sign, is_float, special_here, hex_word_here, hex_word_at, hex_value, digits_stop};
 ghost use Rattle.digit_numbers.specs.Numbers.{plain_at, number_of_at, to_end};
 ghost use Rattle.digit_languages.specs.Words.{IsLanguage};
-ghost use Rattle.digit_numbers.specs.Reads.{IsAfterZero, IsLanguageAt, IsMantissaAt, IsSign, zero_or};
-ghost use Rattle.digit_languages.specs.Literals.{literal_at};
+ghost use Rattle.digit_numbers.specs.Reads.{IsMantissaAt, IsSign};
 ghost use Rattle.digit_numbers.specs.Values.{integer_in, float_in, with_value, IsNoNan, position, message};
 ghost use Rattle.digit_numbers.specs.Specials.{special_at, name_end};
 
 use super::float::{
-    has_byte, has_mark, has_more_zeros, has_short_zeros, mark_at, read_float, read_large,
-    read_short_float, round_short_whole, round_whole, zero_alone,
+    has_byte, has_mark, has_more_zeros, has_short_zeros, read_float, read_large,
+    read_short_pointed, read_short_power, round_short_whole, round_whole, zero_alone,
 };
 use super::form::{Form, Special};
 use super::hexadecimal::read_hex;
 use super::integer::{is_zero, read_few, read_integer, unprefixed};
 use super::special::{may_begin, read_special};
 use digit_floats::{Float, Mantissa, read_mantissa, read_short_whole, round_integer};
-use digit_languages::{Language, LanguageError, Literal, read_literal};
+use digit_languages::{Language, LanguageError, Literal};
 use digit_literals::Integer;
 use lexical_format::NumberFormat;
 use std::error::Error;
@@ -146,9 +145,9 @@ pub struct Sign {
 /// The sign at a start, if the form has one there.
 #[inline(always)]
 #[tactic(auto, unfolding(crate::specs::Numbers::past_sign))]
-pub fn read_sign(text: &[u8], form: &Form, start: usize) -> Sign
+pub fn read_sign(text: &[u8], form: Form, start: usize) -> Sign
     requires { start ≤ length text.now }
-    ensures { IsSign form.now text.now start result }
+    ensures { IsSign form text.now start result }
 {
     let Some(byte) = text.get(start) else {
         return Sign {
@@ -169,12 +168,12 @@ pub fn read_sign(text: &[u8], form: &Form, start: usize) -> Sign
 
 /// The form's integers after a sign, or without one.
 #[inline(always)]
-pub fn language_of(form: &Form, is_signed: bool) -> Language
-    requires { IsForm form.now }
-    ensures is { result ≡ (if is_signed && not form.now.signed_prefix
-        then unprefixed form.now.integers else form.now.integers) }
-    ensures decimal { result.decimal ≡ form.now.integers.decimal }
-    ensures hexadecimal { has_hex form.now.hex_floats ≡ true
+pub fn language_of(form: Form, is_signed: bool) -> Language
+    requires { IsForm form }
+    ensures is { result ≡ (if is_signed && not form.signed_prefix
+        then unprefixed form.integers else form.integers) }
+    ensures decimal { result.decimal ≡ form.integers.decimal }
+    ensures hexadecimal { has_hex form.hex_floats ≡ true
         → IfSome result.hexadecimal IsHexadecimal }
     ensures serves { IsLanguage result }
 {
@@ -187,10 +186,10 @@ pub fn language_of(form: &Form, is_signed: bool) -> Language
 
 /// The digits of a number at a position, after any sign.
 #[inline(always)]
-pub fn read_digits(text: &[u8], form: &Form, at: usize) -> Mantissa
-    requires form { IsForm form.now }
+pub fn read_digits(text: &[u8], form: Form, at: usize) -> Mantissa
+    requires form { IsForm form }
     requires within { at ≤ length text.now }
-    ensures is { IsMantissaAt form.now text.now result }
+    ensures is { IsMantissaAt form text.now result }
     ensures start { result.start ≡ at }
 {
     read_mantissa(text, form.integers.decimal, at, form.marks.point)
@@ -202,21 +201,19 @@ pub fn read_digits(text: &[u8], form: &Form, at: usize) -> Mantissa
 fn read_whole<F: Float>(
     text: &[u8],
     start: usize,
-    form: &Form,
-    language: &Language,
+    form: Form,
     sign: Sign,
     mantissa: Mantissa,
 ) -> Result<(Number<F>, usize), NumberError>
     requires within { start ≤ length text.now }
-    requires form { IsForm form.now }
-    requires language { IsLanguageAt form.now text.now start language.now }
-    requires sign { IsSign form.now text.now start sign }
-    requires digits { IsMantissaAt form.now text.now mantissa }
+    requires form { IsForm form }
+    requires sign { IsSign form text.now start sign }
+    requires digits { IsMantissaAt form text.now mantissa }
     requires start { mantissa.start ≡ sign.end }
-    requires no_float { is_float form.now text.now sign.end ≡ false }
+    requires no_float { is_float form text.now sign.end ≡ false }
     ensures is { MatchResult result
-        (λ r. plain_at form.now text.now start F.format ≡ Ok (with_value F.value r.0, r.1))
-        (λ error. plain_at form.now text.now start F.format ≡ Err error) }
+        (λ r. plain_at form text.now start F.format ≡ Ok (with_value F.value r.0, r.1))
+        (λ error. plain_at form text.now start F.format ≡ Err error) }
     ensures no_nan { IfOk result (λ r. IsNoNan F.value r.0) }
     ensures end { IfOk result (λ r. (start < r.1) × (r.1 ≤ length text.now)) }
 {
@@ -231,10 +228,11 @@ fn read_whole<F: Float>(
         let x = round_whole::<F>(text, form.integers.decimal, sign.is_minus, mantissa);
         return Ok((Number::Float(x), mantissa.whole_end));
     }
-    if let Some(read) = read_few(text, *language, mantissa) {
+    // this language and the one below are two, so that this one need not be in memory
+    if let Some(read) = read_few(text, language_of(form, sign.is_there), mantissa) {
         return Ok((integer_of(sign, read), read.end));
     }
-    read_other::<F>(text, start, form, language, sign)
+    read_other::<F>(text, start, form, sign)
 }
 
 /// An integer with a sign.
@@ -256,24 +254,22 @@ fn integer_of<F: Float>(sign: Sign, read: Literal) -> Number<F>
 fn read_other<F: Float>(
     text: &[u8],
     start: usize,
-    form: &Form,
-    language: &Language,
+    form: Form,
     sign: Sign,
 ) -> Result<(Number<F>, usize), NumberError>
     requires within { start ≤ length text.now }
-    requires form { IsForm form.now }
-    requires language { IsLanguageAt form.now text.now start language.now }
-    requires sign { IsSign form.now text.now start sign }
-    requires exact { is_always_float form.now.whole ≡ false }
-    requires no_float { is_float form.now text.now sign.end ≡ false }
+    requires form { IsForm form }
+    requires sign { IsSign form text.now start sign }
+    requires exact { is_always_float form.whole ≡ false }
+    requires no_float { is_float form text.now sign.end ≡ false }
     ensures is { MatchResult result
-        (λ r. plain_at form.now text.now start F.format ≡ Ok (with_value F.value r.0, r.1))
-        (λ error. plain_at form.now text.now start F.format ≡ Err error) }
+        (λ r. plain_at form text.now start F.format ≡ Ok (with_value F.value r.0, r.1))
+        (λ error. plain_at form text.now start F.format ≡ Err error) }
     ensures no_nan { IfOk result (λ r. IsNoNan F.value r.0) }
     ensures end { IfOk result (λ r. (start < r.1) × (r.1 ≤ length text.now)) }
 {
     let at = sign.end;
-    match read_integer(text, language, at) {
+    match read_integer(text, language_of(form, sign.is_there), at) {
         Ok(read) => Ok((integer_of(sign, read), read.end)),
         Err(LanguageError::Overflow(over)) if form.whole.may_be_float() && !is_zero(text, at) => {
             let (x, end) = read_large::<F>(text, form.integers.decimal, sign.is_minus, at, over);
@@ -297,19 +293,19 @@ fn read_other<F: Float>(
 #[inline(always)]
 fn special_in(
     text: &[u8],
-    form: &Form,
+    form: Form,
     at: usize,
     is_signed: bool,
     is_minus: bool,
 ) -> Option<(Special, usize)>
-    requires form { IsForm form.now }
+    requires form { IsForm form }
     requires within { at ≤ length text.now }
-    ensures is { MatchOption result (special_at form.now text.now at is_signed is_minus ≡ None)
-        (λ r. special_at form.now text.now at is_signed is_minus ≡ Some r.0) }
-    ensures end { IfSome result (λ r. r.1 ≡ name_end form.now text.now at r.0) }
+    ensures is { MatchOption result (special_at form text.now at is_signed is_minus ≡ None)
+        (λ r. special_at form text.now at is_signed is_minus ≡ Some r.0) }
+    ensures end { IfSome result (λ r. r.1 ≡ name_end form text.now at r.0) }
     ensures within { IfSome result (λ r. (at < r.1) × (r.1 ≤ length text.now)) }
 {
-    match read_special(text, *form, at, is_signed, is_minus) {
+    match read_special(text, form, at, is_signed, is_minus) {
         Some((special, end)) => Some((special, end)),
         None => None,
     }
@@ -320,16 +316,16 @@ fn special_in(
 #[tactic(auto, unfolding(crate::specs::Specials::special_at))]
 pub fn special_of(
     text: &[u8],
-    form: &Form,
+    form: Form,
     at: usize,
     is_signed: bool,
     is_minus: bool,
 ) -> Option<(Special, usize)>
-    requires form { IsForm form.now }
+    requires form { IsForm form }
     requires within { at ≤ length text.now }
-    ensures is { MatchOption result (special_at form.now text.now at is_signed is_minus ≡ None)
-        (λ r. special_at form.now text.now at is_signed is_minus ≡ Some r.0) }
-    ensures end { IfSome result (λ r. r.1 ≡ name_end form.now text.now at r.0) }
+    ensures is { MatchOption result (special_at form text.now at is_signed is_minus ≡ None)
+        (λ r. special_at form text.now at is_signed is_minus ≡ Some r.0) }
+    ensures end { IfSome result (λ r. r.1 ≡ name_end form text.now at r.0) }
     ensures within { IfSome result (λ r. (at < r.1) × (r.1 ≤ length text.now)) }
 {
     match form.specials {
@@ -345,22 +341,22 @@ pub fn special_of(
 #[tactic(auto, unfolding(crate::specs::Numbers::hex_word_at))]
 fn hex_of<F: Float>(
     text: &[u8],
-    form: &Form,
-    language: &Language,
+    form: Form,
+    language: Language,
     negative: bool,
     at: usize,
 ) -> Option<(F, usize)>
-    requires form { IsForm form.now }
-    requires language { IsLanguage language.now }
-    requires hexadecimal { has_hex form.now.hex_floats ≡ true
-        → IfSome language.now.hexadecimal IsHexadecimal }
+    requires form { IsForm form }
+    requires language { IsLanguage language }
+    requires hexadecimal { has_hex form.hex_floats ≡ true
+        → IfSome language.hexadecimal IsHexadecimal }
     requires within { at ≤ length text.now }
-    ensures is { MatchOption result (hex_word_at form.now language.now text.now at ≡ None)
-        (λ r. is_some (hex_word_at form.now language.now text.now at) ≡ true) }
+    ensures is { MatchOption result (hex_word_at form language text.now at ≡ None)
+        (λ r. is_some (hex_word_at form language text.now at) ≡ true) }
     ensures reads { IfSome result (λ r. (word : ℕ) →
-        hex_word_at form.now language.now text.now at ≡ Some word →
-        (F.value r.0 ≡ hex_value (hex_form form.now word) text.now (at + 2) F.format negative)
-        × (r.1 ≡ digits_stop (hex_form form.now word) text.now (at + 2))) }
+        hex_word_at form language text.now at ≡ Some word →
+        (F.value r.0 ≡ hex_value (hex_form form word) text.now (at + 2) F.format negative)
+        × (r.1 ≡ digits_stop (hex_form form word) text.now (at + 2))) }
     ensures number { IfSome result (λ r. NotNan (F.value r.0)) }
     ensures within { IfSome result (λ r. (at < r.1) × (r.1 ≤ length text.now)) }
 {
@@ -389,17 +385,15 @@ pub fn has_separator(text: &[u8], word: u128, at: usize) -> bool
 fn read_plain<F: Float>(
     text: &[u8],
     start: usize,
-    form: &Form,
-    language: &Language,
+    form: Form,
     sign: Sign,
 ) -> Result<(Number<F>, usize), NumberError>
     requires within { start ≤ length text.now }
-    requires form { IsForm form.now }
-    requires language { IsLanguageAt form.now text.now start language.now }
-    requires sign { IsSign form.now text.now start sign }
+    requires form { IsForm form }
+    requires sign { IsSign form text.now start sign }
     ensures is { MatchResult result
-        (λ r. plain_at form.now text.now start F.format ≡ Ok (with_value F.value r.0, r.1))
-        (λ error. plain_at form.now text.now start F.format ≡ Err error) }
+        (λ r. plain_at form text.now start F.format ≡ Ok (with_value F.value r.0, r.1))
+        (λ error. plain_at form text.now start F.format ≡ Err error) }
     ensures no_nan { IfOk result (λ r. IsNoNan F.value r.0) }
     ensures end { IfOk result (λ r. (start < r.1) × (r.1 ≤ length text.now)) }
 {
@@ -407,15 +401,15 @@ fn read_plain<F: Float>(
     if let Some((x, end)) = read_float::<F>(text, form, sign.is_minus, mantissa) {
         return Ok((Number::Float(x), end));
     }
-    read_whole::<F>(text, start, form, language, sign, mantissa)
+    read_whole::<F>(text, start, form, sign, mantissa)
 }
 
 /// Whether no hexadecimal float is after the sign, as far as its first two bytes tell.
 #[inline(always)]
 #[tactic(auto, using(crate::proofs::Zeros::no_hex, crate::proofs::Zeros::no_x), unfolding(crate::specs::Numbers::hex_word_at))]
-fn has_no_hex(text: &[u8], start: usize, form: &Form, sign: Sign) -> bool
-    requires sign { IsSign form.now text.now start sign }
-    ensures { result ≡ true → hex_word_here form.now text.now start ≡ None }
+fn has_no_hex(text: &[u8], start: usize, form: Form, sign: Sign) -> bool
+    requires sign { IsSign form text.now start sign }
+    ensures { result ≡ true → hex_word_here form text.now start ≡ None }
 {
     !form.hex_floats.exist() || !is_zero(text, sign.end) || !has_mark(text, sign.end + 1, b'x')
 }
@@ -423,80 +417,16 @@ fn has_no_hex(text: &[u8], start: usize, form: &Form, sign: Sign) -> bool
 /// The digits of a number before a point, after any sign, if they are few.
 #[inline(always)]
 #[tactic(auto, using(crate::proofs::Short::no_separator))]
-fn read_some(text: &[u8], form: &Form, at: usize) -> Option<Mantissa>
-    requires form { IsForm form.now }
+fn read_some(text: &[u8], form: Form, at: usize) -> Option<Mantissa>
+    requires form { IsForm form }
     requires within { at ≤ length text.now }
-    ensures is { IfSome result (IsShort form.now.integers.decimal text.now) }
+    ensures is { IfSome result (IsShort form.integers.decimal text.now) }
     ensures start { IfSome result (λ m. m.start ≡ at) }
     ensures some { IfSome result (λ m. 0 < m.digits) }
     ensures no_separator { IfSome result (λ _.
-        stands (is_separator (separator form.now.integers.decimal)) text.now at ≡ false) }
+        stands (is_separator (separator form.integers.decimal)) text.now at ≡ false) }
 {
     read_short_whole(text, form.integers.decimal, at)
-}
-
-/// The integer that a `0` begins: most have a prefix. It needs no mantissa.
-#[inline(always)]
-#[tactic(auto, using(std::proofs::lemmas::Option::gets))]
-fn read_zero<F: Float>(
-    text: &[u8],
-    language: &Language,
-    sign: Sign,
-) -> Result<(Number<F>, usize), NumberError>
-    requires language { IsLanguage language.now }
-    requires within { sign.end < length text.now }
-    ensures is { let read = zero_or language.now.decimal sign.end sign.is_minus
-        (literal_at language.now text.now sign.end (2 ^ 128 - 1)) in
-        MatchResult result (λ r. read ≡ Ok (with_value F.value r.0, r.1)) (λ e. read ≡ Err e) }
-    ensures no_nan { IfOk result (λ r. IsNoNan F.value r.0) }
-    ensures end { IfOk result (λ r. (sign.end < r.1) × (r.1 ≤ length text.now)) }
-{
-    match read_literal(text, sign.end, *language, u128::MAX) {
-        Ok(read) => Ok((integer_of(sign, read), read.end)),
-        Err(LanguageError::Overflow(at)) => Err(NumberError::Overflow(at)),
-        Err(LanguageError::Empty(_) | LanguageError::Zero(_)) => {
-            let zero = Literal {
-                value: 0,
-                word: language.decimal,
-                digits: sign.end,
-                end: sign.end + 1,
-            };
-            Ok((integer_of(sign, zero), zero.end))
-        }
-    }
-}
-
-/// The integer that a `0` begins, by a form.
-#[inline(always)]
-fn read_after_zero<F: Float>(
-    text: &[u8],
-    start: usize,
-    form: &Form,
-    language: &Language,
-    sign: Sign,
-) -> Result<(Number<F>, usize), NumberError>
-    requires within { start ≤ length text.now }
-    requires form { IsForm form.now }
-    requires language { IsLanguageAt form.now text.now start language.now }
-    requires sign { IsSign form.now text.now start sign }
-    requires zero { IsAfterZero form.now text.now sign.end }
-    ensures is { MatchResult result
-        (λ r. plain_at form.now text.now start F.format ≡ Ok (with_value F.value r.0, r.1))
-        (λ error. plain_at form.now text.now start F.format ≡ Err error) }
-    ensures no_nan { IfOk result (λ r. IsNoNan F.value r.0) }
-    ensures end { IfOk result (λ r. (start < r.1) × (r.1 ≤ length text.now)) }
-{
-    match read_zero::<F>(text, language, sign) {
-        Ok((number, end)) => Ok((number, end)),
-        Err(error) => Err(error),
-    }
-}
-
-/// What is left to [`read_long`]: an integer that a `0` begins, or any number.
-#[derive(Clone, Copy, PartialEq, Eq)]
-enum Left {
-    AfterZero,
-    Other,
 }
 
 /// The number that few digits are without a point and an exponent, if nothing is rare about them.
@@ -505,143 +435,96 @@ enum Left {
 fn short_whole<F: Float>(
     text: &[u8],
     start: usize,
-    form: &Form,
+    form: Form,
     sign: Sign,
     whole: Mantissa,
-) -> Result<(Number<F>, usize), Left>
-    requires form { IsForm form.now }
-    requires sign { IsSign form.now text.now start sign }
-    requires is { IsShort form.now.integers.decimal text.now whole }
+) -> Option<(Number<F>, usize)>
+    requires form { IsForm form }
+    requires one_mark { form.other_mark ≡ None }
+    requires sign { IsSign form text.now start sign }
+    requires is { IsShort form.integers.decimal text.now whole }
     requires start { whole.start ≡ sign.end }
     requires some { 0 < whole.digits }
-    requires apart { let separates = is_separator (separator form.now.integers.decimal) in
-        stands separates text.now sign.end ≡ false }
-    requires point { stands (is_point form.now.marks.point) text.now whole.whole_end ≡ false }
-    requires mark { stands (is_mark (mark_or form.now text.now form.now.other_mark whole.whole_end))
-        text.now whole.whole_end ≡ false }
-    ensures is { IfOk result (λ r.
-        plain_at form.now text.now start F.format ≡ Ok (with_value F.value r.0, r.1)) }
-    ensures no_nan { IfOk result (λ r. IsNoNan F.value r.0) }
-    ensures end { IfOk result (λ r. (start < r.1) × (r.1 ≤ length text.now)) }
-    ensures zero { IfErr result (λ left.
-        left ≡ Left.AfterZero → IsAfterZero form.now text.now sign.end) }
+    requires point { stands (is_point form.marks.point) text.now whole.whole_end ≡ false }
+    requires mark { stands (is_mark form.marks.exponent) text.now whole.whole_end ≡ false }
+    ensures is { IfSome result (λ r.
+        plain_at form text.now start F.format ≡ Ok (with_value F.value r.0, r.1)) }
+    ensures no_nan { IfSome result (λ r. IsNoNan F.value r.0) }
+    ensures end { IfSome result (λ r. (start < r.1) × (r.1 ≤ length text.now)) }
 {
     if form.whole.is_float() {
         if has_short_zeros(text, form, whole) {
-            return Err(Left::Other);
+            return None;
         }
-        return match round_short_whole::<F>(text, form.integers.decimal, sign.is_minus, whole) {
-            Some(x) => Ok((Number::Float(x), whole.whole_end)),
-            None => Err(Left::Other),
-        };
+        let x = round_short_whole::<F>(text, form.integers.decimal, sign.is_minus, whole)?;
+        return Some((Number::Float(x), whole.whole_end));
     }
-    match read_few(text, language_of(form, sign.is_there), whole) {
-        Some(read) => Ok((integer_of(sign, read), read.end)),
-        None if is_zero(text, sign.end) => Err(Left::AfterZero),
-        None => Err(Left::Other),
-    }
+    let read = read_few(text, language_of(form, sign.is_there), whole)?;
+    Some((integer_of(sign, read), read.end))
 }
 
 /// The integer or decimal float that begins at a start, and the position after it, if it has few
 /// digits, and nothing is rare about it. It is small, so that it is inlined where it is called;
-/// what it leaves is read by [`read_long`].
+/// what it leaves is read again by [`read_long`].
 #[inline(always)]
 #[tactic(auto, unfolding(crate::specs::Numbers::plain_at))]
 fn read_short<F: Float>(
     text: &[u8],
     start: usize,
-    form: &Form,
+    form: Form,
     sign: Sign,
-) -> Result<(Number<F>, usize), Left>
+) -> Option<(Number<F>, usize)>
     requires within { start ≤ length text.now }
-    requires form { IsForm form.now }
-    requires sign { IsSign form.now text.now start sign }
-    ensures is { IfOk result (λ r.
-        plain_at form.now text.now start F.format ≡ Ok (with_value F.value r.0, r.1)) }
-    ensures no_nan { IfOk result (λ r. IsNoNan F.value r.0) }
-    ensures end { IfOk result (λ r. (start < r.1) × (r.1 ≤ length text.now)) }
-    ensures no_separator { IfOk result (λ _.
-        stands (is_separator (separator form.now.integers.decimal)) text.now sign.end ≡ false) }
-    ensures zero { IfErr result (λ left.
-        left ≡ Left.AfterZero → IsAfterZero form.now text.now sign.end) }
+    requires form { IsForm form }
+    requires sign { IsSign form text.now start sign }
+    ensures is { IfSome result (λ r.
+        plain_at form text.now start F.format ≡ Ok (with_value F.value r.0, r.1)) }
+    ensures no_nan { IfSome result (λ r. IsNoNan F.value r.0) }
+    ensures end { IfSome result (λ r. (start < r.1) × (r.1 ≤ length text.now)) }
+    ensures no_separator { IfSome result (λ _.
+        stands (is_separator (separator form.integers.decimal)) text.now sign.end ≡ false) }
 {
-    let Some(whole) = read_some(text, form, sign.end) else {
-        return Err(Left::Other);
-    };
-    let is_pointed = has_byte(text, whole.whole_end, form.marks.point);
-    let mark = mark_at(text, form, whole.whole_end);
-    if is_pointed || has_mark(text, whole.whole_end, mark) {
-        return match read_short_float::<F>(text, form, sign.is_minus, whole, is_pointed) {
-            Some((x, end)) => Ok((Number::Float(x), end)),
-            None => Err(Left::Other),
-        };
+    if form.other_mark.is_some() {
+        return None;
+    }
+    let whole = read_some(text, form, sign.end)?;
+    if has_byte(text, whole.whole_end, form.marks.point) {
+        let (x, end) = read_short_pointed::<F>(text, form, sign.is_minus, whole)?;
+        return Some((Number::Float(x), end));
+    }
+    if has_mark(text, whole.whole_end, form.marks.exponent) {
+        let (x, end) = read_short_power::<F>(text, form, sign.is_minus, whole)?;
+        return Some((Number::Float(x), end));
     }
     short_whole::<F>(text, start, form, sign, whole)
 }
 
-/// [`read_number_of`], whatever the number is, where no special value is, after its sign. In code
-/// of its own: form and language are read where they are.
+/// [`read_number_of`], whatever the number is, where no special value is. In code of its own.
 #[inline(never)]
 #[tactic(auto, unfolding(crate::specs::Numbers::number_of_at))]
-fn read_by<F: Float>(
+fn read_long<F: Float>(
     text: &[u8],
     start: usize,
-    form: &Form,
-    language: &Language,
-    sign: Sign,
-    left: Left,
+    form: Form,
 ) -> Result<(Number<F>, usize), NumberError>
     requires within { start ≤ length text.now }
-    requires form { IsForm form.now }
-    requires language { IsLanguageAt form.now text.now start language.now }
-    requires sign { IsSign form.now text.now start sign }
-    requires no_special { special_here form.now text.now start ≡ None }
-    requires no_hex { left ≡ Left.AfterZero → hex_word_here form.now text.now start ≡ None }
-    requires zero { left ≡ Left.AfterZero → IsAfterZero form.now text.now sign.end }
+    requires form { IsForm form }
+    requires no_special { special_here form text.now start ≡ None }
     ensures is { MatchResult result
-        (λ r. number_of_at form.now text.now start F.format ≡ Ok (with_value F.value r.0, r.1))
-        (λ error. number_of_at form.now text.now start F.format ≡ Err error) }
+        (λ r. number_of_at form text.now start F.format ≡ Ok (with_value F.value r.0, r.1))
+        (λ error. number_of_at form text.now start F.format ≡ Err error) }
     ensures no_nan { IfOk result (λ r. IsNoNan F.value r.0) }
     ensures end { IfOk result (λ r. (start < r.1) × (r.1 ≤ length text.now)) }
 {
-    if left == Left::AfterZero {
-        return read_after_zero::<F>(text, start, form, language, sign);
-    }
+    let sign = read_sign(text, form, start);
+    let language = language_of(form, sign.is_there);
     if let Some((x, end)) = hex_of::<F>(text, form, language, sign.is_minus, sign.end) {
         return Ok((Number::Float(x), end));
     }
     if has_separator(text, form.integers.decimal, sign.end) {
         return Err(NumberError::Empty(sign.end));
     }
-    read_plain::<F>(text, start, form, language, sign)
-}
-
-/// [`read_number_of`], whatever the number is, where no special value is. In code of its own.
-#[inline(never)]
-fn read_long<F: Float>(
-    text: &[u8],
-    start: usize,
-    form: &Form,
-    left: Left,
-) -> Result<(Number<F>, usize), NumberError>
-    requires within { start ≤ length text.now }
-    requires form { IsForm form.now }
-    requires no_special { special_here form.now text.now start ≡ None }
-    requires no_hex { left ≡ Left.AfterZero → hex_word_here form.now text.now start ≡ None }
-    requires zero { left ≡ Left.AfterZero
-        → IsAfterZero form.now text.now (past_sign form.now text.now start) }
-    ensures is { MatchResult result
-        (λ r. number_of_at form.now text.now start F.format ≡ Ok (with_value F.value r.0, r.1))
-        (λ error. number_of_at form.now text.now start F.format ≡ Err error) }
-    ensures no_nan { IfOk result (λ r. IsNoNan F.value r.0) }
-    ensures end { IfOk result (λ r. (start < r.1) × (r.1 ≤ length text.now)) }
-{
-    let sign = read_sign(text, form, start);
-    if sign.is_there && !form.signed_prefix {
-        let language = unprefixed(form.integers);
-        return read_by::<F>(text, start, form, &language, sign, left);
-    }
-    read_by::<F>(text, start, form, &form.integers, sign, left)
+    read_plain::<F>(text, start, form, sign)
 }
 
 /// [`read_long`]. What its call takes and answers in memory belongs to this function, so it is set
@@ -650,23 +533,18 @@ fn read_long<F: Float>(
 fn read_rest<F: Float>(
     text: &[u8],
     start: usize,
-    form: &Form,
-    left: Left,
+    form: Form,
 ) -> Result<(Number<F>, usize), NumberError>
     requires within { start ≤ length text.now }
-    requires form { IsForm form.now }
-    requires no_special { special_here form.now text.now start ≡ None }
-    requires no_hex { left ≡ Left.AfterZero → hex_word_here form.now text.now start ≡ None }
-    requires zero { left ≡ Left.AfterZero
-        → IsAfterZero form.now text.now (past_sign form.now text.now start) }
+    requires form { IsForm form }
+    requires no_special { special_here form text.now start ≡ None }
     ensures is { MatchResult result
-        (λ r. number_of_at form.now text.now start F.format ≡ Ok (with_value F.value r.0, r.1))
-        (λ error. number_of_at form.now text.now start F.format ≡ Err error) }
+        (λ r. number_of_at form text.now start F.format ≡ Ok (with_value F.value r.0, r.1))
+        (λ error. number_of_at form text.now start F.format ≡ Err error) }
     ensures no_nan { IfOk result (λ r. IsNoNan F.value r.0) }
     ensures end { IfOk result (λ r. (start < r.1) × (r.1 ≤ length text.now)) }
 {
-    let apart = *form;
-    match read_long::<F>(text, start, &apart, left) {
+    match read_long::<F>(text, start, form) {
         Ok((number, end)) => Ok((number, end)),
         Err(error) => Err(error),
     }
@@ -701,20 +579,17 @@ pub fn read_number_of<F: Float>(
         IfOk result (λ r. IsNoNan F.value r.0) }
     ensures end { IfOk result (λ r. (start < r.1) × (r.1 ≤ length text.now)) }
 {
-    let sign = read_sign(text, &form, start);
-    if let Some((special, end)) = special_of(text, &form, sign.end, sign.is_there, sign.is_minus) {
+    let sign = read_sign(text, form, start);
+    if let Some((special, end)) = special_of(text, form, sign.end, sign.is_there, sign.is_minus) {
         let x = special.value.float::<F>(sign.is_minus);
         return Ok((Number::Float(x), end));
     }
-    let left = if has_no_hex(text, start, &form, sign) {
-        match read_short::<F>(text, start, &form, sign) {
-            Ok((number, end)) => return Ok((number, end)),
-            Err(left) => left,
+    if has_no_hex(text, start, form, sign) {
+        if let Some((number, end)) = read_short::<F>(text, start, form, sign) {
+            return Ok((number, end));
         }
-    } else {
-        Left::Other
-    };
-    read_rest::<F>(text, start, &form, left)
+    }
+    read_rest::<F>(text, start, form)
 }
 
 /// The number of a form that a text is, as by [`read_number_of`].

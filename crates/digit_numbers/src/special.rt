@@ -61,9 +61,9 @@ fn kept_from(text: &[u8], word: u128, at: usize) -> usize
 
 /// Whether a byte is at a position that is the same in a name.
 #[inline(always)]
-fn has_same(text: &[u8], specials: &Option<Specials>, at: usize, wanted: u8) -> bool
+fn has_same(text: &[u8], specials: Option<Specials>, at: usize, wanted: u8) -> bool
     ensures { result
-        ≡ (nat_lt at (length text.now) && same_by specials.now wanted (slice_index text.now at)) }
+        ≡ (nat_lt at (length text.now) && same_by specials wanted (slice_index text.now at)) }
 {
     match (text.get(at), specials) {
         (Some(byte), Some(specials)) if specials.any_case => wanted.eq_ignore_ascii_case(byte),
@@ -75,12 +75,12 @@ fn has_same(text: &[u8], specials: &Option<Specials>, at: usize, wanted: u8) -> 
 /// The end of a name, if it is at this position. A name without bytes ends at the first byte that
 /// is kept.
 #[inline(always)]
-fn end_of(text: &[u8], form: &Form, at: usize, name: &[u8]) -> Option<usize>
-    requires form { IsForm form.now }
+fn end_of(text: &[u8], form: Form, at: usize, name: &[u8]) -> Option<usize>
+    requires form { IsForm form }
     requires within { at ≤ length text.now }
-    ensures is { MatchOption result (begins form.now text.now at name.now ≡ false)
-        (λ end. begins form.now text.now at name.now ≡ true) }
-    ensures end { IfSome result (λ end. end ≡ end_of form.now text.now at name.now) }
+    ensures is { MatchOption result (begins form text.now at name.now ≡ false)
+        (λ end. begins form text.now at name.now ≡ true) }
+    ensures end { IfSome result (λ end. end ≡ end_of form text.now at name.now) }
     ensures onward { IfSome result (λ end.
         nat_lt 0 (length (bytes_of name.now)) ≡ true → at < end) }
     ensures within { IfSome result (λ end. end ≤ length text.now) }
@@ -92,7 +92,7 @@ fn end_of(text: &[u8], form: &Form, at: usize, name: &[u8]) -> Option<usize>
         if wanted == 0 {
             return Some(end);
         }
-        if !has_same(text, &form.specials, end, wanted) {
+        if !has_same(text, form.specials, end, wanted) {
             return None;
         }
         end = kept_from(text, word, end + 1);
@@ -105,18 +105,17 @@ fn end_of(text: &[u8], form: &Form, at: usize, name: &[u8]) -> Option<usize>
 #[tactic(auto, unfolding(crate::specs::Specials::is_here))]
 fn special_end(
     text: &[u8],
-    form: &Form,
+    form: Form,
     at: usize,
     is_signed: bool,
     is_minus: bool,
     special: Special,
 ) -> Option<usize>
-    requires form { IsForm form.now }
+    requires form { IsForm form }
     requires within { at ≤ length text.now }
-    ensures is { MatchOption result
-        (is_here form.now text.now at is_signed is_minus special ≡ false)
-        (λ end. is_here form.now text.now at is_signed is_minus special ≡ true) }
-    ensures end { IfSome result (λ end. end ≡ name_end form.now text.now at special) }
+    ensures is { MatchOption result (is_here form text.now at is_signed is_minus special ≡ false)
+        (λ end. is_here form text.now at is_signed is_minus special ≡ true) }
+    ensures end { IfSome result (λ end. end ≡ name_end form text.now at special) }
     ensures within { IfSome result (λ end. (at < end) × (end ≤ length text.now)) }
 {
     if !special.sign.takes(is_signed, is_minus) || special.name[0] == 0 {
@@ -141,24 +140,24 @@ fn later(special: Special, end: usize, found: Option<(Special, usize)>) -> (Spec
 /// Whether a special value may be at a position, as far as the first byte of its name tells. The
 /// first byte there that the special component keeps is at `first`.
 #[inline(always)]
-fn may_be_here(text: &[u8], form: &Form, at: usize, first: usize, special: Special) -> bool
+fn may_be_here(text: &[u8], form: Form, at: usize, first: usize, special: Special) -> bool
     requires first { first
-        ≡ place (rule_of form.now.integers.decimal components.Special) text.now at 0 }
+        ≡ place (rule_of form.integers.decimal components.Special) text.now at 0 }
     ensures { result ≡ false → (is_signed is_minus : Bool)
-        → is_here form.now text.now at is_signed is_minus special ≡ false }
+        → is_here form text.now at is_signed is_minus special ≡ false }
 {
-    has_same(text, &form.specials, first, special.name[0])
+    has_same(text, form.specials, first, special.name[0])
 }
 
 /// Whether a special value of a form may be at a position, as far as first bytes tell. It is only
 /// for speed, of forms with names: most numbers begin with a digit.
 #[inline(always)]
-pub fn may_begin(text: &[u8], form: &Form, specials: Specials, at: usize) -> bool
-    requires form { IsForm form.now }
-    requires specials { form.now.specials ≡ Some specials }
+pub fn may_begin(text: &[u8], form: Form, specials: Specials, at: usize) -> bool
+    requires form { IsForm form }
+    requires specials { form.specials ≡ Some specials }
     requires within { at ≤ length text.now }
     ensures { result ≡ false → (is_signed is_minus : Bool)
-        → special_at form.now text.now at is_signed is_minus ≡ None }
+        → special_at form text.now at is_signed is_minus ≡ None }
 {
     let first = kept_from(text, form.integers.decimal, at);
     for i in (0..8_usize).rev() {
@@ -193,7 +192,7 @@ pub fn read_special(
     let mut found = None;
     for i in (0..8_usize).rev() {
         let special = specials.names[i];
-        if let Some(end) = special_end(text, &form, at, is_signed, is_minus, special) {
+        if let Some(end) = special_end(text, form, at, is_signed, is_minus, special) {
             found = Some(later(special, end, found));
         }
     }

@@ -10,8 +10,8 @@ pub returns : goal.returns
 returns c =
     let text = c.args.text.now in
     let m = c.args.mantissa in
-    let p = parts c.args.form.now text m.start in
-    let n = digits_value 10 (exponent c.args.form.now text m.start) in
+    let p = parts c.args.form text m.start in
+    let n = digits_value 10 (exponent c.args.form text m.start) in
     let e = signed_exponent c.args.power.negative n in
     c.decimal_of.ensures n c.requires.power.value
     ∙ ap (λ ds. decimal_of c.args.negative ds (fraction_of text m) e) c.requires.is.integer

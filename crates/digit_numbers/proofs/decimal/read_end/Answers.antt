@@ -10,24 +10,24 @@ pub returns-in-Ok-clause-all : goal.returns-in-Ok-clause-all
 returns-in-Ok-clause-all c =
     let text = c.args.text.now in
     let at = c.args.sign.end in
-    let l = c.language_of-language.result in
-    let same : l ≡ language c.args.form.now text c.args.start =
-    rw c.requires.sign.there at c.language_of-language.ensures.is in
+    let l = c.language_of.result in
+    let same : l ≡ language c.args.form text c.args.start =
+    rw c.requires.sign.there at c.language_of.ensures.is in
     let none = rw (← same) at c.requires.no_prefix in
     let is : literal_at l text at (2 ^ 128 - 1) ≡ Ok c.in-Ok.read = cc c.in-Ok.ensures.is in
     let ends = literal_ends l text at none (2 ^ 128 - 1) c.in-Ok.read is
-    c.args.form.now.integers.decimal c.if-read-form.true in
+    c.args.form.integers.decimal c.if-read-form.true in
     let whole = rw c.requires.start at c.requires.digits.whole_end in
     λ other. absurd (other (ends ∙ sym whole))
 
 pub returns-in-Err-Overflow-2-clause-is : goal.returns-in-Err-Overflow-2-clause-is
 returns-in-Err-Overflow-2-clause-is c =
-    let f = c.args.form.now in
+    let f = c.args.form in
     let text = c.args.text.now in
     let start = c.args.start in
     let s = c.requires.sign in
-    let l = c.language_of-language.result in
-    let same : l ≡ language f text start = rw s.there at c.language_of-language.ensures.is in
+    let l = c.language_of.result in
+    let same : l ≡ language f text start = rw s.there at c.language_of.ensures.is in
     let large : literal_at l text c.args.sign.end (2 ^ 128 - 1)
     ≡ Err (literals.Overflow c.in-Err-Overflow.over) =
     cc (c.in-Err-Overflow.ensures.is, c.in-Err-Overflow.field-0-is) in
@@ -40,12 +40,12 @@ returns-in-Err-Overflow-2-clause-is c =
 
 pub returns-in-Err-Overflow-2-clause-end : goal.returns-in-Err-Overflow-2-clause-end
 returns-in-Err-Overflow-2-clause-end c =
-    let f = c.args.form.now in
+    let f = c.args.form in
     let text = c.args.text.now in
     let start = c.args.start in
     let s = c.requires.sign in
-    let l = c.language_of-language.result in
-    let same : l ≡ language f text start = rw s.there at c.language_of-language.ensures.is in
+    let l = c.language_of.result in
+    let same : l ≡ language f text start = rw s.there at c.language_of.ensures.is in
     let large : literal_at l text c.args.sign.end (2 ^ 128 - 1)
     ≡ Err (literals.Overflow c.in-Err-Overflow.over) =
     cc (c.in-Err-Overflow.ensures.is, c.in-Err-Overflow.field-0-is) in
@@ -60,12 +60,12 @@ returns-in-Err-Overflow-2-clause-end c =
 
 pub returns-in-Err-Empty-clause-is : goal.returns-in-Err-Empty-clause-is
 returns-in-Err-Empty-clause-is c =
-    let f = c.args.form.now in
+    let f = c.args.form in
     let text = c.args.text.now in
     let start = c.args.start in
     let s = c.requires.sign in
-    let l = c.language_of-language.result in
-    let same : l ≡ language f text start = rw s.there at c.language_of-language.ensures.is in
+    let l = c.language_of.result in
+    let same : l ≡ language f text start = rw s.there at c.language_of.ensures.is in
     let none : literal_at l text c.args.sign.end (2 ^ 128 - 1)
     ≡ Err (literals.Empty c.in-Err-Empty.field-0-0) =
     cc (c.in-Err-Empty.ensures.is, c.in-Err-Empty.field-0-is) in
@@ -76,12 +76,12 @@ returns-in-Err-Empty-clause-is c =
 
 pub returns-in-Err-Zero-clause-is : goal.returns-in-Err-Zero-clause-is
 returns-in-Err-Zero-clause-is c =
-    let f = c.args.form.now in
+    let f = c.args.form in
     let text = c.args.text.now in
     let start = c.args.start in
     let s = c.requires.sign in
-    let l = c.language_of-language.result in
-    let same : l ≡ language f text start = rw s.there at c.language_of-language.ensures.is in
+    let l = c.language_of.result in
+    let same : l ≡ language f text start = rw s.there at c.language_of.ensures.is in
     let none : literal_at l text c.args.sign.end (2 ^ 128 - 1)
     ≡ Err (literals.Zero c.in-Err-Zero.field-0-0) =
     cc (c.in-Err-Zero.ensures.is, c.in-Err-Zero.field-0-is) in

@@ -6,7 +6,7 @@ use Rattle.digit_numbers.proofs.float.read_marked.Goals as goal
 pub returns-in-Some-clause-is : goal.returns-in-Some-clause-is
 returns-in-Some-clause-is g c =
     let e = c.in-Some.ensures in
-    let f = c.args.form.now in
+    let f = c.args.form in
     let text = c.args.text.now in
     let m = c.args.mantissa in
     let is = c.requires.is in
@@ -18,7 +18,6 @@ returns-in-Some-clause-is g c =
     let follows = rw is.ends at e.some in
     let mark = rw is.ends at c.requires.mark in
     let allowed = rw places at (sym c.if-not-allow.ensures) in
-    let one = rw is.ends at c.requires.one_mark in
-    rw (e.ends, is.ends) (powered_float f c.args.mark text m.start whole pointed one
-    c.requires.zeros g.F.Float.format c.args.negative _ e.value allowed (λ _. follows)
-    (λ _. mark))
+    rw (e.ends, is.ends) (powered_float f text m.start c.requires.one_mark whole pointed
+    c.requires.zeros
+    g.F.Float.format c.args.negative _ e.value allowed (λ _. follows) (λ _. mark))

@@ -6,7 +6,7 @@ use Rattle.digit_numbers.proofs.float.round_at.Goals as goal
 
 pub returns-clause-value : goal.returns-clause-value
 returns-clause-value g c =
-    let f = c.args.form.now in
+    let f = c.args.form in
     let text = c.args.text.now in
     let at = c.args.mantissa.start in
     c.round_parts.ensures.value (digits_value 10 (exponent f text at)) c.requires.power.value

@@ -1,17 +1,16 @@
 use Rattle.std.proofs.Common.{sym, ◌∙◌}
 use Rattle.digit_floats.specs.Float.{parts_at}
-use Rattle.digit_numbers.specs.Reads.{marks_by}
 use Rattle.digit_numbers.proofs.Alone.{nearest_alone}
 use Rattle.digit_numbers.proofs.Short.{no_mark}
 use Rattle.digit_numbers.proofs.float.round_unmarked.Goals as goal
 
 pub returns-in-Some-clause-value : goal.returns-in-Some-clause-value
-returns-in-Some-clause-value g c mark unmarked =
-    let word = c.args.form.now.integers.decimal in
+returns-in-Some-clause-value g c =
+    let word = c.args.form.integers.decimal in
     let text = c.args.text.now in
-    let parts = parts_at word text (marks_by c.args.form.now mark) c.args.mantissa.start in
-    let none = rw c.requires.is.ends at unmarked in
+    let parts = parts_at word text c.args.form.marks c.args.mantissa.start in
+    let none = rw c.requires.is.ends at c.requires.none in
     c.in-Some.ensures.value
     ∙ rw (c.requires.is.is.places, c.requires.is.integer, c.requires.is.fraction)
     (sym (nearest_alone g.F.Float.format c.args.negative parts
-    (no_mark word text mark _ none)))
+    (no_mark word text c.args.form.marks.exponent _ none)))

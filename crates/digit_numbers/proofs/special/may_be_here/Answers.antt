@@ -34,5 +34,5 @@ module _ (f : Form) (text : List ℕ) (at : ℕ) (s : Special) (l : 0 < length s
 pub returns : goal.returns
 returns c false_here =
     let l : 0 < length c.args.special.name = grind arith in
-    not_here c.args.form.now c.args.text.now c.args.at c.args.special l _ refl
+    not_here c.args.form c.args.text.now c.args.at c.args.special l _ refl
     (rw (← c.requires.first) (sym c.has_same.ensures ∙ false_here))

@@ -15,7 +15,7 @@ one_more p names i d some within not_one none =
 
 pub loop-i-preserved : goal.loop-i-preserved
 loop-i-preserved c is_signed is_minus =
-    one_more (is_here c.args.form.now c.args.text.now c.args.at is_signed is_minus)
+    one_more (is_here c.args.form c.args.text.now c.args.at is_signed is_minus)
     c.args.specials.names c.loop-i.i _ (omega (arith, c.loop-i-test.true)) (search rules)
     (c.may_be_here.ensures c.if-may_be_here.false is_signed is_minus)
     (c.loop-i.invariant is_signed is_minus)
@@ -23,7 +23,7 @@ loop-i-preserved c is_signed is_minus =
 pub returns : goal.returns
 unfolding special_at
 returns c e is_signed is_minus =
-    let f = c.args.form.now in
+    let f = c.args.form in
     let text = c.args.text.now in
     let at = c.args.at in
     let first : c.loop-i.i ≡ 0 = omega (arith, c.loop-i-test.false) in
