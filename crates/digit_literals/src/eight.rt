@@ -1,9 +1,9 @@
 //! Eight decimal digits at a time: one load, one test and three multiplications.
 
-ghost use Rattle.std.specs.Prelude.{◌≡◌, ℕ, ◌+◌, ◌-◌, ◌*◌, ◌/◌, ◌%◌, ◌^◌, ◌<◌, ◌≤◌, length, slice_index, true, None, Some, IfSome};
+ghost use Rattle.std.specs.Prelude.{◌≡◌, ℕ, ◌+◌, ◌-◌, ◌*◌, ◌/◌, ◌^◌, ◌<◌, ◌≤◌, length, slice_index, true, None, Some, IfSome};
 ghost use Rattle.std.specs.Int.{trailing_zeros, w64};
 ghost use Rattle.digit_literals.specs.Eight.{AreBelow, byte_of, spelt, number_of, written, AreDigits, IsWritten};
-ghost use Rattle.digit_literals.specs.Reads.{ArePlain, IsMore};
+ghost use Rattle.digit_literals.specs.Reads.{ArePlain};
 
 use super::wide::ten_to;
 use lexical_digits::skip::Rule;
@@ -207,51 +207,6 @@ fn small_ten_to(n: usize) -> u64
     SMALL_TENS[n]
 }
 
-/// The lowest 64 bits of the number that a value and the digits after it write.
-#[inline(always)]
-fn wrapping_join(value: u64, next: Front) -> u64
-    requires { next.count ≤ 8 }
-    ensures { result ≡ (value * 10 ^ next.count + next.value) % 2 ^ 64 }
-{
-    value
-        .wrapping_mul(small_ten_to(next.count))
-        .wrapping_add(next.value)
-}
-
-/// No digits from `start` on, after the value `before`.
-#[inline(always)]
-#[tactic(auto, using(crate::proofs::Plain::none_plain))]
-pub(super) fn no_digits(text: &[u8], rule: Rule, start: usize, before: u64) -> Plain
-    requires within { start ≤ length text.now }
-    ensures { ArePlain rule text.now start before None result.end result.value }
-{
-    Plain {
-        value: before,
-        end: start,
-    }
-}
-
-/// Digits from `start` on, after the value `before`, of which some were read: all up to the first
-/// other byte, or up to the last seven bytes of the text.
-#[inline(always)]
-pub(super) fn read_words(text: &[u8], rule: Rule, start: usize, before: u64, plain: Plain) -> Plain
-    requires radix { rule.radix ≡ 10 }
-    requires plain { ArePlain rule text.now start before None plain.end plain.value }
-    ensures { ArePlain rule text.now start before None result.end result.value }
-{
-    let mut value = plain.value;
-    let mut end = plain.end;
-    while text.len() - end >= 8 {
-        let front = front_at(text, end);
-        value = wrapping_join(value, front);
-        end += front.count;
-        if front.count < 8 {
-            break;
-        }
-    }
-    Plain { value, end }
-}
-
 /// Digits from `start` on whose value is at most `most`, by a word, and by a second one if eight
 /// bytes more are there: 16 digits are never too large.
 #[inline(always)]
@@ -274,49 +229,6 @@ pub(super) fn read_words_up_to(text: &[u8], rule: Rule, start: usize, most: u64)
         value: join(first.value, second),
         end: end + second.count,
     }
-}
-
-/// The number that a value and the digits after it write, if it is at most `most`.
-#[inline(always)]
-fn join_up_to(value: u64, next: Front, most: u64) -> Option<u64>
-    requires { next.count ≤ 8 }
-    ensures { IfSome result (λ more. IsMore (10 ^ next.count) value next.value more most) }
-{
-    let more = value
-        .checked_mul(small_ten_to(next.count))?
-        .checked_add(next.value)?;
-    if more <= most { Some(more) } else { None }
-}
-
-/// Digits from `start` on after the value `before`, by words, as long as their value is at most
-/// `most` and eight bytes are there. In code of its own.
-#[inline(never)]
-pub(super) fn read_more_up_to(
-    text: &[u8],
-    rule: Rule,
-    start: usize,
-    before: u64,
-    most: u64,
-) -> Plain
-    requires radix { rule.radix ≡ 10 }
-    requires within { start ≤ length text.now }
-    requires fits { before ≤ most }
-    ensures { ArePlain rule text.now start before (Some most) result.end result.value }
-{
-    let mut value = before;
-    let mut end = start;
-    while text.len() - end >= 8 {
-        let front = front_at(text, end);
-        let Some(more) = join_up_to(value, front, most) else {
-            break;
-        };
-        value = more;
-        end += front.count;
-        if front.count < 8 {
-            break;
-        }
-    }
-    Plain { value, end }
 }
 
 /// The number that a few digits and those after them write.

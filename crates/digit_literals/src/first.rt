@@ -15,9 +15,7 @@ ghost use Rattle.digit_literals.specs.Reads.{ArePlain, IsFirst, IsOffSlice, Pass
 use super::component::{pass_digits, read_digits_up_to};
 use super::eight::{Plain, read_eights};
 use super::reading::Digits;
-use super::slice::{
-    ReadTo, begin, first_digit, read_bare, read_on, read_radix, read_slice_by_words,
-};
+use super::slice::{ReadTo, begin, first_digit, read_bare, read_on, read_radix};
 use super::wide::ten_to;
 use lexical_digits::iterator::Iter;
 use lexical_digits::skip::{Bytes, Component, Rule};
@@ -118,9 +116,8 @@ pub fn read_first_digits_from(
     read_first_rest(text, word, component, start, before, most)
 }
 
-/// [`read_first_digits_from`] again, whose answer in memory belongs to this function, so it is set
-/// only where that is called. By words where 19 digits fit, since there are more then, or a
-/// separator; otherwise there may be few.
+/// [`read_first_again`], whose answer in memory belongs to this function, so it is set only where
+/// that is called.
 #[inline(always)]
 fn read_first_rest(
     text: &[u8],
@@ -140,11 +137,7 @@ fn read_first_rest(
     ensures onward { start + result.0.count ≤ result.1 }
     ensures end { result.1 ≤ length text.now }
 {
-    let read = if most >= MOST_OF_19 {
-        read_first_long(text, word, component, start, before, most)
-    } else {
-        read_first_again(text, word, component, start, before, most)
-    };
+    let read = read_first_again(text, word, component, start, before, most);
     (read.digits, read.end)
 }
 
@@ -155,7 +148,7 @@ struct FirstRead {
     end: usize,
 }
 
-/// [`read_first_digits_from`] again, one by one.
+/// [`read_first_digits_from`] again, where a digit may be too large: the others are counted.
 #[cold]
 #[inline(never)]
 fn read_first_again(
@@ -176,59 +169,10 @@ fn read_first_again(
     ensures onward { start + result.digits.count ≤ result.end }
     ensures end { result.end ≤ length text.now }
 {
-    read_and_count(text, word, component, start, before, most, false)
-}
-
-/// [`read_first_digits_from`] again, by words.
-#[cold]
-#[inline(never)]
-fn read_first_long(
-    text: &[u8],
-    word: u128,
-    component: Component,
-    start: usize,
-    before: u64,
-    most: u64,
-) -> FirstRead
-    requires supported { IsTrue (is_supported word) }
-    requires within { start ≤ length text.now }
-    requires fits { before ≤ most }
-    requires large { 10 ^ 19 - 1 ≤ most }
-    ensures first { let r = rule_of word component in
-        let digits = digits_between r text.now start (stop r text.now start 0) in
-        ReadsFirst r.radix most before digits result.digits }
-    ensures stops { result.end ≡ stop (rule_of word component) text.now start 0 }
-    ensures onward { start + result.digits.count ≤ result.end }
-    ensures end { result.end ≤ length text.now }
-{
-    read_and_count(text, word, component, start, before, most, true)
-}
-
-/// [`read_first_digits_from`] again, where a digit may be too large: the others are counted.
-#[inline(always)]
-fn read_and_count(
-    text: &[u8],
-    word: u128,
-    component: Component,
-    start: usize,
-    before: u64,
-    most: u64,
-    by_words: bool,
-) -> FirstRead
-    requires supported { IsTrue (is_supported word) }
-    requires within { start ≤ length text.now }
-    requires fits { before ≤ most }
-    requires large { by_words ≡ true → 10 ^ 19 - 1 ≤ most }
-    ensures first { let r = rule_of word component in
-        let digits = digits_between r text.now start (stop r text.now start 0) in
-        ReadsFirst r.radix most before digits result.digits }
-    ensures stops { result.end ≡ stop (rule_of word component) text.now start 0 }
-    ensures onward { start + result.digits.count ≤ result.end }
-    ensures end { result.end ≤ length text.now }
-{
     let rule = Rule::of(word, component);
     if rule.radix == 10 {
-        if let Some(read) = read_up_to(text, rule, start, before, most, by_words) {
+        let first = first_digit(text, rule, start, before, u128::from(most));
+        if let Some(read) = read_radix(text, rule, 10, start, before, first, Some(most)) {
             if !read.is_too_large {
                 return FirstRead {
                     digits: FirstDigits {
@@ -239,7 +183,7 @@ fn read_and_count(
                     end: read.end,
                 };
             }
-            if let Some(rest) = count_rest(text, rule, read.end, by_words) {
+            if let Some(rest) = count_rest(text, rule, read.end) {
                 return FirstRead {
                     digits: FirstDigits {
                         value: read.value,
@@ -252,31 +196,6 @@ fn read_and_count(
         }
     }
     read_first_fresh_bytes(text, word, component, start, before, most)
-}
-
-/// The digits of a rule with radix 10 from `start` on, up to the first with which the value is too
-/// large.
-#[inline(always)]
-fn read_up_to(
-    text: &[u8],
-    rule: Rule,
-    start: usize,
-    before: u64,
-    most: u64,
-    by_words: bool,
-) -> Option<ReadTo>
-    requires supported { IsSupported rule }
-    requires radix { rule.radix ≡ 10 }
-    requires within { start ≤ length text.now }
-    requires fits { before ≤ most }
-    requires large { by_words ≡ true → 10 ^ 19 - 1 ≤ most }
-    ensures { IfSome result (IsOffSlice rule text.now start before (Some most)) }
-{
-    if by_words {
-        return read_slice_by_words(text, rule, start, before, Some(most));
-    }
-    let first = first_digit(text, rule, start, before, u128::from(most));
-    read_radix(text, rule, 10, start, before, first, Some(most))
 }
 
 /// [`read_first_digits_from`] by a `Bytes`, whatever separators are met and however many digits
@@ -313,15 +232,12 @@ fn read_first_fresh_bytes(
 
 /// Counts the digits of a rule with radix 10 from `start` on, where the slice is enough.
 #[inline(always)]
-fn count_rest(text: &[u8], rule: Rule, start: usize, by_words: bool) -> Option<ReadTo>
+fn count_rest(text: &[u8], rule: Rule, start: usize) -> Option<ReadTo>
     requires supported { IsSupported rule }
     requires radix { rule.radix ≡ 10 }
     requires within { start ≤ length text.now }
     ensures { IfSome result (IsOffSlice rule text.now start 0 None) }
 {
-    if by_words {
-        return read_slice_by_words(text, rule, start, 0, None);
-    }
     read_radix(text, rule, 10, start, 0, None, None)
 }
 

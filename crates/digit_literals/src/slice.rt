@@ -9,7 +9,7 @@ ghost use Rattle.lexical_digits.specs.Looks.{Costs};
 ghost use Rattle.digit_literals.specs.Numbers.{has_byte};
 ghost use Rattle.digit_literals.specs.Reads.{IsMore, IsFirst, IsOffSlice, ArePlain, Passes, outcome};
 
-use super::eight::{Plain, no_digits, read_more_up_to, read_words, read_words_up_to};
+use super::eight::{Plain, read_words_up_to};
 use super::reading::{Digits, TooLarge, add_digit};
 use lexical_digits::iterator::Iter;
 use lexical_digits::skip::{Bytes, Component, Rule};
@@ -135,29 +135,26 @@ pub(super) fn read_slice(
     }
 }
 
-/// [`read_slice`], whose decimal digits are read eight bytes at a time: of numbers that most often
-/// have many, up to a greatest value that 19 digits fit. Of few digits, what follows would wait for
-/// how many there are.
+/// [`read_slice`] of a number's first digits, of which there are most often many: decimal ones are
+/// read eight bytes at a time. Of few digits, what follows would wait for how many there are.
 #[inline(always)]
 pub(super) fn read_slice_by_words(
     text: &[u8],
     rule: Rule,
     start: usize,
-    before: u64,
-    most: Option<u64>,
+    most: u64,
 ) -> Option<ReadTo>
     requires supported { IsSupported rule }
     requires within { start ≤ length text.now }
-    requires fits { IfSome most (λ m. before ≤ m) }
-    requires large { IfSome most (λ m. 10 ^ 19 - 1 ≤ m) }
-    ensures { IfSome result (IsOffSlice rule text.now start before most) }
+    requires large { 10 ^ 19 - 1 ≤ most }
+    ensures { IfSome result (IsOffSlice rule text.now start 0 (Some most)) }
 {
     if rule.radix == 10 {
-        let plain = begin_by_words(text, rule, start, before, most);
-        read_on(text, rule, 10, start, before, plain, most)
+        let plain = begin_by_words(text, rule, start, most);
+        read_on(text, rule, 10, start, 0, plain, Some(most))
     } else {
         let radix = rule.radix;
-        read_radix(text, rule, radix, start, before, None, most)
+        read_radix(text, rule, radix, start, 0, None, Some(most))
     }
 }
 
@@ -194,24 +191,16 @@ pub(super) fn begin(
 
 /// The digits that are read before the loop, in radix 10: by words, if eight bytes are there.
 #[inline(always)]
-fn begin_by_words(text: &[u8], rule: Rule, start: usize, before: u64, most: Option<u64>) -> Plain
+fn begin_by_words(text: &[u8], rule: Rule, start: usize, most: u64) -> Plain
     requires radix { rule.radix ≡ 10 }
     requires within { start ≤ length text.now }
-    requires fits { IfSome most (λ m. before ≤ m) }
-    requires large { IfSome most (λ m. 10 ^ 19 - 1 ≤ m) }
-    ensures { ArePlain rule text.now start before most result.end result.value }
+    requires large { 10 ^ 19 - 1 ≤ most }
+    ensures { ArePlain rule text.now start 0 (Some most) result.end result.value }
 {
     if text.len() - start < 8 {
-        return begin(text, rule, 10, start, before, None, most);
+        return begin(text, rule, 10, start, 0, None, Some(most));
     }
-    match most {
-        None => {
-            let none = no_digits(text, rule, start, before);
-            read_words(text, rule, start, before, none)
-        }
-        Some(most) if before == 0 => read_words_up_to(text, rule, start, most),
-        Some(most) => read_more_up_to(text, rule, start, before, most),
-    }
+    read_words_up_to(text, rule, start, most)
 }
 
 /// [`read_slice`], where `radix` is the rule's.

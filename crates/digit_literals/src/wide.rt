@@ -273,7 +273,7 @@ fn read_pieces(
     let mut value = u128::from(before);
     let mut at = from;
     while at < text.len() {
-        let read = read_slice_by_words(text, rule, at, 0, Some(u64::MAX))?;
+        let read = read_slice_by_words(text, rule, at, u64::MAX)?;
         value = join(value, rule.radix, read)?;
         if !read.is_too_large {
             return Some((value, read.end));

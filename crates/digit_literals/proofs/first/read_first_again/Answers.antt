@@ -8,7 +8,7 @@ use Rattle.digit_literals.specs.declared.reading.Digits.{Digits}
 use Rattle.digit_literals.specs.After.{past_digits_to, IsDigits}
 use Rattle.digit_literals.proofs.Firsts.{reads_all, rest_is, stop_is, stop_after}
 use Rattle.digit_literals.proofs.States.{own_of_fresh}
-use Rattle.digit_literals.proofs.first.read_and_count.Goals as goal
+use Rattle.digit_literals.proofs.first.read_first_again.Goals as goal
 
 not_true : (b : Bool) → not b ≡ true → b ≡ false
 not_true true e = sym e
@@ -22,8 +22,8 @@ not_false : (b : Bool) → not b ≡ false → b ≡ true
 not_false true e = refl
 not_false false e = sym e
 
-pub read_up_to-requires-clause-supported : goal.read_up_to-requires-clause-supported
-read_up_to-requires-clause-supported c =
+pub read_radix-requires-clause-supported : goal.read_radix-requires-clause-supported
+read_radix-requires-clause-supported c =
     grind (arith, supported_rule c.args.word c.args.component c.requires.supported)
 
 pub count_rest-requires-clause-supported : goal.count_rest-requires-clause-supported
