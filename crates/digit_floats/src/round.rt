@@ -131,6 +131,20 @@ fn round_apart<F: Float>(text: &[u8], negative: bool, mantissa: Mantissa, power:
     )
 }
 
+/// [`round_apart`]. What its call takes in memory belongs to this function, so it is set only where
+/// that is called.
+#[inline(always)]
+fn round_rest<F: Float>(text: &[u8], negative: bool, mantissa: Mantissa, power: Power) -> F
+    requires { IsMantissa text.now mantissa }
+    ensures { (n : ℕ) → power.value ≡ min n (2 ^ 64 - 1)
+        → F.value result ≡ round F.format negative
+        (digits_value 10 (integer_of text.now mantissa ++ fraction_of text.now mantissa)
+        * 10 ^ (if power.negative then 0 else n))
+        (10 ^ (mantissa.places + (if power.negative then n else 0))) }
+{
+    round_apart::<F>(text, negative, mantissa, power)
+}
+
 /// The float nearest to the number that integer, fraction and exponent of a text make, with a sign.
 /// `mantissa` and `power` are what [`read_mantissa`](crate::read_mantissa) and
 /// [`read_exponent`](crate::read_exponent) answered of this text.
@@ -165,5 +179,5 @@ pub fn round_parts<F: Float>(text: &[u8], negative: bool, mantissa: Mantissa, po
             return x;
         }
     }
-    round_apart::<F>(text, negative, mantissa, power)
+    round_rest::<F>(text, negative, mantissa, power)
 }

@@ -26,4 +26,4 @@ returns-in-Some-near-clause-no_nan g c =
 
 pub returns-clause-no_nan : goal.returns-clause-no_nan
 returns-clause-no_nan g c =
-    number_is _ _ _ _ (c.round_apart.ensures c.args.power.value (omega arith))
+    number_is _ _ _ _ (c.round_rest.ensures c.args.power.value (omega arith))
