@@ -1,7 +1,7 @@
 //! Numbers that are hard to read: long ones, exact middles between two floats, those above their
 //! type, runs of separators, hexadecimal floats, many zeros and faults at the last byte.
 
-ghost use Rattle.std.specs.Prelude.{◌≤◌, ◌+◌, length, IsTrue};
+ghost use Rattle.std.specs.Prelude.{◌≤◌, ◌+◌, length, IsTrue, IfOk};
 ghost use Rattle.digits.specs.Words.{IsDecimal, IsForm, is_supported};
 
 use super::page::Page;
@@ -23,8 +23,15 @@ const SIZE: usize = 262_144;
 /// The kinds of numbers, each as often as it stands here.
 const KINDS: &[u8] = b"aaabbcccddeefffgghhiijjkklmmnno";
 
+/// How many digits of a number each revision changes at least, where it has so many.
+const FEW: usize = 4;
+
+/// The decimal digits, some of them twice.
+const DIGITS: [u8; 16] = *b"0123456789123456";
+
 /// Documents of lines: the kind of a number, its length in two letters, and the number. Digits from
-/// 2 to 7 are changed, so that middles stay middles, and numbers above a `u64` stay above it.
+/// 2 to 7 are changed, so that middles stay middles, and numbers above a `u64` stay above it; and
+/// others where a number has few of those.
 pub struct Awkward;
 
 impl Work for Awkward {
@@ -95,6 +102,14 @@ fn write_kind(page: &mut Page, kind: u8) -> Result<(), AllocError> {
     }
 }
 
+/// Lets each revision change all digits from a position on, if few of them are changed anyway.
+fn free_few(page: &mut Page, from: usize) -> Result<(), AllocError> {
+    if page.turned(from) < FEW {
+        page.free(from, DIGITS)?;
+    }
+    Ok(())
+}
+
 /// Adds a float of 20 to 60 digits, with an exponent in some cases.
 fn write_long(page: &mut Page) -> Result<(), AllocError> {
     page.some_digits(1, 12)?;
@@ -120,7 +135,9 @@ fn write_very_long(page: &mut Page) -> Result<(), AllocError> {
 /// follows the point keeps it there, or makes it more.
 fn write_middle(page: &mut Page) -> Result<(), AllocError> {
     page.one_of(&["91", "98", "99", "100", "110", "180"])?;
+    let start = page.len();
     page.any_digits(13)?;
+    free_few(page, start)?;
     page.one_of(&["1", "9"])?;
     match page.random.below(3) {
         0 => page.bytes(b".000"),
@@ -136,6 +153,7 @@ fn write_middle(page: &mut Page) -> Result<(), AllocError> {
 
 /// Adds digits with runs of separators.
 fn write_runs(page: &mut Page) -> Result<(), AllocError> {
+    let start = page.len();
     page.some_digits(1, 3)?;
     let groups = page.random.between(1, 4);
     for _ in 0..groups {
@@ -143,30 +161,55 @@ fn write_runs(page: &mut Page) -> Result<(), AllocError> {
         page.separators(count)?;
         page.any_digits(3)?;
     }
-    Ok(())
+    free_few(page, start)
 }
 
 /// Adds a hexadecimal float.
 fn write_hexadecimal(page: &mut Page) -> Result<(), AllocError> {
+    let start = page.len();
     page.one_of(&["0x1.", "0x0.", "0xF.ab", "0x1fc.", "0x123456789abcdef.0"])?;
     page.some_digits(1, 30)?;
     page.one_of(&["p", "p-", "p+"])?;
-    page.some_digits(1, 4)
+    page.some_digits(1, 4)?;
+    free_few(page, start.saturating_add(2))
 }
 
-/// Adds a small number with many zeros before it, or zeros only.
+/// Adds a small number with many zeros before it, or zeros only. In each revision the last eight
+/// digits are others: zeros only have an exponent for that.
 fn write_zeros(page: &mut Page) -> Result<(), AllocError> {
     let zeros = page.random.between(10, 300);
     if page.random.one_in(4) {
-        return page.zeros(zeros);
+        page.zeros(zeros.saturating_sub(9))?;
+        return write_exponent(page);
     }
+    let start = page.len();
     page.bytes(b"0.")?;
     page.zeros(zeros)?;
-    page.some_digits(1, 18)
+    page.some_digits(1, 18)?;
+    if page.turned(start) < FEW {
+        return free_last(page);
+    }
+    Ok(())
+}
+
+/// Lets each revision change the last eight digits.
+fn free_last(page: &mut Page) -> Result<(), AllocError> {
+    let from = page.len().saturating_sub(8);
+    page.free(from, DIGITS)
+}
+
+/// Adds an exponent of eight digits. What follows it is drawn as if it weren't there.
+fn write_exponent(page: &mut Page) -> Result<(), AllocError> {
+    page.byte(b'e')?;
+    let random = page.random;
+    page.any_digits(8)?;
+    page.random = random;
+    free_last(page)
 }
 
 /// Adds a float in groups of three.
 fn write_grouped(page: &mut Page) -> Result<(), AllocError> {
+    let start = page.len();
     page.some_digits(1, 3)?;
     let groups = page.random.between(1, 5);
     for _ in 0..groups {
@@ -178,7 +221,8 @@ fn write_grouped(page: &mut Page) -> Result<(), AllocError> {
         page.any_digits(3)?;
         page.byte(b'_')?;
     }
-    page.any_digits(2)
+    page.any_digits(2)?;
+    free_few(page, start)
 }
 
 /// A decimal word by a number, which no compiler knows.
@@ -245,7 +289,7 @@ fn fold_float(read: Result<(f64, usize), FloatError>, tally: &mut Tally) {
 /// Folds what a field is as a number.
 fn fold_number(read: Result<(Number<f64>, usize), NumberError>, tally: &mut Tally) {
     match read {
-        Ok((number, end)) => tally.float(number.to_float(), end),
+        Ok((number, end)) => tally.number(number, end),
         Err(error) => refuse_number(error, tally),
     }
 }
@@ -333,6 +377,7 @@ fn read_decimal(text: &[u8], at: usize, word: u128, tally: &mut Tally)
 {
     match read_decimal_from(text, word, at) {
         Ok((decimal, end)) => {
+            tally.fold_with(u64::from(decimal.negative), decimal.dropped);
             tally.fold(decimal.value);
             tally.read(decimal.exponent.cast_unsigned(), end);
         }
@@ -340,20 +385,30 @@ fn read_decimal(text: &[u8], at: usize, word: u128, tally: &mut Tally)
     }
 }
 
+/// The position after the prefix here, or where a byte of it is missing.
+#[inline(always)]
+fn past_prefix(text: &[u8], at: usize) -> Result<usize, usize>
+    ensures { IfOk result (λ next. next ≤ length text.now) }
+{
+    let mark = expect_byte(text, at, b'0')?;
+    expect_byte(text, mark, b'x')
+}
+
 /// Reads a hexadecimal float after its prefix.
 #[inline(always)]
 fn read_after_prefix(text: &[u8], at: usize, tally: &mut Tally)
     requires { at ≤ length text.now }
 {
-    if let Ok(mark) = expect_byte(text, at, b'0') {
-        if let Ok(start) = expect_byte(text, mark, b'x') {
-            let marks = Marks {
-                point: b'.',
-                exponent: b'p',
-            };
+    let marks = Marks {
+        point: b'.',
+        exponent: b'p',
+    };
+    match past_prefix(text, at) {
+        Ok(start) => {
             let read = read_hex_float_from::<f64>(text, HEXADECIMAL_FLOAT, marks, false, start);
             fold_float(read, tally);
         }
+        Err(at) => tally.refuse(12, at),
     }
 }
 

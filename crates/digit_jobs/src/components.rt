@@ -26,6 +26,9 @@ use std::alloc::{AllocError, Global};
 /// How many bytes a document has, about.
 const SIZE: usize = 262_144;
 
+/// What a byte after a number that is none of it is in a revision.
+const OTHERS: [u8; 16] = *b"_-.x_-.xyz_-.xyz";
+
 /// The calls of a list.
 const CALLS: [Call; 12] = [
     Call {
@@ -154,7 +157,9 @@ fn write_number(page: &mut Page, number: u64) -> Result<(), AllocError> {
         page.some_digits(1, 3)?;
     }
     if page.random.one_in(60) {
+        let start = page.len();
         page.one_of(&["_", "x", "-", "..", "99999999999999999999999"])?;
+        page.free(start, OTHERS)?;
     }
     page.one_of(&[",", " "])
 }
@@ -205,26 +210,55 @@ fn run_time_word(number: u8) -> u128
     }
 }
 
+/// The bits of a byte, or of none.
+#[inline(always)]
+fn byte_bits(byte: Option<u8>) -> usize {
+    match byte {
+        Some(byte) => usize::from(byte),
+        None => 256,
+    }
+}
+
+/// Folds a number and the byte after it, if there is one. Answers that byte, or 0.
+#[inline(always)]
+fn fold_both(number: u64, byte: Option<u8>, tally: &mut Tally) -> u8 {
+    tally.fold_with(number, byte_bits(byte));
+    byte.unwrap_or(0)
+}
+
+/// Folds the three marks of a number, each of which may be missing.
+#[inline(always)]
+fn fold_marks(point: Option<u8>, mark: Option<u8>, sign: Option<u8>, tally: &mut Tally) {
+    let upper = (byte_bits(point) as u64) << 16;
+    tally.fold_with(upper ^ byte_bits(mark) as u64, byte_bits(sign));
+}
+
 /// The number with one byte more.
 #[inline(always)]
 fn with_byte(number: u64, byte: u8) -> u64 {
     number.wrapping_mul(10).wrapping_add(u64::from(byte))
 }
 
-/// The number of the digits that come next by an iterator, and the byte after them, which is taken
-/// too.
+/// The number with a byte more that was seen and then taken.
 #[inline(always)]
-fn leading<'a, I: DigitsIter<'a>>(iter: &mut I) -> (u64, u8)
+fn with_both(number: u64, seen: u8, taken: Option<u8>) -> u64 {
+    with_byte(number, seen).wrapping_add(u64::from(taken.unwrap_or(0)) << 8)
+}
+
+/// Folds the number of the digits that come next by an iterator, and the byte after them, which is
+/// taken too. Answers that byte.
+#[inline(always)]
+fn leading<'a, I: DigitsIter<'a>>(iter: &mut I, tally: &mut Tally) -> u8
     requires ends { IsFinite (I.remaining iter.old) }
 {
     let mut number = 0u64;
     while let Some(byte) = iter.next() {
         if !iter.is_digit(*byte) {
-            return (number, *byte);
+            return fold_both(number, Some(*byte), tally);
         }
         number = with_byte(number, *byte);
     }
-    (number, 0)
+    fold_both(number, None, tally)
 }
 
 /// Reads the number that a text begins with, each component by `next` of its iterator. Answers
@@ -233,42 +267,35 @@ fn read_by_iterators(text: &[u8], word: u128, tally: &mut Tally) -> usize
     requires { IsTrue (is_supported word) }
 {
     let mut bytes = Bytes::new(text, word);
-    let (number, mark) = leading(&mut bytes.integer_iter());
-    tally.fold(number);
-    let mut last = mark;
+    let mut last = leading(&mut bytes.integer_iter(), tally);
     if last == b'.' {
-        let (number, mark) = leading(&mut bytes.fraction_iter());
-        tally.fold(number);
-        last = mark;
+        last = leading(&mut bytes.fraction_iter(), tally);
     }
     if last == b'e' {
-        let (number, mark) = leading(&mut bytes.exponent_iter());
-        tally.fold(number);
-        last = mark;
+        last = leading(&mut bytes.exponent_iter(), tally);
     }
     if last == b'-' {
-        let (number, _) = leading(&mut bytes.exponent_iter());
-        tally.fold(number);
+        leading(&mut bytes.exponent_iter(), tally);
     }
     tally.read(bytes.current_count() as u64, bytes.cursor());
     bytes.cursor()
 }
 
-/// The number of the digits that come next of a component, and the byte after them, which is taken
-/// too.
+/// Folds the number of the digits that come next of a component, and the byte after them, which is
+/// taken too. Answers that byte.
 #[inline(always)]
-fn leading_of(bytes: &mut Bytes, component: Component) -> (u64, u8) {
+fn leading_of(bytes: &mut Bytes, component: Component, tally: &mut Tally) -> u8 {
     let mut number = 0u64;
     for _ in 0..bytes.buffer_length() {
         let Some(byte) = bytes.next_of(component) else {
             break;
         };
         if !bytes.is_digit_of(component, *byte) {
-            return (number, *byte);
+            return fold_both(number, Some(*byte), tally);
         }
         number = with_byte(number, *byte);
     }
-    (number, 0)
+    fold_both(number, None, tally)
 }
 
 /// The same as [`read_by_iterators`], by `next_of`.
@@ -276,43 +303,37 @@ fn read_by_next_of(text: &[u8], word: u128, tally: &mut Tally) -> usize
     requires { IsTrue (is_supported word) }
 {
     let mut bytes = Bytes::new(text, word);
-    let (number, mark) = leading_of(&mut bytes, Component::Integer);
-    tally.fold(number);
-    let mut last = mark;
+    let mut last = leading_of(&mut bytes, Component::Integer, tally);
     if last == b'.' {
-        let (number, mark) = leading_of(&mut bytes, Component::Fraction);
-        tally.fold(number);
-        last = mark;
+        last = leading_of(&mut bytes, Component::Fraction, tally);
     }
     if last == b'e' {
-        let (number, mark) = leading_of(&mut bytes, Component::Exponent);
-        tally.fold(number);
-        last = mark;
+        last = leading_of(&mut bytes, Component::Exponent, tally);
     }
     if last == b'-' {
-        let (number, _) = leading_of(&mut bytes, Component::Exponent);
-        tally.fold(number);
+        leading_of(&mut bytes, Component::Exponent, tally);
     }
     tally.read(bytes.current_count() as u64, bytes.cursor());
     bytes.cursor()
 }
 
-/// The number of the digits that come next by an iterator, after zeros; the byte after them isn't
-/// taken.
+/// Folds how many zeros come next by an iterator, the number of the digits after them, and the byte
+/// after those, which isn't taken.
 #[inline(always)]
-fn peeked<'a, I: DigitsIter<'a>>(iter: &mut I) -> u64 {
-    let mut number = iter.skip_zeros() as u64;
+fn peeked<'a, I: DigitsIter<'a>>(iter: &mut I, tally: &mut Tally) {
+    tally.fold(iter.skip_zeros() as u64);
+    let mut number = 0u64;
     for _ in 0..iter.buffer_length() {
         let Some(byte) = iter.peek() else {
             break;
         };
         if !iter.is_digit(*byte) {
-            break;
+            fold_both(number, Some(*byte), tally);
+            return;
         }
-        number = with_byte(number, *byte);
-        iter.next();
+        number = with_both(number, *byte, iter.next().copied());
     }
-    number
+    fold_both(number, None, tally);
 }
 
 /// Reads the number that a text begins with, each component by `skip_zeros`, `peek` and `next` of
@@ -321,71 +342,92 @@ fn read_by_peeks(text: &[u8], word: u128, tally: &mut Tally) -> usize
     requires { IsTrue (is_supported word) }
 {
     let mut bytes = Bytes::new(text, word);
-    tally.fold(peeked(&mut bytes.integer_iter()));
-    if bytes.integer_iter().read_if_value_cased(b'.').is_some() {
-        tally.fold(peeked(&mut bytes.fraction_iter()));
+    peeked(&mut bytes.integer_iter(), tally);
+    let point = bytes.integer_iter().read_if_value_cased(b'.');
+    if point.is_some() {
+        peeked(&mut bytes.fraction_iter(), tally);
     }
-    if bytes.fraction_iter().read_if_value(b'e', false).is_some() {
-        bytes.exponent_iter().read_if_value_cased(b'-');
-        tally.fold(peeked(&mut bytes.exponent_iter()));
+    let mark = bytes.fraction_iter().read_if_value(b'e', false);
+    let mut sign = None;
+    if mark.is_some() {
+        sign = bytes.exponent_iter().read_if_value_cased(b'-');
+        peeked(&mut bytes.exponent_iter(), tally);
     }
+    fold_marks(point, mark, sign, tally);
     tally.read(bytes.current_count() as u64, bytes.cursor());
     bytes.cursor()
 }
 
-/// The number of the digits that come next of a component, by `peek_of`; the byte after them isn't
-/// taken.
+/// Folds the number of the digits that come next of a component, by `peek_of`, and the byte after
+/// them, which isn't taken.
 #[inline(always)]
-fn peeked_of(bytes: &mut Bytes, component: Component) -> u64 {
+fn peeked_of(bytes: &mut Bytes, component: Component, tally: &mut Tally) {
     let mut number = 0u64;
     for _ in 0..bytes.buffer_length() {
         let Some(byte) = bytes.peek_of(component) else {
             break;
         };
         if !bytes.is_digit_of(component, *byte) {
-            break;
+            fold_both(number, Some(*byte), tally);
+            return;
         }
-        number = with_byte(number, *byte);
-        bytes.next_of(component);
+        number = with_both(number, *byte, bytes.next_of(component).copied());
     }
-    number
+    fold_both(number, None, tally);
 }
 
-/// Passes the mark of an exponent and a minus after it. Answers whether the mark was there.
+/// Passes and folds a point, if it is here. Answers whether it was.
 #[inline(always)]
-fn pass_mark(bytes: &mut Bytes) -> bool {
+fn pass_point(bytes: &mut Bytes, tally: &mut Tally) -> bool {
+    if !bytes.first_is_cased(b'.') {
+        return false;
+    }
+    let point = bytes.next_of(Component::Integer).copied();
+    tally.fold(byte_bits(point) as u64);
+    true
+}
+
+/// Passes and folds the mark of an exponent and a minus after it. Answers whether the mark was
+/// there.
+#[inline(always)]
+fn pass_mark(bytes: &mut Bytes, tally: &mut Tally) -> bool {
     if !bytes.first_is_uncased(b'e') {
         return false;
     }
-    bytes.next_of(Component::Fraction);
+    let mark = bytes.next_of(Component::Fraction).copied();
+    let mut sign = None;
     if bytes.first_is_cased(b'-') {
-        bytes.next_of(Component::Exponent);
+        sign = bytes.next_of(Component::Exponent).copied();
     }
+    tally.fold_with(byte_bits(mark) as u64, byte_bits(sign));
     true
 }
 
 /// Reads the number that comes next, by `peek_of`.
 #[inline(never)]
 fn read_by_peek_of(bytes: &mut Bytes, tally: &mut Tally) {
-    tally.fold(peeked_of(bytes, Component::Integer));
-    if bytes.first_is_cased(b'.') {
-        bytes.next_of(Component::Integer);
-        tally.fold(peeked_of(bytes, Component::Fraction));
+    peeked_of(bytes, Component::Integer, tally);
+    if pass_point(bytes, tally) {
+        peeked_of(bytes, Component::Fraction, tally);
     }
-    if pass_mark(bytes) {
-        tally.fold(peeked_of(bytes, Component::Exponent));
+    if pass_mark(bytes, tally) {
+        peeked_of(bytes, Component::Exponent, tally);
     }
     tally.read(bytes.current_count() as u64, bytes.cursor());
 }
 
-/// The value of the digits of a component that come next, after the digits of a value. Folds and
-/// passes those with which it is too large.
+/// The value of the digits of a component that come next, after the digits of a value, which is
+/// folded with their count. Passes and folds those with which it is too large.
 #[inline(always)]
 fn value_of(bytes: &mut Bytes, component: Component, before: u64, tally: &mut Tally) -> u64 {
     match read_digits_of(bytes, component, before) {
-        Ok(digits) => digits.value,
+        Ok(digits) => {
+            tally.fold_with(digits.value, digits.count);
+            digits.value
+        }
         Err(error) => {
-            tally.refuse(error.count as u64, error.at);
+            tally.refuse(1, error.at);
+            tally.fold_with(error.value, error.count);
             tally.fold(pass_digits(bytes, component) as u64);
             error.value
         }
@@ -396,15 +438,11 @@ fn value_of(bytes: &mut Bytes, component: Component, before: u64, tally: &mut Ta
 #[inline(never)]
 fn read_by_values(bytes: &mut Bytes, tally: &mut Tally) {
     let integer = value_of(bytes, Component::Integer, 0, tally);
-    tally.fold(integer);
-    if bytes.first_is_cased(b'.') {
-        bytes.next_of(Component::Integer);
-        let value = value_of(bytes, Component::Fraction, integer, tally);
-        tally.fold(value);
+    if pass_point(bytes, tally) {
+        value_of(bytes, Component::Fraction, integer, tally);
     }
-    if pass_mark(bytes) {
-        let value = value_of(bytes, Component::Exponent, 0, tally);
-        tally.fold(value);
+    if pass_mark(bytes, tally) {
+        value_of(bytes, Component::Exponent, 0, tally);
     }
     tally.read(bytes.current_count() as u64, bytes.cursor());
 }
@@ -416,31 +454,42 @@ fn read_by_parts(bytes: &mut Bytes, tally: &mut Tally) {
     tally.fold(pass_zeros(bytes, Component::Integer) as u64);
     let first = read_first_digits(bytes, Component::Integer, 0, u64::MAX);
     tally.fold(first.value);
-    tally.fold(first.dropped as u64);
-    if bytes.first_is_cased(b'.') {
-        bytes.next_of(Component::Integer);
+    tally.fold_with(first.count as u64, first.dropped);
+    if pass_point(bytes, tally) {
         tally.fold(pass_digits(bytes, Component::Fraction) as u64);
     }
-    if pass_mark(bytes) {
+    if pass_mark(bytes, tally) {
         match read_digits_up_to(bytes, Component::Exponent, 0, 400) {
-            Ok(digits) => tally.fold(digits.value),
-            Err(error) => tally.refuse(error.value, error.at),
+            Ok(digits) => tally.fold_with(digits.value, digits.count),
+            Err(error) => {
+                tally.refuse(2, error.at);
+                tally.fold_with(error.value, error.count);
+            }
         }
     }
     tally.read(bytes.current_count() as u64, bytes.cursor());
 }
 
-/// The bits of an answer of a call.
-fn answer_bits(answer: Answer) -> u64 {
-    match answer {
-        Answer::Span(start, end) => (start as u64).wrapping_mul(31).wrapping_add(end as u64),
-        Answer::Count(count) => count as u64,
-        Answer::Flag(flag) => u64::from(flag),
-        Answer::Byte(Some(byte)) => u64::from(byte),
-        Answer::Four(Some(number)) => u64::from(number),
-        Answer::Eight(Some(number)) => number,
-        _ => 77,
-    }
+/// Folds the answer of a call: its kind, and all that it has.
+fn fold_answer(answer: Answer, tally: &mut Tally) {
+    let (kind, first, second) = match answer {
+        Answer::Span(start, end) => (1, start as u64, end as u64),
+        Answer::Count(count) => (2, count as u64, 0),
+        Answer::Flag(flag) => (3, u64::from(flag), 0),
+        Answer::Done => (4, 0, 0),
+        Answer::Byte(Some(byte)) => (5, u64::from(byte), 0),
+        Answer::Byte(None) => (6, 0, 0),
+        Answer::Four(Some(number)) => (7, u64::from(number), 0),
+        Answer::Four(None) => (8, 0, 0),
+        Answer::Eight(Some(number)) => (9, number, 0),
+        Answer::Eight(None) => (10, 0, 0),
+        Answer::View(Some((length, cursor))) => (11, length as u64, cursor as u64),
+        Answer::View(None) => (12, 0, 0),
+        Answer::Refused => (13, 0, 0),
+    };
+    tally.fold(kind);
+    tally.fold(first);
+    tally.fold(second);
 }
 
 /// Makes the calls of a list.
@@ -448,7 +497,7 @@ fn answer_bits(answer: Answer) -> u64 {
 fn read_by_calls(alloc: Global, bytes: &mut Bytes, tally: &mut Tally) -> Result<(), AllocError> {
     let answers = run(alloc, bytes, &CALLS)?;
     for answer in &answers {
-        tally.fold(answer_bits(*answer));
+        fold_answer(*answer, tally);
     }
     tally.read(bytes.current_count() as u64, bytes.cursor());
     Ok(())
@@ -504,7 +553,8 @@ fn read_fields(alloc: Global, text: &[u8], word: u128, tally: &mut Tally) -> Res
         }
         read_field(alloc, &mut bytes, word, place, tally)?;
         if bytes.first_is_cased(b',') || bytes.first_is_cased(b' ') {
-            bytes.next_of(Component::Special);
+            let comma = bytes.next_of(Component::Special).copied();
+            tally.fold(byte_bits(comma) as u64);
         }
     }
     Ok(())

@@ -14,6 +14,12 @@ use std::alloc::{AllocError, Global};
 /// How many bytes a document has, about.
 const SIZE: usize = 393_216;
 
+/// What an integer of one digit is in a revision: a zero as often as among those that are made.
+const ONE_DIGIT: [u8; 16] = *b"0012345678912345";
+
+/// The bytes of a fault that a revision replaces by others of these.
+const FAULTY: [u8; 16] = *b"-xNabcdfghijkmno";
+
 /// Documents of JSON.
 pub struct Document;
 
@@ -33,19 +39,24 @@ impl Work for Document {
         let mut out = [Number::Float(0.0); 64];
         let mut key = 0u8;
         let mut at = 0;
+        let mut steps = 0u64;
         for _ in 0..text.len() {
             if at >= text.len() {
                 break;
             }
             (at, key) = read_token(text, at, key, &mut out, tally);
+            steps = steps.wrapping_add(1);
         }
+        tally.fold_with(steps, at);
         Ok(())
     }
 }
 
 /// Adds one of the faults that are found in place of a number.
 fn write_fault(page: &mut Page) -> Result<(), AllocError> {
-    page.one_of(&["017", ".5", "1.", "-", "+1", "1e", "NaN", "1.5e+", "-x"])
+    let start = page.len();
+    page.one_of(&["017", ".5", "1.", "-", "+1", "1e", "NaN", "1.5e+", "-x"])?;
+    page.free(start, FAULTY)
 }
 
 /// Adds an integer of up to so many digits, of which some are negative, or a fault.
@@ -53,11 +64,17 @@ fn write_integer(page: &mut Page, most: u64) -> Result<(), AllocError> {
     if page.random.one_in(200) {
         return write_fault(page);
     }
+    let start = page.len();
     if page.random.one_in(40) {
-        return page.byte(b'0');
+        page.byte(b'0')?;
+    } else {
+        page.maybe(b'-', 6)?;
+        page.some_digits(1, most)?;
     }
-    page.maybe(b'-', 6)?;
-    page.some_digits(1, most)
+    if page.len().saturating_sub(start) == 1 {
+        page.free(start, ONE_DIGIT)?;
+    }
+    Ok(())
 }
 
 /// Adds an exponent.
@@ -205,15 +222,6 @@ fn write_feature(page: &mut Page) -> Result<(), AllocError> {
     page.bytes(b"\n  },\n")
 }
 
-/// Folds a number by its kind.
-#[inline(always)]
-fn fold_number(number: Number<f64>, end: usize, tally: &mut Tally) {
-    match number.as_integer::<i64>() {
-        Some(value) => tally.read(value.cast_unsigned(), end),
-        None => tally.float(number.to_float(), end),
-    }
-}
-
 /// Folds an error, and answers where it is.
 #[inline(always)]
 fn fold_error(error: NumberError, tally: &mut Tally) -> usize {
@@ -260,7 +268,7 @@ fn read_number(text: &[u8], at: usize, tally: &mut Tally) -> usize
 {
     match read_number_of::<f64>(text, at, forms::JSON) {
         Ok((number, end)) => {
-            fold_number(number, end, tally);
+            tally.number(number, end);
             past_byte(text, end, b',')
         }
         Err(error) => {
@@ -276,10 +284,17 @@ fn read_values(text: &[u8], at: usize, out: &mut [Number<f64>], tally: &mut Tall
 {
     let list = read_list_of::<f64>(text, at, forms::JSON, COMMAS, out);
     for number in &out[..list.count] {
-        fold_number(*number, 0, tally);
+        tally.number(*number, 0);
     }
     match list.end {
-        ListEnd::Over(end) | ListEnd::Full(end) => end,
+        ListEnd::Over(end) => {
+            tally.over(end);
+            end
+        }
+        ListEnd::Full(end) => {
+            tally.full(end);
+            end
+        }
         ListEnd::Fault(error) => fold_error(error, tally).saturating_add(1),
     }
 }

@@ -20,12 +20,20 @@ const ZEROS: [u8; 320] = [b'0'; 320];
 /// Many separators.
 const SEPARATORS: [u8; 48] = [b'_'; 48];
 
+/// A byte that each revision replaces by one of others.
+#[derive(Clone, Copy)]
+struct Spot {
+    at: usize,
+    choices: [u8; 16],
+}
+
 /// A text, and the chance that it is made by.
 #[derive(Drop)]
 pub struct Page {
     text: Vec<u8>,
     pool: Vec<u8>,
     noise: Vec<u8>,
+    spots: Vec<Spot>,
     first: u8,
     count: u8,
     /// Which document it is, from 0.
@@ -59,6 +67,25 @@ fn turn_digits(text: &mut [u8], shifts: &[u8], first: u8, count: u8) {
     }
 }
 
+/// Replaces each byte of these by one of its choices, from 64 bits by chance.
+fn replace_spots(text: &mut [u8], spots: &[Spot], bits: u64) {
+    let mut state = bits;
+    for spot in spots {
+        state = state.wrapping_mul(0xd134_2543_de82_ef95).wrapping_add(1);
+        if let Some(byte) = text.get_mut(spot.at) {
+            *byte = spot.choices[((state >> 60) % 16) as usize];
+        }
+    }
+}
+
+/// Whether a byte is there and one of these.
+fn is_one_of(byte: Option<&u8>, choices: &[u8; 16]) -> bool {
+    match byte {
+        Some(byte) => choices.iter().any(|choice| *choice == *byte),
+        None => false,
+    }
+}
+
 impl Page {
     /// An empty text, by the chance of a seed, of which so many digits from a first one on will be
     /// changed.
@@ -69,6 +96,7 @@ impl Page {
             text: Vec::new(alloc),
             pool: make_bytes(alloc, &mut random, POOL, b'0', 9)?,
             noise: make_bytes(alloc, &mut random, NOISE, 0, most)?,
+            spots: Vec::new(alloc),
             first,
             count,
             number: 0,
@@ -81,6 +109,7 @@ impl Page {
         self.random = Random::of(seed, number.wrapping_add(1));
         self.number = number;
         self.text.clear();
+        self.spots.clear();
     }
 
     /// The text so far.
@@ -171,10 +200,33 @@ impl Page {
         self.text.extend_from_slice(run)
     }
 
-    /// Changes the digits that are to be changed.
+    /// How many digits from a position on are those that each revision changes.
+    pub fn turned(&self, from: usize) -> usize {
+        let mut turned = 0usize;
+        for byte in self.text.get(from..).unwrap_or(&[]) {
+            if byte.wrapping_sub(self.first) < self.count {
+                turned = turned.wrapping_add(1);
+            }
+        }
+        turned
+    }
+
+    /// Lets each revision replace each byte from a position on that is one of these by one of them.
+    pub fn free(&mut self, from: usize, choices: [u8; 16]) -> Result<(), AllocError> {
+        for at in from..self.text.len() {
+            if is_one_of(self.text.get(at), &choices) {
+                self.spots.push(Spot { at, choices })?;
+            }
+        }
+        Ok(())
+    }
+
+    /// Changes the digits that are to be changed, and the bytes that are free.
     pub fn revise(&mut self) {
         let from = self.random.between(0, MARGIN) as usize;
         let shifts = self.noise.get(from..).unwrap_or(&[]);
         turn_digits(&mut self.text, shifts, self.first, self.count);
+        let mut random = self.random;
+        replace_spots(&mut self.text, &self.spots, random.bits());
     }
 }

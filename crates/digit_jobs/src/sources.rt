@@ -8,7 +8,7 @@ use super::page::Page;
 use super::tally::Tally;
 use super::work::Work;
 use digits::{
-    BLANKS, Form, Language, LanguageError, Number, NumberError, byte_at, form_of, forms, languages,
+    BLANKS, Form, Language, LanguageError, NumberError, byte_at, form_of, forms, languages,
     name_end, past_bytes, read_literal, read_number_of,
 };
 use std::alloc::{AllocError, Global};
@@ -19,8 +19,29 @@ const SIZE: usize = 393_216;
 /// The byte that begins a file.
 const FILE: u8 = 2;
 
+/// What a literal of one digit is in a revision: a zero as often as among those that are made.
+const ONE_DIGIT: [u8; 16] = *b"0000123456789123";
+
+/// The decimal digits, some of them twice.
+const DIGITS: [u8; 16] = *b"0123456789123456";
+
+/// The first digit of a decimal literal.
+const FIRST_DIGITS: [u8; 16] = *b"1234567891234567";
+
+/// The digits that no octal literal has.
+const NOT_OCTAL: [u8; 16] = *b"8989898989898989";
+
+/// The digits of a binary literal.
+const BITS: [u8; 16] = *b"0101010101010101";
+
+/// The digits of a hexadecimal literal.
+const HEXADECIMAL: [u8; 16] = *b"0123456789abcdef";
+
+/// The letters of a prefix that no digit follows.
+const PREFIXES: [u8; 16] = *b"xXbBoOxXbBoOxXbB";
+
 /// Documents of source code. Digits from 2 to 7 are changed, so that binary and octal literals stay
-/// what they are.
+/// what they are; of a literal without such a digit each digit is changed to another of its radix.
 pub struct Sources;
 
 impl Work for Sources {
@@ -151,8 +172,48 @@ fn write_groups(page: &mut Page, separator: u8) -> Result<(), AllocError> {
     Ok(())
 }
 
+/// Lets each revision change the decimal literal that begins at a position, if no digit of it is
+/// changed anyway, or if it has only one.
+fn free_decimal(page: &mut Page, start: usize) -> Result<(), AllocError> {
+    if page.len().saturating_sub(start) == 1 {
+        return page.free(start, ONE_DIGIT);
+    }
+    if page.turned(start) == 0 {
+        page.free(start, FIRST_DIGITS)?;
+        page.free(start.saturating_add(1), DIGITS)?;
+    }
+    Ok(())
+}
+
+/// Lets each revision change the literal with a prefix that begins at a position, if no digit of it
+/// is changed anyway.
+fn free_prefixed(page: &mut Page, start: usize) -> Result<(), AllocError> {
+    if page.turned(start) > 0 {
+        return Ok(());
+    }
+    let digits = start.saturating_add(2);
+    match byte_at(page.text(), start.saturating_add(1)) {
+        Some(b'b') => page.free(digits, BITS),
+        Some(b'x') => page.free(digits, HEXADECIMAL),
+        _ => Ok(()),
+    }
+}
+
+/// Adds a fault.
+fn write_fault(page: &mut Page) -> Result<(), AllocError> {
+    let start = page.len();
+    page.one_of(&["1__0", "0x", "1_", "09", "0b2", "1e", "0x_", "7''7"])?;
+    if byte_at(page.text(), start) == Some(b'0') {
+        page.free(start, NOT_OCTAL)?;
+        page.free(start, PREFIXES)
+    } else {
+        free_decimal(page, start)
+    }
+}
+
 /// Adds an integer with a prefix.
 fn write_prefixed(page: &mut Page, separator: u8) -> Result<(), AllocError> {
+    let start = page.len();
     match page.random.below(12) {
         0 | 1 => page.one_of(&["0b1010", "0b1", "0b1100", "0b0"])?,
         2 => page.one_of(&["0o17", "0o755", "0o644", "0o2"])?,
@@ -166,6 +227,7 @@ fn write_prefixed(page: &mut Page, separator: u8) -> Result<(), AllocError> {
             }
         }
     }
+    free_prefixed(page, start)?;
     if page.random.one_in(4) {
         page.one_of(&["_u8", "u", "_u32", "L", "n"])?;
     }
@@ -174,6 +236,7 @@ fn write_prefixed(page: &mut Page, separator: u8) -> Result<(), AllocError> {
 
 /// Adds a float.
 fn write_float(page: &mut Page, separator: u8) -> Result<(), AllocError> {
+    let start = page.len();
     if page.random.one_in(6) {
         write_groups(page, separator)?;
     } else {
@@ -184,6 +247,7 @@ fn write_float(page: &mut Page, separator: u8) -> Result<(), AllocError> {
         page.one_of(&["e", "e-", "E+"])?;
         page.some_digits(1, 2)?;
     }
+    free_decimal(page, start)?;
     if page.random.one_in(4) {
         page.one_of(&["f", "f32", "d"])?;
     }
@@ -192,20 +256,24 @@ fn write_float(page: &mut Page, separator: u8) -> Result<(), AllocError> {
 
 /// Adds a literal, or one that is none.
 fn write_literal(page: &mut Page, separator: u8) -> Result<(), AllocError> {
-    match page.random.below(60) {
-        0 => page.one_of(&["1__0", "0x", "1_", "09", "0b2", "1e", "0x_", "7''7"]),
-        1 => page.digits(40),
-        2..=4 => page.byte(b'0'),
-        5..=9 => write_groups(page, separator),
-        10..=19 => write_prefixed(page, separator),
-        20..=28 => write_float(page, separator),
-        29..=31 => {
-            page.some_digits(1, 3)?;
-            page.one_of(&["u32", "L", "i64", "u8"])
-        }
-        32..=49 => page.some_digits(1, 2),
-        _ => page.some_digits(3, 6),
+    let start = page.len();
+    let case = page.random.below(60);
+    match case {
+        0 => return write_fault(page),
+        1 => page.digits(40)?,
+        2..=4 => page.byte(b'0')?,
+        5..=9 => write_groups(page, separator)?,
+        10..=19 => return write_prefixed(page, separator),
+        20..=28 => return write_float(page, separator),
+        29..=31 => page.some_digits(1, 3)?,
+        32..=49 => page.some_digits(1, 2)?,
+        _ => page.some_digits(3, 6)?,
     }
+    free_decimal(page, start)?;
+    if case >= 29 && case <= 31 {
+        page.one_of(&["u32", "L", "i64", "u8"])?;
+    }
+    Ok(())
 }
 
 /// A form by its number, which no compiler knows.
@@ -258,14 +326,6 @@ fn refuse_literal(error: LanguageError, tally: &mut Tally) {
     }
 }
 
-/// Folds a number.
-fn fold_number(number: Number<f64>, end: usize, tally: &mut Tally) {
-    match number.as_integer::<u64>() {
-        Some(value) => tally.read(value, end),
-        None => tally.float(number.to_float(), end),
-    }
-}
-
 /// Reads the number here by a form. Answers where it and its suffix end.
 #[inline(always)]
 fn read_by_form(text: &[u8], at: usize, form: Form, tally: &mut Tally) -> usize
@@ -275,7 +335,7 @@ fn read_by_form(text: &[u8], at: usize, form: Form, tally: &mut Tally) -> usize
 {
     match read_number_of::<f64>(text, at, form) {
         Ok((number, end)) => {
-            fold_number(number, end, tally);
+            tally.number(number, end);
             name_end(text, end)
         }
         Err(error) => {
@@ -294,6 +354,7 @@ fn read_by_language(text: &[u8], at: usize, language: Language, tally: &mut Tall
 {
     match read_literal(text, at, language, u128::MAX) {
         Ok(literal) => {
+            tally.word(literal.word, literal.digits);
             tally.wide(literal.value, literal.end);
             name_end(text, literal.end)
         }
@@ -324,6 +385,7 @@ fn read_form_file(text: &[u8], start: usize, form: Form, tally: &mut Tally) -> u
     requires { IsForm form }
 {
     let mut at = start;
+    let mut steps = 0u64;
     for _ in 0..text.len() {
         let Some(byte) = byte_at(text, at) else {
             break;
@@ -336,7 +398,9 @@ fn read_form_file(text: &[u8], start: usize, form: Form, tally: &mut Tally) -> u
         } else {
             past_other(text, at, byte)
         };
+        steps = steps.wrapping_add(1);
     }
+    tally.fold_with(steps, at);
     at
 }
 
@@ -345,6 +409,7 @@ fn read_language_file(text: &[u8], start: usize, language: Language, tally: &mut
     requires { IsLanguage language }
 {
     let mut at = start;
+    let mut steps = 0u64;
     for _ in 0..text.len() {
         let Some(byte) = byte_at(text, at) else {
             break;
@@ -357,7 +422,9 @@ fn read_language_file(text: &[u8], start: usize, language: Language, tally: &mut
         } else {
             past_other(text, at, byte)
         };
+        steps = steps.wrapping_add(1);
     }
+    tally.fold_with(steps, at);
     at
 }
 

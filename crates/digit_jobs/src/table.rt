@@ -15,6 +15,12 @@ use std::alloc::{AllocError, Global};
 /// How many bytes a document has, about.
 const SIZE: usize = 393_216;
 
+/// What a letter in place of a field is in a revision.
+const LETTERS: [u8; 16] = *b"xnabcdfghijklmop";
+
+/// The decimal digits, some of them twice.
+const DIGITS: [u8; 16] = *b"0123456789123456";
+
 /// Documents of lines.
 pub struct Table;
 
@@ -31,24 +37,29 @@ impl Work for Table {
 
     fn read(_alloc: Global, text: &[u8], tally: &mut Tally) -> Result<(), AllocError> {
         let mut at = 0;
+        let mut steps = 0u64;
         for _ in 0..text.len() {
             if at >= text.len() {
                 break;
             }
             at = read_line(text, at, tally);
+            steps = steps.wrapping_add(1);
         }
+        tally.fold_with(steps, at);
         Ok(())
     }
 }
 
 /// Adds a letter in place of a field, or no byte at all, in some cases. Answers whether it did.
 fn write_gap(page: &mut Page) -> Result<bool, AllocError> {
+    let start = page.len();
     match page.random.below(400) {
         0 => page.byte(b'x')?,
         1 => page.bytes(b"n/a")?,
         2..12 => {}
         _ => return Ok(false),
     }
+    page.free(start, LETTERS)?;
     Ok(true)
 }
 
@@ -66,6 +77,15 @@ fn write_part(page: &mut Page, mark: u8, part: &str) -> Result<(), AllocError> {
     page.bytes(part.as_bytes())
 }
 
+/// Lets each revision change the two zeros that the text may end with.
+fn free_zeros(page: &mut Page) -> Result<(), AllocError> {
+    let start = page.len().saturating_sub(2);
+    if page.turned(start) == 0 {
+        page.free(start, DIGITS)?;
+    }
+    Ok(())
+}
+
 /// Adds a date and a time.
 fn write_moment(page: &mut Page) -> Result<(), AllocError> {
     page.one_of(&["2024", "2025", "2026", "1999", "2019"])?;
@@ -75,14 +95,17 @@ fn write_moment(page: &mut Page) -> Result<(), AllocError> {
     write_part(page, b'-', part)?;
     page.byte(b',')?;
     page.one_of(&["00", "08", "13", "17", "23"])?;
+    free_zeros(page)?;
     let part = if page.random.one_in(150) {
         "5x"
     } else {
         ["00", "15", "36", "48", "52"][page.random.below(5) as usize]
     };
     write_part(page, b':', part)?;
+    free_zeros(page)?;
     let part = ["00", "09", "24", "37", "59"][page.random.below(5) as usize];
-    write_part(page, b':', part)
+    write_part(page, b':', part)?;
+    free_zeros(page)
 }
 
 /// Adds a price, in some cases with a place too many.
@@ -170,6 +193,23 @@ fn refuse(error: LiteralError, tally: &mut Tally) {
     }
 }
 
+/// Why there is no date or time.
+#[derive(Clone, Copy, Debug, PartialEq, Eq)]
+enum MomentError {
+    /// One of its numbers isn't there.
+    Number(LiteralError),
+    /// The mark that would be at this position isn't there.
+    Mark(usize),
+}
+
+/// Folds an error of a date or a time.
+fn refuse_moment(error: MomentError, tally: &mut Tally) {
+    match error {
+        MomentError::Number(error) => refuse(error, tally),
+        MomentError::Mark(at) => tally.refuse(10, at),
+    }
+}
+
 /// Folds an error of a float.
 fn refuse_float(error: FloatError, tally: &mut Tally) {
     match error {
@@ -239,15 +279,15 @@ fn read_id(text: &[u8], at: usize, tally: &mut Tally) -> usize
 
 /// Reads three numbers of so many digits with marks between them. Answers where the last ends.
 #[inline(always)]
-fn read_parts(text: &[u8], at: usize, first: usize, mark: u8) -> Result<(u64, usize), LiteralError>
+fn read_parts(text: &[u8], at: usize, first: usize, mark: u8) -> Result<(u64, usize), MomentError>
     requires { at ≤ length text.now }
     ensures { IfOk result (λ read. read.1 ≤ length text.now) }
 {
-    let (x, at) = read_exactly::<u32>(text, at, 10, first)?;
-    let at = expect_byte(text, at, mark).map_err(LiteralError::Empty)?;
-    let (y, at) = read_exactly::<u16>(text, at, 10, 2)?;
-    let at = expect_byte(text, at, mark).map_err(LiteralError::Empty)?;
-    let (z, at) = read_exactly::<u16>(text, at, 10, 2)?;
+    let (x, at) = read_exactly::<u32>(text, at, 10, first).map_err(MomentError::Number)?;
+    let at = expect_byte(text, at, mark).map_err(MomentError::Mark)?;
+    let (y, at) = read_exactly::<u16>(text, at, 10, 2).map_err(MomentError::Number)?;
+    let at = expect_byte(text, at, mark).map_err(MomentError::Mark)?;
+    let (z, at) = read_exactly::<u16>(text, at, 10, 2).map_err(MomentError::Number)?;
     let upper = u64::from(x) << 32;
     Ok((upper | (u64::from(y) << 16) | u64::from(z), at))
 }
@@ -264,7 +304,7 @@ fn read_moment(text: &[u8], at: usize, first: usize, mark: u8, tally: &mut Tally
             next_field(text, end)
         }
         Err(error) => {
-            refuse(error, tally);
+            refuse_moment(error, tally);
             next_field(text, at)
         }
     }
@@ -354,7 +394,14 @@ fn read_integers(text: &[u8], at: usize, tally: &mut Tally) -> usize
         tally.read(u64::from(*value), 0);
     }
     match list.end {
-        ListEnd::Over(end) | ListEnd::Full(end) => next_field(text, end),
+        ListEnd::Over(end) => {
+            tally.over(end);
+            next_field(text, end)
+        }
+        ListEnd::Full(end) => {
+            tally.full(end);
+            next_field(text, end)
+        }
         ListEnd::Fault(error) => {
             refuse(error, tally);
             next_field(text, at)
@@ -374,7 +421,14 @@ fn read_floats(text: &[u8], at: usize, tally: &mut Tally) -> usize
         tally.float(*x, 0);
     }
     match list.end {
-        ListEnd::Over(end) | ListEnd::Full(end) => next_field(text, end),
+        ListEnd::Over(end) => {
+            tally.over(end);
+            next_field(text, end)
+        }
+        ListEnd::Full(end) => {
+            tally.full(end);
+            next_field(text, end)
+        }
         ListEnd::Fault(error) => {
             refuse_float(error, tally);
             next_field(text, at)

@@ -1,6 +1,22 @@
 //! What came of the numbers that were read.
 
+use digits::Number;
 use std::fmt;
+
+/// A number that is an integer without a minus.
+const POSITIVE: usize = 1;
+
+/// A number that is an integer with one.
+const NEGATIVE: usize = 2;
+
+/// A number that is a float: this bit is folded with its end. No text is so long.
+const FLOAT: usize = 1 << 22;
+
+/// A list that filled its slice.
+const FULL: u64 = 65;
+
+/// A list that is over.
+const OVER: u64 = 66;
 
 /// How much was read, and a digest of all results.
 #[derive(Clone, Copy)]
@@ -35,18 +51,44 @@ impl Tally {
             .rotate_left(29);
     }
 
+    /// Folds a number, and a position or a count with it, into the digest.
+    #[inline(always)]
+    pub fn fold_with(&mut self, x: u64, count: usize) {
+        self.fold(x ^ (count as u64).rotate_left(40));
+    }
+
+    /// Folds the word by which digits were read, and a kind or a position with it.
+    #[inline(always)]
+    pub fn word(&mut self, word: u128, with: usize) {
+        let upper = (word >> 64) as u64;
+        let lower = (word & 0xffff_ffff_ffff_ffff) as u64;
+        self.fold_with(lower ^ upper.wrapping_mul(0xbf58_476d_1ce4_e5b9), with);
+    }
+
     /// A number was read, with these bits, up to this position.
     #[inline(always)]
     pub fn read(&mut self, bits: u64, end: usize) {
         self.numbers = self.numbers.wrapping_add(1);
-        self.fold(bits ^ (end as u64).rotate_left(40));
+        self.fold_with(bits, end);
     }
 
     /// No number was read, by an error of this kind at this position.
     #[inline(always)]
     pub fn refuse(&mut self, kind: u64, at: usize) {
         self.refused = self.refused.wrapping_add(1);
-        self.fold(kind ^ (at as u64).rotate_left(40));
+        self.fold_with(kind, at);
+    }
+
+    /// A list filled its slice, and goes on at this position.
+    #[inline(always)]
+    pub fn full(&mut self, at: usize) {
+        self.fold_with(FULL, at);
+    }
+
+    /// A list is over at this position.
+    #[inline(always)]
+    pub fn over(&mut self, at: usize) {
+        self.fold_with(OVER, at);
     }
 
     /// A float was read.
@@ -67,19 +109,39 @@ impl Tally {
         self.fold((x >> 64) as u64);
         self.read((x & 0xffff_ffff_ffff_ffff) as u64, end);
     }
+
+    /// A number was read: its kind and sign, and all else that it has.
+    #[inline(always)]
+    pub fn number(&mut self, number: Number<f64>, end: usize) {
+        match number {
+            Number::Integer {
+                negative,
+                magnitude,
+                word,
+            } => {
+                self.word(word, if negative { NEGATIVE } else { POSITIVE });
+                self.wide(magnitude, end);
+            }
+            Number::Float(x) => self.float(x, end | FLOAT),
+        }
+    }
 }
 
 /// The bits of a float; all values that are no number have the same.
 #[inline(always)]
 fn bits_of(x: f64) -> u64 {
-    if x.is_nan() { 1 } else { x.to_bits() }
+    if x.is_nan() {
+        0x7ff8_0000_0000_0000
+    } else {
+        x.to_bits()
+    }
 }
 
 /// The bits of an `f32`; all values that are no number have the same.
 #[inline(always)]
 fn short_bits_of(x: f32) -> u64 {
     if x.is_nan() {
-        1
+        0x7fc0_0000
     } else {
         u64::from(x.to_bits())
     }
