@@ -21,8 +21,8 @@ use lexical_digits::skip::Component;
 /// The greatest value of 19 digits.
 const MOST: u64 = 9_999_999_999_999_999_999;
 
-/// The first 19 digits of a component with radix 10 from a position on, after those of a number,
-/// and where they end.
+/// The first digits of a component with radix 10 from a position on, after those of a number, as
+/// many as leave the value below 10 to the power 19, and where all its digits end.
 #[inline(always)]
 #[tactic(auto, using(crate::proofs::Decimals::digits_of_radix, digit_literals::proofs::ForCallers::dropped), unfolding(crate::specs::Float::digits_from, crate::specs::Float::digits_end))]
 fn read_long_part(

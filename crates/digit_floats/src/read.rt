@@ -36,7 +36,8 @@ fn read_float_apart<F: Float>(
     Ok((x, parts.power.end))
 }
 
-/// [`read_float_apart`] of numbers in groups, in code of its own: few have eight digits in a row.
+/// [`read_float_apart`] by a word that drops separators between digits, in code of its own: a group
+/// seldom has eight digits.
 #[inline(never)]
 #[tactic(auto, using(crate::proofs::Numbers::round_number))]
 fn read_float_in_groups<F: Float>(
@@ -66,8 +67,8 @@ fn has_groups(word: u128) -> bool {
     Rule::of(word, Component::Integer).internal || Rule::of(word, Component::Fraction).internal
 }
 
-/// [`read_float_apart`], or by groups, whose answer in memory belongs to this function, so it is
-/// set only where they are called.
+/// [`read_float_apart`] or [`read_float_in_groups`], by the word. Their answer in memory belongs to
+/// this function, so it is set only where they are called.
 #[inline(always)]
 fn read_float_rest<F: Float>(
     text: &[u8],

@@ -27,8 +27,7 @@ pub fn are_zeros(bytes: &[u8], count: usize) -> bool
         .all(|byte| *byte == b'0')
 }
 
-/// Whether all digits of some bytes but the first are zeros, where there are so many digits, and no
-/// fewer than those first.
+/// [`are_zeros`], where it is known how many digits there are: `digits`, and `count` is at most that.
 #[inline(never)]
 #[tactic(auto, using(crate::proofs::Others::all_digits))]
 pub fn are_zeros_after(bytes: &[u8], digits: usize, count: usize) -> bool

@@ -41,7 +41,7 @@ const HEXADECIMAL: [u8; 16] = *b"0123456789abcdef";
 const PREFIXES: [u8; 16] = *b"xXbBoOxXbBoOxXbB";
 
 /// Documents of source code. Digits from 2 to 7 are changed, so that binary and octal literals stay
-/// what they are; of a literal without such a digit each digit is changed to another of its radix.
+/// what they are; of a literal without such a digit each digit is replaced by one of its radix.
 pub struct Sources;
 
 impl Work for Sources {
@@ -199,7 +199,7 @@ fn free_prefixed(page: &mut Page, start: usize) -> Result<(), AllocError> {
     }
 }
 
-/// Adds a fault.
+/// Adds a fault. In a revision `0b2` may be a literal, such as `0x2`.
 fn write_fault(page: &mut Page) -> Result<(), AllocError> {
     let start = page.len();
     page.one_of(&["1__0", "0x", "1_", "09", "0b2", "1e", "0x_", "7''7"])?;

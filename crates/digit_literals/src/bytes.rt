@@ -52,7 +52,8 @@ pub fn expect_byte(text: &[u8], at: usize, byte: u8) -> Result<usize, usize>
     }
 }
 
-/// Whether a set has a byte. For most bytes of a text 64 bits are enough.
+/// Whether a set has a byte. For one below 64, as digits, blanks and most marks are, 64 bits are
+/// enough.
 #[inline(always)]
 #[tactic(auto, using(crate::proofs::Lists::low_bit))]
 pub(super) fn accepts(set: ByteSet, byte: u8) -> bool

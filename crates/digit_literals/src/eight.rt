@@ -159,8 +159,8 @@ struct Front {
     count: usize,
 }
 
-/// The decimal digits that the eight bytes from a position on begin with. How many there are is no
-/// branch, if one of the eight is none.
+/// The decimal digits that the eight bytes from a position on begin with. If one of the bytes is no
+/// digit, no branch depends on how many digits are before it.
 #[inline]
 fn front_at(text: &[u8], at: usize) -> Front
     requires { at + 8 ≤ length text.now }
@@ -183,8 +183,8 @@ fn front_at(text: &[u8], at: usize) -> Front
     }
 }
 
-/// The powers of 10 up to 10 to the power of 8. A table in memory: of a `match` a compiler makes a
-/// jump, which no processor guesses.
+/// The powers of 10 up to 10 to the power of 8. A table in memory, so that no branch depends on how
+/// many digits there are.
 static SMALL_TENS: [u64; 9] = [
     1,
     10,

@@ -122,8 +122,7 @@ impl Gap {
     /// Whether a blank is at a position.
     #[inline(always)]
     fn has_blank(self, text: &[u8], at: usize) -> bool
-        ensures is { result ≡ has_blank self text.now at }
-        ensures within { result ≡ true → at < length text.now }
+        ensures { result ≡ has_blank self text.now at }
     {
         match text.get(at) {
             Some(byte) => self.is_blank(*byte),

@@ -16,7 +16,6 @@ use Rattle.digit_literals.specs.Integers.{integer_at}
 use Rattle.digit_literals.specs.declared.LiteralError.{LiteralError}
 use Rattle.digit_literals.specs.declared.LiteralError.TheVariants.{Empty, Overflow}
 use Rattle.digit_literals.specs.Numbers.{has_byte}
-use Rattle.digit_floats.specs.Bytes.{stands, is_mark}
 use Rattle.digit_numbers.specs.Forms.{with_hex_only}
 use Rattle.digit_numbers.specs.Reads.{IsPlain}
 
@@ -52,34 +51,6 @@ no_prefix l text at h =
     by true false = refl
     by false true = refl
     by false false = refl
-
--- a byte that is no `x` in either case is neither of them
-neither : (o : Option ℕ) → holds_of (is_mark 120) o ≡ false
-    → (holds_of (λ b. b == 120) o ≡ false) × (holds_of (λ b. b == 88) o ≡ false)
-neither None h = (refl, refl)
-neither (Some b) h = (grind (arith, nat_tests), grind (arith, nat_tests))
-
--- a `0` that no `x` follows begins no hexadecimal prefix
-pub no_x : (l : Language) (text : List ℕ) (at : ℕ) → stands (is_mark 120) text (at + 1) ≡ false
-    → prefix_word (with_hex_only l) text at ≡ None
-no_x l text at h =
-    let no = neither (slice_get text (at + 1)) h in
-    rw (no.0, no.1)
-    (by (has_byte text at 48 && (has_byte text (at + 1) 98
-    || (l.upper && has_byte text (at + 1) 66)))
-    (has_byte text at 48 && (has_byte text (at + 1) 111
-    || (l.upper && has_byte text (at + 1) 79)))
-    (has_byte text at 48) l.upper)
-  where
-    by : (binary octal first upper : Bool)
-        → (if binary then None else
-        if octal then None else
-        if first && (false || (upper && false)) then l.hexadecimal else None) ≡ None
-    by true octal first upper = refl
-    by false true first upper = refl
-    by false false true true = refl
-    by false false true false = refl
-    by false false false upper = refl
 
 -- another byte than a `0` begins no prefix
 pub no_hex : (l : Language) (text : List ℕ) (at : ℕ) → has_byte text at 48 ≡ false

@@ -458,12 +458,12 @@ pub fn whole_of(text: &[u8], word: u128, mantissa: Mantissa) -> Mantissa
         ≡ digits_from word text.now Integer mantissa.start }
     ensures fraction { fraction_of text.now result ≡ [] }
 {
-    if mantissa.places > 0 {
-        // no point is found
-        let other = other_byte(text, mantissa.whole_end);
-        return read_mantissa(text, word, mantissa.start, other);
+    if mantissa.places == 0 {
+        return mantissa;
     }
-    mantissa
+    // no point is found
+    let other = other_byte(text, mantissa.whole_end);
+    read_mantissa(text, word, mantissa.start, other)
 }
 
 /// The zero that a first `0` is by itself.

@@ -404,29 +404,14 @@ fn read_plain<F: Float>(
     read_whole::<F>(text, start, form, sign, mantissa)
 }
 
-/// Whether a point is at a position, and a digit after it.
+/// Whether no hexadecimal float is after the sign, as far as its first byte tells.
 #[inline(always)]
-fn begins_fraction(text: &[u8], form: Form, at: usize) -> bool
-    ensures { result ≡ true → stands (is_mark 120) text.now at ≡ false }
-{
-    match text.get(at) {
-        Some(byte) if *byte == form.marks.point && *byte != b'x' && *byte != b'X' => {
-            text.get(at + 1).is_some_and(|next| next.is_ascii_digit())
-        }
-        _ => false,
-    }
-}
-
-/// Whether no hexadecimal float is after the sign, as far as its first bytes tell.
-#[inline(always)]
-#[tactic(auto, using(crate::proofs::Zeros::no_hex, crate::proofs::Zeros::no_x), unfolding(crate::specs::Numbers::hex_word_at))]
+#[tactic(auto, using(crate::proofs::Zeros::no_hex), unfolding(crate::specs::Numbers::hex_word_at))]
 fn has_no_hex(text: &[u8], start: usize, form: Form, sign: Sign) -> bool
     requires sign { IsSign form text.now start sign }
     ensures { result ≡ true → hex_word_here form text.now start ≡ None }
 {
-    !form.hex_floats.exist()
-        || !is_zero(text, sign.end)
-        || begins_fraction(text, form, sign.end + 1)
+    !form.hex_floats.exist() || !is_zero(text, sign.end)
 }
 
 /// The digits of a number before a point, after any sign, if they are few.

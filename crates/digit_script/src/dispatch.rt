@@ -246,7 +246,7 @@ fn take_n(bytes: &mut Bytes, component: Component, n: usize) -> Answer
 }
 
 /// Makes a call on the iterator of a component. It is inlined for speed: a caller that names the
-/// component needs no branch on it.
+/// component needs no branch on it in [`read_on`].
 #[inline(always)]
 fn on_component(bytes: &mut Bytes, component: Component, op: Op) -> Answer
     ensures { Makes (table.On component) op bytes.old bytes.new result }

@@ -53,8 +53,8 @@ fn a_judged_separator_is_followed_by_as_many_looks(rt: HostRuntime) {
 }
 
 /// Flags, and the looks of all 729 texts of six bytes out of `1_.` together, each read by `peek`
-/// and `next` of the integer by turns. The contracts say how many a call takes at most; these
-/// numbers are those of the code before the pass for speed.
+/// and `next` of the integer by turns. The contracts say how many a call takes at most; these are
+/// the numbers of version 0.1.0.
 const LOOKS_OF_ALL: [(u128, u64); 6] = [
     (INTERNAL, 17_362),
     (LEADING, 16_492),

@@ -155,8 +155,8 @@ static YAML_ENDS: [(&[u8], Value, usize); 20] = [
 static TOML_ENDS: [(&[u8], Value, usize); 4] = [
     (b"inf_", Real(INFINITE), 3),
     (b"-0x1F", Int(true, 0), 2),
-    (b"-0x1F, and more than 32 bytes of text", Int(true, 0), 2),
-    (b"0x1F, and more than 32 bytes of text", Int(false, 31), 4),
+    (b"-0x1F, and more text after it", Int(true, 0), 2),
+    (b"0x1F, and more text after it", Int(false, 31), 4),
 ];
 
 /// A literal of C++, and its value by g++.
