@@ -27,7 +27,8 @@ pub fn are_zeros(bytes: &[u8], count: usize) -> bool
         .all(|byte| *byte == b'0')
 }
 
-/// [`are_zeros`], where it is known how many digits there are: `digits`, and `count` is at most that.
+/// [`are_zeros`], where it is known how many digits there are: `digits`, of which `count` are the
+/// first.
 #[inline(never)]
 #[tactic(auto, using(crate::proofs::Others::all_digits))]
 pub fn are_zeros_after(bytes: &[u8], digits: usize, count: usize) -> bool

@@ -135,8 +135,8 @@ pub(super) fn read_slice(
     }
 }
 
-/// [`read_slice`] of the digits of a `u128` after those that fit 64 bits, with no value before them:
-/// up to 16 decimal ones are read by words of eight, and the others one by one.
+/// [`read_slice`] of the digits of a `u128` after those that fit 64 bits, with no value before
+/// them: up to 16 decimal ones are read by words of eight, and the others one by one.
 #[inline(always)]
 pub(super) fn read_slice_by_words(
     text: &[u8],
