@@ -1,2 +1,3 @@
+pub mod FirstZeros
 pub mod Before
 pub mod WhatFollows

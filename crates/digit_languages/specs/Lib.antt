@@ -1,3 +1,4 @@
 pub mod Words
 pub mod Literals
 pub mod Follows
+pub mod Zeros

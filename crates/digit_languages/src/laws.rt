@@ -7,6 +7,8 @@ ghost use Rattle.digit_languages.specs.declared.language.Language.{Language};
 ghost use Rattle.digit_languages.specs.Follows.{AreSameBefore, is_literal_byte};
 ghost use Rattle.digit_languages.specs.Literals.{literal_at};
 
+pub mod zeros;
+
 /// What follows makes no difference. Where two texts have the same bytes up to a position, and each
 /// ends there, or goes on with a byte that no literal of the language has, the literal from each
 /// start up to there is the same, or the same fault.

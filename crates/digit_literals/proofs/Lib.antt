@@ -26,6 +26,9 @@ pub mod Fresh
 pub mod MoreFlags
 pub mod WhatFollows
 pub mod Passing
+pub mod EachByte
+pub mod PassedAll
+pub mod ListEnds
 pub mod Lists
 pub mod Counts
 pub mod Written

@@ -13,5 +13,7 @@ pub mod Errors
 pub mod Numbers
 pub mod Bytes
 pub mod Lists
+pub mod Gaps
+pub mod ListEnds
 pub mod Exactly
 pub mod Written

@@ -16,8 +16,10 @@ ghost use Rattle.digit_literals.specs.Integers.{integer_at, IsIntegerFrom, HasNo
 ghost use Rattle.digit_literals.specs.Outcomes.{ReadsAll, FindsNone, PassesMost};
 ghost use Rattle.digit_literals.specs.declared.LiteralError.TheVariants.{Empty, Overflow};
 
+pub mod bytes;
 pub mod flags;
 pub mod follows;
+pub mod gaps;
 pub mod lists;
 pub mod written;
 

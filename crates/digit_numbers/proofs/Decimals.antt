@@ -72,7 +72,7 @@ module _ (l : Language) (text : List ℕ) (at : ℕ)
     of_read (Err (Empty e)) h = absurd (grind (arith, h))
     of_read (Err (Overflow e)) h = absurd (grind (arith, h))
 
-    literal_is : integer_at (rule_of read.word Integer) text at most ≡ Ok (read.value, read.end)
+    pub literal_is : integer_at (rule_of read.word Integer) text at most ≡ Ok (read.value, read.end)
     literal_is =
         let o = of_read _ is in
         let here : digits_at l text at ≡ at = rw none refl in

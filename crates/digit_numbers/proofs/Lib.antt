@@ -1,7 +1,9 @@
 pub mod Alone
+pub mod AsDecimal
 pub mod Decimals
 pub mod Digits
 pub mod Few
+pub mod Formats
 pub mod Json
 mod JsonFloats
 pub mod JsonBytes

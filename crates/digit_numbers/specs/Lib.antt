@@ -1,3 +1,4 @@
+pub mod Alike
 pub mod Bytes
 pub mod Decimals
 pub mod Follows
@@ -7,4 +8,6 @@ pub mod Numbered
 pub mod Numbers
 pub mod Reads
 pub mod Specials
+pub mod Tables
+pub mod Texts
 pub mod Values

@@ -13,7 +13,11 @@ ghost use Rattle.digit_numbers.specs.Json.{IsDelimited, IsJsonInteger, IsJsonNum
 ghost use Rattle.digit_numbers.specs.Json.{past_minus};
 ghost use Rattle.digit_numbers.specs.Numbers.{number_of_at, to_end};
 
+pub mod alike;
 pub mod follows;
+pub mod lists;
+pub mod names;
+pub mod texts;
 
 use super::forms::JSON;
 use super::number::{Number, NumberError};

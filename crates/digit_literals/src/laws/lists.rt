@@ -1,10 +1,13 @@
-//! That a list may be read in pieces.
+//! That a list may be read in pieces, and what its end says.
 
-ghost use Rattle.std.specs.Prelude.{◌≡◌, ℕ, ◌+◌};
+ghost use Rattle.std.specs.Prelude.{◌≡◌, ℕ, ◌+◌, List, length};
 ghost use Rattle.lexical_digits.specs.declared.skip.component.Component.TheVariants.{Integer};
 ghost use Rattle.lexical_digits.specs.State.{rule_of};
 ghost use Rattle.digit_literals.specs.Errors.{literal_position};
-ghost use Rattle.digit_literals.specs.Lists.{list_at, and_then};
+ghost use Rattle.digit_literals.specs.ListEnds.{EndSays};
+ghost use Rattle.digit_literals.specs.Lists.{list_at, and_then, Fills};
+ghost use Rattle.digit_literals.specs.declared.LiteralError.{LiteralError};
+ghost use Rattle.digit_literals.specs.declared.list.ListRead.{ListRead};
 ghost use Rattle.digit_literals.specs.Numbers.{number_at};
 
 use crate::{Gap, Integer};
@@ -16,4 +19,16 @@ pub fn a_list_goes_on<T: Integer>(text: &[u8], word: u128, gap: Gap)
         let of = list_at (number_at T.MIN_MAGNITUDE T.MAX r text.now) literal_position gap
         text.now in
         of (n + m) start ≡ and_then (of n start) (of m) }
+{}
+
+/// What the end of a list says (`EndSays`): with [`Full`](crate::ListEnd::Full) each place of the
+/// slice was written. With [`Over`](crate::ListEnd::Over) no blank is at its position; and unless a
+/// separator may be last, no separator is there either, and a number was read.
+pub fn list_ends_say<T: Integer>(text: &[u8], word: u128, gap: Gap)
+    ensures { (start : ℕ) (read : ListRead LiteralError) (old new : List T) →
+        let r = rule_of word Integer in
+        let of = list_at (number_at T.MIN_MAGNITUDE T.MAX r text.now) literal_position gap
+        text.now in
+        Fills T.number (of (length old) start) read old new →
+        EndSays gap text.now (length old) read }
 {}

@@ -1,0 +1,10 @@
+use Rattle.digit_literals.proofs.Lists.{goes_on}
+use Rattle.digit_floats.specs.Errors.{position}
+use Rattle.digit_floats.specs.Float.{plain_marks, read_at}
+use Rattle.digit_floats.proofs.laws.lists.a_float_list_goes_on.Goals as goal
+
+pub returns : goal.returns
+returns g c =
+    let f = g.F.Float in
+    goes_on {V = g.row.F.Denot} f.value
+    (read_at c.args.word c.args.text.now plain_marks f.format) position c.args.gap c.args.text.now
