@@ -1,0 +1,148 @@
+-- The list of a text whose first bytes are gone is that of the text, with positions later.
+use Rattle.std.proofs.Common.{◌≡◌, ℕ, zero, suc, ◌+◌, ◌<◌, ◌≤◌, Bool, true, false, List, [], length, drop, refl, ap, arith, length-drop}
+use Rattle.std.specs.Prelude.{Result, Ok, Err, IfOk, ◌&&◌, ◌==◌, nat_lt, if◌then◌else◌}
+use Rattle.std.proofs.lemmas.Bool.Decides.{nat_tests}
+use Rattle.digit_literals.specs.declared.list.Gap.{Gap}
+use Rattle.digit_literals.specs.declared.list.ListEnd.{ListEnd}
+use Rattle.digit_literals.specs.declared.list.ListEnd.TheVariants.{Over, Fault}
+use Rattle.digit_literals.specs.Lists.{Numbers, has_separator, past_blanks, next_after, no_number, before, after_number, from_number, list_at}
+use Rattle.digit_pieces.specs.Moves.{outcome_later}
+use Rattle.digit_pieces.specs.Pieces.{end_later, list_later}
+use Rattle.digit_pieces.proofs.Blanks.{blanks_within, blanks_moved, separator_moved, separator_within}
+
+-- ---- tests of positions that are all so much later
+
+eq_moved : (by a b : ℕ) → (by + a == by + b) ≡ (a == b)
+eq_moved by a b = grind (arith, nat_tests)
+
+lt_moved : (by a b : ℕ) → nat_lt (by + a) (by + b) ≡ nat_lt a b
+lt_moved by a b = grind (arith, nat_tests)
+
+-- ---- what is between two numbers
+
+abbrev pub next_later : ℕ → Result ℕ ℕ → Result ℕ ℕ
+next_later by (Ok at) = Ok (by + at)
+next_later by (Err at) = Err (by + at)
+
+next_of_tests : ℕ → Bool → Bool → Result ℕ ℕ
+next_of_tests at separator blanks =
+    if separator then Ok (at + 1) else if blanks then Ok at else Err at
+
+next_of_later : (by at : ℕ) (separator blanks : Bool)
+    → next_of_tests (by + at) separator blanks ≡ next_later by (next_of_tests at separator blanks)
+unfolding next_of_tests
+next_of_later by at true blanks = ap Ok (omega arith)
+next_of_later by at false true = refl
+next_of_later by at false false = refl
+
+module _ (gap : Gap) (text : List ℕ) (from : ℕ) where
+  pub next_moved : (end : ℕ)
+      → next_after gap text (from + end) ≡ next_later from (next_after gap (drop from text) end)
+  unfolding next_of_tests
+  next_moved end =
+      rw (
+        blanks_moved gap text from end,
+        separator_moved gap text from (past_blanks gap (drop from text) end),
+        lt_moved from end (past_blanks gap (drop from text) end),
+      )
+      (next_of_later from (past_blanks gap (drop from text) end)
+      (has_separator gap (drop from text) (past_blanks gap (drop from text) end))
+      (gap.blanks_separate && nat_lt end (past_blanks gap (drop from text) end)))
+
+-- the next number is within the text
+pub next_within : (gap : Gap) (text : List ℕ) (end : ℕ) → end ≤ length text
+    → IfOk (next_after gap text end) (λ next. next ≤ length text)
+next_within gap text end h =
+    by (has_separator gap text at) (gap.blanks_separate && nat_lt end at)
+    (separator_within gap text at) (blanks_within gap text end h)
+  where
+    at : ℕ
+    at = past_blanks gap text end
+
+    by : (separator blanks : Bool) → (separator ≡ true → at < length text) → at ≤ length text
+        → IfOk (if separator then Ok (at + 1) else if blanks then Ok at else Err at)
+        (λ next. next ≤ length text)
+    by true blanks there low = let l = there refl in omega arith
+    by false true there low = low
+    by false false there low = tt
+
+-- ---- a list
+
+module _ {A E : Type 0} (one : List ℕ → ℕ → Result (A × ℕ) E) (position : E → ℕ)
+    (later : ℕ → E → E) (gap : Gap) (text : List ℕ) (from : ℕ) (within : from ≤ length text)
+    (later_at : (by : ℕ) (e : E) → position (later by e) ≡ by + position e)
+    (moves : (at : ℕ) → from + at ≤ length text
+    → one text (from + at) ≡ outcome_later later from (one (drop from text) at))
+    (ends : (start end : ℕ) (x : A) → start ≤ length (drop from text)
+    → one (drop from text) start ≡ Ok (x, end) → end ≤ length (drop from text)) where
+  abbrev rest : List ℕ
+  rest = drop from text
+
+  abbrev of_text : ℕ → ℕ → Numbers A E
+  of_text room at = list_at (one text) position gap text room at
+
+  abbrev of_rest : ℕ → ℕ → Numbers A E
+  of_rest room at = list_at (one rest) position gap rest room at
+
+  in_text : (at : ℕ) → at ≤ length rest → from + at ≤ length text
+  in_text at h = omega (arith, length-drop from text)
+
+  before_later : (x : A) (others : Numbers A E)
+      → before x (list_later later from others) ≡ list_later later from (before x others)
+  before_later x (others, end) = refl
+
+  no_number_of : ℕ → Bool → E → ListEnd E
+  no_number_of place is_over error = if is_over then Over place else Fault error
+
+  no_number_later : (place : ℕ) (is_over : Bool) (error : E)
+      → no_number_of (from + place) is_over (later from error)
+      ≡ end_later later from (no_number_of place is_over error)
+  unfolding no_number_of
+  no_number_later place true error = refl
+  no_number_later place false error = refl
+
+  no_number_moved : (place : ℕ) (error : E)
+      → no_number gap (from + place) (position (later from error)) (later from error)
+      ≡ end_later later from (no_number gap place (position error) error)
+  unfolding no_number_of
+  no_number_moved place error =
+      rw (later_at from error, eq_moved from (position error) place)
+      (no_number_later place (gap.may_trail && position error == place) error)
+
+  pub list_moved : (room at : ℕ) → at ≤ length rest
+      → of_text room (from + at) ≡ list_later later from (of_rest room at)
+  unfolding list_at
+  list_moved zero at h = refl
+  list_moved (suc room) at h =
+      rw (blanks_moved gap text from at, moves place (in_text place low))
+      (from_both (λ next. list_moved room next) (one rest place) refl)
+    where
+      place : ℕ
+      place = past_blanks gap rest at
+
+      low : place ≤ length rest
+      low = blanks_within gap rest at h
+
+      after_both : ((next : ℕ) → next ≤ length rest
+          → of_text room (from + next) ≡ list_later later from (of_rest room next))
+          → (x : A) (next : Result ℕ ℕ) → IfOk next (λ n. n ≤ length rest)
+          → after_number (one text) position gap text (of_text room) x (next_later from next)
+          ≡ list_later later from (after_number (one rest) position gap rest (of_rest room) x next)
+      after_both same x (Ok next) here =
+          rw (same next here) (before_later x (of_rest room next))
+      after_both same x (Err over) here = refl
+
+      from_both : ((next : ℕ) → next ≤ length rest
+          → of_text room (from + next) ≡ list_later later from (of_rest room next))
+          → (read : Result (A × ℕ) E) → one rest place ≡ read
+          → from_number (one text) position gap text (of_text room) (from + place)
+          (outcome_later later from read)
+          ≡ list_later later from
+          (from_number (one rest) position gap rest (of_rest room) place read)
+      from_both same (Ok (x, end)) is =
+          let here = ends place end x low is in
+          rw (next_moved gap text from end)
+          (after_both same x (next_after gap rest end) (next_within gap rest end here))
+      from_both same (Err error) is =
+          let none : List A = [] in
+          ap (λ (e : ListEnd E). (none, e)) (no_number_moved place error)

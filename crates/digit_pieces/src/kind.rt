@@ -1,0 +1,80 @@
+//! What a kind of numbers is: how one is read from a text, and which bytes it may have.
+
+ghost use Rattle.std.specs.Prelude.{◌≡◌, ℕ, Bool, ◌+◌, ◌^◌, ◌<◌, ◌≤◌, List, length, drop, Result, Ok, Err, IfOk, MatchResult};
+ghost use Rattle.digit_languages.specs.Follows.{AreSameBefore};
+ghost use Rattle.digit_pieces.specs.Moves.{IsFresh, outcome_later};
+
+/// A kind of numbers of a text, such as integers of a type by a format word. It says how a number
+/// is read, and which bytes one may have. Every other byte ends a number, and what follows such a
+/// byte makes no difference, nor does what is before one.
+pub trait Kind: Copy {
+    /// A number.
+    type Number: Copy;
+
+    /// Why there is none.
+    type Error: Copy;
+
+    // What a number stands for.
+    ghost Meaning: { Type 0 };
+
+    ghost meaning: { Self.Number → Meaning };
+
+    // The kinds that a value may be: its word is supported, say.
+    ghost valid: { Self → Type 0 };
+
+    // That is one fact, so that a value can hold it.
+    ghost valid_once: { (k : Self) → IsProp (valid k) };
+
+    // The number at a position of a text, and where it ends, or why there is none.
+    ghost number_at: { Self → List ℕ → ℕ → Result (Meaning × ℕ) Self.Error };
+
+    // Whether a byte may be in a number.
+    ghost has_byte: { Self → ℕ → Bool };
+
+    // The position that an error holds, and the error with its position so much later.
+    ghost error_at: { Self.Error → ℕ };
+
+    ghost error_later: { ℕ → Self.Error → Self.Error };
+
+    /// The number that begins at `start`, and the position after it.
+    fn read_number(self, text: &[u8], start: usize) -> Result<(Self::Number, usize), Self::Error>
+        requires valid { valid self }
+        requires within { start ≤ length text.now }
+        ensures is { let read = number_at self text.now start in
+            MatchResult result (λ number. read ≡ Ok (meaning number.0, number.1))
+            (λ error. read ≡ Err error) }
+        ensures end { IfOk result (λ read. (start ≤ read.1) × (read.1 ≤ length text.now)) };
+
+    /// Whether a byte may be in a number.
+    fn has_byte(self, byte: u8) -> bool
+        ensures { result ≡ has_byte self byte };
+
+    /// The position that an error holds.
+    fn error_at(error: Self::Error) -> usize
+        ensures { result ≡ error_at error };
+
+    /// The error with its position so much later.
+    fn error_later(error: Self::Error, by: usize) -> Self::Error
+        requires { by + error_at error < 2 ^ 64 }
+        ensures { result ≡ error_later by error };
+
+    // What follows a byte that no number has makes no difference.
+    ghost follows: { (k : Self) (one other : List ℕ) (at start : ℕ) → valid k
+        → AreSameBefore (has_byte k) one other at → start ≤ at
+        → number_at k one start ≡ number_at k other start };
+
+    // Nor does what is before one.
+    ghost precedes: { (k : Self) (text : List ℕ) (from at : ℕ) → valid k
+        → from + at ≤ length text → IsFresh (has_byte k) text from
+        → number_at k text (from + at)
+        ≡ outcome_later error_later from (number_at k (drop from text) at) };
+
+    // A number ends within the text.
+    ghost ends: { (k : Self) (text : List ℕ) (start end : ℕ) (x : Meaning) → valid k
+        → start ≤ length text → number_at k text start ≡ Ok (x, end) → end ≤ length text };
+
+    ghost later_at: { (by : ℕ) (e : Self.Error) → error_at (error_later by e) ≡ by + error_at e };
+
+    ghost later_more: { (by more : ℕ) (e : Self.Error) → error_later by (error_later more e)
+        ≡ error_later (by + more) e };
+}

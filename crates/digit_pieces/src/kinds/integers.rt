@@ -1,0 +1,102 @@
+//! Integers of a type, by a format word.
+
+ghost use Rattle.std.specs.Prelude.{◌≡◌};
+
+use super::bytes::{is_of_component, is_sign};
+use crate::kind::Kind;
+use digit_literals::{Integer, LiteralError, read_number_from};
+use lexical_digits::skip::Component;
+use std::marker::PhantomData;
+
+/// The integers of a type by a format word, as
+/// [`read_number_from`](digit_literals::read_number_from) reads them.
+#[derive(Clone, Copy)]
+pub struct Integers<T: Integer> {
+    /// The format word.
+    pub word: u128,
+    of: PhantomData<T>,
+}
+
+impl<T: Integer> Integers<T> {
+    /// The integers of a type by a word.
+    #[inline(always)]
+    pub const fn new(word: u128) -> Integers<T>
+        ensures { result.word ≡ word }
+    {
+        Integers {
+            word,
+            of: PhantomData,
+        }
+    }
+}
+
+impl<T: Integer> Kind for Integers<T> {
+    ghost use Rattle.std.proofs.Props.{props};
+    ghost use Rattle.std.specs.Prelude.{◌≡◌, ◌+◌, ◌<◌, ℤ, IsTrue};
+    ghost use Rattle.lexical_format.specs.Word.{is_supported};
+    ghost use Rattle.lexical_digits.specs.State.{rule_of};
+    ghost use Rattle.lexical_digits.specs.declared.skip.component.Component.TheVariants as components;
+    ghost use Rattle.digit_literals.specs.Errors.{literal_position};
+    ghost use Rattle.digit_literals.specs.Numbers as numbers;
+    ghost use Rattle.digit_pieces.specs.Cuts.{is_integer_byte};
+    ghost use Rattle.digit_pieces.specs.Moves.{literal_later};
+    ghost use Rattle.digit_pieces.specs.Laws.OfKinds as laws;
+
+    type Number = T;
+
+    type Error = LiteralError;
+
+    ghost Meaning = { ℤ };
+
+    ghost meaning = { T.number };
+
+    ghost valid = { λ k. IsTrue (is_supported k.word) };
+
+    ghost valid_once = { λ k. Prim.hlevel props };
+
+    ghost number_at = { λ k text start.
+        numbers.number_at T.MIN_MAGNITUDE T.MAX (rule_of k.word components.Integer) text start };
+
+    ghost has_byte = { λ k byte. is_integer_byte T.MIN_MAGNITUDE k.word byte };
+
+    ghost error_at = { literal_position };
+
+    ghost error_later = { literal_later };
+
+    #[inline(always)]
+    fn read_number(self, text: &[u8], start: usize) -> Result<(T, usize), LiteralError> {
+        read_number_from::<T>(text, self.word, start)
+    }
+
+    fn has_byte(self, byte: u8) -> bool {
+        is_of_component(self.word, Component::Integer, byte)
+            || (T::MIN_MAGNITUDE > 0 && is_sign(byte))
+    }
+
+    #[inline(always)]
+    fn error_at(error: LiteralError) -> usize {
+        error.position()
+    }
+
+    #[inline(always)]
+    fn error_later(error: LiteralError, by: usize) -> LiteralError {
+        match error {
+            LiteralError::Empty(at) => LiteralError::Empty(by + at),
+            LiteralError::Overflow(at) => LiteralError::Overflow(by + at),
+        }
+    }
+
+    ghost follows = { λ k one other at start valid upto from.
+        laws.integer_follows T.MIN_MAGNITUDE T.MAX k.word one other at start upto from };
+
+    ghost precedes = { λ k text from at valid within fresh.
+        laws.integer_precedes T.MIN_MAGNITUDE T.MAX k.word text from at within fresh };
+
+    ghost ends = { λ k text start end x valid within is.
+        let r = rule_of k.word components.Integer in
+        laws.integer_ends T.MIN_MAGNITUDE T.MAX r text start end x within is };
+
+    ghost later_at = { laws.literal_later_at };
+
+    ghost later_more = { laws.literal_later_more };
+}

@@ -1,0 +1,20 @@
+//! Numbers of a text that comes in pieces: up to where its outcomes are sure, and lists that are
+//! read piece by piece.
+#![tactic(auto)]
+
+mod kind;
+mod kinds;
+pub mod laws;
+mod lists;
+mod piece;
+mod sure;
+#[cfg(test)]
+mod tests;
+
+pub use self::kind::Kind;
+pub use self::kinds::{Both, BothError, Floats, Integers, OfForm, Scaled};
+pub use self::lists::{
+    read_float_list_piece, read_list_piece, read_list_piece_of, read_scaled_list_piece,
+};
+pub use self::piece::{PieceEnd, PieceRead, read_piece};
+pub use self::sure::sure_end;
