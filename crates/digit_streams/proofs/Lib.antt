@@ -1,0 +1,7 @@
+pub mod Calls
+pub mod Known
+pub mod PiecesHeld
+pub mod Single
+pub mod Stuck
+pub mod SureHere
+pub mod Turns

@@ -1,0 +1,18 @@
+use Rattle.digit_streams.proofs.Calls as lemmas
+use Rattle.digit_streams.proofs.laws.calls_go_on.Goals as goal
+
+pub returns : goal.returns
+returns g c =
+    let k = g.K.Kind in
+    let m = g.met.K.Kind in
+    let kind = c.args.kind in
+    λ n m' position text apart.
+    lemmas.calls_go_on (k.number_at kind) k.error_at k.error_later (k.has_byte kind) c.args.gap
+    (record {
+      follows = λ text other at start upto from.
+          m.follows kind text other at start c.requires upto from;
+      precedes = λ text from at within fresh.
+          m.precedes kind text from at c.requires within fresh;
+      ends = λ text start end x within is. m.ends kind text start end x c.requires within is;
+      later_at = m.later_at;
+    }) apart text m.later_more position m' n

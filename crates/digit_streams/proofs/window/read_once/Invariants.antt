@@ -1,0 +1,8 @@
+-- The buffer keeps its length, and the reader its bytes.
+use Rattle.std.proofs.Common.{◌≡◌, length}
+use Rattle.std.specs.Io.KnownBytes.{Keeps}
+use Rattle.digit_streams.proofs.window.read_once.Given as goal
+
+abbrev pub invariant-loop : goal.invariant-loop
+invariant-loop g l = (length l.buffer ≡ length l.initial.buffer)
+    × Keeps (g.R.Read.remaining l.initial.reader) (g.R.Read.remaining l.reader)

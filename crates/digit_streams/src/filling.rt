@@ -1,0 +1,131 @@
+//! The numbers of a stream, whose bytes come by a window.
+
+ghost use Rattle.std.specs.Prelude.{◌≡◌, true, ◌≤◌, length, map, take, drop, IfOk, IfErr, IfSome, IsSome, ℕ};
+ghost use Rattle.std.specs.Io.KnownBytes.{Keeps, IsAtEnd};
+ghost use Rattle.digit_pieces.specs.Texts.{IsApart};
+ghost use Rattle.digit_streams.specs.Windows.{unread, bytes_left};
+ghost use Rattle.digit_streams.specs.Streams.{Gives, IfNoRoom, IsFailure, NeedsMore, IsPlace, UsesKnown, stream_list, list_of_option};
+
+use super::held::{Held, read_held_after, read_held_one};
+use super::stream::{StreamEnd, StreamError, StreamRead};
+use super::window::Window;
+use digit_literals::Gap;
+use digit_pieces::Kind;
+use std::io::{ErrorKind, Read};
+
+/// Reads once into a window: whether the reader is at its end.
+fn fill<R: Read, E: Copy>(window: &mut Window<'_>, reader: &mut R) -> Result<bool, StreamError<E>>
+    ensures text { Keeps (bytes_left window.old (R.remaining reader.old))
+        (bytes_left window.new (R.remaining reader.new)) }
+    ensures position { window.new.position ≡ window.old.position }
+    ensures last { IfOk result (λ is_last. is_last ≡ true → IsAtEnd (R.remaining reader.new)) }
+    ensures failure { IfErr result (λ error. IsFailure error) }
+    ensures same { IfErr result (λ error. IfNoRoom (StreamEnd.Fault error)
+        (window.new ≡ window.old)) }
+    ensures place { IfErr result (λ error. IsPlace (StreamEnd.Fault error) window.new.position
+        (length window.new.buffer.now) (length (unread window.new))) }
+    ensures capacity { length window.new.buffer.now ≡ length window.old.buffer.now }
+{
+    if window.is_full() {
+        return Err(StreamError::NoRoom(window.position()));
+    }
+    match window.fill(reader) {
+        Ok(count) => Ok(count == 0),
+        Err(kind) => Err(StreamError::Read(kind)),
+    }
+}
+
+/// Reads the numbers of a stream into a slice, until it is full or there are no more. `is_over`
+/// says that the reader is at its end.
+pub fn read_stream<K: Kind, R: Read>(
+    window: &mut Window<'_>,
+    reader: &mut R,
+    is_over: &mut bool,
+    kind: K,
+    gap: Gap,
+    out: &mut [K::Number],
+) -> StreamRead<K::Error>
+    requires valid { K.valid kind }
+    requires over { is_over.old ≡ true → IsAtEnd (R.remaining reader.old) }
+    ensures over { is_over.new ≡ true → IsAtEnd (R.remaining reader.new) }
+    ensures count { result.count ≤ length out.old }
+    ensures rest { drop result.count out.new ≡ drop result.count out.old }
+    ensures uses { UsesKnown window.old.position window.new.position
+        (bytes_left window.old (R.remaining reader.old))
+        (bytes_left window.new (R.remaining reader.new)) }
+    ensures no_room { IfNoRoom result.end
+        (NeedsMore (K.number_at kind) K.error_at (K.has_byte kind) gap (unread window.new)) }
+    ensures place { IsPlace result.end window.new.position (length window.new.buffer.now)
+        (length (unread window.new)) }
+    ensures capacity { length window.new.buffer.now ≡ length window.old.buffer.now }
+    ensures list { IfSome (bytes_left window.old (R.remaining reader.old)) (λ text.
+        IsApart (K.has_byte kind) gap →
+        Gives (stream_list (K.number_at kind) K.error_at K.error_later gap window.old.position text
+        (length out.old)) (map K.meaning (take result.count out.new)) result.end) }
+{
+    let mut count = 0;
+    for _ in 0..u64::MAX {
+        let (more, held) = read_held_after(window, kind, gap, *is_over, out, count);
+        count += more;
+        match held {
+            Held::End(end) => return StreamRead { count, end },
+            Held::More => match fill(window, reader) {
+                Ok(over) => *is_over = over,
+                Err(error) => {
+                    *is_over = false;
+                    return StreamRead {
+                        count,
+                        end: StreamEnd::Fault(error),
+                    };
+                }
+            },
+        }
+    }
+    StreamRead {
+        count,
+        end: StreamEnd::Fault(StreamError::Read(ErrorKind::TimedOut)),
+    }
+}
+
+/// Reads the next number of a stream, if there is one, and why there are no more. `is_over` says
+/// that the reader is at its end.
+pub fn read_next<K: Kind, R: Read>(
+    window: &mut Window<'_>,
+    reader: &mut R,
+    is_over: &mut bool,
+    kind: K,
+    gap: Gap,
+) -> (Option<K::Number>, StreamEnd<K::Error>)
+    requires valid { K.valid kind }
+    requires over { is_over.old ≡ true → IsAtEnd (R.remaining reader.old) }
+    ensures over { is_over.new ≡ true → IsAtEnd (R.remaining reader.new) }
+    ensures uses { UsesKnown window.old.position window.new.position
+        (bytes_left window.old (R.remaining reader.old))
+        (bytes_left window.new (R.remaining reader.new)) }
+    ensures no_room { IfNoRoom result.1
+        (NeedsMore (K.number_at kind) K.error_at (K.has_byte kind) gap (unread window.new)) }
+    ensures place { IsPlace result.1 window.new.position (length window.new.buffer.now)
+        (length (unread window.new)) }
+    ensures capacity { length window.new.buffer.now ≡ length window.old.buffer.now }
+    ensures full { (at : ℕ) → result.1 ≡ StreamEnd.Full at → IsSome result.0 }
+    ensures list { IfSome (bytes_left window.old (R.remaining reader.old)) (λ text.
+        IsApart (K.has_byte kind) gap →
+        Gives (stream_list (K.number_at kind) K.error_at K.error_later gap window.old.position text
+        1) (list_of_option K.meaning result.0) result.1) }
+{
+    for _ in 0..u64::MAX {
+        let (number, held) = read_held_one(window, kind, gap, *is_over);
+        match held {
+            Held::End(end) => return (number, end),
+            Held::More => match fill(window, reader) {
+                Ok(over) => *is_over = over,
+                Err(error) => {
+                    *is_over = false;
+                    return (None, StreamEnd::Fault(error));
+                }
+            },
+        }
+    }
+    let error = StreamError::Read(ErrorKind::TimedOut);
+    (None, StreamEnd::Fault(error))
+}

@@ -1,0 +1,16 @@
+//! Numbers of a reader.
+#![tactic(auto)]
+
+mod filling;
+mod format;
+mod held;
+pub mod laws;
+mod one;
+mod reader;
+mod stream;
+#[cfg(test)]
+mod tests;
+mod window;
+
+pub use self::reader::NumberReader;
+pub use self::stream::{StreamEnd, StreamError, StreamRead};

@@ -1,0 +1,202 @@
+//! A reader of numbers.
+
+use super::filling::{read_next, read_stream};
+use super::format::Format;
+use super::stream::{Ended, StreamEnd, StreamError, StreamRead, ended_by};
+use super::window::Window;
+use digit_literals::Gap;
+use digit_pieces::Kind;
+use std::io::Read;
+use std::marker::Model;
+
+/// Reads the numbers of a stream of any length, of one kind, with what a gap says between two of
+/// them. Its bytes come from a reader, through a buffer that is lent. Takes no memory. Give it
+/// `&mut reader` to read on from the reader later: it has given the bytes before the position and
+/// those of [`unread`](NumberReader::unread).
+///
+/// The numbers are those of the whole stream, however the reader cuts it into pieces. The premise
+/// is that no byte that may be between two numbers may be in one.
+///
+/// A number has to fit the buffer, with the blanks after it and the byte that ends them; at the end
+/// of the stream too, one byte more than the number. Otherwise there is
+/// [`NoRoom`](StreamError::NoRoom).
+#[derive(Drop)]
+pub struct NumberReader<'b, K: Kind, R: Read> {
+    format: Format<K>,
+    reader: R,
+    window: Window<'b>,
+    is_over: bool,
+    ended: Option<Ended<K::Error>>,
+}
+
+impl<'b, K: Kind, R: Read> Model for NumberReader<'b, K, R> {
+    ghost use Rattle.std.specs.Prelude.{◌≡◌, true, length};
+    ghost use Rattle.std.specs.Io.KnownBytes.{IsAtEnd};
+    ghost use Rattle.digit_streams.specs.Windows.{unread, bytes_left};
+    ghost use Rattle.digit_streams.specs.Streams.{Stream};
+
+    ghost Value = { Stream K K.Error };
+
+    ghost view = { λ r. record {
+      kind = r.format.kind;
+      gap = r.format.gap;
+      position = r.window.position;
+      held = unread r.window;
+      bytes = bytes_left r.window (R.remaining r.reader);
+      capacity = length r.window.buffer.now;
+      ended = r.ended;
+    } };
+
+    ghost invariant = { λ r. r.is_over ≡ true → IsAtEnd (R.remaining r.reader) };
+}
+
+impl<'b, K: Kind, R: Read> NumberReader<'b, K, R> {
+    ghost use Rattle.std.specs.Prelude.{◌≡◌, ◌≤◌, length, map, take, drop, None, IfSome, IfNone, IsSome, ℕ};
+    ghost use Rattle.digit_pieces.specs.Texts.{IsApart};
+    ghost use Rattle.digit_streams.specs.Streams.{Gives, IfNoRoom, IfNoRoomOfNext, IsNext, IsPlace, IsPlaceOfNext, NeedsMore, UsesKnown, numbers_of, ended_by, EndsSo, next_again, end_again, list_of_option};
+
+    /// A reader of the numbers of a stream. Requires that the kind is valid.
+    pub fn new(reader: R, buffer: &'b mut [u8], kind: K, gap: Gap) -> NumberReader<'b, K, R>
+        requires { K.valid kind }
+        ensures kind { result.kind ≡ kind }
+        ensures gap { result.gap ≡ gap }
+        ensures position { result.position ≡ 0 }
+        ensures capacity { result.capacity ≡ length buffer.old }
+        ensures bytes { result.bytes ≡ R.remaining reader }
+        ensures ended { result.ended ≡ None }
+    {
+        NumberReader {
+            format: Format { kind, gap },
+            reader,
+            window: Window::new(buffer),
+            is_over: false,
+            ended: None,
+        }
+    }
+
+    /// The position in the stream of the first byte that was not used yet: after the numbers that
+    /// were read, and after the separator and the blanks that follow them.
+    pub fn position(&self) -> u64
+        ensures { result ≡ self.now.position }
+    {
+        self.window.position()
+    }
+
+    /// The bytes from that position on that the buffer holds. What the reader has left follows
+    /// them.
+    pub fn unread(&self) -> &[u8]
+        ensures { result.now ≡ self.now.held }
+    {
+        self.window.unread()
+    }
+
+    /// Reads numbers into a slice, until it is full, the list is over, or no number is where one
+    /// has to be. The front of the slice has the numbers that were read, its rest isn't touched.
+    ///
+    /// If the list was over, or there was an error, then each later call answers that again.
+    pub fn read_into(&mut self, out: &mut [K::Number]) -> StreamRead<K::Error>
+        ensures list { IfSome self.old.bytes (λ bytes.
+            IsApart (K.has_byte self.old.kind) self.old.gap →
+            let list = numbers_of K.number_at K.error_at K.error_later self.old bytes
+            (length out.old) in
+            Gives list (map K.meaning (take result.count out.new)) result.end) }
+        ensures count { result.count ≤ length out.old }
+        ensures rest { drop result.count out.new ≡ drop result.count out.old }
+        ensures uses { UsesKnown self.old.position self.new.position self.old.bytes
+            self.new.bytes }
+        ensures no_room { IfNone self.old.ended (IfNoRoom result.end
+            (NeedsMore (K.number_at self.old.kind) K.error_at (K.has_byte self.old.kind)
+            self.old.gap self.new.held)) }
+        ensures place { IfNone self.old.ended (IsPlace result.end self.new.position
+            self.new.capacity (length self.new.held)) }
+        ensures ended { IfNone self.old.ended (self.new.ended ≡ ended_by result.end) }
+        ensures again { IfSome self.old.ended (λ end. self.new.ended ≡ self.old.ended) }
+        ensures kind { self.new.kind ≡ self.old.kind }
+        ensures gap { self.new.gap ≡ self.old.gap }
+        ensures capacity { self.new.capacity ≡ self.old.capacity }
+    {
+        if let Some(ended) = self.ended {
+            return StreamRead {
+                count: 0,
+                end: ended.again(),
+            };
+        }
+        let (kind, gap) = (self.format.kind, self.format.gap);
+        let read = read_stream(
+            &mut self.window,
+            &mut self.reader,
+            &mut self.is_over,
+            kind,
+            gap,
+            out,
+        );
+        self.ended = ended_by(read.end);
+        read
+    }
+
+    /// Reads the next number. `None` if the list is over.
+    ///
+    /// If the list was over, or there was an error, then each later call answers that again.
+    pub fn next_number(&mut self) -> Option<Result<K::Number, StreamError<K::Error>>>
+        ensures next { IfSome self.old.bytes (λ bytes.
+            IsApart (K.has_byte self.old.kind) self.old.gap →
+            IsNext K.meaning (numbers_of K.number_at K.error_at K.error_later self.old bytes 1)
+            result) }
+        ensures uses { UsesKnown self.old.position self.new.position self.old.bytes
+            self.new.bytes }
+        ensures no_room { IfNone self.old.ended (IfNoRoomOfNext result
+            (NeedsMore (K.number_at self.old.kind) K.error_at (K.has_byte self.old.kind)
+            self.old.gap self.new.held)) }
+        ensures place { IfNone self.old.ended (IsPlaceOfNext result self.new.position
+            self.new.capacity (length self.new.held)) }
+        ensures ended { EndsSo result self.new.ended }
+        ensures again { IfSome self.old.ended (λ ended. result ≡ next_again ended) }
+        ensures kind { self.new.kind ≡ self.old.kind }
+        ensures gap { self.new.gap ≡ self.old.gap }
+        ensures capacity { self.new.capacity ≡ self.old.capacity }
+    {
+        let (number, end) = self.read_one();
+        match number {
+            Some(number) => Some(Ok(number)),
+            None => match end {
+                StreamEnd::Fault(error) => Some(Err(error)),
+                StreamEnd::Full(_) | StreamEnd::Over(_) => None,
+            },
+        }
+    }
+
+    /// Reads the next number, if there is one, and why there are no more.
+    fn read_one(&mut self) -> (Option<K::Number>, StreamEnd<K::Error>)
+        ensures list { IfSome self.old.bytes (λ bytes.
+            IsApart (K.has_byte self.old.kind) self.old.gap →
+            let list = numbers_of K.number_at K.error_at K.error_later self.old bytes 1 in
+            Gives list (list_of_option K.meaning result.0) result.1) }
+        ensures uses { UsesKnown self.old.position self.new.position self.old.bytes
+            self.new.bytes }
+        ensures no_room { IfNone self.old.ended (IfNoRoom result.1
+            (NeedsMore (K.number_at self.old.kind) K.error_at (K.has_byte self.old.kind)
+            self.old.gap self.new.held)) }
+        ensures place { IfNone self.old.ended (IsPlace result.1 self.new.position
+            self.new.capacity (length self.new.held)) }
+        ensures full { (at : ℕ) → result.1 ≡ StreamEnd.Full at → IsSome result.0 }
+        ensures ended { self.new.ended ≡ ended_by result.1 }
+        ensures again { IfSome self.old.ended (λ ended. result ≡ (None, end_again ended)) }
+        ensures kind { self.new.kind ≡ self.old.kind }
+        ensures gap { self.new.gap ≡ self.old.gap }
+        ensures capacity { self.new.capacity ≡ self.old.capacity }
+    {
+        if let Some(ended) = self.ended {
+            return (None, ended.again());
+        }
+        let (kind, gap) = (self.format.kind, self.format.gap);
+        let read = read_next(
+            &mut self.window,
+            &mut self.reader,
+            &mut self.is_over,
+            kind,
+            gap,
+        );
+        self.ended = ended_by(read.1);
+        read
+    }
+}

@@ -1,0 +1,86 @@
+//! Why a reader of numbers gives no more.
+
+ghost use Rattle.std.specs.Prelude.{◌≡◌};
+ghost use Rattle.digit_streams.specs.Streams.{ended_by, end_again};
+
+use std::error::Error;
+use std::fmt;
+use std::io::ErrorKind;
+
+/// Why there is no number.
+#[derive(Clone, Copy, Debug, PartialEq, Eq)]
+pub enum StreamError<E> {
+    /// Where a number has to be is none. The error's position counts bytes of the stream.
+    Number(E),
+    /// A number that may begin at this position does not fit the buffer, with the blanks after it
+    /// and the byte that ends them.
+    NoRoom(u64),
+    /// The reader failed so.
+    Read(ErrorKind),
+    /// A position is above `u64::MAX`.
+    TooLong,
+}
+
+impl<E: fmt::Display> fmt::Display for StreamError<E> {
+    fn fmt<W: fmt::Write>(&self, f: &mut fmt::Formatter<W>) -> fmt::Result {
+        match self {
+            StreamError::Number(error) => write!(f, "{error}"),
+            StreamError::NoRoom(at) => write!(f, "the buffer has no room for the number at {at}"),
+            StreamError::Read(kind) => write!(f, "the reader failed: {kind}"),
+            StreamError::TooLong => write!(f, "a position is above {}", u64::MAX),
+        }
+    }
+}
+
+impl<E: Error> Error for StreamError<E> {}
+
+/// Why numbers of a stream were read no further. Positions count bytes of the stream from 0.
+#[derive(Clone, Copy, Debug, PartialEq, Eq)]
+pub enum StreamEnd<E> {
+    /// The slice is full. The next number may begin at this position, which is after a separator.
+    Full(u64),
+    /// The list is over. No separator is at this position, past the blanks after the last number;
+    /// or no number begins there.
+    Over(u64),
+    /// There is no number, for this reason.
+    Fault(StreamError<E>),
+}
+
+/// What was read of a stream.
+#[derive(Clone, Copy, Debug, PartialEq, Eq)]
+pub struct StreamRead<E> {
+    /// How many numbers were written into the slice.
+    pub count: usize,
+    /// Why there are no more.
+    pub end: StreamEnd<E>,
+}
+
+/// An end after which nothing else is answered.
+#[derive(Clone, Copy, Debug, PartialEq, Eq)]
+pub enum Ended<E> {
+    Over(u64),
+    Fault(StreamError<E>),
+}
+
+impl<E: Copy> Ended<E> {
+    /// The end that is answered again.
+    pub fn again(self) -> StreamEnd<E>
+        ensures { result ≡ end_again self }
+    {
+        match self {
+            Ended::Over(at) => StreamEnd::Over(at),
+            Ended::Fault(error) => StreamEnd::Fault(error),
+        }
+    }
+}
+
+/// The end that is answered from then on.
+pub fn ended_by<E: Copy>(end: StreamEnd<E>) -> Option<Ended<E>>
+    ensures { result ≡ ended_by end }
+{
+    match end {
+        StreamEnd::Full(_) => None,
+        StreamEnd::Over(at) => Some(Ended::Over(at)),
+        StreamEnd::Fault(error) => Some(Ended::Fault(error)),
+    }
+}

@@ -1,0 +1,14 @@
+//! A reader of numbers, over streams that come in any pieces.
+//!
+//! What is tried, and where:
+//!
+//! - each text in pieces of 1 to 9 bytes, through buffers of 16 and 64 bytes, with an interrupted
+//!   read before each piece, into slices of 1 to 4 places and number by number: `rows`
+//! - a reader that fails in mid-stream, and what was read before; a number as long as the buffer,
+//!   and one that is longer; what is answered again: `ends`
+//! - a caller: `uses`
+
+mod ends;
+mod readers;
+mod rows;
+mod uses;
