@@ -1,0 +1,4 @@
+mod AtEnd
+mod FormEnd
+mod Grouping
+mod Holding

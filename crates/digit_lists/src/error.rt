@@ -1,0 +1,119 @@
+//! What the errors of the kinds of numbers say.
+
+ghost use Rattle.std.specs.Prelude.{◌≡◌};
+
+use super::prices::PriceError;
+use digit_floats::{FloatError, ScaledError};
+use digit_literals::LiteralError;
+use digit_numbers::NumberError;
+
+/// Why there is no number. The errors of all kinds of numbers here are of this trait.
+pub trait NoNumber: Copy {
+    ghost use Rattle.std.specs.Prelude.{◌≡◌, ℕ, Bool};
+
+    ghost fault_at: { Self → ℕ };
+
+    ghost is_empty: { Self → Bool };
+
+    /// The position that the error holds.
+    fn fault_at(self) -> usize
+        ensures { result ≡ fault_at self };
+
+    /// Whether it says that there is no digit, or by a form no number.
+    fn is_empty(self) -> bool
+        ensures { result ≡ is_empty self };
+}
+
+impl NoNumber for LiteralError {
+    ghost use Rattle.digit_literals.specs.Errors.{literal_position};
+    ghost use Rattle.digit_lists.specs.Empty.{literal_is_empty};
+
+    ghost fault_at = { literal_position };
+
+    ghost is_empty = { literal_is_empty };
+
+    #[inline(always)]
+    fn fault_at(self) -> usize {
+        self.position()
+    }
+
+    #[inline(always)]
+    fn is_empty(self) -> bool {
+        matches!(self, LiteralError::Empty(_))
+    }
+}
+
+impl NoNumber for FloatError {
+    ghost use Rattle.digit_floats.specs.Errors.{position};
+    ghost use Rattle.digit_lists.specs.Empty.{float_is_empty};
+
+    ghost fault_at = { position };
+
+    ghost is_empty = { float_is_empty };
+
+    #[inline(always)]
+    fn fault_at(self) -> usize {
+        self.position()
+    }
+
+    #[inline(always)]
+    fn is_empty(self) -> bool {
+        matches!(self, FloatError::Empty(_))
+    }
+}
+
+impl NoNumber for ScaledError {
+    ghost use Rattle.digit_floats.specs.Scaled.{position};
+    ghost use Rattle.digit_lists.specs.Empty.{scaled_is_empty};
+
+    ghost fault_at = { position };
+
+    ghost is_empty = { scaled_is_empty };
+
+    #[inline(always)]
+    fn fault_at(self) -> usize {
+        self.position()
+    }
+
+    #[inline(always)]
+    fn is_empty(self) -> bool {
+        matches!(self, ScaledError::Empty(_))
+    }
+}
+
+impl NoNumber for NumberError {
+    ghost use Rattle.digit_numbers.specs.Values.{position};
+    ghost use Rattle.digit_lists.specs.Empty.{number_is_empty};
+
+    ghost fault_at = { position };
+
+    ghost is_empty = { number_is_empty };
+
+    #[inline(always)]
+    fn fault_at(self) -> usize {
+        self.position()
+    }
+
+    #[inline(always)]
+    fn is_empty(self) -> bool {
+        matches!(self, NumberError::Empty(_))
+    }
+}
+
+impl NoNumber for PriceError {
+    ghost use Rattle.digit_lists.specs.Prices.{price_is_empty, price_position};
+
+    ghost fault_at = { price_position };
+
+    ghost is_empty = { price_is_empty };
+
+    #[inline(always)]
+    fn fault_at(self) -> usize {
+        self.position()
+    }
+
+    #[inline(always)]
+    fn is_empty(self) -> bool {
+        matches!(self, PriceError::Number(ScaledError::Empty(_)))
+    }
+}

@@ -1,0 +1,53 @@
+//! Laws of lists: functions that do nothing. Their contracts are the laws.
+
+ghost use Rattle.std.specs.Prelude.{◌≡◌, ℕ, true, false, length, Ok, Err};
+ghost use Rattle.std.specs.Float.{Format};
+ghost use Rattle.lexical_digits.specs.State.{rule_of};
+ghost use Rattle.lexical_digits.specs.declared.skip.component.Component.TheVariants.{Integer};
+ghost use Rattle.digit_literals.specs.Lists.{past_blanks};
+ghost use Rattle.digit_literals.specs.Numbers.{number_at};
+ghost use Rattle.digit_literals.specs.declared.LiteralError.TheVariants as integers;
+ghost use Rattle.digit_floats.specs.Float.{plain_marks, read_at};
+ghost use Rattle.digit_floats.specs.Scaled.{read_scaled_at};
+ghost use Rattle.digit_floats.specs.declared.error.FloatError.TheVariants as floats;
+ghost use Rattle.digit_floats.specs.declared.scaled.ScaledError.TheVariants as scaled;
+ghost use Rattle.digit_numbers.specs.Numbers.{number_of_at};
+ghost use Rattle.digit_numbers.specs.declared.form.Form.{Form};
+ghost use Rattle.digit_numbers.specs.declared.number.NumberError.TheVariants as numbers;
+ghost use Rattle.digit_lists.specs.Lists.{full_list, parsed};
+ghost use Rattle.digit_lists.specs.declared.list.ListError.TheVariants as lists;
+
+use digit_literals::Gap;
+use digit_pieces::Kind;
+
+/// A text of blanks, and so an empty one, is a list of no numbers if the gap may trail. Otherwise
+/// it is none, and the error is that of the number at the end of the text. Requires that this
+/// error holds the position of the end: [`no_number_at_the_end`] says so of each kind.
+#[tactic(auto, using(crate::proofs::AtEnd::blanks))]
+pub fn a_blank_text<K: Kind>(kind: K, text: &[u8], gap: Gap, error: K::Error)
+    requires blank { past_blanks gap text.now 0 ≡ length text.now }
+    requires none { K.number_at kind text.now (length text.now) ≡ Err error }
+    requires there { K.error_at error ≡ length text.now }
+    ensures may_trail { (room : ℕ) → gap.may_trail ≡ true →
+        let list = full_list (K.number_at kind text.now) K.error_at gap text.now room 0 in
+        parsed text.now list ≡ Ok 0 }
+    ensures no_trail { (room : ℕ) → gap.may_trail ≡ false →
+        let list = full_list (K.number_at kind text.now) K.error_at gap text.now room 0 in
+        parsed text.now list ≡ Err (lists.Number error) }
+{}
+
+/// At the end of a text no number begins: the error is that no digit is there, or by a form no
+/// number.
+#[tactic(auto, using(crate::proofs::AtEnd::ends, crate::proofs::FormEnd::number_ends))]
+pub fn no_number_at_the_end(text: &[u8], word: u128)
+    ensures integer { (least most : ℕ) →
+        number_at least most (rule_of word Integer) text.now (length text.now)
+        ≡ Err (integers.Empty (length text.now)) }
+    ensures float { (f : Format) → read_at word text.now plain_marks f (length text.now)
+        ≡ Err (floats.Empty (length text.now)) }
+    ensures scaled { (point places least most : ℕ) →
+        read_scaled_at word text.now point places least most (length text.now)
+        ≡ Err (scaled.Empty (length text.now)) }
+    ensures number { (form : Form) (f : Format) → number_of_at form text.now (length text.now) f
+        ≡ Err (numbers.Empty (length text.now)) }
+{}

@@ -1,0 +1,22 @@
+//! Lists that are a whole text or stand between two bytes, numbers that may be missing, and decimal
+//! numbers with so many places and with groups of three digits.
+#![tactic(auto)]
+
+mod enclosed;
+mod error;
+mod groups;
+mod kind;
+pub mod laws;
+mod list;
+mod optional;
+mod prices;
+#[cfg(test)]
+mod tests;
+
+pub use self::enclosed::{EnclosedError, read_enclosed};
+pub use self::error::NoNumber;
+pub use self::groups::wrong_group;
+pub use self::kind::Prices;
+pub use self::list::{ListError, parse_list, read_list_by};
+pub use self::optional::read_optional;
+pub use self::prices::{PriceError, read_exact_from, read_grouped_from, read_price_from};
