@@ -1,7 +1,10 @@
 pub mod Dates
 pub mod Durations
 pub mod Geometry
+pub mod Imports
 pub mod Lexer
-pub mod Literal
-pub mod Values
 pub mod Lists
+pub mod Literal
+pub mod Points
+pub mod Settings
+pub mod Values

@@ -1,19 +1,21 @@
 //! The blocks of the page CALLING.md, in its order. `.ci/pages` compares the two.
 #![tactic(auto, unfolding(digits::proofs::Literals::lexical_on_literals))]
 
-ghost use Rattle.std.specs.Prelude.{◌≡◌, ℕ, ◌+◌, ◌-◌, ◌^◌, ◌<◌, ◌≤◌, length, pos, Ok, Err, IfOk, IfErr, IfSome, IsTrue, MatchResult};
-ghost use Rattle.digits.specs.Words.{Fills, Integer, binary64, digits_between, integer_at, is_supported, list_at, literal_at, literal_position, number_at, number_of_at, parse_at, plain_marks, rule_of, stop, to_end};
+ghost use Rattle.std.specs.Prelude.{◌≡◌, ℕ, ◌+◌, ◌-◌, ◌^◌, ◌<◌, ◌≤◌, length, pos, Ok, Err, IfOk, IfErr, IfSome, IsTrue, MatchResult, true};
+ghost use Rattle.digits.specs.Words.{Fills, Integer, binary64, digits_between, has_byte, integer_at, is_supported, list_at, literal_at, literal_position, number_at, number_of_at, parse_at, plain_marks, rule_of, stop, to_end};
 
 use digits::languages::RUST;
 use digits::words::PYTHON_LITERAL;
 use digits::{
-    COMMAS, Component, DECIMAL, DigitSeparatorFlags, FloatError, Form,
-    INTEGER_INTERNAL_DIGIT_SEPARATOR, LanguageError, ListRead, Literal, LiteralError, NO_FLAGS,
-    NumberError, NumberFormatBuilder, ParseError, Rule, STANDARD, forms, is_supported, parse_float,
-    parse_number, read_integer_from, read_list, read_literal, read_number, read_number_from,
-    read_number_of, stop_from,
+    Both, BothError, COMMAS, Component, DECIMAL, DigitSeparatorFlags, FloatError, Floats, Form,
+    INTEGER_INTERNAL_DIGIT_SEPARATOR, Integers, LINES, LanguageError, ListRead, Literal,
+    LiteralError, NO_FLAGS, NumberError, NumberFormatBuilder, NumberReader, ParseError, PieceRead,
+    Rule, STANDARD, StreamError, expect_byte, forms, is_supported, parse_float, parse_number,
+    read_integer_from, read_list, read_literal, read_number, read_number_from, read_number_of,
+    read_piece, stop_from,
 };
 use std::alloc::{AllocError, Global};
+use std::io::Read;
 
 /// The height that a text is: `-1_000` gives -1000, and `1_000m` gives `Invalid(5)`.
 pub fn parse_height(text: &[u8]) -> Result<i32, ParseError>
@@ -35,13 +37,12 @@ pub fn parse_rate(text: &[u8]) -> Result<f64, FloatError>
 pub fn read_size(text: &[u8]) -> Result<(u32, u32, usize), LiteralError>
     ensures { let r = rule_of PYTHON_LITERAL Integer in IfOk result (λ size. (end : ℕ)
         × (integer_at r text.now 0 (2 ^ 32 - 1) ≡ Ok (size.0, end))
+        × (has_byte text.now end 120 ≡ true)
         × (integer_at r text.now (end + 1) (2 ^ 32 - 1) ≡ Ok (size.1, size.2))) }
 {
     let (width, end) = read_number::<u32>(text, PYTHON_LITERAL)?;
-    if end == text.len() || text[end] != b'x' {
-        return Err(LiteralError::Empty(end));
-    }
-    let (height, end) = read_number_from::<u32>(text, PYTHON_LITERAL, end + 1)?;
+    let start = expect_byte(text, end, b'x').map_err(LiteralError::Empty)?;
+    let (height, end) = read_number_from::<u32>(text, PYTHON_LITERAL, start)?;
     Ok((width, height, end))
 }
 
@@ -120,6 +121,36 @@ pub fn read_css(text: &[u8], start: usize) -> Result<(f64, usize), NumberError>
 {
     let (number, end) = read_number_of::<f64>(text, start, CSS)?;
     Ok((number.to_float(), end))
+}
+
+/// The sum of the floats of a stream, one in each line.
+pub fn sum_of<R: Read + Drop>(stream: R) -> Result<f64, StreamError<FloatError>> {
+    let mut buffer = [0; 4096];
+    let mut numbers = NumberReader::new(stream, &mut buffer, Floats::<f64>::new(STANDARD), LINES);
+    let mut sum = 0.0;
+    for _ in 0..u64::MAX {
+        match numbers.next_number() {
+            Some(number) => sum += number?,
+            None => break,
+        }
+    }
+    Ok(sum)
+}
+
+/// The points of a block, as `3:4, 5:6`, in the front of a slice: how many they are, and why there
+/// are no more. `is_last` says that no block follows.
+pub fn read_pairs(
+    block: &[u8],
+    is_last: bool,
+    points: &mut [(u16, u16)],
+) -> PieceRead<BothError<LiteralError, LiteralError>> {
+    let side = Integers::<u16>::new(STANDARD);
+    let point = Both {
+        first: side,
+        between: b':',
+        second: side,
+    };
+    read_piece(point, block, 0, COMMAS, is_last, points)
 }
 
 /// The digits of the integer that a text begins with, at any length, without its separators.

@@ -11,5 +11,7 @@ pub mod lists;
 pub mod literal;
 pub mod loops;
 pub mod money;
+pub mod points;
 pub mod readme;
+pub mod settings;
 pub mod values;

@@ -4,6 +4,7 @@ use digits::languages::RUST; // `0b`, `0o`, `0x`, and `_` among the digits
 use digits::words::PYTHON_LITERAL; // radix 10, one `_` between two digits
 use digits::{forms, parse_float, parse_number, parse_number_of, read_literal, read_number};
 
+// So the check sees that the calls take this word, this language and this form.
 #[tactic(auto, unfolding(digits::proofs::Literals::lexical_on_literals))]
 pub fn first_reads() {
     let rate = parse_float::<f64>(b"1_234.5e-1", PYTHON_LITERAL); // Ok(123.45)

@@ -3,14 +3,20 @@ pub use Rattle.std.specs.Float.{binary32, binary64}
 -- the format word, its components and separators
 pub use Rattle.lexical_format.specs.declared.TheConstants.{STANDARD}
 pub use Rattle.lexical_format.specs.Word.{is_supported}
+pub use Rattle.lexical_format.specs.declared.builder.DigitSeparatorFlags.{DigitSeparatorFlags}
+pub use Rattle.lexical_format.specs.declared.builder.NumberFormatBuilder.{NumberFormatBuilder}
 pub use Rattle.lexical_digits.specs.State.{rule_of}
 unfoldable pub use Rattle.lexical_digits.specs.Separators.{is_digit}
 unfoldable pub use Rattle.lexical_digits.specs.Stop.{stop}
 pub use Rattle.lexical_digits.specs.ByteSet.{accepts}
+pub use Rattle.lexical_digits.specs.declared.ops.ByteSet.{ByteSet}
+pub use Rattle.lexical_digits.specs.declared.skip.rule.Rule.{Rule}
+pub use Rattle.lexical_digits.specs.declared.skip.component.Component.{Component}
 pub use Rattle.lexical_digits.specs.declared.skip.component.Component.TheVariants.{Integer, Fraction, Exponent}
 -- integers
 pub use Rattle.digit_literals.specs.declared.LiteralError.{LiteralError}
 pub use Rattle.digit_literals.specs.declared.parse.ParseError.{ParseError}
+pub use Rattle.digit_languages.specs.declared.language.Language.{Language}
 pub use Rattle.digit_languages.specs.declared.literal.LanguageError.{LanguageError}
 pub use Rattle.digit_literals.specs.After.{digits_between}
 pub use Rattle.digit_literals.specs.Bytes.{expect_byte}
@@ -18,28 +24,32 @@ unfoldable pub use Rattle.digit_literals.specs.Bytes.{name_end, past_bytes}
 pub use Rattle.digit_literals.specs.Exactly.{at_most_at, exactly_at}
 unfoldable pub use Rattle.digit_literals.specs.Exactly.{counted_at}
 unfoldable pub use Rattle.digit_literals.specs.Integers.{integer_at}
-pub use Rattle.digit_literals.specs.Errors.{literal_position}
+pub use Rattle.digit_literals.specs.Errors.{literal_position, position as parse_position}
 pub use Rattle.digit_literals.specs.Numbers.{has_byte, number_at, signed, to_end}
 pub use Rattle.digit_languages.specs.declared.literal.Literal.{Literal}
-pub use Rattle.digit_languages.specs.Literals.{literal_at, typed}
+pub use Rattle.digit_languages.specs.Literals.{literal_at, position as language_position, typed}
 pub use Rattle.digit_languages.specs.Words.{IsLanguage}
 -- lists
 pub use Rattle.digit_literals.specs.declared.list.Gap.{Gap}
 pub use Rattle.digit_literals.specs.declared.list.ListEnd.{ListEnd}
 pub use Rattle.digit_literals.specs.declared.list.ListRead.{ListRead}
-pub use Rattle.digit_literals.specs.Lists.{Fills, IfFull, IfOver, and_then}
-unfoldable pub use Rattle.digit_literals.specs.Lists.{list_at}
+pub use Rattle.digit_literals.specs.Lists.{Fills, IfFull, IfOver, and_then, has_separator, next_after}
+pub use Rattle.digit_literals.specs.Lists.{no_number}
+unfoldable pub use Rattle.digit_literals.specs.Lists.{list_at, past_blanks}
 -- floats and decimal numbers
 pub use Rattle.digit_floats.specs.declared.decimal.Decimal.{Decimal}
 pub use Rattle.digit_floats.specs.declared.error.FloatError.{FloatError}
+pub use Rattle.digit_floats.specs.declared.parts.Marks.{Marks}
 pub use Rattle.digit_floats.specs.declared.scaled.ScaledError.{ScaledError}
 pub use Rattle.digit_floats.specs.Decimals.{read_decimal_at}
 pub use Rattle.digit_floats.specs.Errors.{position as float_position}
 pub use Rattle.digit_floats.specs.Float.{IsDecimal, parse_at, plain_marks, read_at}
-pub use Rattle.digit_floats.specs.Scaled.{read_scaled_at, whole_of}
+pub use Rattle.digit_floats.specs.Scaled.{position as scaled_position, read_scaled_at, whole_of}
 unfoldable pub use Rattle.digit_floats.specs.Scaled.{scaled_at}
 -- numbers by a form
 pub use Rattle.digit_numbers.specs.declared.form.Form.{Form}
+pub use Rattle.digit_numbers.specs.declared.form.Special.{Special}
+pub use Rattle.digit_numbers.specs.declared.form.Specials.{Specials}
 pub use Rattle.digit_numbers.specs.declared.number.Number.{Number}
 pub use Rattle.digit_numbers.specs.declared.number.NumberError.{NumberError}
 pub use Rattle.digit_numbers.specs.Forms.{IsForm}
@@ -49,3 +59,24 @@ pub use Rattle.digit_numbers.specs.Decimals.{decimal_of_at}
 pub use Rattle.digit_numbers.specs.Numbers.{number_of_at, to_end as number_to_end}
 pub use Rattle.digit_numbers.specs.Values.{position, with_value}
 pub use Rattle.digit_numbers.specs.Values.{float_in, integer_in}
+-- texts in pieces, and streams
+pub use Rattle.digit_numbers.specs.Follows.{is_number_byte}
+pub use Rattle.digit_pieces.specs.declared.piece.PieceEnd.{PieceEnd}
+pub use Rattle.digit_pieces.specs.declared.piece.PieceRead.{PieceRead}
+pub use Rattle.digit_pieces.specs.Cuts.{is_integer_byte, is_float_byte, is_scaled_byte}
+unfoldable pub use Rattle.digit_pieces.specs.Cuts.{sure_end}
+pub use Rattle.digit_pieces.specs.Pieces.{FillsPiece, IfAt, and_more, list_later}
+unfoldable pub use Rattle.digit_pieces.specs.Pieces.{piece_at}
+pub use Rattle.digit_pieces.specs.Texts.{IsApart, list_of, piece_of}
+unfoldable pub use Rattle.digit_pieces.specs.Texts.{read_pieces}
+pub use Rattle.digit_streams.specs.declared.stream.StreamEnd.{StreamEnd}
+pub use Rattle.digit_streams.specs.declared.stream.StreamError.{StreamError}
+pub use Rattle.digit_streams.specs.Streams.{Gives, IsNext, stream_list}
+-- whole lists, enclosed lists, numbers that may be missing, and prices
+pub use Rattle.digit_lists.specs.declared.list.ListError.{ListError}
+pub use Rattle.digit_lists.specs.declared.enclosed.EnclosedError.{EnclosedError}
+pub use Rattle.digit_lists.specs.declared.prices.PriceError.{PriceError}
+pub use Rattle.digit_lists.specs.Lists.{Holds, enclosed, full_list, inside, parsed}
+pub use Rattle.digit_lists.specs.Optional.{optional, with_meaning}
+pub use Rattle.digit_lists.specs.Groups.{AreGroups, groups_at, wrong_at}
+pub use Rattle.digit_lists.specs.Prices.{exact_at, grouped_at, places_at, price_at, price_position}

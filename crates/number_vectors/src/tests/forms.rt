@@ -7,13 +7,13 @@
 use digit_floats::Marks;
 use digit_languages::Language;
 use digit_numbers::forms::{
-    CXX17, GO_PARSE_FLOAT, JAVA_PARSE_DOUBLE, JSON, JSON5, OCAML, PERL, PYTHON, PYTHON_FLOAT, RUST,
-    RUST_PARSE, STRTOD, SWIFT, TOML, YAML,
+    CXX17, GO_PARSE_FLOAT, JAVA_PARSE_DOUBLE, JSON, JSON5, LITERAL, OCAML, PERL, PYTHON,
+    PYTHON_FLOAT, RUST, RUST_PARSE, STRTOD, SWIFT, TOML, YAML,
 };
-use digit_numbers::names::{ANY_CASE, LOWER_CASE};
+use digit_numbers::names::{ANY_CASE, CAPITALIZED, LOWER_CASE};
 use digit_numbers::{
-    AfterPoint, Exponents, Form, NameSign, Number, NumberError, Special, SpecialValue, Specials,
-    Whole, is_form, parse_number_of, read_number_of,
+    AfterPoint, Exponents, Form, NameSign, Number, NumberError, Signs, Special, SpecialValue,
+    Specials, Whole, is_form, parse_number_of, read_number_of,
 };
 use lexical_format::SPECIAL_DIGIT_SEPARATOR;
 use lexical_format::words::PYTHON_LITERAL;
@@ -486,6 +486,50 @@ fn names_of_ones_own_are_read(rt: HostRuntime) {
         (b"nan", Fault(NumberError::Empty(0)), 0),
     ];
     assert_ends(&rt, own_names(), &rows);
+}
+
+/// The source code of Delphi, as Free Pascal 3.2.2 reads it with `-Mdelphi`.
+const DELPHI: Form = Form {
+    needs_integer: true,
+    after_point: AfterPoint::NoPoint,
+    ..LITERAL
+};
+
+/// Constants of Cassandra, by its documentation.
+const CASSANDRA: Form = Form {
+    signs: Signs::Minus,
+    needs_integer: true,
+    specials: Some(Specials {
+        any_case: true,
+        ..CAPITALIZED
+    }),
+    ..LITERAL
+};
+
+/// A text, and the number of Delphi that it begins with and its end.
+static DELPHI_ENDS: [(&[u8], Value, usize); 6] = [
+    (b"5.", Real(5.0), 2),
+    (b"5.e3", Real(5000.0), 4),
+    (b"007", Int(false, 7), 3),
+    (b"1..2", Int(false, 1), 1),
+    (b"1_000", Int(false, 1), 1),
+    (b".5", Fault(NumberError::Empty(0)), 0),
+];
+
+/// The same of Cassandra.
+static CASSANDRA_ENDS: [(&[u8], Value, usize); 6] = [
+    (b"-5.", Real(-5.0), 3),
+    (b"-1e+3", Real(-1000.0), 5),
+    (b"-infinity", Real(-INFINITE), 9),
+    (b"NaN", Nan, 3),
+    (b"inf", Fault(NumberError::Empty(0)), 0),
+    (b"+1", Fault(NumberError::Empty(0)), 0),
+];
+
+#[test]
+fn two_more_formats_take_a_form_of_ones_own(rt: HostRuntime) {
+    assert_ends(&rt, DELPHI, &DELPHI_ENDS);
+    assert_ends(&rt, CASSANDRA, &CASSANDRA_ENDS);
 }
 
 /// Names as XML Schema 1.0, Scheme and EDN have them.

@@ -9,7 +9,7 @@ use crate::onward::{
 use crate::remainder::remainder;
 use crate::rest::number_end;
 use digit_languages::{LanguageError, Literal};
-use digit_literals::{LiteralError, TooLarge};
+use digit_literals::{ListEnd, LiteralError, TooLarge};
 use digit_numbers::{Number, NumberError};
 use digit_script::{Answer, Call, Op, Part};
 use digit_uses::amounts::parse_amount;
@@ -20,6 +20,8 @@ use digit_uses::geometry::{Geometry, GeometryError, parse_geometry};
 use digit_uses::lexer::{Lexeme, Token, next_token};
 use digit_uses::literal::{LiteralFault, Suffix, parse_literal};
 use digit_uses::loops::{count_yielded, yields};
+use digit_uses::points::{Point, PointError, read_points};
+use digit_uses::settings::{SettingError, read_setting};
 use lexical_digits::iterator::Iter;
 use lexical_digits::skip::{Bytes, Component};
 use lexical_format::words::{
@@ -283,6 +285,22 @@ fn a_field_has_an_error_of_its_own(rt: HostRuntime) {
     assert!(rt; read_percent(b"1_00%", 0) == Ok((100, 4)));
     assert!(rt; read_percent(b"a101", 1) == Err(PercentError::Above100(3)));
     assert!(rt; read_percent(b"a%", 1) == Err(PercentError::NoDigit(1)));
+}
+
+#[test]
+fn points_are_read_line_by_line(rt: HostRuntime) {
+    let mut points = [Point { x: 0, y: 0 }; 3];
+    let read = read_points(b"12:-5\n 3:4 \n5;6", &mut points);
+    assert!(rt; read.count == 2);
+    assert!(rt; read.end == ListEnd::Fault(PointError::NoColon(13)));
+    assert!(rt; points[0] == Point { x: 12, y: -5 });
+    assert!(rt; points[1] == Point { x: 3, y: 4 });
+}
+
+#[test]
+fn a_setting_is_a_register_and_a_value(rt: HostRuntime) {
+    assert!(rt; read_setting(b"0x1f = -1.5e3;") == Ok((31, -1500.0, 13)));
+    assert!(rt; read_setting(b"0x1f : 1") == Err(SettingError::NoMark(5)));
 }
 
 /// A text, and the date that it is.
