@@ -19,8 +19,11 @@
  * digits_read_..   reads the number that begins at a start, and answers where it ends
  * digits_parse_..  reads a whole text, of which each byte must be part of the number
  * .._by            the same by a format word: separators, or another radix
+ * .._list          reads numbers with a byte between two of them
+ * .._piece         the same of a text that comes in pieces
  *
- * No call skips blanks: a blank is no part of a number.
+ * A blank is no part of a number, and no call that reads or parses one skips blanks. The calls for
+ * lists and for single bytes do.
  *
  *
  * What comes back
@@ -36,6 +39,30 @@
  *
  * After a fault the number is 0. It needn't be set before the call. A compiler warns where an
  * outcome is ignored.
+ *
+ * Where a number has no digit the status is DIGITS_EMPTY, of every call with one exception: for an
+ * integer a digits_parse_.. answers it only if the text ends there, and otherwise DIGITS_INVALID.
+ *
+ *                                                    ""     "-"    "x"      "-x"     "1x"
+ *     digits_read_..                                 EMPTY  EMPTY  EMPTY    EMPTY    1
+ *     digits_parse_.. of an integer                  EMPTY  EMPTY  INVALID  INVALID  INVALID
+ *     digits_parse_.. of a float, of a scaled
+ *     number, of JSON or a form                      EMPTY  EMPTY  EMPTY    EMPTY    INVALID
+ *
+ *
+ * A text that comes in pieces
+ *
+ * A number that ends at `length` may be cut, if the text goes on after it: of `12`, before `34`, a
+ * read answers 12. A fault may be none: `1e`, before `5`. And a form's number may go on although it
+ * ends before `length`: of `1e+`, before `5`, digits_read_json answers 1. So in every piece but the
+ * last
+ *
+ * - read a list by digits_read_.._piece, which stops in time, and answers DIGITS_MORE, or
+ * - call a digits_read_.. only at a start before digits_sure_end(text, length), by a form before
+ *   digits_sure_end_of(text, length, form): what it answers there stays, whatever follows.
+ *
+ * From there on keep the bytes: move them to the front, and read on with what follows them behind
+ * them. A digits_parse_.. needs the whole text.
  *
  *
  * What a caller owes
@@ -64,8 +91,10 @@ extern "C" {
 /* A compiler warns where what the call answers is ignored, or where its last argument, which has this
  * number, is NULL. */
 #ifdef __GNUC__
+#define DIGITS_USED __attribute__((warn_unused_result))
 #define DIGITS_CALL(last) __attribute__((warn_unused_result, nonnull(last)))
 #else
+#define DIGITS_USED
 #define DIGITS_CALL(last)
 #endif
 
@@ -136,6 +165,9 @@ typedef struct digits_number {
 #define DIGITS_BAD_FORM 10 /* No form has this number */
 #define DIGITS_BAD_PLACES 11 /* There are more than 38 places */
 #define DIGITS_FULL 12 /* The list goes on, and there is no more room for its numbers */
+#define DIGITS_MORE 13 /* More of the text is needed, from this position on */
+#define DIGITS_OTHER_BYTE 14 /* Another byte is there, or the text ends */
+#define DIGITS_CLOSED 15 /* The list has no number, and ends here */
 
 /* What a number's kind is. */
 #define DIGITS_NONE 0 /* There is no number */
@@ -160,6 +192,9 @@ static inline const char *digits_message(uint32_t status)
     case DIGITS_BAD_FORM: return "no such form";
     case DIGITS_BAD_PLACES: return "more than 38 places";
     case DIGITS_FULL: return "no room for more numbers";
+    case DIGITS_MORE: return "more of the text is needed";
+    case DIGITS_OTHER_BYTE: return "another byte than the one that has to be there";
+    case DIGITS_CLOSED: return "a list without a number";
     default: return "no status of this library";
     }
 }
@@ -178,10 +213,12 @@ bool digits_is_supported(digits_word word);
  * Decimal digits, and before them a `-` or a `+` if the type has a sign: `+1` is no uint32_t. First
  * zeros are digits as any other.
  *
- * DIGITS_EMPTY     no digit; `at` is where one would be. digits_parse_.. answers it only if the text
- *                  ends there, and otherwise DIGITS_INVALID
+ * DIGITS_EMPTY     no digit; `at` is where one would be. Of digits_parse_..: the text ends there
  * DIGITS_OVERFLOW  the type hasn't the number; `at` is the first digit with which it is too large
  * DIGITS_INVALID   of digits_parse_..: the byte at `at` is no part of the number
+ *
+ * A number that ends at `length`, or has a fault there, may be cut: "A text that comes in pieces",
+ * above.
  */
 
 DIGITS_CALL(4)
@@ -206,6 +243,8 @@ digits_outcome digits_parse_u32(const void *text, size_t length, uint32_t *numbe
  * radix, as by DIGITS_WORD_HEXADECIMAL; no prefix is read.
  *
  * DIGITS_BAD_WORD  the word isn't supported; `at` is the start
+ *
+ * In a piece of a text read before digits_sure_end_by(text, length, word).
  */
 
 DIGITS_CALL(5)
@@ -247,6 +286,8 @@ digits_outcome digits_parse_u32_by(const void *text, size_t length, digits_word 
  * DIGITS_EMPTY           no digit; `at` is where the digits end
  * DIGITS_EMPTY_EXPONENT  no digit follows the mark of the exponent; `at` is where one would be
  * DIGITS_INVALID         of digits_parse_..: the byte at `at` is no part of the number
+ *
+ * A number that ends at `length`, or has a fault there, may be cut: "A text that comes in pieces".
  */
 
 DIGITS_CALL(4)
@@ -259,7 +300,8 @@ digits_outcome digits_parse_f64(const void *text, size_t length, double *number)
 DIGITS_CALL(3)
 digits_outcome digits_parse_f32(const void *text, size_t length, float *number);
 
-/* The same by a word, whose mantissa and exponent must be decimal; otherwise DIGITS_BAD_WORD. */
+/* The same by a word, whose mantissa and exponent must be decimal; otherwise DIGITS_BAD_WORD. In a
+ * piece of a text read before digits_sure_end_by(text, length, word). */
 
 DIGITS_CALL(5)
 digits_outcome digits_read_f64_by(const void *text, size_t length, size_t start, digits_word word,
@@ -288,6 +330,10 @@ digits_outcome digits_parse_f32_by(const void *text, size_t length, digits_word 
  *
  * In the calls by a word, `point` is the byte before the fraction, such as '.' or ','. A word whose
  * separator is a byte such as ',' reads `1,234.50`.
+ *
+ * A number that ends at `length`, or has a fault there, may be cut: "A text that comes in pieces".
+ * With another point than '.' no call says up to where a piece is sure: cut it after a byte that no
+ * number has, such as a line feed.
  */
 
 DIGITS_CALL(5)
@@ -314,6 +360,9 @@ digits_outcome digits_parse_scaled_i64_by(const void *text, size_t length, size_
  * DIGITS_OVERFLOW      more than 128 bits, or 64; `at` is the first digit with which it is too large
  * DIGITS_FIRST_ZERO    the language refuses the first 0, as Python does in `01`; `at` is the start
  * DIGITS_BAD_LANGUAGE  no such language; `at` is the start
+ *
+ * A literal that ends at `length` may be cut, and no call says up to where a piece is sure: cut it
+ * after a byte that no literal has, such as a line feed.
  */
 
 DIGITS_CALL(5)
@@ -330,6 +379,9 @@ digits_outcome digits_read_literal_u64(const void *text, size_t length, size_t s
  *
  * DIGITS_EMPTY     no number; `at` is after the sign
  * DIGITS_INVALID   of digits_parse_..: the byte at `at` is no part of the number
+ *
+ * A number may be cut, also one that ends before `length`: "A text that comes in pieces". In a
+ * piece read before digits_sure_end_of(text, length, DIGITS_FORM_JSON).
  */
 
 DIGITS_CALL(4)
@@ -339,10 +391,13 @@ DIGITS_CALL(3)
 digits_outcome digits_parse_json(const void *text, size_t length, digits_number *number);
 
 /* The same by another grammar, by a DIGITS_FORM_... By most, special values such as `inf` are floats.
+ * A NaN is quiet, without a sign or a payload: its bits are 0x7ff8000000000000, also of `-nan`.
  *
  * DIGITS_OVERFLOW  the integer is above 128 bits, and the form has no such float; `at` is the first
  *                  digit with which it is too large
  * DIGITS_BAD_FORM  no such form; `at` is the start
+ *
+ * In a piece of a text read before digits_sure_end_of(text, length, form).
  */
 
 DIGITS_CALL(5)
@@ -394,6 +449,119 @@ digits_outcome digits_read_u64_list(const void *text, size_t length, size_t star
 DIGITS_CALL(7)
 digits_outcome digits_read_f64_list(const void *text, size_t length, size_t start, uint8_t between,
                                     double *numbers, size_t room, size_t *count);
+
+/* The same of numbers by a DIGITS_FORM_.., such as JSON's: by DIGITS_FORM_JSON neither `01` nor
+ * `+2` nor `.5` is a number, which the calls above read. DIGITS_BAD_FORM: no such form. */
+
+DIGITS_CALL(8)
+digits_outcome digits_read_number_list(const void *text, size_t length, size_t start, uint32_t form,
+                                       uint8_t between, digits_number *numbers, size_t room,
+                                       size_t *count);
+
+/* ---- blanks, and bytes around a list ----
+ *
+ * Blanks are spaces, tabs, line feeds and carriage returns.
+ *
+ * digits_past_blanks  the first position from `start` on without a blank, or `length`; `start`
+ *                     itself if it is after the end
+ * digits_expect_byte  reads a byte, such as ']' or ':', which blanks may be before; `at` is after
+ *                     the byte
+ * digits_open_list    reads the byte that opens a list, such as '[', which blanks may be before;
+ *                     `at` is where the first number has to be, past blanks, or after the byte that
+ *                     closes the list
+ *
+ * A JSON array of numbers in three calls, and one more wherever the room was full:
+ *
+ *     digits_number numbers[64];
+ *     size_t count;
+ *     digits_outcome list = digits_open_list(text, length, start, '[', ']');
+ *     if (list.status == DIGITS_OK) {
+ *         do {
+ *             list = digits_read_number_list(text, length, list.at, DIGITS_FORM_JSON, ',', numbers,
+ *                                            64, &count);
+ *             use(numbers, count);
+ *         } while (list.status == DIGITS_FULL);
+ *         if (list.status == DIGITS_OK)
+ *             list = digits_expect_byte(text, length, list.at, ']');
+ *     }
+ *     if (list.status == DIGITS_OK || list.status == DIGITS_CLOSED)
+ *         next = list.at;   // the position after the array
+ *     else
+ *         fault = list.at;
+ *
+ * DIGITS_OK          the byte was read
+ * DIGITS_CLOSED      of digits_open_list: the list is empty, and its closing byte was read too
+ * DIGITS_OTHER_BYTE  another byte is at `at`, or the text ends there
+ */
+
+DIGITS_USED
+size_t digits_past_blanks(const void *text, size_t length, size_t start);
+DIGITS_USED
+digits_outcome digits_expect_byte(const void *text, size_t length, size_t start, uint8_t byte);
+DIGITS_USED
+digits_outcome digits_open_list(const void *text, size_t length, size_t start, uint8_t opening,
+                                uint8_t closing);
+
+/* ---- lists in a text that comes in pieces ----
+ *
+ * As digits_read_.._list, of a piece of a text. What is read stays, whatever follows the piece, if
+ * `between` is no byte that a number may have, such as a digit. Where it isn't sure yet the status is
+ * DIGITS_MORE. With `is_last` nothing follows, and the calls answer what those of lists do. Positions
+ * count from the start of the piece.
+ *
+ *     char text[4096];
+ *     double numbers[64];
+ *     size_t length = 0, count;
+ *     digits_outcome list;
+ *     do {
+ *         const size_t room = sizeof text - length, more = fread(text + length, 1, room, file);
+ *         const bool is_last = more < room;
+ *         size_t at = 0;
+ *         length += more;
+ *         do {
+ *             list = digits_read_f64_piece(text, length, at, ',', is_last, numbers, 64, &count);
+ *             use(numbers, count);
+ *             at = list.at;
+ *         } while (list.status == DIGITS_FULL);
+ *         length -= at;
+ *         memmove(text, text + at, length);
+ *     } while (list.status == DIGITS_MORE && length < sizeof text);
+ *
+ * After it DIGITS_OK says that the list is over, and DIGITS_MORE that a number with the blanks
+ * around it is longer than the place for the text.
+ *
+ * DIGITS_MORE  more of the text is needed: the bytes from `at` on have to come again, with what
+ *              follows them
+ */
+
+DIGITS_CALL(8)
+digits_outcome digits_read_i64_piece(const void *text, size_t length, size_t start, uint8_t between,
+                                     bool is_last, int64_t *numbers, size_t room, size_t *count);
+DIGITS_CALL(8)
+digits_outcome digits_read_u64_piece(const void *text, size_t length, size_t start, uint8_t between,
+                                     bool is_last, uint64_t *numbers, size_t room, size_t *count);
+DIGITS_CALL(8)
+digits_outcome digits_read_f64_piece(const void *text, size_t length, size_t start, uint8_t between,
+                                     bool is_last, double *numbers, size_t room, size_t *count);
+
+/* The same by a DIGITS_FORM_... DIGITS_BAD_FORM: no such form. */
+
+DIGITS_CALL(9)
+digits_outcome digits_read_number_piece(const void *text, size_t length, size_t start,
+                                        uint32_t form, uint8_t between, bool is_last,
+                                        digits_number *numbers, size_t room, size_t *count);
+
+/* Up to where a piece is sure: what a digits_read_.. without a word answers at a start before this
+ * position stays, whatever follows the piece. It is after the last byte that no number has, or 0.
+ * The second serves calls by a form, and is 0 if there is no such form; the third those by a word,
+ * and is 0 if the word isn't supported. The point is '.'. */
+
+DIGITS_USED
+size_t digits_sure_end(const void *text, size_t length);
+DIGITS_USED
+size_t digits_sure_end_of(const void *text, size_t length, uint32_t form);
+DIGITS_USED
+size_t digits_sure_end_by(const void *text, size_t length, digits_word word);
 
 /* ---- what calls are told ---- */
 

@@ -191,48 +191,130 @@ inline result<number> parse_number(std::string_view text, std::uint32_t form) no
 
 // ---- lists of numbers: the byte between two, as in digits.h ----
 
-/// What was read of a list.
+/// What was read of a list, or of a piece of one.
 struct [[nodiscard]] list {
     std::size_t count;    // how many numbers were written
     std::size_t at;       // where the list is over, goes on, or has a fault
-    std::uint32_t status; // DIGITS_OK, DIGITS_FULL, or the kind of the fault
+    std::uint32_t status; // DIGITS_OK, DIGITS_FULL, DIGITS_MORE, or the kind of the fault
 
     bool is_over() const noexcept { return status == DIGITS_OK; }
     bool is_full() const noexcept { return status == DIGITS_FULL; }
+    bool is_more() const noexcept { return status == DIGITS_MORE; }
     const char *message() const noexcept { return digits_message(status); }
 };
 
 namespace detail {
 
+// The calls of digits.h for lists by their type.
+template <typename T>
+struct list_calls;
+#define DIGITS_CALLS(type, name)                                                                    \
+    template <>                                                                                     \
+    struct list_calls<type> {                                                                       \
+        static constexpr auto list = digits_read_##name##_list;                                     \
+        static constexpr auto piece = digits_read_##name##_piece;                                   \
+    };
+DIGITS_CALLS(int64_t, i64)
+DIGITS_CALLS(uint64_t, u64)
+DIGITS_CALLS(double, f64)
+#undef DIGITS_CALLS
+
 // What a call of digits.h for a list answers.
-template <typename T, typename Call>
-list fill(Call call, std::string_view text, std::size_t start, char between, T *numbers,
-          std::size_t room) noexcept
+template <typename Call, typename... Rest>
+list fill(Call call, std::string_view text, Rest... rest) noexcept
 {
     std::size_t count;
-    const digits_outcome end = call(text.data(), text.size(), start,
-                                    static_cast<std::uint8_t>(between), numbers, room, &count);
+    const digits_outcome end = call(text.data(), text.size(), rest..., &count);
     return {count, end.at, end.status};
 }
 
 } // namespace detail
 
-inline list read_list(std::string_view text, std::size_t start, char between, std::int64_t *numbers,
-                      std::size_t room) noexcept
+/// T is int64_t, uint64_t or double.
+template <typename T>
+list read_list(std::string_view text, std::size_t start, char between, T *numbers,
+               std::size_t room) noexcept
 {
-    return detail::fill(digits_read_i64_list, text, start, between, numbers, room);
+    return detail::fill(detail::list_calls<T>::list, text, start, static_cast<std::uint8_t>(between),
+                        numbers, room);
 }
 
-inline list read_list(std::string_view text, std::size_t start, char between, std::uint64_t *numbers,
-                      std::size_t room) noexcept
+/// By a DIGITS_FORM_..; the places may also be a digits::number each.
+inline list read_list(std::string_view text, std::size_t start, std::uint32_t form, char between,
+                      digits_number *numbers, std::size_t room) noexcept
 {
-    return detail::fill(digits_read_u64_list, text, start, between, numbers, room);
+    static_assert(sizeof(number) == sizeof(digits_number));
+    return detail::fill(digits_read_number_list, text, start, form,
+                        static_cast<std::uint8_t>(between), numbers, room);
 }
 
-inline list read_list(std::string_view text, std::size_t start, char between, double *numbers,
-                      std::size_t room) noexcept
+// ---- blanks, and bytes around a list ----
+
+/// Where a byte was read, or what is there instead.
+struct [[nodiscard]] step {
+    std::size_t at;       // the position after the byte, or that of the fault
+    std::uint32_t status; // DIGITS_OK, DIGITS_CLOSED, or the kind of the fault
+
+    explicit operator bool() const noexcept { return status == DIGITS_OK; }
+    bool is_closed() const noexcept { return status == DIGITS_CLOSED; }
+    const char *message() const noexcept { return digits_message(status); }
+};
+
+[[nodiscard]] inline std::size_t past_blanks(std::string_view text, std::size_t start) noexcept
 {
-    return detail::fill(digits_read_f64_list, text, start, between, numbers, room);
+    return digits_past_blanks(text.data(), text.size(), start);
+}
+
+inline step expect_byte(std::string_view text, std::size_t start, char byte) noexcept
+{
+    const digits_outcome read = digits_expect_byte(text.data(), text.size(), start,
+                                                   static_cast<std::uint8_t>(byte));
+    return {read.at, read.status};
+}
+
+inline step open_list(std::string_view text, std::size_t start, char opening, char closing) noexcept
+{
+    const digits_outcome read = digits_open_list(text.data(), text.size(), start,
+                                                 static_cast<std::uint8_t>(opening),
+                                                 static_cast<std::uint8_t>(closing));
+    return {read.at, read.status};
+}
+
+// ---- lists in a text that comes in pieces ----
+
+/// T is int64_t, uint64_t or double.
+template <typename T>
+list read_piece(std::string_view text, std::size_t start, char between, bool is_last, T *numbers,
+                std::size_t room) noexcept
+{
+    return detail::fill(detail::list_calls<T>::piece, text, start,
+                        static_cast<std::uint8_t>(between), is_last, numbers, room);
+}
+
+/// By a DIGITS_FORM_..; the places may also be a digits::number each.
+inline list read_piece(std::string_view text, std::size_t start, std::uint32_t form, char between,
+                       bool is_last, digits_number *numbers, std::size_t room) noexcept
+{
+    return detail::fill(digits_read_number_piece, text, start, form,
+                        static_cast<std::uint8_t>(between), is_last, numbers, room);
+}
+
+/// Up to where a piece is sure: for calls without a word.
+[[nodiscard]] inline std::size_t sure_end(std::string_view text) noexcept
+{
+    return digits_sure_end(text.data(), text.size());
+}
+
+/// The same for calls by a DIGITS_FORM_...
+[[nodiscard]] inline std::size_t sure_end_of(std::string_view text, std::uint32_t form) noexcept
+{
+    return digits_sure_end_of(text.data(), text.size(), form);
+}
+
+/// The same for calls by a word.
+[[nodiscard]] inline std::size_t sure_end(std::string_view text, word by) noexcept
+{
+    return digits_sure_end_by(text.data(), text.size(), by);
 }
 
 } // namespace digits

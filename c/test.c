@@ -289,6 +289,230 @@ static void lists(void)
     CHECK(count == 1 && f64[0] == 1.0);
 }
 
+/* Numbers of a form in a list, which are fewer than those of a list without one. */
+static void lists_of_a_form(void)
+{
+    digits_number numbers[4] = {{7, 7, 7, 7, true}, {7, 7, 7, 7, true}, {7, 7, 7, 7, true},
+                                {7, 7, 7, 7, true}};
+    double f64[3];
+    int64_t i64 = 7;
+    size_t count = 7;
+
+    IS(digits_read_f64_list(TEXT("[01, +2, .5]"), 1, ',', f64, 3, &count), DIGITS_OK, 11);
+    CHECK(count == 3 && f64[0] == 1.0 && f64[1] == 2.0 && f64[2] == 0.5);
+    IS(digits_read_number_list(TEXT("[01, +2, .5]"), 1, DIGITS_FORM_JSON, ',', numbers, 4, &count),
+       DIGITS_OK, 2);
+    CHECK(count == 1 && numbers[0].kind == DIGITS_INTEGER && numbers[0].low == 0);
+    CHECK(numbers[1].kind == 7 && numbers[1].low == 7);
+    IS(digits_read_number_list(TEXT("[1, +2, .5]"), 1, DIGITS_FORM_JSON, ',', numbers, 4, &count),
+       DIGITS_EMPTY, 4);
+    CHECK(count == 1 && numbers[0].low == 1 && numbers[1].kind == 7);
+    IS(digits_read_number_list(TEXT("-7,2.5e1 , 340282366920938463463374607431768211455]"), 0,
+                               DIGITS_FORM_JSON, ',', numbers, 3, &count), DIGITS_OK, 50);
+    CHECK(count == 3 && digits_as_i64(&numbers[0], &i64) && i64 == -7);
+    CHECK(numbers[1].kind == DIGITS_FLOAT && numbers[1].value == 25.0);
+    CHECK(numbers[2].kind == DIGITS_INTEGER && numbers[2].high == UINT64_MAX);
+    CHECK(numbers[3].kind == 7);
+    IS(digits_read_number_list(TEXT("1,2,3"), 0, DIGITS_FORM_JSON, ',', numbers, 2, &count),
+       DIGITS_FULL, 4);
+    CHECK(count == 2 && numbers[1].low == 2 && numbers[2].high == UINT64_MAX);
+    IS(digits_read_number_list(TEXT("1_000\n-inf\n"), 0, DIGITS_FORM_TOML, '\n', numbers, 4, &count),
+       DIGITS_OK, 11);
+    CHECK(count == 2 && numbers[0].low == 1000 && numbers[1].value == -HUGE_VAL);
+    IS(digits_read_number_list(TEXT("0x10 .5"), 0, DIGITS_FORM_JSON5, ' ', numbers, 4, &count),
+       DIGITS_OK, 7);
+    CHECK(count == 2 && numbers[0].low == 16 && numbers[1].value == 0.5);
+    IS(digits_read_number_list(TEXT("1"), 1, 1000, ',', numbers, 4, &count), DIGITS_BAD_FORM, 1);
+    CHECK(count == 0);
+    IS(digits_read_number_list(TEXT("1"), 2, DIGITS_FORM_JSON, ',', numbers, 4, &count),
+       DIGITS_BAD_START, 2);
+    IS(digits_read_number_list(TEXT("1"), 2, DIGITS_FORM_GO, ',', numbers, 4, &count),
+       DIGITS_BAD_START, 2);
+    IS(digits_read_number_list(NULL, 0, 0, DIGITS_FORM_JSON, ',', NULL, 0, &count), DIGITS_FULL, 0);
+}
+
+static void bytes(void)
+{
+    CHECK(digits_past_blanks(TEXT(" \t\r\n1 "), 0) == 4);
+    CHECK(digits_past_blanks(TEXT(" \t\r\n1 "), 4) == 4);
+    CHECK(digits_past_blanks(TEXT(" \t\r\n1 "), 5) == 6);
+    CHECK(digits_past_blanks(TEXT("\v1"), 0) == 0);
+    CHECK(digits_past_blanks(TEXT("1"), 7) == 7);
+    CHECK(digits_past_blanks(NULL, 0, 0) == 0);
+    IS(digits_expect_byte(TEXT("1 :2"), 1, ':'), DIGITS_OK, 3);
+    IS(digits_expect_byte(TEXT("1 :2"), 2, ':'), DIGITS_OK, 3);
+    IS(digits_expect_byte(TEXT("1 :2"), 3, ':'), DIGITS_OTHER_BYTE, 3);
+    IS(digits_expect_byte(TEXT("1 "), 1, ':'), DIGITS_OTHER_BYTE, 2);
+    IS(digits_expect_byte(TEXT("1 "), 3, ':'), DIGITS_BAD_START, 3);
+    IS(digits_expect_byte(TEXT("\xff"), 0, 0xff), DIGITS_OK, 1);
+    IS(digits_open_list(TEXT(" [ 1]"), 0, '[', ']'), DIGITS_OK, 3);
+    IS(digits_open_list(TEXT("[x"), 0, '[', ']'), DIGITS_OK, 1);
+    IS(digits_open_list(TEXT("["), 0, '[', ']'), DIGITS_OK, 1);
+    IS(digits_open_list(TEXT("x [ \n] ,"), 1, '[', ']'), DIGITS_CLOSED, 6);
+    IS(digits_open_list(TEXT("()"), 0, '(', ')'), DIGITS_CLOSED, 2);
+    IS(digits_open_list(TEXT(" {"), 0, '[', ']'), DIGITS_OTHER_BYTE, 1);
+    IS(digits_open_list(TEXT(" "), 0, '[', ']'), DIGITS_OTHER_BYTE, 1);
+    IS(digits_open_list(TEXT("[]"), 3, '[', ']'), DIGITS_BAD_START, 3);
+    IS(digits_open_list(NULL, 0, 0, '[', ']'), DIGITS_OTHER_BYTE, 0);
+}
+
+/* Where a JSON array of numbers ends, and their sum, by three calls. */
+static digits_outcome sum_of(const char *text, size_t length, double *sum)
+{
+    digits_number numbers[2];
+    size_t count, i;
+    digits_outcome list = digits_open_list(text, length, 0, '[', ']');
+
+    *sum = 0;
+    if (list.status != DIGITS_OK)
+        return list;
+    do {
+        list = digits_read_number_list(text, length, list.at, DIGITS_FORM_JSON, ',', numbers, 2,
+                                       &count);
+        for (i = 0; i < count; i++)
+            *sum += numbers[i].value;
+    } while (list.status == DIGITS_FULL);
+    return list.status == DIGITS_OK ? digits_expect_byte(text, length, list.at, ']') : list;
+}
+
+static void arrays(void)
+{
+    double sum = 7;
+
+    IS(sum_of(TEXT("[1, 2.5 ,-1e1\n,4, 5 ] "), &sum), DIGITS_OK, 21);
+    CHECK(sum == 2.5);
+    IS(sum_of(TEXT("[1,2]"), &sum), DIGITS_OK, 5);
+    IS(sum_of(TEXT(" [ ] "), &sum), DIGITS_CLOSED, 4);
+    CHECK(sum == 0);
+    IS(sum_of(TEXT("[-]"), &sum), DIGITS_EMPTY, 2);
+    IS(sum_of(TEXT("[1,]"), &sum), DIGITS_EMPTY, 3);
+    IS(sum_of(TEXT("[,1]"), &sum), DIGITS_EMPTY, 1);
+    IS(sum_of(TEXT("[01, +2, .5]"), &sum), DIGITS_OTHER_BYTE, 2);
+    IS(sum_of(TEXT("[1 2]"), &sum), DIGITS_OTHER_BYTE, 3);
+    IS(sum_of(TEXT("[1"), &sum), DIGITS_OTHER_BYTE, 2);
+    IS(sum_of(TEXT("1]"), &sum), DIGITS_OTHER_BYTE, 0);
+}
+
+/* The numbers of a piece, which isn't the last one, up to where what follows may change them. */
+static void pieces(void)
+{
+    digits_number numbers[3] = {{7, 7, 7, 7, true}, {7, 7, 7, 7, true}, {7, 7, 7, 7, true}};
+    int64_t i64[3] = {7, 7, 7};
+    uint64_t u64[3] = {7, 7, 7};
+    double f64[3] = {7, 7, 7};
+    size_t count = 7;
+
+    IS(digits_read_i64_piece(TEXT("1, -2 ,34"), 0, ',', false, i64, 3, &count), DIGITS_MORE, 7);
+    CHECK(count == 2 && i64[0] == 1 && i64[1] == -2 && i64[2] == 7);
+    IS(digits_read_i64_piece(TEXT("345]"), 0, ',', false, i64, 3, &count), DIGITS_OK, 3);
+    CHECK(count == 1 && i64[0] == 345 && i64[1] == -2);
+    IS(digits_read_i64_piece(TEXT("1, -2 ,34"), 0, ',', true, i64, 3, &count), DIGITS_OK, 9);
+    CHECK(count == 3 && i64[2] == 34);
+    IS(digits_read_i64_piece(TEXT("1,2,3"), 0, ',', false, i64, 2, &count), DIGITS_FULL, 4);
+    CHECK(count == 2);
+    IS(digits_read_i64_piece(TEXT("1,2,3"), 4, ',', false, i64, 2, &count), DIGITS_MORE, 4);
+    CHECK(count == 0);
+    IS(digits_read_i64_piece(TEXT("1,2"), 0, ',', false, i64, 0, &count), DIGITS_FULL, 0);
+    IS(digits_read_i64_piece(TEXT("-"), 0, ',', false, i64, 3, &count), DIGITS_MORE, 0);
+    IS(digits_read_i64_piece(TEXT("-"), 0, ',', true, i64, 3, &count), DIGITS_EMPTY, 1);
+    IS(digits_read_i64_piece(TEXT("1;x"), 0, ';', false, i64, 3, &count), DIGITS_EMPTY, 2);
+    CHECK(count == 1);
+    IS(digits_read_i64_piece(TEXT("1"), 2, ',', false, i64, 3, &count), DIGITS_BAD_START, 2);
+    IS(digits_read_u64_piece(TEXT("7\n8 \r\n9 \r"), 0, '\n', false, u64, 3, &count), DIGITS_MORE, 6);
+    CHECK(count == 2 && u64[0] == 7 && u64[1] == 8 && u64[2] == 7);
+    IS(digits_read_u64_piece(TEXT("18446744073709551616 "), 0, ' ', false, u64, 3, &count),
+       DIGITS_OVERFLOW, 19);
+    IS(digits_read_u64_piece(NULL, 0, 0, ',', false, NULL, 0, &count), DIGITS_FULL, 0);
+    IS(digits_read_u64_piece(NULL, 0, 0, ',', false, u64, 1, &count), DIGITS_MORE, 0);
+    IS(digits_read_u64_piece(NULL, 0, 0, ',', true, u64, 1, &count), DIGITS_EMPTY, 0);
+    IS(digits_read_f64_piece(TEXT("1.5,-2"), 0, ',', false, f64, 3, &count), DIGITS_MORE, 4);
+    CHECK(count == 1 && f64[0] == 1.5 && f64[1] == 7.0);
+    IS(digits_read_f64_piece(TEXT("-2e3"), 0, ',', true, f64, 3, &count), DIGITS_OK, 4);
+    CHECK(count == 1 && f64[0] == -2000.0);
+    IS(digits_read_f64_piece(TEXT(" 1e \n"), 0, ' ', false, f64, 3, &count), DIGITS_EMPTY_EXPONENT, 3);
+    IS(digits_read_f64_piece(TEXT(" 1e"), 0, ' ', false, f64, 3, &count), DIGITS_MORE, 1);
+    IS(digits_read_number_piece(TEXT("1,1e+"), 0, DIGITS_FORM_JSON, ',', false, numbers, 3, &count),
+       DIGITS_MORE, 2);
+    CHECK(count == 1 && numbers[0].kind == DIGITS_INTEGER && numbers[0].low == 1);
+    CHECK(numbers[1].kind == 7);
+    IS(digits_read_number_piece(TEXT("1e+5,01]"), 0, DIGITS_FORM_JSON, ',', false, numbers, 3, &count),
+       DIGITS_OK, 6);
+    CHECK(count == 2 && numbers[0].value == 1e5 && numbers[1].low == 0);
+    IS(digits_read_number_piece(TEXT("1_0 in"), 0, DIGITS_FORM_TOML, ' ', false, numbers, 3, &count),
+       DIGITS_MORE, 4);
+    CHECK(count == 1 && numbers[0].low == 10);
+    IS(digits_read_number_piece(TEXT("1"), 1, 1000, ',', false, numbers, 3, &count), DIGITS_BAD_FORM, 1);
+    CHECK(count == 0);
+}
+
+/* Up to where a piece is sure: after the last byte that no number has. */
+static void sure_ends(void)
+{
+    CHECK(digits_sure_end(TEXT("1.5,-2")) == 4);
+    CHECK(digits_sure_end(TEXT("1.5e-3")) == 0);
+    CHECK(digits_sure_end(TEXT("1_000")) == 2);
+    CHECK(digits_sure_end(TEXT("12 ")) == 3);
+    CHECK(digits_sure_end(NULL, 0) == 0);
+    CHECK(digits_sure_end_of(TEXT("[1,1e+"), DIGITS_FORM_JSON) == 3);
+    CHECK(digits_sure_end_of(TEXT("1, in"), DIGITS_FORM_TOML) == 3);
+    CHECK(digits_sure_end_of(TEXT("1_000"), DIGITS_FORM_PYTHON) == 0);
+    CHECK(digits_sure_end_of(TEXT("1,2"), 1000) == 0);
+    CHECK(digits_sure_end_by(TEXT("x1_000"), python) == 1);
+    CHECK(digits_sure_end_by(TEXT("1_000"), DIGITS_WORD_STANDARD) == 2);
+    CHECK(digits_sure_end_by(TEXT("1.ff"), DIGITS_WORD_HEXADECIMAL) == 2);
+    CHECK(digits_sure_end_by(TEXT("1,2"), DIGITS_MAKE_WORD(1, 0, 0)) == 0);
+}
+
+/* Where no digit is: of every kind of call without a digit, at the end, before a byte, and after one. */
+static void no_digits(void)
+{
+    static const char *const texts[] = {"", "-", "x", "-x"};
+    size_t i;
+
+    for (i = 0; i < 4; i++) {
+        const char *const text = texts[i];
+        const size_t length = strlen(text), at = text[0] == '-';
+        const uint32_t other = at < length ? DIGITS_INVALID : DIGITS_EMPTY;
+        digits_number number;
+        int64_t i64;
+        double f64;
+
+        IS(digits_read_i64(text, length, 0, &i64), DIGITS_EMPTY, at);
+        IS(digits_parse_i64(text, length, &i64), other, at);
+        IS(digits_parse_i64_by(text, length, python, &i64), other, at);
+        IS(digits_read_f64(text, length, 0, &f64), DIGITS_EMPTY, at);
+        IS(digits_parse_f64(text, length, &f64), DIGITS_EMPTY, at);
+        IS(digits_read_scaled_i64(text, length, 0, 2, &i64), DIGITS_EMPTY, at);
+        IS(digits_parse_scaled_i64(text, length, 2, &i64), DIGITS_EMPTY, at);
+        IS(digits_parse_scaled_i64_by(text, length, 2, python, '.', &i64), DIGITS_EMPTY, at);
+        IS(digits_read_json(text, length, 0, &number), DIGITS_EMPTY, at);
+        IS(digits_parse_json(text, length, &number), DIGITS_EMPTY, at);
+        IS(digits_parse_number(text, length, DIGITS_FORM_TOML, &number), DIGITS_EMPTY, at);
+    }
+}
+
+/* A NaN has one form of bits. */
+static void not_a_number(void)
+{
+    static const struct {
+        const char *text;
+        uint32_t form;
+    } nans[] = {{"NaN", DIGITS_FORM_JSON5}, {"-NaN", DIGITS_FORM_JSON5}, {"nan", DIGITS_FORM_TOML},
+                {"-nan", DIGITS_FORM_TOML}, {".nan", DIGITS_FORM_YAML}, {"-nan", DIGITS_FORM_STRTOD},
+                {"NaN", DIGITS_FORM_RUST_PARSE}, {"-NAN", DIGITS_FORM_FROM_CHARS}};
+    size_t i;
+
+    for (i = 0; i < sizeof nans / sizeof nans[0]; i++) {
+        digits_number number;
+        uint64_t bits;
+
+        IS(digits_parse_number(nans[i].text, strlen(nans[i].text), nans[i].form, &number), DIGITS_OK,
+           strlen(nans[i].text));
+        memcpy(&bits, &number.value, sizeof bits);
+        CHECK(number.kind == DIGITS_FLOAT && bits == UINT64_C(0x7ff8000000000000));
+    }
+}
+
 /* NULL is an empty text, and bytes outside of the text aren't read. */
 static void edges(void)
 {
@@ -329,6 +553,13 @@ int main(void)
     numbers();
     values();
     lists();
+    lists_of_a_form();
+    bytes();
+    arrays();
+    pieces();
+    sure_ends();
+    no_digits();
+    not_a_number();
     edges();
     printf("%d faults\n", faults);
     return faults != 0;

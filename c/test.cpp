@@ -67,6 +67,27 @@ int main()
     CHECK(rest.is_over() && rest.count == 1 && rest.at == 8 && numbers[0] == 3 && numbers[1] == -2);
     double column[3] = {7, 7, 7};
     CHECK(digits::read_list("1.5\n2e3\n", 0, '\n', column, 3).count == 2 && column[1] == 2000.0);
+    digits::number of_form[2] = {};
+    const auto strict = digits::read_list("[1, 2.5, 01]", 1, DIGITS_FORM_JSON, ',', of_form, 2);
+    CHECK(strict.is_full() && strict.count == 2 && strict.at == 8);
+    CHECK(of_form[0].as_i64() == 1 && of_form[1].is_float() && of_form[1].value == 2.5);
+    const auto open = digits::open_list(" [ 1, 2 ]", 0, '[', ']');
+    CHECK(open && open.at == 3 && !open.is_closed());
+    const auto inner = digits::read_list(" [ 1, 2 ]", open.at, DIGITS_FORM_JSON, ',', of_form, 2);
+    CHECK(inner.is_over() && digits::expect_byte(" [ 1, 2 ]", inner.at, ']').at == 9);
+    CHECK(digits::open_list("[ ]", 0, '[', ']').is_closed());
+    const auto other = digits::expect_byte("1 :2", 3, ':');
+    CHECK(!other && other.at == 3 && std::string_view(other.message()).size() > 0);
+    CHECK(digits::past_blanks("\t \n1", 0) == 3);
+    const auto cut = digits::read_piece("1, -2 ,34", 0, ',', false, numbers, 2);
+    CHECK(cut.is_full() && cut.count == 2 && cut.at == 7 && numbers[1] == -2);
+    const auto left = digits::read_piece("1, -2 ,34", cut.at, ',', false, numbers, 2);
+    CHECK(left.is_more() && left.count == 0 && left.at == 7);
+    CHECK(digits::read_piece("345]", 0, ',', false, column, 3).is_over() && column[0] == 345.0);
+    const auto json = digits::read_piece("1,1e+", 0, DIGITS_FORM_JSON, ',', false, of_form, 2);
+    CHECK(json.is_more() && json.count == 1 && json.at == 2 && of_form[0].as_u64() == 1u);
+    CHECK(digits::sure_end("1.5,-2") == 4 && digits::sure_end("x1_000", underscores) == 1);
+    CHECK(digits::sure_end_of("[1,1e+", DIGITS_FORM_JSON) == 3);
     std::printf("%d faults\n", faults);
     return faults != 0;
 }

@@ -28,19 +28,59 @@ static void each(Read read)
         at = read(at);
 }
 
-template <typename T>
-static void goes_on(digits_outcome (*read)(const void *, size_t, size_t, uint8_t, T *, size_t, size_t *))
+// The same of a number of JSON, as a float or an integer.
+static bool is_float;
+
+static void add(const digits_number &number)
+{
+    int64_t integer;
+    if (is_float)
+        add(number.value);
+    else if (digits_as_i64(&number, &integer))
+        add(integer);
+}
+
+// Reads a list from a position on, with room for 256 numbers in a call; answers where it stopped.
+template <typename T, typename Read>
+static digits_outcome goes_on(Read read)
 {
     static T numbers[256];
-    size_t at = 0, count;
-    for (;;) {
-        const digits_outcome list = read(text, length - 1, at, ',', numbers, 256, &count);
+    digits_outcome list = {0, DIGITS_FULL};
+    while (list.status == DIGITS_FULL) {
+        size_t count;
+        list = read(list.at, numbers, 256, &count);
         for (size_t i = 0; i < count; i++)
             add(numbers[i]);
-        if (list.status != DIGITS_FULL)
-            return;
-        at = list.at;
     }
+    return list;
+}
+
+template <typename T, typename List>
+static void whole(List list)
+{
+    (void)!goes_on<T>([=](size_t at, T *numbers, size_t room, size_t *count) {
+        return list(text, length - 1, at, ',', numbers, room, count);
+    }).at;
+}
+
+// The same in pieces of 4 KiB.
+template <typename T, typename Piece>
+static void pieces(Piece piece)
+{
+    digits_outcome list = {0, DIGITS_MORE};
+    for (size_t from = 0; list.status == DIGITS_MORE; from += list.at) {
+        const bool is_last = length - 1 - from <= 4096;
+        const size_t size = is_last ? length - 1 - from : 4096;
+        list = goes_on<T>([=](size_t at, T *numbers, size_t room, size_t *count) {
+            return piece(text + from, size, at, ',', is_last, numbers, room, count);
+        });
+    }
+}
+
+static digits_outcome list_of_json(const void *t, size_t n, size_t at, uint8_t between,
+                                   digits_number *numbers, size_t room, size_t *count)
+{
+    return digits_read_number_list(t, n, at, DIGITS_FORM_JSON, between, numbers, room, count);
 }
 
 static bool way(const char *name)
@@ -88,9 +128,16 @@ static bool way(const char *name)
     else if (is("json-f64"))
         each([&](size_t at) { at = digits_read_json(text, length, at, &n).at; add(n.value); return at; });
     else if (is("list-i64"))
-        goes_on<int64_t>(digits_read_i64_list);
+        whole<int64_t>(digits_read_i64_list);
     else if (is("list-f64"))
-        goes_on<double>(digits_read_f64_list);
+        whole<double>(digits_read_f64_list);
+    else if (is("list-json-i64") || is("list-json-f64")) {
+        is_float = is("list-json-f64");
+        whole<digits_number>(list_of_json);
+    } else if (is("pieces-i64"))
+        pieces<int64_t>(digits_read_i64_piece);
+    else if (is("pieces-f64"))
+        pieces<double>(digits_read_f64_piece);
     else
         return false;
     return true;

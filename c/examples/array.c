@@ -3,19 +3,15 @@
 
 #include <inttypes.h>
 #include <stdio.h>
-#include <string.h>
 
-static size_t past_blanks(const char *text, size_t length, size_t at)
+static void print(const digits_number *number)
 {
-    while (at < length && strchr(" \t\r\n", text[at]) != NULL)
-        at++;
-    return at;
-}
+    int64_t integer;
 
-static int fault(const char *what, size_t at)
-{
-    fprintf(stderr, "byte %zu: %s\n", at, what);
-    return 1;
+    if (digits_as_i64(number, &integer))
+        printf("integer %" PRId64 "\n", integer);
+    else
+        printf("float %.17g\n", number->value);
 }
 
 int main(void)
@@ -23,28 +19,26 @@ int main(void)
     static char text[1 << 16];
     const size_t length = fread(text, 1, sizeof text, stdin);
     double sum = 0;
-    size_t at = past_blanks(text, length, 0);
+    digits_outcome list = digits_open_list(text, length, 0, '[', ']');
 
-    if (at == length || text[at] != '[')
-        return fault("no array", at);
-    at = past_blanks(text, length, at + 1);
-    while (at < length && text[at] != ']') {
-        digits_number number;
-        int64_t integer;
-        const digits_outcome read = digits_read_json(text, length, at, &number);
+    if (list.status == DIGITS_OK) {
+        do {
+            digits_number numbers[64];
+            size_t count;
 
-        if (read.status != DIGITS_OK)
-            return fault(digits_message(read.status), read.at);
-        if (digits_as_i64(&number, &integer))
-            printf("integer %" PRId64 "\n", integer);
-        else
-            printf("float %.17g\n", number.value);
-        sum += number.value;
-        at = past_blanks(text, length, read.at);
-        if (at < length && text[at] == ',')
-            at = past_blanks(text, length, at + 1);
-        else if (at == length || text[at] != ']')
-            return fault("no comma", at);
+            list = digits_read_number_list(text, length, list.at, DIGITS_FORM_JSON, ',', numbers, 64,
+                                           &count);
+            for (size_t i = 0; i < count; i++) {
+                print(&numbers[i]);
+                sum += numbers[i].value;
+            }
+        } while (list.status == DIGITS_FULL);
+        if (list.status == DIGITS_OK)
+            list = digits_expect_byte(text, length, list.at, ']');
+    }
+    if (list.status != DIGITS_OK && list.status != DIGITS_CLOSED) {
+        fprintf(stderr, "byte %zu: %s\n", list.at, digits_message(list.status));
+        return 1;
     }
     printf("sum %.17g\n", sum);
     return 0;

@@ -35,6 +35,19 @@ string bytes_of(const T &value)
     return string(reinterpret_cast<const char *>(&value), sizeof value);
 }
 
+// The same of a structure: bytes between and after its fields are nobody's.
+inline string bytes_of(const digits_number &number)
+{
+    return bytes_of(number.value) + bytes_of(number.low) + bytes_of(number.high) +
+           bytes_of(number.kind) + bytes_of(number.is_negative);
+}
+
+inline string bytes_of(const digits_literal &literal)
+{
+    return bytes_of(literal.low) + bytes_of(literal.high) + bytes_of(literal.digits) +
+           bytes_of(literal.radix);
+}
+
 // What to compare next, for a message.
 inline string text_now;
 inline size_t start_now;
@@ -88,13 +101,7 @@ answer call(Call function, const char *text, size_t length, Rest... rest)
     T number;
     std::memset(&number, 0xa5, sizeof number);
     const digits_outcome outcome = function(text, length, rest..., &number);
-    string bytes = bytes_of(number);
-    if constexpr (std::is_same_v<T, digits_number>) // bytes between and after the fields are nobody's
-        bytes = bytes_of(number.value) + bytes_of(number.low) + bytes_of(number.high) +
-                bytes_of(number.kind) + bytes_of(number.is_negative);
-    if constexpr (std::is_same_v<T, digits_literal>)
-        bytes = bytes_of(number.low) + bytes_of(number.high) + bytes_of(number.digits) +
-                bytes_of(number.radix);
+    const string bytes = bytes_of(number);
     if (outcome.status != DIGITS_OK)
         check(bytes == string(bytes.size(), '\0'), "a number after a fault");
     const answer given{bytes, outcome.at, outcome.status};
@@ -483,9 +490,45 @@ void lists(const char *name, List list, Read read, const char *text, const strin
             break;
         }
     }
-    check(count == read_count && given.at == end.at && given.status == end.status &&
-              std::memcmp(numbers, wanted, sizeof wanted) == 0,
-          name);
+    check(count == read_count && given.at == end.at && given.status == end.status, name);
+    for (size_t i = 0; i < 8; i++)
+        check(bytes_of(numbers[i]) == bytes_of(wanted[i]), name);
+}
+
+// The same of numbers by a form.
+inline void lists_of_a_form(const char *text, const string &copy, size_t start, uint64_t choice)
+{
+    const auto form = static_cast<uint32_t>(choice >> 10 & 1 ? DIGITS_FORM_JSON : choice % 63);
+    const auto list = [form](const char *text, size_t length, size_t start, uint8_t between,
+                             digits_number *numbers, size_t room, size_t *count) {
+        return digits_read_number_list(text, length, start, form, between, numbers, room, count);
+    };
+    const auto read = [form](const char *text, size_t length, size_t start, digits_number *number) {
+        return digits_read_number(text, length, start, form, number);
+    };
+    lists<digits_number>("a list by a form", list, read, text, copy, start, choice);
+}
+
+// Blanks and single bytes.
+inline void bytes(const char *text, const string &copy, size_t start, uint64_t choice)
+{
+    const size_t length = copy.size();
+    const size_t found = copy.find_first_not_of(" \t\r\n", start);
+    const size_t at = found == string::npos ? length : found;
+    const char open = choice & 1 ? '[' : copy[at < length ? at : 0], close = choice & 2 ? ']' : ' ';
+    check(digits_past_blanks(text, length, start) == at, "blanks");
+    const bool is_there = at < length && copy[at] == open;
+    const digits_outcome byte = digits_expect_byte(text, length, start, static_cast<uint8_t>(open));
+    check(byte.at == at + is_there, "the position of a byte");
+    check(byte.status == (is_there ? DIGITS_OK : DIGITS_OTHER_BYTE), "whether a byte is there");
+    const digits_outcome list = digits_open_list(text, length, start, static_cast<uint8_t>(open),
+                                                 static_cast<uint8_t>(close));
+    if (!is_there)
+        return check(list.at == byte.at && list.status == byte.status, "a list that isn't opened");
+    const size_t first = digits_past_blanks(text, length, byte.at);
+    const bool is_closed = first < length && copy[first] == close;
+    check(list.at == first + is_closed, "the first number of a list");
+    check(list.status == (is_closed ? DIGITS_CLOSED : DIGITS_OK), "whether a list is empty");
 }
 
 // A start after the end has its own status, and NULL is a text of no bytes.
@@ -501,6 +544,10 @@ inline void edges(const char *text, size_t length, size_t beyond)
     is(call<digits_literal>(digits_read_literal, text, length, start, DIGITS_LANGUAGE_GO));
     is(call<digits_number>(digits_read_json, text, length, start));
     is(call<digits_number>(digits_read_number, text, length, start, DIGITS_FORM_YAML));
+    check(digits_past_blanks(text, length, start) == start, "blanks after the end");
+    for (const digits_outcome late : {digits_expect_byte(text, length, start, ','),
+                                      digits_open_list(text, length, start, '[', ']')})
+        check(late.status == DIGITS_BAD_START && late.at == start, "a byte after the end");
     for (const char *none : {static_cast<const char *>(nullptr), text}) {
         same(call<int64_t>(digits_read_i64, none, size_t{0}, size_t{0}),
              {string(8, '\0'), 0, DIGITS_EMPTY}, "no bytes");
@@ -551,6 +598,8 @@ inline void all(const string &copy, size_t start, uint64_t choice)
     lists<int64_t>("a list of i64", digits_read_i64_list, digits_read_i64, text, copy, start, choice);
     lists<uint64_t>("a list of u64", digits_read_u64_list, digits_read_u64, text, copy, start, choice);
     lists<double>("a list of f64", digits_read_f64_list, digits_read_f64, text, copy, start, choice);
+    lists_of_a_form(text, copy, start, choice);
+    bytes(text, copy, start, choice);
     edges(text, length, 1 + (choice >> 40) % 9000);
 }
 

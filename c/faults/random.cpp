@@ -46,7 +46,7 @@ static std::string number()
 
 static std::string text()
 {
-    switch (below(8)) {
+    switch (below(9)) {
     case 0: return bytes("0123456789+-._eE", below(24));
     case 1: return bytes("0123456789+-._eExXaAfFiInN' ,()\n", below(32));
     case 2: {
@@ -59,6 +59,7 @@ static std::string text()
             byte = static_cast<char>(source());
         return any;
     }
+    case 4: return bytes("[] \n", below(6)) + number() + bytes(",] \n12", below(12));
     default: return bytes("+-", below(2)) + number() + bytes(",; \nem_.5", below(4));
     }
 }

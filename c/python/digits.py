@@ -45,6 +45,9 @@ BAD_LANGUAGE = 9  # No language has this number
 BAD_FORM = 10  # No form has this number
 BAD_PLACES = 11  # There are more than 38 places
 FULL = 12  # The list goes on, and there is no more room for its numbers
+MORE = 13  # More of the text is needed, from this position on
+OTHER_BYTE = 14  # Another byte is there, or the text ends
+CLOSED = 15  # The list has no number, and ends here
 
 # What a number's kind is.
 NONE = 0  # There is no number
@@ -259,11 +262,12 @@ WORD_ERLANG_BINARY_LITERAL = 0x2000000005f0000000100000000
 
 
 class Fault(ValueError):
-    """There is no number: `status` says why, and `at` is the position of the byte at fault."""
+    """There is no number: `status` says why, and `at` is the position of the byte at fault. Of a list
+    `numbers` are those before it."""
 
-    def __init__(self, status, at):
+    def __init__(self, status, at, numbers=()):
         super().__init__(f"{MESSAGES.get(status, f'status {status}')}, at {at}")
-        self.status, self.at = status, at
+        self.status, self.at, self.numbers = status, at, numbers
 
 
 MESSAGES = {
@@ -279,6 +283,9 @@ MESSAGES = {
     BAD_FORM: "no such form",
     BAD_PLACES: "more than 38 places",
     FULL: "no room for more numbers",
+    MORE: "more of the text is needed",
+    OTHER_BYTE: "another byte than the one that has to be there",
+    CLOSED: "a list without a number",
 }
 
 
@@ -328,11 +335,11 @@ _release = ctypes.pythonapi.PyBuffer_Release
 _release.argtypes, _release.restype = [POINTER(_Buffer)], None
 
 
-def _function(name, *types):
+def _function(name, *types, gives=_Outcome):
     """A call of the library, which takes a text and arguments of these types."""
     function = getattr(_LIBRARY, f"digits_{name}")
     function.argtypes = [c_void_p, c_size_t, *types]
-    function.restype = _Outcome
+    function.restype = gives
 
     def call(text, *rest):
         if isinstance(text, bytes):
@@ -459,30 +466,135 @@ def parse_number(text, form=FORM_JSON):
 # ---- lists of numbers ----
 
 
-def _list_call(name, code, given):
-    function = _function(f"read_{name}_list", c_size_t, c_uint8, POINTER(given), c_size_t,
-                         POINTER(c_size_t))
+class _Lists:
+    """The calls for lists of a type, and for pieces of one. `code` is the type's letter in array; by
+    a form there is none, and numbers are gathered in a list."""
+
+    def __init__(self, name, given, code=None):
+        self.given, self.code = given, code
+        form = [] if code else [c_uint32]
+        to = [POINTER(given), c_size_t, POINTER(c_size_t)]
+        self.list = _function(f"read_{name}_list", c_size_t, *form, c_uint8, *to)
+        self.piece = _function(f"read_{name}_piece", c_size_t, *form, c_uint8, c_bool, *to)
+
+    def read(self, function, text, start, *told):
+        """The numbers from a start on, and why there are no more: OK or MORE."""
+        numbers, count = array.array(self.code) if self.code else [], c_size_t()
+        room = min(4096, len(memoryview(text)) // 2 + 1)
+        places = (self.given * room)()
+        while True:
+            outcome = function(text, start, *told, places, room, byref(count))
+            if self.code:
+                numbers.frombytes(memoryview(places).cast("B")[: count.value * numbers.itemsize])
+            else:
+                numbers += map(_value, places[: count.value])
+            if outcome.status in (OK, MORE):
+                return numbers, outcome
+            if outcome.status != FULL:
+                raise Fault(outcome.status, outcome.at, numbers)
+            start = outcome.at
+
+
+def _list_calls(name, code, given):
+    calls = _Lists(name, given, code)
 
     def read_list(text, start=0, between=b","):
         """The numbers of a list at a start, as an array, and where it ends. `between` is the byte
         between two numbers, blanks may be around it; b" " stands for any blanks, b"\\n" for a line
         feed, which may follow the last number too."""
-        numbers, count = array.array(code), c_size_t()
-        room = min(4096, len(memoryview(text)) // 2 + 1)
-        places = (given * room)()
-        while True:
-            outcome = function(text, start, ord(between), places, room, byref(count))
-            numbers.frombytes(memoryview(places).cast("B")[: count.value * numbers.itemsize])
-            if outcome.status == OK:
-                return numbers, outcome.at
-            if outcome.status != FULL:
-                raise Fault(outcome.status, outcome.at)
-            start = outcome.at
+        numbers, outcome = calls.read(calls.list, text, start, ord(between))
+        return numbers, outcome.at
 
-    read_list.__name__ = f"read_{name}_list"
-    return read_list
+    def read_piece(text, start, between, is_last):
+        """The numbers of a list in a piece of a text, as an array, where it ends, and whether more of
+        the text is needed: then the bytes from there on have to come again, with what follows."""
+        numbers, outcome = calls.read(calls.piece, text, start, ord(between), is_last)
+        return numbers, outcome.at, outcome.status == MORE
+
+    read_list.__name__, read_piece.__name__ = f"read_{name}_list", f"read_{name}_piece"
+    return read_list, read_piece
 
 
-read_i64_list = _list_call("i64", "q", c_int64)
-read_u64_list = _list_call("u64", "Q", c_uint64)
-read_f64_list = _list_call("f64", "d", c_double)
+read_i64_list, read_i64_piece = _list_calls("i64", "q", c_int64)
+read_u64_list, read_u64_piece = _list_calls("u64", "Q", c_uint64)
+read_f64_list, read_f64_piece = _list_calls("f64", "d", c_double)
+_of_form = _Lists("number", _Number)
+
+
+def read_number_list(text, start=0, between=b",", form=FORM_JSON):
+    """The ints and floats of a list at a start, each by a FORM_.., and where it ends."""
+    numbers, outcome = _of_form.read(_of_form.list, text, start, form, ord(between))
+    return numbers, outcome.at
+
+
+def read_number_piece(text, start, between, is_last, form=FORM_JSON):
+    """The same of a piece of a text, as read_i64_piece answers it."""
+    numbers, outcome = _of_form.read(_of_form.piece, text, start, form, ord(between), is_last)
+    return numbers, outcome.at, outcome.status == MORE
+
+
+# ---- blanks, and bytes around a list ----
+
+_past_blanks = _function("past_blanks", c_size_t, gives=c_size_t)
+_expect_byte = _function("expect_byte", c_size_t, c_uint8)
+_open_list = _function("open_list", c_size_t, c_uint8, c_uint8)
+
+
+def past_blanks(text, start=0):
+    """The first position from a start on without a blank, or the length."""
+    return _past_blanks(text, start)
+
+
+def expect_byte(text, start, byte):
+    """The position after a byte, which blanks may be before."""
+    outcome = _expect_byte(text, start, ord(byte))
+    if outcome.status != OK:
+        raise Fault(outcome.status, outcome.at)
+    return outcome.at
+
+
+def open_list(text, start=0, opening=b"[", closing=b"]"):
+    """Where the first number of a list is, after the byte that opens it, and whether it has none:
+    then the position is after the byte that closes it."""
+    outcome = _open_list(text, start, ord(opening), ord(closing))
+    if outcome.status not in (OK, CLOSED):
+        raise Fault(outcome.status, outcome.at)
+    return outcome.at, outcome.status == CLOSED
+
+
+# ---- a text that comes in pieces ----
+
+_sure_end = _function("sure_end", gives=c_size_t)
+_sure_end_of = _function("sure_end_of", c_uint32, gives=c_size_t)
+_sure_end_by = _function("sure_end_by", _Word, gives=c_size_t)
+
+
+def sure_end(text, form=None, word=None):
+    """Up to where a piece is sure: what a read answers at a start before it stays, whatever follows
+    the piece. Maybe of reads by a FORM_.., or by a word."""
+    if form is not None:
+        return _sure_end_of(text, form)
+    return _sure_end(text) if word is None else _sure_end_by(text, _halves(word))
+
+
+def numbers_of(file, between=b" ", read_piece=read_f64_piece, size=1 << 16):
+    """Yields the numbers of a list in a file, or in whatever else reads bytes, up to where the list is
+    over. Only a block of some `size` bytes of it is in memory, or what one number takes. `read_piece`
+    is one of the calls above, of a form other than JSON functools.partial(read_number_piece,
+    form=..). The position of a fault counts from where the file was.
+
+    >>> import io
+    >>> sum(numbers_of(io.BytesIO(b"1.5 2\\n-3e1"), size=4))
+    -26.5
+    """
+    text, before, is_more = b"", 0, True
+    while is_more:
+        block = file.read(size)
+        text += block
+        try:
+            numbers, at, is_more = read_piece(text, 0, between, not block)
+        except Fault as fault:
+            yield from fault.numbers
+            raise Fault(fault.status, before + fault.at) from None
+        yield from numbers
+        text, before = text[at:], before + at

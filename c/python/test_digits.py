@@ -1,6 +1,8 @@
 #!/usr/bin/env python3
 """Each call with a number or a fault. Their answers are those of test.c."""
 import doctest
+import functools
+import io
 import mmap
 import unittest
 
@@ -62,6 +64,55 @@ class Calls(unittest.TestCase):
         self.assertEqual(digits.read_f64_list(b"1.5;-2e3", 0, b";")[0].tolist(), [1.5, -2000.0])
         self.fails(digits.EMPTY, 2, digits.read_i64_list, b"1,x")
         self.fails(digits.BAD_START, 4, digits.read_i64_list, b"1,x", 4)
+
+    def test_lists_of_a_form(self):
+        numbers, end = digits.read_number_list(b"[1, -2.5, 1e2 ,18446744073709551616]", 1)
+        self.assertEqual((numbers, end), ([1, -2.5, 100.0, 2**64], 35))
+        self.assertEqual([type(it) for it in numbers], [int, float, float, int])
+        many = list(range(10000))
+        self.assertEqual(digits.read_number_list(repr(many).encode(), 1)[0], many)
+        self.assertEqual(digits.read_number_list(b"1_0 -inf", 0, b" ", digits.FORM_TOML)[0],
+                         [10, float("-inf")])
+        self.fails(digits.EMPTY, 3, digits.read_number_list, b"1, +2")
+        self.fails(digits.BAD_FORM, 0, digits.read_number_list, b"1", 0, b",", 1000)
+        with self.assertRaises(digits.Fault) as caught:
+            digits.read_number_list(b"1,2,x")
+        self.assertEqual(caught.exception.numbers, [1, 2])
+
+    def test_bytes(self):
+        self.assertEqual(digits.past_blanks(b"\t \n1"), 3)
+        self.assertEqual(digits.expect_byte(b"1 :2", 1, b":"), 3)
+        self.fails(digits.OTHER_BYTE, 3, digits.expect_byte, b"1 :2", 3, b":")
+        self.assertEqual(digits.open_list(b" [ 1]"), (3, False))
+        self.assertEqual(digits.open_list(b"x( )", 1, b"(", b")"), (4, True))
+        self.fails(digits.OTHER_BYTE, 0, digits.open_list, b"1")
+
+    def test_pieces(self):
+        numbers, at, is_more = digits.read_i64_piece(b"1, -2 ,34", 0, b",", False)
+        self.assertEqual((numbers.tolist(), at, is_more), ([1, -2], 7, True))
+        numbers, at, is_more = digits.read_f64_piece(b"345]", 0, b",", False)
+        self.assertEqual((numbers.tolist(), at, is_more), ([345.0], 3, False))
+        self.assertEqual(digits.read_number_piece(b"1,1e+", 0, b",", False), ([1], 2, True))
+        self.assertEqual(digits.read_number_piece(b"1,1e+", 0, b",", True), ([1, 1], 3, False))
+        self.fails(digits.EMPTY, 2, digits.read_u64_piece, b"1;x", 0, b";", False)
+        self.assertEqual(digits.sure_end(b"1.5,-2"), 4)
+        self.assertEqual(digits.sure_end(b"[1,1e+", form=digits.FORM_JSON), 3)
+        self.assertEqual(digits.sure_end(b"x1_000", word=digits.WORD_PYTHON_LITERAL), 1)
+
+    def test_numbers_of_a_file(self):
+        many = list(range(-5000, 5000))
+        text = "\n".join(map(str, many)).encode()
+        of_toml = functools.partial(digits.read_number_piece, form=digits.FORM_TOML)
+        for size in (1, 7, 4096, len(text), len(text) + 1):
+            read = digits.numbers_of(io.BytesIO(text), b"\n", digits.read_i64_piece, size)
+            self.assertEqual(list(read), many)
+        self.assertEqual(list(digits.numbers_of(io.BytesIO(b"1_0, -inf"), b",", of_toml, 3)),
+                         [10, float("-inf")])
+        self.assertEqual(list(digits.numbers_of(io.BytesIO(b""), size=1)), [])
+        self.assertEqual(list(digits.numbers_of(io.BytesIO(b"1.5 2 ] 3"), size=2)), [1.5, 2.0])
+        read = digits.numbers_of(io.BytesIO(b"1 2 3e ]"), size=3)
+        self.assertEqual([next(read), next(read)], [1.0, 2.0])
+        self.fails(digits.EMPTY_EXPONENT, 6, next, read)
 
     def test_texts(self):
         text = b"  1234;"

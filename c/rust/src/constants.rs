@@ -33,6 +33,12 @@ pub mod statuses {
     pub const BAD_PLACES: Status = Status(11);
     /// The list goes on, and there is no more room for its numbers.
     pub const FULL: Status = Status(12);
+    /// More of the text is needed, from this position on.
+    pub const MORE: Status = Status(13);
+    /// Another byte is there, or the text ends.
+    pub const OTHER_BYTE: Status = Status(14);
+    /// The list has no number, and ends here.
+    pub const CLOSED: Status = Status(15);
 }
 
 /// What a number's kind is.

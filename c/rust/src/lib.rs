@@ -72,6 +72,9 @@ impl fmt::Display for Fault {
             statuses::BAD_WORD => "a format word that isn't supported",
             statuses::BAD_PLACES => "more than 38 places",
             statuses::FULL => "no room for more numbers",
+            statuses::MORE => "more of the text is needed",
+            statuses::OTHER_BYTE => "another byte than the one that has to be there",
+            statuses::CLOSED => "a list without a number",
             Status(status) => return write!(f, "status {status} at byte {}", self.at),
         };
         write!(f, "{what} at byte {}", self.at)
@@ -397,9 +400,62 @@ pub enum End {
     Fault(Fault),
 }
 
+/// What was read of a list in a piece of a text.
+#[derive(Clone, Copy, Debug, PartialEq, Eq)]
+pub struct Piece {
+    /// How many numbers were written.
+    pub count: usize,
+    /// Why there are no more.
+    pub end: PieceEnd,
+}
+
+/// Why a piece was read no further.
+#[derive(Clone, Copy, Debug, PartialEq, Eq)]
+pub enum PieceEnd {
+    /// More of the text is needed: the bytes from this position on have to come again, with what
+    /// follows them.
+    More(usize),
+    /// The list is over, before this position.
+    Over(usize),
+    /// The slice is full; the list goes on at this position.
+    Full(usize),
+    /// Where a number has to be is none.
+    Fault(Fault),
+}
+
+/// What a call of a list answered.
+fn list(count: usize, Outcome { at, status }: Outcome) -> List {
+    let end = match status {
+        statuses::OK => End::Over(at),
+        statuses::FULL => End::Full(at),
+        status => End::Fault(Fault { status, at }),
+    };
+    List { count, end }
+}
+
+/// What a call of a piece answered.
+fn piece(count: usize, Outcome { at, status }: Outcome) -> Piece {
+    let end = match status {
+        statuses::MORE => PieceEnd::More(at),
+        statuses::OK => PieceEnd::Over(at),
+        statuses::FULL => PieceEnd::Full(at),
+        status => PieceEnd::Fault(Fault { status, at }),
+    };
+    Piece { count, end }
+}
+
 mod sealed_list {
+    use super::{List, Piece};
+
     pub trait Calls: Sized {
-        fn read_list(text: &[u8], start: usize, between: u8, numbers: &mut [Self]) -> super::List;
+        fn read_list(text: &[u8], start: usize, between: u8, numbers: &mut [Self]) -> List;
+        fn read_piece(
+            text: &[u8],
+            start: usize,
+            between: u8,
+            is_last: bool,
+            numbers: &mut [Self],
+        ) -> Piece;
     }
 }
 
@@ -407,28 +463,37 @@ mod sealed_list {
 pub trait ListValue: sealed_list::Calls {}
 
 macro_rules! list_values {
-    ($($type:ty: $read_list:ident;)*) => {$(
+    ($($type:ty: $read_list:ident $read_piece:ident;)*) => {$(
         extern "C" {
             fn $read_list(
                 text: *const u8, length: usize, start: usize, between: u8, numbers: *mut $type,
                 room: usize, count: *mut usize,
             ) -> Outcome;
+            fn $read_piece(
+                text: *const u8, length: usize, start: usize, between: u8, is_last: bool,
+                numbers: *mut $type, room: usize, count: *mut usize,
+            ) -> Outcome;
         }
 
+        // SAFETY of each call: text and numbers have these lengths, and `count` is of its type.
         impl sealed_list::Calls for $type {
             fn read_list(text: &[u8], start: usize, between: u8, numbers: &mut [Self]) -> List {
-                let mut count = 0;
+                let (t, n, mut count) = (text.as_ptr(), text.len(), 0);
                 let (to, room) = (numbers.as_mut_ptr(), numbers.len());
-                // SAFETY: text and numbers have these lengths, and `count` is of its type.
-                let Outcome { at, status } = unsafe {
-                    $read_list(text.as_ptr(), text.len(), start, between, to, room, &mut count)
-                };
-                let end = match status {
-                    statuses::OK => End::Over(at),
-                    statuses::FULL => End::Full(at),
-                    status => End::Fault(Fault { status, at }),
-                };
-                List { count, end }
+                let end = unsafe { $read_list(t, n, start, between, to, room, &mut count) };
+                list(count, end)
+            }
+            fn read_piece(
+                text: &[u8],
+                start: usize,
+                between: u8,
+                is_last: bool,
+                numbers: &mut [Self],
+            ) -> Piece {
+                let (t, n, mut count) = (text.as_ptr(), text.len(), 0);
+                let (to, room) = (numbers.as_mut_ptr(), numbers.len());
+                let end = unsafe { $read_piece(t, n, start, between, is_last, to, room, &mut count) };
+                piece(count, end)
             }
         }
 
@@ -437,9 +502,20 @@ macro_rules! list_values {
 }
 
 list_values! {
-    i64: digits_read_i64_list;
-    u64: digits_read_u64_list;
-    f64: digits_read_f64_list;
+    i64: digits_read_i64_list digits_read_i64_piece;
+    u64: digits_read_u64_list digits_read_u64_piece;
+    f64: digits_read_f64_list digits_read_f64_piece;
+}
+
+extern "C" {
+    fn digits_read_number_list(
+        text: *const u8, length: usize, start: usize, form: Form, between: u8, numbers: *mut Number,
+        room: usize, count: *mut usize,
+    ) -> Outcome;
+    fn digits_read_number_piece(
+        text: *const u8, length: usize, start: usize, form: Form, between: u8, is_last: bool,
+        numbers: *mut Number, room: usize, count: *mut usize,
+    ) -> Outcome;
 }
 
 /// The numbers of a list that begins at a start, as many as the slice has room for. `between` is the
@@ -452,4 +528,120 @@ pub fn read_list<T: ListValue>(
     numbers: &mut [T],
 ) -> List {
     T::read_list(text, start, between, numbers)
+}
+
+/// The same of numbers of a form.
+pub fn read_number_list(
+    text: &[u8],
+    start: usize,
+    form: Form,
+    between: u8,
+    numbers: &mut [Number],
+) -> List {
+    let (t, n, mut count) = (text.as_ptr(), text.len(), 0);
+    let (to, room) = (numbers.as_mut_ptr(), numbers.len());
+    // SAFETY: text and numbers have these lengths, and `count` is of its type.
+    let end = unsafe { digits_read_number_list(t, n, start, form, between, to, room, &mut count) };
+    list(count, end)
+}
+
+// ---- blanks, and bytes around a list ----
+
+extern "C" {
+    fn digits_past_blanks(text: *const u8, length: usize, start: usize) -> usize;
+    fn digits_expect_byte(text: *const u8, length: usize, start: usize, byte: u8) -> Outcome;
+    fn digits_open_list(
+        text: *const u8, length: usize, start: usize, opening: u8, closing: u8,
+    ) -> Outcome;
+}
+
+/// The first position from a start on without a blank, or the length.
+pub fn past_blanks(text: &[u8], start: usize) -> usize {
+    // SAFETY: the text has this length.
+    unsafe { digits_past_blanks(text.as_ptr(), text.len(), start) }
+}
+
+/// The position after a byte, which blanks may be before.
+pub fn expect_byte(text: &[u8], start: usize, byte: u8) -> Result<usize, Fault> {
+    // SAFETY: the text has this length.
+    match unsafe { digits_expect_byte(text.as_ptr(), text.len(), start, byte) } {
+        Outcome { at, status: statuses::OK } => Ok(at),
+        Outcome { at, status } => Err(Fault { status, at }),
+    }
+}
+
+/// What follows the byte that opens a list.
+#[derive(Clone, Copy, Debug, PartialEq, Eq)]
+pub enum Opened {
+    /// The first number has to be at this position.
+    First(usize),
+    /// The list is empty. The byte that closes it is before this position.
+    Closed(usize),
+}
+
+/// What follows the byte that opens a list, such as `[`, which blanks may be before.
+pub fn open_list(text: &[u8], start: usize, opening: u8, closing: u8) -> Result<Opened, Fault> {
+    // SAFETY: the text has this length.
+    match unsafe { digits_open_list(text.as_ptr(), text.len(), start, opening, closing) } {
+        Outcome { at, status: statuses::OK } => Ok(Opened::First(at)),
+        Outcome { at, status: statuses::CLOSED } => Ok(Opened::Closed(at)),
+        Outcome { at, status } => Err(Fault { status, at }),
+    }
+}
+
+// ---- a text that comes in pieces ----
+
+extern "C" {
+    fn digits_sure_end(text: *const u8, length: usize) -> usize;
+    fn digits_sure_end_of(text: *const u8, length: usize, form: Form) -> usize;
+    fn digits_sure_end_by(text: *const u8, length: usize, word: Word) -> usize;
+}
+
+/// The numbers of a list in a piece of a text, as of [`read_list`]. What is read stays, whatever
+/// follows the piece; `is_last` says that nothing does.
+pub fn read_piece<T: ListValue>(
+    text: &[u8],
+    start: usize,
+    between: u8,
+    is_last: bool,
+    numbers: &mut [T],
+) -> Piece {
+    T::read_piece(text, start, between, is_last, numbers)
+}
+
+/// The same of numbers of a form.
+pub fn read_number_piece(
+    text: &[u8],
+    start: usize,
+    form: Form,
+    between: u8,
+    is_last: bool,
+    numbers: &mut [Number],
+) -> Piece {
+    let (t, n, mut count) = (text.as_ptr(), text.len(), 0);
+    let (to, room) = (numbers.as_mut_ptr(), numbers.len());
+    // SAFETY: text and numbers have these lengths, and `count` is of its type.
+    let end = unsafe {
+        digits_read_number_piece(t, n, start, form, between, is_last, to, room, &mut count)
+    };
+    piece(count, end)
+}
+
+/// Up to where a piece is sure: what a `read` without a word answers at a start before this position
+/// stays, whatever follows the piece.
+pub fn sure_end(text: &[u8]) -> usize {
+    // SAFETY: the text has this length.
+    unsafe { digits_sure_end(text.as_ptr(), text.len()) }
+}
+
+/// The same of a `read` by a form.
+pub fn sure_end_of(text: &[u8], form: Form) -> usize {
+    // SAFETY: the text has this length.
+    unsafe { digits_sure_end_of(text.as_ptr(), text.len(), form) }
+}
+
+/// The same of a `read` by a word.
+pub fn sure_end_by(text: &[u8], word: Word) -> usize {
+    // SAFETY: the text has this length.
+    unsafe { digits_sure_end_by(text.as_ptr(), text.len(), word) }
 }

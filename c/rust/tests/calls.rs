@@ -84,6 +84,52 @@ fn lists() {
 }
 
 #[test]
+fn lists_of_a_form() {
+    let text = b"[-1, 2.5, 01]";
+    let mut numbers = [Number::default(); 3];
+    assert_eq!(open_list(text, 0, b'[', b']'), Ok(Opened::First(1)));
+    let list = read_number_list(text, 1, forms::JSON, b',', &mut numbers);
+    assert_eq!(list, List { count: 3, end: End::Over(11) });
+    assert_eq!(numbers.map(Number::as_i64), [Some(-1), None, Some(0)]);
+    assert_eq!(numbers[1].to_f64(), 2.5);
+    let other = Fault { status: statuses::OTHER_BYTE, at: 11 };
+    assert_eq!(expect_byte(text, 11, b']'), Err(other));
+    let list = read_number_list(b"1,2", 0, forms::GO, b',', &mut numbers[..1]);
+    assert_eq!(list, List { count: 1, end: End::Full(2) });
+}
+
+#[test]
+fn bytes() {
+    assert_eq!(past_blanks(b"\t \n1", 0), 3);
+    assert_eq!(expect_byte(b"1 :2", 1, b':'), Ok(3));
+    assert_eq!(open_list(b"x( )", 1, b'(', b')'), Ok(Opened::Closed(4)));
+    assert_eq!(open_list(b"1", 0, b'(', b')'), fault(statuses::OTHER_BYTE, 0));
+}
+
+#[test]
+fn pieces() {
+    let mut numbers = [7; 3];
+    let piece = read_piece::<i64>(b"1, -2 ,34", 0, b',', false, &mut numbers);
+    assert_eq!(piece, Piece { count: 2, end: PieceEnd::More(7) });
+    assert_eq!(numbers, [1, -2, 7]);
+    let mut floats = [7.0; 1];
+    let piece = read_piece(b"1.5 2 ", 0, b' ', false, &mut floats);
+    assert_eq!((piece, floats), (Piece { count: 1, end: PieceEnd::Full(4) }, [1.5]));
+    let piece = read_piece(b"2e3", 0, b' ', true, &mut floats);
+    assert_eq!((piece, floats), (Piece { count: 1, end: PieceEnd::Over(3) }, [2000.0]));
+    let fault = Fault { status: statuses::EMPTY, at: 2 };
+    assert_eq!(read_piece::<u64>(b"1;x", 0, b';', false, &mut [7]).end, PieceEnd::Full(2));
+    assert_eq!(read_piece::<u64>(b"1;x", 0, b';', false, &mut [7, 7]).end, PieceEnd::Fault(fault));
+    let mut of_form = [Number::default(); 2];
+    let piece = read_number_piece(b"1,1e+", 0, forms::JSON, b',', false, &mut of_form);
+    assert_eq!(piece, Piece { count: 1, end: PieceEnd::More(2) });
+    assert_eq!(of_form[0].as_u64(), Some(1));
+    assert_eq!(sure_end(b"1.5,-2"), 4);
+    assert_eq!(sure_end_of(b"[1,1e+", forms::JSON), 3);
+    assert_eq!(sure_end_by(b"x1_000", words::PYTHON_LITERAL), 1);
+}
+
+#[test]
 fn a_fault_is_an_error() {
     let fault: Box<dyn std::error::Error> = parse::<i32>(b"10x").unwrap_err().into();
     assert_eq!(fault.to_string(), "a byte that is no part of the number at byte 2");

@@ -1,15 +1,18 @@
 -- Lists of numbers, as C has them.
-use Rattle.std.specs.Prelude.{◌≡◌, ℕ, ℤ, ◌==◌, ◌-◌, ◌^◌, nat_lt, if◌then◌else◌, false, List, [], length, map, take, drop, Result}
+use Rattle.std.specs.Prelude.{◌≡◌, ℕ, ℤ, ◌==◌, ◌-◌, ◌^◌, nat_lt, if◌then◌else◌, false, List, [], length, map, take, drop, Option, None, Some, Result}
 use Rattle.std.specs.Float.{Float, Format}
 use Rattle.lexical_digits.specs.declared.ops.ByteSet.{ByteSet}
 use Rattle.digits.specs.Bytes.{BLANKS}
 use Rattle.digits.specs.Gaps.{LINES, WHITESPACE}
 use Rattle.digits.specs.ListEnds.{Full, Over, Fault}
-use Rattle.digits.specs.Words.{Gap, ListEnd, list_at, literal_position, float_position}
+use Rattle.digits.specs.Words.{Gap, ListEnd, list_at, literal_position, float_position, position}
 use Rattle.digits.specs.Words.{Integer, STANDARD, number_at, plain_marks, read_at, rule_of}
+use Rattle.digits.specs.Words.{Form}
+use Rattle.digits_c.specs.declared.numbers.NumberParts.{NumberParts}
 use Rattle.digits_c.specs.declared.outcome.Outcome.{Outcome}
-use Rattle.digits_c.specs.declared.outcome.TheConstants.{BAD_START, FULL}
-use Rattle.digits_c.specs.Outcomes.{done, fault, literal_fault, float_fault}
+use Rattle.digits_c.specs.declared.outcome.TheConstants.{BAD_FORM, BAD_START, FULL}
+use Rattle.digits_c.specs.Numbers.{parts_at}
+use Rattle.digits_c.specs.Outcomes.{done, fault, literal_fault, float_fault, number_fault}
 
 -- the set of one byte
 abbrev pub only : ℕ → ByteSet
@@ -54,6 +57,14 @@ module _ (text : List ℕ) (start between room : ℕ) where
 
   abbrev pub floats_from : Format → List Float × Outcome
   floats_from f = list_by float_fault float_position (read_at STANDARD text plain_marks f)
+
+  abbrev pub numbers_from : Form → List NumberParts × Outcome
+  numbers_from form = list_by number_fault position (parts_at form text)
+
+  -- the same by a form that has a number, or has none
+  abbrev pub numbers_by : Option Form → List NumberParts × Outcome
+  numbers_by None = ([], fault BAD_FORM start)
+  numbers_by (Some form) = numbers_from form
 
 -- these numbers are the front of the places, as many as `count`, and the rest is what it was
 pub record Fills {V A : Type 0} (value : V → A) (list : List A × Outcome) (count : ℕ)

@@ -34,6 +34,10 @@ abbrev pub whole_in_parts : Result (Number Float) NumberError → Result NumberP
 whole_in_parts (Ok n) = Ok (parts_of n)
 whole_in_parts (Err error) = Err error
 
+-- a number of a list, in its parts, and where it ends
+unfoldable pub parts_at : Form → List ℕ → ℕ → Result (NumberParts × ℕ) NumberError
+parts_at form text at = in_parts (number_of_at form text at binary64)
+
 -- the number of a form at a start, and where it ends
 module _ (form : Form) (text : List ℕ) where
   abbrev pub number_from : ℕ → Result (NumberParts × ℕ) Outcome

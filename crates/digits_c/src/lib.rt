@@ -8,6 +8,7 @@
 
 ghost use Rattle.std.specs.Prelude.{◌≡◌};
 
+mod bytes;
 mod floats;
 mod integers;
 mod laws;
@@ -15,10 +16,15 @@ mod lists;
 mod literals;
 mod numbers;
 mod outcome;
+mod parts;
+mod pieces;
 mod scaled;
+mod source;
 mod word;
 
-pub use laws::read_then_as_i64;
+pub use laws::{
+    kinds_say, read_then_as_i64, reads_stay, reads_stay_by, reads_stay_of, statuses_say,
+};
 pub use outcome::Outcome;
 pub use word::Word;
 

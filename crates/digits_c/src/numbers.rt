@@ -36,7 +36,7 @@ pub struct NumberParts {
 impl NumberParts {
     /// Of a number.
     #[inline(always)]
-    fn of(number: Number<f64>) -> NumberParts
+    pub(super) fn of(number: Number<f64>) -> NumberParts
         ensures { result ≡ parts_of (with_value (λ x. x) number) }
     {
         let value = number.to_float();

@@ -41,6 +41,12 @@ pub const BAD_FORM: u32 = 10;
 pub const BAD_PLACES: u32 = 11;
 /// The list goes on, and there is no more room for its numbers.
 pub const FULL: u32 = 12;
+/// More of the text is needed, from this position on.
+pub const MORE: u32 = 13;
+/// Another byte is there, or the text ends.
+pub const OTHER_BYTE: u32 = 14;
+/// The list has no number, and ends here.
+pub const CLOSED: u32 = 15;
 
 impl Outcome {
     /// Of a number that ends here.

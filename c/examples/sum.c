@@ -1,0 +1,55 @@
+/* Sums the floats of a file, or of standard input, with blanks or ends of lines between them. At no
+ * time more than 4 KiB of the text are in memory. */
+#include "digits.h"
+
+#include <stdio.h>
+#include <string.h>
+
+/* Adds the numbers of a piece of the text, up to where it may be cut: that is the outcome's `at`. */
+static digits_outcome add(const char *text, size_t length, bool is_last, double *sum)
+{
+    double numbers[64];
+    size_t count, i;
+    digits_outcome list = {0, DIGITS_FULL};
+
+    while (list.status == DIGITS_FULL) {
+        list = digits_read_f64_piece(text, length, list.at, ' ', is_last, numbers, 64, &count);
+        for (i = 0; i < count; i++)
+            *sum += numbers[i];
+    }
+    return list;
+}
+
+int main(int words, char **word)
+{
+    FILE *const file = words > 1 ? fopen(word[1], "rb") : stdin;
+    static char text[4096];
+    size_t length = 0, before = 0; /* what is in `text`, and the bytes of the file before it */
+    double sum = 0;
+    digits_outcome list = {0, DIGITS_MORE};
+    bool is_last = false;
+
+    if (file == NULL) {
+        perror(word[1]);
+        return 1;
+    }
+    while (list.status == DIGITS_MORE && length < sizeof text) {
+        length += fread(text + length, 1, sizeof text - length, file);
+        is_last = length < sizeof text;
+        list = add(text, length, is_last, &sum);
+        before += list.at;
+        length -= list.at;
+        memmove(text, text + list.at, length);
+    }
+    if (ferror(file)) {
+        perror("reading");
+        return 1;
+    }
+    if (list.status == DIGITS_OK && length == 0 && is_last) {
+        printf("%.17g\n", sum);
+        return 0;
+    }
+    fprintf(stderr, "byte %zu: %s\n", before,
+            digits_message(list.status == DIGITS_OK ? DIGITS_EMPTY : list.status));
+    return 1;
+}
