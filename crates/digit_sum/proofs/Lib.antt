@@ -1,0 +1,10 @@
+pub mod Adding
+pub mod Bits
+pub mod Fields
+pub mod FirstLine
+pub mod FirstMark
+pub mod Fits
+pub mod Meaning
+pub mod Pieces
+pub mod Quick
+pub mod Words

@@ -1,0 +1,9 @@
+pub mod Arguments
+pub mod Field
+pub mod Lines
+pub mod Meaning
+pub mod Outcome
+pub mod Quick
+pub mod Text
+pub mod Totals
+pub mod Value

@@ -1,0 +1,23 @@
+//! What the report of a text says.
+
+ghost use Rattle.std.specs.Prelude.{◌≡◌, ℕ, List, Ok, Err};
+ghost use Rattle.digit_sum.specs.declared.fault.Fault.TheVariants.{Number, Sum, LongLine};
+ghost use Rattle.digit_sum.specs.declared.fault.NumberError.{NumberError};
+ghost use Rattle.digit_sum.specs.declared.options.Options.{Options};
+ghost use Rattle.digit_sum.specs.declared.totals.Totals.{Totals};
+ghost use Rattle.digit_sum.specs.Meaning.{AreTotals, IsNumberFault, IsSumFault, IsLongLine};
+ghost use Rattle.digit_sum.specs.Totals.{report_of};
+
+/// What the report of a text says: each line has a value, and the totals are the count, the sum,
+/// the least and the greatest of all values; or the lines before line `n` have values, and line `n`
+/// has none, or with its value the sum leaves 128 bits, or it is too long.
+pub fn reports_say()
+    ensures totals { (options : Options) (text : List ℕ) (t : Totals) →
+        report_of options text ≡ Ok t → AreTotals options text t }
+    ensures number { (options : Options) (text : List ℕ) (n : ℕ) (error : NumberError) →
+        report_of options text ≡ Err (Number n error) → IsNumberFault options text n error }
+    ensures sum { (options : Options) (text : List ℕ) (n : ℕ) →
+        report_of options text ≡ Err (Sum n) → IsSumFault options text n }
+    ensures long { (options : Options) (text : List ℕ) (n : ℕ) →
+        report_of options text ≡ Err (LongLine n) → IsLongLine options text n }
+{}
