@@ -44,18 +44,26 @@ PAGES = {"CALLING.md": ("calling", ""), "docs/LOOPS.md": ("loops", "loops.")}
 
 
 def files_of(page, module, prefix, faults):
-    """The files that the blocks of a page are, with their lines."""
+    """The files that the blocks of a page are, with their lines. A block whose first line is the
+    name of a file, as `// src/points.rt`, is that file; the others of Rust are one."""
     rust = blocks_of(page, "rust")
-    files = {f"{USES}/src/{module}.rt": [pair for first, block in rust
-                                         for pair in code(block, first)]}
-    for first, block in blocks_of(page, "antt"):
+    files = {f"{USES}/src/{module}.rt": []}
+    for first, block in rust + blocks_of(page, "antt"):
+        named = re.fullmatch(r"(?://|--) ((?:src|specs)/\w+\.\w+)", block[0])
         text = "\n".join(block)
-        name = re.search(rf"Rattle\.my_parser\.proofs\.{prefix}(\w+)\.Given", text)
-        if name is None:
-            faults.append(f"{page}:{first}: no `Rattle.my_parser.proofs.{prefix}NAME.Given` here")
-            continue
-        text = text.replace(f"my_parser.proofs.{prefix}", f"digit_uses.proofs.{module}.")
-        files[f"{USES}/proofs/{module}/{name[1]}/Invariants.antt"] = code(text.split("\n"), first)
+        if named:
+            text = text.replace("my_parser", "digit_uses")
+            files[f"{USES}/{named[1]}"] = code(text.split("\n")[1:], first + 1)
+        elif (first, block) in rust:
+            files[f"{USES}/src/{module}.rt"] += code(block, first)
+        else:
+            name = re.search(rf"Rattle\.my_parser\.proofs\.{prefix}(\w+)\.Given", text)
+            if name is None:
+                faults.append(f"{page}:{first}: names no file, and no "
+                              f"`Rattle.my_parser.proofs.{prefix}NAME.Given` is here")
+                continue
+            text = text.replace(f"my_parser.proofs.{prefix}", f"digit_uses.proofs.{module}.")
+            files[f"{USES}/proofs/{module}/{name[1]}/Invariants.antt"] = code(text.split("\n"), first)
     return files, len(rust)
 
 
@@ -66,7 +74,7 @@ def by_the_door(page, faults):
         for number, line in enumerate(block, first):
             m = re.match(r"(?:ghost )?use (?:Rattle\.)?(\w+)|#.*?\b(?:using|unfolding)\((\w+)::", line)
             crate = m and (m[1] or m[2])
-            if crate and crate not in (DOOR, "std"):
+            if crate and crate not in (DOOR, "std", "my_parser"):
                 faults.append(f"{page}:{number}: a caller who has only `{DOOR}` has no `{crate}`")
 
 
@@ -98,7 +106,7 @@ def check():
         by_the_door(page, faults)
     for page, (module, prefix) in PAGES.items():
         files, blocks = files_of(page, module, prefix, faults)
-        count += blocks + len(files) - 1
+        count += blocks + sum(path.endswith(".antt") for path in files)
         for path, here in files.items():
             faults.append(fault(page, here, path, code(read(path).split("\n"), 1)))
     first, block = blocks_of("README.md", "rust")[0]

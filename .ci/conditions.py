@@ -18,12 +18,20 @@ def with_condition(items, all_public=False):
         yield from with_condition(item.inner, item.kind == "trait" or " for " in item.head)
 
 
+def type_of(head):
+    """The type that has an `impl` of no trait."""
+    m = re.match(r"impl(?:<[^{]*?>)?\s+(\w+)", head)
+    return m and m[1]
+
+
 def functions():
     """Each such function, with its library."""
     for name in libraries():
         crate = Crate(name)
         shown = [item for module in crate.modules.values() for item in module.shown]
-        impls = [item for source in crate.sources for item in source.items if item.kind == "impl"]
+        types = {item.name for item in shown}
+        impls = [item for source in crate.sources for item in source.items if item.kind == "impl"
+                 and (" for " in item.head or type_of(item.head) in types)]
         yield from ((name, function) for function in sorted({*with_condition(shown + impls)}))
 
 

@@ -10,7 +10,7 @@ from sources import DOOR, TOP, crates, difference, files_below, libraries, read
 sys.path.append(os.path.join(TOP, "bench"))
 import pages as speed  # noqa: E402
 
-MOST_WORDS = {"CALLING.md": 2000}
+MOST_WORDS = {"CALLING.md": 2400}
 NAMES = ("zero one two three four five six seven eight nine ten eleven twelve thirteen fourteen "
          "fifteen sixteen").split()
 
@@ -146,8 +146,8 @@ def names(it):
     listed = {"CHANGELOG.md": (line, re.findall(rf"`([a-z]+_[a-z]+|{DOOR})`", text)),
               "README.md": (1, re.findall(r"docs/reference/(\w+)\.md", read("README.md")))}
     for page, (line, names) in listed.items():
-        there = [name for name in libraries() + [DOOR] if name != DOOR or page == "CHANGELOG.md"]
-        it.compare(page, line, "the list of libraries", sorted(set(names)), sorted(there))
+        it.compare(page, line, "the list of libraries", sorted(set(names)),
+                   sorted(libraries() + [DOOR]))
     for line, text in it.lines("HANDLES"):
         if text:
             it.compare("HANDLES", line, "the promise of no handle", text, "Handles allowed: none.")

@@ -37,9 +37,9 @@ def crates():
     return {head.split()[0]: below.split() for head, _, below in lines if head.strip()}
 
 
-# The crates that no caller in Rattle uses: examples, the program, tests, the benchmark, the library
-# for C.
-INNER = ("digit_hello", "digit_uses", "digit_drain", "digit_vectors", "number_vectors",
+# The crates that no caller in Rattle uses: examples, the programs, tests, the benchmark, the
+# library for C.
+INNER = ("digit_hello", "digit_uses", "digit_drain", "digit_sum", "digit_vectors", "number_vectors",
          "digit_bench", "digits_c", "digit_jobs")
 
 # The crate that only passes on what the others have.
