@@ -578,10 +578,11 @@ def sure_end(text, form=None, word=None):
 
 
 def numbers_of(file, between=b" ", read_piece=read_f64_piece, size=1 << 16):
-    """Yields the numbers of a list in a file, or in whatever else reads bytes, up to where the list is
-    over. Only a block of some `size` bytes of it is in memory, or what one number takes. `read_piece`
-    is one of the calls above, of a form other than JSON functools.partial(read_number_piece,
-    form=..). The position of a fault counts from where the file was.
+    """Yields the numbers of a file, or of whatever else reads bytes, which is one list. Where the list
+    is over and the file is not, there is a fault. Only a block of some `size` bytes is in memory, or
+    what one number takes. `read_piece` is one of the calls above, of a form other than JSON
+    functools.partial(read_number_piece, form=..). The position of a fault counts from where the file
+    was.
 
     >>> import io
     >>> sum(numbers_of(io.BytesIO(b"1.5 2\\n-3e1"), size=4))
@@ -598,3 +599,5 @@ def numbers_of(file, between=b" ", read_piece=read_f64_piece, size=1 << 16):
             raise Fault(fault.status, before + fault.at) from None
         yield from numbers
         text, before = text[at:], before + at
+    if text or file.read(1):
+        raise Fault(INVALID, before)

@@ -109,7 +109,10 @@ class Calls(unittest.TestCase):
         self.assertEqual(list(digits.numbers_of(io.BytesIO(b"1_0, -inf"), b",", of_toml, 3)),
                          [10, float("-inf")])
         self.assertEqual(list(digits.numbers_of(io.BytesIO(b""), size=1)), [])
-        self.assertEqual(list(digits.numbers_of(io.BytesIO(b"1.5 2 ] 3"), size=2)), [1.5, 2.0])
+        for text in (b"1.5 2 ] 3", b"1.5 2 ]"):
+            read = digits.numbers_of(io.BytesIO(text), size=2)
+            self.assertEqual([next(read), next(read)], [1.5, 2.0])
+            self.fails(digits.INVALID, 6, next, read)
         read = digits.numbers_of(io.BytesIO(b"1 2 3e ]"), size=3)
         self.assertEqual([next(read), next(read)], [1.0, 2.0])
         self.fails(digits.EMPTY_EXPONENT, 6, next, read)

@@ -1,4 +1,5 @@
 pub mod Calls
+pub mod Finished
 pub mod Known
 pub mod PiecesHeld
 pub mod Single

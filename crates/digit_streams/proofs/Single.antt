@@ -6,7 +6,7 @@ use Rattle.digit_literals.specs.Lists.{past_blanks, next_after, list_at, after_n
 use Rattle.digit_streams.specs.declared.stream.Ended.{Ended}
 use Rattle.digit_streams.specs.declared.stream.StreamEnd.{StreamEnd}
 use Rattle.digit_streams.specs.declared.stream.StreamEnd.TheVariants.{Full, Over, Fault}
-use Rattle.digit_streams.specs.declared.stream.StreamError.TheVariants.{Number, NoRoom, Read, TooLong}
+use Rattle.digit_streams.specs.declared.stream.StreamError.TheVariants.{Number, NoRoom, Read, TooLong, Trailing}
 use Rattle.digit_streams.specs.Streams.{StreamNumbers, Gives, after_end, stream_list}
 
 abbrev pub IsShort : {A : Type 0} → List A → Type 0
@@ -44,6 +44,7 @@ module _ {A E : Type 0} where
   gives_one list x (Fault (NoRoom at)) short h = h.1 ∙ ap (λ l. x ∷ l) (short x h.0 h.1)
   gives_one list x (Fault (Read kind)) short h = h.1 ∙ ap (λ l. x ∷ l) (short x h.0 h.1)
   gives_one list x (Fault TooLong) short h = h.1 ∙ ap (λ l. x ∷ l) (short x h.0 h.1)
+  gives_one list x (Fault (Trailing at)) short h = h.1 ∙ ap (λ l. x ∷ l) (short x h.0 h.1)
 
   -- a number that is given is the list's only one
   pub gives_next : (one : List ℕ → ℕ → Result (A × ℕ) E) (error_at : E → ℕ)

@@ -7,7 +7,7 @@ use Rattle.std.proofs.lemmas.List.{drop-drop, drop-append-le, map-append}
 use Rattle.std.specs.Io.KnownBytes.{IsAtEnd, Keeps, prepend_known}
 use Rattle.digit_streams.specs.declared.stream.StreamEnd.TheVariants.{Full, Over, Fault}
 use Rattle.digit_streams.specs.declared.stream.StreamError.{StreamError}
-use Rattle.digit_streams.specs.declared.stream.StreamError.TheVariants.{Number, NoRoom, Read, TooLong}
+use Rattle.digit_streams.specs.declared.stream.StreamError.TheVariants.{Number, NoRoom, Read, TooLong, Trailing}
 use Rattle.digit_streams.specs.declared.held.Held.{Held}
 use Rattle.digit_streams.specs.declared.held.Held.TheVariants as held
 use Rattle.digit_streams.specs.Streams.{StreamNumbers, IsFailure, Gives, GoesOn, Uses, UsesKnown, ReadsOn}
@@ -84,6 +84,8 @@ module _ {A E : Type 0} where
       (two.0, rw (one, two.1) (sym (append_assoc numbers more two.0)))
   goes_on_twice list numbers others more (held.End (Fault TooLong)) rest one two =
       (two.0, rw (one, two.1) (sym (append_assoc numbers more two.0)))
+  goes_on_twice list numbers others more (held.End (Fault (Trailing at))) rest one two =
+      (two.0, rw (one, two.1) (sym (append_assoc numbers more two.0)))
 
   -- where there are others, these are the first
   pub first_are : (list : StreamNumbers A E) (numbers : List A) (others : StreamNumbers A E)
@@ -93,6 +95,7 @@ module _ {A E : Type 0} where
   first_are list numbers others (NoRoom at) one is = (others.0, ap (λ l. l.0) one)
   first_are list numbers others (Read kind) one is = (others.0, ap (λ l. l.0) one)
   first_are list numbers others TooLong one is = (others.0, ap (λ l. l.0) one)
+  first_are list numbers others (Trailing at) one is = absurd is
 
   module _ (list : ℕ → List ℕ → ℕ → StreamNumbers A E) (Apart : Type 0) (from at to : ℕ)
       (room before left : ℕ) (numbers more : List A) (end : Held E) (old new : List ℕ)

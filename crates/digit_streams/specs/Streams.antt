@@ -11,7 +11,7 @@ use Rattle.digit_pieces.specs.Pieces.{piece_at}
 use Rattle.digit_streams.specs.declared.stream.StreamEnd.{StreamEnd}
 use Rattle.digit_streams.specs.declared.stream.StreamEnd.TheVariants.{Full, Over, Fault}
 use Rattle.digit_streams.specs.declared.stream.StreamError.{StreamError}
-use Rattle.digit_streams.specs.declared.stream.StreamError.TheVariants.{Number, NoRoom, Read, TooLong}
+use Rattle.digit_streams.specs.declared.stream.StreamError.TheVariants.{Number, NoRoom, Read, TooLong, Trailing}
 use Rattle.digit_streams.specs.declared.stream.Ended.{Ended}
 use Rattle.digit_streams.specs.declared.stream.Ended.TheVariants as ended
 use Rattle.digit_streams.specs.declared.held.Held.{Held}
@@ -86,6 +86,7 @@ IsFailure (Number error) = ⊥
 IsFailure (NoRoom at) = ⊤
 IsFailure (Read kind) = ⊤
 IsFailure TooLong = ⊤
+IsFailure (Trailing at) = ⊥
 
 -- These numbers and this end are those of a list. Where the reader failed, or the buffer is too
 -- small, the numbers are the first of the list.
@@ -96,6 +97,7 @@ Gives list numbers (Fault (Number error)) = list ≡ (numbers, Fault (Number err
 Gives list numbers (Fault (NoRoom at)) = BeginsWith list.0 numbers
 Gives list numbers (Fault (Read kind)) = BeginsWith list.0 numbers
 Gives list numbers (Fault TooLong) = BeginsWith list.0 numbers
+Gives list numbers (Fault (Trailing at)) = BeginsWith list.0 numbers
 
 -- a list has these numbers, and then others
 abbrev pub GoesOn : {A E : Type 0} → StreamNumbers A E → List A → StreamNumbers A E → Type 0
@@ -129,6 +131,7 @@ IsPlace (Fault (Number error)) position capacity held = ⊤
 IsPlace (Fault (NoRoom at)) position capacity held = (at ≡ position) × (capacity ≤ held)
 IsPlace (Fault (Read kind)) position capacity held = ⊤
 IsPlace (Fault TooLong) position capacity held = ⊤
+IsPlace (Fault (Trailing at)) position capacity held = ⊥
 
 -- a piece has these numbers, and the bytes after those that are used are needed again
 abbrev pub AsksFor : {A E : Type 0} → (List ℕ → ℕ → Result (A × ℕ) E) → (E → ℕ) → (ℕ → Bool)
@@ -150,6 +153,7 @@ IfNoRoom (Fault (Number error)) P = ⊤
 IfNoRoom (Fault (NoRoom at)) P = P
 IfNoRoom (Fault (Read kind)) P = ⊤
 IfNoRoom (Fault TooLong) P = ⊤
+IfNoRoom (Fault (Trailing at)) P = ⊤
 
 -- the same of a piece, which never ends for want of room
 abbrev pub IsHeldPlace : {E : Type 0} → Held E → ℕ → Type 0
@@ -160,6 +164,7 @@ IsHeldPlace (held.End (Fault (Number error))) position = ⊤
 IsHeldPlace (held.End (Fault (NoRoom at))) position = ⊥
 IsHeldPlace (held.End (Fault (Read kind))) position = ⊤
 IsHeldPlace (held.End (Fault TooLong)) position = ⊤
+IsHeldPlace (held.End (Fault (Trailing at))) position = ⊥
 
 -- the end that is answered from then on
 abbrev pub ended_by : {E : Type 0} → StreamEnd E → Option (Ended E)
@@ -177,6 +182,7 @@ IsNext meaning list (Some (Err (Number error))) = list ≡ ([], Fault (Number er
 IsNext meaning list (Some (Err (NoRoom at))) = ⊤
 IsNext meaning list (Some (Err (Read kind))) = ⊤
 IsNext meaning list (Some (Err TooLong)) = ⊤
+IsNext meaning list (Some (Err (Trailing at))) = ⊤
 
 -- the same of what `next_number` answers
 abbrev pub IsPlaceOfNext : {V E : Type 0} → Option (Result V (StreamError E))
@@ -219,3 +225,16 @@ ReadsOn list numbers (held.End end) others = Gives list numbers end
 abbrev pub list_of_option : {V A : Type 0} → (V → A) → Option V → List A
 list_of_option meaning None = []
 list_of_option meaning (Some x) = meaning x ∷ []
+
+-- a fact of the position where a stream goes on after its numbers
+abbrev pub IfTrailing : {E : Type 0} → StreamError E → (ℕ → Type 0) → Type 0
+IfTrailing (Number error) P = ⊤
+IfTrailing (NoRoom at) P = ⊤
+IfTrailing (Read kind) P = ⊤
+IfTrailing TooLong P = ⊤
+IfTrailing (Trailing at) P = P at
+
+-- a fact of the error that is answered again
+abbrev pub IfFault : {E : Type 0} → Ended E → (StreamError E → Type 0) → Type 0
+IfFault (ended.Over at) P = ⊤
+IfFault (ended.Fault error) P = P error

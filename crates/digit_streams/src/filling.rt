@@ -1,6 +1,6 @@
 //! The numbers of a stream, whose bytes come by a window.
 
-ghost use Rattle.std.specs.Prelude.{◌≡◌, true, ◌≤◌, length, map, take, drop, IfOk, IfErr, IfSome, IsSome, ℕ};
+ghost use Rattle.std.specs.Prelude.{◌≡◌, true, false, ◌<◌, ◌≤◌, length, map, take, drop, IfOk, IfErr, IfSome, IsSome, ℕ};
 ghost use Rattle.std.specs.Io.KnownBytes.{Keeps, IsAtEnd};
 ghost use Rattle.digit_pieces.specs.Texts.{IsApart};
 ghost use Rattle.digit_streams.specs.Windows.{unread, bytes_left};
@@ -14,11 +14,17 @@ use digit_pieces::Kind;
 use std::io::{ErrorKind, Read};
 
 /// Reads once into a window: whether the reader is at its end.
-fn fill<R: Read, E: Copy>(window: &mut Window<'_>, reader: &mut R) -> Result<bool, StreamError<E>>
+pub fn fill<R: Read, E: Copy>(
+    window: &mut Window<'_>,
+    reader: &mut R,
+) -> Result<bool, StreamError<E>>
     ensures text { Keeps (bytes_left window.old (R.remaining reader.old))
         (bytes_left window.new (R.remaining reader.new)) }
     ensures position { window.new.position ≡ window.old.position }
     ensures last { IfOk result (λ is_last. is_last ≡ true → IsAtEnd (R.remaining reader.new)) }
+    ensures more { IfOk result (λ is_last. is_last ≡ false → 0 < length (unread window.new)) }
+    ensures none { IfOk result (λ is_last. is_last ≡ true →
+        length (unread window.new) ≡ length (unread window.old)) }
     ensures failure { IfErr result (λ error. IsFailure error) }
     ensures same { IfErr result (λ error. IfNoRoom (StreamEnd.Fault error)
         (window.new ≡ window.old)) }

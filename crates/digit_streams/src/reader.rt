@@ -1,6 +1,6 @@
 //! A reader of numbers.
 
-use super::filling::{read_next, read_stream};
+use super::filling::{fill, read_next, read_stream};
 use super::format::Format;
 use super::stream::{Ended, StreamEnd, StreamError, StreamRead, ended_by};
 use super::window::Window;
@@ -51,9 +51,10 @@ impl<'b, K: Kind, R: Read> Model for NumberReader<'b, K, R> {
 }
 
 impl<'b, K: Kind, R: Read> NumberReader<'b, K, R> {
-    ghost use Rattle.std.specs.Prelude.{◌≡◌, ◌≤◌, length, map, take, drop, None, IfSome, IfNone, IsSome, ℕ};
+    ghost use Rattle.std.specs.Prelude.{◌≡◌, ◌<◌, ◌≤◌, [], length, map, take, drop, None, Err, IfSome, IfNone, IfErr, OnOk, IsSome, ℕ};
+    ghost use Rattle.std.specs.Io.KnownBytes.{Keeps};
     ghost use Rattle.digit_pieces.specs.Texts.{IsApart};
-    ghost use Rattle.digit_streams.specs.Streams.{Gives, IfNoRoom, IfNoRoomOfNext, IsNext, IsPlace, IsPlaceOfNext, NeedsMore, UsesKnown, numbers_of, ended_by, EndsSo, next_again, end_again, list_of_option};
+    ghost use Rattle.digit_streams.specs.Streams.{Gives, IfNoRoom, IfNoRoomOfNext, IsNext, IsPlace, IsPlaceOfNext, NeedsMore, UsesKnown, numbers_of, ended_by, EndsSo, next_again, end_again, list_of_option, IfFault, IfTrailing};
 
     /// A reader of the numbers of a stream. Requires that the kind is valid.
     pub fn new(reader: R, buffer: &'b mut [u8], kind: K, gap: Gap) -> NumberReader<'b, K, R>
@@ -134,7 +135,8 @@ impl<'b, K: Kind, R: Read> NumberReader<'b, K, R> {
         read
     }
 
-    /// Reads the next number. `None` if the list is over.
+    /// Reads the next number. `None` if the list is over, which it is where no number begins:
+    /// [`finish`](NumberReader::finish) says whether the stream is at its end there.
     ///
     /// If the list was over, or there was an error, then each later call answers that again.
     pub fn next_number(&mut self) -> Option<Result<K::Number, StreamError<K::Error>>>
@@ -163,6 +165,42 @@ impl<'b, K: Kind, R: Read> NumberReader<'b, K, R> {
                 StreamEnd::Full(_) | StreamEnd::Over(_) => None,
             },
         }
+    }
+
+    /// Whether the stream is at its end: nothing follows the bytes that were used. If something
+    /// does, the error is [`Trailing`](StreamError::Trailing) with the position. After an error,
+    /// that is answered again. Call it after the last number: a list is over where no number
+    /// begins, as at a letter, or by [`LINES`](digit_literals::LINES) at an empty line.
+    pub fn finish(&mut self) -> Result<(), StreamError<K::Error>>
+        ensures ok { OnOk result (IfSome self.old.bytes (λ bytes. bytes ≡ [])) }
+        ensures trailing { IfNone self.old.ended (IfErr result (λ error. IfTrailing error (λ at.
+            (at ≡ self.old.position)
+            × IfSome self.old.bytes (λ bytes. 0 < length bytes)))) }
+        ensures again { IfSome self.old.ended (λ ended.
+            IfFault ended (λ error. result ≡ Err error)) }
+        ensures bytes { Keeps self.old.bytes self.new.bytes }
+        ensures position { self.new.position ≡ self.old.position }
+        ensures ended { self.new.ended ≡ self.old.ended }
+        ensures kind { self.new.kind ≡ self.old.kind }
+        ensures gap { self.new.gap ≡ self.old.gap }
+        ensures capacity { self.new.capacity ≡ self.old.capacity }
+    {
+        if let Some(Ended::Fault(error)) = self.ended {
+            return Err(error);
+        }
+        let at = self.window.position();
+        if !self.window.unread().is_empty() {
+            return Err(StreamError::Trailing(at));
+        }
+        if self.is_over {
+            return Ok(());
+        }
+        let is_over = fill(&mut self.window, &mut self.reader)?;
+        self.is_over = is_over;
+        if !is_over {
+            return Err(StreamError::Trailing(at));
+        }
+        Ok(())
     }
 
     /// Reads the next number, if there is one, and why there are no more.

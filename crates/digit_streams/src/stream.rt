@@ -19,6 +19,9 @@ pub enum StreamError<E> {
     Read(ErrorKind),
     /// A position is above `u64::MAX`.
     TooLong,
+    /// The numbers are over, and the stream goes on at this position. Only
+    /// [`finish`](crate::NumberReader::finish) answers it.
+    Trailing(u64),
 }
 
 impl<E: fmt::Display> fmt::Display for StreamError<E> {
@@ -28,6 +31,7 @@ impl<E: fmt::Display> fmt::Display for StreamError<E> {
             StreamError::NoRoom(at) => write!(f, "the buffer has no room for the number at {at}"),
             StreamError::Read(kind) => write!(f, "the reader failed: {kind}"),
             StreamError::TooLong => write!(f, "a position is above {}", u64::MAX),
+            StreamError::Trailing(at) => write!(f, "the byte at {at} follows the numbers"),
         }
     }
 }

@@ -23,6 +23,7 @@ pub fn sum_of<R: Read + Drop>(reader: R) -> Result<u64, StreamError<LiteralError
             None => break,
         }
     }
+    numbers.finish()?;
     Ok(sum)
 }
 
@@ -47,6 +48,11 @@ fn a_sum(rt: HostRuntime) {
     assert_eq!(rt; sum_of(b"".as_slice()), Ok(0));
     let fault = StreamError::Number(LiteralError::Overflow(23));
     assert_eq!(rt; sum_of(b"12\n 18446744073709551616".as_slice()), Err(fault));
+    assert_eq!(rt;
+        sum_of(b"1 2 ] 3".as_slice()),
+        Err(StreamError::Trailing(4))
+    );
+    assert_eq!(rt; sum_of(b"x".as_slice()), Err(StreamError::Trailing(0)));
     let first = first_of(
         b"12 3",
         &mut [0; 4],
