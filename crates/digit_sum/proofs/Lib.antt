@@ -4,6 +4,10 @@ pub mod Fields
 pub mod FirstLine
 pub mod FirstMark
 pub mod Fits
+pub mod FloatAdding
+pub mod FloatMeaning
+pub mod FloatOrder
+pub mod FloatPieces
 pub mod Meaning
 pub mod Pieces
 pub mod Quick

@@ -11,7 +11,7 @@ use Rattle.digit_sum.proofs.FirstMark.{position_none}
 use Rattle.digit_sum.specs.declared.options.Options.{Options}
 use Rattle.digit_sum.specs.declared.totals.Totals.{Totals}
 use Rattle.digit_sum.specs.declared.fault.Fault.{Fault}
-use Rattle.digit_sum.specs.declared.fault.Fault.TheVariants.{Number, Sum, LongLine, Read, Write, Memory}
+use Rattle.digit_sum.specs.declared.fault.Fault.TheVariants.{Number, Sum, LongLine, Read, Write, Memory, Text}
 use Rattle.digit_sum.specs.declared.fault.NumberError.{NumberError}
 use Rattle.digit_sum.specs.Lines.{lines_of}
 use Rattle.digit_sum.specs.Outcome.{Continues, Reports, Sums}
@@ -21,17 +21,17 @@ use Rattle.digit_sum.specs.Totals.{has_128_bits, plus, with_value, with_line, co
 -- ---- a line that is too long
 
 -- the first line of a text has the bytes before its first line feed
-record StartsLine (front text : List ℕ) : Type 0 where
-  more : List ℕ
-  others : List (List ℕ)
-  lines : lines_of text ≡ (front ++ more) ∷ others
+pub record StartsLine (front text : List ℕ) : Type 0 where
+  pub more : List ℕ
+  pub others : List (List ℕ)
+  pub lines : lines_of text ≡ (front ++ more) ∷ others
 
 onto : (byte : ℕ) (lines : List (List ℕ)) → (first : List ℕ) × (others : List (List ℕ))
     × (onto_first byte lines ≡ (byte ∷ first) ∷ others)
 onto byte [] = ([], [], refl)
 onto byte (line ∷ lines) = (line, lines, refl)
 
-starts_line : (front rest : List ℕ) → 0 < length front → All (λ byte. byte ≢ 10) front
+pub starts_line : (front rest : List ℕ) → 0 < length front → All (λ byte. byte ≢ 10) front
     → StartsLine front (front ++ rest)
 starts_line [] rest some whole = absurd (omega arith)
 starts_line (byte ∷ []) rest some whole =
@@ -67,6 +67,7 @@ IsOfLine (LongLine n) = ⊤
 IsOfLine Read = ⊥
 IsOfLine Write = ⊥
 IsOfLine Memory = ⊥
+IsOfLine Text = ⊥
 
 abbrev IsOfLineResult : Result Totals Fault → Type 0
 IsOfLineResult (Ok t) = ⊤
@@ -108,6 +109,7 @@ module _ (options : Options) where
   of_line Read p a r = absurd p
   of_line Write p a r = absurd p
   of_line Memory p a r = absurd p
+  of_line Text p a r = absurd p
 
   lines_fault : (t : Totals) (lines : List (List ℕ)) (fault : Fault)
       → with_lines options t lines ≡ Err fault → (a : Option (List ℕ))

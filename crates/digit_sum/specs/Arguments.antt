@@ -9,11 +9,13 @@ use Rattle.digit_sum.specs.declared.options.Column.{Column}
 use Rattle.digit_sum.specs.declared.options.Kind.{Kind}
 use Rattle.digit_sum.specs.declared.options.Kind.TheVariants.{Integers, Places}
 use Rattle.digit_sum.specs.declared.options.Options.{Options}
+use Rattle.digit_sum.specs.declared.options.Request.{Request}
+use Rattle.digit_sum.specs.declared.options.Request.TheVariants.{Exact, Floats}
 use Rattle.digit_sum.specs.declared.arguments.Name.{Name}
 use Rattle.digit_sum.specs.declared.arguments.Name.TheVariants as names
 use Rattle.digit_sum.specs.declared.arguments.Settings.{Settings}
 use Rattle.digit_sum.specs.declared.arguments.UsageError.{UsageError}
-use Rattle.digit_sum.specs.declared.arguments.UsageError.TheVariants.{Unknown, Twice, NoValue, BadValue, NoColumn}
+use Rattle.digit_sum.specs.declared.arguments.UsageError.TheVariants.{Unknown, Twice, NoValue, BadValue, NoColumn, FloatPlaces}
 
 -- ---- words
 
@@ -24,6 +26,7 @@ name_of word =
     if bytes_eq word (codes "--separator") then Some names.Separator else
     if bytes_eq word (codes "--places") then Some names.Places else
     if bytes_eq word (codes "--underscores") then Some names.Underscores else
+    if bytes_eq word (codes "--floats") then Some names.Floats else
     None
 
 -- a number from `least` to `most`
@@ -52,6 +55,7 @@ no_settings = record {
   separator = None;
   places = None;
   underscores = false;
+  floats = false;
   awaits = None;
 }
 
@@ -74,6 +78,7 @@ with_value s names.Column n word = with_column s n (number_of 1 (2 ^ 64 - 1) wor
 with_value s names.Separator n word = with_separator s n (byte_of word)
 with_value s names.Places n word = with_places s n (number_of 0 38 word)
 with_value s names.Underscores n word = Err (BadValue n)
+with_value s names.Floats n word = Err (BadValue n)
 
 -- whether an option was given before
 abbrev pub is_set : Settings → Name → Bool
@@ -81,6 +86,7 @@ is_set s names.Column = is_some s.column
 is_set s names.Separator = is_some s.separator
 is_set s names.Places = is_some s.places
 is_set s names.Underscores = s.underscores
+is_set s names.Floats = s.floats
 
 -- with an option: one without a value is set, another waits for its value
 abbrev pub with_option : Settings → Name → Settings
@@ -88,6 +94,7 @@ with_option s names.Column = record s { awaits = Some names.Column }
 with_option s names.Separator = record s { awaits = Some names.Separator }
 with_option s names.Places = record s { awaits = Some names.Places }
 with_option s names.Underscores = record s { underscores = true }
+with_option s names.Floats = record s { floats = true }
 
 -- word n, where an option may be
 abbrev pub with_name : Settings → ℕ → Option Name → Result Settings UsageError
@@ -114,34 +121,47 @@ abbrev pub kind_of : Option ℕ → Kind
 kind_of None = Integers
 kind_of (Some places) = Places places
 
-abbrev pub with_kind : Settings → Result (Option Column) UsageError → Result Options UsageError
-with_kind s (Ok column) = Ok (record {
+-- an exact sum
+abbrev pub exact_sum : Settings → Option Column → Options
+exact_sum s column = record {
   column = column;
   kind = kind_of s.places;
   underscores = s.underscores;
-})
+}
+
+-- a sum of floats, which have no number of places
+abbrev pub float_sum : Settings → Option Column → Option ℕ → Result Request UsageError
+float_sum s column None = Ok (Floats (record { column = column; underscores = s.underscores }))
+float_sum s column (Some places) = Err FloatPlaces
+
+abbrev pub request_of : Settings → Option Column → Result Request UsageError
+request_of s column =
+    if s.floats then float_sum s column s.places else Ok (Exact (exact_sum s column))
+
+abbrev pub with_kind : Settings → Result (Option Column) UsageError → Result Request UsageError
+with_kind s (Ok column) = request_of s column
 with_kind s (Err error) = Err error
 
-abbrev pub asked_by : Option Name → Settings → ℕ → Result Options UsageError
+abbrev pub asked_by : Option Name → Settings → ℕ → Result Request UsageError
 asked_by None s n = with_kind s (column_of s.column s.separator)
 asked_by (Some name) s n = Err (NoValue n)
 
 -- what the settings of n words ask for
-unfoldable pub options_of : Settings → ℕ → Result Options UsageError
-options_of s n = asked_by s.awaits s n
+unfoldable pub asked_of : Settings → ℕ → Result Request UsageError
+asked_of s n = asked_by s.awaits s n
 
 -- the words from the one after n words on
-abbrev pub continue : (Settings → Result Options UsageError) → Result Settings UsageError
-    → Result Options UsageError
+abbrev pub continue : (Settings → Result Request UsageError) → Result Settings UsageError
+    → Result Request UsageError
 continue rest (Ok s) = rest s
 continue rest (Err error) = Err error
 
-abbrev pub read_from : Settings → ℕ → List (List ℕ) → Result Options UsageError
-read_from s n [] = options_of s n
+abbrev pub read_from : Settings → ℕ → List (List ℕ) → Result Request UsageError
+read_from s n [] = asked_of s n
 read_from s n (word ∷ words) =
     continue (λ t. read_from t (n + 1) words) (with_word s (n + 1) word)
 
-abbrev pub asked : List (List ℕ) → Result Options UsageError
+abbrev pub asked : List (List ℕ) → Result Request UsageError
 asked words = read_from no_settings 0 words
 
 -- ---- what is written where they ask for nothing
@@ -152,3 +172,4 @@ usage_line (Twice n) = codes "error: argument " ++ decimal n ++ codes " was give
 usage_line (NoValue n) = codes "error: argument " ++ decimal n ++ codes " has no value\n"
 usage_line (BadValue n) = codes "error: argument " ++ decimal n ++ codes " is no such value\n"
 usage_line NoColumn = codes "error: a separator without a column\n"
+usage_line FloatPlaces = codes "error: floats with places\n"

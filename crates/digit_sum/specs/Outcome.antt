@@ -3,11 +3,10 @@
 use Rattle.std.specs.Prelude.{◌≡◌, ⊤, ℕ, ◌<◌, List, ◌++◌, length, Option, None, Some, Result, Ok, Err, IfSome}
 use Rattle.std.specs.Io.KnownBytes.{Appends, Keeps, IsAtEnd}
 use Rattle.digit_sum.specs.declared.fault.Fault.{Fault}
-use Rattle.digit_sum.specs.declared.fault.Fault.TheVariants.{Number, Sum, LongLine, Read, Write, Memory}
-use Rattle.digit_sum.specs.declared.arguments.UsageError.{UsageError}
+use Rattle.digit_sum.specs.declared.fault.Fault.TheVariants.{Number, Sum, LongLine, Read, Write, Memory, Text}
+use Rattle.digit_sum.specs.declared.options.Column.{Column}
 use Rattle.digit_sum.specs.declared.options.Options.{Options}
 use Rattle.digit_sum.specs.declared.totals.Totals.{Totals}
-use Rattle.digit_sum.specs.Arguments.{asked, usage_line}
 use Rattle.digit_sum.specs.Lines.{lines_of}
 use Rattle.digit_sum.specs.Text.{line_of, error_line, status_of}
 use Rattle.digit_sum.specs.Totals.{with_lines, report_of}
@@ -23,6 +22,7 @@ module _ (options : Options) where
   Sums input (Err Read) = ⊤
   Sums input (Err Write) = ⊥
   Sums input (Err Memory) = ⊥
+  Sums input (Err Text) = ⊥
   Sums input (Err fault) = Reports input (Err fault)
 
   -- The totals so far, with the lines of what was read and is not among them, and of what is left,
@@ -76,6 +76,7 @@ module _ (options : Options) (s : Streams) where
   Runs (Err Read) = Keeps s.had s.has
   Runs (Err Write) = WritesPart
   Runs (Err Memory) = Keeps s.had s.has
+  Runs (Err Text) = ⊥
 
 -- what `tell` does, by its answer; it can answer no other fault
 abbrev pub Tells : (had has : Option (List ℕ)) → List ℕ → Result (Unit {0}) Fault → Type 0
@@ -86,27 +87,16 @@ Tells had has line (Err _) = ⊥
 
 -- what is written to the standard error after the run, and the status: nothing and 0, or what
 -- `tell` writes and the status of the fault
-abbrev pub EndsWith : Options → (had has : Option (List ℕ)) → Result (Unit {0}) Fault → ℕ → Type 0
-EndsWith options had has (Ok done) status = (status ≡ 0) × (has ≡ had)
-EndsWith options had has (Err fault) status =
+abbrev pub EndsWith : Option Column → (had has : Option (List ℕ)) → Result (Unit {0}) Fault → ℕ
+    → Type 0
+EndsWith column had has (Ok done) status = (status ≡ 0) × (has ≡ had)
+EndsWith column had has (Err fault) status =
     (status ≡ status_of fault) × (answer : Result (Unit {0}) Fault)
-    × Tells had has (error_line options.column fault) answer
+    × Tells had has (error_line column fault) answer
 
 -- A run, and what is written to the standard error after it.
 pub record Serves (options : Options) (s : Streams) (had has : Option (List ℕ)) (status : ℕ)
     : Type 0 where
   pub answer : Result (Unit {0}) Fault
   pub runs : Runs options s answer
-  pub ends : EndsWith options had has answer status
-
--- What a run by arguments does: what a run by their options does. Or they ask for nothing: then
--- nothing is read, nothing is written but what `tell` writes, and the status is 2.
-abbrev pub ServesAsked : Result Options UsageError → Streams → (had has : Option (List ℕ)) → ℕ
-    → Type 0
-ServesAsked (Ok options) s had has status = Serves options s had has status
-ServesAsked (Err error) s had has status =
-    (status ≡ 2) × (s.rest ≡ s.input) × (s.has ≡ s.had)
-    × (answer : Result (Unit {0}) Fault) × Tells had has (usage_line error) answer
-
-abbrev pub ServesArguments : List (List ℕ) → Streams → (had has : Option (List ℕ)) → ℕ → Type 0
-ServesArguments words s had has status = ServesAsked (asked words) s had has status
+  pub ends : EndsWith options.column had has answer status

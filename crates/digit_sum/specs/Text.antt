@@ -4,10 +4,11 @@ use Rattle.std.specs.Fmt.{sign_text, signed_decimal}
 use Rattle.std.specs.Int.{is_negative}
 use Rattle.digit_literals.specs.Errors as integers
 use Rattle.digit_floats.specs.Scaled as decimals
+use Rattle.digit_floats.specs.Errors as floats
 use Rattle.digit_sum.specs.declared.fault.Fault.{Fault}
-use Rattle.digit_sum.specs.declared.fault.Fault.TheVariants.{Number, Sum, LongLine, Read, Write, Memory}
+use Rattle.digit_sum.specs.declared.fault.Fault.TheVariants.{Number, Sum, LongLine, Read, Write, Memory, Text}
 use Rattle.digit_sum.specs.declared.fault.NumberError.{NumberError}
-use Rattle.digit_sum.specs.declared.fault.NumberError.TheVariants.{Missing, Integer, Decimal}
+use Rattle.digit_sum.specs.declared.fault.NumberError.TheVariants.{Missing, Integer, Decimal, Float}
 use Rattle.digit_sum.specs.declared.options.Column.{Column}
 use Rattle.digit_sum.specs.declared.options.Kind.{Kind}
 use Rattle.digit_sum.specs.declared.options.Kind.TheVariants.{Integers, Places}
@@ -53,6 +54,7 @@ abbrev pub message : NumberError → List ℕ
 message Missing = codes "there is no such column"
 message (Integer error) = integers.message error
 message (Decimal error) = decimals.message error
+message (Float error) = floats.message error
 
 -- where it is
 abbrev pub place : Option Column → ℕ → List ℕ
@@ -73,6 +75,7 @@ error_line column (LongLine line) = told column line (codes "the line is too lon
 error_line column Read = codes "error: read failed\n"
 error_line column Write = codes "error: write failed\n"
 error_line column Memory = codes "error: out of memory\n"
+error_line column Text = codes "error: a float is not read from its text\n"
 
 abbrev pub status_of : Fault → ℕ
 status_of (Number line error) = 3
@@ -81,3 +84,4 @@ status_of (LongLine line) = 5
 status_of Read = 6
 status_of Write = 7
 status_of Memory = 8
+status_of Text = 9

@@ -13,6 +13,8 @@ use Rattle.digit_floats.specs.Scaled.{read_scaled_at, whole_of}
 use Rattle.digit_sum.specs.declared.options.Kind.{Kind}
 use Rattle.digit_sum.specs.declared.options.Kind.TheVariants.{Integers, Places}
 use Rattle.digit_sum.specs.declared.options.Options.{Options}
+use Rattle.digit_sum.specs.declared.options.Request.{Request}
+use Rattle.digit_sum.specs.declared.options.Request.TheVariants.{Exact, Floats}
 use Rattle.digit_sum.specs.declared.fault.NumberError.{NumberError}
 use Rattle.digit_sum.specs.declared.fault.NumberError.TheVariants as errors
 use Rattle.digit_sum.specs.Field.{span_of}
@@ -28,10 +30,14 @@ abbrev pub HasFewPlaces : Kind → Type 0
 HasFewPlaces Integers = ⊤
 HasFewPlaces (Places places) = places ≤ 38
 
+abbrev pub MayServe : Request → Type 0
+MayServe (Exact options) = HasFewPlaces options.kind
+MayServe (Floats options) = ⊤
+
 -- ---- a number with blanks around it
 
 -- a number that ends at a position, as one that ends after the blanks there
-abbrev pub with_blanks : {E : Type 0} → List ℕ → Result (ℤ × ℕ) E → Result (ℤ × ℕ) E
+abbrev pub with_blanks : {A E : Type 0} → List ℕ → Result (A × ℕ) E → Result (A × ℕ) E
 with_blanks text (Ok (value, end)) = Ok (value, past_bytes text end BLANKS)
 with_blanks text (Err error) = Err error
 

@@ -2,9 +2,9 @@
 
 ghost use Rattle.std.specs.Prelude.{◌≡◌, ◌+◌, ◌≤◌, ◌<◌, map, IfOk, IfSome, string_bytes};
 ghost use Rattle.digit_sum.specs.Arguments as Arguments;
-ghost use Rattle.digit_sum.specs.Value.{HasFewPlaces};
+ghost use Rattle.digit_sum.specs.Value.{HasFewPlaces, MayServe};
 
-use super::options::{Column, Kind, Options};
+use super::options::{Column, FloatOptions, Kind, Options, Request};
 use digit_literals::parse_number;
 use lexical_format::STANDARD;
 use std::alloc::{AllocError, Allocator};
@@ -16,6 +16,7 @@ pub enum Name {
     Separator,
     Places,
     Underscores,
+    Floats,
 }
 
 /// Why the arguments ask for nothing. Arguments count from 1.
@@ -31,6 +32,8 @@ pub enum UsageError {
     BadValue(usize),
     /// There is a separator, and no column.
     NoColumn,
+    /// The numbers are floats, and have a number of places.
+    FloatPlaces,
 }
 
 /// What the first arguments set.
@@ -40,6 +43,7 @@ pub struct Settings {
     pub separator: Option<u8>,
     pub places: Option<usize>,
     pub underscores: bool,
+    pub floats: bool,
     /// The option whose value is the next argument.
     pub awaits: Option<Name>,
 }
@@ -56,6 +60,8 @@ fn name_of(word: &[u8]) -> Option<Name>
         Some(Name::Places)
     } else if word == b"--underscores".as_slice() {
         Some(Name::Underscores)
+    } else if word == b"--floats".as_slice() {
+        Some(Name::Floats)
     } else {
         None
     }
@@ -100,6 +106,7 @@ impl Settings {
             separator: None,
             places: None,
             underscores: false,
+            floats: false,
             awaits: None,
         }
     }
@@ -125,7 +132,7 @@ impl Settings {
                 Some(places) => settings.places = Some(places),
                 None => return Err(UsageError::BadValue(n)),
             },
-            Name::Underscores => return Err(UsageError::BadValue(n)),
+            Name::Underscores | Name::Floats => return Err(UsageError::BadValue(n)),
         }
         Ok(settings)
     }
@@ -139,6 +146,7 @@ impl Settings {
             Name::Separator => self.separator.is_some(),
             Name::Places => self.places.is_some(),
             Name::Underscores => self.underscores,
+            Name::Floats => self.floats,
         }
     }
 
@@ -150,6 +158,7 @@ impl Settings {
         let mut settings = self;
         match name {
             Name::Underscores => settings.underscores = true,
+            Name::Floats => settings.floats = true,
             _ => settings.awaits = Some(name),
         }
         settings
@@ -212,31 +221,50 @@ impl Settings {
         }
     }
 
-    /// What the settings of `n` arguments ask for.
-    #[tactic(auto, unfolding(crate::specs::Arguments::options_of))]
-    fn options(self, n: usize) -> Result<Options, UsageError>
+    /// What the settings ask for in a column.
+    fn request(self, column: Option<Column>) -> Result<Request, UsageError>
         requires { IfSome self.places (λ places. places ≤ 38) }
-        ensures is { result ≡ Arguments.options_of self n }
-        ensures few { IfOk result (λ options. HasFewPlaces options.kind) }
+        ensures is { result ≡ Arguments.request_of self column }
+        ensures few { IfOk result MayServe }
+    {
+        let underscores = self.underscores;
+        if !self.floats {
+            return Ok(Request::Exact(Options {
+                column,
+                kind: self.kind(),
+                underscores,
+            }));
+        }
+        if self.places.is_some() {
+            return Err(UsageError::FloatPlaces);
+        }
+        Ok(Request::Floats(FloatOptions {
+            column,
+            underscores,
+        }))
+    }
+
+    /// What the settings of `n` arguments ask for.
+    #[tactic(auto, unfolding(crate::specs::Arguments::asked_of))]
+    fn asks(self, n: usize) -> Result<Request, UsageError>
+        requires { IfSome self.places (λ places. places ≤ 38) }
+        ensures is { result ≡ Arguments.asked_of self n }
+        ensures few { IfOk result MayServe }
     {
         if self.awaits.is_some() {
             return Err(UsageError::NoValue(n));
         }
         match self.column() {
-            Ok(column) => Ok(Options {
-                column,
-                kind: self.kind(),
-                underscores: self.underscores,
-            }),
+            Ok(column) => self.request(column),
             Err(error) => Err(error),
         }
     }
 }
 
 /// What the arguments ask for.
-pub fn read_arguments(words: &[&[u8]]) -> Result<Options, UsageError>
+pub fn read_arguments(words: &[&[u8]]) -> Result<Request, UsageError>
     ensures is { result ≡ Arguments.asked (map (λ word. word.now) words.now) }
-    ensures few { IfOk result (λ options. HasFewPlaces options.kind) }
+    ensures few { IfOk result MayServe }
 {
     let mut settings = Settings::new();
     for at in 0..words.len() {
@@ -245,7 +273,7 @@ pub fn read_arguments(words: &[&[u8]]) -> Result<Options, UsageError>
             Err(error) => return Err(error),
         }
     }
-    settings.options(words.len())
+    settings.asks(words.len())
 }
 
 /// The line of a fault of the arguments.
@@ -258,5 +286,6 @@ pub fn usage_line<A: Allocator>(alloc: &A, error: UsageError) -> Result<String<&
         UsageError::NoValue(n) => format!(in alloc; "error: argument {n} has no value\n"),
         UsageError::BadValue(n) => format!(in alloc; "error: argument {n} is no such value\n"),
         UsageError::NoColumn => String::from_str(alloc, "error: a separator without a column\n"),
+        UsageError::FloatPlaces => String::from_str(alloc, "error: floats with places\n"),
     }
 }

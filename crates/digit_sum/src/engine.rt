@@ -2,14 +2,18 @@
 
 ghost use Rattle.std.specs.Prelude.{map};
 ghost use Rattle.digit_sum.specs.Arguments as Arguments;
-ghost use Rattle.digit_sum.specs.Outcome.{Runs, Tells, Serves, ServesArguments};
+ghost use Rattle.digit_sum.specs.FloatOutcome.{RunsFloats, ServesFloats};
+ghost use Rattle.digit_sum.specs.Outcome.{Runs, Tells, Serves};
+ghost use Rattle.digit_sum.specs.Program.{ServesArguments};
 ghost use Rattle.digit_sum.specs.Text as Text;
 ghost use Rattle.digit_sum.specs.Value.{HasFewPlaces};
 
 use super::arguments::{UsageError, read_arguments, usage_line};
 pub use super::fault::Fault;
+use super::floats::input::sum_floats;
+use super::floats::text::float_line;
 use super::input::sum_input;
-use super::options::Options;
+use super::options::{Column, FloatOptions, Options, Request};
 use super::output::write_output;
 use super::text::{error_line, line_of};
 use std::alloc::{Allocator, Global};
@@ -42,20 +46,47 @@ pub fn run<A: Allocator, R: Read, W: Write>(
     write_output(writer, line.as_bytes())
 }
 
+/// Adds up an input as floats, and writes the line of their totals, as [`run`].
+///
+/// On [`Fault::Text`] nothing was written.
+pub fn run_floats<A: Allocator, R: Read, W: Write>(
+    alloc: &A,
+    options: FloatOptions,
+    reader: &mut R,
+    writer: &mut W,
+) -> Result<(), Fault>
+    ensures { RunsFloats options (record {
+      input = R.remaining reader.old;
+      rest = R.remaining reader.new;
+      had = W.contents writer.old;
+      has = W.contents writer.new;
+    }) result }
+{
+    let totals = match sum_floats(options, reader) {
+        Ok(totals) => totals,
+        Err(fault) => return Err(fault),
+    };
+    let line = match float_line(alloc, totals) {
+        Ok(line) => line,
+        Err(fault) => return Err(fault),
+    };
+    write_output(writer, line.as_bytes())
+}
+
 /// Writes the line of a fault.
 ///
 /// It can answer only two faults: on [`Fault::Write`] a prefix of the line was written, never the
 /// whole, and on [`Fault::Memory`] nothing was written.
 pub fn tell<A: Allocator, W: Write>(
     alloc: &A,
-    options: Options,
+    column: Option<Column>,
     fault: Fault,
     writer: &mut W,
 ) -> Result<(), Fault>
     ensures { Tells (W.contents writer.old) (W.contents writer.new)
-        (Text.error_line options.column fault) result }
+        (Text.error_line column fault) result }
 {
-    let line = error_line(alloc, options.column, fault)?;
+    let line = error_line(alloc, column, fault)?;
     write_output(writer, line.as_bytes())
 }
 
@@ -94,14 +125,41 @@ pub fn serve<R: Read, W: Write, E: Write>(
         Ok(()) => 0,
         Err(fault) => {
             // A failed `tell` does not change the status.
-            let _ = tell(&alloc, options, fault, errors);
+            let _ = tell(&alloc, options.column, fault, errors);
             fault.status()
         }
     }
 }
 
-/// The whole program, by its arguments: [`serve`], or the line of a fault of the arguments and the
-/// status 2.
+/// Runs the program for floats, as [`serve`]. In code of its own, so that the loops of [`serve`]
+/// have all registers.
+#[inline(never)]
+pub fn serve_floats<R: Read, W: Write, E: Write>(
+    alloc: Global,
+    options: FloatOptions,
+    reader: &mut R,
+    writer: &mut W,
+    errors: &mut E,
+) -> u8
+    ensures { ServesFloats options (record {
+      input = R.remaining reader.old;
+      rest = R.remaining reader.new;
+      had = W.contents writer.old;
+      has = W.contents writer.new;
+    }) (E.contents errors.old) (E.contents errors.new) result }
+{
+    match run_floats(&alloc, options, reader, writer) {
+        Ok(()) => 0,
+        Err(fault) => {
+            // A failed `tell` does not change the status.
+            let _ = tell(&alloc, options.column, fault, errors);
+            fault.status()
+        }
+    }
+}
+
+/// The whole program, by its arguments: [`serve`] or [`serve_floats`], or the line of a fault of
+/// the arguments and the status 2.
 pub fn serve_arguments<R: Read, W: Write, E: Write>(
     alloc: Global,
     words: &[&[u8]],
@@ -117,7 +175,8 @@ pub fn serve_arguments<R: Read, W: Write, E: Write>(
     }) (E.contents errors.old) (E.contents errors.new) result }
 {
     match read_arguments(words) {
-        Ok(options) => serve(alloc, options, reader, writer, errors),
+        Ok(Request::Exact(options)) => serve(alloc, options, reader, writer, errors),
+        Ok(Request::Floats(options)) => serve_floats(alloc, options, reader, writer, errors),
         Err(error) => {
             // A failed `tell_usage` does not change the status.
             let _ = tell_usage(&alloc, error, errors);

@@ -3,7 +3,7 @@
 ghost use Rattle.std.specs.Prelude.{◌≡◌};
 ghost use Rattle.digit_sum.specs.declared.fault.Fault.TheVariants.{Memory};
 
-use digit_floats::ScaledError;
+use digit_floats::{FloatError, ScaledError};
 use digit_literals::ParseError;
 use std::alloc::AllocError;
 
@@ -16,6 +16,8 @@ pub enum NumberError {
     Integer(ParseError),
     /// What is there is no decimal number of 128 bits with so many places.
     Decimal(ScaledError),
+    /// What is there is no float.
+    Float(FloatError),
 }
 
 /// Why a run ended early. Lines count from 1.
@@ -33,12 +35,14 @@ pub enum Fault {
     Write,
     /// The allocator refused memory.
     Memory,
+    /// The text of a float among the totals is not read as that float.
+    Text,
 }
 
 impl Fault {
     ghost use Rattle.digit_sum.specs.Text.{status_of};
 
-    /// The exit status of the program for this fault: 3 to 8 in the order of the variants.
+    /// The exit status of the program for this fault: 3 to 9 in the order of the variants.
     pub fn status(&self) -> u8
         ensures { result ≡ status_of self.now }
     {
@@ -49,6 +53,7 @@ impl Fault {
             Fault::Read => 6,
             Fault::Write => 7,
             Fault::Memory => 8,
+            Fault::Text => 9,
         }
     }
 }

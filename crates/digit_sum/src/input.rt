@@ -19,7 +19,7 @@ use std::io::{ErrorKind, Read};
 pub const SIZE: usize = 65536;
 
 /// Reads once into the buffer, after its first `filled` bytes. An interrupted read is tried again.
-fn fill<R: Read>(reader: &mut R, buffer: &mut [u8], filled: usize) -> Result<usize, Fault>
+pub fn fill<R: Read>(reader: &mut R, buffer: &mut [u8], filled: usize) -> Result<usize, Fault>
     requires { filled < length buffer.old }
     ensures read { IfOk result (λ n. Consumes (R.remaining reader.old) (R.remaining reader.new)
         (take n (drop filled buffer.new))) }
@@ -43,7 +43,7 @@ fn fill<R: Read>(reader: &mut R, buffer: &mut [u8], filled: usize) -> Result<usi
 }
 
 /// Moves a part of the buffer to its front.
-fn keep(buffer: &mut [u8], start: usize, end: usize)
+pub fn keep(buffer: &mut [u8], start: usize, end: usize)
     requires order { start ≤ end }
     requires within { end ≤ length buffer.old }
     ensures length { length buffer.new ≡ length buffer.old }

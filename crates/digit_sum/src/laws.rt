@@ -3,8 +3,12 @@
 ghost use Rattle.std.specs.Prelude.{◌≡◌, ℕ, List, Ok, Err};
 ghost use Rattle.digit_sum.specs.declared.fault.Fault.TheVariants.{Number, Sum, LongLine};
 ghost use Rattle.digit_sum.specs.declared.fault.NumberError.{NumberError};
+ghost use Rattle.digit_sum.specs.declared.floats.totals.FloatTotals.{FloatTotals};
+ghost use Rattle.digit_sum.specs.declared.options.FloatOptions.{FloatOptions};
 ghost use Rattle.digit_sum.specs.declared.options.Options.{Options};
 ghost use Rattle.digit_sum.specs.declared.totals.Totals.{Totals};
+ghost use Rattle.digit_sum.specs.FloatMeaning as FloatMeaning;
+ghost use Rattle.digit_sum.specs.Floats as Floats;
 ghost use Rattle.digit_sum.specs.Meaning.{AreTotals, IsNumberFault, IsSumFault, IsLongLine};
 ghost use Rattle.digit_sum.specs.Totals.{report_of};
 
@@ -20,4 +24,16 @@ pub fn reports_say()
         report_of options text ≡ Err (Sum n) → IsSumFault options text n }
     ensures long { (options : Options) (text : List ℕ) (n : ℕ) →
         report_of options text ≡ Err (LongLine n) → IsLongLine options text n }
+{}
+
+/// What the report of floats says of a text: as [`reports_say`], but the sum is the one of floats
+/// that are added one after the other, each sum rounded, and it never ends a run.
+pub fn float_reports_say()
+    ensures totals { (options : FloatOptions) (text : List ℕ) (t : FloatTotals) →
+        Floats.report_of options text ≡ Ok t → FloatMeaning.AreTotals options text t }
+    ensures number { (options : FloatOptions) (text : List ℕ) (n : ℕ) (error : NumberError) →
+        Floats.report_of options text ≡ Err (Number n error)
+        → FloatMeaning.IsNumberFault options text n error }
+    ensures long { (options : FloatOptions) (text : List ℕ) (n : ℕ) →
+        Floats.report_of options text ≡ Err (LongLine n) → FloatMeaning.IsLongLine options text n }
 {}

@@ -6,6 +6,7 @@ pub mod arguments;
 pub mod engine;
 pub mod fault;
 pub mod field;
+pub mod floats;
 pub mod input;
 pub mod laws;
 pub mod lines;

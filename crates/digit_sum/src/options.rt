@@ -17,7 +17,7 @@ pub enum Kind {
     Places(usize),
 }
 
-/// What a run adds up.
+/// What a run adds up, exactly.
 #[derive(Clone, Copy, Debug, PartialEq, Eq)]
 pub struct Options {
     /// Where the number is in a line. `None`: it is the whole line.
@@ -25,4 +25,22 @@ pub struct Options {
     pub kind: Kind,
     /// Whether one `_` may be between two digits.
     pub underscores: bool,
+}
+
+/// What a run adds up as floats.
+#[derive(Clone, Copy, Debug, PartialEq, Eq)]
+pub struct FloatOptions {
+    /// As in [`Options`].
+    pub column: Option<Column>,
+    /// As in [`Options`].
+    pub underscores: bool,
+}
+
+/// What the arguments ask for.
+#[derive(Clone, Copy, Debug, PartialEq, Eq)]
+pub enum Request {
+    /// An exact sum.
+    Exact(Options),
+    /// A sum of floats.
+    Floats(FloatOptions),
 }

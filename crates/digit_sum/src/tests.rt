@@ -1,11 +1,12 @@
 //! The program's totals, and its runs under failure.
 
 mod failures;
+mod floats;
 mod streams;
 mod totals;
 
 use crate::engine::serve_arguments;
-use crate::laws::reports_say;
+use crate::laws::{float_reports_say, reports_say};
 use std::alloc::Global;
 use std::io::Read;
 
@@ -27,6 +28,7 @@ impl Outcome {
 /// Runs the program over a reader.
 fn run_over<R: Read>(alloc: Global, words: &[&[u8]], reader: &mut R) -> Outcome {
     reports_say();
+    float_reports_say();
     let mut written = Vec::new(alloc);
     let mut told = Vec::new(alloc);
     let status = serve_arguments(alloc, words, reader, &mut written, &mut told);

@@ -78,7 +78,7 @@ fn amount_of_some<A: Allocator>(
 
 /// A count and a sum, with their names.
 #[tactic(auto, unfolding(crate::specs::Text::count_and_sum))]
-fn count_and_sum<'a, A: Allocator>(
+pub fn count_and_sum<'a, A: Allocator>(
     alloc: &'a A,
     count: u128,
     sum: &str,
@@ -90,7 +90,7 @@ fn count_and_sum<'a, A: Allocator>(
 
 /// The least and the greatest amount, with their names, and the line feed.
 #[tactic(auto, unfolding(crate::specs::Text::extremes))]
-fn extremes<'a, A: Allocator>(
+pub fn extremes<'a, A: Allocator>(
     alloc: &'a A,
     least: &str,
     greatest: &str,
@@ -147,6 +147,7 @@ fn message<A: Allocator>(alloc: &A, error: NumberError) -> Result<String<&A>, Al
         NumberError::Missing => String::from_str(alloc, "there is no such column"),
         NumberError::Integer(error) => format!(in alloc; "{error}"),
         NumberError::Decimal(error) => format!(in alloc; "{error}"),
+        NumberError::Float(error) => format!(in alloc; "{error}"),
     }
 }
 
@@ -208,5 +209,6 @@ pub fn error_line<A: Allocator>(
         Fault::Read => String::from_str(alloc, "error: read failed\n"),
         Fault::Write => String::from_str(alloc, "error: write failed\n"),
         Fault::Memory => String::from_str(alloc, "error: out of memory\n"),
+        Fault::Text => String::from_str(alloc, "error: a float is not read from its text\n"),
     }
 }

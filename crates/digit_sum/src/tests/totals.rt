@@ -137,7 +137,7 @@ static FAULTS: [(&[&[u8]], &[u8], &[u8], u8); 18] = [
         3,
     ),
     (
-        &[b"--floats"],
+        &[b"--float"],
         b"1\n",
         b"error: argument 1 is no option\n",
         2,
@@ -194,9 +194,10 @@ fn faults_are_told(rt: HostRuntime) {
 }
 
 /// Sixty bytes, of which the last line has no line feed.
-const SIXTY: &[u8] = b"1\n22\n-333\n4444\n 55555\n666666\r\n7777777\n88888888\n9\n10\n11\n-1234";
+pub const SIXTY: &[u8] =
+    b"1\n22\n-333\n4444\n 55555\n666666\r\n7777777\n88888888\n9\n10\n11\n-1234";
 
-const SIXTY_TOTALS: &[u8] = b"count=12 sum=97391816 min=-1234 max=88888888\n";
+pub const SIXTY_TOTALS: &[u8] = b"count=12 sum=97391816 min=-1234 max=88888888\n";
 
 /// Runs the program over the sixty bytes, of which `first` come at the first read.
 fn run_cut(alloc: Global, first: usize, then: usize) -> Outcome {

@@ -1,0 +1,7 @@
+//! Adds up floats, one after the other.
+
+pub mod input;
+pub mod lines;
+pub mod text;
+pub mod totals;
+pub mod value;
