@@ -62,6 +62,33 @@ impl NumberParts {
         }
     }
 
+    /// Writes a number, field by field, so that nothing is written between the fields.
+    #[inline(always)]
+    fn write(&mut self, number: Number<f64>)
+        ensures { self.new ≡ parts_of (with_value (λ x. x) number) }
+    {
+        match number {
+            Number::Integer {
+                negative,
+                magnitude,
+                word: _,
+            } => {
+                self.value = number.to_float();
+                self.low = (magnitude & 0xffff_ffff_ffff_ffff) as u64;
+                self.high = (magnitude >> 64) as u64;
+                self.kind = INTEGER;
+                self.is_negative = negative;
+            }
+            Number::Float(value) => {
+                self.value = value;
+                self.low = 0;
+                self.high = 0;
+                self.kind = FLOAT;
+                self.is_negative = false;
+            }
+        }
+    }
+
     /// Of none.
     #[inline(always)]
     fn none() -> NumberParts
@@ -117,16 +144,19 @@ fn read(text: &[u8], start: usize, form: Form, number: &mut NumberParts) -> Outc
     requires { IsForm form }
     ensures { Answers no_parts (number_from form text.now start) number.new result }
 {
-    *number = NumberParts::none();
     if start > text.len() {
+        *number = NumberParts::none();
         return Outcome::fault(BAD_START, start);
     }
     match read_number_of::<f64>(text, start, form) {
         Ok((read, end)) => {
-            *number = NumberParts::of(read);
+            number.write(read);
             Outcome::done(end)
         }
-        Err(error) => Outcome::of_number(error),
+        Err(error) => {
+            *number = NumberParts::none();
+            Outcome::of_number(error)
+        }
     }
 }
 
@@ -136,13 +166,15 @@ fn parse(text: &[u8], form: Form, number: &mut NumberParts) -> Outcome
     requires { IsForm form }
     ensures { Answers no_parts (whole_number form text.now) number.new result }
 {
-    *number = NumberParts::none();
     match parse_number_of::<f64>(text, form) {
         Ok(read) => {
-            *number = NumberParts::of(read);
+            number.write(read);
             Outcome::done(text.len())
         }
-        Err(error) => Outcome::of_number(error),
+        Err(error) => {
+            *number = NumberParts::none();
+            Outcome::of_number(error)
+        }
     }
 }
 
@@ -162,6 +194,26 @@ pub extern "C" fn digits_parse_json(text: &[u8], number: &mut NumberParts) -> Ou
     parse(text, forms::JSON, number)
 }
 
+/// [`read`] for code that stands beside that of other forms. It writes the number whole: field by
+/// field, the compiler would keep what was read in memory there.
+#[inline(always)]
+fn read_beside(text: &[u8], start: usize, form: Form, number: &mut NumberParts) -> Outcome
+    requires { IsForm form }
+    ensures { Answers no_parts (number_from form text.now start) number.new result }
+{
+    *number = NumberParts::none();
+    if start > text.len() {
+        return Outcome::fault(BAD_START, start);
+    }
+    match read_number_of::<f64>(text, start, form) {
+        Ok((read, end)) => {
+            *number = NumberParts::of(read);
+            Outcome::done(end)
+        }
+        Err(error) => Outcome::of_number(error),
+    }
+}
+
 /// The number of a form that begins at a start, where `code` is the form's number.
 #[inline(always)]
 fn read_as(text: &[u8], start: usize, code: u32, form: Form, number: &mut NumberParts) -> Outcome
@@ -169,7 +221,7 @@ fn read_as(text: &[u8], start: usize, code: u32, form: Form, number: &mut Number
     requires form { IsForm form }
     ensures { Answers no_parts (number_by text.now start (form_of code)) number.new result }
 {
-    read(text, start, form, number)
+    read_beside(text, start, form, number)
 }
 
 /// The number of a form with a number, by code for all forms.
