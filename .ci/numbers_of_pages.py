@@ -10,7 +10,7 @@ from sources import DOOR, TOP, crates, difference, files_below, libraries, read
 sys.path.append(os.path.join(TOP, "bench"))
 import pages as speed  # noqa: E402
 
-MOST_WORDS = {"CALLING.md": 2400}
+MOST_WORDS = {"CALLING.md": 2500}
 NAMES = ("zero one two three four five six seven eight nine ten eleven twelve thirteen fourteen "
          "fifteen sixteen").split()
 

@@ -123,7 +123,7 @@ pub fn read_css(text: &[u8], start: usize) -> Result<(f64, usize), NumberError>
     Ok((number.to_float(), end))
 }
 
-/// The sum of the floats of a stream, one in each line.
+/// The sum of the floats of a stream, one in each line. An empty line is an error.
 pub fn sum_of<R: Read + Drop>(stream: R) -> Result<f64, StreamError<FloatError>> {
     let mut buffer = [0; 4096];
     let mut numbers = NumberReader::new(stream, &mut buffer, Floats::<f64>::new(STANDARD), LINES);
@@ -134,6 +134,7 @@ pub fn sum_of<R: Read + Drop>(stream: R) -> Result<f64, StreamError<FloatError>>
             None => break,
         }
     }
+    numbers.finish()?;
     Ok(sum)
 }
 

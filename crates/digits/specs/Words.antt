@@ -78,5 +78,8 @@ pub use Rattle.digit_lists.specs.declared.enclosed.EnclosedError.{EnclosedError}
 pub use Rattle.digit_lists.specs.declared.prices.PriceError.{PriceError}
 pub use Rattle.digit_lists.specs.Lists.{Holds, enclosed, full_list, inside, parsed}
 pub use Rattle.digit_lists.specs.Optional.{optional, with_meaning}
+pub use Rattle.digit_lists.specs.Empty.{float_is_empty, literal_is_empty}
+pub use Rattle.digit_lists.specs.Empty.{number_is_empty, scaled_is_empty}
 pub use Rattle.digit_lists.specs.Groups.{AreGroups, groups_at, wrong_at}
-pub use Rattle.digit_lists.specs.Prices.{exact_at, grouped_at, places_at, price_at, price_position}
+pub use Rattle.digit_lists.specs.Prices.{exact_at, grouped_at, places_at, price_at}
+pub use Rattle.digit_lists.specs.Prices.{price_is_empty, price_position}
