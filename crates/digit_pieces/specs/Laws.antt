@@ -15,3 +15,4 @@ pub mod MovedForms
 pub mod FormEnds
 pub mod OfForm
 pub mod OfBoth
+pub mod OfLanguage

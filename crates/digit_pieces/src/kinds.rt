@@ -1,4 +1,5 @@
-//! The kinds of numbers: integers, floats and scaled numbers by a word, and numbers by a form.
+//! The kinds of numbers: integers, floats and scaled numbers by a word, numbers by a form, literals
+//! of a language, and two numbers with a byte between them.
 
 mod both;
 mod bytes;
@@ -6,10 +7,12 @@ mod floats;
 mod form_bytes;
 mod integers;
 mod of_form;
+mod of_language;
 mod scaled;
 
 pub use self::both::{Both, BothError};
 pub use self::floats::Floats;
 pub use self::integers::Integers;
 pub use self::of_form::OfForm;
+pub use self::of_language::OfLanguage;
 pub use self::scaled::Scaled;

@@ -12,7 +12,7 @@ mod sure;
 mod tests;
 
 pub use self::kind::Kind;
-pub use self::kinds::{Both, BothError, Floats, Integers, OfForm, Scaled};
+pub use self::kinds::{Both, BothError, Floats, Integers, OfForm, OfLanguage, Scaled};
 pub use self::lists::{
     read_float_list_piece, read_list_piece, read_list_piece_of, read_scaled_list_piece,
 };

@@ -3,10 +3,12 @@
 ghost use Rattle.std.specs.Prelude.{◌<◌, length};
 
 use crate::{
-    Both, BothError, Floats, Integers, Kind, OfForm, PieceEnd, Scaled, read_float_list_piece,
-    read_list_piece, read_list_piece_of, read_piece, read_scaled_list_piece, sure_end,
+    Both, BothError, Floats, Integers, Kind, OfForm, OfLanguage, PieceEnd, Scaled,
+    read_float_list_piece, read_list_piece, read_list_piece_of, read_piece, read_scaled_list_piece,
+    sure_end,
 };
 use digit_floats::FloatError;
+use digit_languages::languages::RUST;
 use digit_literals::{COMMAS, Gap, LINES, LiteralError, WHITESPACE};
 use digit_numbers::{Number, forms};
 use lexical_format::STANDARD;
@@ -76,6 +78,7 @@ fn a_piece_of_each_kind(rt: HostRuntime) {
     assert!(rt; sure_end(Integers::<u64>::new(PYTHON_LITERAL), b"1_0;2_") == 4);
     assert!(rt; sure_end(Integers::<u64>::new(STANDARD), b"1-2") == 2);
     assert!(rt; sure_end(Integers::<i64>::new(STANDARD), b"1-2") == 0);
+    assert!(rt; sure_end(OfLanguage::<u64>::new(RUST), b"0x1f, 0b") == 6);
 }
 
 /// Numbers by chance, from a seed.
@@ -289,4 +292,18 @@ fn numbers_by_a_form_are_the_same_in_pieces(rt: HostRuntime) {
             &mut [zero; ROOM]
         )
     );
+}
+
+#[test]
+#[tactic(auto, unfolding(lexical_format::proofs::OnLiterals::lexical_on_literals))]
+fn literals_are_the_same_in_pieces(rt: HostRuntime) {
+    let kind = OfLanguage::<u16>::new(RUST);
+    let same = reads_the_same(
+        kind,
+        COMMAS,
+        b"00123456789xbo_af,,,,,,,,, ",
+        &mut [0; ROOM],
+        &mut [0; ROOM],
+    );
+    assert!(rt; same);
 }

@@ -112,6 +112,7 @@ pub use digit_pieces::Floats;
 pub use digit_pieces::Integers;
 pub use digit_pieces::Kind;
 pub use digit_pieces::OfForm;
+pub use digit_pieces::OfLanguage;
 pub use digit_pieces::PieceEnd;
 pub use digit_pieces::PieceRead;
 pub use digit_pieces::Scaled;

@@ -113,7 +113,7 @@ module _ (text : List ℕ) where
 
   -- ---- a literal
 
-  abbrev EndsLow : Result Literal LanguageError → Type 0
+  abbrev pub EndsLow : Result Literal LanguageError → Type 0
   EndsLow read = IfOk read (λ r. r.end ≤ length text)
 
   abbrev ReadsLow : Result (ℕ × ℕ) LiteralError → Type 0
@@ -144,7 +144,7 @@ module _ (text : List ℕ) where
       cond_both (is_refused l text i true true) _ _ EndsLow (λ no. tt) (λ is. tt)
   of_low l i (Err (integers.Empty none)) low = tt
 
-  literal_low : (l : Language) (i most : ℕ) → EndsLow (literal_at l text i most)
+  pub literal_low : (l : Language) (i most : ℕ) → EndsLow (literal_at l text i most)
   literal_low l i most =
       of_low l i _ (integer_low (rule_of (word_at l text i) Integer) (digits_at l text i) most)
 

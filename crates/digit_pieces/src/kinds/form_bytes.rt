@@ -35,7 +35,7 @@ fn octal_of(first_zero: FirstZero) -> Option<u128>
 }
 
 /// Whether a byte may be in a literal of a language: a letter, a digit or a separator.
-fn is_literal_byte(language: Language, byte: u8) -> bool
+pub(crate) fn is_literal_byte(language: Language, byte: u8) -> bool
     ensures { result ≡ is_literal_byte language byte }
 {
     byte.is_ascii_alphanumeric()
