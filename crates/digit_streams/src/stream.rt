@@ -20,7 +20,7 @@ pub enum StreamError<E> {
     /// A position is above `u64::MAX`.
     TooLong,
     /// The numbers are over, and the stream goes on at this position. Only
-    /// [`finish`](crate::NumberReader::finish) answers it.
+    /// `finish` answers it.
     Trailing(u64),
 }
 
