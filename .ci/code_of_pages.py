@@ -1,9 +1,11 @@
-"""The code of the pages: each block is a part of a file that the gate proves."""
+"""The code of the pages: the blocks of Rust of a page are a file that the gate proves."""
 import re
 
 from sources import DOOR, read
 
 USES = "crates/digit_uses"
+# The pages, and the module of digit_uses that the blocks of each are.
+PAGES = {"README.md": "readme", "CALLING.md": "calling"}
 
 
 def blocks_of(page, language):
@@ -39,34 +41,6 @@ def fault(page, here, path, there):
     return None
 
 
-# The pages whose blocks are a whole file, and its module in digit_uses and in a caller's crate.
-PAGES = {"CALLING.md": ("calling", ""), "docs/LOOPS.md": ("loops", "loops.")}
-
-
-def files_of(page, module, prefix, faults):
-    """The files that the blocks of a page are, with their lines. A block whose first line is the
-    name of a file, as `// src/points.rt`, is that file; the others of Rust are one."""
-    rust = blocks_of(page, "rust")
-    files = {f"{USES}/src/{module}.rt": []}
-    for first, block in rust + blocks_of(page, "antt"):
-        named = re.fullmatch(r"(?://|--) ((?:src|specs)/\w+\.\w+)", block[0])
-        text = "\n".join(block)
-        if named:
-            text = text.replace("my_parser", "digit_uses")
-            files[f"{USES}/{named[1]}"] = code(text.split("\n")[1:], first + 1)
-        elif (first, block) in rust:
-            files[f"{USES}/src/{module}.rt"] += code(block, first)
-        else:
-            name = re.search(rf"Rattle\.my_parser\.proofs\.{prefix}(\w+)\.Given", text)
-            if name is None:
-                faults.append(f"{page}:{first}: names no file, and no "
-                              f"`Rattle.my_parser.proofs.{prefix}NAME.Given` is here")
-                continue
-            text = text.replace(f"my_parser.proofs.{prefix}", f"digit_uses.proofs.{module}.")
-            files[f"{USES}/proofs/{module}/{name[1]}/Invariants.antt"] = code(text.split("\n"), first)
-    return files, len(rust)
-
-
 def by_the_door(page, faults):
     """The blocks that a caller pastes import from the one crate that he depends on, and from std:
     so they are proved in his repository as they are in digit_uses."""
@@ -74,7 +48,7 @@ def by_the_door(page, faults):
         for number, line in enumerate(block, first):
             m = re.match(r"(?:ghost )?use (?:Rattle\.)?(\w+)|#.*?\b(?:using|unfolding)\((\w+)::", line)
             crate = m and (m[1] or m[2])
-            if crate and crate not in (DOOR, "std", "my_parser"):
+            if crate and crate not in (DOOR, "std"):
                 faults.append(f"{page}:{number}: a caller who has only `{DOOR}` has no `{crate}`")
 
 
@@ -102,15 +76,12 @@ def check():
     faults, count = [], 0
     answers(faults)
     first_run(faults)
-    for page in ("README.md", "CALLING.md"):
+    for page in PAGES:
         by_the_door(page, faults)
-    for page, (module, prefix) in PAGES.items():
-        files, blocks = files_of(page, module, prefix, faults)
-        count += blocks + sum(path.endswith(".antt") for path in files)
-        for path, here in files.items():
-            faults.append(fault(page, here, path, code(read(path).split("\n"), 1)))
-    first, block = blocks_of("README.md", "rust")[0]
-    path = f"{USES}/src/readme.rt"
-    faults.append(fault("README.md", code(block, first), path, code(read(path).split("\n"), 1)))
-    return (f"{count} blocks of {', '.join(PAGES)} and the first of README.md are proved code",
+    for page, module in PAGES.items():
+        path, blocks = f"{USES}/src/{module}.rt", blocks_of(page, "rust")
+        here = [line for first, block in blocks for line in code(block, first)]
+        faults.append(fault(page, here, path, code(read(path).split("\n"), 1)))
+        count += len(blocks)
+    return (f"{count} blocks of {', '.join(PAGES)} are proved code",
             [found for found in faults if found])

@@ -40,8 +40,8 @@ def tried(faults):
 
 
 def handed_out(faults):
-    """Each constant, each module of constants, and each module of specs/ can be named, by a line of
-    the table."""
+    """Each constant, each module of constants, and each module of specs/ can be named, by a row of
+    the table, and TRIED imports of each module."""
     passed = re.findall(r"^pub use (\w+)::(?:\w+::)*(\w+);", read(ROOT), re.M)
     constants = {name for _, name in passed if name.isupper()}
     root = set().union(*map(names_in, re.findall(r"^pub use .*", read(f"{SPECS}/Constants.antt"), re.M)))
@@ -53,9 +53,12 @@ def handed_out(faults):
         if is_module and f"Rattle.{crate}.specs.declared.{name}.TheConstants as " not in lib:
             faults.append(f"{SPECS}/Lib.antt:1: no constants of {name}, which {ROOT} hands out")
     modules = re.findall(r"^pub (?:mod|use .* as) (\w+)$", lib, re.M)
-    page = read(PAGE)
-    faults += [f"{PAGE}:1: no table names `{name}` of {SPECS}/Lib.antt" for name in modules
-               if name not in BY_KIND and not re.search(rf"^\|.*`(?:[^`]*\.)?{name}\b", page, re.M)]
+    page, there = read(PAGE), read(TRIED)
+    for name in (name for name in modules if name not in BY_KIND):
+        if not re.search(rf"^\|.*`(?:[^`]*\.)?{name}\b", page, re.M):
+            faults.append(f"{PAGE}:1: no table names `{name}` of {SPECS}/Lib.antt")
+        if f"use Rattle.{DOOR}.specs.{name}." not in there:
+            faults.append(f"{TRIED}:1: imports nothing of `{name}` of {SPECS}/Lib.antt")
     return len(constants)
 
 

@@ -10,7 +10,7 @@ from sources import DOOR, TOP, crates, difference, files_below, libraries, read
 sys.path.append(os.path.join(TOP, "bench"))
 import pages as speed  # noqa: E402
 
-MOST_WORDS = {"CALLING.md": 2500}
+MOST_WORDS = {"CALLING.md": 2200}
 NAMES = ("zero one two three four five six seven eight nine ten eleven twelve thirteen fourteen "
          "fifteen sixteen").split()
 
@@ -91,9 +91,8 @@ def bound(it):
     """The bound on looks is that of the theorem of calls."""
     source = " ".join(read("crates/digit_script/specs/Script.antt").split())
     m = re.search(r"(\d+) \* reads_of \S+ calls \+ (\d+) \* \(length \S+ \* \(set_backs", source)
-    for page in ("README.md", "docs/PROMISES.md"):
-        for line, here in it.find(page, r"at most (\d+)k \+ (\d+)n\(s \+ 1\)"):
-            it.compare(page, line, "the bound on looks", here.groups(), m and m.groups())
+    for line, here in it.find("docs/PROMISES.md", r"at most (\d+)k \+ (\d+)n\(s \+ 1\)"):
+        it.compare("docs/PROMISES.md", line, "the bound on looks", here.groups(), m and m.groups())
 
 
 USES = "crates/digit_uses"

@@ -18,27 +18,19 @@ ROWS = {
     "Digits, no separators allowed": "a: no flags, digits, number",
     "Digits, separators allowed": "b: I, digits, number",
     "Numbers of 8 to 20 bytes, grouped": "f: I, short grouped numbers",
-    "The same in radix 16": "f: I, radix 16, short grouped numbers",
     "Numbers of 1 to 4 digits": "f: I, 1 to 4 digits",
     "The same by `peek`, `is_digit` and `next`": "n: I, 1 to 4 digits to a comma",
-    "Integer, fraction and exponent, grouped": "l: I, three grouped components",
     "Runs of 16 separators, all dropped": "e: ILTC, runs of 16, number",
     "Letters by `peek` and `next`": "k: I, other bytes, peeked",
-    "Grouped integers by `read_integer`": "j: I, grouped literals",
     "`u64`, 1 to 4 digits": "u: no flags, 1 to 4 digits, u64",
     "`u64`, 8 to 20 digits, grouped": "u: I, grouped, u64",
     "`i32`, 1 to 4 digits": "u: no flags, 1 to 4 digits, i32",
-    "`i32`, 8 or 9 digits, grouped": "u: I, grouped, i32",
     "Hexadecimal `u64`, 1 to 4 digits": "y: radix 16, no flags, 1 to 4 digits, parse_number, u64",
-    "Hexadecimal `u64`, 8 to 16 digits": "y: radix 16, no flags, parse_number, u64",
-    "The same, grouped": "y: radix 16, I, grouped, parse_number, u64",
     "Binary `u64`, 8 to 60 digits": "y: radix 2, no flags, parse_number, u64",
     "Literals of Rust by `read_literal`": "w: literals of Rust",
     "`f64`, integers of 1 to 4 digits": "x: no flags, integers of 1 to 4 digits",
     "`f64`, 8 to 14 digits, grouped": "x: I, grouped, 8 to 14 digits, a point",
     "`f64`, 18 to 40 digits": "x: no flags, 18 to 40 digits",
-    "`f64` in [0, 1), 17 digits": "x: no flags, in [0, 1) with 17 digits",
-    "Integers of JSON, 1 to 4 digits": "z: JSON, integers of 1 to 4 digits",
     "Coordinates of JSON": "z: JSON, coordinates",
 }
 # The letters of the cases whose filter is std's `parse` or `from_str_radix`.
@@ -181,9 +173,7 @@ The slow ones are grouped floats (up to {most_of(cases, "x:", "Constant", "Filte
 std), numbers of JSON ({most_of(cases, "z:", "Constant", "Filter")}), runs of dropped separators \
 ({most_of(cases, "e:", "Constant")} times lexical-util), \
 letters ({most_of(cases, "k:", "Constant")}), and a word that is known only at run time (up to \
-{most_of(cases, "", "Library")}). No text makes it quadratic: a kept run of separators takes \
-{cases.run("IC", 100, "Library")} instructions a byte at 100 separators and \
-{cases.run("IC", 100000, "Library")} at 100,000."""
+{most_of(cases, "", "Library")})."""
 
 
 # ---- all of them

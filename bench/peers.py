@@ -13,13 +13,16 @@ DOOR = {
     "form as argument": (", a form, from C", ""),
 }
 LIST = ", a list from C"
-# The rows that the table for C shows.
+# The rows that the table for C shows, and those that the table of peers leaves out.
 DOOR_ROWS = [
-    "u64, 1 to 4 digits", "u64, 8 digits", "u64, 19 digits", "i32, 1 to 9 digits, signs",
+    "u64, 1 to 4 digits", "u64, 19 digits", "i32, 1 to 9 digits, signs",
     "hexadecimal u64, 1 to 4 digits", "grouped u64, 8 to 20 digits", "f64, coordinates",
-    "f64, 17 digits in [0, 1)", "f64, shortest of random bits", "f32, coordinates", "JSON, mixed",
-    "JSON, coordinates",
+    "f64, 17 digits in [0, 1)", "JSON, mixed", "JSON, coordinates",
 ]
+LEFT_OUT = {
+    "u64, 16 digits", "hexadecimal u64, 8 to 16 digits", "grouped u64, 4 to 7 digits",
+    "f64, shortest in [0, 1)", "f32, shortest of random bits", "JSON, integers of 1 to 4 digits",
+}
 # What a side doesn't do that the library does, in the rows whose names begin so.
 LESS = {
     ("", "atoi"): "no test for overflow",
@@ -87,7 +90,7 @@ def peers():
     counts, times = Figures("counts.txt"), Figures("times.txt")
     head = ["What is read", "Library", "std", "to the best peer", "to one that does less",
             "mispredicted"]
-    body = [cells(row, sides) for row, sides in counts.rows.items()]
+    body = [cells(row, sides) for row, sides in counts.rows.items() if row not in LEFT_OUT]
     words = ("Instructions for a number with a constant word; the ratio to the peer with the "
              "fewest that does the same work, and to one that does less; mispredicted branches of "
              "the library and of the first peer")

@@ -1,4 +1,6 @@
-//! The block of CALLING.md with a value of one's own. `.ci/pages` compares the two.
+//! Points, as `12:-5`, one in each line: a list of values of one's own, as CALLING.md says.
+//!
+//! Proof by hand: none.
 #![tactic(auto, unfolding(digits::proofs::Literals::lexical_on_literals))]
 
 ghost use Rattle.std.specs.Prelude.{length};

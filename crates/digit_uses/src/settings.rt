@@ -1,4 +1,7 @@
-//! The block of CALLING.md with several fields. `.ci/pages` compares the two.
+//! A register and its value, as `0x1f = -1.5e3`: several fields, and a relation as the contract,
+//! with both halves.
+//!
+//! Proof by hand: none.
 #![tactic(auto, unfolding(digits::proofs::Literals::lexical_on_literals))]
 
 ghost use Rattle.std.specs.Prelude.{ℕ, IfOk, IfErr};
