@@ -50,7 +50,7 @@ fn each(text: &[u8], lengths: &[u8], language: Language) -> Outcome
     total
 }
 
-/// Reads literals of Rust. Where `is_constant` is 0, the language is the one with the number `low`.
+/// Reads literals of Rust, or if `is_constant` is 0, of the language with the number `low`.
 #[unsafe(no_mangle)]
 pub extern "C" fn digit_bench_languages(task: &Task, outcome: &mut Outcome) {
     if task.is_constant != 0 {

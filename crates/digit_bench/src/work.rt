@@ -18,7 +18,7 @@ pub trait Work {
     fn on<F: Format>(text: &[u8], format: F) -> Outcome;
 }
 
-/// What a piece of work is asked to do.
+/// A piece of work.
 #[repr(C)]
 pub struct Task<'a> {
     /// The text, or many that follow one another.

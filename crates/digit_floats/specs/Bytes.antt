@@ -1,9 +1,9 @@
--- Which byte stands at a position.
+-- The byte at a position.
 use Rattle.std.specs.Prelude.{ℕ, Bool, ◌==◌, ◌||◌, List, slice_get}
 use Rattle.std.specs.Char.{to_ascii_uppercase}
 use Rattle.lexical_digits.specs.Cursor.{holds_of}
 
--- whether a byte stands at a position that passes
+-- whether the byte at a position passes a test
 abbrev pub stands : (ℕ → Bool) → List ℕ → ℕ → Bool
 stands p text at = holds_of p (slice_get text at)
 

@@ -17,7 +17,7 @@ use Rattle.digit_floats.specs.Bytes.{stands, is_sign, is_minus, is_point, is_mar
 abbrev pub IsDecimal : ℕ → Type 0
 IsDecimal word = (mantissa_radix word ≡ 10) × (exponent_radix word ≡ 10)
 
--- the position after a sign, if one stands there
+-- the position after a sign, if one is there
 abbrev pub past_sign : List ℕ → ℕ → ℕ
 past_sign text at = if stands is_sign text at then at + 1 else at
 
@@ -37,7 +37,7 @@ module _ (word : ℕ) (text : List ℕ) where
   -- ---- after a point
 
   module _ (point : ℕ) where
-    -- the fraction at a position: after a point, if one stands there
+    -- the fraction at a position: after a point, if one is there
     unfoldable pub fraction_digits : ℕ → List ℕ
     fraction_digits at =
         if stands (is_point point) text at then digits_from Fraction (at + 1) else []
@@ -58,7 +58,7 @@ module _ (word : ℕ) (text : List ℕ) where
   -- ---- after the mark of an exponent
 
   module _ (mark : ℕ) where
-    -- the exponent at a position: after a mark and a sign, if a mark stands there
+    -- the exponent at a position: after a mark and a sign, if a mark is there
     unfoldable pub exponent_digits : ℕ → List ℕ
     exponent_digits at =
         if stands (is_mark mark) text at

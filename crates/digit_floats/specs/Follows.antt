@@ -6,7 +6,7 @@ use Rattle.lexical_digits.specs.Follows.{AreSameUpTo}
 use Rattle.digit_floats.specs.declared.parts.Marks.{Marks}
 use Rattle.digit_floats.specs.Bytes.{stands, is_sign, is_point, is_mark}
 
--- at a position stands neither a point nor the mark of an exponent nor a sign
+-- at a position is neither a point nor the mark of an exponent nor a sign
 pub record HasNoMark (marks : Marks) (text : List ℕ) (at : ℕ) : Type 0 where
   pub point : stands (is_point marks.point) text at ≡ false
   pub mark : stands (is_mark marks.exponent) text at ≡ false

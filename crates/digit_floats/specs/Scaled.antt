@@ -1,4 +1,4 @@
--- A decimal number as so many of its last place: times a power of ten, if that is an integer.
+-- A decimal number in units of its last place: times a power of ten, if that is an integer.
 use Rattle.std.specs.Prelude.{ℕ, ℤ, ◌+◌, ◌-◌, ◌*◌, ◌/◌, ◌^◌, ◌==◌, ◌&&◌, nat_lt, nat_le, if◌then◌else◌, Bool, List, ◌++◌, length, filter, take, drop, slice_range, codes, decimal, Result, Ok, Err}
 use Rattle.std.specs.Char.{is_ascii_digit}
 use Rattle.std.specs.List.{list_all, prefix_len, range_with_len}
@@ -55,7 +55,7 @@ module _ (word : ℕ) (text : List ℕ) (point places : ℕ) where
   abbrev pub fault_at : ℕ → ℕ → ℕ
   fault_at most at = fault most at (integer_at (rule_of word Integer) text at (most / 10 ^ places))
 
-  -- so many of the last place, or why there is none, by the digits
+  -- the number in units of the last place, or why there is none, by the digits
   abbrev pub scaled_to : ℕ → ℕ → List ℕ → List ℕ → Result (ℕ × ℕ) ScaledError
   scaled_to most at whole fraction =
       let value = scaled_value (digits_value 10 whole) places fraction in

@@ -1,5 +1,5 @@
 //! A float whose digits are those of a whole number over a few twos, so that the middle between two
-//! floats is told exactly.
+//! floats is exact.
 
 ghost use Rattle.std.specs.Prelude.{◌≡◌, ◌+◌, ◌-◌, ◌*◌, ◌^◌, ◌<◌, ◌≤◌, ◌++◌, ℕ, min, if◌then◌else◌, IfSome};
 ghost use Rattle.std.specs.Float.Ieee.{round};

@@ -20,10 +20,10 @@ use std::alloc::{AllocError, Global};
 /// How many bytes a document has, about.
 const SIZE: usize = 262_144;
 
-/// The kinds of numbers, each as often as it stands here.
+/// The kinds of numbers: each is made as often as its letter is here.
 const KINDS: &[u8] = b"aaabbcccddeefffgghhiijjkklmmnno";
 
-/// How many digits of a number each revision changes at least, where it has so many.
+/// The least number of digits that a revision changes in a number, if it has as many.
 const FEW: usize = 4;
 
 /// The decimal digits, some of them twice.
@@ -198,7 +198,7 @@ fn free_last(page: &mut Page) -> Result<(), AllocError> {
     page.free(from, DIGITS)
 }
 
-/// Adds an exponent of eight digits. What follows it is drawn as if it weren't there.
+/// Adds an exponent of eight digits, and leaves the chance of what follows as it was.
 fn write_exponent(page: &mut Page) -> Result<(), AllocError> {
     page.byte(b'e')?;
     let random = page.random;

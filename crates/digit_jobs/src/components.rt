@@ -26,7 +26,7 @@ use std::alloc::{AllocError, Global};
 /// How many bytes a document has, about.
 const SIZE: usize = 262_144;
 
-/// What a byte after a number that is none of it is in a revision.
+/// In a revision the byte after a number, which is no part of it, becomes one of these.
 const OTHERS: [u8; 16] = *b"_-.x_-.xyz_-.xyz";
 
 /// The calls of a list.
@@ -108,7 +108,7 @@ impl Work for Components {
     }
 }
 
-/// Adds separators: mostly one, in some cases a run of them.
+/// Adds separators: usually one, in some cases a run of them.
 fn write_separators(page: &mut Page) -> Result<(), AllocError> {
     let count = if page.random.one_in(12) {
         page.random.between(2, 6)

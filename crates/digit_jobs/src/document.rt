@@ -14,7 +14,7 @@ use std::alloc::{AllocError, Global};
 /// How many bytes a document has, about.
 const SIZE: usize = 393_216;
 
-/// What an integer of one digit is in a revision: a zero as often as among those that are made.
+/// In a revision an integer of one digit becomes one of these: a zero as often as before.
 const ONE_DIGIT: [u8; 16] = *b"0012345678912345";
 
 /// The bytes of a fault that a revision replaces by others of these.
@@ -59,7 +59,7 @@ fn write_fault(page: &mut Page) -> Result<(), AllocError> {
     page.free(start, FAULTY)
 }
 
-/// Adds an integer of up to so many digits, of which some are negative, or a fault.
+/// Adds an integer of up to `most` digits, in some cases a negative one, or a fault.
 fn write_integer(page: &mut Page, most: u64) -> Result<(), AllocError> {
     if page.random.one_in(200) {
         return write_fault(page);
@@ -234,7 +234,7 @@ fn fold_error(error: NumberError, tally: &mut Tally) -> usize {
     at
 }
 
-/// Where a string ends whose first byte after the quote is here.
+/// The end of the string whose first byte after the quote is at `start`.
 #[inline(always)]
 fn string_end(text: &[u8], start: usize) -> usize
     requires { start ≤ length text.now }

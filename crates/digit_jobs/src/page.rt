@@ -36,7 +36,7 @@ pub struct Page {
     spots: Vec<Spot>,
     first: u8,
     count: u8,
-    /// Which document it is, from 0.
+    /// The number of the document, from 0.
     pub number: u64,
     pub random: Random,
 }
@@ -56,8 +56,8 @@ fn make_bytes(
     Ok(bytes)
 }
 
-/// Replaces each of `count` digits from `first` on by the one that is so many further on, after the
-/// last of them by the first; leaves all other bytes. The shifts are below `count`.
+/// Replaces each of the `count` digits from `first` on by the one that is a shift further on; after
+/// the last of them comes the first. Other bytes stay. The shifts are below `count`.
 fn turn_digits(text: &mut [u8], shifts: &[u8], first: u8, count: u8) {
     for (byte, shift) in text.iter_mut().zip(shifts.iter()) {
         let digit = byte.wrapping_sub(first);
@@ -87,8 +87,8 @@ fn is_one_of(byte: Option<&u8>, choices: &[u8; 16]) -> bool {
 }
 
 impl Page {
-    /// An empty text, by the chance of a seed, of which so many digits from a first one on will be
-    /// changed.
+    /// An empty text, by the chance of a seed. A revision will change the `count` digits from
+    /// `first` on.
     pub fn new(alloc: Global, seed: u64, first: u8, count: u8) -> Result<Page, AllocError> {
         let mut random = Random::of(seed, 0);
         let most = u64::from(count).saturating_sub(1);
@@ -140,7 +140,7 @@ impl Page {
         self.text.extend_from_slice(words[place].as_bytes())
     }
 
-    /// Adds a byte in one of so many cases.
+    /// Adds a byte in one of `cases` cases.
     pub fn maybe(&mut self, byte: u8, cases: u64) -> Result<(), AllocError>
         requires { 0 < cases }
     {

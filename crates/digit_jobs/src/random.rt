@@ -46,7 +46,7 @@ impl Random {
         least.saturating_add(self.below(span))
     }
 
-    /// Whether one of so many cases is drawn.
+    /// Whether a chance of one in `cases` is drawn.
     pub fn one_in(&mut self, cases: u64) -> bool
         requires { 0 < cases }
     {

@@ -19,7 +19,7 @@ const SIZE: usize = 393_216;
 /// The byte that begins a file.
 const FILE: u8 = 2;
 
-/// What a literal of one digit is in a revision: a zero as often as among those that are made.
+/// In a revision a literal of one digit becomes one of these: a zero as often as before.
 const ONE_DIGIT: [u8; 16] = *b"0000123456789123";
 
 /// The decimal digits, some of them twice.

@@ -15,7 +15,7 @@ use std::alloc::{AllocError, Global};
 /// How many bytes a document has, about.
 const SIZE: usize = 393_216;
 
-/// What a letter in place of a field is in a revision.
+/// In a revision a letter in place of a field becomes one of these.
 const LETTERS: [u8; 16] = *b"xnabcdfghijklmop";
 
 /// The decimal digits, some of them twice.
@@ -71,7 +71,7 @@ fn write_id(page: &mut Page) -> Result<(), AllocError> {
     page.some_digits(1, 19)
 }
 
-/// Adds so many digits after a mark.
+/// Adds digits after a mark.
 fn write_part(page: &mut Page, mark: u8, part: &str) -> Result<(), AllocError> {
     page.byte(mark)?;
     page.bytes(part.as_bytes())
@@ -277,7 +277,8 @@ fn read_id(text: &[u8], at: usize, tally: &mut Tally) -> usize
     }
 }
 
-/// Reads three numbers of so many digits with marks between them. Answers where the last ends.
+/// Reads three numbers with marks between them, the first of `first` digits. Answers where the last
+/// ends.
 #[inline(always)]
 fn read_parts(text: &[u8], at: usize, first: usize, mark: u8) -> Result<(u64, usize), MomentError>
     requires { at ≤ length text.now }

@@ -110,7 +110,7 @@ impl Tally {
         self.read((x & 0xffff_ffff_ffff_ffff) as u64, end);
     }
 
-    /// A number was read: its kind and sign, and all else that it has.
+    /// A number was read: its kind, sign and other parts.
     #[inline(always)]
     pub fn number(&mut self, number: Number<f64>, end: usize) {
         match number {

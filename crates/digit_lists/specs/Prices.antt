@@ -1,4 +1,4 @@
--- Decimal numbers with exactly so many places, and with groups of three digits.
+-- Decimal numbers with an exact number of places, and with groups of three digits.
 use Rattle.std.specs.Prelude.{ℕ, ℤ, ◌+◌, ◌==◌, Bool, true, false, if◌then◌else◌, List, ◌++◌, length, codes, decimal, Option, Some, None, Result, Ok, Err}
 use Rattle.lexical_digits.specs.declared.skip.component.Component.TheVariants.{Integer}
 use Rattle.digit_literals.specs.Numbers.{digits_from}
@@ -16,7 +16,7 @@ abbrev pub of_number : Result (ℤ × ℕ) ScaledError → Result (ℤ × ℕ) P
 of_number (Ok read) = Ok read
 of_number (Err error) = Err (Number error)
 
--- one that has to have so many places: whether it has
+-- one that has to have exactly these places: whether it has
 abbrev pub if_exact : Bool → Result (ℤ × ℕ) PriceError → Result (ℤ × ℕ) PriceError
 if_exact is (Ok read) = if is then Ok read else Err (Places read.1)
 if_exact is (Err error) = Err error
@@ -47,7 +47,7 @@ module _ (word : ℕ) (text : List ℕ) (point : ℕ) where
     abbrev pub price_at : Result (ℤ × ℕ) PriceError
     price_at = if_exact (places_at (digits_from least text start) == places) grouped_at
 
--- one that may have to have so many places, and groups
+-- one that may have to have exactly these places, and groups
 abbrev pub price_by : Bool → Bool → ℕ → List ℕ → ℕ → ℕ → ℕ → ℕ → ℕ → Result (ℤ × ℕ) PriceError
 price_by true true word text point places least most start =
     price_at word text point places least most start

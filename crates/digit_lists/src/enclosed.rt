@@ -18,7 +18,7 @@ use std::fmt;
 pub enum EnclosedError<E> {
     /// The opening byte isn't at this position.
     NoOpening(usize),
-    /// Where a number has to be is none.
+    /// There is no number where one has to be.
     Number(E),
     /// Neither a separator nor the closing byte is at this position.
     NoClosing(usize),

@@ -7,7 +7,7 @@ ghost use Rattle.digit_lists.specs.Groups.{is_group, groups_at, wrong_at, AreGro
 use digit_literals::stop_from;
 use lexical_digits::skip::{Component, Rule};
 
-/// Whether a group may have so many digits: one to three if it is the first one, otherwise three.
+/// Whether a group may have `count` digits: one to three if it is the first one, otherwise three.
 #[inline(always)]
 fn is_group(is_first: bool, count: usize) -> bool
     ensures { result ≡ is_group is_first count }

@@ -9,7 +9,7 @@ use digit_pieces::{Kind, Scaled};
 use std::marker::PhantomData;
 
 /// The decimal numbers by a format word, in units of their last place, as integers of a type, with
-/// exactly so many places, with groups of three digits, or with both.
+/// an exact number of places, with groups of three digits, or with both.
 #[derive(Clone, Copy)]
 pub struct Prices<T: Integer> {
     /// The format word.
@@ -18,7 +18,7 @@ pub struct Prices<T: Integer> {
     pub point: u8,
     /// How many places are read, at most 38.
     pub places: usize,
-    /// Whether a number has to have so many places.
+    /// Whether a number has to have exactly `places` places.
     pub is_exact: bool,
     /// Whether the digits between two separators have to be three.
     pub is_grouped: bool,
@@ -26,7 +26,7 @@ pub struct Prices<T: Integer> {
 }
 
 impl<T: Integer> Prices<T> {
-    /// The numbers of exactly so many places, in groups of three digits, as
+    /// The numbers of exactly `places` places, in groups of three digits, as
     /// [`read_price_from`] reads them.
     #[inline(always)]
     pub const fn new(word: u128, point: u8, places: usize) -> Prices<T>
@@ -46,7 +46,7 @@ impl<T: Integer> Prices<T> {
         }
     }
 
-    /// The numbers of exactly so many places, as [`read_exact_from`] reads them.
+    /// The numbers of exactly `places` places, as [`read_exact_from`] reads them.
     #[inline(always)]
     pub const fn exact(word: u128, point: u8, places: usize) -> Prices<T>
         ensures word { result.word ≡ word }

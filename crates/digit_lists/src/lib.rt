@@ -1,5 +1,5 @@
-//! Lists that are a whole text or stand between two bytes, numbers that may be missing, and decimal
-//! numbers with so many places and with groups of three digits.
+//! Lists that are a whole text or are between two bytes, numbers that may be missing, and decimal
+//! numbers with an exact number of places and with groups of three digits.
 #![tactic(auto)]
 
 mod enclosed;

@@ -14,7 +14,7 @@ use std::fmt;
 /// Why a text is no list. A position counts bytes from the start of the text, from 0.
 #[derive(Clone, Copy, Debug, PartialEq, Eq)]
 pub enum ListError<E> {
-    /// Where a number has to be is none.
+    /// There is no number where one has to be.
     Number(E),
     /// The byte at this position is no part of the list.
     Invalid(usize),

@@ -1,4 +1,4 @@
-//! Decimal numbers with exactly so many places, and with groups of three digits, as prices have.
+//! Decimal numbers with an exact number of places, and with groups of three digits, as prices have.
 
 ghost use Rattle.std.specs.Prelude.{◌≡◌, ◌+◌, ◌<◌, ◌≤◌, Some, Ok, Err, length, IfOk, IsTrue, MatchResult};
 ghost use Rattle.lexical_format.specs.Word.{is_supported};
@@ -13,8 +13,8 @@ use digit_literals::Integer;
 use std::error::Error;
 use std::fmt;
 
-/// Why there is no number with so many places, or with groups of three digits. A position counts
-/// bytes from the start of the text, from 0.
+/// Why there is no number with exactly these places, or with groups of three digits. A position
+/// counts bytes from the start of the text, from 0.
 #[derive(Clone, Copy, Debug, PartialEq, Eq)]
 pub enum PriceError {
     /// There is no number in units of its last place.
@@ -92,10 +92,10 @@ fn count_places(text: &[u8], word: u128, at: usize, point: u8) -> usize
     read_mantissa(text, word, at, point).places
 }
 
-/// The decimal number that begins at `start`, in units of its last place, with exactly so many
-/// places: [`read_scaled_from`](digit_floats::read_scaled_from), where the fraction has to have
-/// `places` digits. So a zero at its end is no longer optional. Requires that `start` is within the
-/// text, that the word is supported and decimal, and that there are at most 38 places.
+/// The decimal number that begins at `start`, in units of its last place, with exactly
+/// `places` places: [`read_scaled_from`](digit_floats::read_scaled_from), where the fraction has to
+/// have `places` digits. So a zero at its end is no longer optional. Requires that `start` is within
+/// the text, that the word is supported and decimal, and that there are at most 38 places.
 ///
 /// ```text
 /// of 2 places: `1.50;` Ok((150, 4)); `1.5;` Err(Places(3)); `1.500` Err(Places(5))
@@ -161,7 +161,7 @@ pub fn read_grouped_from<T: Integer>(
 }
 
 /// The decimal number that begins at `start`, in units of its last place, with groups of three
-/// digits and exactly so many places: as by [`read_grouped_from`] and by [`read_exact_from`].
+/// digits and exactly `places` places: as by [`read_grouped_from`] and by [`read_exact_from`].
 /// Requires what these do.
 ///
 /// ```text

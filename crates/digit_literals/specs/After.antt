@@ -1,4 +1,4 @@
--- What reading the digits that lead comes to, in words of a text and of a state.
+-- What reading the digits that lead answers, in words of a text and of a state.
 use Rattle.std.specs.Prelude.{◌≡◌, ℕ, ◌+◌, ◌-◌, ◌^◌, ◌<◌, ◌≤◌, if◌then◌else◌, List, length, filter, slice_range, Result, Ok, Err}
 use Rattle.std.specs.Str.Parse.{digits_value_after}
 use Rattle.lexical_digits.specs.declared.skip.rule.Rule.{Rule}

@@ -1,4 +1,4 @@
--- Digits of a radix whose number is known: so many, or at most so many.
+-- Digits of a radix: exactly n, or at most n.
 use Rattle.std.specs.Prelude.{◌≡◌, ℕ, ℤ, ◌+◌, ◌*◌, ◌≤◌, Bool, false, nat_lt, nat_le, if◌then◌else◌, List, length, take, drop, take_while, scan, Result, Ok, Err}
 use Rattle.std.specs.Char.{digit_value}
 use Rattle.std.specs.Str.Parse.{digits_value}

@@ -1,4 +1,4 @@
--- What reading the first digits of a component comes to.
+-- What reading the first digits of a component answers.
 use Rattle.std.specs.Prelude.{◌≡◌, ℕ, ◌+◌, ◌-◌, ◌<◌, ◌≤◌, List, length, take}
 use Rattle.std.specs.Str.Parse.{AllDigits, digits_value_after}
 use Rattle.digit_literals.specs.declared.first.FirstDigits.{FirstDigits}

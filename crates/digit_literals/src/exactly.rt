@@ -21,7 +21,7 @@ struct Counted<V> {
     is_too_large: bool,
 }
 
-/// At most so many bytes from a position on.
+/// At most `many` bytes from a position on.
 #[inline(always)]
 fn window(text: &[u8], start: usize, many: usize) -> &[u8]
     ensures { result.now ≡ take many (drop start text.now) }

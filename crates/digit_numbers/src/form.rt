@@ -19,7 +19,7 @@ pub struct Form {
     pub integers: Language,
     /// Whether a sign may be before a prefix.
     pub signed_prefix: bool,
-    /// What digits without a point and an exponent are.
+    /// Whether digits without a point and an exponent are an integer or a float.
     pub whole: Whole,
     /// The byte of the point, and the letter of the exponent. They are no other part of a number:
     /// see [`is_form`].
@@ -40,7 +40,7 @@ pub struct Form {
     pub float_zeros: bool,
     /// The values that have a name, such as `inf`, if there are any.
     pub specials: Option<Specials>,
-    /// Which hexadecimal digits after their prefix are a float.
+    /// The hexadecimal digits, after their prefix, that are a float.
     pub hex_floats: HexFloats,
 }
 
@@ -65,7 +65,7 @@ pub struct Special {
     pub name: [u8; 8],
     /// What it stands for.
     pub value: SpecialValue,
-    /// Which sign is before it.
+    /// The sign before it.
     pub sign: NameSign,
 }
 
@@ -89,7 +89,7 @@ impl Special {
     };
 }
 
-/// Which sign is before a name, of those that the form has.
+/// The signs that may be before a name, of those that the form has.
 #[derive(Clone, Copy, Debug, PartialEq, Eq)]
 pub enum NameSign {
     /// None: `nan` of Go.
@@ -118,7 +118,7 @@ impl NameSign {
     }
 }
 
-/// Which hexadecimal digits are a float, by the hexadecimal word of the form's integers. Where a
+/// The hexadecimal digits that are a float, by the hexadecimal word of the form's integers. Where a
 /// point needs digits and what may not follow it is as for decimal ones, and an exponent is a
 /// decimal number after `p` or `P`.
 #[derive(Clone, Copy, Debug, PartialEq, Eq)]
@@ -155,7 +155,7 @@ pub enum Signs {
     Either,
 }
 
-/// What digits without a point and an exponent are.
+/// Whether digits without a point and an exponent are an integer or a float.
 #[derive(Clone, Copy, Debug, PartialEq, Eq)]
 pub enum Whole {
     /// An integer. Above 128 bits it is refused.

@@ -1,4 +1,4 @@
-//! What a kind of numbers is: how one is read from a text, and which bytes it may have.
+//! A kind of numbers: how one is read from a text, and which bytes it may have.
 
 ghost use Rattle.std.specs.Prelude.{◌≡◌, ℕ, Bool, ◌+◌, ◌^◌, ◌<◌, ◌≤◌, List, length, drop, Result, Ok, Err, IfOk, MatchResult};
 ghost use Rattle.digit_languages.specs.Follows.{AreSameBefore};

@@ -19,7 +19,7 @@ pub enum PieceEnd<E> {
     /// The list is over. No separator is at this position, past the blanks after the last number;
     /// or no number begins there.
     Over(usize),
-    /// Where a number has to be is none.
+    /// There is no number where one has to be.
     Fault(E),
 }
 

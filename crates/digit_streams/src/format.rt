@@ -1,4 +1,4 @@
-//! What the numbers of a stream are, and what is between two of them.
+//! The kind of the numbers of a stream, and the gap between two of them.
 
 use digit_literals::Gap;
 use digit_pieces::Kind;

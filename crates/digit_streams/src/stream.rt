@@ -10,7 +10,7 @@ use std::io::ErrorKind;
 /// Why there is no number.
 #[derive(Clone, Copy, Debug, PartialEq, Eq)]
 pub enum StreamError<E> {
-    /// Where a number has to be is none. The error's position counts bytes of the stream.
+    /// There is no number where one has to be. The error's position counts bytes of the stream.
     Number(E),
     /// A number that may begin at this position does not fit the buffer, with the blanks after it
     /// and the byte that ends them.

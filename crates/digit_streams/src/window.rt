@@ -86,7 +86,7 @@ impl<'b> Window<'b> {
         self.position
     }
 
-    /// Uses so many bytes, if the position after them is at most `u64::MAX`.
+    /// Uses `count` bytes, if the position after them is at most `u64::MAX`.
     pub fn pass(&mut self, count: usize) -> bool
         requires { count ≤ length (unread self.old) }
         ensures passed { result ≡ true → self.new.position ≡ self.old.position + count }

@@ -1,4 +1,4 @@
--- A line that is a number alone.
+-- A line that is only a number.
 use Rattle.std.specs.Prelude.{◌≡◌, ℕ, ℤ, ◌<◌, List, length, Some, Ok}
 use Rattle.lexical_digits.specs.declared.skip.rule.Rule.{Rule}
 use Rattle.lexical_digits.specs.declared.skip.rule.Class.TheVariants.{Other}

@@ -20,7 +20,7 @@ use Rattle.digit_sum.specs.declared.totals.Totals.{Totals}
 abbrev pub padded : ℕ → List ℕ → List ℕ
 padded places digits = replicate (places - length digits) 48 ++ digits
 
--- so many of the last place, with a point before the places
+-- a number in units of its last place, with a point before the places
 unfoldable pub with_point : ℕ → ℤ → List ℕ
 with_point places value =
     sign_text (is_negative value) ++ decimal (unsigned_abs value / 10 ^ places)

@@ -209,7 +209,7 @@ impl Settings {
         }
     }
 
-    /// What the kind of the numbers is.
+    /// The kind of the numbers.
     fn kind(self) -> Kind
         requires { IfSome self.places (λ places. places ≤ 38) }
         ensures is { result ≡ Arguments.kind_of self.places }

@@ -12,11 +12,11 @@ use std::alloc::AllocError;
 pub enum NumberError {
     /// The line has no such column.
     Missing,
-    /// What is there is no integer of 128 bits.
+    /// It is no integer of 128 bits.
     Integer(ParseError),
-    /// What is there is no decimal number of 128 bits with so many places.
+    /// It is no decimal number of 128 bits with the places of the run.
     Decimal(ScaledError),
-    /// What is there is no float.
+    /// It is no float.
     Float(FloatError),
 }
 

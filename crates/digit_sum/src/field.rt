@@ -1,4 +1,4 @@
-//! Where a column is in a line.
+//! The place of a column in a line.
 
 ghost use Rattle.std.specs.Prelude.{◌≡◌, ◌+◌, ◌-◌, ◌==◌, ◌<◌, ◌≤◌, length, drop, position, Some, None, IfSome, MatchOption};
 ghost use Rattle.digit_sum.specs.Field.{fields_of, nth_span, span_of};
@@ -13,7 +13,7 @@ pub fn find(bytes: &[u8], mark: u8) -> Option<usize>
     bytes.iter().position(|byte| *byte == mark)
 }
 
-/// Where a field of a line begins, after so many others.
+/// The start of the field of a line that has `fields_before` fields before it.
 #[tactic(auto, using(crate::proofs::Fields::spans))]
 fn find_start(line: &[u8], separator: u8, fields_before: usize) -> Option<usize>
     ensures is { let span = nth_span 0 fields_before (fields_of separator line.now) in
@@ -31,7 +31,7 @@ fn find_start(line: &[u8], separator: u8, fields_before: usize) -> Option<usize>
     Some(start)
 }
 
-/// Where a column is in a line: its start and its end. Without a column it is the whole line.
+/// The start and the end of a column in a line. Without a column it is the whole line.
 #[tactic(auto, using(crate::proofs::Fields::spans))]
 pub fn find_span(column: Option<Column>, line: &[u8]) -> Option<(usize, usize)>
     ensures is { result ≡ span_of column line.now }

@@ -108,7 +108,7 @@ pub struct Added<'a> {
     pub rest: &'a [u8],
 }
 
-/// Adds the lines at the front of a text that are numbers alone.
+/// Adds the lines at the front of a text that are only numbers.
 #[inline(always)]
 fn add_quick_lines<'a>(
     options: Options,
@@ -144,7 +144,7 @@ fn add_quick_lines<'a>(
     Ok(Added { totals: now, rest })
 }
 
-/// Adds the lines at the front of a text that are numbers alone, if a run adds up whole lines.
+/// Adds the lines at the front of a text that are only numbers, if a run adds up whole lines.
 #[inline(always)]
 #[tactic(auto, unfolding(lexical_format::proofs::OnLiterals::lexical_on_literals), using(crate::proofs::Quick::no_low_bytes))]
 fn add_quick<'a>(options: Options, totals: Totals, text: &'a [u8]) -> Result<Added<'a>, Fault>

@@ -1,5 +1,5 @@
 //! A program that adds up the numbers of its input, one a line. Start reading at
-//! [`engine::serve`].
+//! [`engine::serve_arguments`].
 #![tactic(auto)]
 
 pub mod arguments;

@@ -8,19 +8,19 @@ pub struct Column {
     pub separator: u8,
 }
 
-/// What the numbers are.
+/// The kind of the numbers.
 #[derive(Clone, Copy, Debug, PartialEq, Eq)]
 pub enum Kind {
     /// Integers.
     Integers,
-    /// Decimal numbers, in units of so many places after the point.
+    /// Decimal numbers, in units of the last of these places after the point.
     Places(usize),
 }
 
 /// What a run adds up, exactly.
 #[derive(Clone, Copy, Debug, PartialEq, Eq)]
 pub struct Options {
-    /// Where the number is in a line. `None`: it is the whole line.
+    /// The column that has the number. `None`: it is the whole line.
     pub column: Option<Column>,
     pub kind: Kind,
     /// Whether one `_` may be between two digits.

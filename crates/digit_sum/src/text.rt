@@ -9,7 +9,7 @@ use super::options::{Column, Kind};
 use super::totals::Totals;
 use std::alloc::{AllocError, Allocator};
 
-/// Adds so many zeros to a text.
+/// Adds `count` zeros to a text.
 fn push_zeros<A: Allocator>(text: &mut String<A>, count: usize) -> Result<(), AllocError>
     ensures { OnOk result (string_bytes text.new ≡ string_bytes text.old ++ replicate count 48) }
 {
@@ -46,7 +46,7 @@ fn with_point<A: Allocator>(alloc: &A, places: usize, value: i128) -> Result<Str
     Ok(text)
 }
 
-/// A number, or so many of the last place.
+/// The text of an integer, or of a decimal number, whose value is in units of its last place.
 #[tactic(auto, unfolding(crate::specs::Text::amount))]
 fn amount<A: Allocator>(alloc: &A, kind: Kind, value: i128) -> Result<String<&A>, AllocError>
     requires { HasFewPlaces kind }
@@ -100,7 +100,7 @@ pub fn extremes<'a, A: Allocator>(
     format!(in alloc; " min={least} max={greatest}\n")
 }
 
-/// The line of the totals, but for its end.
+/// The line of the totals without its end.
 #[tactic(auto, using(crate::proofs::Bits::bits))]
 fn line_front<A: Allocator>(alloc: &A, kind: Kind, totals: Totals) -> Result<String<&A>, AllocError>
     requires { HasFewPlaces kind }
@@ -151,7 +151,7 @@ fn message<A: Allocator>(alloc: &A, error: NumberError) -> Result<String<&A>, Al
     }
 }
 
-/// Where it is.
+/// The place of a fault: its line and its column.
 fn place<A: Allocator>(
     alloc: &A,
     column: Option<Column>,
@@ -168,7 +168,7 @@ fn place<A: Allocator>(
     }
 }
 
-/// Where it is, and what.
+/// The place of a fault, and what is wrong.
 fn told<'a, A: Allocator>(
     alloc: &'a A,
     column: Option<Column>,

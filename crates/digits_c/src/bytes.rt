@@ -45,7 +45,7 @@ fn inside(text: &[u8], at: usize, closing: u8) -> Outcome
     }
 }
 
-/// Where the first number of a list is, which a byte opens; or that another byte closes it.
+/// The position of the first number of a list that a byte opens; or that another byte closes it.
 #[unsafe(no_mangle)]
 pub extern "C" fn digits_open_list(text: &[u8], start: usize, opening: u8, closing: u8) -> Outcome
     ensures { result ≡ list_from text.now start opening closing }

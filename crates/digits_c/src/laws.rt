@@ -77,7 +77,7 @@ pub fn reads_stay_of(text: &[u8], form: u32) -> usize
     digits_sure_end_of(text, form)
 }
 
-/// What each status is by number. A number is never given to another status.
+/// The number of each status. It is never given to another status.
 pub fn statuses_say()
     ensures ok { statuses.OK ≡ 0 }
     ensures empty { statuses.EMPTY ≡ 1 }
@@ -97,7 +97,7 @@ pub fn statuses_say()
     ensures closed { statuses.CLOSED ≡ 15 }
 {}
 
-/// What each kind of a number is by number.
+/// The number of each kind.
 pub fn kinds_say()
     ensures none { kinds.NONE ≡ 0 }
     ensures integer { kinds.INTEGER ≡ 1 }

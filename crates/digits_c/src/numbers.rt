@@ -194,7 +194,7 @@ pub extern "C" fn digits_parse_json(text: &[u8], number: &mut NumberParts) -> Ou
     parse(text, forms::JSON, number)
 }
 
-/// [`read`] for code that stands beside that of other forms. It writes the number whole: field by
+/// [`read`] for code that is beside that of other forms. It writes the number whole: field by
 /// field, the compiler would keep what was read in memory there.
 #[inline(always)]
 fn read_beside(text: &[u8], start: usize, form: Form, number: &mut NumberParts) -> Outcome

@@ -64,7 +64,7 @@ taken s = if nat_lt s.cursor (length s.buffer) then with_cursor s (s.cursor + 1)
 abbrev pub drained : Plain → Plain
 drained s = with_cursor s (length s.buffer)
 
--- how many bytes `0` stand first from the cursor on
+-- how many bytes `0` are first from the cursor on
 abbrev pub zeros : Plain → ℕ
 zeros s = prefix_len (λ byte. byte == 48) (rest s)
 

@@ -1,4 +1,4 @@
-//! Which bytes are passed, and what stands after them.
+//! Which bytes are passed, and which byte follows them.
 
 ghost use Rattle.std.specs.Prelude.{◌≡◌, ℕ, ◌<◌, ◌≤◌, true, false, List, slice_get};
 ghost use Rattle.lexical_digits.specs.ByteSet.{accepts};
@@ -10,7 +10,7 @@ ghost use Rattle.digit_literals.specs.Lists.{has_blank, past_blanks};
 
 /// [`past_bytes`](crate::past_bytes) passes each byte of its set, and after it none follows. So
 /// does [`name_end`](crate::name_end) with the bytes of a name, and
-/// [`past_blanks`](crate::Gap::past_blanks) with blanks. At the end of a text stands no byte.
+/// [`past_blanks`](crate::Gap::past_blanks) with blanks. At the end of a text there is none.
 #[tactic(auto, using(crate::proofs::PassedAll::passed_bytes))]
 pub fn bytes_are_passed()
     ensures none_follows { (text : List ℕ) (at : ℕ) (set : ByteSet) →

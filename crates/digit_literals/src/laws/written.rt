@@ -11,12 +11,13 @@ ghost use Rattle.digit_literals.specs.Integers.{integer_at};
 ghost use Rattle.digit_literals.specs.Numbers.{number_at, signed};
 ghost use Rattle.digit_literals.specs.Written.{IsWrittenAt};
 
-/// A number that was written is read, whatever the separator and the flags. Digits alone are read
-/// up to where they end, and their value is std's, up to radix 36. What std writes of an integer by
-/// `{}` is read with radix 10 as this integer (`integer`; `signed`, where `hbits w` is 31 for an
-/// `i32`). So is a minus before such digits, if the type has a sign (`number`). The last three
-/// clauses say where a text was written: all of it, what it begins with, or what follows other
-/// bytes. After it the text ends, or goes on with a byte that is neither a digit nor the separator.
+/// A number that was written is read, whatever the separator and the flags. Digits without a sign
+/// are read up to where they end, and their value is std's, up to radix 36. What std writes of an
+/// integer by `{}` is read with radix 10 as this integer (`integer`; `signed`, where `hbits w` is
+/// 31 for an `i32`). So is a minus before such digits, if the type has a sign (`number`). The last
+/// three clauses say where a text was written: all of it, what it begins with, or what follows
+/// other bytes. After it the text ends, or goes on with a byte that is neither a digit nor the
+/// separator.
 #[tactic(auto, using(crate::proofs::Written::written))]
 pub fn written_numbers_are_read()
     ensures digits { (rule : Rule) (text : List ℕ) (start most : ℕ) (digits : List ℕ) →

@@ -22,7 +22,7 @@ pub struct Scaled<T: Integer> {
 }
 
 impl<T: Integer> Scaled<T> {
-    /// The numbers of so many places by a word, with a point.
+    /// The numbers of at most `places` places by a word, with a point.
     #[inline(always)]
     pub const fn new(word: u128, point: u8, places: usize) -> Scaled<T>
         ensures word { result.word ≡ word }
