@@ -1,7 +1,7 @@
 // Random lists, cut by chance into pieces of 1 to 40 bytes: read piece by piece they give what they
 // give whole, the numbers, the end and the status. And what a read answers before the sure end of a
 // piece is what it answers in the whole text: pieces NUMBER [SEED].
-#include "digits.h"
+#include "digits.hpp"
 
 #include <algorithm>
 #include <cstdio>
@@ -57,19 +57,9 @@ struct list {
 
 // ---- a list whole, and piece by piece ----
 
-// The calls of digits.h for a type, as one form each.
+// The calls of digits.h for a type.
 template <typename T>
-struct calls;
-#define DIGITS_CALLS(type, name)                                                                    \
-    template <>                                                                                     \
-    struct calls<type> {                                                                            \
-        static constexpr auto list = digits_read_##name##_list;                                     \
-        static constexpr auto piece = digits_read_##name##_piece;                                   \
-    };
-DIGITS_CALLS(int64_t, i64)
-DIGITS_CALLS(uint64_t, u64)
-DIGITS_CALLS(double, f64)
-#undef DIGITS_CALLS
+using calls = digits::detail::list_calls<T>;
 
 template <typename T, typename Read>
 static void whole(list &to, size_t room, Read read)

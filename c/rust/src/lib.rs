@@ -423,8 +423,20 @@ pub enum PieceEnd {
     Fault(Fault),
 }
 
+/// What a call writes into a slice, and its outcome.
+#[inline(always)]
+fn fill<T>(
+    text: &[u8],
+    numbers: &mut [T],
+    call: impl FnOnce(*const u8, usize, *mut T, usize, *mut usize) -> Outcome,
+) -> (usize, Outcome) {
+    let mut count = 0;
+    let end = call(text.as_ptr(), text.len(), numbers.as_mut_ptr(), numbers.len(), &mut count);
+    (count, end)
+}
+
 /// What a call of a list answered.
-fn list(count: usize, Outcome { at, status }: Outcome) -> List {
+fn list((count, Outcome { at, status }): (usize, Outcome)) -> List {
     let end = match status {
         statuses::OK => End::Over(at),
         statuses::FULL => End::Full(at),
@@ -434,7 +446,7 @@ fn list(count: usize, Outcome { at, status }: Outcome) -> List {
 }
 
 /// What a call of a piece answered.
-fn piece(count: usize, Outcome { at, status }: Outcome) -> Piece {
+fn piece((count, Outcome { at, status }): (usize, Outcome)) -> Piece {
     let end = match status {
         statuses::MORE => PieceEnd::More(at),
         statuses::OK => PieceEnd::Over(at),
@@ -475,13 +487,13 @@ macro_rules! list_values {
             ) -> Outcome;
         }
 
-        // SAFETY of each call: text and numbers have these lengths, and `count` is of its type.
+        // SAFETY of each call: `fill` passes text and numbers with their lengths, and a place for the
+        // count.
         impl sealed_list::Calls for $type {
             fn read_list(text: &[u8], start: usize, between: u8, numbers: &mut [Self]) -> List {
-                let (t, n, mut count) = (text.as_ptr(), text.len(), 0);
-                let (to, room) = (numbers.as_mut_ptr(), numbers.len());
-                let end = unsafe { $read_list(t, n, start, between, to, room, &mut count) };
-                list(count, end)
+                list(fill(text, numbers, |t, n, to, room, count| unsafe {
+                    $read_list(t, n, start, between, to, room, count)
+                }))
             }
             fn read_piece(
                 text: &[u8],
@@ -490,10 +502,9 @@ macro_rules! list_values {
                 is_last: bool,
                 numbers: &mut [Self],
             ) -> Piece {
-                let (t, n, mut count) = (text.as_ptr(), text.len(), 0);
-                let (to, room) = (numbers.as_mut_ptr(), numbers.len());
-                let end = unsafe { $read_piece(t, n, start, between, is_last, to, room, &mut count) };
-                piece(count, end)
+                piece(fill(text, numbers, |t, n, to, room, count| unsafe {
+                    $read_piece(t, n, start, between, is_last, to, room, count)
+                }))
             }
         }
 
@@ -538,11 +549,10 @@ pub fn read_number_list(
     between: u8,
     numbers: &mut [Number],
 ) -> List {
-    let (t, n, mut count) = (text.as_ptr(), text.len(), 0);
-    let (to, room) = (numbers.as_mut_ptr(), numbers.len());
-    // SAFETY: text and numbers have these lengths, and `count` is of its type.
-    let end = unsafe { digits_read_number_list(t, n, start, form, between, to, room, &mut count) };
-    list(count, end)
+    // SAFETY: as of all calls by `fill`.
+    list(fill(text, numbers, |t, n, to, room, count| unsafe {
+        digits_read_number_list(t, n, start, form, between, to, room, count)
+    }))
 }
 
 // ---- blanks, and bytes around a list ----
@@ -618,13 +628,10 @@ pub fn read_number_piece(
     is_last: bool,
     numbers: &mut [Number],
 ) -> Piece {
-    let (t, n, mut count) = (text.as_ptr(), text.len(), 0);
-    let (to, room) = (numbers.as_mut_ptr(), numbers.len());
-    // SAFETY: text and numbers have these lengths, and `count` is of its type.
-    let end = unsafe {
-        digits_read_number_piece(t, n, start, form, between, is_last, to, room, &mut count)
-    };
-    piece(count, end)
+    // SAFETY: as of all calls by `fill`.
+    piece(fill(text, numbers, |t, n, to, room, count| unsafe {
+        digits_read_number_piece(t, n, start, form, between, is_last, to, room, count)
+    }))
 }
 
 /// Up to where a piece is sure: what a `read` without a word answers at a start before this position

@@ -1,6 +1,7 @@
 //! Loops over a `Bytes` and over an iterator (docs/LOOPS.md).
 //!
 //! Proof by hand: 19 lines, an invariant and a measure each.
+#![tactic(auto)]
 
 ghost use Rattle.std.specs.Prelude.{◌≡◌, ◌==◌, IsTrue, count_by};
 ghost use Rattle.std.specs.List.{list_any};
