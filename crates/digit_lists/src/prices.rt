@@ -92,10 +92,10 @@ fn count_places(text: &[u8], word: u128, at: usize, point: u8) -> usize
     read_mantissa(text, word, at, point).places
 }
 
-/// The decimal number that begins at `start`, in units of its last place, with exactly
-/// `places` places: [`read_scaled_from`](digit_floats::read_scaled_from), where the fraction has to
-/// have `places` digits. So a zero at its end is no longer optional. Requires that `start` is within
-/// the text, that the word is supported and decimal, and that there are at most 38 places.
+/// The decimal number that begins at `start`, in units of its last place, with exactly `places`
+/// places: [`read_scaled_from`](digit_floats::read_scaled_from), where the fraction has to have
+/// `places` digits. So a zero at its end is no longer optional. Requires that `start` is within the
+/// text, that the word is supported and decimal, and that there are at most 38 places.
 ///
 /// ```text
 /// of 2 places: `1.50;` Ok((150, 4)); `1.5;` Err(Places(3)); `1.500` Err(Places(5))
