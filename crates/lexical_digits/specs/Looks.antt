@@ -16,7 +16,7 @@ use Rattle.lexical_digits.specs.CallTable.{byte_at_place, settled, Takes}
 unfoldable pub separator_at : ℕ → List ℕ → ℕ → Bool
 separator_at separator buffer q = option_map_or (is_separator separator) (slice_get buffer q) false
 
--- a maximal run: separators are at from..to, at least one, with none before and none after them
+-- a maximal run: separators stand at from..to, at least one, with none before and none behind them
 pub record IsRun (separator : ℕ) (buffer : List ℕ) (from to : ℕ) : Type 0 where
   pub some : from < to
   pub within : to ≤ length buffer
@@ -169,7 +169,7 @@ pub record SettlesOf (k : Component) (a b : Held) : Type 0 where
       → Costs k a c
 
 -- A read from a to b that leaves the byte where it is: it answers the byte at the place, where the
--- cursor then is.
+-- cursor then stands.
 pub record PeeksOf (k : Component) (a b : Held) (answer : Option ℕ) : Type 0 where
   pub byte : answer ≡ byte_at_place k a.state
   pub settles : b.state ≡ settled k a.state

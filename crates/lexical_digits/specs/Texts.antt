@@ -23,7 +23,7 @@ pub record IsInternalInRuns (rule : Rule) : Type 0 where
 
 -- ---- bytes of a text
 
--- whether a digit is at a position, or just before it
+-- whether a digit stands at a position, or just before it
 abbrev pub holds_digit : Rule → List ℕ → ℕ → Bool
 holds_digit rule text q = holds_of (is_digit rule) (slice_get text q)
 
