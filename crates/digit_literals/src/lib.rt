@@ -28,6 +28,7 @@ mod number;
 mod parse;
 mod reading;
 mod slice;
+mod types;
 mod wide;
 mod zeros;
 
@@ -42,9 +43,10 @@ pub use self::integer::{count_digits, read_integer, read_integer_from, stop_from
 pub use self::list::{
     COMMAS, COMMAS_IN_LINE, Gap, LINES, ListEnd, ListRead, SPACES_IN_LINE, WHITESPACE, read_list,
 };
-pub use self::number::{Integer, parse_number, parse_number_from, read_number, read_number_from};
+pub use self::number::{parse_number, parse_number_from, read_number, read_number_from};
 pub use self::parse::ParseError;
 pub use self::reading::{Digits, TooLarge, read_digits, read_digits_after, take_digits};
+pub use self::types::Integer;
 pub use self::wide::read_wide_from;
 use lexical_digits::iterator::DigitsIter;
 use std::error::Error;
