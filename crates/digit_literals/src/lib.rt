@@ -32,7 +32,9 @@ mod types;
 mod wide;
 mod zeros;
 
-pub use self::bytes::{BLANKS, byte_at, expect_byte, has_byte, name_end, past_bytes};
+pub use self::bytes::{
+    BLANKS, byte_at, expect_byte, expect_bytes, has_byte, has_bytes, name_end, past_bytes,
+};
 pub use self::component::{pass_digits, pass_zeros, read_digits_of, read_digits_up_to};
 pub use self::exactly::{read_at_most, read_exactly};
 pub use self::first::{
