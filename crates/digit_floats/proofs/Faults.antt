@@ -184,5 +184,5 @@ module _ (whole places most : ℕ) (bytes : List ℕ) where
 
 -- ---- an integer that is small enough
 
-pub small_whole : (whole most tens : ℕ) → 0 < tens → whole ≤ most / tens → whole * tens ≤ most
-small_whole whole most tens some small = (le-div_iff_mul-le some).0 small
+pub tens_fit : (whole most tens : ℕ) → 0 < tens → whole ≤ most / tens → whole * tens ≤ most
+tens_fit whole most tens some small = (le-div_iff_mul-le some).0 small

@@ -11,6 +11,7 @@ use Rattle.lexical_digits.specs.Stop.{stop}
 use Rattle.digit_literals.specs.After.{digits_between}
 use Rattle.digit_literals.specs.First.{ReadsFirst}
 use Rattle.digit_literals.specs.Reads.{ArePlain, IsOffSlice}
+use Rattle.digit_literals.proofs.Between.{none_between}
 use Rattle.digit_literals.proofs.ForCallers.{value_more, all_digits}
 use Rattle.digit_literals.proofs.Passed.{reading}
 use Rattle.digit_literals.proofs.Plain.{passed, counted, decimal, lt_or_le}
@@ -236,3 +237,10 @@ module _ (rule : Rule) (text : List ℕ) (start at end before value : ℕ) (ten 
             )
             (next (omega (arith, h)));
       }
+
+-- to be named in an attribute
+pub ruleset ends = (one_is, both_are, by_ascii)
+
+pub ruleset eights = (some_are, none_between)
+
+pub ruleset ones = (value_one, none_between)

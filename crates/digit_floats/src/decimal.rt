@@ -81,7 +81,7 @@ pub fn read_decimal_from(
         (λ error. read_decimal_at word text.now plain_marks start ≡ Err error) }
     ensures within { IfOk result (λ r. (start < r.1) × (r.1 ≤ length text.now)) }
 {
-    let parts = read_parts(text, word, Marks::PLAIN, start)?;
+    let parts = read_parts(text, word, Marks::PLAIN, start, false)?;
     let number = decimal_of(text, parts.negative, parts.mantissa, parts.power);
     Ok((number, parts.power.end))
 }

@@ -15,7 +15,8 @@ ghost use Rattle.digit_floats.specs.Hexadecimal.{IsHexadecimal, IsHexMantissa, I
 use super::binary::round_binary;
 use super::error::FloatError;
 use super::float::{Float, signed};
-use super::parts::{Marks, Power, has_point, read_exponent, read_part, read_sign};
+use super::parts::{Marks, Power, read_exponent, read_part, read_sign};
+use digit_literals::has_byte;
 use lexical_digits::skip::Component;
 
 /// The hexadecimal digits of integer and fraction, and where they are in their text.
@@ -55,7 +56,7 @@ pub fn read_hex_mantissa(text: &[u8], word: u128, at: usize, point: u8) -> HexMa
     ensures end { result.end ≡ mantissa_end word text.now point at }
 {
     let (integer, whole_end) = read_part(text, word, Component::Integer, at, 0, 0);
-    if !has_point(text, whole_end, point) {
+    if !has_byte(text, whole_end, point) {
         return HexMantissa {
             digits: integer.count,
             places: 0,

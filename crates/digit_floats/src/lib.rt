@@ -1,7 +1,6 @@
 //! The nearest `f64` or `f32` of a text with digit separators, and its decimal number.
 #![tactic(auto)]
 
-mod apart;
 mod binary;
 mod decimal;
 mod error;
@@ -28,8 +27,8 @@ pub use self::float::Float;
 pub use self::hexadecimal::{HexMantissa, read_hex_float_from, read_hex_mantissa, round_hex};
 pub use self::list::read_float_list;
 pub use self::parts::{
-    Mantissa, Marks, Power, read_exponent, read_mantissa, read_short_exponent, read_short_fraction,
-    read_short_whole,
+    Mantissa, Marks, Power, has_mark, read_exponent, read_mantissa, read_short_exponent,
+    read_short_fraction, read_short_whole,
 };
 pub use self::read::{parse_float, parse_float_from, read_float, read_float_from};
 pub use self::round::{round_few, round_few_with, round_parts};

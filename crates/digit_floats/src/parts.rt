@@ -13,8 +13,9 @@ ghost use Rattle.digit_floats.specs.Float.{end_at};
 ghost use Rattle.digit_floats.specs.Parts.{integer_of, fraction_of, exponent_of, IsMantissa, IsShort, IsPower, IsParts};
 
 use super::error::FloatError;
+use super::plain::read_decimal_part;
 use digit_literals::{
-    FirstDigits, read_few_digits_from, read_first_digits_from, read_some_digits_from,
+    FirstDigits, has_byte, read_few_digits_from, read_first_digits_from, read_some_digits_from,
 };
 use lexical_digits::skip::Component;
 
@@ -50,22 +51,10 @@ pub fn read_sign(text: &[u8], at: usize) -> (bool, usize)
     }
 }
 
-/// Whether a point is at a position.
-#[inline(always)]
-pub fn has_point(text: &[u8], at: usize, point: u8) -> bool
-    ensures answer { result ≡ stands (is_point point) text.now at }
-    ensures within { result ≡ true → at < length text.now }
-{
-    match text.get(at) {
-        Some(byte) => *byte == point,
-        None => false,
-    }
-}
-
 /// Whether the mark of an exponent is at a position.
 #[inline(always)]
-fn has_mark(text: &[u8], at: usize, mark: u8) -> bool
-    ensures answer { result ≡ stands (is_mark mark) text.now at }
+pub fn has_mark(text: &[u8], at: usize, mark: u8) -> bool
+    ensures is { result ≡ stands (is_mark mark) text.now at }
     ensures within { result ≡ true → at < length text.now }
 {
     match text.get(at) {
@@ -74,12 +63,9 @@ fn has_mark(text: &[u8], at: usize, mark: u8) -> bool
     }
 }
 
-/// The greatest value of 19 digits.
-const MOST: u64 = 9_999_999_999_999_999_999;
-
 /// The first digits of a component from a position on, after those of a number, and where they end.
 #[inline(always)]
-#[tactic(auto, using(crate::proofs::Decimals::digits_of_radix, digit_literals::proofs::ForCallers::dropped), unfolding(crate::specs::Float::digits_from, crate::specs::Float::digits_end))]
+#[tactic(auto, using(crate::proofs::Decimals::firsts), unfolding(crate::specs::Float::components))]
 pub fn read_part(
     text: &[u8],
     word: u128,
@@ -137,9 +123,59 @@ pub struct Mantissa {
     pub end: usize,
 }
 
+/// [`read_mantissa`], where `by_eights` says whether each component is looked at for eight digits
+/// at once first: that is faster of more than 19 digits.
+#[inline(always)]
+#[tactic(auto, using(crate::proofs::Mantissas::both), unfolding(crate::specs::Float::mantissas))]
+fn read_mantissa_by(text: &[u8], word: u128, at: usize, point: u8, by_eights: bool) -> Mantissa
+    requires supported { IsTrue (is_supported word) }
+    requires decimal { IsDecimal word }
+    requires within { at ≤ length text.now }
+    ensures is { IsMantissa text.now result }
+    ensures integer { integer_of text.now result ≡ digits_from word text.now Integer at }
+    ensures fraction { let e = digits_end word text.now Integer at in
+        fraction_of text.now result ≡ fraction_digits word text.now point e }
+    ensures start { result.start ≡ at }
+    ensures whole_end { result.whole_end ≡ digits_end word text.now Integer at }
+    ensures fraction_start { let e = digits_end word text.now Integer at in result.fraction_start
+        ≡ (if stands (is_point point) text.now e then e + 1 else e) }
+    ensures end { result.end ≡ mantissa_end word text.now point at }
+{
+    let (integer, whole_end) = read_decimal_part(text, word, Component::Integer, at, 0, by_eights);
+    if !has_byte(text, whole_end, point) {
+        return Mantissa {
+            value: integer.value,
+            digits: integer.count,
+            places: 0,
+            dropped: integer.dropped,
+            start: at,
+            whole_end,
+            fraction_start: whole_end,
+            end: whole_end,
+        };
+    }
+    let (fraction, end) = read_decimal_part(
+        text,
+        word,
+        Component::Fraction,
+        whole_end + 1,
+        integer.value,
+        by_eights,
+    );
+    Mantissa {
+        value: fraction.value,
+        digits: integer.count + fraction.count,
+        places: fraction.count,
+        dropped: integer.dropped + fraction.dropped,
+        start: at,
+        whole_end,
+        fraction_start: whole_end + 1,
+        end,
+    }
+}
+
 /// Reads integer and fraction from a position on, where no sign is: none of them may have a digit.
 #[inline(always)]
-#[tactic(auto, using(digit_literals::proofs::ForCallers::value_of_both), unfolding(crate::specs::Float::mantissas))]
 pub fn read_mantissa(text: &[u8], word: u128, at: usize, point: u8) -> Mantissa
     requires supported { IsTrue (is_supported word) }
     requires decimal { IsDecimal word }
@@ -154,42 +190,12 @@ pub fn read_mantissa(text: &[u8], word: u128, at: usize, point: u8) -> Mantissa
         ≡ (if stands (is_point point) text.now e then e + 1 else e) }
     ensures end { result.end ≡ mantissa_end word text.now point at }
 {
-    let (integer, whole_end) = read_part(text, word, Component::Integer, at, 0, MOST);
-    if !has_point(text, whole_end, point) {
-        return Mantissa {
-            value: integer.value,
-            digits: integer.count,
-            places: 0,
-            dropped: integer.dropped,
-            start: at,
-            whole_end,
-            fraction_start: whole_end,
-            end: whole_end,
-        };
-    }
-    let (fraction, end) = read_part(
-        text,
-        word,
-        Component::Fraction,
-        whole_end + 1,
-        integer.value,
-        MOST,
-    );
-    Mantissa {
-        value: fraction.value,
-        digits: integer.count + fraction.count,
-        places: fraction.count,
-        dropped: integer.dropped + fraction.dropped,
-        start: at,
-        whole_end,
-        fraction_start: whole_end + 1,
-        end,
-    }
+    read_mantissa_by(text, word, at, point, false)
 }
 
 /// The digits of an integer, if there are 1 to 19, and no separator is met.
 #[inline(always)]
-#[tactic(auto, using(crate::proofs::Decimals::digits_of_radix, digit_literals::proofs::ForCallers::dropped), unfolding(crate::specs::Float::digits_from, crate::specs::Float::digits_end))]
+#[tactic(auto, using(crate::proofs::Decimals::firsts), unfolding(crate::specs::Float::components))]
 fn read_some_part(text: &[u8], word: u128, at: usize) -> Option<(FirstDigits, usize)>
     requires supported { IsTrue (is_supported word) }
     requires decimal { IsDecimal word }
@@ -215,7 +221,7 @@ fn read_some_part(text: &[u8], word: u128, at: usize) -> Option<(FirstDigits, us
 /// The digits of a fraction, after so many of an integer, if there are at most 19 in all, and no
 /// separator is met.
 #[inline(always)]
-#[tactic(auto, using(crate::proofs::Decimals::digits_of_radix, digit_literals::proofs::ForCallers::dropped), unfolding(crate::specs::Float::digits_from, crate::specs::Float::digits_end))]
+#[tactic(auto, using(crate::proofs::Decimals::firsts), unfolding(crate::specs::Float::components))]
 fn read_few_part(
     text: &[u8],
     word: u128,
@@ -289,7 +295,7 @@ pub fn read_short_fraction(text: &[u8], word: u128, whole: Mantissa, point: u8) 
     ensures digits { IfSome result (λ m. m.digits ≡ whole.digits + m.places) }
     ensures few { IfSome result (λ m. m.dropped ≡ 0) }
 {
-    if !has_point(text, whole.whole_end, point) {
+    if !has_byte(text, whole.whole_end, point) {
         return Some(whole);
     }
     let at = whole.whole_end + 1;
@@ -446,9 +452,15 @@ pub struct Parts {
     pub power: Power,
 }
 
-/// Reads a number from a position on.
+/// Reads a number from a position on, with its mantissa as by [`read_mantissa_by`].
 #[inline(always)]
-pub fn read_parts(text: &[u8], word: u128, marks: Marks, start: usize) -> Result<Parts, FloatError>
+pub fn read_parts(
+    text: &[u8],
+    word: u128,
+    marks: Marks,
+    start: usize,
+    by_eights: bool,
+) -> Result<Parts, FloatError>
     requires supported { IsTrue (is_supported word) }
     requires decimal { IsDecimal word }
     requires within { start ≤ length text.now }
@@ -459,7 +471,7 @@ pub fn read_parts(text: &[u8], word: u128, marks: Marks, start: usize) -> Result
     ensures within { IfOk result (λ p. (start < p.power.end) × (p.power.end ≤ length text.now)) }
 {
     let (negative, at) = read_sign(text, start);
-    let mantissa = read_mantissa(text, word, at, marks.point);
+    let mantissa = read_mantissa_by(text, word, at, marks.point, by_eights);
     if mantissa.digits == 0 {
         return Err(FloatError::Empty(mantissa.end));
     }

@@ -1,7 +1,8 @@
-//! Decimal digits of a component with no separator among them, however many there are: the first
-//! ones are read, and the others only passed. It is only for speed, of long floats.
+//! Decimal digits of a component. However many there are with no separator among them, the first
+//! ones are read eight at a time, and the others only passed: only for speed, of long floats.
 
-ghost use Rattle.std.specs.Prelude.{◌≡◌, ◌+◌, ◌-◌, ◌*◌, ◌^◌, ◌<◌, ◌≤◌, true, false, length, slice_index, IsTrue, IfSome};
+ghost use Rattle.std.specs.Prelude.{◌≡◌, ◌+◌, ◌-◌, ◌*◌, ◌^◌, ◌<◌, ◌≤◌, true, false, length, filter, slice_index, slice_range, IsTrue, IfSome};
+ghost use Rattle.std.specs.Char.{is_ascii_digit};
 ghost use Rattle.std.specs.Str.Parse.{digits_value_after};
 ghost use Rattle.lexical_format.specs.Word.{is_supported};
 ghost use Rattle.lexical_digits.specs.State.{rule_of};
@@ -9,9 +10,10 @@ ghost use Rattle.lexical_digits.specs.Separators.{is_digit, is_separator};
 ghost use Rattle.lexical_digits.specs.Stop.{stop};
 ghost use Rattle.digit_literals.specs.After.{digits_between};
 ghost use Rattle.digit_literals.specs.First.{ReadsFirst};
+ghost use Rattle.digit_floats.specs.Float.{digits_from, digits_end};
 ghost use Rattle.digit_floats.specs.Plain.{AreDigits};
 
-use digit_literals::FirstDigits;
+use digit_literals::{FirstDigits, read_first_digits_from};
 use lexical_digits::skip::{Component, Rule};
 
 /// Whether the eight bytes from a position on are decimal digits.
@@ -67,7 +69,7 @@ fn pass_eights(text: &[u8], rule: Rule, start: usize) -> usize
 
 /// The first position from `start` on whose byte is no decimal digit, or the end of the text.
 #[inline(always)]
-#[tactic(auto, using(crate::proofs::Plains::one_is, crate::proofs::Plains::both_are, crate::proofs::Plains::by_ascii))]
+#[tactic(auto, using(crate::proofs::Plains::ends))]
 fn digits_end(text: &[u8], rule: Rule, start: usize) -> usize
     requires radix { rule.radix ≡ 10 }
     requires within { start ≤ length text.now }
@@ -152,7 +154,7 @@ fn eight_more(text: &[u8], rule: Rule, start: usize, at: usize, before: u64, val
 /// The digits between two positions after a value, eight at a time, as long as that is below 10 to
 /// the power 11. Zeros that lead are passed so.
 #[inline(always)]
-#[tactic(auto, using(crate::proofs::Plains::some_are, digit_literals::proofs::Between::none_between))]
+#[tactic(auto, using(crate::proofs::Plains::eights))]
 fn read_eights(text: &[u8], rule: Rule, start: usize, end: usize, before: u64) -> Front
     requires radix { rule.radix ≡ 10 }
     requires onward { start ≤ end }
@@ -176,7 +178,7 @@ fn read_eights(text: &[u8], rule: Rule, start: usize, end: usize, before: u64) -
 
 /// The digits between two positions after a value, as many as leave it below 10 to the power 19.
 #[inline(always)]
-#[tactic(auto, using(crate::proofs::Plains::value_one, digit_literals::proofs::Between::none_between))]
+#[tactic(auto, using(crate::proofs::Plains::ones))]
 fn read_front(text: &[u8], rule: Rule, start: usize, end: usize, before: u64) -> Front
     requires radix { rule.radix ≡ 10 }
     requires onward { start ≤ end }
@@ -236,4 +238,43 @@ pub fn read_plain_part(
         dropped: end - front.end,
     };
     Some((read, end))
+}
+
+/// The greatest value of 19 digits.
+const MOST: u64 = 9_999_999_999_999_999_999;
+
+/// The first digits of a component with radix 10 from a position on, after those of a number, as
+/// many as leave the value below 10 to the power 19, and where all its digits end. `by_eights` says
+/// whether eight digits are looked for at once: a literal, so that it costs no test.
+#[inline(always)]
+#[tactic(auto, using(crate::proofs::Decimals::firsts), unfolding(crate::specs::Float::components))]
+pub fn read_decimal_part(
+    text: &[u8],
+    word: u128,
+    component: Component,
+    at: usize,
+    before: u64,
+    by_eights: bool,
+) -> (FirstDigits, usize)
+    requires supported { IsTrue (is_supported word) }
+    requires decimal { (rule_of word component).radix ≡ 10 }
+    requires within { at ≤ length text.now }
+    requires before { before ≤ 10 ^ 19 - 1 }
+    ensures count { result.0.count ≡ length (digits_from word text.now component at) }
+    ensures bytes { filter is_ascii_digit (slice_range text.now at result.1)
+        ≡ digits_from word text.now component at }
+    ensures fits { result.0.value ≤ 10 ^ 19 - 1 }
+    ensures dropped { result.0.dropped ≤ result.0.count }
+    ensures first { ReadsFirst 10 (10 ^ 19 - 1) before
+        (digits_from word text.now component at) result.0 }
+    ensures end { result.1 ≡ digits_end word text.now component at }
+    ensures onward { at + result.0.count ≤ result.1 }
+    ensures within { result.1 ≤ length text.now }
+{
+    if by_eights && begins_long(text, word, component, at) {
+        if let Some(read) = read_plain_part(text, word, component, at, before) {
+            return read;
+        }
+    }
+    read_first_digits_from(text, word, component, at, before, MOST)
 }

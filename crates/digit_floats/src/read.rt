@@ -5,7 +5,6 @@ ghost use Rattle.std.specs.Float.{NotNan};
 ghost use Rattle.lexical_format.specs.Word.{is_supported};
 ghost use Rattle.digit_floats.specs.Float.{IsDecimal, plain_marks, read_at, parse_at};
 
-use super::apart::read_long_parts;
 use super::error::FloatError;
 use super::float::Float;
 use super::parts::{Marks, Parts, read_parts, read_short_parts};
@@ -31,7 +30,7 @@ fn read_float_apart<F: Float>(
     ensures onward { IfOk result (λ r. start < r.1) }
     ensures within { IfOk result (λ r. r.1 ≤ length text.now) }
 {
-    let parts = read_long_parts(text, word, Marks::PLAIN, start)?;
+    let parts = read_parts(text, word, Marks::PLAIN, start, true)?;
     let x = round_parts::<F>(text, parts.negative, parts.mantissa, parts.power);
     Ok((x, parts.power.end))
 }
@@ -55,7 +54,7 @@ fn read_float_in_groups<F: Float>(
     ensures onward { IfOk result (λ r. start < r.1) }
     ensures within { IfOk result (λ r. r.1 ≤ length text.now) }
 {
-    let parts = read_parts(text, word, Marks::PLAIN, start)?;
+    let parts = read_parts(text, word, Marks::PLAIN, start, false)?;
     let x = round_parts::<F>(text, parts.negative, parts.mantissa, parts.power);
     Ok((x, parts.power.end))
 }

@@ -197,7 +197,7 @@ fn count_fitting(bytes: &[u8], whole: u128, places: usize, most: u128) -> usize
 /// The first digit with which the number of a mantissa is too large or too fine.
 #[cold]
 #[inline(never)]
-#[tactic(auto, using(crate::proofs::Faults::small_whole), unfolding(crate::specs::Float::digits_end))]
+#[tactic(auto, using(crate::proofs::Faults::tens_fit), unfolding(crate::specs::Float::digits_end))]
 fn fault_of(text: &[u8], word: u128, mantissa: Mantissa, places: usize, most: u128) -> usize
     requires supported { IsTrue (is_supported word) }
     requires is { IsMantissa text.now mantissa }
@@ -254,7 +254,7 @@ pub fn read_scaled_up_to(
 
 /// The sign of a number of a type: whether it is a minus, and the position after it.
 #[inline(always)]
-fn read_sign<T: Integer>(text: &[u8], start: usize) -> (bool, usize)
+fn sign_of<T: Integer>(text: &[u8], start: usize) -> (bool, usize)
     requires { start ≤ length text.now }
     ensures negative { result.0 ≡ is_negative_from T.MIN_MAGNITUDE text.now start }
     ensures begins { result.1 ≡ digits_from T.MIN_MAGNITUDE text.now start }
@@ -297,7 +297,7 @@ pub fn read_scaled_from<T: Integer>(
         MatchResult result (λ r. read ≡ Ok (T.number r.0, r.1)) (λ error. read ≡ Err error) }
     ensures end { IfOk result (λ r. (start < r.1) × (r.1 ≤ length text.now)) }
 {
-    let (is_negative, at) = read_sign::<T>(text, start);
+    let (is_negative, at) = sign_of::<T>(text, start);
     let most = if is_negative {
         T::MIN_MAGNITUDE
     } else {

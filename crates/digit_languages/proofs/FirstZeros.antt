@@ -1,7 +1,10 @@
 -- What is read where a `0` begins a literal without a prefix.
 use Rattle.std.proofs.Common.{◌≡◌, ℕ, ◌+◌, ◌<◌, Bool, true, false, List, refl, ◌∙◌, ap, arith}
-use Rattle.std.specs.Prelude.{nat_lt, is_some, if◌then◌else◌, ◌&&◌, Option, Some, None, Result, Ok, Err}
+use Rattle.std.specs.Prelude.{⊤, nat_lt, is_some, if◌then◌else◌, ◌&&◌, Option, Some, None, Result, Ok, Err}
 use Rattle.std.proofs.lemmas.Bool.Decides.{nat_tests}
+use Rattle.lexical_format.specs.Digits.{digit_value}
+use Rattle.lexical_digits.specs.Separators.{kept_positions, is_kept, is_dropped, holds_separator, is_digit}
+use Rattle.lexical_digits.specs.Stop.{stop}
 use Rattle.lexical_digits.specs.declared.skip.component.Component.TheVariants.{Integer}
 use Rattle.lexical_digits.specs.State.{rule_of}
 use Rattle.digit_literals.specs.Integers.{integer_at}
@@ -126,3 +129,8 @@ module _ (l : Language) (text : List ℕ) (start : ℕ) where
               is_refused l text start (nat_lt (start + 1) end) (nat_lt 0 value) ≡ true =
               refused_is (nat_lt (start + 1) end) (nat_lt 0 value) ∙ rw is some in
               literal_is most l.decimal value end same reads ∙ rw refused refl
+
+-- What a proof unfolds to compute the integer of a text that is written out.
+unfoldable pub on_texts : ⊤
+unfolding integer_at stop kept_positions is_kept is_dropped holds_separator is_digit digit_value
+on_texts = tt

@@ -90,7 +90,6 @@ fn has_prefix(language: Language, text: &[u8], start: usize, letter: u8) -> bool
 /// The word that a prefix at the start says. Requires that the start is within the text and the
 /// language's words are supported.
 #[inline(always)]
-#[tactic(auto, using(std::proofs::lemmas::Option::gets))]
 pub fn prefix_word(language: Language, text: &[u8], start: usize) -> Option<u128>
     requires language { IsLanguage language }
     requires within { start ≤ length text.now }

@@ -1,5 +1,6 @@
 -- What is read of a number of any length: the first of its significant digits.
 use Rattle.std.proofs.Common.{◌≡◌, ℕ, ◌+◌, ◌-◌, ◌*◌, ◌^◌, ◌<◌, ◌≤◌, ◌%◌, refl, sym, ap, subst, ◌∙◌, IsTrue, List, length, length-append, take, arith}
+use Rattle.lexical_format.specs.Digits.{digit_value}
 use Rattle.lexical_format.specs.Word.{is_supported}
 use Rattle.lexical_digits.specs.State.{rule_of, start, with_cursor}
 use Rattle.lexical_digits.specs.Stop.{stop, stop_of}
@@ -7,7 +8,7 @@ use Rattle.lexical_digits.specs.Laws.Table.{with_own_buffer, with_own_word}
 use native.Mathlib.Nat.{mod-eq_of_lt, mul-le-mul_right, pow-le-pow_right}
 use lib.Pow.{pow-add}
 use Rattle.std.proofs.Math.Nat.{pow-le-pow_right}
-use Rattle.std.specs.Prelude.{Some, None}
+use Rattle.std.specs.Prelude.{⊤, Some, None}
 use Rattle.std.specs.Str.Parse.{AllDigits, digits_value, digits_value_after}
 use Rattle.std.proofs.lemmas.Int.Digits.{digits_value-lt}
 use Rattle.lexical_digits.specs.declared.skip.rule.Rule.{Rule}
@@ -241,3 +242,8 @@ module _ (before counted count : ℕ) (less : before < 10 ^ counted) where
       let is : read.value ≡ digits_value_after 10 before digits =
       subst (λ (n : ℕ). read.value ≡ digits_value_after n before digits) ten (h.reads 0).worth.is in
       omega (arith, less_with, below, pieces, more, is)
+
+-- what a digit's value is, to be named in an attribute
+unfoldable pub worth : ⊤
+unfolding digit_value
+worth = tt

@@ -1,6 +1,7 @@
--- Single bytes of a text, beside its numbers.
+-- Bytes of a text, beside its numbers.
 use Rattle.std.specs.Prelude.{ℕ, ◌+◌, ◌==◌, ◌||◌, nat_le, if◌then◌else◌, Bool, List, length, drop, take_while, Result, Ok, Err}
 use Rattle.std.specs.Char.{is_ascii_alphanumeric}
+use Rattle.std.specs.List.{starts_with}
 use Rattle.lexical_digits.specs.ByteSet.{accepts}
 use Rattle.lexical_digits.specs.declared.ops.ByteSet.{ByteSet}
 use Rattle.digit_literals.specs.Numbers.{has_byte}
@@ -13,6 +14,14 @@ module _ (text : List ℕ) (at : ℕ) where
   -- the position after a byte that is to be here, or else this one
   abbrev pub expect_byte : ℕ → Result ℕ ℕ
   expect_byte byte = if has_byte text at byte then Ok (at + 1) else Err at
+
+  -- whether these bytes begin here
+  abbrev pub has_bytes : List ℕ → Bool
+  has_bytes bytes = starts_with (λ a b. a == b) (drop at text) bytes
+
+  -- the position after bytes that are to begin here, or else this one
+  abbrev pub expect_bytes : List ℕ → Result ℕ ℕ
+  expect_bytes bytes = if has_bytes bytes then Ok (at + length bytes) else Err at
 
   -- the first position from here on whose byte isn't in a set, or the length
   unfoldable pub past_bytes : ByteSet → ℕ

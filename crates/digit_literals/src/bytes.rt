@@ -1,11 +1,11 @@
-//! Single bytes of a text: what a parser asks between two numbers.
+//! Bytes of a text: what a parser asks between two numbers.
 
 ghost use Rattle.std.specs.Prelude.{◌≡◌, ◌+◌, ◌<◌, ◌≤◌, true, length, map, take_while, slice_get, IfOk, IfErr, IfSome};
 ghost use Rattle.std.specs.List.{range_with_len};
 ghost use Rattle.lexical_digits.specs.ByteSet.{accepts};
 ghost use Rattle.lexical_digits.specs.Cursor.{holds_of};
 ghost use Rattle.digit_literals.specs.Numbers.{has_byte};
-ghost use Rattle.digit_literals.specs.Bytes.{expect_byte, is_name_byte, name_end, past_bytes};
+ghost use Rattle.digit_literals.specs.Bytes.{expect_byte, expect_bytes, has_bytes, is_name_byte, name_end, past_bytes};
 
 use lexical_digits::ops::ByteSet;
 
@@ -50,6 +50,37 @@ pub fn expect_byte(text: &[u8], at: usize, byte: u8) -> Result<usize, usize>
     } else {
         Err(at)
     }
+}
+
+/// Whether bytes begin at a position. Requires that the position is within the text.
+///
+/// ```text
+/// `10 EUR`, `EUR` at 3: true
+/// ```
+#[inline(always)]
+pub fn has_bytes(text: &[u8], at: usize, bytes: &[u8]) -> bool
+    requires { at ≤ length text.now }
+    ensures is { result ≡ has_bytes text.now at bytes.now }
+    ensures within { result ≡ true → at + length bytes.now ≤ length text.now }
+{
+    text[at..].starts_with(bytes)
+}
+
+/// The position after bytes, if they begin at this one. Otherwise the error is this position, so
+/// that a parser writes `expect_bytes(text, at, b"id=").map_err(MyError::NoId)?`. Requires that the
+/// position is within the text.
+#[inline(always)]
+pub fn expect_bytes(text: &[u8], at: usize, bytes: &[u8]) -> Result<usize, usize>
+    requires { at ≤ length text.now }
+    ensures is { result ≡ expect_bytes text.now at bytes.now }
+    ensures next { IfOk result (λ next. next ≡ at + length bytes.now) }
+    ensures within { IfOk result (λ next. next ≤ length text.now) }
+    ensures at { IfErr result (λ fault. fault ≡ at) }
+{
+    if !has_bytes(text, at, bytes) {
+        return Err(at);
+    }
+    Ok(at + bytes.len())
 }
 
 /// Whether a set has a byte. For one below 64, as digits, blanks and most marks are, 64 bits are

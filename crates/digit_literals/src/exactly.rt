@@ -6,8 +6,8 @@ ghost use Rattle.digit_literals.specs.Exactly.{counted_at, exactly_at, at_most_a
 ghost use Rattle.digit_literals.specs.Numbers.{with_sign};
 
 use super::LiteralError;
-use super::number::Integer;
 use super::reading::add_digit;
+use super::types::Integer;
 use super::wide::add_wide;
 use lexical_format::char_to_digit_const;
 

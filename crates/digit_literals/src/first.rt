@@ -291,7 +291,7 @@ fn read_plain(text: &[u8], rule: Rule, start: usize, before: u64, by_eights: boo
 
 /// The decimal digit at a position, if one is there.
 #[inline(always)]
-#[tactic(auto, using(std::proofs::lemmas::Option::gets), unfolding(lexical_format::specs::Digits::digit_value))]
+#[tactic(auto, using(std::proofs::lemmas::Option::gets), unfolding(crate::proofs::Firsts::worth))]
 fn decimal_at(text: &[u8], rule: Rule, at: usize) -> Option<u32>
     requires radix { rule.radix ≡ 10 }
     ensures first { IfSome result (IsFirst rule text.now at 0 None) }

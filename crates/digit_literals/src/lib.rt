@@ -28,10 +28,13 @@ mod number;
 mod parse;
 mod reading;
 mod slice;
+mod types;
 mod wide;
 mod zeros;
 
-pub use self::bytes::{BLANKS, byte_at, expect_byte, has_byte, name_end, past_bytes};
+pub use self::bytes::{
+    BLANKS, byte_at, expect_byte, expect_bytes, has_byte, has_bytes, name_end, past_bytes,
+};
 pub use self::component::{pass_digits, pass_zeros, read_digits_of, read_digits_up_to};
 pub use self::exactly::{read_at_most, read_exactly};
 pub use self::first::{
@@ -42,9 +45,10 @@ pub use self::integer::{count_digits, read_integer, read_integer_from, stop_from
 pub use self::list::{
     COMMAS, COMMAS_IN_LINE, Gap, LINES, ListEnd, ListRead, SPACES_IN_LINE, WHITESPACE, read_list,
 };
-pub use self::number::{Integer, parse_number, parse_number_from, read_number, read_number_from};
+pub use self::number::{parse_number, parse_number_from, read_number, read_number_from};
 pub use self::parse::ParseError;
 pub use self::reading::{Digits, TooLarge, read_digits, read_digits_after, take_digits};
+pub use self::types::Integer;
 pub use self::wide::read_wide_from;
 use lexical_digits::iterator::DigitsIter;
 use std::error::Error;

@@ -84,7 +84,7 @@ pub(super) fn is_inner(text: &[u8], rule: Rule, radix: u32, at: usize) -> bool
 /// The digit at a position, if one is there, it is at most `most`, and no value is before it.
 /// A digit is no sign.
 #[inline]
-#[tactic(auto, using(std::proofs::lemmas::Option::gets), unfolding(lexical_format::specs::Digits::digit_value))]
+#[tactic(auto, using(std::proofs::lemmas::Option::gets), unfolding(crate::proofs::Firsts::worth))]
 pub(super) fn first_digit(
     text: &[u8],
     rule: Rule,

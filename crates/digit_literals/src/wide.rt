@@ -229,7 +229,7 @@ pub(super) fn ten_to(n: usize) -> Option<u64>
 
 /// The radix to the power of a count, if that fits 64 bits.
 #[inline(always)]
-fn scale_of(radix: u32, count: usize) -> Option<u64>
+fn radix_to(radix: u32, count: usize) -> Option<u64>
     ensures { IfSome result (λ scale. scale ≡ radix ^ count) }
 {
     if radix == 10 {
@@ -243,7 +243,7 @@ fn scale_of(radix: u32, count: usize) -> Option<u64>
 fn join(value: u128, radix: u32, read: ReadTo) -> Option<u128>
     ensures { IfSome result (λ more. more ≡ value * radix ^ read.count + read.value) }
 {
-    let scale = scale_of(radix, read.count)?;
+    let scale = radix_to(radix, read.count)?;
     value
         .checked_mul(u128::from(scale))?
         .checked_add(u128::from(read.value))

@@ -57,3 +57,5 @@ hex_alone f negative digits places true n none = rw none refl
 hex_alone f negative digits places false n none = rw none refl
 
 pub ruleset alone = (nearest_alone, no_exponent)
+
+pub ruleset whole = (nil_from_length, no_fraction)

@@ -36,7 +36,7 @@ use Rattle.digit_numbers.specs.Numbers.{Outcome, word, at, parts, is_float, is_m
 use Rattle.digit_numbers.specs.Numbers.{language, special_here, float_here, whole_here}
 use Rattle.digit_numbers.specs.Numbers.{zero_here, integer_here, plain_at, or_hex}
 use Rattle.digit_numbers.specs.Numbers.{number_of_at}
-use Rattle.digit_numbers.proofs.Decimals.{literal_is, lone_zero, no_hex_float, right_false}
+use Rattle.digit_numbers.proofs.Decimals.{literal_is, lone_zero, no_hex as no_hex_at, right_false}
 use Rattle.digit_numbers.proofs.Formats.{alike, same_end, same_integer}
 
 -- ---- the decimal number of an integer's digits
@@ -236,7 +236,7 @@ module _ (f : Form) (text : List ℕ) (start : ℕ) where
         let special = none_of (special_here f text start)
         (left_false (is_some (special_here f text start))
         (is_some (prefix_word (language f text start) text here)) no_name) in
-        let no_hex = no_hex_float (language f text start) text here no_prefix f in
+        let no_hex = no_hex_at (language f text start) text here no_prefix f in
         of_hex no_prefix (rw (special, no_hex) at is)
 
     integer_of_decimal : (format : Format) (d : Decimal) (stop : ℕ)

@@ -1,6 +1,6 @@
 -- The decimal number of a form: where its whole digits end, and what a lone `0` is.
 use Rattle.std.proofs.Common.{◌≡◌, ℕ, zero, suc, ◌+◌, ◌<◌, ◌-◌, Bool, true, false, List, [], ◌∷◌, length, refl, ◌∙◌, subst, arith, slice_get}
-use Rattle.std.specs.Prelude.{Option, None, Some, Result, Ok, Err, is_some, slice_index, if◌then◌else◌, pos, ◌==◌}
+use Rattle.std.specs.Prelude.{⊤, Option, None, Some, Result, Ok, Err, is_some, slice_index, if◌then◌else◌, pos, ◌==◌}
 use Rattle.std.proofs.lemmas.Bool.Decides.{nat_tests}
 use Rattle.std.proofs.lemmas.Option.{get_or_from_slice_get, slice_get_within}
 use Rattle.lexical_digits.specs.Cursor.{holds_of}
@@ -22,9 +22,9 @@ use Rattle.digit_languages.specs.declared.literal.Literal.{Literal}
 use Rattle.digit_languages.specs.Literals.{has_prefix, prefix_word, word_at, digits_at, literal_at, literal_of}
 use Rattle.digit_numbers.specs.declared.form.Form.{Form}
 use Rattle.digit_numbers.specs.Forms.{unprefixed, with_hex_only, has_hex, is_always_float, may_be_float}
-use Rattle.digit_numbers.specs.Numbers.{word, has_sign, is_minus, hex_word_at, past_sign, language, plain_at, float_here}
+use Rattle.digit_numbers.specs.Numbers.{word, has_sign, is_minus, hex_word_at, past_sign, language, plain_at, float_here, number_of_at}
 use Rattle.digit_numbers.specs.Numbers.{zero_here, integer_here, is_float, whole_digits, whole_end}
-use Rattle.digit_numbers.specs.Decimals.{decimal_end}
+use Rattle.digit_numbers.specs.Decimals.{decimal_end, decimal_of_at}
 use Rattle.digit_numbers.specs.declared.number.Number.TheVariants as numbers
 use Rattle.digit_numbers.specs.declared.number.NumberError.{NumberError}
 use Rattle.digit_numbers.specs.declared.number.NumberError.TheVariants as errors
@@ -56,9 +56,9 @@ module _ (l : Language) (text : List ℕ) (at : ℕ)
       by false false true lb lo (Some w) h = absurd (grind (arith, h))
       by false false false lb lo lx h = refl
 
-  pub no_hex_float : (f : Form) → hex_word_at f l text at ≡ None
+  pub no_hex : (f : Form) → hex_word_at f l text at ≡ None
   unfolding hex_word_at
-  no_hex_float f = rw no_hex_prefix (by (has_hex f.hex_floats))
+  no_hex f = rw no_hex_prefix (by (has_hex f.hex_floats))
     where
       by : (b : Bool) → ◌≡◌ {A = Option ℕ} (if b then None else None) None
       by true = refl
@@ -209,3 +209,8 @@ module _ (f : Form) (text : List ℕ) (start : ℕ)
 pub right_false : (a b : Bool) → a || b ≡ false → b ≡ false
 right_false true b h = absurd (grind (arith, h))
 right_false false b h = h
+
+-- to be named in an attribute
+unfoldable pub both : ⊤
+unfolding number_of_at decimal_of_at
+both = tt

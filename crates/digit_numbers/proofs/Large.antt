@@ -10,6 +10,7 @@ use Rattle.digit_literals.specs.After.{digits_between}
 use Rattle.digit_literals.specs.Integers.{integer_at}
 use Rattle.digit_literals.specs.declared.LiteralError.TheVariants.{Overflow}
 use Rattle.digit_floats.specs.Float.{digits_end, digits_from}
+unfoldable pub use Rattle.digit_floats.specs.Float.{components}
 
 module _ (rule : Rule) (text : List ℕ) (start most over : ℕ)
     (h : integer_at rule text start most ≡ Err (Overflow over)) where
@@ -23,3 +24,6 @@ pub large_some : (word : ℕ) (text : List ℕ) (at over : ℕ)
 unfolding digits_from digits_end
 large_some word text at over h =
     has_digits (rule_of word Integer) text at (2 ^ 128 - 1) over h
+
+-- to be named in an attribute
+pub ruleset large = (has_digits, large_some)

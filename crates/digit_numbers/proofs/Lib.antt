@@ -10,6 +10,7 @@ pub mod JsonBytes
 pub mod Large
 pub mod Longest
 pub mod NamesAt
+pub mod OnTexts
 pub mod SameNames
 pub mod SameParts
 pub mod Short

@@ -26,7 +26,8 @@ use Rattle.digit_numbers.specs.Numbers.{word, whole_digits, whole_end, fraction,
 use Rattle.digit_numbers.specs.Numbers.{allows_point, has_point, exponent, has_exponent}
 use Rattle.digit_numbers.specs.Numbers.{has_more_zeros, parts, digits_stop}
 use Rattle.digit_numbers.specs.Reads.{IsFloatAt}
-use Rattle.digit_numbers.proofs.Digits.{counts_fraction, counts_end, is, is_none}
+use Rattle.digit_numbers.proofs.Digits.{counts_fraction, counts_end, is, is_none, wholes}
+unfoldable pub use Rattle.digit_floats.specs.Float.{mantissas}
 
 -- no exponent follows a byte that is no mark
 pub no_mark : (word : ℕ) (text : List ℕ) (mark at : ℕ) → stands (is_mark mark) text at ≡ false
@@ -208,3 +209,8 @@ module _ (f : Form) (text : List ℕ) (at : ℕ) (one : f.other_mark ≡ None) w
             value = value ∙ same_float e format negative;
             ends = ap (λ i. exponent_end (word f text) text f.marks.exponent i) end_is ∙ last;
           }
+
+-- to be named in an attribute
+pub ruleset ends = (no_point_end)
+
+pub ruleset plain = (no_float, wholes)

@@ -160,7 +160,7 @@ fn read_plain(
 /// of MySQL, `12.50,`: 1250 times ten to -2, 5
 /// of Rust, `1_000e-3f64`: 1000 times ten to -3, 8      `0x1f`: Err(Empty(0))
 /// ```
-#[tactic(auto, using(crate::proofs::Decimals::no_hex_float), unfolding(crate::specs::Numbers::number_of_at, crate::specs::Decimals::decimal_of_at))]
+#[tactic(auto, using(crate::proofs::Decimals::no_hex), unfolding(crate::proofs::Decimals::both))]
 pub fn read_decimal_of(
     text: &[u8],
     start: usize,

@@ -20,32 +20,10 @@ ghost use Rattle.digit_numbers.specs.Reads.{IsMantissaAt, IsMantissaOf, IsWholeO
 use super::form::Form;
 use super::integer::is_zero;
 use digit_floats::{
-    Float, Mantissa, Marks, Power, read_exponent, read_mantissa, read_short_exponent,
+    Float, Mantissa, Marks, Power, has_mark, read_exponent, read_mantissa, read_short_exponent,
     read_short_fraction, round_few, round_few_with, round_parts,
 };
-
-/// Whether a byte is at a position.
-#[inline(always)]
-pub(super) fn has_byte(text: &[u8], at: usize, byte: u8) -> bool
-    ensures is { result ≡ stands (is_point byte) text.now at }
-{
-    match text.get(at) {
-        Some(there) => *there == byte,
-        None => false,
-    }
-}
-
-/// Whether the mark of an exponent is at a position.
-#[inline(always)]
-pub(super) fn has_mark(text: &[u8], at: usize, mark: u8) -> bool
-    ensures is { result ≡ stands (is_mark mark) text.now at }
-    ensures within { result ≡ true → at < length text.now }
-{
-    match text.get(at) {
-        Some(byte) => *byte == mark || *byte == mark.to_ascii_uppercase(),
-        None => false,
-    }
-}
+use digit_literals::has_byte;
 
 /// Whether a byte is at a position that may not follow a point.
 #[inline(always)]
@@ -366,7 +344,7 @@ pub fn read_short_pointed<F: Float>(
 
 /// The mantissa that the digits of an integer are where no point follows them.
 #[inline(always)]
-#[tactic(auto, using(crate::proofs::Short::no_point_end), unfolding(digit_floats::specs::Float::mantissas))]
+#[tactic(auto, using(crate::proofs::Short::ends), unfolding(crate::proofs::Short::mantissas))]
 fn mantissa_of_whole(text: &[u8], form: Form, whole: Mantissa) -> Mantissa
     requires is { IsShort form.integers.decimal text.now whole }
     requires point { stands (is_point form.marks.point) text.now whole.whole_end ≡ false }
@@ -449,7 +427,7 @@ fn other_byte(text: &[u8], at: usize) -> u8
 
 /// The digits before a point.
 #[inline(always)]
-#[tactic(auto, using(std::proofs::lemmas::List::nil_from_length, crate::proofs::Alone::no_fraction))]
+#[tactic(auto, using(crate::proofs::Alone::whole))]
 pub fn whole_of(text: &[u8], word: u128, mantissa: Mantissa) -> Mantissa
     requires supported { IsTrue (is_supported word) }
     requires is { IsWholeOf word text.now mantissa }
@@ -505,7 +483,7 @@ pub fn round_whole<F: Float>(text: &[u8], word: u128, negative: bool, mantissa: 
 /// the caller need be in memory.
 #[cold]
 #[inline(never)]
-#[tactic(auto, using(crate::proofs::Large::has_digits, crate::proofs::Large::large_some), unfolding(digit_floats::specs::Float::components))]
+#[tactic(auto, using(crate::proofs::Large::large), unfolding(crate::proofs::Large::components))]
 pub fn read_large<F: Float>(
     text: &[u8],
     word: u128,

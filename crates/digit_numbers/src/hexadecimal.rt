@@ -13,10 +13,13 @@ ghost use Rattle.lexical_digits.specs.declared.skip.component.Component.TheVaria
 ghost use Rattle.lexical_digits.specs.State.{rule_of};
 ghost use Rattle.digit_numbers.specs.Reads.{IsHexAt};
 
-use super::float::{has_barred, has_byte, has_mark};
+use super::float::has_barred;
 use super::form::Form;
-use digit_floats::{Float, HexMantissa, Power, read_exponent, read_hex_mantissa, round_hex};
+use digit_floats::{
+    Float, HexMantissa, Power, has_mark, read_exponent, read_hex_mantissa, round_hex,
+};
 use digit_languages::{Language, prefix_word};
+use digit_literals::has_byte;
 use lexical_digits::skip::{Component, Rule};
 
 /// A language with no prefix but that of hexadecimal digits.

@@ -14,6 +14,7 @@ ghost use Rattle.digit_numbers.specs.Reads.{IsPlain, IsWholeOf};
 
 use digit_floats::Mantissa;
 use digit_languages::{FirstZero, Language, LanguageError, Literal, read_literal};
+use digit_literals::has_byte;
 
 /// A language without its prefixes.
 #[inline(always)]
@@ -36,10 +37,7 @@ pub fn is_zero(text: &[u8], at: usize) -> bool
     ensures is { result ≡ has_byte text.now at 48 }
     ensures within { result ≡ true → at < length text.now }
 {
-    match text.get(at) {
-        Some(byte) => *byte == b'0',
-        None => false,
-    }
+    has_byte(text, at, b'0')
 }
 
 /// Whether a letter is at a position.

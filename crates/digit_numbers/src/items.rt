@@ -27,14 +27,20 @@ pub trait Item: Copy {
         ensures { result ≡ error_at error };
 }
 
-/// [`read_items`], without its clause of the slice's front.
+/// The values of a type of your own from `start` on, read into a slice: each as by its
+/// [`read_item`](Item::read_item), with what `gap` says between two of them. It is
+/// [`read_list`](digit_literals::read_list) of these values, and ends as that does. Requires that
+/// `start` is within the text.
 #[inline(always)]
 #[tactic(auto, using(digit_literals::proofs::Lists::turns))]
-fn fill_items<T: Item>(text: &[u8], start: usize, gap: Gap, out: &mut [T]) -> ListRead<T::Error>
+pub fn read_items<T: Item>(text: &[u8], start: usize, gap: Gap, out: &mut [T]) -> ListRead<T::Error>
     requires within { start ≤ length text.now }
     ensures is { let list = list_at (T.item_at text.now) T.error_at gap text.now
         (length out.old) start in
         Fills (λ item. item) list result out.old out.new }
+    ensures front { let list = list_at (T.item_at text.now) T.error_at gap text.now
+        (length out.old) start in
+        take result.count out.new ≡ list.0 }
     ensures count { result.count ≤ length out.old }
     ensures full { IfFull result.end (λ at. (start ≤ at) × (at ≤ length text.now)) }
     ensures over { IfOver result.end (λ at. (start ≤ at) × (at ≤ length text.now)) }
@@ -64,24 +70,4 @@ fn fill_items<T: Item>(text: &[u8], start: usize, gap: Gap, out: &mut [T]) -> Li
         count: out.len(),
         end: ListEnd::Full(at),
     }
-}
-
-/// The values of a type of your own from `start` on, read into a slice: each as by its
-/// [`read_item`](Item::read_item), with what `gap` says between two of them. It is
-/// [`read_list`](digit_literals::read_list) of these values, and ends as that does. Requires that
-/// `start` is within the text.
-#[inline(always)]
-pub fn read_items<T: Item>(text: &[u8], start: usize, gap: Gap, out: &mut [T]) -> ListRead<T::Error>
-    requires within { start ≤ length text.now }
-    ensures is { let list = list_at (T.item_at text.now) T.error_at gap text.now
-        (length out.old) start in
-        Fills (λ item. item) list result out.old out.new }
-    ensures front { let list = list_at (T.item_at text.now) T.error_at gap text.now
-        (length out.old) start in
-        take result.count out.new ≡ list.0 }
-    ensures count { result.count ≤ length out.old }
-    ensures full { IfFull result.end (λ at. (start ≤ at) × (at ≤ length text.now)) }
-    ensures over { IfOver result.end (λ at. (start ≤ at) × (at ≤ length text.now)) }
-{
-    fill_items::<T>(text, start, gap, out)
 }

@@ -1,7 +1,6 @@
 //! A number as a language or a data format writes it: an integer or a float, and where it ends.
 #![tactic(auto)]
 
-mod bytes;
 mod decimal;
 mod float;
 mod form;
@@ -16,7 +15,6 @@ mod number;
 mod numbered;
 mod special;
 
-pub use self::bytes::{expect_bytes, has_bytes};
 pub use self::decimal::read_decimal_of;
 pub use self::form::{
     AfterPoint, Exponents, Form, HexFloats, NameSign, Signs, Special, SpecialValue, Specials,
@@ -26,3 +24,4 @@ pub use self::items::{Item, read_items};
 pub use self::list::read_list_of;
 pub use self::number::{Number, NumberError, parse_number_of, read_number_of};
 pub use self::numbered::form_of;
+pub use digit_literals::{expect_bytes, has_bytes};

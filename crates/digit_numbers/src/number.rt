@@ -19,16 +19,16 @@ ghost use Rattle.digit_numbers.specs.Values.{integer_in, float_in, with_value, I
 ghost use Rattle.digit_numbers.specs.Specials.{special_at, name_end};
 
 use super::float::{
-    has_byte, has_mark, has_more_zeros, has_short_zeros, read_float, read_large,
-    read_short_pointed, read_short_power, round_short_whole, round_whole, zero_alone,
+    has_more_zeros, has_short_zeros, read_float, read_large, read_short_pointed, read_short_power,
+    round_short_whole, round_whole, zero_alone,
 };
 use super::form::{Form, Special};
 use super::hexadecimal::read_hex;
 use super::integer::{is_zero, read_few, read_integer, unprefixed};
 use super::special::{may_begin, read_special};
-use digit_floats::{Float, Mantissa, read_mantissa, read_short_whole, round_integer};
+use digit_floats::{Float, Mantissa, has_mark, read_mantissa, read_short_whole, round_integer};
 use digit_languages::{Language, LanguageError, Literal};
-use digit_literals::Integer;
+use digit_literals::{Integer, has_byte};
 use lexical_format::NumberFormat;
 use std::error::Error;
 use std::fmt;
@@ -431,7 +431,7 @@ fn read_some(text: &[u8], form: Form, at: usize) -> Option<Mantissa>
 
 /// The number that few digits are without a point and an exponent, if nothing is rare about them.
 #[inline(always)]
-#[tactic(auto, using(crate::proofs::Short::no_float, crate::proofs::Digits::wholes), unfolding(crate::specs::Numbers::plain_at))]
+#[tactic(auto, using(crate::proofs::Short::plain), unfolding(crate::specs::Numbers::plain_at))]
 fn short_whole<F: Float>(
     text: &[u8],
     start: usize,

@@ -9,7 +9,7 @@ use super::form::Form;
 use super::forms;
 
 /// Source code.
-#[tactic(auto, unfolding(lexical_format::proofs::OnLiterals::lexical_on_literals, crate::specs::Numbered::source_form))]
+#[tactic(auto, unfolding(crate::proofs::OnTexts::on_numbers))]
 fn source_form(number: usize) -> Option<Form>
     ensures is { result ≡ source_form number }
     ensures serves { IfSome result IsForm }
@@ -39,7 +39,7 @@ fn source_form(number: usize) -> Option<Form>
 }
 
 /// Source code of more languages.
-#[tactic(auto, unfolding(lexical_format::proofs::OnLiterals::lexical_on_literals, crate::specs::Numbered::script_form))]
+#[tactic(auto, unfolding(crate::proofs::OnTexts::on_numbers))]
 fn script_form(number: usize) -> Option<Form>
     ensures is { result ≡ script_form number }
     ensures serves { IfSome result IsForm }
@@ -69,7 +69,7 @@ fn script_form(number: usize) -> Option<Form>
 }
 
 /// Data formats.
-#[tactic(auto, unfolding(lexical_format::proofs::OnLiterals::lexical_on_literals, crate::specs::Numbered::format_form))]
+#[tactic(auto, unfolding(crate::proofs::OnTexts::on_numbers))]
 fn format_form(number: usize) -> Option<Form>
     ensures is { result ≡ format_form number }
     ensures serves { IfSome result IsForm }
@@ -91,7 +91,7 @@ fn format_form(number: usize) -> Option<Form>
 }
 
 /// The strings that a function takes for a number.
-#[tactic(auto, unfolding(lexical_format::proofs::OnLiterals::lexical_on_literals, crate::specs::Numbered::parse_form))]
+#[tactic(auto, unfolding(crate::proofs::OnTexts::on_numbers))]
 fn parse_form(number: usize) -> Option<Form>
     ensures is { result ≡ parse_form number }
     ensures serves { IfSome result IsForm }
@@ -109,7 +109,7 @@ fn parse_form(number: usize) -> Option<Form>
 }
 
 /// The strings that more functions take.
-#[tactic(auto, unfolding(lexical_format::proofs::OnLiterals::lexical_on_literals, crate::specs::Numbered::take_form))]
+#[tactic(auto, unfolding(crate::proofs::OnTexts::on_numbers))]
 fn take_form(number: usize) -> Option<Form>
     ensures is { result ≡ take_form number }
     ensures serves { IfSome result IsForm }

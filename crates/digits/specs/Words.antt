@@ -19,7 +19,7 @@ pub use Rattle.digit_literals.specs.declared.parse.ParseError.{ParseError}
 pub use Rattle.digit_languages.specs.declared.language.Language.{Language}
 pub use Rattle.digit_languages.specs.declared.literal.LanguageError.{LanguageError}
 pub use Rattle.digit_literals.specs.After.{digits_between}
-pub use Rattle.digit_literals.specs.Bytes.{expect_byte}
+pub use Rattle.digit_literals.specs.Bytes.{expect_byte, expect_bytes, has_bytes}
 unfoldable pub use Rattle.digit_literals.specs.Bytes.{name_end, past_bytes}
 pub use Rattle.digit_literals.specs.Exactly.{at_most_at, exactly_at}
 unfoldable pub use Rattle.digit_literals.specs.Exactly.{counted_at}
@@ -54,7 +54,6 @@ pub use Rattle.digit_numbers.specs.declared.number.Number.{Number}
 pub use Rattle.digit_numbers.specs.declared.number.NumberError.{NumberError}
 pub use Rattle.digit_numbers.specs.Forms.{IsForm}
 unfoldable pub use Rattle.digit_numbers.specs.Numbered.{form_of, format_form}
-pub use Rattle.digit_numbers.specs.Bytes.{expect_bytes, has_bytes}
 pub use Rattle.digit_numbers.specs.Decimals.{decimal_of_at}
 pub use Rattle.digit_numbers.specs.Numbers.{number_of_at, to_end as number_to_end}
 pub use Rattle.digit_numbers.specs.Values.{position, with_value}

@@ -1,2 +1,3 @@
+mod OnWords
 mod Read
 mod Stays

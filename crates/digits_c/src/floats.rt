@@ -47,7 +47,7 @@ fn answer_whole<F: Float>(read: Result<F, FloatError>, end: usize, value: &mut F
 
 /// The `f64` that begins at a start. The value is 0 where there is none.
 #[unsafe(no_mangle)]
-#[tactic(auto, unfolding(digits::proofs::Literals::lexical_on_literals, crate::specs::Calls::float_from))]
+#[tactic(auto, unfolding(crate::proofs::OnWords::on_floats))]
 pub extern "C" fn digits_read_f64(text: &[u8], start: usize, value: &mut f64) -> Outcome
     ensures { Answers float_zero (float_from binary64 STANDARD text.now start) value.new result }
 {
@@ -60,7 +60,7 @@ pub extern "C" fn digits_read_f64(text: &[u8], start: usize, value: &mut f64) ->
 
 /// The `f32` that begins at a start.
 #[unsafe(no_mangle)]
-#[tactic(auto, unfolding(digits::proofs::Literals::lexical_on_literals, crate::specs::Calls::float_from))]
+#[tactic(auto, unfolding(crate::proofs::OnWords::on_floats))]
 pub extern "C" fn digits_read_f32(text: &[u8], start: usize, value: &mut f32) -> Outcome
     ensures { Answers float_zero (float_from binary32 STANDARD text.now start) value.new result }
 {
@@ -119,7 +119,7 @@ pub extern "C" fn digits_read_f32_by(
 
 /// The `f64` that a text is. The value is 0 where there is none.
 #[unsafe(no_mangle)]
-#[tactic(auto, unfolding(digits::proofs::Literals::lexical_on_literals, crate::specs::Calls::whole_float))]
+#[tactic(auto, unfolding(crate::proofs::OnWords::on_floats))]
 pub extern "C" fn digits_parse_f64(text: &[u8], value: &mut f64) -> Outcome
     ensures { Answers float_zero (whole_float binary64 STANDARD text.now) value.new result }
 {
@@ -129,7 +129,7 @@ pub extern "C" fn digits_parse_f64(text: &[u8], value: &mut f64) -> Outcome
 
 /// The `f32` that a text is.
 #[unsafe(no_mangle)]
-#[tactic(auto, unfolding(digits::proofs::Literals::lexical_on_literals, crate::specs::Calls::whole_float))]
+#[tactic(auto, unfolding(crate::proofs::OnWords::on_floats))]
 pub extern "C" fn digits_parse_f32(text: &[u8], value: &mut f32) -> Outcome
     ensures { Answers float_zero (whole_float binary32 STANDARD text.now) value.new result }
 {

@@ -228,7 +228,7 @@ fn read_numbers_by(
 
 /// The numbers of a list by a form, as many as there are places. There is code of its own for JSON.
 #[unsafe(no_mangle)]
-#[tactic(auto, unfolding(digits::proofs::Literals::lexical_on_literals, digits::specs::Words::form_of, digits::specs::Words::format_form))]
+#[tactic(auto, unfolding(crate::proofs::OnWords::on_forms))]
 pub extern "C" fn digits_read_number_list(
     text: &[u8],
     start: usize,

@@ -51,7 +51,7 @@ impl LiteralParts {
 }
 
 /// The language with a number. `c/constants` reads the names here.
-#[tactic(auto, unfolding(digits::proofs::Literals::lexical_on_literals, crate::specs::Literals::language_of))]
+#[tactic(auto, unfolding(crate::proofs::OnWords::on_languages))]
 fn language_of(number: u32) -> Option<Language>
     ensures is { result ≡ language_of number }
     ensures serves { IfSome result IsLanguage }

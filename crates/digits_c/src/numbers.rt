@@ -240,7 +240,7 @@ fn read_by(text: &[u8], start: usize, form: u32, number: &mut NumberParts) -> Ou
 
 /// The number of a form that begins at a start. There is code of its own for each data format.
 #[unsafe(no_mangle)]
-#[tactic(auto, unfolding(digits::proofs::Literals::lexical_on_literals, digits::specs::Words::form_of, digits::specs::Words::format_form))]
+#[tactic(auto, unfolding(crate::proofs::OnWords::on_forms))]
 pub extern "C" fn digits_read_number(
     text: &[u8],
     start: usize,

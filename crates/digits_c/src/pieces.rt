@@ -214,7 +214,7 @@ fn read_numbers_by(
 /// The numbers of a list by a form in a piece of a text, as many as there are places. There is code
 /// of its own for JSON.
 #[unsafe(no_mangle)]
-#[tactic(auto, unfolding(digits::proofs::Literals::lexical_on_literals, digits::specs::Words::form_of, digits::specs::Words::format_form))]
+#[tactic(auto, unfolding(crate::proofs::OnWords::on_forms))]
 pub extern "C" fn digits_read_number_piece(
     text: &[u8],
     start: usize,

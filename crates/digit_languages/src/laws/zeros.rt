@@ -78,7 +78,7 @@ pub fn a_first_zero_says()
 
 /// What `01` is, by language, as a `u8`: 1 by its decimal word or by an octal one, or refused
 /// because of its first `0`.
-#[tactic(auto, unfolding(digit_literals::specs::Integers::integer_at, lexical_digits::specs::Stop::stop, lexical_digits::specs::Separators::kept_positions, lexical_digits::specs::Separators::is_kept, lexical_digits::specs::Separators::is_dropped, lexical_digits::specs::Separators::holds_separator, lexical_digits::specs::Separators::is_digit, lexical_format::specs::Digits::digit_value))]
+#[tactic(auto, unfolding(crate::proofs::FirstZeros::on_texts))]
 pub fn zero_one_is()
     ensures rust { zero_one RUST ≡ one_by RUST.decimal }
     ensures cxx14 { zero_one CXX14 ≡ one_by CXX14_OCTAL_LITERAL }

@@ -12,7 +12,7 @@ use lexical_format::words::{
 /// What `01` is, by form: the integer 1, by the decimal word or an octal one; the integer 0, and
 /// the number ends before the `1`; or a float that ends at this position. By
 /// [`formats_agree`](crate::laws::alike::formats_agree) it is so of `f32` and of `f64`.
-#[tactic(auto, unfolding(digit_literals::specs::Integers::integer_at, lexical_digits::specs::Stop::stop, lexical_digits::specs::Separators::kept_positions, lexical_digits::specs::Separators::is_kept, lexical_digits::specs::Separators::is_dropped, lexical_digits::specs::Separators::holds_separator, lexical_digits::specs::Separators::is_digit, lexical_digits::specs::Separators::is_separator, lexical_digits::specs::Separators::drain, lexical_digits::specs::Separators::digits_seen, lexical_format::specs::Digits::digit_value, digit_floats::specs::Float::digits_end, digit_floats::specs::Float::digits_from, digit_floats::specs::Float::fraction_digits, digit_floats::specs::Float::fraction_end, digit_floats::specs::Float::exponent_digits, digit_floats::specs::Float::exponent_end, digit_floats::specs::Float::exponent_negative, crate::specs::Numbers::past_sign, crate::specs::Numbers::is_float, crate::specs::Numbers::is_hex_float, crate::specs::Numbers::is_hex_here, crate::specs::Numbers::hex_word_at, crate::specs::Numbers::plain_at, crate::specs::Numbers::number_of_at, crate::specs::Specials::is_here, crate::specs::Specials::special_at))]
+#[tactic(auto, unfolding(crate::proofs::OnTexts::on_texts))]
 pub fn zero_one_is()
     ensures literal { zero_one LITERAL ≡ one_by LITERAL.integers.decimal 2 }
     ensures float { zero_one FLOAT ≡ float_to 2 }
@@ -82,7 +82,7 @@ pub fn zero_one_is()
 
 /// What `1.` and `.5` are, by form. `1.` is a float to its end, or the number that ends before the
 /// point. `.5` is a float, or no number.
-#[tactic(auto, unfolding(digit_literals::specs::Integers::integer_at, lexical_digits::specs::Stop::stop, lexical_digits::specs::Separators::kept_positions, lexical_digits::specs::Separators::is_kept, lexical_digits::specs::Separators::is_dropped, lexical_digits::specs::Separators::holds_separator, lexical_digits::specs::Separators::is_digit, lexical_digits::specs::Separators::is_separator, lexical_digits::specs::Separators::drain, lexical_digits::specs::Separators::digits_seen, lexical_format::specs::Digits::digit_value, digit_floats::specs::Float::digits_end, digit_floats::specs::Float::digits_from, digit_floats::specs::Float::fraction_digits, digit_floats::specs::Float::fraction_end, digit_floats::specs::Float::exponent_digits, digit_floats::specs::Float::exponent_end, digit_floats::specs::Float::exponent_negative, crate::specs::Numbers::past_sign, crate::specs::Numbers::is_float, crate::specs::Numbers::is_hex_float, crate::specs::Numbers::is_hex_here, crate::specs::Numbers::hex_word_at, crate::specs::Numbers::plain_at, crate::specs::Numbers::number_of_at, crate::specs::Specials::is_here, crate::specs::Specials::special_at))]
+#[tactic(auto, unfolding(crate::proofs::OnTexts::on_texts))]
 pub fn points_are()
     ensures literal { HavePoints LITERAL (float_to 2) (float_to 2) }
     ensures float { HavePoints FLOAT (float_to 2) (float_to 2) }

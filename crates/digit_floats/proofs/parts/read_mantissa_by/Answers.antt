@@ -1,14 +1,14 @@
 use Rattle.std.proofs.Common.{append-nil, refl, arith}
 use Rattle.digit_literals.proofs.ForCallers.{first_digits, first_of_others}
 use Rattle.digit_floats.proofs.Mantissas.{none_between}
-use Rattle.digit_floats.proofs.apart.read_long_mantissa.Goals as goal
+use Rattle.digit_floats.proofs.parts.read_mantissa_by.Goals as goal
 
-pub returns-then-not-has_point-clause-is : goal.returns-then-not-has_point-clause-is
-returns-then-not-has_point-clause-is c =
-    let whole = c.read_long_part-whole_end.ensures in
+pub returns-then-not-has_byte-clause-is : goal.returns-then-not-has_byte-clause-is
+returns-then-not-has_byte-clause-is c =
+    let whole = c.read_decimal_part-whole_end.ensures in
     let of =
     first_digits _ _ _ _ _ whole.first 10 19 refl (omega arith) refl refl in
-    let none = none_between c.args.text.now c.read_long_part-whole_end.result.1 in
+    let none = none_between c.args.text.now c.read_decimal_part-whole_end.result.1 in
     let digits = whole.bytes in
     record {
       first = rw (digits, none, append-nil) of;
@@ -25,8 +25,8 @@ returns-then-not-has_point-clause-is c =
 
 pub returns-clause-is : goal.returns-clause-is
 returns-clause-is c =
-    let whole = c.read_long_part-whole_end.ensures in
-    let fraction = c.read_long_part-end.ensures in
+    let whole = c.read_decimal_part-whole_end.ensures in
+    let fraction = c.read_decimal_part-end.ensures in
     let of =
     first_digits _ _ _ _ _ whole.first 10 19 refl (omega arith) refl refl in
     let both =

@@ -1,6 +1,6 @@
 use Rattle.std.proofs.Common.{arith}
 use Rattle.std.proofs.lemmas.Option.{gets}
-use Rattle.digit_literals.proofs.number.read_sign.Goals as goal
+use Rattle.digit_literals.proofs.number.read_head.Goals as goal
 
 pub returns-in-Some-eq45 : goal.returns-in-Some-eq45
 returns-in-Some-eq45 g c = grind (arith, gets)

@@ -1,6 +1,6 @@
 use Rattle.std.proofs.Common.{◌≡◌, ◌≤◌, length}
 use Rattle.digit_literals.proofs.Lists.{SoFar}
-use Rattle.digit_numbers.proofs.items.fill_items.Given as goal
+use Rattle.digit_numbers.proofs.items.read_items.Given as goal
 
 abbrev pub invariant-loop-count : goal.invariant-loop-count
 invariant-loop-count g l =
