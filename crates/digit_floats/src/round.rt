@@ -22,6 +22,29 @@ fn zero<F: Float>(negative: bool) -> F
     signed(negative, F::of_units(0, 0))
 }
 
+/// [`round_parts`] of a mantissa of which no digits were dropped, and that no exponent follows, if
+/// one division or one product tells.
+#[inline(always)]
+pub fn round_few<F: Float>(text: &[u8], negative: bool, mantissa: Mantissa) -> Option<F>
+    requires is { IsMantissa text.now mantissa }
+    requires few { mantissa.dropped ≡ 0 }
+    ensures value { IfSome result (λ x. F.value x ≡ round F.format negative
+        (digits_value 10 (integer_of text.now mantissa ++ fraction_of text.now mantissa))
+        (10 ^ mantissa.places)) }
+    ensures no_nan { IfSome result (λ x. NotNan (F.value x)) }
+{
+    let places = mantissa.places as u64;
+    let value = mantissa.value;
+    match F::over_ten_to(value, places) {
+        Some(x) => Some(signed(negative, x)),
+        None if value == 0 => None,
+        None => match round_from::<F>(negative, value, 0, places, false, 0) {
+            Some(x) => Some(x),
+            None => None,
+        },
+    }
+}
+
 /// [`round_parts`] of a mantissa of which no digits were dropped, if one operation or one product
 /// tells.
 #[inline(always)]
@@ -52,29 +75,6 @@ pub fn round_few_with<F: Float>(
             Some(x) => Some(x),
             None => None,
         },
-    }
-}
-
-/// [`round_parts`] of a mantissa of which no digits were dropped, and that no exponent follows, if
-/// one division or one product tells.
-#[inline(always)]
-pub fn round_few<F: Float>(text: &[u8], negative: bool, mantissa: Mantissa) -> Option<F>
-    requires is { IsMantissa text.now mantissa }
-    requires few { mantissa.dropped ≡ 0 }
-    ensures value { IfSome result (λ x. F.value x ≡ round F.format negative
-        (digits_value 10 (integer_of text.now mantissa ++ fraction_of text.now mantissa))
-        (10 ^ mantissa.places)) }
-    ensures no_nan { IfSome result (λ x. NotNan (F.value x)) }
-{
-    // divided by 10 to the power of the places alone
-    let none = Power {
-        negative: true,
-        value: 0,
-        end: mantissa.end,
-    };
-    match round_few_with::<F>(text, negative, mantissa, none) {
-        Some(x) => Some(x),
-        None => None,
     }
 }
 

@@ -9,6 +9,7 @@ pub mod FloatMeaning
 pub mod FloatOrder
 pub mod FloatPieces
 pub mod Meaning
+pub mod OnWords
 pub mod Pieces
 pub mod Quick
 pub mod Words

@@ -68,7 +68,7 @@ fn name_of(word: &[u8]) -> Option<Name>
 }
 
 /// The number that a word is, if it is in a range.
-#[tactic(auto, unfolding(crate::specs::Arguments::number_of, lexical_format::proofs::OnLiterals::lexical_on_literals))]
+#[tactic(auto, unfolding(crate::proofs::OnWords::numbers))]
 fn number_of(least: usize, most: usize, word: &[u8]) -> Option<usize>
     ensures is { result ≡ Arguments.number_of least most word.now }
     ensures within { IfSome result (λ n. n ≤ most) }

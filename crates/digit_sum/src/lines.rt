@@ -146,7 +146,7 @@ fn add_quick_lines<'a>(
 
 /// Adds the lines at the front of a text that are only numbers, if a run adds up whole lines.
 #[inline(always)]
-#[tactic(auto, unfolding(lexical_format::proofs::OnLiterals::lexical_on_literals), using(crate::proofs::Quick::no_low_bytes))]
+#[tactic(auto, using(crate::proofs::Quick::no_low_bytes), unfolding(crate::proofs::OnWords::words))]
 fn add_quick<'a>(options: Options, totals: Totals, text: &'a [u8]) -> Result<Added<'a>, Fault>
     requires few { HasFewPlaces options.kind }
     requires short { length text.now ≤ most_bytes + 1 }
