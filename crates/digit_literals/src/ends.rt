@@ -1,0 +1,374 @@
+//! The numbers of a list by their ends: 64 bytes tell at once which of them are no digits. So where
+//! a number ends is known before it is read, and none waits for the digits of the one before.
+
+ghost use Rattle.std.specs.Prelude.{◌≡◌, ℕ, List, ◌+◌, ◌^◌, ◌<◌, ◌≤◌, length, true, false, Ok, IfSome};
+ghost use Rattle.lexical_digits.specs.declared.skip.component.Component.TheVariants.{Integer};
+ghost use Rattle.lexical_digits.specs.State.{rule_of};
+ghost use Rattle.digit_literals.specs.Ends.{AreOthers, IfIs};
+ghost use Rattle.digit_literals.specs.Errors.{literal_position};
+ghost use Rattle.digit_literals.specs.Integers.{integer_at};
+ghost use Rattle.digit_literals.specs.Lists.{SoFar, is_blank, past_blanks};
+ghost use Rattle.digit_literals.specs.Numbers.{number_at, is_negative_from, digits_from};
+
+use super::eight::value_at;
+use super::list::Gap;
+use super::number::{Integer, greatest};
+use lexical_digits::skip::{Component, Rule};
+use std::simd::prelude::*;
+
+/// How many bytes are compared at once.
+const BLOCK: usize = 64;
+
+/// How many bytes a number that begins in a block may need from its first digit on: three words.
+const WORDS: usize = 24;
+
+/// Which of the 64 bytes from a position on are no decimal digits.
+#[inline(always)]
+fn others_at(text: &[u8], at: usize) -> u64
+    requires { at + 88 ≤ length text.now }
+    ensures { AreOthers text.now at result }
+{
+    let digits = u8x64::from_slice(&text[at..]) - u8x64::splat(b'0');
+    digits.simd_ge(u8x64::splat(10)).to_bitmask()
+}
+
+/// [`others_at`] if the text is long enough, and otherwise nothing: no byte is marked.
+#[inline(always)]
+fn others_from(text: &[u8], at: usize) -> u64
+    requires { at ≤ length text.now }
+    ensures { AreOthers text.now at result }
+{
+    if text.len() - at < BLOCK + WORDS {
+        return 0;
+    }
+    others_at(text, at)
+}
+
+/// Which bytes are no digits, after so many bytes.
+#[inline(always)]
+fn pass(others: u64, count: usize) -> u64
+    ensures { (text : List ℕ) (at : ℕ) → AreOthers text at others
+        → AreOthers text (at + count) result }
+{
+    if count < BLOCK { others >> count } else { 0 }
+}
+
+/// Whether nearly all numbers of a block have one form, of one digit or two, so that the next
+/// number begins as far from this one as this one from the one before. A processor guesses where
+/// these end. It is only for speed: they are read one by one.
+#[inline(always)]
+fn have_one_short_form(others: u64) -> bool {
+    let first = others >> (others % 2);
+    let digits = first.trailing_zeros();
+    if digits == 0 || digits > 2 {
+        return false;
+    }
+    let form = digits + (!(first >> digits)).trailing_zeros();
+    if form >= 32 {
+        return false;
+    }
+    let differ = (first ^ (first >> form)) << form;
+    differ.count_ones() <= 4
+}
+
+/// What is known before the digits of a number are read.
+#[derive(Clone, Copy)]
+struct Head {
+    /// Whether it has a `-`.
+    is_negative: bool,
+    /// Where its digits begin.
+    begin: usize,
+    /// Which bytes from there on are no digits.
+    others: u64,
+    /// Whether this number, or one before it, may have a sign.
+    may_be_signed: bool,
+    /// Whether the bytes from here on were looked at anew, and nearly all numbers there have one
+    /// short form.
+    is_one_form: bool,
+}
+
+/// The number after its blanks at a place. Its sign is no branch, and its digits begin where the
+/// first bit says, so that their end waits for no byte.
+#[inline(always)]
+#[tactic(auto, using(crate::proofs::ByEnds::inside))]
+fn pass_sign<T: Integer>(text: &[u8], place: usize, others: u64, is_one_form: bool) -> Option<Head>
+    requires others { AreOthers text.now place others }
+    requires some { 1 < others }
+    ensures negative { IfSome result (λ head.
+        head.is_negative ≡ is_negative_from T.MIN_MAGNITUDE text.now place) }
+    ensures begins { IfSome result (λ head.
+        head.begin ≡ digits_from T.MIN_MAGNITUDE text.now place) }
+    ensures onward { IfSome result (λ head. place ≤ head.begin) }
+    ensures others { IfSome result (λ head. AreOthers text.now head.begin head.others) }
+    ensures some { IfSome result (λ head. 0 < head.others) }
+{
+    if T::MIN_MAGNITUDE == 0 {
+        return Some(Head {
+            is_negative: false,
+            begin: place,
+            others,
+            may_be_signed: false,
+            is_one_form,
+        });
+    }
+    let byte = text[place];
+    let is_negative = byte == b'-';
+    let has_sign = is_negative | (byte == b'+');
+    let sign = others % 2;
+    if u64::from(has_sign) != sign {
+        return None;
+    }
+    Some(Head {
+        is_negative,
+        begin: place + sign as usize,
+        others: others >> sign,
+        may_be_signed: true,
+        is_one_form,
+    })
+}
+
+/// The next number, whatever is before its digits.
+#[inline(always)]
+fn any_head<T: Integer>(text: &[u8], gap: Gap, at: usize, rest: u64) -> Option<Head>
+    requires within { at ≤ length text.now }
+    requires rest { AreOthers text.now at rest }
+    ensures negative { IfSome result (λ head. head.is_negative
+        ≡ is_negative_from T.MIN_MAGNITUDE text.now (past_blanks gap text.now at)) }
+    ensures begins { IfSome result (λ head. head.begin
+        ≡ digits_from T.MIN_MAGNITUDE text.now (past_blanks gap text.now at)) }
+    ensures onward { IfSome result (λ head. at ≤ head.begin) }
+    ensures others { IfSome result (λ head. AreOthers text.now head.begin head.others) }
+    ensures some { IfSome result (λ head. 0 < head.others) }
+{
+    let place = gap.past_blanks(text, at);
+    let others = pass(rest, place - at);
+    if others > 1 {
+        return pass_sign::<T>(text, place, others, false);
+    }
+    let others = others_from(text, place);
+    if others > 1 {
+        return pass_sign::<T>(text, place, others, have_one_short_form(others));
+    }
+    None
+}
+
+/// [`any_head`]. The usual one has no blank and no sign before its digits: where no number before
+/// had a sign, one bit tells it.
+#[inline(always)]
+#[tactic(auto, using(crate::proofs::ByEnds::at_once))]
+fn head_of<T: Integer>(
+    text: &[u8],
+    gap: Gap,
+    at: usize,
+    rest: u64,
+    may_be_signed: bool,
+) -> Option<Head>
+    requires within { at ≤ length text.now }
+    requires rest { AreOthers text.now at rest }
+    requires digits { (byte : ℕ) → 48 ≤ byte → byte < 58 → is_blank gap byte ≡ false }
+    ensures negative { IfSome result (λ head. head.is_negative
+        ≡ is_negative_from T.MIN_MAGNITUDE text.now (past_blanks gap text.now at)) }
+    ensures begins { IfSome result (λ head. head.begin
+        ≡ digits_from T.MIN_MAGNITUDE text.now (past_blanks gap text.now at)) }
+    ensures onward { IfSome result (λ head. at ≤ head.begin) }
+    ensures others { IfSome result (λ head. AreOthers text.now head.begin head.others) }
+    ensures some { IfSome result (λ head. 0 < head.others) }
+{
+    if rest > 0 && rest % 2 == 0 && !may_be_signed {
+        return Some(Head {
+            is_negative: false,
+            begin: at,
+            others: rest,
+            may_be_signed: false,
+            is_one_form: false,
+        });
+    }
+    any_head::<T>(text, gap, at, rest)
+}
+
+/// Whether a value of so many digits is at most `most`. Where the type has each number of that
+/// many digits, a compiler leaves the test out.
+#[inline(always)]
+fn fits(value: u64, count: usize, most: u128) -> bool
+    requires eight { count ≤ 8 → value < 10 ^ 8 }
+    requires sixteen { count ≤ 16 → value < 10 ^ 16 }
+    ensures { result ≡ true → value ≤ most }
+{
+    (count <= 8 && most >= 99_999_999)
+        || (count <= 16 && most >= 9_999_999_999_999_999)
+        || u128::from(value) <= most
+}
+
+/// Digits that were read by their end.
+#[derive(Clone, Copy)]
+struct Digits {
+    /// Their value.
+    value: u64,
+    /// Where they end.
+    end: usize,
+    /// Which bytes from there on are no digits.
+    others: u64,
+}
+
+/// The integer whose digits begin at a position, if it is a plain one of 1 to 19 digits and at most
+/// `most`.
+#[inline(always)]
+fn integer_by_end(text: &[u8], word: u128, begin: usize, others: u64, most: u128) -> Option<Digits>
+    requires ten { (rule_of word Integer).radix ≡ 10 }
+    requires others { AreOthers text.now begin others }
+    requires some { 0 < others }
+    ensures is { IfSome result (λ read.
+        integer_at (rule_of word Integer) text.now begin most ≡ Ok (read.value, read.end)) }
+    ensures fits { IfSome result (λ read. read.value ≤ most) }
+    ensures onward { IfSome result (λ read. begin < read.end) }
+    ensures within { IfSome result (λ read. read.end ≤ length text.now) }
+    ensures others { IfSome result (λ read. AreOthers text.now read.end read.others) }
+{
+    let count = others.trailing_zeros();
+    if count == 0 || count > 19 {
+        return None;
+    }
+    let value = value_at(text, begin, count as usize);
+    let end = begin + count as usize;
+    if !fits(value, count as usize, most) {
+        return None;
+    }
+    if Rule::of(word, Component::Integer).is_separator(text[end]) {
+        return None;
+    }
+    Some(Digits {
+        value,
+        end,
+        others: others >> count,
+    })
+}
+
+/// A number of a list that was read by its end.
+#[derive(Clone, Copy)]
+struct Read<T> {
+    /// The number.
+    value: T,
+    /// Where it ends.
+    end: usize,
+    /// Which bytes from there on are no digits.
+    others: u64,
+    /// Whether this number, or one before it, may have a sign.
+    may_be_signed: bool,
+}
+
+/// The next number of a list.
+#[derive(Clone, Copy)]
+enum Next<T> {
+    /// It was read.
+    Is(Read<T>),
+    /// It and nearly all of the next ones have one short form.
+    OneForm,
+    /// It isn't plain, or its end isn't known.
+    Other,
+}
+
+/// The number after the blanks at a position, if its end is known and its digits are read by
+/// [`integer_by_end`].
+#[inline(always)]
+fn number_by_end<T: Integer>(
+    text: &[u8],
+    word: u128,
+    gap: Gap,
+    at: usize,
+    rest: u64,
+    may_be_signed: bool,
+) -> Next<T>
+    requires ten { (rule_of word Integer).radix ≡ 10 }
+    requires within { at ≤ length text.now }
+    requires rest { AreOthers text.now at rest }
+    requires digits { (byte : ℕ) → 48 ≤ byte → byte < 58 → is_blank gap byte ≡ false }
+    ensures is { let r = rule_of word Integer in IfIs result (λ read.
+        number_at T.MIN_MAGNITUDE T.MAX r text.now (past_blanks gap text.now at)
+        ≡ Ok (T.number read.value, read.end)) }
+    ensures onward { IfIs result (λ read. at < read.end) }
+    ensures within { IfIs result (λ read. read.end ≤ length text.now) }
+    ensures others { IfIs result (λ read. AreOthers text.now read.end read.others) }
+{
+    let Some(head) = head_of::<T>(text, gap, at, rest, may_be_signed) else {
+        return Next::Other;
+    };
+    if head.is_one_form {
+        return Next::OneForm;
+    }
+    let most = greatest::<T>(head.is_negative);
+    let Some(digits) = integer_by_end(text, word, head.begin, head.others, most) else {
+        return Next::Other;
+    };
+    Next::Is(Read {
+        value: T::of_magnitude(head.is_negative, u128::from(digits.value)),
+        end: digits.end,
+        others: digits.others,
+        may_be_signed: head.may_be_signed,
+    })
+}
+
+/// How far a list was read by ends.
+#[derive(Clone, Copy)]
+pub(super) struct Went {
+    /// How many numbers are in the slice.
+    pub(super) count: usize,
+    /// Where the next one may be.
+    pub(super) at: usize,
+    /// Up to how many of the slice are now read one by one.
+    pub(super) to: usize,
+}
+
+/// Reads the numbers of a list from `start` on by their ends, as long as they are plain. `from` are
+/// in the slice.
+#[inline(always)]
+pub(super) fn read_by_ends<T: Integer>(
+    text: &[u8],
+    start: usize,
+    word: u128,
+    gap: Gap,
+    out: &mut [T],
+    from: usize,
+) -> Went
+    requires within { start ≤ length text.now }
+    requires room { from < length out.old }
+    ensures so { let one = number_at T.MIN_MAGNITUDE T.MAX (rule_of word Integer) text.now in
+        (begin : ℕ) (old : List T)
+        → SoFar T.number one literal_position gap text.now begin from start old out.old
+        → SoFar T.number one literal_position gap text.now begin result.count result.at old out.new }
+    ensures onward { start ≤ result.at }
+    ensures within { result.at ≤ length text.now }
+    ensures count { result.count ≤ result.to }
+    ensures more { from < result.to }
+    ensures to { result.to ≤ length out.old }
+    ensures length { length out.new ≡ length out.old }
+{
+    let mut at = start;
+    let to = out.len();
+    if Rule::of(word, Component::Integer).radix != 10 || gap.has_digits() {
+        return Went {
+            count: from,
+            at,
+            to,
+        };
+    }
+    let mut rest = 0;
+    let mut may_be_signed = false;
+    for count in from..out.len() {
+        let read = match number_by_end::<T>(text, word, gap, at, rest, may_be_signed) {
+            Next::Is(read) => read,
+            Next::OneForm => {
+                let to = count + BLOCK.min(out.len() - count);
+                return Went { count, at, to };
+            }
+            Next::Other => return Went { count, at, to },
+        };
+        let Ok(next) = gap.next_after(text, read.end) else {
+            return Went { count, at, to };
+        };
+        out[count] = read.value;
+        may_be_signed = read.may_be_signed;
+        rest = pass(read.others, next - read.end);
+        at = next;
+    }
+    Went { count: to, at, to }
+}
