@@ -1,13 +1,13 @@
 -- The bytes that are no decimal digits, by the bits of a word.
-use Rattle.std.proofs.Common.{◌≡◌, ℕ, zero, suc, ◌+◌, ◌-◌, ◌*◌, ◌/◌, ◌%◌, ◌^◌, ◌<◌, ◌≤◌, leb, Bool, true, false, not, cond, List, map, length, get_or, replicate, Fits, w8, refl, sym, ap, ◌∙◌, inl, inr, arith}
+use Rattle.std.proofs.Common.{◌≡◌, ℕ, zero, suc, ◌+◌, ◌-◌, ◌/◌, ◌%◌, ◌^◌, ◌<◌, ◌≤◌, leb, Bool, true, false, not, cond, List, map, length, get_or, replicate, Fits, w8, refl, sym, ap, ◌∙◌, inl, inr, arith}
 use Rattle.std.specs.Prelude.{slice_index}
 use Rattle.std.specs.Int.{bit_at, trailing_zeros, w64}
-use Rattle.std.proofs.lemmas.Bool.{agree_below, agree_below_at, cases_lt}
+use Rattle.std.proofs.lemmas.Bool.{agree_below_at, cases_lt}
 use Rattle.std.proofs.lemmas.Bool.Decides.{nat_tests}
 use Rattle.std.proofs.lemmas.List.{get_or-map, length-map}
 use Rattle.std.proofs.lemmas.Option.{gets}
 use Rattle.std.proofs.lemmas.Nat.{shr-shr}
-use Rattle.std.proofs.lemmas.Nat.Bits.{bit_at_lowest, bit_at-zero, bit_at-trailing_zeros, bit_at_above}
+use Rattle.std.proofs.lemmas.Nat.Bits.{bit_at_lowest, bit_at-trailing_zeros, bit_at_above}
 use Rattle.std.proofs.lemmas.Simd.{zip2_splat, zip2_of_maps, splat_is_map, map-map, mask_l-mod, bit_mask_l, length-chunk, get_or-chunk}
 use lib.Lanes.{chunk, zip2, mask_l, top}
 use Rattle.lexical_format.specs.Digits.{is_digit_of_radix}
@@ -96,13 +96,6 @@ module _ (text : List ℕ) (at : ℕ) (room : at + 88 ≤ length text)
       rw all others_are
 
 -- ---- after some bytes
-
-pub none_marked : (text : List ℕ) (at : ℕ) → AreOthers text at 0
-none_marked text at = record {
-  room = λ i set. absurd (omega (arith, set, bit_at-zero i));
-  marked = λ i set. absurd (omega (arith, set, bit_at-zero i));
-  digits = λ i j l set clear. absurd (omega (arith, set, bit_at-zero j));
-}
 
 module _ (text : List ℕ) (at count others : ℕ) (are : AreOthers text at others) where
   shifted : (i : ℕ) → bit_at (others / 2 ^ count) i ≡ bit_at others (count + i)
@@ -198,13 +191,3 @@ part_decimal text at count m n all few i l =
     let same : at + (m + i) ≡ at + m + i = omega arith in
     let digit = all (m + i) (omega (arith, few, l)) in
     rw same at digit
-
-pub fewer_decimal : (text : List ℕ) (at count n : ℕ) → AreDecimal text at count → n ≤ count
-    → AreDecimal text at n
-fewer_decimal text at count n all few i l = all i (omega (arith, few, l))
-
--- a word without its lowest bit
-pub halved : (others sign : ℕ) → 1 < others → sign < 2 → 0 < others / 2 ^ sign
-halved others zero some few = omega (arith, some)
-halved others (suc zero) some few = omega (arith, some)
-halved others (suc (suc sign)) some few = absurd (omega (arith, few))

@@ -51,18 +51,18 @@ low_bit n place l =
 
 -- ten bits of which none is set
 ten_clear : (x k : ℕ) → k < 10 → x % 1024 ≡ 0 → x / 2 ^ k % 2 ≡ 0
-ten_clear x zero few none = omega (arith, none)
-ten_clear x (suc zero) few none = omega (arith, none)
-ten_clear x (suc (suc zero)) few none = omega (arith, none)
-ten_clear x (suc (suc (suc zero))) few none = omega (arith, none)
-ten_clear x (suc (suc (suc (suc zero)))) few none = omega (arith, none)
-ten_clear x (suc (suc (suc (suc (suc zero))))) few none = omega (arith, none)
-ten_clear x (suc (suc (suc (suc (suc (suc zero)))))) few none = omega (arith, none)
-ten_clear x (suc (suc (suc (suc (suc (suc (suc zero))))))) few none = omega (arith, none)
-ten_clear x (suc (suc (suc (suc (suc (suc (suc (suc zero)))))))) few none = omega (arith, none)
-ten_clear x (suc (suc (suc (suc (suc (suc (suc (suc (suc zero))))))))) few none = omega (arith, none)
-ten_clear x (suc (suc (suc (suc (suc (suc (suc (suc (suc (suc k)))))))))) few none =
-    absurd (omega (arith, few))
+ten_clear x zero l e = omega (arith, e)
+ten_clear x (suc zero) l e = omega (arith, e)
+ten_clear x (suc (suc zero)) l e = omega (arith, e)
+ten_clear x (suc (suc (suc zero))) l e = omega (arith, e)
+ten_clear x (suc (suc (suc (suc zero)))) l e = omega (arith, e)
+ten_clear x (suc (suc (suc (suc (suc zero))))) l e = omega (arith, e)
+ten_clear x (suc (suc (suc (suc (suc (suc zero)))))) l e = omega (arith, e)
+ten_clear x (suc (suc (suc (suc (suc (suc (suc zero))))))) l e = omega (arith, e)
+ten_clear x (suc (suc (suc (suc (suc (suc (suc (suc zero)))))))) l e = omega (arith, e)
+ten_clear x (suc (suc (suc (suc (suc (suc (suc (suc (suc zero))))))))) l e = omega (arith, e)
+ten_clear x (suc (suc (suc (suc (suc (suc (suc (suc (suc (suc k)))))))))) l e =
+    absurd (omega (arith, l))
 
 -- no digit is among the blanks
 pub no_digit_is : (gap : Gap) → gap.blanks.low / 2 ^ 48 % 1024 ≡ 0

@@ -1,7 +1,7 @@
 //! The numbers of a list by their ends: 64 bytes tell at once which of them are no digits. So where
 //! a number ends is known before it is read, and none waits for the digits of the one before.
 
-ghost use Rattle.std.specs.Prelude.{◌≡◌, ℕ, List, ◌+◌, ◌^◌, ◌<◌, ◌≤◌, length, true, false, Ok, IfSome};
+ghost use Rattle.std.specs.Prelude.{◌≡◌, ℕ, List, ◌+◌, ◌^◌, ◌<◌, ◌≤◌, length, if◌then◌else◌, true, false, Ok, IfSome};
 ghost use Rattle.lexical_digits.specs.declared.skip.component.Component.TheVariants.{Integer};
 ghost use Rattle.lexical_digits.specs.State.{rule_of};
 ghost use Rattle.digit_literals.specs.Ends.{AreOthers, IfIs};
@@ -80,8 +80,8 @@ struct Head {
     begin: usize,
     /// Which bytes from there on are no digits.
     others: u64,
-    /// Whether this number, or one before it, may have a sign.
-    may_be_signed: bool,
+    /// Whether it has a sign.
+    has_sign: bool,
     /// Whether the bytes from here on were looked at anew, and nearly all numbers there have one
     /// short form.
     is_one_form: bool,
@@ -107,7 +107,7 @@ fn pass_sign<T: Integer>(text: &[u8], place: usize, others: u64, is_one_form: bo
             is_negative: false,
             begin: place,
             others,
-            may_be_signed: false,
+            has_sign: false,
             is_one_form,
         });
     }
@@ -122,7 +122,7 @@ fn pass_sign<T: Integer>(text: &[u8], place: usize, others: u64, is_one_form: bo
         is_negative,
         begin: place + sign as usize,
         others: others >> sign,
-        may_be_signed: true,
+        has_sign,
         is_one_form,
     })
 }
@@ -179,24 +179,38 @@ fn head_of<T: Integer>(
             is_negative: false,
             begin: at,
             others: rest,
-            may_be_signed: false,
+            has_sign: false,
             is_one_form: false,
         });
     }
     any_head::<T>(text, gap, at, rest)
 }
 
-/// Whether a value of so many digits is at most `most`. Where the type has each number of that
+/// The smaller one of a type's greatest magnitudes, with a `-` and without.
+#[inline(always)]
+fn each_has<T: Integer>() -> u128
+    ensures positive { result ≤ T.MAX }
+    ensures negative { 0 < T.MIN_MAGNITUDE → result ≤ T.MIN_MAGNITUDE }
+{
+    if T::MIN_MAGNITUDE == 0 || T::MAX < T::MIN_MAGNITUDE {
+        T::MAX
+    } else {
+        T::MIN_MAGNITUDE
+    }
+}
+
+/// Whether a type has a number of so many digits, with a `-` or without. Where it has each of so
 /// many digits, a compiler leaves the test out.
 #[inline(always)]
-fn fits(value: u64, count: usize, most: u128) -> bool
+fn fits<T: Integer>(value: u64, count: usize, is_negative: bool) -> bool
     requires eight { count ≤ 8 → value < 10 ^ 8 }
     requires sixteen { count ≤ 16 → value < 10 ^ 16 }
-    ensures { result ≡ true → value ≤ most }
+    requires sign { is_negative ≡ true → 0 < T.MIN_MAGNITUDE }
+    ensures { result ≡ true → value ≤ (if is_negative then T.MIN_MAGNITUDE else T.MAX) }
 {
-    (count <= 8 && most >= 99_999_999)
-        || (count <= 16 && most >= 9_999_999_999_999_999)
-        || u128::from(value) <= most
+    (count <= 8 && each_has::<T>() >= 99_999_999)
+        || (count <= 16 && each_has::<T>() >= 9_999_999_999_999_999)
+        || u128::from(value) <= greatest::<T>(is_negative)
 }
 
 /// Digits that were read by their end.
@@ -204,22 +218,25 @@ fn fits(value: u64, count: usize, most: u128) -> bool
 struct Digits {
     /// Their value.
     value: u64,
+    /// How many there are.
+    count: usize,
     /// Where they end.
     end: usize,
     /// Which bytes from there on are no digits.
     others: u64,
 }
 
-/// The integer whose digits begin at a position, if it is a plain one of 1 to 19 digits and at most
-/// `most`.
+/// The integer whose digits begin at a position, if it is a plain one of 1 to 19 digits.
 #[inline(always)]
-fn integer_by_end(text: &[u8], word: u128, begin: usize, others: u64, most: u128) -> Option<Digits>
+fn integer_by_end(text: &[u8], word: u128, begin: usize, others: u64) -> Option<Digits>
     requires ten { (rule_of word Integer).radix ≡ 10 }
     requires others { AreOthers text.now begin others }
     requires some { 0 < others }
-    ensures is { IfSome result (λ read.
-        integer_at (rule_of word Integer) text.now begin most ≡ Ok (read.value, read.end)) }
-    ensures fits { IfSome result (λ read. read.value ≤ most) }
+    ensures is { let r = rule_of word Integer in IfSome result (λ read.
+        (most : ℕ) → read.value ≤ most
+        → integer_at r text.now begin most ≡ Ok (read.value, read.end)) }
+    ensures eight { IfSome result (λ read. read.count ≤ 8 → read.value < 10 ^ 8) }
+    ensures sixteen { IfSome result (λ read. read.count ≤ 16 → read.value < 10 ^ 16) }
     ensures onward { IfSome result (λ read. begin < read.end) }
     ensures within { IfSome result (λ read. read.end ≤ length text.now) }
     ensures others { IfSome result (λ read. AreOthers text.now read.end read.others) }
@@ -230,14 +247,12 @@ fn integer_by_end(text: &[u8], word: u128, begin: usize, others: u64, most: u128
     }
     let value = value_at(text, begin, count as usize);
     let end = begin + count as usize;
-    if !fits(value, count as usize, most) {
-        return None;
-    }
     if Rule::of(word, Component::Integer).is_separator(text[end]) {
         return None;
     }
     Some(Digits {
         value,
+        count: count as usize,
         end,
         others: others >> count,
     })
@@ -252,8 +267,8 @@ struct Read<T> {
     end: usize,
     /// Which bytes from there on are no digits.
     others: u64,
-    /// Whether this number, or one before it, may have a sign.
-    may_be_signed: bool,
+    /// Whether it has a sign.
+    has_sign: bool,
 }
 
 /// The next number of a list.
@@ -295,15 +310,17 @@ fn number_by_end<T: Integer>(
     if head.is_one_form {
         return Next::OneForm;
     }
-    let most = greatest::<T>(head.is_negative);
-    let Some(digits) = integer_by_end(text, word, head.begin, head.others, most) else {
+    let Some(digits) = integer_by_end(text, word, head.begin, head.others) else {
         return Next::Other;
     };
+    if !fits::<T>(digits.value, digits.count, head.is_negative) {
+        return Next::Other;
+    }
     Next::Is(Read {
         value: T::of_magnitude(head.is_negative, u128::from(digits.value)),
         end: digits.end,
         others: digits.others,
-        may_be_signed: head.may_be_signed,
+        has_sign: head.has_sign,
     })
 }
 
@@ -319,8 +336,8 @@ pub(super) struct Went {
 }
 
 /// Reads the numbers of a list from `start` on by their ends, as long as they are plain. `from` are
-/// in the slice.
-#[inline(always)]
+/// in the slice. It is code of its own, since what is inlined must be small.
+#[inline(never)]
 pub(super) fn read_by_ends<T: Integer>(
     text: &[u8],
     start: usize,
@@ -334,7 +351,8 @@ pub(super) fn read_by_ends<T: Integer>(
     ensures so { let one = number_at T.MIN_MAGNITUDE T.MAX (rule_of word Integer) text.now in
         (begin : ℕ) (old : List T)
         → SoFar T.number one literal_position gap text.now begin from start old out.old
-        → SoFar T.number one literal_position gap text.now begin result.count result.at old out.new }
+        → SoFar T.number one literal_position gap text.now begin result.count result.at old
+        out.new }
     ensures onward { start ≤ result.at }
     ensures within { result.at ≤ length text.now }
     ensures count { result.count ≤ result.to }
@@ -366,7 +384,7 @@ pub(super) fn read_by_ends<T: Integer>(
             return Went { count, at, to };
         };
         out[count] = read.value;
-        may_be_signed = read.may_be_signed;
+        may_be_signed = may_be_signed | read.has_sign;
         rest = pass(read.others, next - read.end);
         at = next;
     }

@@ -1,4 +1,4 @@
-use Rattle.std.proofs.Common.{◌≡◌, ℕ, ◌+◌, ◌-◌, ◌%◌, ◌^◌, ◌<◌, slice_index, ap, arith}
+use Rattle.std.proofs.Common.{ℕ, ◌+◌, ◌-◌, ◌%◌, ◌^◌, ◌<◌, slice_index, ap, arith}
 use Rattle.digit_literals.proofs.FrontOfWord.{known_digits, front_written}
 use Rattle.digit_literals.proofs.eight.few_at.Goals as goal
 

@@ -1,4 +1,4 @@
-use Rattle.std.proofs.Common.{ℕ, ◌+◌, ◌<◌, slice_index, arith}
+use Rattle.std.proofs.Common.{◌+◌, ◌<◌, slice_index, arith}
 use Rattle.std.specs.Int.{trailing_zeros, w64}
 use Rattle.lexical_digits.specs.declared.skip.component.Component.TheVariants.{Integer}
 use Rattle.lexical_digits.specs.State.{rule_of}
@@ -26,7 +26,7 @@ bounds-text-end c =
     omega (arith, room)
 
 pub returns-clause-is : goal.returns-clause-is
-returns-clause-is c =
+returns-clause-is c = λ most fits.
     let text = c.args.text.now in
     let begin = c.args.begin in
     let others = c.args.others in
@@ -40,7 +40,7 @@ returns-clause-is c =
     (first_other text begin others c.requires.others c.requires.some (omega arith)) in
     number_is_plain rule text begin c.requires.ten count c.value_at-value.result
     c.value_at-value.ensures.is (omega (arith, room)) other (grind arith) (omega arith)
-    c.args.most (grind arith)
+    most fits
 
 pub returns-clause-others : goal.returns-clause-others
 returns-clause-others c =

@@ -1,4 +1,4 @@
-use Rattle.std.proofs.Common.{◌+◌, ◌%◌, arith}
+use Rattle.std.proofs.Common.{◌%◌, arith}
 use Rattle.std.proofs.lemmas.Bool.Decides.{nat_tests}
 use Rattle.std.proofs.lemmas.Option.{gets}
 use Rattle.digit_literals.proofs.ByEnds.{inside, passed_on}
