@@ -1,13 +1,14 @@
 -- The bytes that are no decimal digits, by the bits of a word.
 use Rattle.std.proofs.Common.{◌≡◌, ℕ, zero, suc, ◌+◌, ◌-◌, ◌/◌, ◌%◌, ◌^◌, ◌<◌, ◌≤◌, leb, Bool, true, false, not, cond, List, map, length, get_or, replicate, Fits, w8, refl, sym, ap, ◌∙◌, inl, inr, arith}
-use Rattle.std.specs.Prelude.{slice_index}
+use Rattle.std.specs.Prelude.{slice_index, nat_lt, ◌&&◌, ◌||◌, if◌then◌else◌, Ok, pos}
 use Rattle.std.specs.Int.{bit_at, trailing_zeros, w64}
+use Rattle.std.specs.Int.Count.{trailing_of_zero}
 use Rattle.std.proofs.lemmas.Bool.{agree_below_at, cases_lt}
 use Rattle.std.proofs.lemmas.Bool.Decides.{nat_tests}
 use Rattle.std.proofs.lemmas.List.{get_or-map, length-map}
 use Rattle.std.proofs.lemmas.Option.{gets}
 use Rattle.std.proofs.lemmas.Nat.{shr-shr}
-use Rattle.std.proofs.lemmas.Nat.Bits.{bit_at_lowest, bit_at-trailing_zeros, bit_at_above}
+use Rattle.std.proofs.lemmas.Nat.Bits.{bit_at-trailing_zeros, bit_at_above}
 use Rattle.std.proofs.lemmas.Simd.{zip2_splat, zip2_of_maps, splat_is_map, map-map, mask_l-mod, bit_mask_l, length-chunk, get_or-chunk}
 use lib.Lanes.{chunk, zip2, mask_l, top}
 use Rattle.lexical_format.specs.Digits.{is_digit_of_radix}
@@ -16,7 +17,9 @@ use Rattle.lexical_digits.specs.declared.skip.rule.Rule.{Rule}
 use Rattle.lexical_digits.specs.Separators.{is_digit}
 use Rattle.digit_literals.specs.declared.list.Gap.{Gap}
 use Rattle.digit_literals.specs.Ends.{is_decimal, AreOthers, AreDecimal}
+use Rattle.digit_literals.specs.Integers.{integer_at}
 use Rattle.digit_literals.specs.Lists.{is_blank, past_blanks}
+use Rattle.digit_literals.specs.Numbers.{has_byte, with_sign, number_at}
 use Rattle.digit_literals.proofs.Lists.{no_blank}
 use Rattle.digit_literals.proofs.Passed.{by_radix}
 
@@ -143,37 +146,58 @@ pub inside : (text : List ℕ) (at others : ℕ) → AreOthers text at others �
 inside text at others are some fits =
     omega (arith, first_room text at others are (omega (arith, some)) fits)
 
+-- a bit is set, if the lowest one that is is among the first
+pub some_bit : (others : ℕ) → trailing_zeros w64 others ≤ 8 → 0 < others
+some_bit zero few =
+    let all : trailing_zeros w64 0 ≡ 64 = trailing_of_zero 64 in
+    absurd (omega (arith, few, all))
+some_bit (suc others) few = omega arith
+
 -- a digit is there, if the lowest bit isn't set
-pub digit_first : (text : List ℕ) (at others : ℕ) → AreOthers text at others → 1 < others
-    → others < 2 ^ 64 → others % 2 ≡ 0
+pub digit_first : (text : List ℕ) (at others : ℕ) → AreOthers text at others
+    → others < 2 ^ 64 → 0 < trailing_zeros w64 others → trailing_zeros w64 others ≤ 8
     → (48 ≤ slice_index text at) × (slice_index text at < 58)
-digit_first text at others are some fits even =
-    let first = trailing_zeros w64 others in
-    let found = lowest text at others are (omega (arith, some)) fits in
-    let clear : bit_at others 0 ≡ 0 = omega (arith, even, bit_at_lowest others) in
-    let later : 0 < first = first_above others first found.1 clear in
+digit_first text at others are fits more few =
     let here : at + 0 ≡ at = omega arith in
-    let digit = are.digits 0 first later found.1 clear in
     let both : (48 ≤ slice_index text (at + 0)) × (slice_index text (at + 0) < 58) =
-    grind (arith, nat_tests, digit) in
+    before_first text at others are (some_bit others few) fits 0 more in
     rw here at both
-  where
-    first_above : (n k : ℕ) → bit_at n k ≡ 1 → bit_at n 0 ≡ 0 → 0 < k
-    first_above n zero set clear = absurd (omega (arith, set, clear))
-    first_above n (suc k) set clear = omega arith
 
 -- the number begins there at once, if no digit is a blank
 pub begins_at_once : (gap : Gap) (text : List ℕ) (at others : ℕ) → AreOthers text at others
-    → 0 < others → others < 2 ^ 64 → others % 2 ≡ 0
+    → others < 2 ^ 64 → 0 < trailing_zeros w64 others → trailing_zeros w64 others ≤ 8
     → ((byte : ℕ) → 48 ≤ byte → byte < 58 → is_blank gap byte ≡ false)
     → past_blanks gap text at ≡ at
-begins_at_once gap text at others are some fits even blanks =
-    let digit = digit_first text at others are (omega (arith, some, even)) fits even in
+begins_at_once gap text at others are fits more few blanks =
+    let digit = digit_first text at others are fits more few in
     let none = blanks (slice_index text at) digit.0 digit.1 in
     no_blank gap text at (grind (arith, gets, none))
 
+-- and it has no sign: it is the integer there
+pub number_at_once : (least most : ℕ) (rule : Rule) (gap : Gap) (text : List ℕ)
+    → (at others value end : ℕ) → AreOthers text at others
+    → others < 2 ^ 64 → 0 < trailing_zeros w64 others → trailing_zeros w64 others ≤ 8
+    → ((byte : ℕ) → 48 ≤ byte → byte < 58 → is_blank gap byte ≡ false)
+    → integer_at rule text at most ≡ Ok (value, end)
+    → number_at least most rule text (past_blanks gap text at) ≡ Ok (pos value, end)
+number_at_once least most rule gap text at others value end are fits more few blanks is =
+    let here = begins_at_once gap text at others are fits more few blanks in
+    let digit = digit_first text at others are fits more few in
+    let room = first_room text at others are (some_bit others few) fits in
+    let there : at < length text = omega (arith, room) in
+    let minus : has_byte text at 45 ≡ false = grind (arith, nat_tests, gets, digit, there) in
+    let plus : has_byte text at 43 ≡ false = grind (arith, nat_tests, gets, digit, there) in
+    rw (here, minus, plus) (both (nat_lt 0 least) is)
+  where
+    both : (signed : Bool) → integer_at rule text at most ≡ Ok (value, end)
+        → with_sign (signed && false)
+        (integer_at rule text (if signed && (false || false) then at + 1 else at)
+        (if signed && false then least else most)) ≡ Ok (pos value, end)
+    both true is = rw is refl
+    both false is = rw is refl
+
 -- to be named in an attribute
-pub ruleset at_once = (inside, digit_first, begins_at_once)
+pub ruleset short_number = (some_bit, before_first, first_room)
 
 -- what is no decimal digit is none of a rule of radix 10
 pub no_digit : (rule : Rule) (byte : ℕ) → rule.radix ≡ 10 → byte < 256

@@ -165,7 +165,7 @@ fn few_of(digits: u64, count: u32) -> u64
 
 /// The number that so many decimal digits write, from 1 to 8.
 #[inline(always)]
-fn few_at(text: &[u8], at: usize, count: usize) -> u64
+pub(super) fn few_at(text: &[u8], at: usize, count: usize) -> u64
     requires within { at + 8 ≤ length text.now }
     requires some { 0 < count }
     requires few { count ≤ 8 }

@@ -2,15 +2,17 @@
 //! a number ends is known before it is read, and none waits for the digits of the one before.
 
 ghost use Rattle.std.specs.Prelude.{◌≡◌, ℕ, List, ◌+◌, ◌^◌, ◌<◌, ◌≤◌, length, if◌then◌else◌, true, false, Ok, IfSome};
+ghost use Rattle.std.specs.Int.{trailing_zeros, w64};
 ghost use Rattle.lexical_digits.specs.declared.skip.component.Component.TheVariants.{Integer};
 ghost use Rattle.lexical_digits.specs.State.{rule_of};
+ghost use Rattle.digit_literals.specs.Eight.{IsWritten};
 ghost use Rattle.digit_literals.specs.Ends.{AreOthers, IfIs};
 ghost use Rattle.digit_literals.specs.Errors.{literal_position};
 ghost use Rattle.digit_literals.specs.Integers.{integer_at};
-ghost use Rattle.digit_literals.specs.Lists.{SoFar, is_blank, past_blanks};
-ghost use Rattle.digit_literals.specs.Numbers.{number_at, is_negative_from, digits_from};
+ghost use Rattle.digit_literals.specs.Lists.{SoFar, is_blank, past_blanks, next_after};
+ghost use Rattle.digit_literals.specs.Numbers.{number_at, is_negative_from, digits_from, signed};
 
-use super::eight::value_at;
+use super::eight::{few_at, value_at};
 use super::list::Gap;
 use super::number::{Integer, greatest};
 use lexical_digits::skip::{Component, Rule};
@@ -53,22 +55,33 @@ fn pass(others: u64, count: usize) -> u64
     if count < BLOCK { others >> count } else { 0 }
 }
 
-/// Whether nearly all numbers of a block have one form, of one digit or two, so that the next
+/// Whether nearly all numbers of a block have one form, of up to three digits, so that the next
 /// number begins as far from this one as this one from the one before. A processor guesses where
-/// these end. It is only for speed: they are read one by one.
+/// these end. `spare` bits are left out, and `most` may differ. It is only for speed.
 #[inline(always)]
-fn have_one_short_form(others: u64) -> bool {
+fn are_alike(others: u64, spare: u32, most: u32) -> bool {
     let first = others >> (others % 2);
     let digits = first.trailing_zeros();
-    if digits == 0 || digits > 2 {
+    if digits == 0 || digits > 3 {
         return false;
     }
     let form = digits + (!(first >> digits)).trailing_zeros();
-    if form >= 32 {
+    if form > 8 || spare > 48 {
         return false;
     }
-    let differ = (first ^ (first >> form)) << form;
-    differ.count_ones() <= 4
+    let differ = (first ^ (first >> form)) << (spare + form);
+    differ.count_ones() <= most
+}
+
+/// Whether all numbers in the next 16 bytes have one short form, so that they are read one by one,
+/// or if too few bytes are left. It is only for speed.
+#[inline(never)]
+pub(super) fn are_next_alike(text: &[u8], at: usize) -> bool {
+    if at > text.len() || text.len() - at < BLOCK + WORDS {
+        return true;
+    }
+    let digits = u8x16::from_slice(&text[at..]) - u8x16::splat(b'0');
+    are_alike(digits.simd_ge(u8x16::splat(10)).to_bitmask(), 48, 0)
 }
 
 /// What is known before the digits of a number are read.
@@ -147,43 +160,9 @@ fn any_head<T: Integer>(text: &[u8], gap: Gap, at: usize, rest: u64) -> Option<H
     }
     let others = others_from(text, place);
     if others > 1 {
-        return pass_sign::<T>(text, place, others, have_one_short_form(others));
+        return pass_sign::<T>(text, place, others, are_alike(others, 0, 4));
     }
     None
-}
-
-/// [`any_head`]. The usual one has no blank and no sign before its digits: where no number before
-/// had a sign, one bit tells it.
-#[inline(always)]
-#[tactic(auto, using(crate::proofs::ByEnds::at_once))]
-fn head_of<T: Integer>(
-    text: &[u8],
-    gap: Gap,
-    at: usize,
-    rest: u64,
-    may_be_signed: bool,
-) -> Option<Head>
-    requires within { at ≤ length text.now }
-    requires rest { AreOthers text.now at rest }
-    requires digits { (byte : ℕ) → 48 ≤ byte → byte < 58 → is_blank gap byte ≡ false }
-    ensures negative { IfSome result (λ head. head.is_negative
-        ≡ is_negative_from T.MIN_MAGNITUDE text.now (past_blanks gap text.now at)) }
-    ensures begins { IfSome result (λ head. head.begin
-        ≡ digits_from T.MIN_MAGNITUDE text.now (past_blanks gap text.now at)) }
-    ensures onward { IfSome result (λ head. at ≤ head.begin) }
-    ensures others { IfSome result (λ head. AreOthers text.now head.begin head.others) }
-    ensures some { IfSome result (λ head. 0 < head.others) }
-{
-    if rest > 0 && rest % 2 == 0 && !may_be_signed {
-        return Some(Head {
-            is_negative: false,
-            begin: at,
-            others: rest,
-            has_sign: false,
-            is_one_form: false,
-        });
-    }
-    any_head::<T>(text, gap, at, rest)
 }
 
 /// The smaller one of a type's greatest magnitudes, with a `-` and without.
@@ -226,6 +205,45 @@ struct Digits {
     others: u64,
 }
 
+/// What is known of `count` digits from a position on, after they were read.
+#[inline(always)]
+fn end_of(
+    text: &[u8],
+    word: u128,
+    begin: usize,
+    others: u64,
+    count: u32,
+    value: u64,
+) -> Option<Digits>
+    requires ten { (rule_of word Integer).radix ≡ 10 }
+    requires others { AreOthers text.now begin others }
+    requires some { 0 < others }
+    requires more { 0 < count }
+    requires count { count ≡ trailing_zeros w64 others }
+    requires written { IsWritten text.now begin count value }
+    requires eight { count ≤ 8 → value < 10 ^ 8 }
+    requires sixteen { count ≤ 16 → value < 10 ^ 16 }
+    ensures is { let r = rule_of word Integer in IfSome result (λ read.
+        (most : ℕ) → read.value ≤ most
+        → integer_at r text.now begin most ≡ Ok (read.value, read.end)) }
+    ensures eight { IfSome result (λ read. read.count ≤ 8 → read.value < 10 ^ 8) }
+    ensures sixteen { IfSome result (λ read. read.count ≤ 16 → read.value < 10 ^ 16) }
+    ensures onward { IfSome result (λ read. begin < read.end) }
+    ensures within { IfSome result (λ read. read.end ≤ length text.now) }
+    ensures others { IfSome result (λ read. AreOthers text.now read.end read.others) }
+{
+    let end = begin + count as usize;
+    if Rule::of(word, Component::Integer).is_separator(text[end]) {
+        return None;
+    }
+    Some(Digits {
+        value,
+        count: count as usize,
+        end,
+        others: others >> count,
+    })
+}
+
 /// The integer whose digits begin at a position, if it is a plain one of 1 to 19 digits.
 #[inline(always)]
 fn integer_by_end(text: &[u8], word: u128, begin: usize, others: u64) -> Option<Digits>
@@ -246,16 +264,7 @@ fn integer_by_end(text: &[u8], word: u128, begin: usize, others: u64) -> Option<
         return None;
     }
     let value = value_at(text, begin, count as usize);
-    let end = begin + count as usize;
-    if Rule::of(word, Component::Integer).is_separator(text[end]) {
-        return None;
-    }
-    Some(Digits {
-        value,
-        count: count as usize,
-        end,
-        others: others >> count,
-    })
+    end_of(text, word, begin, others, count, value)
 }
 
 /// A number of a list that was read by its end.
@@ -282,8 +291,92 @@ enum Next<T> {
     Other,
 }
 
-/// The number after the blanks at a position, if its end is known and its digits are read by
-/// [`integer_by_end`].
+/// The number of a sign and of digits, if the type has it.
+#[inline(always)]
+fn number_of<T: Integer>(digits: Digits, is_negative: bool, has_sign: bool) -> Option<Read<T>>
+    requires eight { digits.count ≤ 8 → digits.value < 10 ^ 8 }
+    requires sixteen { digits.count ≤ 16 → digits.value < 10 ^ 16 }
+    requires sign { is_negative ≡ true → 0 < T.MIN_MAGNITUDE }
+    ensures fits { IfSome result (λ _.
+        digits.value ≤ (if is_negative then T.MIN_MAGNITUDE else T.MAX)) }
+    ensures is { IfSome result (λ read.
+        T.number read.value ≡ signed is_negative digits.value) }
+    ensures end { IfSome result (λ read. read.end ≡ digits.end) }
+    ensures others { IfSome result (λ read. read.others ≡ digits.others) }
+{
+    if !fits::<T>(digits.value, digits.count, is_negative) {
+        return None;
+    }
+    Some(Read {
+        value: T::of_magnitude(is_negative, u128::from(digits.value)),
+        end: digits.end,
+        others: digits.others,
+        has_sign,
+    })
+}
+
+/// The number that begins with its first digit at a position, if it has no sign, and up to eight
+/// digits, whose end is known: the usual one.
+#[inline(always)]
+#[tactic(auto, using(crate::proofs::ByEnds::short_number))]
+fn short_number<T: Integer>(
+    text: &[u8],
+    word: u128,
+    gap: Gap,
+    at: usize,
+    rest: u64,
+    count: u32,
+) -> Option<Read<T>>
+    requires ten { (rule_of word Integer).radix ≡ 10 }
+    requires within { at ≤ length text.now }
+    requires rest { AreOthers text.now at rest }
+    requires count { count ≡ trailing_zeros w64 rest }
+    requires some { 0 < count }
+    requires few { count ≤ 8 }
+    requires digits { (byte : ℕ) → 48 ≤ byte → byte < 58 → is_blank gap byte ≡ false }
+    ensures is { let r = rule_of word Integer in IfSome result (λ read.
+        number_at T.MIN_MAGNITUDE T.MAX r text.now (past_blanks gap text.now at)
+        ≡ Ok (T.number read.value, read.end)) }
+    ensures onward { IfSome result (λ read. at < read.end) }
+    ensures within { IfSome result (λ read. read.end ≤ length text.now) }
+    ensures others { IfSome result (λ read. AreOthers text.now read.end read.others) }
+{
+    let value = few_at(text, at, count as usize);
+    let digits = end_of(text, word, at, rest, count, value)?;
+    let read = number_of::<T>(digits, false, false)?;
+    Some(read)
+}
+
+/// The number after the blanks at a position, whatever is before its digits, if its end is known
+/// and its digits are read by [`integer_by_end`].
+#[inline(always)]
+fn any_number<T: Integer>(text: &[u8], word: u128, gap: Gap, at: usize, rest: u64) -> Next<T>
+    requires ten { (rule_of word Integer).radix ≡ 10 }
+    requires within { at ≤ length text.now }
+    requires rest { AreOthers text.now at rest }
+    ensures is { let r = rule_of word Integer in IfIs result (λ read.
+        number_at T.MIN_MAGNITUDE T.MAX r text.now (past_blanks gap text.now at)
+        ≡ Ok (T.number read.value, read.end)) }
+    ensures onward { IfIs result (λ read. at < read.end) }
+    ensures within { IfIs result (λ read. read.end ≤ length text.now) }
+    ensures others { IfIs result (λ read. AreOthers text.now read.end read.others) }
+{
+    let Some(head) = any_head::<T>(text, gap, at, rest) else {
+        return Next::Other;
+    };
+    if head.is_one_form {
+        return Next::OneForm;
+    }
+    let Some(digits) = integer_by_end(text, word, head.begin, head.others) else {
+        return Next::Other;
+    };
+    match number_of::<T>(digits, head.is_negative, head.has_sign) {
+        Some(read) => Next::Is(read),
+        None => Next::Other,
+    }
+}
+
+/// [`any_number`], or at once the usual one, where no number before had a sign.
 #[inline(always)]
 fn number_by_end<T: Integer>(
     text: &[u8],
@@ -304,24 +397,49 @@ fn number_by_end<T: Integer>(
     ensures within { IfIs result (λ read. read.end ≤ length text.now) }
     ensures others { IfIs result (λ read. AreOthers text.now read.end read.others) }
 {
-    let Some(head) = head_of::<T>(text, gap, at, rest, may_be_signed) else {
-        return Next::Other;
-    };
-    if head.is_one_form {
-        return Next::OneForm;
+    let count = rest.trailing_zeros();
+    if count > 0 && count <= 8 && !may_be_signed {
+        match short_number::<T>(text, word, gap, at, rest, count) {
+            Some(read) => Next::Is(read),
+            None => Next::Other,
+        }
+    } else {
+        any_number::<T>(text, word, gap, at, rest)
     }
-    let Some(digits) = integer_by_end(text, word, head.begin, head.others) else {
-        return Next::Other;
-    };
-    if !fits::<T>(digits.value, digits.count, head.is_negative) {
-        return Next::Other;
+}
+
+/// Where the next number of a list may be.
+#[derive(Clone, Copy)]
+struct Place {
+    /// Where.
+    at: usize,
+    /// Which bytes from there on are no digits.
+    rest: u64,
+}
+
+/// Where the next number may be, if a separator follows the number that ends at a position.
+#[inline(always)]
+#[tactic(auto, using(crate::proofs::Lists::separator_is_no_blank))]
+fn place_after(text: &[u8], gap: Gap, end: usize, others: u64) -> Option<Place>
+    requires within { end ≤ length text.now }
+    requires others { AreOthers text.now end others }
+    ensures is { IfSome result (λ place. next_after gap text.now end ≡ Ok place.at) }
+    ensures onward { IfSome result (λ place. end < place.at) }
+    ensures within { IfSome result (λ place. place.at ≤ length text.now) }
+    ensures rest { IfSome result (λ place. AreOthers text.now place.at place.rest) }
+{
+    // the usual case: the bits are moved by one
+    if gap.has_separator(text, end) {
+        return Some(Place {
+            at: end + 1,
+            rest: pass(others, 1),
+        });
     }
-    Next::Is(Read {
-        value: T::of_magnitude(head.is_negative, u128::from(digits.value)),
-        end: digits.end,
-        others: digits.others,
-        has_sign: head.has_sign,
-    })
+    let Ok(at) = gap.next_after(text, end) else {
+        return None;
+    };
+    let rest = pass(others, at - end);
+    Some(Place { at, rest })
 }
 
 /// How far a list was read by ends.
@@ -380,13 +498,13 @@ pub(super) fn read_by_ends<T: Integer>(
             }
             Next::Other => return Went { count, at, to },
         };
-        let Ok(next) = gap.next_after(text, read.end) else {
+        let Some(place) = place_after(text, gap, read.end, read.others) else {
             return Went { count, at, to };
         };
         out[count] = read.value;
         may_be_signed = may_be_signed | read.has_sign;
-        rest = pass(read.others, next - read.end);
-        at = next;
+        rest = place.rest;
+        at = place.at;
     }
     Went { count: to, at, to }
 }

@@ -11,7 +11,7 @@ ghost use Rattle.digit_literals.specs.Numbers.{number_at};
 
 use super::LiteralError;
 use super::bytes::{BLANKS, accepts};
-use super::ends::read_by_ends;
+use super::ends::{are_next_alike, read_by_ends};
 use super::number::{Integer, read_number_from};
 use lexical_digits::ops::ByteSet;
 
@@ -187,7 +187,7 @@ impl Gap {
 
     /// Whether a separator is at a position.
     #[inline(always)]
-    fn has_separator(self, text: &[u8], at: usize) -> bool
+    pub(super) fn has_separator(self, text: &[u8], at: usize) -> bool
         ensures is { result ≡ has_separator self text.now at }
         ensures within { result ≡ true → at < length text.now }
     {
@@ -213,6 +213,9 @@ impl Gap {
 /// How many numbers of a list are read one by one before their ends are looked for: a short list
 /// gains nothing by that.
 const FEW: usize = 8;
+
+/// How many places a slice has, in which more than a few numbers are looked for.
+const MANY: usize = 32;
 
 /// Reads the numbers of a list from `begin` on one by one, up to `to` of them. `from` are in the
 /// slice. Where the next one may be, or why there are no more.
@@ -311,7 +314,7 @@ pub fn read_list<T: Integer>(
 {
     let mut at = start;
     let mut count = 0;
-    let mut to = FEW.min(out.len());
+    let mut to = if out.len() < MANY { out.len() } else { FEW };
     loop {
         match read_some(text, at, word, gap, out, count, to) {
             Ok(next) => at = next,
@@ -322,6 +325,11 @@ pub fn read_list<T: Integer>(
                 count: to,
                 end: ListEnd::Full(at),
             };
+        }
+        if are_next_alike(text, at) {
+            count = to;
+            to += MANY.min(out.len() - to);
+            continue;
         }
         let went = read_by_ends(text, at, word, gap, out, to);
         at = went.at;

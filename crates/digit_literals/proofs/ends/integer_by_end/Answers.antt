@@ -1,9 +1,5 @@
-use Rattle.std.proofs.Common.{◌+◌, ◌<◌, slice_index, arith}
-use Rattle.std.specs.Int.{trailing_zeros, w64}
-use Rattle.lexical_digits.specs.declared.skip.component.Component.TheVariants.{Integer}
-use Rattle.lexical_digits.specs.State.{rule_of}
-use Rattle.digit_literals.proofs.ByEnds.{first_room, first_other, before_first, passed_on, no_digit}
-use Rattle.digit_literals.proofs.Whole.{number_is_plain}
+use Rattle.std.proofs.Common.{arith}
+use Rattle.digit_literals.proofs.ByEnds.{first_room, before_first}
 use Rattle.digit_literals.proofs.ends.integer_by_end.Goals as goal
 
 pub value_at-value-requires-clause-within : goal.value_at-value-requires-clause-within
@@ -17,32 +13,3 @@ pub value_at-value-requires-clause-digits : goal.value_at-value-requires-clause-
 value_at-value-requires-clause-digits c =
     before_first c.args.text.now c.args.begin c.args.others c.requires.others c.requires.some
     (omega arith)
-
-pub bounds-text-end : goal.bounds-text-end
-bounds-text-end c =
-    let room =
-    first_room c.args.text.now c.args.begin c.args.others c.requires.others c.requires.some
-    (omega arith) in
-    omega (arith, room)
-
-pub returns-clause-is : goal.returns-clause-is
-returns-clause-is c = λ most fits.
-    let text = c.args.text.now in
-    let begin = c.args.begin in
-    let others = c.args.others in
-    let rule = rule_of c.args.word Integer in
-    let count = trailing_zeros w64 others in
-    let room = first_room text begin others c.requires.others c.requires.some (omega arith) in
-    let fit : slice_index text (begin + count) < 256 = let f = c.type_inv.text (begin + count) in
-    omega arith in
-    let other =
-    no_digit rule (slice_index text (begin + count)) c.requires.ten fit
-    (first_other text begin others c.requires.others c.requires.some (omega arith)) in
-    number_is_plain rule text begin c.requires.ten count c.value_at-value.result
-    c.value_at-value.ensures.is (omega (arith, room)) other (grind arith) (omega arith)
-    most fits
-
-pub returns-clause-others : goal.returns-clause-others
-returns-clause-others c =
-    passed_on c.args.text.now c.args.begin (trailing_zeros w64 c.args.others) c.args.others
-    c.requires.others

@@ -1,4 +1,4 @@
-use Rattle.std.proofs.Common.{◌+◌, ◌-◌, ◌≡◌, refl, sym, ◌∙◌, arith}
+use Rattle.std.proofs.Common.{refl, ◌∙◌, arith}
 use Rattle.std.proofs.lemmas.List.{length-set}
 use Rattle.lexical_digits.specs.declared.skip.component.Component.TheVariants.{Integer}
 use Rattle.lexical_digits.specs.State.{rule_of}
@@ -10,10 +10,6 @@ use Rattle.digit_literals.proofs.ends.read_by_ends.Goals as goal
 pub loop-count-preserved : goal.loop-count-preserved
 loop-count-preserved g c =
     let t = g.T.Integer in
-    let end = c.in-Is.read.end in
-    let next = c.in-Ok.next in
-    let there : end + (next - end) ≡ next = omega (arith, c.in-Ok.ensures.onward) in
-    let others = c.pass-rest.ensures c.args.text.now end c.in-Is.ensures.others in
     record {
       so = λ begin old begins.
           let so = c.loop-count.invariant.so begin old begins in
@@ -22,15 +18,15 @@ loop-count-preserved g c =
           literal_position c.args.gap c.args.text.now begin c.loop-count.count
           c.loop-count.at
           old c.loop-count.out so (omega (arith, so.same_length)) c.in-Is.read.value
-          end next c.in-Is.ensures.is (sym c.in-Ok.ensures.is);
-      others = rw there at others;
+          c.in-Is.read.end c.in-Some.place.at c.in-Is.ensures.is c.in-Some.ensures.is;
+      others = c.in-Some.ensures.rest;
       onward = omega (
         arith,
         c.loop-count.invariant.onward,
         c.in-Is.ensures.onward,
-        c.in-Ok.ensures.onward,
+        c.in-Some.ensures.onward,
       );
-      within = c.in-Ok.ensures.within;
+      within = c.in-Some.ensures.within;
       room = refl;
       same = length-set _ _ _ ∙ c.loop-count.invariant.same;
     }
