@@ -214,8 +214,11 @@ impl Gap {
 /// gains nothing by that.
 const FEW: usize = 8;
 
-/// How many places a slice has, in which more than a few numbers are looked for.
+/// How many places a slice has at least, if the ends of more than a few are looked for.
 const MANY: usize = 32;
+
+/// How many numbers of one form are read one by one before the next ones are looked at.
+const ALIKE: usize = 64;
 
 /// Reads the numbers of a list from `begin` on one by one, up to `to` of them. `from` are in the
 /// slice. Where the next one may be, or why there are no more.
@@ -328,7 +331,7 @@ pub fn read_list<T: Integer>(
         }
         if are_next_alike(text, at) {
             count = to;
-            to += MANY.min(out.len() - to);
+            to += ALIKE.min(out.len() - to);
             continue;
         }
         let went = read_by_ends(text, at, word, gap, out, to);
