@@ -3,7 +3,7 @@
 use Rattle.std.specs.Prelude.{◌≡◌, ⊤, ℕ, ◌+◌, ◌≤◌, ◌<◌, ◌&&◌, not, nat_lt, Bool, true, false, List, length, slice_index}
 use Rattle.std.specs.Int.{bit_at}
 use Rattle.digit_literals.specs.declared.ends.Next.{Next}
-use Rattle.digit_literals.specs.declared.ends.Next.TheVariants.{Is, OneForm, Other}
+use Rattle.digit_literals.specs.declared.ends.Next.TheVariants.{Is, Short, Other}
 use Rattle.digit_literals.specs.declared.ends.Read.{Read}
 
 -- whether a byte is a decimal digit
@@ -28,5 +28,5 @@ module _ (text : List ℕ) (at : ℕ) where
 -- what holds of the next number of a list, if it was read
 abbrev pub IfIs : {T : Type 0} → Next T → (Read T → Type 0) → Type 0
 IfIs (Is read) P = P read
-IfIs OneForm P = ⊤
+IfIs Short P = ⊤
 IfIs Other P = ⊤

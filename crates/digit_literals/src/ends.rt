@@ -55,33 +55,37 @@ fn pass(others: u64, count: usize) -> u64
     if count < BLOCK { others >> count } else { 0 }
 }
 
-/// Whether nearly all numbers of a block have one form, of up to three digits, so that the next
-/// number begins as far from this one as this one from the one before. A processor guesses where
-/// these end. `spare` bits are left out, and `most` may differ. It is only for speed.
+/// Whether the numbers of a block are rather read one by one: half of the bytes are no digits, or
+/// nearly all numbers have one form of up to three digits, so that the next number begins as far
+/// from this one as this one from the one before. A processor guesses where these end. `spare` bits
+/// are left out, and `most` may differ. It is only for speed.
 #[inline(always)]
-fn are_alike(others: u64, spare: u32, most: u32) -> bool {
+fn are_short(others: u64, spare: u32, most: u32) -> bool {
+    if spare > 48 || others.count_ones() * 2 + spare >= 64 {
+        return true;
+    }
     let first = others >> (others % 2);
     let digits = first.trailing_zeros();
     if digits == 0 || digits > 3 {
         return false;
     }
     let form = digits + (!(first >> digits)).trailing_zeros();
-    if form > 8 || spare > 48 {
+    if form > 8 {
         return false;
     }
     let differ = (first ^ (first >> form)) << (spare + form);
     differ.count_ones() <= most
 }
 
-/// Whether all numbers in the next 16 bytes have one short form, so that they are read one by one,
-/// or if too few bytes are left. It is only for speed.
+/// Whether the numbers in the next 16 bytes are short, and the next ones are read one by one, or too
+/// few bytes are left. It is only for speed.
 #[inline(never)]
-pub(super) fn are_next_alike(text: &[u8], at: usize) -> bool {
+pub(super) fn are_next_short(text: &[u8], at: usize) -> bool {
     if at > text.len() || text.len() - at < BLOCK + WORDS {
         return true;
     }
     let digits = u8x16::from_slice(&text[at..]) - u8x16::splat(b'0');
-    are_alike(digits.simd_ge(u8x16::splat(10)).to_bitmask(), 48, 0)
+    are_short(digits.simd_ge(u8x16::splat(10)).to_bitmask(), 48, 0)
 }
 
 /// What is known before the digits of a number are read.
@@ -95,16 +99,15 @@ struct Head {
     others: u64,
     /// Whether it has a sign.
     has_sign: bool,
-    /// Whether the bytes from here on were looked at anew, and nearly all numbers there have one
-    /// short form.
-    is_one_form: bool,
+    /// Whether the bytes from here on were looked at anew, and the numbers there are short.
+    are_short: bool,
 }
 
 /// The number after its blanks at a place. Its sign is no branch, and its digits begin where the
 /// first bit says, so that their end waits for no byte.
 #[inline(always)]
 #[tactic(auto, using(crate::proofs::ByEnds::inside))]
-fn pass_sign<T: Integer>(text: &[u8], place: usize, others: u64, is_one_form: bool) -> Option<Head>
+fn pass_sign<T: Integer>(text: &[u8], place: usize, others: u64, are_short: bool) -> Option<Head>
     requires others { AreOthers text.now place others }
     requires some { 1 < others }
     ensures negative { IfSome result (λ head.
@@ -121,7 +124,7 @@ fn pass_sign<T: Integer>(text: &[u8], place: usize, others: u64, is_one_form: bo
             begin: place,
             others,
             has_sign: false,
-            is_one_form,
+            are_short,
         });
     }
     let byte = text[place];
@@ -136,7 +139,7 @@ fn pass_sign<T: Integer>(text: &[u8], place: usize, others: u64, is_one_form: bo
         begin: place + sign as usize,
         others: others >> sign,
         has_sign,
-        is_one_form,
+        are_short,
     })
 }
 
@@ -160,7 +163,7 @@ fn any_head<T: Integer>(text: &[u8], gap: Gap, at: usize, rest: u64) -> Option<H
     }
     let others = others_from(text, place);
     if others > 1 {
-        return pass_sign::<T>(text, place, others, are_alike(others, 0, 4));
+        return pass_sign::<T>(text, place, others, are_short(others, 0, 4));
     }
     None
 }
@@ -285,8 +288,8 @@ struct Read<T> {
 enum Next<T> {
     /// It was read.
     Is(Read<T>),
-    /// It and nearly all of the next ones have one short form.
-    OneForm,
+    /// It and the next ones are short.
+    Short,
     /// It isn't plain, or its end isn't known.
     Other,
 }
@@ -364,8 +367,8 @@ fn any_number<T: Integer>(text: &[u8], word: u128, gap: Gap, at: usize, rest: u6
     let Some(head) = any_head::<T>(text, gap, at, rest) else {
         return Next::Other;
     };
-    if head.is_one_form {
-        return Next::OneForm;
+    if head.are_short {
+        return Next::Short;
     }
     let Some(digits) = integer_by_end(text, word, head.begin, head.others) else {
         return Next::Other;
@@ -492,7 +495,7 @@ pub(super) fn read_by_ends<T: Integer>(
     for count in from..out.len() {
         let read = match number_by_end::<T>(text, word, gap, at, rest, may_be_signed) {
             Next::Is(read) => read,
-            Next::OneForm => {
+            Next::Short => {
                 let to = count + BLOCK.min(out.len() - count);
                 return Went { count, at, to };
             }

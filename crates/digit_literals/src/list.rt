@@ -11,7 +11,7 @@ ghost use Rattle.digit_literals.specs.Numbers.{number_at};
 
 use super::LiteralError;
 use super::bytes::{BLANKS, accepts};
-use super::ends::{are_next_alike, read_by_ends};
+use super::ends::{are_next_short, read_by_ends};
 use super::number::{Integer, read_number_from};
 use lexical_digits::ops::ByteSet;
 
@@ -217,8 +217,8 @@ const FEW: usize = 8;
 /// How many places a slice has at least, if the ends of more than a few are looked for.
 const MANY: usize = 32;
 
-/// How many numbers of one form are read one by one before the next ones are looked at.
-const ALIKE: usize = 64;
+/// How many short numbers are read one by one before the next ones are looked at.
+const SHORT: usize = 64;
 
 /// Reads the numbers of a list from `begin` on one by one, up to `to` of them. `from` are in the
 /// slice. Where the next one may be, or why there are no more.
@@ -329,9 +329,9 @@ pub fn read_list<T: Integer>(
                 end: ListEnd::Full(at),
             };
         }
-        if are_next_alike(text, at) {
+        if are_next_short(text, at) {
             count = to;
-            to += ALIKE.min(out.len() - to);
+            to += SHORT.min(out.len() - to);
             continue;
         }
         let went = read_by_ends(text, at, word, gap, out, to);
