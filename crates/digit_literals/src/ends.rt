@@ -77,8 +77,8 @@ fn are_short(others: u64, spare: u32, most: u32) -> bool {
     differ.count_ones() <= most
 }
 
-/// Whether the numbers in the next 16 bytes are short, and the next ones are read one by one, or too
-/// few bytes are left. It is only for speed.
+/// Whether the numbers in the next 16 bytes are short, or too few bytes are left. It is only for
+/// speed.
 #[inline(never)]
 pub(super) fn are_next_short(text: &[u8], at: usize) -> bool {
     if at > text.len() || text.len() - at < BLOCK + WORDS {

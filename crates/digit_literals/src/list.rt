@@ -215,7 +215,7 @@ impl Gap {
 const FEW: usize = 8;
 
 /// How many places a slice has at least, if the ends of more than a few are looked for.
-const MANY: usize = 32;
+const MANY: usize = 128;
 
 /// How many short numbers are read one by one before the next ones are looked at.
 const SHORT: usize = 64;

@@ -51,7 +51,7 @@ fn read_alone<T: Integer>(
     }
 }
 
-/// Whether a list of a text is the same both ways, in 48 places that hold `fill`.
+/// Whether a list of a text is the same both ways, in 160 places that hold `fill`.
 fn is_same<T: Integer + PartialEq>(
     rt: &impl Abort,
     text: &[u8],
@@ -60,12 +60,12 @@ fn is_same<T: Integer + PartialEq>(
     fill: T,
 ) -> bool {
     assert!(rt; is_supported(word));
-    let mut alone = [fill; 48];
-    let mut by_ends = [fill; 48];
+    let mut alone = [fill; 160];
+    let mut by_ends = [fill; 160];
     let expected = read_alone::<T>(rt, text, word, gap, &mut alone);
     let read = read_list::<T>(text, 0, word, gap, &mut by_ends);
     let mut same = read == expected;
-    for i in 0..48 {
+    for i in 0..160 {
         same = same && alone[i] == by_ends[i];
     }
     same
