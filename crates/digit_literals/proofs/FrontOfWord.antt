@@ -1,10 +1,11 @@
 -- The decimal digits that eight bytes in a word begin with: their test, and the number that they
 -- write.
-use Rattle.std.proofs.Common.{◌≡◌, ℕ, zero, suc, ◌+◌, ◌-◌, ◌*◌, ◌/◌, ◌%◌, ◌^◌, ◌<◌, ◌≤◌, bit_and, bit_or, List, length, refl, ap, ◌∙◌, arith}
+use Rattle.std.proofs.Common.{◌≡◌, ℕ, zero, suc, ◌+◌, ◌-◌, ◌*◌, ◌/◌, ◌%◌, ◌^◌, ◌<◌, ◌≤◌, bit_and, bit_or, List, length, refl, ap, ◌∙◌, inl, inr, arith}
 use Rattle.std.specs.Prelude.{slice_index}
 use Rattle.std.specs.Int.{bit_at, trailing_zeros, w64}
 use native.Mathlib.Numerals.{unary_clauses}
 use Rattle.std.proofs.Math.Pow.{mod-mod-pow}
+use Rattle.std.proofs.lemmas.Bool.{cases_lt}
 use Rattle.std.proofs.lemmas.Nat.{shr-shr, field_of, or_lt, and_le_l}
 use Rattle.std.proofs.lemmas.Nat.Bits.{bit_at_or, bit_at_and, bit_at-trailing_zeros}
 use Rattle.digit_literals.specs.Eight.{byte_of, AreBelow, spelt, number_of, written, IsWritten}
@@ -225,3 +226,79 @@ module _ (text : List ℕ) (at : ℕ) (within : at + 8 ≤ length text)
     digits = λ i l. omega (arith, bytes i l, below i l);
     is = is ∙ same_written _ _ count (λ i l. omega (arith, bytes i l));
   }
+
+-- ---- digits that are known
+
+-- of bytes that are digits, what is left without `0`
+known_below : (n k : ℕ) (b : ℕ → ℕ) (x c : ℕ) → k ≤ n → ((i : ℕ) → b i < 256)
+    → x + repeated 48 n ≡ spelt n b + c * 256 ^ n
+    → ((i : ℕ) → i < k → (48 ≤ b i) × (b i < 58))
+    → (i : ℕ) → i < k → byte_of x i < 10
+known_below n zero b x c few fit e digits i l = absurd (omega arith)
+known_below zero (suc k) b x c few fit e digits i l = absurd (omega arith)
+known_below (suc n) (suc k) b x c few fit e digits zero l =
+    let power : 256 ^ suc n ≡ 256 ^ n * 256 = simp unary_clauses refl in
+    let all : c * 256 ^ suc n ≡ c * 256 ^ n * 256 = ap (λ p. c * p) power ∙ grind arith in
+    omega (arith, e, all, digits 0 (omega arith))
+known_below (suc n) (suc k) b x c few fit e digits (suc i) l =
+    let power : 256 ^ suc n ≡ 256 ^ n * 256 = simp unary_clauses refl in
+    let all : c * 256 ^ suc n ≡ c * 256 ^ n * 256 = ap (λ p. c * p) power ∙ grind arith in
+    known_below n k (λ j. b (suc j)) (x / 256) c (omega arith) (λ j. fit (suc j))
+    (omega (arith, e, all, digits 0 (omega arith), fit 0))
+    (λ j m. digits (suc j) (omega (arith, m))) i (omega arith)
+
+pub known_digits : (text : List ℕ) (at word digits count : ℕ)
+    → ((i : ℕ) → slice_index text (at + i) < 256)
+    → word ≡ spelt 8 (λ i. slice_index text (at + i))
+    → digits ≡ (word + (2 ^ 64 - 0x3030_3030_3030_3030)) % 2 ^ 64 → count ≤ 8
+    → ((i : ℕ) → i < count
+    → (48 ≤ slice_index text (at + i)) × (slice_index text (at + i) < 58))
+    → (i : ℕ) → i < count → byte_of digits i < 10
+known_digits text at word digits count fit spells less few known =
+    let c = (digits + 0x3030_3030_3030_3030) / 2 ^ 64 in
+    let fits : word < 2 ^ 64 =
+    omega (arith, spells, fit 0, fit 1, fit 2, fit 3, fit 4, fit 5, fit 6, fit 7) in
+    let e : digits + repeated 48 8 ≡ spelt 8 (λ i. slice_index text (at + i)) + c * 256 ^ 8 =
+    omega (arith, less, fits) ∙ ap (λ w. w + c * 256 ^ 8) spells in
+    known_below 8 count (λ i. slice_index text (at + i)) digits c few fit e known
+
+-- the shift of `few_of`
+shift_is : (n x : ℕ) → 0 < n → n < 8
+    → x * 2 ^ (64 - 8 * n) % 2 ^ 64 ≡ x * 2 ^ 8 % 2 ^ 64 * 2 ^ (56 - 8 * n) % 2 ^ 64
+shift_is zero x some few = absurd (omega arith)
+shift_is (suc zero) x some few = omega arith
+shift_is (suc (suc zero)) x some few = omega arith
+shift_is (suc (suc (suc zero))) x some few = omega arith
+shift_is (suc (suc (suc (suc zero)))) x some few = omega arith
+shift_is (suc (suc (suc (suc (suc zero))))) x some few = omega arith
+shift_is (suc (suc (suc (suc (suc (suc zero)))))) x some few = omega arith
+shift_is (suc (suc (suc (suc (suc (suc (suc zero))))))) x some few = omega arith
+shift_is (suc (suc (suc (suc (suc (suc (suc (suc n)))))))) x some few = absurd (omega arith)
+
+-- all eight bytes
+all_eight : (x : ℕ) → x < 2 ^ 64 → ((i : ℕ) → i < 8 → byte_of x i < 10)
+    → AreBelow 10 8 x × (number_of (byte_of x) ≡ written (byte_of x) 8)
+all_eight x fits k =
+    let b0 : x % 256 < 10 = k 0 (omega arith) in
+    let b1 : x / 256 % 256 < 10 = k 1 (omega arith) in
+    let b2 : x / 256 / 256 % 256 < 10 = k 2 (omega arith) in
+    let b3 : x / 256 / 256 / 256 % 256 < 10 = k 3 (omega arith) in
+    let b4 : x / 256 / 256 / 256 / 256 % 256 < 10 = k 4 (omega arith) in
+    let b5 : x / 256 / 256 / 256 / 256 / 256 % 256 < 10 = k 5 (omega arith) in
+    let b6 : x / 256 / 256 / 256 / 256 / 256 / 256 % 256 < 10 = k 6 (omega arith) in
+    let b7 : x / 256 / 256 / 256 / 256 / 256 / 256 / 256 % 256 < 10 = k 7 (omega arith) in
+    let none : x / 256 / 256 / 256 / 256 / 256 / 256 / 256 / 256 ≡ 0 = omega (arith, fits) in
+    ((b0, (b1, (b2, (b3, (b4, (b5, (b6, (b7, none)))))))), omega arith)
+
+pub few_is : (n y x : ℕ) → 0 < n → n ≤ 8 → x < 2 ^ 64
+    → ((i : ℕ) → i < n → byte_of x i < 10) → y ≡ x * 2 ^ (64 - 8 * n) % 2 ^ 64
+    → AreBelow 10 8 y × (number_of (byte_of y) ≡ written (byte_of x) n)
+few_is n y x some few fits k is =
+    elim (cases_lt n 8) [
+      | inl l ↦ front_is n y x l k (is ∙ shift_is n x some l)
+      | inr l ↦
+          let eight : n ≡ 8 = omega (arith, l, few) in
+          let whole : y ≡ x =
+          is ∙ ap (λ j. x * 2 ^ (64 - 8 * j) % 2 ^ 64) eight ∙ omega (arith, fits) in
+          rw (whole, eight) (all_eight x fits (λ i s. k i (omega (arith, s, eight))))
+    ]

@@ -1,5 +1,5 @@
 -- Digits of a text, and the number that they write.
-use Rattle.std.proofs.Common.{◌≡◌, ℕ, zero, suc, ◌+◌, ◌-◌, ◌*◌, ◌^◌, ◌<◌, List, length, take, drop, refl, sym, ap, ◌∙◌, inl, inr, arith}
+use Rattle.std.proofs.Common.{◌≡◌, ℕ, zero, suc, ◌+◌, ◌-◌, ◌*◌, ◌^◌, ◌<◌, ◌≤◌, List, length, take, drop, refl, sym, ap, ◌∙◌, inl, inr, arith}
 use Rattle.std.specs.Prelude.{slice_index}
 use native.Mathlib.Numerals.{unary_clauses}
 use Rattle.std.proofs.lemmas.List.{length-take, length-drop, get_or-take, get_or-drop}
@@ -48,6 +48,15 @@ module _ (text : List ℕ) (start : ℕ) where
             ];
         is = is ∙ omega (arith, scaled, second.is, rest, sum) ∙ ap (written digit) (sym all);
       }
+
+-- sixteen digits, and up to three more
+pub few_thousands : (first scale n : ℕ) → first < 10 ^ 16 → n ≤ 3 → scale ≡ 10 ^ n
+    → first * scale < 10 ^ 19
+few_thousands first scale zero fits few is = rw is (omega (arith, fits))
+few_thousands first scale (suc zero) fits few is = rw is (omega (arith, fits))
+few_thousands first scale (suc (suc zero)) fits few is = rw is (omega (arith, fits))
+few_thousands first scale (suc (suc (suc zero))) fits few is = rw is (omega (arith, fits))
+few_thousands first scale (suc (suc (suc (suc n)))) fits few is = absurd (omega (arith, few))
 
 -- the last of eight
 pub last_written : (text : List ℕ) (end digits count value : ℕ) → end + 8 ≡ length text → count < 8

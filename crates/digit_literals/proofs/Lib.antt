@@ -30,5 +30,6 @@ pub mod EachByte
 pub mod PassedAll
 pub mod ListEnds
 pub mod Lists
+pub mod ByEnds
 pub mod Counts
 pub mod Written

@@ -1,8 +1,10 @@
 -- One turn of a loop that reads a list into a slice.
+pub use Rattle.digit_literals.specs.Lists.{SoFar}
 use Rattle.std.proofs.Common.{◌≡◌, ℕ, zero, suc, ◌+◌, ◌-◌, ◌<◌, ◌≤◌, List, [], ◌∷◌, ◌++◌, map, length, take, drop, ◌/◌, ◌%◌, ◌^◌, refl, sym, ◌∙◌, ap, ◌*◌, arith}
-use Rattle.std.specs.Prelude.{Bool, true, false, Option, Some, None, slice_get, ◌&&◌, ◌==◌, if◌then◌else◌, Result, Ok, Err, set}
+use Rattle.std.specs.Prelude.{Bool, true, false, nat_lt, Option, Some, None, slice_get, ◌&&◌, ◌==◌, if◌then◌else◌, Result, Ok, Err, set}
 use Rattle.std.proofs.lemmas.List.{take_more_set, drop-set-lt, drop-drop, length-set, map-append, append_assoc, length-map, length-take-le, append-nil}
-use Rattle.std.proofs.lemmas.Nat.{pow-add}
+use Rattle.std.proofs.lemmas.Bool.Decides.{nat_tests}
+use Rattle.std.proofs.lemmas.Nat.{pow-add, shr-shr}
 use Rattle.std.proofs.Math.Nat.{mod-add-div, add-mul-div_left, add-mul-mod_self_right, one-le-pow, pow-suc}
 use Rattle.lexical_format.specs.Word.{bit}
 use Rattle.lexical_digits.specs.ByteSet.{accepts}
@@ -46,6 +48,35 @@ low_bit n place l =
     let halves : n / 2 ^ place ≡ (n % 2 ^ 64) / 2 ^ place + 2 ^ more * q * 2 =
     ap (λ m. m / 2 ^ place) all ∙ add-mul-div_left (n % 2 ^ 64) (2 ^ more * q * 2) some in
     rw (halves, add-mul-mod_self_right ((n % 2 ^ 64) / 2 ^ place) (2 ^ more * q) 2) refl
+
+-- ten bits of which none is set
+ten_clear : (x k : ℕ) → k < 10 → x % 1024 ≡ 0 → x / 2 ^ k % 2 ≡ 0
+ten_clear x zero l e = omega (arith, e)
+ten_clear x (suc zero) l e = omega (arith, e)
+ten_clear x (suc (suc zero)) l e = omega (arith, e)
+ten_clear x (suc (suc (suc zero))) l e = omega (arith, e)
+ten_clear x (suc (suc (suc (suc zero)))) l e = omega (arith, e)
+ten_clear x (suc (suc (suc (suc (suc zero))))) l e = omega (arith, e)
+ten_clear x (suc (suc (suc (suc (suc (suc zero)))))) l e = omega (arith, e)
+ten_clear x (suc (suc (suc (suc (suc (suc (suc zero))))))) l e = omega (arith, e)
+ten_clear x (suc (suc (suc (suc (suc (suc (suc (suc zero)))))))) l e = omega (arith, e)
+ten_clear x (suc (suc (suc (suc (suc (suc (suc (suc (suc zero))))))))) l e = omega (arith, e)
+ten_clear x (suc (suc (suc (suc (suc (suc (suc (suc (suc (suc k)))))))))) l e =
+    absurd (omega (arith, l))
+
+-- no digit is among the blanks
+pub no_digit_is : (gap : Gap) → gap.blanks.low / 2 ^ 48 % 1024 ≡ 0
+    → (byte : ℕ) → 48 ≤ byte → byte < 58 → is_blank gap byte ≡ false
+no_digit_is gap none byte low high =
+    let k : ℕ = byte - 48 in
+    let there : 48 + k ≡ byte = omega (arith, low) in
+    let clear : gap.blanks.low / 2 ^ (48 + k) % 2 ≡ 0 =
+    ap (λ n. n % 2) (sym (shr-shr gap.blanks.low 48 k))
+    ∙ ten_clear (gap.blanks.low / 2 ^ 48) k (omega (arith, low, high)) none in
+    let here : gap.blanks.low / 2 ^ byte % 2 ≡ 0 = rw there at clear in
+    let off : bit gap.blanks.low byte ≡ false = rw here refl in
+    let small : nat_lt byte 128 ≡ true = grind (arith, nat_tests, high) in
+    rw (small, off) refl
 
 module _ {V A E : Type 0} (value : V → A) (one : ℕ → Result (A × ℕ) E) (position : E → ℕ)
     (gap : Gap) (text : List ℕ) where
@@ -116,15 +147,10 @@ module _ {V A E : Type 0} (value : V → A) (one : ℕ → Result (A × ℕ) E) 
 
   -- ---- a loop
 
-  -- before the turn with this index, which begins here: the slice has the first numbers, the text
-  -- from here on the others
-  pub record SoFar (start i at : ℕ) (old new : List V) : Type 0 where
-    pub numbers : map value (take i new) ++ (of (length old - i) at).0 ≡ (of (length old) start).0
-    pub end : (of (length old - i) at).1 ≡ (of (length old) start).1
-    pub rest : drop i new ≡ drop i old
-    pub same_length : length new ≡ length old
+  abbrev So : ℕ → ℕ → ℕ → List V → List V → Type 0
+  So = SoFar value one position gap text
 
-  pub turns_begin : (start : ℕ) (old : List V) → SoFar start 0 start old old
+  pub turns_begin : (start : ℕ) (old : List V) → So start 0 start old old
   turns_begin start old = let none : length old - 0 ≡ length old = omega arith in record {
     numbers = rw none refl;
     end = rw none refl;
@@ -147,7 +173,7 @@ module _ {V A E : Type 0} (value : V → A) (one : ℕ → Result (A × ℕ) E) 
         same_length = same;
       }
 
-  module _ (start i at : ℕ) (old new : List V) (so : SoFar start i at old new) where
+  module _ (start i at : ℕ) (old new : List V) (so : So start i at old new) where
     -- the slice is full
     pub turns_full : i ≡ length old
         → Fills value (of (length old) start) (record { count = i; end = Full at }) old new
@@ -195,7 +221,7 @@ module _ {V A E : Type 0} (value : V → A) (one : ℕ → Result (A × ℕ) E) 
 
         -- a number, and a separator after it
         pub turns_next : (end next : ℕ) → one (past_blanks gap text at) ≡ Ok (value x, end)
-            → next_after gap text end ≡ Ok next → SoFar start (i + 1) next old (set new i x)
+            → next_after gap text end ≡ Ok next → So start (i + 1) next old (set new i x)
         turns_next end next is more =
             let room' : ℕ = length old - (i + 1) in
             record {

@@ -1,12 +1,12 @@
 -- A text whose bytes from a start on are all decimal digits: its integer is the number that they
 -- write, and ends at the end.
-use Rattle.std.proofs.Common.{◌≡◌, ℕ, zero, suc, ◌+◌, ◌-◌, ◌<◌, ◌≤◌, true, false, List, length, take, drop, sym, ap, ◌∙◌, arith}
+use Rattle.std.proofs.Common.{◌≡◌, ℕ, zero, suc, ◌+◌, ◌-◌, ◌<◌, ◌≤◌, true, false, List, length, take, drop, sym, ap, ◌∙◌, inl, inr, arith}
 use Rattle.std.specs.Prelude.{slice_index, Some, Ok}
 use Rattle.std.specs.Str.Parse.{digits_value_after}
 use Rattle.std.proofs.lemmas.Bool.Decides.{nat_tests}
 use Rattle.lexical_format.specs.Digits.{digit_of_radix}
 use Rattle.lexical_digits.specs.declared.skip.rule.Rule.{Rule}
-use Rattle.lexical_digits.specs.Separators.{is_digit}
+use Rattle.lexical_digits.specs.Separators.{is_digit, is_separator}
 use Rattle.lexical_digits.specs.Stop.{stop}
 use Rattle.lexical_digits.proofs.Calls.FirstOther.{stop_is_first}
 use Rattle.digit_literals.specs.declared.slice.ReadTo.{ReadTo}
@@ -14,7 +14,8 @@ use Rattle.digit_literals.specs.After.{digits_between}
 use Rattle.digit_literals.specs.Integers.{integer_at}
 use Rattle.digit_literals.specs.Reads.{ArePlain, ReadsTo}
 use Rattle.digit_literals.specs.Eight.{written, IsWritten}
-use Rattle.digit_literals.proofs.Plain.{decimal}
+use Rattle.digit_literals.proofs.Plain.{decimal, lt_or_le}
+use Rattle.digit_literals.proofs.Passed.{byte_kept}
 use Rattle.digit_literals.proofs.Between.{none_between, one_more}
 use Rattle.digit_literals.proofs.ForCallers.{value_more}
 use Rattle.digit_literals.proofs.Texts.{integer_is}
@@ -95,35 +96,71 @@ module _ (rule : Rule) (text : List ℕ) (start : ℕ) (ten : rule.radix ≡ 10)
         are_digits (at - start),
       )
 
-  pub whole_is : start + count ≡ length text → 0 < count → (most : ℕ) → value ≤ most
-      → integer_at rule text start most ≡ Ok (value, length text)
-  whole_is there some most fits =
+  -- the stop is after them, where a byte is that is neither a digit nor the separator
+  stops_after : start + count < length text
+      → is_digit rule (slice_index text (start + count)) ≡ false
+      → is_separator rule.separator (slice_index text (start + count)) ≡ false
+      → (own : ℕ) → start + count ≡ stop rule text start own
+  stops_after inside other apart own =
+      let first = stop_is_first rule text start own (omega (arith, inside)) in
+      let at = stop rule text start own in
+      let end : ℕ = start + count in
+      let kept = byte_kept rule text start own end inside (λ k. grind (arith, apart, k)) in
+      let back : start + (at - start) ≡ at = omega (arith, first.onward) in
+      elim (lt_or_le at end) [
+        | inl sooner ↦
+            grind (
+              arith,
+              first.at (omega (arith, sooner, inside)),
+              ap (slice_index text) back,
+              are_digits (at - start) (omega (arith, sooner, first.onward)),
+            )
+        | inr late ↦
+            elim (lt_or_le end at) [
+              | inl later ↦ grind (arith, first.before end (omega arith) later kept, other)
+              | inr same ↦ omega (arith, late, same)
+            ]
+      ]
+
+  -- so their number is the integer, wherever the stop is after them
+  integer_to : 0 < count → ((own : ℕ) → start + count ≡ stop rule text start own) → (most : ℕ)
+      → value ≤ most → integer_at rule text start most ≡ Ok (value, start + count)
+  integer_to some stops most fits =
       let read : ReadTo = record {
         value = value;
         count = count;
-        end = length text;
+        end = start + count;
         is_too_large =
             false;
       } in
       let reads : ReadsTo rule text start 0 (Some value) read 0 =
       record {
-        onward = omega (arith, there);
-        within = omega arith;
-        digits =
-            sym (counted count (omega arith))
-            ∙ ap (λ k. length (digits_between rule text start k)) there;
+        onward = omega arith;
+        within = all.within;
+        digits = sym (counted count (omega arith));
         worth = record {
-          is =
-              all.is ∙ sym (worth count (omega arith))
-              ∙ ap (λ k. digits_value_after rule.radix 0 (digits_between rule text start k))
-              there;
+          is = all.is ∙ sym (worth count (omega arith));
           fits = omega arith;
         };
-        stops = λ _. ends there 0;
+        stops = λ _. stops 0;
         exceeds = λ large. grind (arith, large);
       } in
-      sym (integer_is rule text start value most (omega (arith, ten)) (omega (arith, there)) fits
-      read false reads (grind (arith, nat_tests, some)) (λ large. grind (arith, large)))
+      sym (integer_is rule text start value most (omega (arith, ten)) (omega (arith, all.within))
+      fits read false reads (grind (arith, nat_tests, some)) (λ large. grind (arith, large)))
+
+  pub whole_is : start + count ≡ length text → 0 < count → (most : ℕ) → value ≤ most
+      → integer_at rule text start most ≡ Ok (value, length text)
+  whole_is there some most fits =
+      integer_to some (λ own. there ∙ ends there own) most fits
+      ∙ ap (λ end. Ok (value, end)) there
+
+  pub number_is_plain : start + count < length text
+      → is_digit rule (slice_index text (start + count)) ≡ false
+      → is_separator rule.separator (slice_index text (start + count)) ≡ false
+      → 0 < count → (most : ℕ) → value ≤ most
+      → integer_at rule text start most ≡ Ok (value, start + count)
+  number_is_plain inside other apart some most fits =
+      integer_to some (stops_after inside other apart) most fits
 
 -- a number that was read off the rest of a text
 pub rest_is : (rule : Rule) (text : List ℕ) (start value most : ℕ) → rule.radix ≡ 10

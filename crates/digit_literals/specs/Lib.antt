@@ -3,6 +3,7 @@ pub mod Outcomes
 pub mod After
 pub mod Reads
 pub mod Eight
+pub mod Ends
 pub mod Groups
 pub mod Integers
 pub mod Hexadecimal

@@ -1,5 +1,5 @@
 -- Lists of numbers: what is between two of them, and what is read into a slice.
-use Rattle.std.specs.Prelude.{◌≡◌, ⊤, ℕ, zero, suc, ◌+◌, ◌==◌, Bool, not, ◌&&◌, nat_lt, if◌then◌else◌, List, [], ◌∷◌, ◌++◌, length, map, take, drop, take_while, slice_get, Result, Ok, Err}
+use Rattle.std.specs.Prelude.{◌≡◌, ⊤, ℕ, zero, suc, ◌+◌, ◌-◌, ◌==◌, Bool, not, ◌&&◌, nat_lt, if◌then◌else◌, List, [], ◌∷◌, ◌++◌, length, map, take, drop, take_while, slice_get, Result, Ok, Err}
 use Rattle.lexical_digits.specs.ByteSet.{accepts}
 use Rattle.lexical_digits.specs.Cursor.{holds_of}
 use Rattle.digit_literals.specs.declared.list.Gap.{Gap}
@@ -68,6 +68,18 @@ module _ {A E : Type 0} (one : ℕ → Result (A × ℕ) E) (position : E → �
   list_at (suc room) start =
       from_number (list_at room) (past_blanks gap text start)
       (one (past_blanks gap text start))
+
+-- Of a loop that no caller sees: before the turn with this index, which begins here, the slice has
+-- the first numbers, and the text from here on the others. No public clause uses this word.
+module _ {V A E : Type 0} (value : V → A) (one : ℕ → Result (A × ℕ) E) (position : E → ℕ)
+    (gap : Gap) (text : List ℕ) where
+  pub record SoFar (start i at : ℕ) (old new : List V) : Type 0 where
+    pub numbers : map value (take i new) ++ (list_at one position gap text (length old - i) at).0
+        ≡ (list_at one position gap text (length old) start).0
+    pub end : (list_at one position gap text (length old - i) at).1
+        ≡ (list_at one position gap text (length old) start).1
+    pub rest : drop i new ≡ drop i old
+    pub same_length : length new ≡ length old
 
 -- the front of a slice has these numbers, and its rest is what it was
 pub record Fills {V A E : Type 0} (value : V → A) (list : Numbers A E) (read : ListRead E)

@@ -3,6 +3,7 @@
 ghost use Rattle.std.specs.Prelude.{◌≡◌, ℕ, ◌+◌, ◌-◌, ◌*◌, ◌/◌, ◌^◌, ◌<◌, ◌≤◌, length, slice_index, true, None, Some, IfSome};
 ghost use Rattle.std.specs.Int.{trailing_zeros, w64};
 ghost use Rattle.digit_literals.specs.Eight.{AreBelow, byte_of, spelt, number_of, written, AreDigits, IsWritten};
+ghost use Rattle.digit_literals.specs.Ends.{AreDecimal};
 ghost use Rattle.digit_literals.specs.Reads.{ArePlain};
 
 use super::wide::ten_to;
@@ -150,6 +151,32 @@ fn first_of(digits: u64, count: u32) -> u64
     value_of((digits << 8) << (56 - 8 * count))
 }
 
+/// The number that the first of eight digits write, whatever the others are. There is one at least.
+#[inline(always)]
+fn few_of(digits: u64, count: u32) -> u64
+    requires some { 0 < count }
+    requires few { count ≤ 8 }
+    requires below { (i : ℕ) → i < count → byte_of digits i < 10 }
+    ensures is { result ≡ written (byte_of digits) count }
+    ensures below { result < 10 ^ 8 }
+{
+    value_of(digits << (64 - 8 * count))
+}
+
+/// The number that so many decimal digits write, from 1 to 8.
+#[inline(always)]
+pub(super) fn few_at(text: &[u8], at: usize, count: usize) -> u64
+    requires within { at + 8 ≤ length text.now }
+    requires some { 0 < count }
+    requires few { count ≤ 8 }
+    requires digits { AreDecimal text.now at count }
+    ensures is { IsWritten text.now at count result }
+    ensures below { result < 10 ^ 8 }
+{
+    let digits = word_at(text, at).wrapping_sub(0x3030_3030_3030_3030);
+    few_of(digits, count as u32)
+}
+
 /// The decimal digits that eight bytes begin with.
 #[derive(Clone, Copy)]
 struct Front {
@@ -241,6 +268,45 @@ fn join(value: u64, next: Front) -> u64
     ensures below { result < 10 ^ 16 }
 {
     value * small_ten_to(next.count) + next.value
+}
+
+/// The number that so many decimal digits write, from 9 to 16.
+#[inline(always)]
+fn many_at(text: &[u8], at: usize, count: usize) -> u64
+    requires within { at + 16 ≤ length text.now }
+    requires more { 8 < count }
+    requires few { count ≤ 16 }
+    requires digits { AreDecimal text.now at count }
+    ensures is { IsWritten text.now at count result }
+    ensures below { result < 10 ^ 16 }
+{
+    let first = few_at(text, at, 8);
+    let rest = count - 8;
+    let value = few_at(text, at + 8, rest);
+    join(first, Front { value, count: rest })
+}
+
+/// The number that so many decimal digits write, from 1 to 19. No branch but those by eight and
+/// sixteen depends on how many there are.
+#[inline(always)]
+pub(super) fn value_at(text: &[u8], at: usize, count: usize) -> u64
+    requires within { at + 24 ≤ length text.now }
+    requires some { 0 < count }
+    requires few { count ≤ 19 }
+    requires digits { AreDecimal text.now at count }
+    ensures is { IsWritten text.now at count result }
+    ensures eight { count ≤ 8 → result < 10 ^ 8 }
+    ensures sixteen { count ≤ 16 → result < 10 ^ 16 }
+{
+    if count <= 8 {
+        return few_at(text, at, count);
+    }
+    if count <= 16 {
+        return many_at(text, at, count);
+    }
+    let first = many_at(text, at, 16);
+    let rest = count - 16;
+    first * small_ten_to(rest) + few_at(text, at + 16, rest)
 }
 
 /// The number that a text of at most seven bytes is, if all are decimal digits. It is only for

@@ -16,6 +16,7 @@ ghost use Rattle.digit_literals.specs.Outcomes.{ReadsAll, FindsNone, PassesMost}
 mod bytes;
 mod component;
 mod eight;
+mod ends;
 pub mod equality;
 mod exactly;
 mod first;

@@ -1,16 +1,17 @@
 //! Lists of numbers, which are read into a slice.
 
-ghost use Rattle.std.specs.Prelude.{◌≡◌, ◌+◌, ◌-◌, ◌<◌, ◌≤◌, length, take_while, true, IfOk, IfErr, IsTrue};
+ghost use Rattle.std.specs.Prelude.{◌≡◌, ℕ, List, ◌+◌, ◌-◌, ◌<◌, ◌≤◌, length, take_while, true, false, IfOk, IfErr, IsTrue};
 ghost use Rattle.lexical_format.specs.Word.{is_supported};
 ghost use Rattle.lexical_digits.specs.declared.skip.component.Component.TheVariants.{Integer};
 ghost use Rattle.lexical_digits.specs.ByteSet.{accepts};
 ghost use Rattle.lexical_digits.specs.State.{rule_of};
 ghost use Rattle.digit_literals.specs.Errors.{literal_position};
-ghost use Rattle.digit_literals.specs.Lists.{is_blank, has_blank, has_separator, past_blanks, next_after, no_number, list_at, Fills, IfFull, IfOver};
+ghost use Rattle.digit_literals.specs.Lists.{is_blank, has_blank, has_separator, past_blanks, next_after, no_number, list_at, SoFar, Fills, IfFull, IfOver};
 ghost use Rattle.digit_literals.specs.Numbers.{number_at};
 
 use super::LiteralError;
 use super::bytes::{BLANKS, accepts};
+use super::ends::{are_next_short, read_by_ends};
 use super::number::{Integer, read_number_from};
 use lexical_digits::ops::ByteSet;
 
@@ -110,6 +111,16 @@ impl Gap {
         accepts(self.blanks, byte) && !accepts(self.separators, byte)
     }
 
+    /// Whether a digit may be a blank.
+    #[inline(always)]
+    #[tactic(auto, using(crate::proofs::Lists::no_digit_is))]
+    pub(super) fn has_digits(self) -> bool
+        ensures { result ≡ false → (byte : ℕ) → 48 ≤ byte → byte < 58
+            → is_blank self byte ≡ false }
+    {
+        (self.blanks.low >> 48) % 1024 != 0
+    }
+
     /// How many blanks a text begins with.
     #[inline(always)]
     fn count_blanks(self, text: &[u8]) -> usize
@@ -176,7 +187,7 @@ impl Gap {
 
     /// Whether a separator is at a position.
     #[inline(always)]
-    fn has_separator(self, text: &[u8], at: usize) -> bool
+    pub(super) fn has_separator(self, text: &[u8], at: usize) -> bool
         ensures is { result ≡ has_separator self text.now at }
         ensures within { result ≡ true → at < length text.now }
     {
@@ -197,6 +208,75 @@ impl Gap {
             ListEnd::Fault(error)
         }
     }
+}
+
+/// How many numbers of a list are read one by one before their ends are looked for: a short list
+/// gains nothing by that.
+const FEW: usize = 8;
+
+/// How many places a slice has at least, if the ends of more than a few are looked for.
+const MANY: usize = 128;
+
+/// How many short numbers are read one by one before the next ones are looked at.
+const SHORT: usize = 64;
+
+/// Reads the numbers of a list from `begin` on one by one, up to `to` of them. `from` are in the
+/// slice. Where the next one may be, or why there are no more.
+#[inline(always)]
+#[tactic(auto, using(crate::proofs::Lists::turns))]
+fn read_some<T: Integer>(
+    text: &[u8],
+    begin: usize,
+    word: u128,
+    gap: Gap,
+    out: &mut [T],
+    from: usize,
+    to: usize,
+) -> Result<usize, ListRead<LiteralError>>
+    requires supported { IsTrue (is_supported word) }
+    requires within { begin ≤ length text.now }
+    requires some { from ≤ to }
+    requires room { to ≤ length out.old }
+    ensures so { let one = number_at T.MIN_MAGNITUDE T.MAX (rule_of word Integer) text.now in
+        IfOk result (λ next. (start : ℕ) (old : List T)
+        → SoFar T.number one literal_position gap text.now start from begin old out.old
+        → SoFar T.number one literal_position gap text.now start to next old out.new) }
+    ensures fills { let one = number_at T.MIN_MAGNITUDE T.MAX (rule_of word Integer) text.now in
+        IfErr result (λ read. (start : ℕ) (old : List T)
+        → SoFar T.number one literal_position gap text.now start from begin old out.old
+        → Fills T.number (list_at one literal_position gap text.now (length old) start) read old
+        out.new) }
+    ensures onward { IfOk result (λ next. begin ≤ next) }
+    ensures within { IfOk result (λ next. next ≤ length text.now) }
+    ensures count { IfErr result (λ read. read.count ≤ to) }
+    ensures full { IfErr result (λ read.
+        IfFull read.end (λ at. (begin ≤ at) × (at ≤ length text.now))) }
+    ensures over { IfErr result (λ read.
+        IfOver read.end (λ at. (begin ≤ at) × (at ≤ length text.now))) }
+    ensures length { length out.new ≡ length out.old }
+{
+    let mut at = begin;
+    for count in from..to {
+        let place = gap.past_blanks(text, at);
+        let (value, end) = match read_number_from::<T>(text, word, place) {
+            Ok(read) => read,
+            Err(error) => {
+                let end = gap.no_number(place, error.position(), error);
+                return Err(ListRead { count, end });
+            }
+        };
+        out[count] = value;
+        match gap.next_after(text, end) {
+            Ok(next) => at = next,
+            Err(over) => {
+                return Err(ListRead {
+                    count: count + 1,
+                    end: ListEnd::Over(over),
+                });
+            }
+        }
+    }
+    Ok(at)
 }
 
 /// The numbers of a type from `start` on, read into a slice: each as by [`read_number_from`], with
@@ -236,28 +316,27 @@ pub fn read_list<T: Integer>(
     ensures over { IfOver result.end (λ at. (start ≤ at) × (at ≤ length text.now)) }
 {
     let mut at = start;
-    for count in 0..out.len() {
-        let place = gap.past_blanks(text, at);
-        let (value, end) = match read_number_from::<T>(text, word, place) {
-            Ok(read) => read,
-            Err(error) => {
-                let end = gap.no_number(place, error.position(), error);
-                return ListRead { count, end };
-            }
-        };
-        out[count] = value;
-        match gap.next_after(text, end) {
+    let mut count = 0;
+    let mut to = if out.len() < MANY { out.len() } else { FEW };
+    loop {
+        match read_some(text, at, word, gap, out, count, to) {
             Ok(next) => at = next,
-            Err(over) => {
-                return ListRead {
-                    count: count + 1,
-                    end: ListEnd::Over(over),
-                };
-            }
+            Err(read) => return read,
         }
-    }
-    ListRead {
-        count: out.len(),
-        end: ListEnd::Full(at),
+        if to == out.len() {
+            return ListRead {
+                count: to,
+                end: ListEnd::Full(at),
+            };
+        }
+        if are_next_short(text, at) {
+            count = to;
+            to += SHORT.min(out.len() - to);
+            continue;
+        }
+        let went = read_by_ends(text, at, word, gap, out, to);
+        at = went.at;
+        count = went.count;
+        to = went.to;
     }
 }

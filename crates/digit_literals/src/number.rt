@@ -32,7 +32,7 @@ struct Head {
 
 /// The greatest magnitude of a type, with or without a `-`.
 #[inline(always)]
-fn greatest<T: Integer>(has_minus: bool) -> u128
+pub(super) fn greatest<T: Integer>(has_minus: bool) -> u128
     ensures { result ≡ (if has_minus then T.MIN_MAGNITUDE else T.MAX) }
 {
     if has_minus { T::MIN_MAGNITUDE } else { T::MAX }

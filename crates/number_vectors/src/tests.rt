@@ -6,6 +6,7 @@ ghost use Rattle.lexical_digits.specs.State.{start};
 
 mod bounds;
 mod decimals;
+mod ends;
 mod every_byte;
 mod few_digits;
 mod floats;

@@ -1,28 +1,31 @@
-use Rattle.std.proofs.Common.{refl, sym, arith}
+use Rattle.std.proofs.Common.{sym, ◌∙◌, arith}
+use Rattle.std.proofs.lemmas.List.{length-set}
 use Rattle.lexical_digits.specs.declared.skip.component.Component.TheVariants.{Integer}
 use Rattle.lexical_digits.specs.State.{rule_of}
 use Rattle.digit_literals.specs.Errors.{literal_position}
 use Rattle.digit_literals.specs.Numbers.{number_at}
 use Rattle.digit_literals.proofs.Lists.{turns_none, turns_next, turns_over}
-use Rattle.digit_literals.proofs.list.read_list.Goals as goal
+use Rattle.digit_literals.proofs.list.read_some.Goals as goal
 
-pub returns-in-Err-clause-is : goal.returns-in-Err-clause-is
-returns-in-Err-clause-is g c =
+pub returns-in-Err-clause-fills : goal.returns-in-Err-clause-fills
+returns-in-Err-clause-fills g c = λ start old begins.
     let t = g.T.Integer in
+    let so = c.loop-count.invariant.so start old begins in
     rw (c.no_number-end.ensures, c.position.ensures, c.past_blanks-place.ensures.is)
     (turns_none t.number
     (number_at t.MIN_MAGNITUDE t.MAX (rule_of c.args.word Integer) c.args.text.now)
-    literal_position c.args.gap c.args.text.now c.args.start c.loop-count.count c.loop-count.at
-    c.args.out.now c.loop-count.out c.loop-count.invariant.so (omega arith) c.in-Err.error
+    literal_position c.args.gap c.args.text.now start c.loop-count.count c.loop-count.at
+    old c.loop-count.out so (omega (arith, so.same_length)) c.in-Err.error
     (rw c.past_blanks-place.ensures.is at c.in-Err.ensures.is))
 
-pub returns-in-Err-next_after-clause-is : goal.returns-in-Err-next_after-clause-is
-returns-in-Err-next_after-clause-is g c =
+pub returns-in-Err-next_after-clause-fills : goal.returns-in-Err-next_after-clause-fills
+returns-in-Err-next_after-clause-fills g c = λ start old begins.
     let t = g.T.Integer in
+    let so = c.loop-count.invariant.so start old begins in
     turns_over t.number
     (number_at t.MIN_MAGNITUDE t.MAX (rule_of c.args.word Integer) c.args.text.now)
-    literal_position c.args.gap c.args.text.now c.args.start c.loop-count.count c.loop-count.at
-    c.args.out.now c.loop-count.out c.loop-count.invariant.so (omega arith) c.in-Ok.read.0
+    literal_position c.args.gap c.args.text.now start c.loop-count.count c.loop-count.at
+    old c.loop-count.out so (omega (arith, so.same_length)) c.in-Ok.read.0
     c.in-Ok.read.1 c.in-Err-next_after.over
     (rw c.past_blanks-place.ensures.is at c.in-Ok.ensures.is)
     (sym c.in-Err-next_after.ensures.is)
@@ -31,11 +34,13 @@ pub loop-count-preserved : goal.loop-count-preserved
 loop-count-preserved g c =
     let t = g.T.Integer in
     record {
-      so = turns_next t.number
+      so = λ start old begins.
+          let so = c.loop-count.invariant.so start old begins in
+          turns_next t.number
           (number_at t.MIN_MAGNITUDE t.MAX (rule_of c.args.word Integer) c.args.text.now)
-          literal_position c.args.gap c.args.text.now c.args.start c.loop-count.count
+          literal_position c.args.gap c.args.text.now start c.loop-count.count
           c.loop-count.at
-          c.args.out.now c.loop-count.out c.loop-count.invariant.so (omega arith) c.in-Ok.read.0
+          old c.loop-count.out so (omega (arith, so.same_length)) c.in-Ok.read.0
           c.in-Ok.read.1 c.in-Ok-next_after.next
           (rw c.past_blanks-place.ensures.is at c.in-Ok.ensures.is)
           (sym c.in-Ok-next_after.ensures.is);
@@ -47,5 +52,5 @@ loop-count-preserved g c =
         c.in-Ok-next_after.ensures.onward,
       );
       within = c.in-Ok-next_after.ensures.within;
-      room = refl;
+      same = length-set _ _ _ ∙ c.loop-count.invariant.same;
     }

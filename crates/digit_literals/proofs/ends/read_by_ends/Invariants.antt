@@ -1,0 +1,23 @@
+use Rattle.std.proofs.Common.{◌≡◌, ◌≤◌, ℕ, List, length}
+use Rattle.lexical_digits.specs.declared.skip.component.Component.TheVariants.{Integer}
+use Rattle.lexical_digits.specs.State.{rule_of}
+use Rattle.digit_literals.specs.Ends.{AreOthers}
+use Rattle.digit_literals.specs.Errors.{literal_position}
+use Rattle.digit_literals.specs.Lists.{SoFar}
+use Rattle.digit_literals.specs.Numbers.{number_at}
+use Rattle.digit_literals.proofs.ends.read_by_ends.Given as goal
+
+abbrev pub invariant-loop-count : goal.invariant-loop-count
+invariant-loop-count g l =
+    let t = g.T.Integer in
+    let one = number_at t.MIN_MAGNITUDE t.MAX (rule_of l.word Integer) l.text in
+    record {
+      so : (begin : ℕ) (old : List _)
+          → SoFar t.number one literal_position l.gap l.text begin l.from l.start old l.initial.out
+          → SoFar t.number one literal_position l.gap l.text begin l.count l.at old l.out;
+      others : AreOthers l.text l.at l.rest;
+      onward : l.start ≤ l.at;
+      within : l.at ≤ length l.text;
+      room : l.count-end ≡ length l.initial.out;
+      same : length l.out ≡ length l.initial.out;
+    }
