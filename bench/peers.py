@@ -81,8 +81,13 @@ def cells(row, sides):
 
 
 def time(row, sides):
-    """The ratio of the library's time to the fastest that does the same work."""
-    return ratio(min(sides[LIBRARY]), best(row, sides, min, False)) if sides else "–"
+    """The ratio of the library's time to the fastest that does the same work, in each run."""
+    if not sides:
+        return "–"
+    runs = range(min(len(it) for it in sides.values()))
+    peers = [best(row, sides, lambda it: it[run], False) for run in runs]
+    ratios = ", ".join(f"{sides[LIBRARY][run] / peers[run][0]:.2f}" for run in runs)
+    return f"{ratios} {peers[0][1]}"
 
 
 def peers():
@@ -96,7 +101,8 @@ def peers():
              "the library and of the first peer")
     if times.rows:
         head.append("time")
-        words += "; the ratio of the time to the fastest peer that does the same work"
+        words += ("; the ratio of the time to the fastest peer that does the same work, in two "
+                  "runs on a quiet machine")
         for line in body:
             line.append(time(line[0], times.rows.get(line[0])))
     told = "; ".join(f"{side}: {it}" for (row, side), it in LESS.items() if it != "the same")

@@ -1,5 +1,6 @@
 mod AsStd
 mod Between
+mod Bits
 pub mod Bytes
 mod Cut
 mod CutOff
@@ -19,7 +20,7 @@ mod Outcomes
 mod Plains
 mod Product
 mod Rows
-mod Signs
+pub mod Signs
 mod Squeeze
 mod Tens
 mod Units

@@ -2,7 +2,7 @@
 use Rattle.std.proofs.Common.{◌≡◌, ℕ, zero, suc, ◌+◌, ◌*◌, ◌^◌, Bool, true, false, refl, sym, ap, ◌∙◌}
 use lib.Dec.{ltb}
 use mathlib.Core.Bool.{cond}
-use lib.Ieee.{Format, inf, emax, low, prec, odd, units, round, neg}
+use lib.Ieee.{Float, Format, inf, emax, low, prec, odd, units, round, neg}
 use lib.Ieee.Fits.{round_is}
 
 odd_neg : (d q k l : ℕ) → neg (odd d false q k l) ≡ odd d true q k l
@@ -21,3 +21,9 @@ units_neg f q k = go (ltb (q * 2 ^ k) (2 ^ (low f + suc (emax f))))
 
 pub round_neg : (f : Format) (a b : ℕ) → neg (round f false a b) ≡ round f true a b
 round_neg f a b = ap neg (round_is f false a b) ∙ units_neg f _ _ ∙ sym (round_is f true a b)
+
+-- and a float with the other sign, where that is asked for
+pub round_neg_if : (f : Format) (b : Bool) (x y : Float) (m n : ℕ) → y ≡ cond b (neg x) x
+    → x ≡ round f false m n → y ≡ round f b m n
+round_neg_if f true x y m n e is = e ∙ ap neg is ∙ round_neg f m n
+round_neg_if f false x y m n e is = e ∙ is

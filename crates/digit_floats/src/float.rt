@@ -1,8 +1,8 @@
 //! `f64` and `f32`: what rounding asks of a type of floats.
 
-ghost use Rattle.std.specs.Prelude.{◌≡◌, ◌+◌, ◌-◌, ◌<◌, ◌≤◌, ◌*◌, ◌^◌, ℕ, false, IfSome, Some, None, MatchOption};
+ghost use Rattle.std.specs.Prelude.{◌≡◌, ◌+◌, ◌-◌, ◌<◌, ◌≤◌, ◌*◌, ◌^◌, ℕ, false, if◌then◌else◌, IfSome, Some, None, MatchOption};
 ghost use Rattle.std.specs.Float as Ieee;
-ghost use Rattle.std.specs.Float.{Format, inf, nan, binary32, binary64};
+ghost use Rattle.std.specs.Float.{Format, NotNan, inf, nan, binary32, binary64};
 ghost use Rattle.std.specs.Float.Ieee.{prec, low, neg, round, units};
 ghost use Rattle.std.specs.Float.Parse.{parse_float as std_float};
 
@@ -32,6 +32,15 @@ pub trait Float: Copy {
     /// The float with the other sign.
     fn negated(self) -> Self
         ensures { value result ≡ neg (value self) };
+
+    /// The float, with the other sign if `negative`. It must be a number.
+    #[inline(always)]
+    fn negated_if(self, negative: bool) -> Self
+        requires number { NotNan (value self) }
+        ensures { value result ≡ (if negative then neg (value self) else value self) }
+    {
+        if negative { self.negated() } else { self }
+    }
 
     /// How many binary digits a float has.
     fn precision() -> u64
@@ -90,6 +99,12 @@ impl Float for f64 {
     #[inline(always)]
     fn negated(self) -> f64 {
         -self
+    }
+
+    #[inline(always)]
+    fn negated_if(self, negative: bool) -> f64 {
+        // the sign is the top bit: no branch depends on it
+        f64::from_bits(self.to_bits().wrapping_add(u64::from(negative) << 63))
     }
 
     #[inline(always)]
@@ -153,6 +168,12 @@ impl Float for f32 {
     #[inline(always)]
     fn negated(self) -> f32 {
         -self
+    }
+
+    #[inline(always)]
+    fn negated_if(self, negative: bool) -> f32 {
+        // the sign is the top bit: no branch depends on it
+        f32::from_bits(self.to_bits().wrapping_add(u32::from(negative) << 31))
     }
 
     #[inline(always)]

@@ -51,6 +51,25 @@ pub fn read_sign(text: &[u8], at: usize) -> (bool, usize)
     }
 }
 
+/// [`read_sign`], by no branch that depends on a minus. It is only for speed, of a number after
+/// which none is read (the peers' row of coordinates).
+#[inline(always)]
+pub fn pass_sign(text: &[u8], at: usize) -> (bool, usize)
+    requires { at ≤ length text.now }
+    ensures minus { result.0 ≡ stands is_minus text.now at }
+    ensures after { result.1 ≡ past_sign text.now at }
+    ensures within { result.1 ≤ length text.now }
+{
+    let Some(byte) = text.get(at) else {
+        return (false, at);
+    };
+    if *byte == b'+' {
+        return (false, at + 1);
+    }
+    let is_minus = *byte == b'-';
+    (is_minus, at + usize::from(is_minus))
+}
+
 /// Whether the mark of an exponent is at a position.
 #[inline(always)]
 pub fn has_mark(text: &[u8], at: usize, mark: u8) -> bool
@@ -58,7 +77,8 @@ pub fn has_mark(text: &[u8], at: usize, mark: u8) -> bool
     ensures within { result ≡ true → at < length text.now }
 {
     match text.get(at) {
-        Some(byte) => *byte == mark || *byte == mark.to_ascii_uppercase(),
+        // `|`, so that no branch depends on which case is there
+        Some(byte) => (*byte == mark) | (*byte == mark.to_ascii_uppercase()),
         None => false,
     }
 }
@@ -485,21 +505,30 @@ pub fn read_parts(
     }
 }
 
-/// [`read_parts`] of a number whose integer has a digit, where integer and fraction have at most 19
-/// digits, an exponent has 1 to 19, and no separator is met. Otherwise it answers `None`. It is
-/// small, and calls nothing.
+/// [`read_parts`] of a number whose sign was read, and whose integer has a digit, where integer and
+/// fraction have at most 19 digits, an exponent has 1 to 19, and no separator is met. Otherwise it
+/// answers `None`. It is small, and calls nothing.
 #[inline(always)]
-pub fn read_short_parts(text: &[u8], word: u128, marks: Marks, start: usize) -> Option<Parts>
+pub fn read_short_parts(
+    text: &[u8],
+    word: u128,
+    marks: Marks,
+    start: usize,
+    sign: (bool, usize),
+) -> Option<Parts>
     requires supported { IsTrue (is_supported word) }
     requires decimal { IsDecimal word }
     requires within { start ≤ length text.now }
+    requires minus { sign.0 ≡ stands is_minus text.now start }
+    requires after { sign.1 ≡ past_sign text.now start }
+    requires digits { sign.1 ≤ length text.now }
     ensures ends { IfSome result (λ p. end_at word text.now marks start ≡ Ok p.power.end) }
     ensures is { IfSome result (IsParts word text.now marks start) }
     ensures few { IfSome result (λ p. p.mantissa.dropped ≡ 0) }
     ensures within { IfSome result (λ p.
         (start < p.power.end) × (p.power.end ≤ length text.now)) }
 {
-    let (negative, at) = read_sign(text, start);
+    let (negative, at) = sign;
     let whole = read_short_whole(text, word, at)?;
     let mantissa = read_short_fraction(text, word, whole, marks.point)?;
     let power = read_short_power(text, word, mantissa.end, marks.exponent)?;

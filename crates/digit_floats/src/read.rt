@@ -7,8 +7,8 @@ ghost use Rattle.digit_floats.specs.Float.{IsDecimal, plain_marks, read_at, pars
 
 use super::error::FloatError;
 use super::float::Float;
-use super::parts::{Marks, Parts, read_parts, read_short_parts};
-use super::round::{round_parts, round_short};
+use super::parts::{Marks, Parts, pass_sign, read_parts, read_short_parts, read_sign};
+use super::round::{round_parts, round_short, round_unsigned};
 use lexical_digits::skip::{Component, Rule};
 
 /// [`read_float_from`], whatever the number is. In code of its own, so that the one of a short
@@ -116,13 +116,46 @@ pub fn read_float_from<F: Float>(
     ensures onward { IfOk result (λ r. start < r.1) }
     ensures within { IfOk result (λ r. r.1 ≤ length text.now) }
 {
-    if let Some(parts) = read_short_parts(text, word, Marks::PLAIN, start) {
+    let sign = read_sign(text, start);
+    if let Some(parts) = read_short_parts(text, word, Marks::PLAIN, start, sign) {
         let Parts {
             negative,
             mantissa,
             power,
         } = parts;
         if let Some(x) = round_short::<F>(text, negative, mantissa, power) {
+            return Ok((x, power.end));
+        }
+    }
+    read_float_rest::<F>(text, word, start)
+}
+
+/// [`read_float_from`] of a number after which none is read: no branch depends on its minus. Within
+/// a text a sign that is guessed costs less: the place of the next number doesn't wait for it.
+#[inline(always)]
+#[tactic(auto, using(crate::proofs::Numbers::round_number))]
+fn read_last_float<F: Float>(
+    text: &[u8],
+    word: u128,
+    start: usize,
+) -> Result<(F, usize), FloatError>
+    requires supported { IsTrue (is_supported word) }
+    requires decimal { IsDecimal word }
+    requires within { start ≤ length text.now }
+    ensures reads { MatchResult result
+        (λ r. read_at word text.now plain_marks F.format start ≡ Ok (F.value r.0, r.1))
+        (λ error. read_at word text.now plain_marks F.format start ≡ Err error) }
+    ensures no_nan { IfOk result (λ r. NotNan (F.value r.0)) }
+    ensures within { IfOk result (λ r. r.1 ≤ length text.now) }
+{
+    let sign = pass_sign(text, start);
+    if let Some(parts) = read_short_parts(text, word, Marks::PLAIN, start, sign) {
+        let Parts {
+            negative,
+            mantissa,
+            power,
+        } = parts;
+        if let Some(x) = round_unsigned::<F>(text, negative, mantissa, power) {
             return Ok((x, power.end));
         }
     }
@@ -155,7 +188,7 @@ pub fn parse_float_from<F: Float>(text: &[u8], word: u128, start: usize) -> Resu
         (λ error. parse_at word text.now plain_marks F.format start ≡ Err error) }
     ensures no_nan { IfOk result (λ x. NotNan (F.value x)) }
 {
-    let (x, end) = read_float_from::<F>(text, word, start)?;
+    let (x, end) = read_last_float::<F>(text, word, start)?;
     if end < text.len() {
         return Err(FloatError::Invalid(end));
     }

@@ -108,6 +108,30 @@ pub fn round_short<F: Float>(
     }
 }
 
+/// [`round_short`], by no branch that depends on the sign. It is only for speed, where no branch
+/// before depends on it.
+#[inline(always)]
+pub fn round_unsigned<F: Float>(
+    text: &[u8],
+    negative: bool,
+    mantissa: Mantissa,
+    power: Power,
+) -> Option<F>
+    requires is { IsMantissa text.now mantissa }
+    requires few { mantissa.dropped ≡ 0 }
+    ensures value { IfSome result (λ x. (n : ℕ) → power.value ≡ min n (2 ^ 64 - 1)
+        → F.value x ≡ round F.format negative
+        (digits_value 10 (integer_of text.now mantissa ++ fraction_of text.now mantissa)
+        * 10 ^ (if power.negative then 0 else n))
+        (10 ^ (mantissa.places + (if power.negative then n else 0)))) }
+    ensures no_nan { IfSome result (λ x. NotNan (F.value x)) }
+{
+    match round_short::<F>(text, false, mantissa, power) {
+        Some(x) => Some(x.negated_if(negative)),
+        None => None,
+    }
+}
+
 /// [`round_parts`] of a number that no product tells, in code of its own.
 #[cold]
 #[inline(never)]
