@@ -104,6 +104,3 @@ module _ (p : ℕ → Bool) (text : List ℕ) where
   sure_stays one follows more start l =
       let last : ℕ = sure_end p text - 1 in
       follows (text ++ more) text last start (sure_same more last (omega arith)) (omega arith)
-
--- what `sure_end` promises
-pub ruleset sure = (sure_within, sure_ends, sure_last)

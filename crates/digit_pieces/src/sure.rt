@@ -13,7 +13,6 @@ use super::kind::Kind;
 /// `1.5,-2` as floats: 4, after the comma      `12` : 0      `1 2 ` : 4
 /// ```
 #[inline]
-#[tactic(auto, using(crate::proofs::SureEnds::sure))]
 pub fn sure_end<K: Kind>(kind: K, text: &[u8]) -> usize
     ensures is { result ≡ sure_end (K.has_byte kind) text.now }
     ensures within { result ≤ length text.now }
