@@ -64,11 +64,9 @@ fn is_same<T: Integer + PartialEq>(
     let mut by_ends = [fill; 160];
     let expected = read_alone::<T>(rt, text, word, gap, &mut alone);
     let read = read_list::<T>(text, 0, word, gap, &mut by_ends);
-    let mut same = read == expected;
-    for i in 0..160 {
-        same = same && alone[i] == by_ends[i];
-    }
-    same
+    let alone = &alone[..];
+    let by_ends = &by_ends[..];
+    read == expected && alone == by_ends
 }
 
 /// Whether the lists of each type are the same both ways.
