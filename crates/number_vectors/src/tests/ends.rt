@@ -51,36 +51,33 @@ fn read_alone<T: Integer>(
     }
 }
 
-/// Whether a list of a text is the same both ways, in 160 places that hold `fill`.
+/// Whether a list of a text is the same both ways, in two slices.
 fn is_same<T: Integer + PartialEq>(
     rt: &impl Abort,
     text: &[u8],
     word: u128,
     gap: Gap,
-    fill: T,
+    alone: &mut [T],
+    by_ends: &mut [T],
 ) -> bool {
     assert!(rt; is_supported(word));
-    let mut alone = [fill; 160];
-    let mut by_ends = [fill; 160];
-    let expected = read_alone::<T>(rt, text, word, gap, &mut alone);
-    let read = read_list::<T>(text, 0, word, gap, &mut by_ends);
-    let alone = &alone[..];
-    let by_ends = &by_ends[..];
-    read == expected && alone == by_ends
+    let expected = read_alone::<T>(rt, text, word, gap, alone);
+    let read = read_list::<T>(text, 0, word, gap, by_ends);
+    read == expected && alone[..] == by_ends[..]
 }
 
-/// Whether the lists of each type are the same both ways.
+/// Whether the lists of each type are the same both ways, in 160 places that hold 7.
 fn are_same(rt: &impl Abort, text: &[u8], word: u128, gap: Gap) -> bool {
-    is_same::<u8>(rt, text, word, gap, 7)
-        && is_same::<i8>(rt, text, word, gap, 7)
-        && is_same::<u16>(rt, text, word, gap, 7)
-        && is_same::<i16>(rt, text, word, gap, 7)
-        && is_same::<u32>(rt, text, word, gap, 7)
-        && is_same::<i32>(rt, text, word, gap, 7)
-        && is_same::<u64>(rt, text, word, gap, 7)
-        && is_same::<i64>(rt, text, word, gap, 7)
-        && is_same::<u128>(rt, text, word, gap, 7)
-        && is_same::<i128>(rt, text, word, gap, 7)
+    is_same::<u8>(rt, text, word, gap, &mut [7; 160], &mut [7; 160])
+        && is_same::<i8>(rt, text, word, gap, &mut [7; 160], &mut [7; 160])
+        && is_same::<u16>(rt, text, word, gap, &mut [7; 160], &mut [7; 160])
+        && is_same::<i16>(rt, text, word, gap, &mut [7; 160], &mut [7; 160])
+        && is_same::<u32>(rt, text, word, gap, &mut [7; 160], &mut [7; 160])
+        && is_same::<i32>(rt, text, word, gap, &mut [7; 160], &mut [7; 160])
+        && is_same::<u64>(rt, text, word, gap, &mut [7; 160], &mut [7; 160])
+        && is_same::<i64>(rt, text, word, gap, &mut [7; 160], &mut [7; 160])
+        && is_same::<u128>(rt, text, word, gap, &mut [7; 160], &mut [7; 160])
+        && is_same::<i128>(rt, text, word, gap, &mut [7; 160], &mut [7; 160])
 }
 
 /// Numbers by chance.
