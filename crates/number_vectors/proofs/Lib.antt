@@ -1,1 +1,2 @@
+mod OnTexts
 mod Remainders

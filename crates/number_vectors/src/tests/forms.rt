@@ -1,27 +1,23 @@
 //! Numbers as RFC 8259 and the grammars of languages have them. Values are worked out by hand, and
-//! of whole literals by g++ 12.2.0 and CPython 3.11.7. Ends of JSON's numbers are compared with a
-//! state machine, written from the RFC. What a function takes as a float is from that function:
-//! of rustc 1.95.0, CPython 3.11.7, OpenJDK 17.0.15, Go 1.19.8 and glibc 2.36; TOML's values are
-//! from CPython's tomllib. Those of JSON5 and YAML are worked out by hand from their pages.
+//! of whole literals by g++ 12.2.0 and CPython 3.11.7. What a function takes as a float is from
+//! that function: of rustc 1.95.0, CPython 3.11.7, OpenJDK 17.0.15, Go 1.19.8 and glibc 2.36;
+//! TOML's values are from CPython's tomllib. Those of JSON5 and YAML are worked out by hand from
+//! their pages.
 
-use digit_floats::Marks;
-use digit_languages::Language;
 use digit_numbers::forms::{
     CXX17, GO_PARSE_FLOAT, JAVA_PARSE_DOUBLE, JSON, JSON5, LITERAL, OCAML, PERL, PYTHON,
     PYTHON_FLOAT, RUST, RUST_PARSE, STRTOD, SWIFT, TOML, YAML,
 };
-use digit_numbers::names::{ANY_CASE, CAPITALIZED, LOWER_CASE};
+use digit_numbers::names::CAPITALIZED;
 use digit_numbers::{
-    AfterPoint, Exponents, Form, NameSign, Number, NumberError, Signs, Special, SpecialValue,
-    Specials, Whole, is_form, parse_number_of, read_number_of,
+    AfterPoint, Form, Number, NumberError, Signs, Specials, is_form, parse_number_of,
+    read_number_of,
 };
-use lexical_format::SPECIAL_DIGIT_SEPARATOR;
-use lexical_format::words::PYTHON_LITERAL;
 use std::process::Abort;
 
 /// An integer's sign and magnitude, or a float.
 #[derive(Clone, Copy, Debug, PartialEq)]
-enum Value {
+pub(super) enum Value {
     Int(bool, u128),
     Real(f64),
     Nan,
@@ -30,7 +26,7 @@ enum Value {
 
 use Value::{Fault, Int, Nan, Real};
 
-const INFINITE: f64 = f64::INFINITY;
+pub(super) const INFINITE: f64 = f64::INFINITY;
 
 /// A text, and the number of JSON that it begins with and its end.
 static JSON_ENDS: [(&[u8], Value, usize); 18] = [
@@ -369,7 +365,7 @@ fn hexadecimal_digits_are_floats_as_their_form_says(rt: HostRuntime) {
 }
 
 /// Each text begins with that number of the form, which ends there.
-fn assert_ends(rt: &impl Abort, form: Form, rows: &[(&[u8], Value, usize)]) {
+pub(super) fn assert_ends(rt: &impl Abort, form: Form, rows: &[(&[u8], Value, usize)]) {
     assert!(rt; is_form(form));
     for (text, value, end) in rows {
         let read = value_of(read_number_of::<f64>(text, 0, form));
@@ -387,7 +383,11 @@ fn assert_values(rt: &impl Abort, form: Form, rows: &[(&[u8], Value)]) {
 }
 
 /// What a text is by a form.
-fn parse_by(rt: &impl Abort, form: Form, text: &[u8]) -> Result<Number<f64>, NumberError> {
+pub(super) fn parse_by(
+    rt: &impl Abort,
+    form: Form,
+    text: &[u8],
+) -> Result<Number<f64>, NumberError> {
     assert!(rt; is_form(form));
     parse_number_of::<f64>(text, form)
 }
@@ -441,51 +441,25 @@ fn strings_are_floats_as_their_functions_take_them(rt: HostRuntime) {
     assert_refused(&rt, TOML, &TOML_REFUSES);
 }
 
-/// A name of one's own.
-fn special(name: [u8; 8], value: SpecialValue, sign: NameSign) -> Special {
-    Special { name, value, sign }
-}
-
-/// TOML with names of one's own: the longer one of two is last, and the last two are the same.
-fn own_names() -> Form {
-    let inf = special(*b"inf\0\0\0\0\0", SpecialValue::Infinity, NameSign::Either);
-    let infinite = special(*b"infinite", SpecialValue::Infinity, NameSign::Either);
-    let sign = special(
-        *b"\xe2\x88\x9e\0\0\0\0\0",
-        SpecialValue::Infinity,
-        NameSign::Absent,
-    );
-    let none = special(
-        *b"n/a\0\0\0\0\0",
-        SpecialValue::NotANumber,
-        NameSign::Absent,
-    );
-    let first = special(*b"same\0\0\0\0", SpecialValue::NotANumber, NameSign::Either);
-    let second = special(*b"same\0\0\0\0", SpecialValue::Infinity, NameSign::Either);
-    let no = Special::ABSENT;
-    Form {
-        specials: Some(Specials {
-            names: [inf, infinite, sign, none, first, second, no, no],
-            any_case: false,
-        }),
-        ..TOML
-    }
-}
+/// A text, a start, and the number of Python that begins there, and its end.
+static PYTHON_STARTS: [(&[u8], usize, Value, usize); 4] = [
+    (b"0_7", 0, Int(false, 0), 1),
+    (b"0_7", 1, Fault(NumberError::Empty(1)), 0),
+    (b"0_7", 2, Int(false, 7), 3),
+    (b"9_.5", 1, Fault(NumberError::Empty(1)), 0),
+];
 
 #[test]
-fn names_of_ones_own_are_read(rt: HostRuntime) {
-    let rows: [(&[u8], Value, usize); 9] = [
-        (b"-inf", Real(-INFINITE), 4),
-        (b"infinit", Real(INFINITE), 3),
-        (b"infinite", Real(INFINITE), 8),
-        (b"\xe2\x88\x9e", Real(INFINITE), 3),
-        (b"-\xe2\x88\x9e", Fault(NumberError::Empty(1)), 0),
-        (b"n/a", Nan, 3),
-        (b"+n/a", Fault(NumberError::Empty(1)), 0),
-        (b"same", Nan, 4),
-        (b"nan", Fault(NumberError::Empty(0)), 0),
-    ];
-    assert_ends(&rt, own_names(), &rows);
+#[tactic(auto, unfolding(lexical_format::proofs::OnLiterals::lexical_on_literals))]
+fn a_number_begins_with_no_separator(rt: HostRuntime) {
+    for (text, start, value, end) in &PYTHON_STARTS {
+        let read = value_of(read_number_of::<f64>(text, *start, PYTHON));
+        assert!(&rt; read == (*value, *end), "{text:?} {start}: {read:?}");
+    }
+    let read = read_number_of::<f64>(b"_.5", 0, PERL);
+    assert!(&rt; read == Err(NumberError::Empty(0)));
+    let read = read_number_of::<f64>(b"0x_.8p1", 0, PERL);
+    assert!(&rt; read == Ok((Number::Float(1.0), 7)));
 }
 
 /// The source code of Delphi, as Free Pascal 3.2.2 reads it with `-Mdelphi`.
@@ -530,329 +504,4 @@ static CASSANDRA_ENDS: [(&[u8], Value, usize); 6] = [
 fn two_more_formats_take_a_form_of_ones_own(rt: HostRuntime) {
     assert_ends(&rt, DELPHI, &DELPHI_ENDS);
     assert_ends(&rt, CASSANDRA, &CASSANDRA_ENDS);
-}
-
-/// Names as XML Schema 1.0, Scheme and EDN have them.
-fn signed_names() -> Form {
-    let minus = special(*b"INF\0\0\0\0\0", SpecialValue::Infinity, NameSign::Minus);
-    let required = special(*b"inf.0\0\0\0", SpecialValue::Infinity, NameSign::Required);
-    let absent = special(
-        *b"##-Inf\0\0",
-        SpecialValue::NegativeInfinity,
-        NameSign::Absent,
-    );
-    let no = Special::ABSENT;
-    Form {
-        specials: Some(Specials {
-            names: [minus, required, absent, no, no, no, no, no],
-            any_case: false,
-        }),
-        ..TOML
-    }
-}
-
-#[test]
-fn a_name_says_which_sign_is_before_it(rt: HostRuntime) {
-    let rows: [(&[u8], Value, usize); 8] = [
-        (b"INF", Real(INFINITE), 3),
-        (b"-INF", Real(-INFINITE), 4),
-        (b"+INF", Fault(NumberError::Empty(1)), 0),
-        (b"inf.0", Fault(NumberError::Empty(0)), 0),
-        (b"+inf.0", Real(INFINITE), 6),
-        (b"-inf.0", Real(-INFINITE), 6),
-        (b"##-Inf", Real(-INFINITE), 6),
-        (b"-##-Inf", Fault(NumberError::Empty(1)), 0),
-    ];
-    assert_ends(&rt, signed_names(), &rows);
-}
-
-#[test]
-fn separators_in_a_name_are_those_of_the_special_flag(rt: HostRuntime) {
-    let word = PYTHON_LITERAL | SPECIAL_DIGIT_SEPARATOR;
-    let plain = Form {
-        specials: Some(ANY_CASE),
-        ..TOML
-    };
-    let flagged = Form {
-        integers: Language {
-            decimal: word,
-            ..TOML.integers
-        },
-        specials: Some(LOWER_CASE),
-        ..TOML
-    };
-    let without: [(&[u8], Value, usize); 2] = [
-        (b"in_f", Fault(NumberError::Empty(0)), 0),
-        (b"INFINITY_", Real(INFINITE), 8),
-    ];
-    assert_ends(&rt, plain, &without);
-    let with: [(&[u8], Value, usize); 5] = [
-        (b"in_f", Real(INFINITE), 4),
-        (b"-__i_n__f_;", Real(-INFINITE), 10),
-        (b"INF", Fault(NumberError::Empty(0)), 0),
-        (b"1_000", Int(false, 1000), 5),
-        (b"1_", Int(false, 1), 1),
-    ];
-    assert_ends(&rt, flagged, &with);
-}
-
-/// The same of JSON's grammar where each number is a float.
-static JSON_FLOAT_ENDS: [(&[u8], Value, usize); 9] = [
-    (b"0", Real(0.0), 1),
-    (b"10", Real(10.0), 2),
-    (b"0.5", Real(0.5), 3),
-    (b"00", Real(0.0), 1),
-    (b"007", Real(0.0), 1),
-    (b"-01", Real(-0.0), 2),
-    (b"00.5", Real(0.0), 1),
-    (b"01e5", Real(0.0), 1),
-    (b"-", Fault(NumberError::Empty(1)), 0),
-];
-
-#[test]
-#[tactic(auto, unfolding(lexical_format::proofs::OnLiterals::lexical_on_literals))]
-fn a_first_zero_is_alone_of_floats_too(rt: HostRuntime) {
-    let form = Form {
-        whole: Whole::Float,
-        ..JSON
-    };
-    assert_ends(&rt, form, &JSON_FLOAT_ENDS);
-    let read = read_number_of::<f64>(b"-01", 0, form);
-    assert!(&rt; matches!(read, Ok((Number::Float(x), 2)) if 1.0 / x == -INFINITE));
-}
-
-/// A text, a start, and the number of Python that begins there, and its end.
-static PYTHON_STARTS: [(&[u8], usize, Value, usize); 4] = [
-    (b"0_7", 0, Int(false, 0), 1),
-    (b"0_7", 1, Fault(NumberError::Empty(1)), 0),
-    (b"0_7", 2, Int(false, 7), 3),
-    (b"9_.5", 1, Fault(NumberError::Empty(1)), 0),
-];
-
-#[test]
-#[tactic(auto, unfolding(lexical_format::proofs::OnLiterals::lexical_on_literals))]
-fn a_number_begins_with_no_separator(rt: HostRuntime) {
-    for (text, start, value, end) in &PYTHON_STARTS {
-        let read = value_of(read_number_of::<f64>(text, *start, PYTHON));
-        assert!(&rt; read == (*value, *end), "{text:?} {start}: {read:?}");
-    }
-    let read = read_number_of::<f64>(b"_.5", 0, PERL);
-    assert!(&rt; read == Err(NumberError::Empty(0)));
-    let read = read_number_of::<f64>(b"0x_.8p1", 0, PERL);
-    assert!(&rt; read == Ok((Number::Float(1.0), 7)));
-}
-
-/// The same of JSON's grammar where an exponent needs a fraction, and where there is none.
-static AFTER_FRACTION_ENDS: [(&[u8], Value, usize); 3] = [
-    (b"1e5", Int(false, 1), 1),
-    (b"1.0e5", Real(100000.0), 5),
-    (b"1.e5", Int(false, 1), 1),
-];
-
-static NO_EXPONENT_ENDS: [(&[u8], Value, usize); 3] = [
-    (b"1e5", Int(false, 1), 1),
-    (b"1.5e5", Real(1.5), 3),
-    (b"-0.25", Real(-0.25), 5),
-];
-
-#[test]
-fn exponents_are_where_the_form_has_them(rt: HostRuntime) {
-    let exponents = Exponents::AfterFraction;
-    assert_ends(&rt, Form { exponents, ..JSON }, &AFTER_FRACTION_ENDS);
-    let exponents = Exponents::Absent;
-    assert_ends(&rt, Form { exponents, ..JSON }, &NO_EXPONENT_ENDS);
-}
-
-/// The same of JSON's grammar where a point needs no fraction, and is none before an operator.
-static NO_OPERATOR_ENDS: [(&[u8], Value, usize); 5] = [
-    (b"1./x", Int(false, 1), 1),
-    (b"1.'", Int(false, 1), 1),
-    (b"1.;", Real(1.0), 2),
-    (b"1.5/x", Real(1.5), 3),
-    (b"1.e2*x", Real(100.0), 4),
-];
-
-#[test]
-fn a_point_before_an_operator_is_none(rt: HostRuntime) {
-    let form = Form {
-        needs_fraction: false,
-        after_point: AfterPoint::NoOperator,
-        ..JSON
-    };
-    assert_ends(&rt, form, &NO_OPERATOR_ENDS);
-}
-
-/// The same of JSON's grammar where a `d` may mark an exponent too.
-static OTHER_MARK_ENDS: [(&[u8], Value, usize); 14] = [
-    (b"1d5", Real(100000.0), 3),
-    (b"25D-2", Real(0.25), 5),
-    (b"1.5d1;", Real(15.0), 5),
-    (b"1.5d", Real(1.5), 3),
-    (b"1.5ed2", Real(1.5), 3),
-    (b"1.d5", Int(false, 1), 1),
-    (b"-1d400,", Real(-INFINITE), 6),
-    (b"0d5 and", Real(0.0), 3),
-    (b"2E1", Real(20.0), 3),
-    (b"1d", Int(false, 1), 1),
-    (b"1ed5", Int(false, 1), 1),
-    (b"17", Int(false, 17), 2),
-    // more than 19 digits, of the number and of its exponent
-    (b"12345678901234567890d1", Real(123456789012345678900.0), 22),
-    (b"1d00000000000000000001", Real(10.0), 22),
-];
-
-#[test]
-fn an_exponent_may_have_another_mark(rt: HostRuntime) {
-    let form = Form {
-        other_mark: Some(b'd'),
-        ..JSON
-    };
-    assert_ends(&rt, form, &OTHER_MARK_ENDS);
-    let wrong = Form {
-        other_mark: Some(b'x'),
-        ..RUST
-    };
-    assert!(&rt; !is_form(wrong));
-}
-
-#[test]
-fn marks_are_no_other_part_of_a_number(rt: HostRuntime) {
-    for (point, exponent) in [
-        (b'.', b'0'),
-        (b'.', b'-'),
-        (b'5', b'e'),
-        (b'e', b'e'),
-        (b'E', b'e'),
-    ] {
-        let marks = Marks { point, exponent };
-        assert!(&rt; !is_form(Form { marks, ..JSON }), "{marks:?}");
-    }
-    let marks = Marks {
-        point: b'_',
-        exponent: b'e',
-    };
-    assert!(&rt; is_form(Form { marks, ..JSON }));
-    assert!(&rt; !is_form(Form { marks, ..RUST }));
-    let marks = Marks {
-        point: b'.',
-        exponent: b'X',
-    };
-    assert!(&rt; is_form(Form { marks, ..JSON }));
-    assert!(&rt; !is_form(Form { marks, ..RUST }));
-}
-
-/// The number of that many digits `1`.
-fn ones(digits: usize) -> u128 {
-    let mut value = 0u128;
-    for _ in 0..digits {
-        value = value.wrapping_mul(10).wrapping_add(1);
-    }
-    value
-}
-
-#[test]
-fn an_integer_is_parsed_alike_from_short_and_long_texts(rt: HostRuntime) {
-    for len in 18..39 {
-        let mut text = [b'1'; 40];
-        let number = parse_by(&rt, JSON, &text[..len]);
-        let is = Number::Integer {
-            negative: false,
-            magnitude: ones(len),
-            word: JSON.integers.decimal,
-        };
-        assert!(&rt; number == Ok(is), "{len}: {number:?}");
-        text[len - 1] = b'x';
-        let fault = parse_by(&rt, JSON, text.get(..len).unwrap_or(b""));
-        assert!(&rt;
-            fault == Err(NumberError::Invalid(len - 1)),
-            "{len}: {fault:?}"
-        );
-    }
-}
-
-#[test]
-#[tactic(auto, unfolding(lexical_format::proofs::OnLiterals::lexical_on_literals))]
-fn a_large_integer_is_a_float_in_json(rt: HostRuntime) {
-    let text = b"340282366920938463463374607431768211456";
-    let read = parse_number_of::<f64>(text, JSON);
-    assert!(&rt; read == Ok(Number::Float(3.402823669209384634e38)));
-    let read = parse_number_of::<f64>(text, RUST);
-    assert!(&rt; read == Err(NumberError::Overflow(38)));
-    assert!(&rt; parse_number_of::<f64>(b"1e400", JSON) == Ok(Number::Float(1.0 / 0.0)));
-}
-
-/// What was read of a number of JSON.
-#[derive(Clone, Copy, PartialEq)]
-enum State {
-    Start,
-    Minus,
-    Zero,
-    Int,
-    Point,
-    Frac,
-    Mark,
-    Sign,
-    Exp,
-}
-
-/// The state after one more byte, if a number can go on with it.
-fn step(state: State, byte: u8) -> Option<State> {
-    let digit = byte.is_ascii_digit();
-    match state {
-        State::Start if byte == b'-' => Some(State::Minus),
-        State::Start | State::Minus if byte == b'0' => Some(State::Zero),
-        State::Start | State::Minus if digit => Some(State::Int),
-        State::Int if digit => Some(State::Int),
-        State::Zero | State::Int if byte == b'.' => Some(State::Point),
-        State::Point | State::Frac if digit => Some(State::Frac),
-        State::Zero | State::Int | State::Frac if byte == b'e' || byte == b'E' => Some(State::Mark),
-        State::Mark if byte == b'-' || byte == b'+' => Some(State::Sign),
-        State::Mark | State::Sign | State::Exp if digit => Some(State::Exp),
-        _ => None,
-    }
-}
-
-/// Where the longest number of JSON ends that begins at `start`, and whether it is a float.
-fn model(text: &[u8], start: usize) -> Option<(usize, bool)> {
-    let mut state = State::Start;
-    let mut longest = None;
-    for at in start..text.len() {
-        let Some(next) = step(state, text[at]) else {
-            return longest;
-        };
-        state = next;
-        match state {
-            State::Zero | State::Int => longest = Some((at + 1, false)),
-            State::Frac | State::Exp => longest = Some((at + 1, true)),
-            _ => {}
-        }
-    }
-    longest
-}
-
-/// The same of what was read.
-fn end_of(read: Result<(Number<f64>, usize), NumberError>) -> Option<(usize, bool)> {
-    match read {
-        Ok((Number::Integer { .. }, end)) => Some((end, false)),
-        Ok((Number::Float(_), end)) => Some((end, true)),
-        Err(_) => None,
-    }
-}
-
-#[test]
-#[tactic(auto, unfolding(lexical_format::proofs::OnLiterals::lexical_on_literals))]
-fn json_numbers_end_as_by_a_state_machine(rt: HostRuntime) {
-    let bytes = *b"01.eE+-x";
-    for n in 0..4096_usize {
-        let text = [
-            bytes[n % 8],
-            bytes[n / 8 % 8],
-            bytes[n / 64 % 8],
-            bytes[n / 512 % 8],
-        ];
-        for start in 0..5 {
-            let read = end_of(read_number_of::<f64>(&text, start, JSON));
-            assert!(&rt; read == model(&text, start), "{text:?} {start}: {read:?}");
-        }
-    }
 }

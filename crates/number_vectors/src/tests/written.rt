@@ -22,7 +22,7 @@ fn write_and_read(alloc: Global, n: u64) -> Result<u64, AllocError>
 }
 
 /// The number before a comma, and where it ends.
-#[tactic(auto, unfolding(lexical_format::proofs::OnLiterals::lexical_on_literals, lexical_format::specs::Digits::digit_value, lexical_digits::specs::Separators::is_digit, lexical_digits::specs::Separators::is_separator))]
+#[tactic(auto, unfolding(crate::proofs::OnTexts::on_digits))]
 fn read_field(text: &[u8], n: u32) -> Result<(u32, usize), LiteralError>
     requires { (rest : List ℕ) × (text.now ≡ decimal n ++ (44 ∷ rest)) }
     ensures { result ≡ Ok (n, length (decimal n)) }
