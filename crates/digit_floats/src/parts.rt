@@ -77,8 +77,7 @@ pub fn has_mark(text: &[u8], at: usize, mark: u8) -> bool
     ensures within { result ≡ true → at < length text.now }
 {
     match text.get(at) {
-        // `|`, so that no branch depends on which case is there
-        Some(byte) => (*byte == mark) | (*byte == mark.to_ascii_uppercase()),
+        Some(byte) => *byte == mark || *byte == mark.to_ascii_uppercase(),
         None => false,
     }
 }
