@@ -1,10 +1,7 @@
 -- Of functions that no caller sees: which bytes from a position on are no decimal digits, by the
 -- bits of a word, the first of them by the lowest bit. No public clause uses these words.
-use Rattle.std.specs.Prelude.{◌≡◌, ⊤, ℕ, ◌+◌, ◌≤◌, ◌<◌, ◌&&◌, not, nat_lt, Bool, true, false, List, length, slice_index}
+use Rattle.std.specs.Prelude.{◌≡◌, ℕ, ◌+◌, ◌≤◌, ◌<◌, ◌&&◌, not, nat_lt, Bool, true, false, List, length, slice_index}
 use Rattle.std.specs.Int.{bit_at}
-use Rattle.digit_literals.specs.declared.ends.Next.{Next}
-use Rattle.digit_literals.specs.declared.ends.Next.TheVariants.{Is, Short, Other}
-use Rattle.digit_literals.specs.declared.ends.Read.{Read}
 
 -- whether a byte is a decimal digit
 abbrev pub is_decimal : ℕ → Bool
@@ -24,9 +21,3 @@ module _ (text : List ℕ) (at : ℕ) where
   abbrev pub AreDecimal : ℕ → Type 0
   AreDecimal count = (i : ℕ) → i < count
       → (48 ≤ slice_index text (at + i)) × (slice_index text (at + i) < 58)
-
--- what holds of the next number of a list, if it was read
-abbrev pub IfIs : {T : Type 0} → Next T → (Read T → Type 0) → Type 0
-IfIs (Is read) P = P read
-IfIs Short P = ⊤
-IfIs Other P = ⊤

@@ -1,19 +1,20 @@
 //! The numbers of a list by their ends: 64 bytes tell at once which of them are no digits. So where
 //! a number ends is known before it is read, and none waits for the digits of the one before.
 
-ghost use Rattle.std.specs.Prelude.{◌≡◌, ℕ, List, ◌+◌, ◌^◌, ◌<◌, ◌≤◌, length, if◌then◌else◌, true, false, Ok, IfSome};
+ghost use Rattle.std.specs.Prelude.{◌≡◌, ℕ, List, ◌+◌, ◌^◌, ◌<◌, ◌≤◌, length, if◌then◌else◌, true, false, Ok, Err, IfSome, IfOk, IfErr, MatchResult};
 ghost use Rattle.std.specs.Int.{trailing_zeros, w64};
 ghost use Rattle.lexical_digits.specs.declared.skip.component.Component.TheVariants.{Integer};
 ghost use Rattle.lexical_digits.specs.State.{rule_of};
 ghost use Rattle.digit_literals.specs.Eight.{IsWritten};
-ghost use Rattle.digit_literals.specs.Ends.{AreOthers, IfIs};
+ghost use Rattle.digit_literals.specs.Ends.{AreOthers};
 ghost use Rattle.digit_literals.specs.Errors.{literal_position};
 ghost use Rattle.digit_literals.specs.Integers.{integer_at};
-ghost use Rattle.digit_literals.specs.Lists.{SoFar, is_blank, past_blanks, next_after};
+ghost use Rattle.digit_literals.specs.Lists.{SoFar, Fills, IfFull, IfOver, is_blank, list_at, past_blanks, next_after};
 ghost use Rattle.digit_literals.specs.Numbers.{number_at, is_negative_from, digits_from, signed};
 
+use super::LiteralError;
 use super::eight::{few_at, value_at};
-use super::list::Gap;
+use super::list::{Gap, ListEnd, ListRead};
 use super::number::{Integer, greatest};
 use lexical_digits::skip::{Component, Rule};
 use std::simd::prelude::*;
@@ -57,11 +58,11 @@ fn pass(others: u64, count: usize) -> u64
 
 /// Whether the numbers of a block are rather read one by one: half of the bytes are no digits, or
 /// nearly all numbers have one form of up to three digits, so that the next number begins as far
-/// from this one as this one from the one before. A processor guesses where these end. `spare` bits
-/// are left out, and `most` may differ. It is only for speed.
+/// from this one as this one from the one before. A processor guesses where these end. It is only
+/// for speed.
 #[inline(always)]
-fn are_short(others: u64, spare: u32, most: u32) -> bool {
-    if spare > 48 || others.count_ones() * 2 + spare >= 64 {
+fn are_short(others: u64) -> bool {
+    if others.count_ones() >= 32 {
         return true;
     }
     let first = others >> (others % 2);
@@ -73,19 +74,33 @@ fn are_short(others: u64, spare: u32, most: u32) -> bool {
     if form > 8 {
         return false;
     }
-    let differ = (first ^ (first >> form)) << (spare + form);
-    differ.count_ones() <= most
+    let differ = (first ^ (first >> form)) << form;
+    differ.count_ones() <= 4
 }
 
-/// Whether the numbers in the next 16 bytes are short, or too few bytes are left. It is only for
-/// speed.
-#[inline(never)]
-pub(super) fn are_next_short(text: &[u8], at: usize) -> bool {
-    if at > text.len() || text.len() - at < BLOCK + WORDS {
-        return true;
+/// Whether the numbers of a list are read by their ends from its first one on: the radix is 10, no
+/// digit is a blank, the text is long enough, and 16 bytes have no separator of the word, are no
+/// digits in less than half, and are no numbers of two digits each, or of three.
+#[inline(always)]
+pub(super) fn is_by_ends(text: &[u8], word: u128, gap: Gap, at: usize) -> bool
+    requires { at ≤ length text.now }
+    ensures ten { result ≡ true → (rule_of word Integer).radix ≡ 10 }
+    ensures digits { result ≡ true → (byte : ℕ) → 48 ≤ byte → byte < 58
+        → is_blank gap byte ≡ false }
+{
+    let rule = Rule::of(word, Component::Integer);
+    if rule.radix != 10 || gap.has_digits() || text.len() - at < BLOCK + WORDS {
+        return false;
     }
-    let digits = u8x16::from_slice(&text[at..]) - u8x16::splat(b'0');
-    are_short(digits.simd_ge(u8x16::splat(10)).to_bitmask(), 48, 0)
+    let bytes = u8x16::from_slice(&text[at..]);
+    let separators = bytes.simd_eq(u8x16::splat(rule.separator)).to_bitmask();
+    if rule.separator != 0 && separators != 0 {
+        return false;
+    }
+    let others = (bytes - u8x16::splat(b'0'))
+        .simd_ge(u8x16::splat(10))
+        .to_bitmask();
+    others.count_ones() < 8 && others != 0b0100_1001_0010_0100 && others != 0b1000_1000_1000_1000
 }
 
 /// What is known before the digits of a number are read.
@@ -99,15 +114,13 @@ struct Head {
     others: u64,
     /// Whether it has a sign.
     has_sign: bool,
-    /// Whether the bytes from here on were looked at anew, and the numbers there are short.
-    are_short: bool,
 }
 
 /// The number after its blanks at a place. Its sign is no branch, and its digits begin where the
 /// first bit says, so that their end waits for no byte.
 #[inline(always)]
 #[tactic(auto, using(crate::proofs::ByEnds::inside))]
-fn pass_sign<T: Integer>(text: &[u8], place: usize, others: u64, are_short: bool) -> Option<Head>
+fn pass_sign<T: Integer>(text: &[u8], place: usize, others: u64) -> Option<Head>
     requires others { AreOthers text.now place others }
     requires some { 1 < others }
     ensures negative { IfSome result (λ head.
@@ -124,7 +137,6 @@ fn pass_sign<T: Integer>(text: &[u8], place: usize, others: u64, are_short: bool
             begin: place,
             others,
             has_sign: false,
-            are_short,
         });
     }
     let byte = text[place];
@@ -139,7 +151,6 @@ fn pass_sign<T: Integer>(text: &[u8], place: usize, others: u64, are_short: bool
         begin: place + sign as usize,
         others: others >> sign,
         has_sign,
-        are_short,
     })
 }
 
@@ -159,13 +170,13 @@ fn any_head<T: Integer>(text: &[u8], gap: Gap, at: usize, rest: u64) -> Option<H
     let place = gap.past_blanks(text, at);
     let others = pass(rest, place - at);
     if others > 1 {
-        return pass_sign::<T>(text, place, others, false);
+        return pass_sign::<T>(text, place, others);
     }
     let others = others_from(text, place);
-    if others > 1 {
-        return pass_sign::<T>(text, place, others, are_short(others, 0, 4));
+    if others <= 1 || are_short(others) {
+        return None;
     }
-    None
+    pass_sign::<T>(text, place, others)
 }
 
 /// The smaller one of a type's greatest magnitudes, with a `-` and without.
@@ -283,17 +294,6 @@ struct Read<T> {
     has_sign: bool,
 }
 
-/// The next number of a list.
-#[derive(Clone, Copy)]
-enum Next<T> {
-    /// It was read.
-    Is(Read<T>),
-    /// It and the next ones are short.
-    Short,
-    /// It isn't plain, or its end isn't known.
-    Other,
-}
-
 /// The number of a sign and of digits, if the type has it.
 #[inline(always)]
 fn number_of<T: Integer>(digits: Digits, is_negative: bool, has_sign: bool) -> Option<Read<T>>
@@ -353,30 +353,26 @@ fn short_number<T: Integer>(
 /// The number after the blanks at a position, whatever is before its digits, if its end is known
 /// and its digits are read by [`integer_by_end`].
 #[inline(always)]
-fn any_number<T: Integer>(text: &[u8], word: u128, gap: Gap, at: usize, rest: u64) -> Next<T>
+fn any_number<T: Integer>(
+    text: &[u8],
+    word: u128,
+    gap: Gap,
+    at: usize,
+    rest: u64,
+) -> Option<Read<T>>
     requires ten { (rule_of word Integer).radix ≡ 10 }
     requires within { at ≤ length text.now }
     requires rest { AreOthers text.now at rest }
-    ensures is { let r = rule_of word Integer in IfIs result (λ read.
+    ensures is { let r = rule_of word Integer in IfSome result (λ read.
         number_at T.MIN_MAGNITUDE T.MAX r text.now (past_blanks gap text.now at)
         ≡ Ok (T.number read.value, read.end)) }
-    ensures onward { IfIs result (λ read. at < read.end) }
-    ensures within { IfIs result (λ read. read.end ≤ length text.now) }
-    ensures others { IfIs result (λ read. AreOthers text.now read.end read.others) }
+    ensures onward { IfSome result (λ read. at < read.end) }
+    ensures within { IfSome result (λ read. read.end ≤ length text.now) }
+    ensures others { IfSome result (λ read. AreOthers text.now read.end read.others) }
 {
-    let Some(head) = any_head::<T>(text, gap, at, rest) else {
-        return Next::Other;
-    };
-    if head.are_short {
-        return Next::Short;
-    }
-    let Some(digits) = integer_by_end(text, word, head.begin, head.others) else {
-        return Next::Other;
-    };
-    match number_of::<T>(digits, head.is_negative, head.has_sign) {
-        Some(read) => Next::Is(read),
-        None => Next::Other,
-    }
+    let head = any_head::<T>(text, gap, at, rest)?;
+    let digits = integer_by_end(text, word, head.begin, head.others)?;
+    number_of::<T>(digits, head.is_negative, head.has_sign)
 }
 
 /// [`any_number`], or at once the usual one, where no number before had a sign.
@@ -388,24 +384,21 @@ fn number_by_end<T: Integer>(
     at: usize,
     rest: u64,
     may_be_signed: bool,
-) -> Next<T>
+) -> Option<Read<T>>
     requires ten { (rule_of word Integer).radix ≡ 10 }
     requires within { at ≤ length text.now }
     requires rest { AreOthers text.now at rest }
     requires digits { (byte : ℕ) → 48 ≤ byte → byte < 58 → is_blank gap byte ≡ false }
-    ensures is { let r = rule_of word Integer in IfIs result (λ read.
+    ensures is { let r = rule_of word Integer in IfSome result (λ read.
         number_at T.MIN_MAGNITUDE T.MAX r text.now (past_blanks gap text.now at)
         ≡ Ok (T.number read.value, read.end)) }
-    ensures onward { IfIs result (λ read. at < read.end) }
-    ensures within { IfIs result (λ read. read.end ≤ length text.now) }
-    ensures others { IfIs result (λ read. AreOthers text.now read.end read.others) }
+    ensures onward { IfSome result (λ read. at < read.end) }
+    ensures within { IfSome result (λ read. read.end ≤ length text.now) }
+    ensures others { IfSome result (λ read. AreOthers text.now read.end read.others) }
 {
     let count = rest.trailing_zeros();
     if count > 0 && count <= 8 && !may_be_signed {
-        match short_number::<T>(text, word, gap, at, rest, count) {
-            Some(read) => Next::Is(read),
-            None => Next::Other,
-        }
+        short_number::<T>(text, word, gap, at, rest, count)
     } else {
         any_number::<T>(text, word, gap, at, rest)
     }
@@ -421,28 +414,29 @@ struct Place {
 }
 
 /// Where the next number may be, if a separator follows the number that ends at a position.
+/// Otherwise the error is the first position without a blank.
 #[inline(always)]
 #[tactic(auto, using(crate::proofs::Lists::separator_is_no_blank))]
-fn place_after(text: &[u8], gap: Gap, end: usize, others: u64) -> Option<Place>
+fn place_after(text: &[u8], gap: Gap, end: usize, others: u64) -> Result<Place, usize>
     requires within { end ≤ length text.now }
     requires others { AreOthers text.now end others }
-    ensures is { IfSome result (λ place. next_after gap text.now end ≡ Ok place.at) }
-    ensures onward { IfSome result (λ place. end < place.at) }
-    ensures within { IfSome result (λ place. place.at ≤ length text.now) }
-    ensures rest { IfSome result (λ place. AreOthers text.now place.at place.rest) }
+    ensures is { MatchResult result (λ place. next_after gap text.now end ≡ Ok place.at)
+        (λ over. next_after gap text.now end ≡ Err over) }
+    ensures onward { IfOk result (λ place. end < place.at) }
+    ensures within { IfOk result (λ place. place.at ≤ length text.now) }
+    ensures rest { IfOk result (λ place. AreOthers text.now place.at place.rest) }
+    ensures over { IfErr result (λ over. (end ≤ over) × (over ≤ length text.now)) }
 {
     // the usual case: the bits are moved by one
     if gap.has_separator(text, end) {
-        return Some(Place {
+        return Ok(Place {
             at: end + 1,
             rest: pass(others, 1),
         });
     }
-    let Ok(at) = gap.next_after(text, end) else {
-        return None;
-    };
+    let at = gap.next_after(text, end)?;
     let rest = pass(others, at - end);
-    Some(Place { at, rest })
+    Ok(Place { at, rest })
 }
 
 /// How far a list was read by ends.
@@ -452,62 +446,63 @@ pub(super) struct Went {
     pub(super) count: usize,
     /// Where the next one may be.
     pub(super) at: usize,
-    /// Up to how many of the slice are now read one by one.
-    pub(super) to: usize,
 }
 
-/// Reads the numbers of a list from `start` on by their ends, as long as they are plain. `from` are
-/// in the slice. It is code of its own, since what is inlined must be small.
+/// Reads the numbers of a list from `start` on by their ends, as long as they are plain and not
+/// short: how many are in the slice, and where the next one may be; or why there are no more. It is
+/// code of its own, since what is inlined must be small.
 #[inline(never)]
+#[tactic(auto, using(crate::proofs::Lists::turns))]
 pub(super) fn read_by_ends<T: Integer>(
     text: &[u8],
     start: usize,
     word: u128,
     gap: Gap,
     out: &mut [T],
-    from: usize,
-) -> Went
+) -> Result<Went, ListRead<LiteralError>>
+    requires ten { (rule_of word Integer).radix ≡ 10 }
+    requires digits { (byte : ℕ) → 48 ≤ byte → byte < 58 → is_blank gap byte ≡ false }
     requires within { start ≤ length text.now }
-    requires room { from < length out.old }
     ensures so { let one = number_at T.MIN_MAGNITUDE T.MAX (rule_of word Integer) text.now in
-        (begin : ℕ) (old : List T)
-        → SoFar T.number one literal_position gap text.now begin from start old out.old
-        → SoFar T.number one literal_position gap text.now begin result.count result.at old
-        out.new }
-    ensures onward { start ≤ result.at }
-    ensures within { result.at ≤ length text.now }
-    ensures count { result.count ≤ result.to }
-    ensures more { from < result.to }
-    ensures to { result.to ≤ length out.old }
+        IfOk result (λ went. SoFar T.number one literal_position gap text.now start went.count
+        went.at out.old out.new) }
+    ensures fills { let one = number_at T.MIN_MAGNITUDE T.MAX (rule_of word Integer) text.now in
+        IfErr result (λ read. Fills T.number (list_at one literal_position gap text.now
+        (length out.old) start) read out.old out.new) }
+    ensures onward { IfOk result (λ went. start ≤ went.at) }
+    ensures within { IfOk result (λ went. went.at ≤ length text.now) }
+    ensures room { IfOk result (λ went. went.count ≤ length out.old) }
+    ensures count { IfErr result (λ read. read.count ≤ length out.old) }
+    ensures full { IfErr result (λ read.
+        IfFull read.end (λ at. (start ≤ at) × (at ≤ length text.now))) }
+    ensures over { IfErr result (λ read.
+        IfOver read.end (λ at. (start ≤ at) × (at ≤ length text.now))) }
     ensures length { length out.new ≡ length out.old }
 {
     let mut at = start;
-    let to = out.len();
-    if Rule::of(word, Component::Integer).radix != 10 || gap.has_digits() {
-        return Went {
-            count: from,
-            at,
-            to,
-        };
-    }
     let mut rest = 0;
     let mut may_be_signed = false;
-    for count in from..out.len() {
-        let read = match number_by_end::<T>(text, word, gap, at, rest, may_be_signed) {
-            Next::Is(read) => read,
-            Next::Short => {
-                let to = count + BLOCK.min(out.len() - count);
-                return Went { count, at, to };
-            }
-            Next::Other => return Went { count, at, to },
-        };
-        let Some(place) = place_after(text, gap, read.end, read.others) else {
-            return Went { count, at, to };
+    for count in 0..out.len() {
+        let Some(read) = number_by_end::<T>(text, word, gap, at, rest, may_be_signed) else {
+            return Ok(Went { count, at });
         };
         out[count] = read.value;
+        match place_after(text, gap, read.end, read.others) {
+            Ok(place) => {
+                rest = place.rest;
+                at = place.at;
+            }
+            Err(over) => {
+                return Err(ListRead {
+                    count: count + 1,
+                    end: ListEnd::Over(over),
+                });
+            }
+        }
         may_be_signed = may_be_signed | read.has_sign;
-        rest = place.rest;
-        at = place.at;
     }
-    Went { count: to, at, to }
+    Ok(Went {
+        count: out.len(),
+        at,
+    })
 }

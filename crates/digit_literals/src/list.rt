@@ -11,7 +11,7 @@ ghost use Rattle.digit_literals.specs.Numbers.{number_at};
 
 use super::LiteralError;
 use super::bytes::{BLANKS, accepts};
-use super::ends::{are_next_short, read_by_ends};
+use super::ends::{is_by_ends, read_by_ends};
 use super::number::{Integer, read_number_from};
 use lexical_digits::ops::ByteSet;
 
@@ -210,73 +210,59 @@ impl Gap {
     }
 }
 
-/// How many numbers of a list are read one by one before their ends are looked for: a short list
-/// gains nothing by that.
-const FEW: usize = 8;
+/// How many places a slice has at least, if numbers are read by their ends: a call, which fewer
+/// don't pay for.
+const MANY: usize = 64;
 
-/// How many places a slice has at least, if the ends of more than a few are looked for.
-const MANY: usize = 128;
-
-/// How many short numbers are read one by one before the next ones are looked at.
-const SHORT: usize = 64;
-
-/// Reads the numbers of a list from `begin` on one by one, up to `to` of them. `from` are in the
-/// slice. Where the next one may be, or why there are no more.
+/// Reads the numbers of a list from `begin` on one by one. `from` are in the slice.
 #[inline(always)]
 #[tactic(auto, using(crate::proofs::Lists::turns))]
-fn read_some<T: Integer>(
+fn read_rest<T: Integer>(
     text: &[u8],
     begin: usize,
     word: u128,
     gap: Gap,
     out: &mut [T],
     from: usize,
-    to: usize,
-) -> Result<usize, ListRead<LiteralError>>
+) -> ListRead<LiteralError>
     requires supported { IsTrue (is_supported word) }
     requires within { begin ≤ length text.now }
-    requires some { from ≤ to }
-    requires room { to ≤ length out.old }
-    ensures so { let one = number_at T.MIN_MAGNITUDE T.MAX (rule_of word Integer) text.now in
-        IfOk result (λ next. (start : ℕ) (old : List T)
-        → SoFar T.number one literal_position gap text.now start from begin old out.old
-        → SoFar T.number one literal_position gap text.now start to next old out.new) }
+    requires room { from ≤ length out.old }
     ensures fills { let one = number_at T.MIN_MAGNITUDE T.MAX (rule_of word Integer) text.now in
-        IfErr result (λ read. (start : ℕ) (old : List T)
+        (start : ℕ) (old : List T)
         → SoFar T.number one literal_position gap text.now start from begin old out.old
-        → Fills T.number (list_at one literal_position gap text.now (length old) start) read old
-        out.new) }
-    ensures onward { IfOk result (λ next. begin ≤ next) }
-    ensures within { IfOk result (λ next. next ≤ length text.now) }
-    ensures count { IfErr result (λ read. read.count ≤ to) }
-    ensures full { IfErr result (λ read.
-        IfFull read.end (λ at. (begin ≤ at) × (at ≤ length text.now))) }
-    ensures over { IfErr result (λ read.
-        IfOver read.end (λ at. (begin ≤ at) × (at ≤ length text.now))) }
+        → Fills T.number (list_at one literal_position gap text.now (length old) start) result old
+        out.new }
+    ensures count { result.count ≤ length out.old }
+    ensures full { IfFull result.end (λ at. (begin ≤ at) × (at ≤ length text.now)) }
+    ensures over { IfOver result.end (λ at. (begin ≤ at) × (at ≤ length text.now)) }
     ensures length { length out.new ≡ length out.old }
 {
     let mut at = begin;
-    for count in from..to {
+    for count in from..out.len() {
         let place = gap.past_blanks(text, at);
         let (value, end) = match read_number_from::<T>(text, word, place) {
             Ok(read) => read,
             Err(error) => {
                 let end = gap.no_number(place, error.position(), error);
-                return Err(ListRead { count, end });
+                return ListRead { count, end };
             }
         };
         out[count] = value;
         match gap.next_after(text, end) {
             Ok(next) => at = next,
             Err(over) => {
-                return Err(ListRead {
+                return ListRead {
                     count: count + 1,
                     end: ListEnd::Over(over),
-                });
+                };
             }
         }
     }
-    Ok(at)
+    ListRead {
+        count: out.len(),
+        end: ListEnd::Full(at),
+    }
 }
 
 /// The numbers of a type from `start` on, read into a slice: each as by [`read_number_from`], with
@@ -316,27 +302,16 @@ pub fn read_list<T: Integer>(
     ensures over { IfOver result.end (λ at. (start ≤ at) × (at ≤ length text.now)) }
 {
     let mut at = start;
-    let mut count = 0;
-    let mut to = if out.len() < MANY { out.len() } else { FEW };
-    loop {
-        match read_some(text, at, word, gap, out, count, to) {
-            Ok(next) => at = next,
+    let mut from = 0;
+    if out.len() >= MANY && is_by_ends(text, word, gap, start) {
+        // a copy, so that the gap goes to memory here alone
+        match read_by_ends(text, start, word, Gap { ..gap }, out) {
+            Ok(went) => {
+                at = went.at;
+                from = went.count;
+            }
             Err(read) => return read,
         }
-        if to == out.len() {
-            return ListRead {
-                count: to,
-                end: ListEnd::Full(at),
-            };
-        }
-        if are_next_short(text, at) {
-            count = to;
-            to += SHORT.min(out.len() - to);
-            continue;
-        }
-        let went = read_by_ends(text, at, word, gap, out, to);
-        at = went.at;
-        count = went.count;
-        to = went.to;
     }
+    read_rest(text, at, word, gap, out, from)
 }

@@ -1,6 +1,6 @@
 //! Lists whose numbers are read by their ends, beside the same lists with each number read alone:
-//! on made texts, with 60 to 190 bytes left, faults among the numbers, and numbers of 1 to 40
-//! digits.
+//! on made texts, with 60 to 256 bytes left, faults among the numbers, numbers of 1 to 40 digits,
+//! and another form from the 21st number on.
 
 ghost use Rattle.std.specs.Prelude.{IsTrue, ◌<◌};
 ghost use Rattle.lexical_format.specs.Word.{is_supported};
@@ -66,7 +66,8 @@ fn is_same<T: Integer + PartialEq>(
     read == expected && alone[..] == by_ends[..]
 }
 
-/// Whether the lists of each type are the same both ways, in 160 places that hold 7.
+/// Whether the lists of each type are the same both ways, in 160 places that hold 7; and of two
+/// types in 63 and 64, of which the fewer are no reason to look for ends.
 fn are_same(rt: &impl Abort, text: &[u8], word: u128, gap: Gap) -> bool {
     is_same::<u8>(rt, text, word, gap, &mut [7; 160], &mut [7; 160])
         && is_same::<i8>(rt, text, word, gap, &mut [7; 160], &mut [7; 160])
@@ -78,6 +79,8 @@ fn are_same(rt: &impl Abort, text: &[u8], word: u128, gap: Gap) -> bool {
         && is_same::<i64>(rt, text, word, gap, &mut [7; 160], &mut [7; 160])
         && is_same::<u128>(rt, text, word, gap, &mut [7; 160], &mut [7; 160])
         && is_same::<i128>(rt, text, word, gap, &mut [7; 160], &mut [7; 160])
+        && is_same::<u64>(rt, text, word, gap, &mut [7; 63], &mut [7; 63])
+        && is_same::<i64>(rt, text, word, gap, &mut [7; 64], &mut [7; 64])
 }
 
 /// Numbers by chance.
@@ -126,14 +129,15 @@ struct Form {
     after: [u8; 4],
 }
 
-/// A list of a form.
-fn page_of(form: Form, seed: u64) -> Page {
+/// A list whose first numbers have one form, and whose others another.
+fn page_of(first: Form, then: Form, seed: u64) -> Page {
     let mut random = Random { last: seed };
     let mut page = Page {
         bytes: [b' '; 256],
         length: 0,
     };
-    for _ in 0..60 {
+    for number in 0..60 {
+        let form = if number < 20 { first } else { then };
         if random.below(form.signs.max(1)) == 1 {
             page.push([b'-', b'+'][random.below(2) as usize % 2]);
         }
@@ -221,7 +225,7 @@ fn lists_by_ends_are_those_of_single_numbers(rt: HostRuntime) {
     let words = [STANDARD, PYTHON_LITERAL, JAVA_LITERAL, RUST_LITERAL];
     for form in FORMS {
         for seed in 0..24u64 {
-            let page = page_of(form, seed);
+            let page = page_of(form, FORMS[seed as usize % 8], seed);
             let word = words[seed as usize % 4];
             for gap in gaps {
                 for left in [

@@ -1,4 +1,4 @@
-use Rattle.std.proofs.Common.{◌≡◌, ◌≤◌, ℕ, List, length}
+use Rattle.std.proofs.Common.{◌≡◌, ◌≤◌, length}
 use Rattle.lexical_digits.specs.declared.skip.component.Component.TheVariants.{Integer}
 use Rattle.lexical_digits.specs.State.{rule_of}
 use Rattle.digit_literals.specs.Ends.{AreOthers}
@@ -12,9 +12,8 @@ invariant-loop-count g l =
     let t = g.T.Integer in
     let one = number_at t.MIN_MAGNITUDE t.MAX (rule_of l.word Integer) l.text in
     record {
-      so : (begin : ℕ) (old : List _)
-          → SoFar t.number one literal_position l.gap l.text begin l.from l.start old l.initial.out
-          → SoFar t.number one literal_position l.gap l.text begin l.count l.at old l.out;
+      so : SoFar t.number one literal_position l.gap l.text l.start l.count l.at l.initial.out
+          l.out;
       others : AreOthers l.text l.at l.rest;
       onward : l.start ≤ l.at;
       within : l.at ≤ length l.text;

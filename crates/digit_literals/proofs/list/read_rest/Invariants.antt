@@ -4,7 +4,7 @@ use Rattle.lexical_digits.specs.State.{rule_of}
 use Rattle.digit_literals.specs.Errors.{literal_position}
 use Rattle.digit_literals.specs.Lists.{SoFar}
 use Rattle.digit_literals.specs.Numbers.{number_at}
-use Rattle.digit_literals.proofs.list.read_some.Given as goal
+use Rattle.digit_literals.proofs.list.read_rest.Given as goal
 
 abbrev pub invariant-loop-count : goal.invariant-loop-count
 invariant-loop-count g l =
@@ -16,5 +16,6 @@ invariant-loop-count g l =
           → SoFar t.number one literal_position l.gap l.text start l.count l.at old l.out;
       onward : l.begin ≤ l.at;
       within : l.at ≤ length l.text;
+      room : l.count-end ≡ length l.initial.out;
       same : length l.out ≡ length l.initial.out;
     }
