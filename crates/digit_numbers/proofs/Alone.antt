@@ -8,7 +8,6 @@ use Rattle.std.specs.Str.Parse.{digits_value}
 use Rattle.std.proofs.lemmas.Bool.Decides.{nat_tests}
 use Rattle.std.proofs.lemmas.List.{nil_from_length}
 use Rattle.digit_floats.specs.Bytes.{stands, is_point}
-use Rattle.digit_floats.specs.Hexadecimal.{nearest_hex}
 use Rattle.digit_floats.specs.Float.{fraction_digits}
 
 -- the exponent 0 changes nothing
@@ -49,12 +48,6 @@ pub no_fraction : (word : ℕ) (text : List ℕ) (point at : ℕ)
     → stands (is_point point) text at ≡ false → fraction_digits word text point at ≡ []
 unfolding fraction_digits
 no_fraction word text point at h = rw h refl
-
-pub hex_alone : (f : Format) (negative : Bool) (digits : List ℕ) (places : ℕ) (down : Bool) (n : ℕ)
-    → n ≡ 0 → nearest_hex f negative digits places down n
-    ≡ nearest_hex f negative digits places false 0
-hex_alone f negative digits places true n none = rw none refl
-hex_alone f negative digits places false n none = rw none refl
 
 pub ruleset alone = (nearest_alone, no_exponent)
 

@@ -111,7 +111,6 @@ fn read_power(text: &[u8], form: Form, mantissa: Mantissa) -> Option<Power>
 
 /// The exponent 0 of a float that has none.
 #[inline(always)]
-#[tactic(auto, using(crate::proofs::Alone::no_exponent))]
 fn no_power(text: &[u8], form: Form, mantissa: Mantissa) -> Power
     requires is { IsMantissaAt form text.now mantissa }
     requires float { is_float form text.now mantissa.start ≡ true }
@@ -344,7 +343,7 @@ pub fn read_short_pointed<F: Float>(
 
 /// The mantissa that the digits of an integer are where no point follows them.
 #[inline(always)]
-#[tactic(auto, using(crate::proofs::Short::ends), unfolding(crate::proofs::Short::mantissas))]
+#[tactic(auto, unfolding(crate::proofs::Short::mantissas))]
 fn mantissa_of_whole(text: &[u8], form: Form, whole: Mantissa) -> Mantissa
     requires is { IsShort form.integers.decimal text.now whole }
     requires point { stands (is_point form.marks.point) text.now whole.whole_end ≡ false }

@@ -109,7 +109,6 @@ fn read_power(text: &[u8], form: Form, word: u128, mantissa: HexMantissa) -> Opt
 
 /// The float of a mantissa that no exponent follows.
 #[inline(always)]
-#[tactic(auto, using(crate::proofs::Alone::no_exponent, crate::proofs::Alone::hex_alone))]
 fn round_alone<F: Float>(
     text: &[u8],
     form: Form,

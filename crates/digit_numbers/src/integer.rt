@@ -86,7 +86,6 @@ fn is_plain(text: &[u8], language: Language, at: usize, value: u128, end: usize)
 
 /// The integer without a prefix whose digits were read as a mantissa, if it has all of them.
 #[inline(always)]
-#[tactic(auto, using(crate::proofs::Few::few), unfolding(digit_floats::specs::Float::components))]
 fn read_decimal(text: &[u8], word: u128, mantissa: Mantissa) -> Option<(u128, usize)>
     requires is { IsWholeOf word text.now mantissa }
     ensures is { let r = rule_of word Integer in IfSome result (λ read.
@@ -102,7 +101,6 @@ fn read_decimal(text: &[u8], word: u128, mantissa: Mantissa) -> Option<(u128, us
 /// The longest integer of a language whose decimal digits were read as a mantissa: if it has no
 /// prefix, no more digits after a first `0`, and at most 19 significant ones.
 #[inline(always)]
-#[tactic(auto, using(crate::proofs::Zeros::few_is, crate::proofs::Few::integer_is))]
 pub fn read_few(text: &[u8], language: Language, mantissa: Mantissa) -> Option<Literal>
     requires is { IsWholeOf language.decimal text.now mantissa }
     ensures is { IfSome result (λ read.

@@ -32,7 +32,6 @@ pub trait Item: Copy {
 /// [`read_list`](digit_literals::read_list) of these values, and ends as that does. Requires that
 /// `start` is within the text.
 #[inline(always)]
-#[tactic(auto, using(digit_literals::proofs::Lists::turns))]
 pub fn read_items<T: Item>(text: &[u8], start: usize, gap: Gap, out: &mut [T]) -> ListRead<T::Error>
     requires within { start ≤ length text.now }
     ensures is { let list = list_at (T.item_at text.now) T.error_at gap text.now

@@ -381,7 +381,7 @@ pub fn has_separator(text: &[u8], word: u128, at: usize) -> bool
 
 /// The integer or decimal float that begins at a start, and the position after it.
 #[inline(always)]
-#[tactic(auto, using(crate::proofs::Digits::wholes), unfolding(crate::specs::Numbers::plain_at))]
+#[tactic(auto, unfolding(crate::specs::Numbers::plain_at))]
 fn read_plain<F: Float>(
     text: &[u8],
     start: usize,
@@ -406,7 +406,7 @@ fn read_plain<F: Float>(
 
 /// Whether no hexadecimal float is after the sign, as far as its first byte tells.
 #[inline(always)]
-#[tactic(auto, using(crate::proofs::Zeros::no_hex), unfolding(crate::specs::Numbers::hex_word_at))]
+#[tactic(auto, unfolding(crate::specs::Numbers::hex_word_at))]
 fn has_no_hex(text: &[u8], start: usize, form: Form, sign: Sign) -> bool
     requires sign { IsSign form text.now start sign }
     ensures { result ≡ true → hex_word_here form text.now start ≡ None }

@@ -1,14 +1,12 @@
 -- Lines that are added one by one.
 use Rattle.std.proofs.Common.{◌≡◌, ◌≢◌, ℕ, ℤ, All, Result, List, ◌++◌, length, ◌<◌, ◌≤◌, take, refl, sym, ◌∙◌, ap, arith, None, Ok, Err, take_all, take-append-drop, append_assoc, drop}
 use Rattle.std.proofs.lemmas.Bool.Decides.{nat_tests}
-use Rattle.std.proofs.lemmas.List.{take_rest}
 use Rattle.digit_sum.specs.declared.options.Options.{Options}
 use Rattle.digit_sum.specs.declared.totals.Totals.{Totals}
 use Rattle.digit_sum.specs.declared.fault.Fault.{Fault}
 use Rattle.digit_sum.specs.Lines.{lines_of, IsFirstLine, EndsWith}
 use Rattle.digit_sum.specs.Quick.{BeginsWith}
-use Rattle.digit_sum.proofs.FirstLine.{first_is, one_line}
-use Rattle.digit_sum.proofs.FirstMark.{position_within}
+use Rattle.digit_sum.proofs.FirstLine.{one_line}
 use Rattle.digit_sum.specs.Totals.{with_value, with_line, with_lines, continue, LeavesRest, EndsIn}
 use Rattle.digit_sum.specs.Value.{word_of, number_in, value_of}
 
@@ -86,5 +84,3 @@ pub ends_with_rest : (text middle rest : List ℕ) → EndsWith text middle → 
     → EndsWith text rest
 ends_with_rest text middle rest (front, e) (more, f) =
     (front ++ more, e ∙ ap (λ bytes. front ++ bytes) f ∙ sym (append_assoc front more rest))
-
-pub ruleset first_parts = (first_is, position_within, take_rest, ends_with_drop)

@@ -24,7 +24,6 @@ use lexical_format::STANDARD;
 use lexical_format::words::PYTHON_LITERAL;
 
 /// The first line of a text, and what follows its line feed. `None`: there is no line feed.
-#[tactic(auto, using(crate::proofs::Adding::first_parts))]
 pub fn first_line(text: &[u8]) -> Option<(&[u8], &[u8])>
     ensures lines { MatchOption result (All (λ byte. byte ≢ 10) text.now)
         (λ parts. IsFirstLine text.now parts.0.now parts.1.now) }

@@ -101,7 +101,6 @@ pub fn extremes<'a, A: Allocator>(
 }
 
 /// The line of the totals without its end.
-#[tactic(auto, using(crate::proofs::Bits::bits))]
 fn line_front<A: Allocator>(alloc: &A, kind: Kind, totals: Totals) -> Result<String<&A>, AllocError>
     requires { HasFewPlaces kind }
     ensures { IfOk result (λ text.
@@ -112,7 +111,6 @@ fn line_front<A: Allocator>(alloc: &A, kind: Kind, totals: Totals) -> Result<Str
 }
 
 /// The end of the line of the totals.
-#[tactic(auto, using(crate::proofs::Bits::bits))]
 fn line_end<A: Allocator>(alloc: &A, kind: Kind, totals: Totals) -> Result<String<&A>, AllocError>
     requires { HasFewPlaces kind }
     ensures { IfOk result (λ text. string_bytes text
