@@ -58,7 +58,6 @@ fn read_fields(text: &[u8]) -> Option<Date>
 }
 
 /// The date that a text is, if it is one.
-#[tactic(auto, using(crate::proofs::Fields::same_day))]
 pub fn parse_date(text: &[u8]) -> Option<Date>
     ensures date { IfSome result (IsDate text.now) }
     ensures none { IfNone result ((date : Date) → IsDate text.now date → ⊥) }
