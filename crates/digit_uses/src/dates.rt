@@ -1,7 +1,7 @@
 //! Dates of ISO 8601, such as `2026-11-25`: fields of two or four digits, and whether the year has
 //! that day. A text that has no date is none.
 //!
-//! Proof by hand: 4 lines, that a text has the fields of one date only.
+//! Proof by hand: none.
 
 ghost use Rattle.std.specs.Prelude.{◌≡◌, IfSome, IfNone};
 ghost use Rattle.digit_uses.specs.Dates.{HasFields, IsDate, days_of, has_day, is_leap};
