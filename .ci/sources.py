@@ -223,8 +223,8 @@ class Source:
 
     def function(self, item, at, begin, end):
         at = self.ahead(at, end, ";{", ("requires", "ensures"))
-        item.head = dedent(self.text[begin:at])
-        comments = []
+        head, *comments = re.split(r"\n\s*// ", self.text[begin:at].rstrip())
+        item.head = dedent(head)
         while at < end:
             gap = re.compile(r"\s*").match(self.text, at).end()
             if self.text.startswith("//", gap):
