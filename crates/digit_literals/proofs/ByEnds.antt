@@ -146,8 +146,8 @@ pub inside : (text : List ℕ) (at others : ℕ) → AreOthers text at others �
 inside text at others are some fits =
     omega (arith, first_room text at others are (omega (arith, some)) fits)
 
--- a bit is set, if the lowest one that is is among the first
-pub some_bit : (others : ℕ) → trailing_zeros w64 others ≤ 8 → 0 < others
+-- a bit is set, if there is a lowest one
+pub some_bit : (others : ℕ) → trailing_zeros w64 others < 64 → 0 < others
 some_bit zero few =
     let all : trailing_zeros w64 0 ≡ 64 = trailing_of_zero 64 in
     absurd (omega (arith, few, all))
@@ -155,7 +155,7 @@ some_bit (suc others) few = omega arith
 
 -- a digit is there, if the lowest bit isn't set
 pub digit_first : (text : List ℕ) (at others : ℕ) → AreOthers text at others
-    → others < 2 ^ 64 → 0 < trailing_zeros w64 others → trailing_zeros w64 others ≤ 8
+    → others < 2 ^ 64 → 0 < trailing_zeros w64 others → trailing_zeros w64 others < 64
     → (48 ≤ slice_index text at) × (slice_index text at < 58)
 digit_first text at others are fits more few =
     let here : at + 0 ≡ at = omega arith in
@@ -165,7 +165,7 @@ digit_first text at others are fits more few =
 
 -- the number begins there at once, if no digit is a blank
 pub begins_at_once : (gap : Gap) (text : List ℕ) (at others : ℕ) → AreOthers text at others
-    → others < 2 ^ 64 → 0 < trailing_zeros w64 others → trailing_zeros w64 others ≤ 8
+    → others < 2 ^ 64 → 0 < trailing_zeros w64 others → trailing_zeros w64 others < 64
     → ((byte : ℕ) → 48 ≤ byte → byte < 58 → is_blank gap byte ≡ false)
     → past_blanks gap text at ≡ at
 begins_at_once gap text at others are fits more few blanks =
@@ -176,7 +176,7 @@ begins_at_once gap text at others are fits more few blanks =
 -- and it has no sign: it is the integer there
 pub number_at_once : (least most : ℕ) (rule : Rule) (gap : Gap) (text : List ℕ)
     → (at others value end : ℕ) → AreOthers text at others
-    → others < 2 ^ 64 → 0 < trailing_zeros w64 others → trailing_zeros w64 others ≤ 8
+    → others < 2 ^ 64 → 0 < trailing_zeros w64 others → trailing_zeros w64 others < 64
     → ((byte : ℕ) → 48 ≤ byte → byte < 58 → is_blank gap byte ≡ false)
     → integer_at rule text at most ≡ Ok (value, end)
     → number_at least most rule text (past_blanks gap text at) ≡ Ok (pos value, end)

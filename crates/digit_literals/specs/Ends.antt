@@ -1,7 +1,10 @@
 -- Of functions that no caller sees: which bytes from a position on are no decimal digits, by the
 -- bits of a word, the first of them by the lowest bit. No public clause uses these words.
-use Rattle.std.specs.Prelude.{◌≡◌, ℕ, ◌+◌, ◌≤◌, ◌<◌, ◌&&◌, not, nat_lt, Bool, true, false, List, length, slice_index}
+use Rattle.std.specs.Prelude.{◌≡◌, ℕ, ◌+◌, ◌≤◌, ◌<◌, ◌&&◌, not, nat_lt, Bool, true, false, List, length, slice_index, Ok, Err}
 use Rattle.std.specs.Int.{bit_at}
+use Rattle.digit_literals.specs.declared.ends.Place.{Place}
+use Rattle.digit_literals.specs.declared.list.Gap.{Gap}
+use Rattle.digit_literals.specs.Lists.{next_after}
 
 -- whether a byte is a decimal digit
 abbrev pub is_decimal : ℕ → Bool
@@ -21,3 +24,16 @@ module _ (text : List ℕ) (at : ℕ) where
   abbrev pub AreDecimal : ℕ → Type 0
   AreDecimal count = (i : ℕ) → i < count
       → (48 ≤ slice_index text (at + i)) × (slice_index text (at + i) < 58)
+
+-- after a number that ends here the next one may be at a place, or the list is over
+module _ (gap : Gap) (text : List ℕ) (end : ℕ) where
+  pub record IsPlaceAfter (place : Place) : Type 0 where
+    pub is : next_after gap text end ≡ Ok place.at
+    pub onward : end < place.at
+    pub within : place.at ≤ length text
+    pub rest : AreOthers text place.at place.rest
+
+  pub record IsOverAfter (over : ℕ) : Type 0 where
+    pub is : next_after gap text end ≡ Err over
+    pub onward : end ≤ over
+    pub within : over ≤ length text

@@ -1,18 +1,21 @@
 //! The numbers of a list by their ends: 64 bytes tell at once which of them are no digits. So where
 //! a number ends is known before it is read, and none waits for the digits of the one before.
 
-ghost use Rattle.std.specs.Prelude.{◌≡◌, ℕ, List, ◌+◌, ◌^◌, ◌<◌, ◌≤◌, length, if◌then◌else◌, true, false, Ok, Err, IfSome, IfOk, IfErr, MatchResult};
+ghost use Rattle.std.specs.Prelude.{◌≡◌, ℕ, List, ◌+◌, ◌^◌, ◌<◌, ◌≤◌, length, slice_index, if◌then◌else◌, true, false, Ok, IfSome, IfOk, IfErr};
 ghost use Rattle.std.specs.Int.{trailing_zeros, w64};
 ghost use Rattle.lexical_digits.specs.declared.skip.component.Component.TheVariants.{Integer};
+ghost use Rattle.lexical_digits.specs.ByteSet.{accepts};
+ghost use Rattle.lexical_digits.specs.Separators.{is_separator};
 ghost use Rattle.lexical_digits.specs.State.{rule_of};
 ghost use Rattle.digit_literals.specs.Eight.{IsWritten};
-ghost use Rattle.digit_literals.specs.Ends.{AreOthers};
+ghost use Rattle.digit_literals.specs.Ends.{AreOthers, IsPlaceAfter, IsOverAfter};
 ghost use Rattle.digit_literals.specs.Errors.{literal_position};
 ghost use Rattle.digit_literals.specs.Integers.{integer_at};
-ghost use Rattle.digit_literals.specs.Lists.{SoFar, Fills, IfFull, IfOver, is_blank, list_at, past_blanks, next_after};
+ghost use Rattle.digit_literals.specs.Lists.{SoFar, Fills, IfFull, IfOver, is_blank, list_at, next_after, past_blanks};
 ghost use Rattle.digit_literals.specs.Numbers.{number_at, is_negative_from, digits_from, signed};
 
 use super::LiteralError;
+use super::bytes::accepts;
 use super::eight::{few_at, value_at};
 use super::list::{Gap, ListEnd, ListRead};
 use super::number::{Integer, greatest};
@@ -78,18 +81,34 @@ fn are_short(others: u64) -> bool {
     differ.count_ones() <= 4
 }
 
+/// Whether the separator of a rule also separates two numbers.
+#[inline(always)]
+#[tactic(auto, unfolding(lexical_digits::specs::Separators::is_separator))]
+fn is_shared(rule: Rule, gap: Gap) -> bool
+    ensures { result ≡ false → (byte : ℕ) → accepts gap.separators byte ≡ true
+        → is_separator rule.separator byte ≡ false }
+{
+    rule.separator != 0 && accepts(gap.separators, rule.separator)
+}
+
 /// Whether the numbers of a list are read by their ends from its first one on: the radix is 10, no
-/// digit is a blank, the text is long enough, and 16 bytes have no separator of the word, are no
-/// digits in less than half, and are no numbers of two digits each, or of three.
+/// digit is a blank, no separator of the word is between two numbers, the text is long enough, and
+/// 16 bytes have no separator of the word, are no digits in less than half, and are no numbers of
+/// two digits each, or of three.
 #[inline(always)]
 pub(super) fn is_by_ends(text: &[u8], word: u128, gap: Gap, at: usize) -> bool
     requires { at ≤ length text.now }
     ensures ten { result ≡ true → (rule_of word Integer).radix ≡ 10 }
     ensures digits { result ≡ true → (byte : ℕ) → 48 ≤ byte → byte < 58
         → is_blank gap byte ≡ false }
+    ensures apart { result ≡ true → (byte : ℕ) → accepts gap.separators byte ≡ true
+        → is_separator (rule_of word Integer).separator byte ≡ false }
 {
     let rule = Rule::of(word, Component::Integer);
     if rule.radix != 10 || gap.has_digits() || text.len() - at < BLOCK + WORDS {
+        return false;
+    }
+    if is_shared(rule, gap) {
         return false;
     }
     let bytes = u8x16::from_slice(&text[at..]);
@@ -156,9 +175,11 @@ fn pass_sign<T: Integer>(text: &[u8], place: usize, others: u64) -> Option<Head>
 
 /// The next number, whatever is before its digits.
 #[inline(always)]
+#[tactic(auto, using(crate::proofs::ByEnds::short_number, crate::proofs::ByEnds::begins_at_once))]
 fn any_head<T: Integer>(text: &[u8], gap: Gap, at: usize, rest: u64) -> Option<Head>
     requires within { at ≤ length text.now }
     requires rest { AreOthers text.now at rest }
+    requires digits { (byte : ℕ) → 48 ≤ byte → byte < 58 → is_blank gap byte ≡ false }
     ensures negative { IfSome result (λ head. head.is_negative
         ≡ is_negative_from T.MIN_MAGNITUDE text.now (past_blanks gap text.now at)) }
     ensures begins { IfSome result (λ head. head.begin
@@ -167,7 +188,17 @@ fn any_head<T: Integer>(text: &[u8], gap: Gap, at: usize, rest: u64) -> Option<H
     ensures others { IfSome result (λ head. AreOthers text.now head.begin head.others) }
     ensures some { IfSome result (λ head. 0 < head.others) }
 {
-    let place = gap.past_blanks(text, at);
+    // of a type without a sign the usual one, which begins with its first digit
+    let digits = rest.trailing_zeros();
+    if T::MIN_MAGNITUDE == 0 && digits > 0 && digits < 64 {
+        return Some(Head {
+            is_negative: false,
+            begin: at,
+            others: rest,
+            has_sign: false,
+        });
+    }
+    let place = gap.past_few_blanks(text, at);
     let others = pass(rest, place - at);
     if others > 1 {
         return pass_sign::<T>(text, place, others);
@@ -206,79 +237,76 @@ fn fits<T: Integer>(value: u64, count: usize, is_negative: bool) -> bool
         || u128::from(value) <= greatest::<T>(is_negative)
 }
 
-/// Digits that were read by their end.
+/// Where the next number of a list may be.
 #[derive(Clone, Copy)]
-struct Digits {
-    /// Their value.
-    value: u64,
-    /// How many there are.
-    count: usize,
-    /// Where they end.
-    end: usize,
+struct Place {
+    /// Where.
+    at: usize,
     /// Which bytes from there on are no digits.
-    others: u64,
+    rest: u64,
 }
 
-/// What is known of `count` digits from a position on, after they were read.
+/// [`Gap::next_after`], where a blank follows the number: one takes no loop.
 #[inline(always)]
-fn end_of(
+fn next_past_blanks(text: &[u8], gap: Gap, end: usize) -> Result<usize, usize>
+    requires { end ≤ length text.now }
+    ensures is { result ≡ next_after gap text.now end }
+    ensures onward { IfOk result (λ next. end < next) }
+    ensures within { IfOk result (λ next. next ≤ length text.now) }
+    ensures over { IfErr result (λ over. (end ≤ over) × (over ≤ length text.now)) }
+{
+    let at = gap.past_few_blanks(text, end);
+    if gap.has_separator(text, at) {
+        Ok(at + 1)
+    } else if gap.blanks_separate && at > end {
+        Ok(at)
+    } else {
+        Err(at)
+    }
+}
+
+/// Where the next number may be, if a separator follows the `count` digits from a position on;
+/// otherwise the error is the first position without a blank. `None` if the byte after them is the
+/// word's separator: then they may not be all.
+#[inline(always)]
+fn next_after_digits(
     text: &[u8],
     word: u128,
+    gap: Gap,
     begin: usize,
     others: u64,
-    count: u32,
-    value: u64,
-) -> Option<Digits>
-    requires ten { (rule_of word Integer).radix ≡ 10 }
+    count: usize,
+) -> Option<Result<Place, usize>>
+    requires apart { (byte : ℕ) → accepts gap.separators byte ≡ true
+        → is_separator (rule_of word Integer).separator byte ≡ false }
+    requires within { begin + count < length text.now }
     requires others { AreOthers text.now begin others }
-    requires some { 0 < others }
-    requires more { 0 < count }
-    requires count { count ≡ trailing_zeros w64 others }
-    requires written { IsWritten text.now begin count value }
-    requires eight { count ≤ 8 → value < 10 ^ 8 }
-    requires sixteen { count ≤ 16 → value < 10 ^ 16 }
-    ensures is { let r = rule_of word Integer in IfSome result (λ read.
-        (most : ℕ) → read.value ≤ most
-        → integer_at r text.now begin most ≡ Ok (read.value, read.end)) }
-    ensures eight { IfSome result (λ read. read.count ≤ 8 → read.value < 10 ^ 8) }
-    ensures sixteen { IfSome result (λ read. read.count ≤ 16 → read.value < 10 ^ 16) }
-    ensures onward { IfSome result (λ read. begin < read.end) }
-    ensures within { IfSome result (λ read. read.end ≤ length text.now) }
-    ensures others { IfSome result (λ read. AreOthers text.now read.end read.others) }
+    ensures all { IfSome result (λ _. is_separator (rule_of word Integer).separator
+        (slice_index text.now (begin + count)) ≡ false) }
+    ensures place { IfSome result (λ next.
+        IfOk next (IsPlaceAfter gap text.now (begin + count))) }
+    ensures over { IfSome result (λ next.
+        IfErr next (IsOverAfter gap text.now (begin + count))) }
 {
-    let end = begin + count as usize;
-    if Rule::of(word, Component::Integer).is_separator(text[end]) {
+    let end = begin + count;
+    let byte = text[end];
+    // the usual case: the bits are moved past one separator
+    if accepts(gap.separators, byte) {
+        return Some(Ok(Place {
+            at: end + 1,
+            rest: pass(others, count + 1),
+        }));
+    }
+    if Rule::of(word, Component::Integer).is_separator(byte) {
         return None;
     }
-    Some(Digits {
-        value,
-        count: count as usize,
-        end,
-        others: others >> count,
-    })
-}
-
-/// The integer whose digits begin at a position, if it is a plain one of 1 to 19 digits.
-#[inline(always)]
-fn integer_by_end(text: &[u8], word: u128, begin: usize, others: u64) -> Option<Digits>
-    requires ten { (rule_of word Integer).radix ≡ 10 }
-    requires others { AreOthers text.now begin others }
-    requires some { 0 < others }
-    ensures is { let r = rule_of word Integer in IfSome result (λ read.
-        (most : ℕ) → read.value ≤ most
-        → integer_at r text.now begin most ≡ Ok (read.value, read.end)) }
-    ensures eight { IfSome result (λ read. read.count ≤ 8 → read.value < 10 ^ 8) }
-    ensures sixteen { IfSome result (λ read. read.count ≤ 16 → read.value < 10 ^ 16) }
-    ensures onward { IfSome result (λ read. begin < read.end) }
-    ensures within { IfSome result (λ read. read.end ≤ length text.now) }
-    ensures others { IfSome result (λ read. AreOthers text.now read.end read.others) }
-{
-    let count = others.trailing_zeros();
-    if count == 0 || count > 19 {
-        return None;
+    match next_past_blanks(text, gap, end) {
+        Ok(at) => Some(Ok(Place {
+            at,
+            rest: pass(others, at - begin),
+        })),
+        Err(over) => Some(Err(over)),
     }
-    let value = value_at(text, begin, count as usize);
-    end_of(text, word, begin, others, count, value)
 }
 
 /// A number of a list that was read by its end.
@@ -288,33 +316,54 @@ struct Read<T> {
     value: T,
     /// Where it ends.
     end: usize,
-    /// Which bytes from there on are no digits.
-    others: u64,
-    /// Whether it has a sign.
-    has_sign: bool,
+    /// Where the next one may be; otherwise the first position after it without a blank.
+    next: Result<Place, usize>,
+    /// Whether it has a sign, or a number before it.
+    may_be_signed: bool,
 }
 
-/// The number of a sign and of digits, if the type has it.
+/// The number of `count` digits and of what is before them, if the type has it, and if its digits
+/// are all.
 #[inline(always)]
-fn number_of<T: Integer>(digits: Digits, is_negative: bool, has_sign: bool) -> Option<Read<T>>
-    requires eight { digits.count ≤ 8 → digits.value < 10 ^ 8 }
-    requires sixteen { digits.count ≤ 16 → digits.value < 10 ^ 16 }
-    requires sign { is_negative ≡ true → 0 < T.MIN_MAGNITUDE }
-    ensures fits { IfSome result (λ _.
-        digits.value ≤ (if is_negative then T.MIN_MAGNITUDE else T.MAX)) }
-    ensures is { IfSome result (λ read.
-        T.number read.value ≡ signed is_negative digits.value) }
-    ensures end { IfSome result (λ read. read.end ≡ digits.end) }
-    ensures others { IfSome result (λ read. read.others ≡ digits.others) }
+fn number_of<T: Integer>(
+    text: &[u8],
+    word: u128,
+    gap: Gap,
+    head: Head,
+    count: u32,
+    value: u64,
+) -> Option<Read<T>>
+    requires ten { (rule_of word Integer).radix ≡ 10 }
+    requires apart { (byte : ℕ) → accepts gap.separators byte ≡ true
+        → is_separator (rule_of word Integer).separator byte ≡ false }
+    requires others { AreOthers text.now head.begin head.others }
+    requires some { 0 < head.others }
+    requires more { 0 < count }
+    requires count { count ≡ trailing_zeros w64 head.others }
+    requires written { IsWritten text.now head.begin count value }
+    requires eight { count ≤ 8 → value < 10 ^ 8 }
+    requires sixteen { count ≤ 16 → value < 10 ^ 16 }
+    requires sign { head.is_negative ≡ true → 0 < T.MIN_MAGNITUDE }
+    ensures integer { let r = rule_of word Integer in
+        let most = if head.is_negative then T.MIN_MAGNITUDE else T.MAX in
+        IfSome result (λ read. integer_at r text.now head.begin most ≡ Ok (value, read.end)) }
+    ensures is { IfSome result (λ read. T.number read.value ≡ signed head.is_negative value) }
+    ensures onward { IfSome result (λ read. head.begin < read.end) }
+    ensures place { IfSome result (λ read.
+        IfOk read.next (IsPlaceAfter gap text.now read.end)) }
+    ensures over { IfSome result (λ read.
+        IfErr read.next (IsOverAfter gap text.now read.end)) }
 {
-    if !fits::<T>(digits.value, digits.count, is_negative) {
+    let digits = count as usize;
+    if !fits::<T>(value, digits, head.is_negative) {
         return None;
     }
+    let next = next_after_digits(text, word, gap, head.begin, head.others, digits)?;
     Some(Read {
-        value: T::of_magnitude(is_negative, u128::from(digits.value)),
-        end: digits.end,
-        others: digits.others,
-        has_sign,
+        value: T::of_magnitude(head.is_negative, u128::from(value)),
+        end: head.begin + digits,
+        next,
+        may_be_signed: head.has_sign,
     })
 }
 
@@ -331,6 +380,8 @@ fn short_number<T: Integer>(
     count: u32,
 ) -> Option<Read<T>>
     requires ten { (rule_of word Integer).radix ≡ 10 }
+    requires apart { (byte : ℕ) → accepts gap.separators byte ≡ true
+        → is_separator (rule_of word Integer).separator byte ≡ false }
     requires within { at ≤ length text.now }
     requires rest { AreOthers text.now at rest }
     requires count { count ≡ trailing_zeros w64 rest }
@@ -341,17 +392,24 @@ fn short_number<T: Integer>(
         number_at T.MIN_MAGNITUDE T.MAX r text.now (past_blanks gap text.now at)
         ≡ Ok (T.number read.value, read.end)) }
     ensures onward { IfSome result (λ read. at < read.end) }
-    ensures within { IfSome result (λ read. read.end ≤ length text.now) }
-    ensures others { IfSome result (λ read. AreOthers text.now read.end read.others) }
+    ensures place { IfSome result (λ read.
+        IfOk read.next (IsPlaceAfter gap text.now read.end)) }
+    ensures over { IfSome result (λ read.
+        IfErr read.next (IsOverAfter gap text.now read.end)) }
 {
+    let head = Head {
+        is_negative: false,
+        begin: at,
+        others: rest,
+        has_sign: false,
+    };
     let value = few_at(text, at, count as usize);
-    let digits = end_of(text, word, at, rest, count, value)?;
-    let read = number_of::<T>(digits, false, false)?;
+    let read = number_of::<T>(text, word, gap, head, count, value)?;
     Some(read)
 }
 
 /// The number after the blanks at a position, whatever is before its digits, if its end is known
-/// and its digits are read by [`integer_by_end`].
+/// and it has 1 to 19 digits.
 #[inline(always)]
 fn any_number<T: Integer>(
     text: &[u8],
@@ -361,18 +419,27 @@ fn any_number<T: Integer>(
     rest: u64,
 ) -> Option<Read<T>>
     requires ten { (rule_of word Integer).radix ≡ 10 }
+    requires apart { (byte : ℕ) → accepts gap.separators byte ≡ true
+        → is_separator (rule_of word Integer).separator byte ≡ false }
     requires within { at ≤ length text.now }
     requires rest { AreOthers text.now at rest }
+    requires digits { (byte : ℕ) → 48 ≤ byte → byte < 58 → is_blank gap byte ≡ false }
     ensures is { let r = rule_of word Integer in IfSome result (λ read.
         number_at T.MIN_MAGNITUDE T.MAX r text.now (past_blanks gap text.now at)
         ≡ Ok (T.number read.value, read.end)) }
     ensures onward { IfSome result (λ read. at < read.end) }
-    ensures within { IfSome result (λ read. read.end ≤ length text.now) }
-    ensures others { IfSome result (λ read. AreOthers text.now read.end read.others) }
+    ensures place { IfSome result (λ read.
+        IfOk read.next (IsPlaceAfter gap text.now read.end)) }
+    ensures over { IfSome result (λ read.
+        IfErr read.next (IsOverAfter gap text.now read.end)) }
 {
     let head = any_head::<T>(text, gap, at, rest)?;
-    let digits = integer_by_end(text, word, head.begin, head.others)?;
-    number_of::<T>(digits, head.is_negative, head.has_sign)
+    let count = head.others.trailing_zeros();
+    if count == 0 || count > 19 {
+        return None;
+    }
+    let value = value_at(text, head.begin, count as usize);
+    number_of::<T>(text, word, gap, head, count, value)
 }
 
 /// [`any_number`], or at once the usual one, where no number before had a sign.
@@ -381,62 +448,31 @@ fn number_by_end<T: Integer>(
     text: &[u8],
     word: u128,
     gap: Gap,
-    at: usize,
-    rest: u64,
+    place: Place,
     may_be_signed: bool,
 ) -> Option<Read<T>>
     requires ten { (rule_of word Integer).radix ≡ 10 }
-    requires within { at ≤ length text.now }
-    requires rest { AreOthers text.now at rest }
+    requires apart { (byte : ℕ) → accepts gap.separators byte ≡ true
+        → is_separator (rule_of word Integer).separator byte ≡ false }
+    requires within { place.at ≤ length text.now }
+    requires rest { AreOthers text.now place.at place.rest }
     requires digits { (byte : ℕ) → 48 ≤ byte → byte < 58 → is_blank gap byte ≡ false }
     ensures is { let r = rule_of word Integer in IfSome result (λ read.
-        number_at T.MIN_MAGNITUDE T.MAX r text.now (past_blanks gap text.now at)
+        number_at T.MIN_MAGNITUDE T.MAX r text.now (past_blanks gap text.now place.at)
         ≡ Ok (T.number read.value, read.end)) }
-    ensures onward { IfSome result (λ read. at < read.end) }
-    ensures within { IfSome result (λ read. read.end ≤ length text.now) }
-    ensures others { IfSome result (λ read. AreOthers text.now read.end read.others) }
+    ensures onward { IfSome result (λ read. place.at < read.end) }
+    ensures place { IfSome result (λ read.
+        IfOk read.next (IsPlaceAfter gap text.now read.end)) }
+    ensures over { IfSome result (λ read.
+        IfErr read.next (IsOverAfter gap text.now read.end)) }
 {
-    let count = rest.trailing_zeros();
+    let count = place.rest.trailing_zeros();
     if count > 0 && count <= 8 && !may_be_signed {
-        short_number::<T>(text, word, gap, at, rest, count)
-    } else {
-        any_number::<T>(text, word, gap, at, rest)
+        return short_number::<T>(text, word, gap, place.at, place.rest, count);
     }
-}
-
-/// Where the next number of a list may be.
-#[derive(Clone, Copy)]
-struct Place {
-    /// Where.
-    at: usize,
-    /// Which bytes from there on are no digits.
-    rest: u64,
-}
-
-/// Where the next number may be, if a separator follows the number that ends at a position.
-/// Otherwise the error is the first position without a blank.
-#[inline(always)]
-#[tactic(auto, using(crate::proofs::Lists::separator_is_no_blank))]
-fn place_after(text: &[u8], gap: Gap, end: usize, others: u64) -> Result<Place, usize>
-    requires within { end ≤ length text.now }
-    requires others { AreOthers text.now end others }
-    ensures is { MatchResult result (λ place. next_after gap text.now end ≡ Ok place.at)
-        (λ over. next_after gap text.now end ≡ Err over) }
-    ensures onward { IfOk result (λ place. end < place.at) }
-    ensures within { IfOk result (λ place. place.at ≤ length text.now) }
-    ensures rest { IfOk result (λ place. AreOthers text.now place.at place.rest) }
-    ensures over { IfErr result (λ over. (end ≤ over) × (over ≤ length text.now)) }
-{
-    // the usual case: the bits are moved by one
-    if gap.has_separator(text, end) {
-        return Ok(Place {
-            at: end + 1,
-            rest: pass(others, 1),
-        });
-    }
-    let at = gap.next_after(text, end)?;
-    let rest = pass(others, at - end);
-    Ok(Place { at, rest })
+    let mut read = any_number::<T>(text, word, gap, place.at, place.rest)?;
+    read.may_be_signed = read.may_be_signed | may_be_signed;
+    Some(read)
 }
 
 /// How far a list was read by ends.
@@ -461,6 +497,8 @@ pub(super) fn read_by_ends<T: Integer>(
     out: &mut [T],
 ) -> Result<Went, ListRead<LiteralError>>
     requires ten { (rule_of word Integer).radix ≡ 10 }
+    requires apart { (byte : ℕ) → accepts gap.separators byte ≡ true
+        → is_separator (rule_of word Integer).separator byte ≡ false }
     requires digits { (byte : ℕ) → 48 ≤ byte → byte < 58 → is_blank gap byte ≡ false }
     requires within { start ≤ length text.now }
     ensures so { let one = number_at T.MIN_MAGNITUDE T.MAX (rule_of word Integer) text.now in
@@ -479,19 +517,18 @@ pub(super) fn read_by_ends<T: Integer>(
         IfOver read.end (λ at. (start ≤ at) × (at ≤ length text.now))) }
     ensures length { length out.new ≡ length out.old }
 {
-    let mut at = start;
-    let mut rest = 0;
+    let mut place = Place { at: start, rest: 0 };
     let mut may_be_signed = false;
     for count in 0..out.len() {
-        let Some(read) = number_by_end::<T>(text, word, gap, at, rest, may_be_signed) else {
-            return Ok(Went { count, at });
+        let Some(read) = number_by_end::<T>(text, word, gap, place, may_be_signed) else {
+            return Ok(Went {
+                count,
+                at: place.at,
+            });
         };
         out[count] = read.value;
-        match place_after(text, gap, read.end, read.others) {
-            Ok(place) => {
-                rest = place.rest;
-                at = place.at;
-            }
+        match read.next {
+            Ok(next) => place = next,
             Err(over) => {
                 return Err(ListRead {
                     count: count + 1,
@@ -499,10 +536,10 @@ pub(super) fn read_by_ends<T: Integer>(
                 });
             }
         }
-        may_be_signed = may_be_signed | read.has_sign;
+        may_be_signed = read.may_be_signed;
     }
     Ok(Went {
         count: out.len(),
-        at,
+        at: place.at,
     })
 }

@@ -133,7 +133,8 @@ impl Gap {
     /// Whether a blank is at a position.
     #[inline(always)]
     fn has_blank(self, text: &[u8], at: usize) -> bool
-        ensures { result ≡ has_blank self text.now at }
+        ensures is { result ≡ has_blank self text.now at }
+        ensures within { result ≡ true → at < length text.now }
     {
         match text.get(at) {
             Some(byte) => self.is_blank(*byte),
@@ -157,6 +158,26 @@ impl Gap {
         } else {
             at
         }
+    }
+
+    /// [`past_blanks`](Gap::past_blanks), where a blank is expected: one takes no loop.
+    #[inline(always)]
+    #[tactic(auto, using(crate::proofs::Passing::passing), unfolding(crate::specs::Lists::past_blanks))]
+    pub(super) fn past_few_blanks(self, text: &[u8], at: usize) -> usize
+        requires { at ≤ length text.now }
+        ensures is { result ≡ past_blanks self text.now at }
+        ensures onward { at ≤ result }
+        ensures within { result ≤ length text.now }
+    {
+        if !self.has_blank(text, at) {
+            return at;
+        }
+        let next = at + 1;
+        if !self.has_blank(text, next) {
+            return next;
+        }
+        let rest = next + 1;
+        rest + self.count_blanks(&text[rest..])
     }
 
     /// Where the next number may be, if a separator follows the number that ends at a position.

@@ -1,6 +1,6 @@
 //! Lists whose numbers are read by their ends, beside the same lists with each number read alone:
-//! on made texts, with 60 to 256 bytes left, faults among the numbers, numbers of 1 to 40 digits,
-//! and another form from the 21st number on.
+//! on made texts, with 60 to 256 bytes left, faults among the numbers, numbers of 1 to 40 digits, up
+//! to three blanks around separators, and another form from the 21st number on.
 
 ghost use Rattle.std.specs.Prelude.{IsTrue, ◌<◌};
 ghost use Rattle.lexical_format.specs.Word.{is_supported};
@@ -9,6 +9,7 @@ use digit_literals::{
     COMMAS, COMMAS_IN_LINE, Gap, Integer, LINES, ListEnd, ListRead, LiteralError, WHITESPACE,
     read_list, read_number_from,
 };
+use lexical_digits::ops::ByteSet;
 use lexical_format::words::{JAVA_LITERAL, PYTHON_LITERAL, RUST_LITERAL};
 use lexical_format::{STANDARD, is_supported};
 use std::process::Abort;
@@ -127,6 +128,8 @@ struct Form {
     faults: u64,
     /// What may be after a number: one of these bytes, or two.
     after: [u8; 4],
+    /// How many blanks may be before these, and after them.
+    blanks: u64,
 }
 
 /// A list whose first numbers have one form, and whose others another.
@@ -152,7 +155,13 @@ fn page_of(first: Form, then: Form, seed: u64) -> Page {
                     % 10],
             );
         }
+        for _ in 0..random.below(form.blanks.saturating_add(1)) {
+            page.push([b' ', b'\r'][random.below(2) as usize % 2]);
+        }
         page.push(form.after[random.below(4) as usize % 4]);
+        for _ in 0..random.below(form.blanks.saturating_add(1)) {
+            page.push(b' ');
+        }
         if random.below(form.faults.max(1)) == 1 {
             page.push(form.after[random.below(4) as usize % 4]);
         }
@@ -160,13 +169,14 @@ fn page_of(first: Form, then: Form, seed: u64) -> Page {
     page
 }
 
-const FORMS: [Form; 8] = [
+const FORMS: [Form; 10] = [
     Form {
         digits: 1,
         more: 1,
         signs: 0,
         faults: 0,
         after: [b','; 4],
+        blanks: 0,
     },
     Form {
         digits: 1,
@@ -174,6 +184,7 @@ const FORMS: [Form; 8] = [
         signs: 0,
         faults: 0,
         after: [b','; 4],
+        blanks: 0,
     },
     Form {
         digits: 1,
@@ -181,6 +192,7 @@ const FORMS: [Form; 8] = [
         signs: 2,
         faults: 40,
         after: [b','; 4],
+        blanks: 0,
     },
     Form {
         digits: 2,
@@ -188,6 +200,7 @@ const FORMS: [Form; 8] = [
         signs: 3,
         faults: 300,
         after: [b',', b',', b' ', b'\n'],
+        blanks: 0,
     },
     Form {
         digits: 7,
@@ -195,6 +208,7 @@ const FORMS: [Form; 8] = [
         signs: 2,
         faults: 300,
         after: [b','; 4],
+        blanks: 0,
     },
     Form {
         digits: 15,
@@ -202,6 +216,7 @@ const FORMS: [Form; 8] = [
         signs: 3,
         faults: 0,
         after: [b','; 4],
+        blanks: 0,
     },
     Form {
         digits: 1,
@@ -209,6 +224,7 @@ const FORMS: [Form; 8] = [
         signs: 3,
         faults: 0,
         after: [b','; 4],
+        blanks: 0,
     },
     Form {
         digits: 1,
@@ -216,16 +232,48 @@ const FORMS: [Form; 8] = [
         signs: 0,
         faults: 100,
         after: [b' ', b'\n', b'\t', b' '],
+        blanks: 0,
+    },
+    Form {
+        digits: 3,
+        more: 3,
+        signs: 0,
+        faults: 300,
+        after: [b','; 4],
+        blanks: 1,
+    },
+    Form {
+        digits: 4,
+        more: 9,
+        signs: 5,
+        faults: 200,
+        after: [b',', b',', b'\n', b'_'],
+        blanks: 3,
     },
 ];
 
+/// A comma, or the separator of the words.
+const COMMAS_AND_UNDERSCORES: Gap = Gap {
+    separators: ByteSet {
+        low: (1 << 44) | (1 << 95),
+        high: 0,
+    },
+    ..COMMAS
+};
+
 #[test]
 fn lists_by_ends_are_those_of_single_numbers(rt: HostRuntime) {
-    let gaps = [COMMAS, COMMAS_IN_LINE, LINES, WHITESPACE];
+    let gaps = [
+        COMMAS,
+        COMMAS_IN_LINE,
+        LINES,
+        WHITESPACE,
+        COMMAS_AND_UNDERSCORES,
+    ];
     let words = [STANDARD, PYTHON_LITERAL, JAVA_LITERAL, RUST_LITERAL];
     for form in FORMS {
         for seed in 0..24u64 {
-            let page = page_of(form, FORMS[seed as usize % 8], seed);
+            let page = page_of(form, FORMS[seed as usize % 10], seed);
             let word = words[seed as usize % 4];
             for gap in gaps {
                 for left in [

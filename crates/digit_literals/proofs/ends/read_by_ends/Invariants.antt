@@ -12,11 +12,11 @@ invariant-loop-count g l =
     let t = g.T.Integer in
     let one = number_at t.MIN_MAGNITUDE t.MAX (rule_of l.word Integer) l.text in
     record {
-      so : SoFar t.number one literal_position l.gap l.text l.start l.count l.at l.initial.out
+      so : SoFar t.number one literal_position l.gap l.text l.start l.count l.place.at l.initial.out
           l.out;
-      others : AreOthers l.text l.at l.rest;
-      onward : l.start ≤ l.at;
-      within : l.at ≤ length l.text;
+      others : AreOthers l.text l.place.at l.place.rest;
+      onward : l.start ≤ l.place.at;
+      within : l.place.at ≤ length l.text;
       room : l.count-end ≡ length l.initial.out;
       same : length l.out ≡ length l.initial.out;
     }

@@ -10,10 +10,9 @@ returns-clause-is g c =
     let t = g.T.Integer in
     let more : 0 < trailing_zeros w64 c.args.rest = omega (arith, c.requires.count, c.requires.some)
     in
-    let few : trailing_zeros w64 c.args.rest ≤ 8 = omega (arith, c.requires.count, c.requires.few)
+    let few : trailing_zeros w64 c.args.rest < 64 = omega (arith, c.requires.count, c.requires.few)
     in
-    rw (c.in_ok-read.ensures.is, c.in_ok-read.ensures.end)
+    rw c.in_ok-read.ensures.is
     (number_at_once t.MIN_MAGNITUDE t.MAX (rule_of c.args.word Integer) c.args.gap
-    c.args.text.now c.args.at c.args.rest c.in_ok-digits.digits.value c.in_ok-digits.digits.end
-    c.requires.rest (omega arith) more few c.requires.digits
-    (c.in_ok-digits.ensures.is t.MAX c.in_ok-read.ensures.fits))
+    c.args.text.now c.args.at c.args.rest _ c.in_ok-read.read.end
+    c.requires.rest (omega arith) more few c.requires.digits c.in_ok-read.ensures.integer)
