@@ -2,9 +2,12 @@
 -- bits of a word, the first of them by the lowest bit. No public clause uses these words.
 use Rattle.std.specs.Prelude.{◌≡◌, ℕ, ◌+◌, ◌≤◌, ◌<◌, ◌&&◌, not, nat_lt, Bool, true, false, List, length, slice_index, Ok, Err}
 use Rattle.std.specs.Int.{bit_at}
+use Rattle.lexical_digits.specs.declared.skip.rule.Rule.{Rule}
+use Rattle.lexical_digits.specs.ByteSet.{accepts}
+use Rattle.lexical_digits.specs.Separators.{is_separator}
 use Rattle.digit_literals.specs.declared.ends.Place.{Place}
 use Rattle.digit_literals.specs.declared.list.Gap.{Gap}
-use Rattle.digit_literals.specs.Lists.{next_after}
+use Rattle.digit_literals.specs.Lists.{is_blank, next_after}
 
 -- whether a byte is a decimal digit
 abbrev pub is_decimal : ℕ → Bool
@@ -37,3 +40,11 @@ module _ (gap : Gap) (text : List ℕ) (end : ℕ) where
     pub is : next_after gap text end ≡ Err over
     pub onward : end ≤ over
     pub within : over ≤ length text
+
+-- the numbers of a list may be read by their ends: digits are decimal and no blanks, and no byte
+-- that separates two numbers is also dropped within one
+pub record AreByEnds (rule : Rule) (gap : Gap) : Type 0 where
+  pub ten : rule.radix ≡ 10
+  pub digits : (byte : ℕ) → 48 ≤ byte → byte < 58 → is_blank gap byte ≡ false
+  pub apart : (byte : ℕ) → accepts gap.separators byte ≡ true
+      → is_separator rule.separator byte ≡ false

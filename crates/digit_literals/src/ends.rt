@@ -8,7 +8,7 @@ ghost use Rattle.lexical_digits.specs.ByteSet.{accepts};
 ghost use Rattle.lexical_digits.specs.Separators.{is_separator};
 ghost use Rattle.lexical_digits.specs.State.{rule_of};
 ghost use Rattle.digit_literals.specs.Eight.{IsWritten};
-ghost use Rattle.digit_literals.specs.Ends.{AreOthers, IsPlaceAfter, IsOverAfter};
+ghost use Rattle.digit_literals.specs.Ends.{AreByEnds, AreOthers, IsPlaceAfter, IsOverAfter};
 ghost use Rattle.digit_literals.specs.Errors.{literal_position};
 ghost use Rattle.digit_literals.specs.Integers.{integer_at};
 ghost use Rattle.digit_literals.specs.Lists.{SoFar, Fills, IfFull, IfOver, is_blank, list_at, next_after, past_blanks};
@@ -98,11 +98,7 @@ fn is_shared(rule: Rule, gap: Gap) -> bool
 #[inline(always)]
 pub(super) fn is_by_ends(text: &[u8], word: u128, gap: Gap, at: usize) -> bool
     requires { at ≤ length text.now }
-    ensures ten { result ≡ true → (rule_of word Integer).radix ≡ 10 }
-    ensures digits { result ≡ true → (byte : ℕ) → 48 ≤ byte → byte < 58
-        → is_blank gap byte ≡ false }
-    ensures apart { result ≡ true → (byte : ℕ) → accepts gap.separators byte ≡ true
-        → is_separator (rule_of word Integer).separator byte ≡ false }
+    ensures { result ≡ true → AreByEnds (rule_of word Integer) gap }
 {
     let rule = Rule::of(word, Component::Integer);
     if rule.radix != 10 || gap.has_digits() || text.len() - at < BLOCK + WORDS {
@@ -277,8 +273,7 @@ fn next_after_digits(
     others: u64,
     count: usize,
 ) -> Option<Result<Place, usize>>
-    requires apart { (byte : ℕ) → accepts gap.separators byte ≡ true
-        → is_separator (rule_of word Integer).separator byte ≡ false }
+    requires list { AreByEnds (rule_of word Integer) gap }
     requires within { begin + count < length text.now }
     requires others { AreOthers text.now begin others }
     ensures all { IfSome result (λ _. is_separator (rule_of word Integer).separator
@@ -333,9 +328,7 @@ fn number_of<T: Integer>(
     count: u32,
     value: u64,
 ) -> Option<Read<T>>
-    requires ten { (rule_of word Integer).radix ≡ 10 }
-    requires apart { (byte : ℕ) → accepts gap.separators byte ≡ true
-        → is_separator (rule_of word Integer).separator byte ≡ false }
+    requires list { AreByEnds (rule_of word Integer) gap }
     requires others { AreOthers text.now head.begin head.others }
     requires some { 0 < head.others }
     requires more { 0 < count }
@@ -379,15 +372,12 @@ fn short_number<T: Integer>(
     rest: u64,
     count: u32,
 ) -> Option<Read<T>>
-    requires ten { (rule_of word Integer).radix ≡ 10 }
-    requires apart { (byte : ℕ) → accepts gap.separators byte ≡ true
-        → is_separator (rule_of word Integer).separator byte ≡ false }
+    requires list { AreByEnds (rule_of word Integer) gap }
     requires within { at ≤ length text.now }
     requires rest { AreOthers text.now at rest }
     requires count { count ≡ trailing_zeros w64 rest }
     requires some { 0 < count }
     requires few { count ≤ 8 }
-    requires digits { (byte : ℕ) → 48 ≤ byte → byte < 58 → is_blank gap byte ≡ false }
     ensures is { let r = rule_of word Integer in IfSome result (λ read.
         number_at T.MIN_MAGNITUDE T.MAX r text.now (past_blanks gap text.now at)
         ≡ Ok (T.number read.value, read.end)) }
@@ -418,12 +408,9 @@ fn any_number<T: Integer>(
     at: usize,
     rest: u64,
 ) -> Option<Read<T>>
-    requires ten { (rule_of word Integer).radix ≡ 10 }
-    requires apart { (byte : ℕ) → accepts gap.separators byte ≡ true
-        → is_separator (rule_of word Integer).separator byte ≡ false }
+    requires list { AreByEnds (rule_of word Integer) gap }
     requires within { at ≤ length text.now }
     requires rest { AreOthers text.now at rest }
-    requires digits { (byte : ℕ) → 48 ≤ byte → byte < 58 → is_blank gap byte ≡ false }
     ensures is { let r = rule_of word Integer in IfSome result (λ read.
         number_at T.MIN_MAGNITUDE T.MAX r text.now (past_blanks gap text.now at)
         ≡ Ok (T.number read.value, read.end)) }
@@ -451,12 +438,9 @@ fn number_by_end<T: Integer>(
     place: Place,
     may_be_signed: bool,
 ) -> Option<Read<T>>
-    requires ten { (rule_of word Integer).radix ≡ 10 }
-    requires apart { (byte : ℕ) → accepts gap.separators byte ≡ true
-        → is_separator (rule_of word Integer).separator byte ≡ false }
+    requires list { AreByEnds (rule_of word Integer) gap }
     requires within { place.at ≤ length text.now }
     requires rest { AreOthers text.now place.at place.rest }
-    requires digits { (byte : ℕ) → 48 ≤ byte → byte < 58 → is_blank gap byte ≡ false }
     ensures is { let r = rule_of word Integer in IfSome result (λ read.
         number_at T.MIN_MAGNITUDE T.MAX r text.now (past_blanks gap text.now place.at)
         ≡ Ok (T.number read.value, read.end)) }
@@ -496,10 +480,7 @@ pub(super) fn read_by_ends<T: Integer>(
     gap: Gap,
     out: &mut [T],
 ) -> Result<Went, ListRead<LiteralError>>
-    requires ten { (rule_of word Integer).radix ≡ 10 }
-    requires apart { (byte : ℕ) → accepts gap.separators byte ≡ true
-        → is_separator (rule_of word Integer).separator byte ≡ false }
-    requires digits { (byte : ℕ) → 48 ≤ byte → byte < 58 → is_blank gap byte ≡ false }
+    requires list { AreByEnds (rule_of word Integer) gap }
     requires within { start ≤ length text.now }
     ensures so { let one = number_at T.MIN_MAGNITUDE T.MAX (rule_of word Integer) text.now in
         IfOk result (λ went. SoFar T.number one literal_position gap text.now start went.count

@@ -28,7 +28,7 @@ returns-clause-integer g c =
     let marked =
     rw (← c.requires.count) at
     (first_other text begin others c.requires.others c.requires.some (omega arith)) in
-    let other = no_digit rule (slice_index text (begin + count)) c.requires.ten fit marked in
-    number_is_plain rule text begin c.requires.ten count c.args.value
+    let other = no_digit rule (slice_index text (begin + count)) c.requires.list.ten fit marked in
+    number_is_plain rule text begin c.requires.list.ten count c.args.value
     c.requires.written (omega (arith, room, c.requires.count)) other c.in_ok-next.ensures.all
     c.requires.more most (c.if-not-fits.ensures refl)

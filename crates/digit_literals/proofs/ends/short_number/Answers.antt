@@ -15,4 +15,4 @@ returns-clause-is g c =
     rw c.in_ok-read.ensures.is
     (number_at_once t.MIN_MAGNITUDE t.MAX (rule_of c.args.word Integer) c.args.gap
     c.args.text.now c.args.at c.args.rest _ c.in_ok-read.read.end
-    c.requires.rest (omega arith) more few c.requires.digits c.in_ok-read.ensures.integer)
+    c.requires.rest (omega arith) more few c.requires.list.digits c.in_ok-read.ensures.integer)
