@@ -146,27 +146,24 @@ def summary(cases):
         return span(cases, form, "Constant")
 
     return f"""\
-Counted in instructions, with a format word that is a constant:
+In instructions, with a constant format word, beside std, which gets the digits without \
+separators, and a loop over lexical-util's iterator:
 
-- **Integers** without separators take {std("u: no flags")} times those of std's `parse`, and \
-{original("u: no flags")} times those of a loop over lexical-util's iterator.
-- **Grouped integers**, such as `1_234_567`, take {std("u: I, grouped")} times those of std's \
-`parse`, which gets the digits without separators, and {original("u: I, grouped")} times \
+- **Integers** take {std("u: no flags")} times std's, and {original("u: no flags")} times \
 lexical-util's.
-- **Hexadecimal integers** take {std("y: radix 16, no flags")} times those of `from_str_radix`, \
-and {original("y: radix 16")} times lexical-util's. Literals of Rust take {std("w: ")} times as \
-many as `from_str_radix`.
-- **Floats** take {std("x: no flags")} times those of std's `parse`, and {std("x: I, grouped")} \
-with separators.
-- **Beside the best other reader** that does the same work, a `u64` takes {to_peers("u64")} times \
-its instructions (`from_chars`), a grouped one {to_peers("grouped")} (lexical-core), an `i32` \
-{to_peers("i32")} (std), an `f64` {to_peers("f64")} (fast_float, simdjson), and a number of JSON \
-{to_peers("JSON")} (simdjson).
+- **Grouped integers**, such as `1_234_567`, take {std("u: I, grouped")} times std's, and \
+{original("u: I, grouped")} times lexical-util's.
+- **Hexadecimal integers** take {std("y: radix 16, no flags")} times std's, and \
+{original("y: radix 16")} times lexical-util's; literals of Rust {std("w: ")} times std's.
+- **Floats** take {std("x: no flags")} times std's, and {std("x: I, grouped")} with separators.
+- **Beside the best other reader** that does the same work: a `u64` {to_peers("u64")} times \
+(`from_chars`), grouped {to_peers("grouped")} (lexical-core), an `i32` {to_peers("i32")} (std), an \
+`f64` {to_peers("f64")} (fast_float, simdjson), a number of JSON {to_peers("JSON")} (simdjson).
 
-The slow ones are grouped floats (up to {most_of(cases, "x:", "Constant", "Filter")} times \
-std), numbers of JSON ({most_of(cases, "z:", "Constant", "Filter")}), runs of dropped separators \
-({most_of(cases, "e:", "Constant")} times lexical-util), \
-letters ({most_of(cases, "k:", "Constant")}), and a word that is known only at run time (up to \
+Slow are grouped floats (up to {most_of(cases, "x:", "Constant", "Filter")} times std), numbers of \
+JSON ({most_of(cases, "z:", "Constant", "Filter")}), runs of dropped separators \
+({most_of(cases, "e:", "Constant")} times lexical-util), letters \
+({most_of(cases, "k:", "Constant")}), and a word that only run time knows (up to \
 {most_of(cases, "", "Library")})."""
 
 
