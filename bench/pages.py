@@ -17,7 +17,6 @@ from picture import svg  # noqa: E402
 ROWS = {
     "Digits, no separators allowed": "a: no flags, digits, number",
     "Digits, separators allowed": "b: I, digits, number",
-    "Numbers of 8 to 20 bytes, grouped": "f: I, short grouped numbers",
     "Numbers of 1 to 4 digits": "f: I, 1 to 4 digits",
     "Runs of 16 separators, all dropped": "e: ILTC, runs of 16, number",
     "Letters by `peek` and `next`": "k: I, other bytes, peeked",

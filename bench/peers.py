@@ -21,8 +21,8 @@ DOOR_ROWS = [
 ]
 LEFT_OUT = {
     "u64, 16 digits", "hexadecimal u64, 8 to 16 digits", "grouped u64, 4 to 7 digits",
-    "f64, 13 to 15 places", "f64, shortest in [0, 1)", "f32, shortest of random bits",
-    "JSON, integers of 1 to 4 digits",
+    "f64, 13 to 15 places", "f64, shortest in [0, 1)", "f32, coordinates",
+    "f32, shortest of random bits", "JSON, integers of 1 to 4 digits",
 }
 # What a side doesn't do that the library does, in the rows whose names begin so.
 LESS = {
@@ -69,7 +69,8 @@ def best(row, sides, value, does_less):
 
 
 def ratio(mine, peer):
-    return f"{mine / peer[0]:.2f} {peer[1]}" if peer else "–"
+    """A ratio, and the peer's name without what it reads."""
+    return f"{mine / peer[0]:.2f} {peer[1].partition(',')[0]}" if peer else "–"
 
 
 def cells(row, sides):
@@ -95,19 +96,20 @@ def peers():
     counts, times = Figures("counts.txt"), Figures("times.txt")
     head = ["What is read", "Library", "to the best peer", "to one that does less"]
     body = [cells(row, sides) for row, sides in counts.rows.items() if row not in LEFT_OUT]
-    words = ("Instructions for a number with a constant word, and their ratio to the best peer "
-             "that does the same work, and to the best that does less")
+    words = ("Instructions for a number with a constant word; their ratio to the best peer that "
+             "does the same work, and that does less")
     if times.rows:
         head.append("time")
-        words += ("; the ratio of the time to the fastest peer that does the same work, the "
-                  "greater one of two runs on a quiet machine")
+        words += ("; the ratio of the time to the fastest that does the same work, the greater "
+                  "one of two runs on a quiet machine")
         for line in body:
             line.append(time(line[0], times.rows.get(line[0])))
-    shown = " ".join(cell for line in body for cell in line)
-    told = "; ".join(f"{side}: {it}" for (_, side), it in LESS.items()
-                     if it != "the same" and f" {side}" in shown)
+    shown = [best(row, counts.rows[row], lambda it: it[0], True) for row, *_ in body]
+    told = "; ".join(f"{side} ({it})" for (_, side), it in LESS.items()
+                     if any(peer and peer[1] == side for peer in shown))
     text = [f"{counts.head}.\n", *table(f"{words}:", head, body),
-            f"What a peer doesn't do: {told}; *plain*: it gets {PLAIN}."]
+            f"Those that do less: {told}; of grouped numbers they get {PLAIN}. The best simdjson "
+            "reads an array."]
     return "\n".join(text)
 
 
