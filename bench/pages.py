@@ -17,14 +17,11 @@ from picture import svg  # noqa: E402
 ROWS = {
     "Digits, no separators allowed": "a: no flags, digits, number",
     "Digits, separators allowed": "b: I, digits, number",
-    "Numbers of 8 to 20 bytes, grouped": "f: I, short grouped numbers",
     "Numbers of 1 to 4 digits": "f: I, 1 to 4 digits",
-    "The same by `peek`, `is_digit` and `next`": "n: I, 1 to 4 digits to a comma",
     "Runs of 16 separators, all dropped": "e: ILTC, runs of 16, number",
     "Letters by `peek` and `next`": "k: I, other bytes, peeked",
     "`u64`, 1 to 4 digits": "u: no flags, 1 to 4 digits, u64",
     "`u64`, 8 to 20 digits, grouped": "u: I, grouped, u64",
-    "`i32`, 1 to 4 digits": "u: no flags, 1 to 4 digits, i32",
     "Hexadecimal `u64`, 1 to 4 digits": "y: radix 16, no flags, 1 to 4 digits, parse_number, u64",
     "Binary `u64`, 8 to 60 digits": "y: radix 2, no flags, parse_number, u64",
     "Literals of Rust by `read_literal`": "w: literals of Rust",
@@ -95,11 +92,10 @@ def speed_rows(cases):
         to_std = cases.ratio(case, "Constant", "Filter") if case[0] in BY_STD else None
         is_over = " over" if "over" in row.get("Library / floor", "") else ""
         is_beside = row.get("Original", "–") != "–"
-        misses = cases.row(case, "Mispredictions")
         yield [words, row["Constant"], row["Constant / fixed"] if is_beside else "–",
                f"{to_std:.2f}" if to_std else "–", row["Library"] + is_over,
-               *("/".join(it.get(column, "–") for column in ("Constant", "Original"))
-                 for it in ([times, misses] if cases.rows["Nanoseconds"] else [misses]))]
+               *(["/".join(times.get(column, "–") for column in ("Constant", "Original"))]
+                 if cases.rows["Nanoseconds"] else [])]
 
 
 def asked(cases, flags):
@@ -112,20 +108,17 @@ def speed(cases):
     """What docs/SPEED.md has between its comments."""
     is_timed = bool(cases.rows["Nanoseconds"])
     head = ["What is read", "Constant word", "to lexical-util", "to std", "At run time",
-            *(["ns"] if is_timed else []), "mispredicted"]
-    last = ("in the last two columns nanoseconds, and branches that valgrind mispredicts" if is_timed
-            else "in the last column branches that valgrind mispredicts")
+            *(["ns"] if is_timed else [])]
+    last = "; in the last column nanoseconds, of the constant word and of lexical-util"
     lines = [f"{cases.machine}\n"]
-    lines += table(f"Instructions for each byte; {last}, of the constant word and of lexical-util:",
-                   head, speed_rows(cases))
-    lines += [f"{mean}\n" for mean in cases.means]
+    lines += table(f"Instructions for each byte{last if is_timed else ''}:", head, speed_rows(cases))
+    # which case takes most, bench/cases.txt says
+    lines += [re.sub(r', "[^"]*"', "", f"{mean}\n") for mean in cases.means]
     return "\n".join(lines) + f"""
 If `looks` is asked after each number of 1 to 4 digits, these go from {asked(cases, "no flags")} \
-without flags, and from {asked(cases, "I")} with separators allowed.
-
-A run of separators that is kept takes {cases.run("IC", 100, "Library")} at 100 separators and \
-{cases.run("IC", 100000, "Library")} at 100,000 (word IC). lexical-util takes \
-{cases.run("IC", 10000, "Original")} at 10,000, and that grows with the run."""
+without flags, and from {asked(cases, "I")} with separators allowed. A kept run of separators \
+takes {cases.run("IC", 100, "Library")} at 100 and {cases.run("IC", 100000, "Library")} at 100,000 \
+(word IC); lexical-util takes {cases.run("IC", 10000, "Original")} at 10,000, and that grows."""
 
 
 # ---- README.md
@@ -152,27 +145,24 @@ def summary(cases):
         return span(cases, form, "Constant")
 
     return f"""\
-Counted in instructions, with a format word that is a constant:
+In instructions, with a constant format word, beside std, which gets the digits without \
+separators, and a loop over lexical-util's iterator:
 
-- **Integers** without separators take {std("u: no flags")} times those of std's `parse`, and \
-{original("u: no flags")} times those of a loop over lexical-util's iterator.
-- **Grouped integers**, such as `1_234_567`, take {std("u: I, grouped")} times those of std's \
-`parse`, which gets the digits without separators, and {original("u: I, grouped")} times \
+- **Integers** take {std("u: no flags")} times std's, and {original("u: no flags")} times \
 lexical-util's.
-- **Hexadecimal integers** take {std("y: radix 16, no flags")} times those of `from_str_radix`, \
-and {original("y: radix 16")} times lexical-util's. Literals of Rust take {std("w: ")} times as \
-many as `from_str_radix`.
-- **Floats** take {std("x: no flags")} times those of std's `parse`, and {std("x: I, grouped")} \
-with separators.
-- **Beside the best other reader** that does the same work, a `u64` takes {to_peers("u64")} times \
-its instructions (`from_chars`), a grouped one {to_peers("grouped")} (lexical-core), an `i32` \
-{to_peers("i32")} (std), an `f64` {to_peers("f64")} (fast_float, simdjson), and a number of JSON \
-{to_peers("JSON")} (simdjson).
+- **Grouped integers**, such as `1_234_567`, take {std("u: I, grouped")} times std's, and \
+{original("u: I, grouped")} times lexical-util's.
+- **Hexadecimal integers** take {std("y: radix 16, no flags")} times std's, and \
+{original("y: radix 16")} times lexical-util's; literals of Rust {std("w: ")} times std's.
+- **Floats** take {std("x: no flags")} times std's, and {std("x: I, grouped")} with separators.
+- **Beside the best other reader** that does the same work: a `u64` {to_peers("u64")} times \
+(`from_chars`), grouped {to_peers("grouped")} (lexical-core), an `i32` {to_peers("i32")} (std), an \
+`f64` {to_peers("f64")} (fast_float, simdjson), a number of JSON {to_peers("JSON")} (simdjson).
 
-The slow ones are grouped floats (up to {most_of(cases, "x:", "Constant", "Filter")} times \
-std), numbers of JSON ({most_of(cases, "z:", "Constant", "Filter")}), runs of dropped separators \
-({most_of(cases, "e:", "Constant")} times lexical-util), \
-letters ({most_of(cases, "k:", "Constant")}), and a word that is known only at run time (up to \
+Slow are grouped floats (up to {most_of(cases, "x:", "Constant", "Filter")} times std), numbers of \
+JSON ({most_of(cases, "z:", "Constant", "Filter")}), runs of dropped separators \
+({most_of(cases, "e:", "Constant")} times lexical-util), letters \
+({most_of(cases, "k:", "Constant")}), and a word that only run time knows (up to \
 {most_of(cases, "", "Library")})."""
 
 

@@ -21,12 +21,13 @@ DOOR_ROWS = [
 ]
 LEFT_OUT = {
     "u64, 16 digits", "hexadecimal u64, 8 to 16 digits", "grouped u64, 4 to 7 digits",
-    "f64, shortest in [0, 1)", "f32, shortest of random bits", "JSON, integers of 1 to 4 digits",
+    "f64, 13 to 15 places", "f64, shortest in [0, 1)", "f32, coordinates",
+    "f32, shortest of random bits", "JSON, integers of 1 to 4 digits",
 }
 # What a side doesn't do that the library does, in the rows whose names begin so.
 LESS = {
     ("", "atoi"): "no test for overflow",
-    ("", "simdjson, one number"): "no test for the end of the text, so it needs padding",
+    ("", "simdjson, one number"): "no test for the end of the text",
     ("f64", "serde_json"): "wrong last bits, as Debian builds it",
     ("JSON", "serde_json"): "the same",
     ("JSON", "serde_json, the array"): "the same",
@@ -68,46 +69,47 @@ def best(row, sides, value, does_less):
 
 
 def ratio(mine, peer):
-    return f"{mine / peer[0]:.2f} {peer[1]}" if peer else "–"
+    """A ratio, and the peer's name without what it reads."""
+    return f"{mine / peer[0]:.2f} {peer[1].partition(',')[0]}" if peer else "–"
 
 
 def cells(row, sides):
     """What the counts say of a row."""
-    mine, std = sides[LIBRARY], sides.get("std") or sides.get("std, plain")
-    same = best(row, sides, lambda it: it[0], False)
-    return [row, f"{mine[0]:.0f}", f"{std[0]:.0f}" if std else "–", ratio(mine[0], same),
-            ratio(mine[0], best(row, sides, lambda it: it[0], True)),
-            f"{mine[2]:.1f}/{sides[same[1]][2]:.1f}" if same else f"{mine[2]:.1f}"]
+    mine, same = sides[LIBRARY], best(row, sides, lambda it: it[0], False)
+    return [row, f"{mine[0]:.0f}", ratio(mine[0], same),
+            ratio(mine[0], best(row, sides, lambda it: it[0], True))]
 
 
 def time(row, sides):
-    """The ratio of the library's time to the fastest that does the same work, in each run."""
+    """The ratio of the library's time to the fastest that does the same work, in the run in which
+    it is greatest."""
     if not sides:
         return "–"
     runs = range(min(len(it) for it in sides.values()))
     peers = [best(row, sides, lambda it: it[run], False) for run in runs]
-    ratios = ", ".join(f"{sides[LIBRARY][run] / peers[run][0]:.2f}" for run in runs)
-    return f"{ratios} {peers[0][1]}"
+    most = max(runs, key=lambda run: sides[LIBRARY][run] / peers[run][0])
+    return ratio(sides[LIBRARY][most], peers[most])
 
 
 def peers():
     """What docs/SPEED.md has between its comments on peers."""
     counts, times = Figures("counts.txt"), Figures("times.txt")
-    head = ["What is read", "Library", "std", "to the best peer", "to one that does less",
-            "mispredicted"]
+    head = ["What is read", "Library", "to the best peer", "to one that does less"]
     body = [cells(row, sides) for row, sides in counts.rows.items() if row not in LEFT_OUT]
-    words = ("Instructions for a number with a constant word; the ratio to the peer with the "
-             "fewest that does the same work, and to one that does less; mispredicted branches of "
-             "the library and of the first peer")
+    words = ("Instructions for a number with a constant word; their ratio to the best peer that "
+             "does the same work, and that does less")
     if times.rows:
         head.append("time")
-        words += ("; the ratio of the time to the fastest peer that does the same work, in two "
-                  "runs on a quiet machine")
+        words += ("; the ratio of the time to the fastest that does the same work, the greater "
+                  "one of two runs on a quiet machine")
         for line in body:
             line.append(time(line[0], times.rows.get(line[0])))
-    told = "; ".join(f"{side}: {it}" for (row, side), it in LESS.items() if it != "the same")
+    shown = [best(row, counts.rows[row], lambda it: it[0], True) for row, *_ in body]
+    told = "; ".join(f"{side} ({it})" for (_, side), it in LESS.items()
+                     if any(peer and peer[1] == side for peer in shown))
     text = [f"{counts.head}.\n", *table(f"{words}:", head, body),
-            f"What a peer doesn't do: {told}; *plain*: it gets {PLAIN}."]
+            f"Those that do less: {told}; of grouped numbers they get {PLAIN}. The best simdjson "
+            "reads an array."]
     return "\n".join(text)
 
 
