@@ -189,7 +189,6 @@ def first_zero_said(kind, word, text):
     return str(value) if end == len(text) else f"{digits}, then {text[end:]}"
 
 
-
 def tool_values():
     """(language, text, value) of each literal in the tests that the tools read."""
     named = re.search(r"static LANGUAGES: .*? = \[(.*?)\];", read(TOOLS), re.S)
