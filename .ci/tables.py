@@ -131,9 +131,10 @@ def words(heads):
         names = {f"{language}{ending}" + ("" if language == "TOML" else "_LITERAL"): radix
                  for ending, radix in RADIX_OF.items()}
         if set(names) & set(known):
-            cells = tuple(word_said(known[name], radix) if name in known else "-"
-                          for name, radix in names.items())
-            rows.setdefault(cells, []).append(shown.get(language, f"`{language}`"))
+            *cells, octal, binary = (word_said(known[name], radix) if name in known else "-"
+                                     for name, radix in names.items())
+            last = octal if octal == binary else f"{octal}, {binary}"
+            rows.setdefault((*cells, last), []).append(shown.get(language, f"`{language}`"))
     return [[", ".join(of_row), *cells] for cells, of_row in rows.items()]
 
 
@@ -230,7 +231,7 @@ def of_forms():
 # ---- the page
 
 FIRST_ZEROS = ("Language", "Prefixes", "A first 0 says")
-WITH_NAMES = ("X", "Radix 10", "16", "8", "2")
+WITH_NAMES = ("X", "Radix 10", "16", "8, 2")
 WORKED = {
     ("Flags", "Bytes", "Drained", "Count", "Why"): examples,
     ("Flags", "Bytes", "Cursor, count", "Drained", "Why"): within,
