@@ -315,7 +315,7 @@ def bits(lines):
 
 def as_tools_read():
     """What a first 0 of a language says isn't read otherwise by the language's own tool."""
-    read_of = {name: read for name, _, read in first_zeros_by_language()}
+    read_of = {name: values for name, _, values in first_zeros_by_language()}
     for language, text, value in tool_values():
         if language in read_of and text in FIRST:
             here = read_of[language][FIRST.index(text)]

@@ -145,7 +145,8 @@ def door():
     text = table("Instructions for a number; in brackets how many more than of the same call in "
                  "Rattle, which the compiler puts into the caller's loop:",
                  ["What is read", *DOOR], body)
-    text.append(f"Over all rows a call takes {spans['constant word']} instructions more, by a word as "
-                f"argument {spans['word as argument']}: each call tests whether the word is "
-                "supported, and a loop in Rattle does so once.")
+    text.append("Over all that is counted a call takes "
+                f"{spans['constant word']} instructions more, by a word as argument "
+                f"{spans['word as argument']}: each call tests whether the word is supported, and a "
+                "loop in Rattle does so once.")
     return "\n".join(text)
