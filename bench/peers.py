@@ -8,7 +8,6 @@ LIBRARY = "library"
 # The columns of the table for C: the ends of a side's name from C and of the same call in Rattle.
 DOOR = {
     "constant word": (", from C", ""),
-    "within a text": (", within a text, from C", ", within a text"),
     "word as argument": (", a word, from C", ", a word"),
     "form as argument": (", a form, from C", ""),
 }
