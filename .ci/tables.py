@@ -119,7 +119,7 @@ def word_said(word, radix):
         return "of another radix"
     if separator not in "_'":
         return f"of the separator {separator}"
-    return parts[0] if is_short else ", ".join(parts)
+    return parts[0] if is_short else "/".join(parts)
 
 
 def words(heads):
@@ -131,15 +131,16 @@ def words(heads):
         names = {f"{language}{ending}" + ("" if language == "TOML" else "_LITERAL"): radix
                  for ending, radix in RADIX_OF.items()}
         if set(names) & set(known):
-            cells = tuple(word_said(known[name], radix) if name in known else "-"
-                          for name, radix in names.items())
-            rows.setdefault(cells, []).append(shown.get(language, f"`{language}`"))
+            *cells, octal, binary = (word_said(known[name], radix) if name in known else "-"
+                                     for name, radix in names.items())
+            last = octal if octal == binary else f"{octal}, {binary}"
+            rows.setdefault((*cells, last), []).append(shown.get(language, f"`{language}`"))
     return [[", ".join(of_row), *cells] for cells, of_row in rows.items()]
 
 
 # ---- prefixes and a first 0
 
-# The texts of the table of a first 0; `_` is the separator of the language.
+# What each language's own tool reads of these texts; `_` is the separator of the language.
 FIRST = ("00", "017", "08", "0_7")
 FIRST_ZERO = {"Plain": "nothing", "Octal": "octal", "Alone": "no digit follows",
               "Zeros": "only zeros follow"}
@@ -148,12 +149,13 @@ FIRST_ZERO = {"Plain": "nothing", "Octal": "octal", "Alone": "no digit follows",
 def first_zeros():
     """A row for the languages of languages.rt that say the same."""
     names = {}
-    for name, *cells in first_zeros_by_language():
-        names.setdefault(tuple(cells), []).append(name)
+    for name, cells, _ in first_zeros_by_language():
+        names.setdefault(tuple(cells), []).append(f"`{name}`")
     return [[", ".join(of_row), *cells] for cells, of_row in names.items()]
 
 
 def first_zeros_by_language():
+    """Each language, its cells of the table, and what it reads of `FIRST`."""
     known = constants(*WORDS)
     for name, body in re.findall(r"pub const (\w+): Language = Language \{(.*?)^\};",
                                  read(LANGUAGES), re.S | re.M):
@@ -162,10 +164,10 @@ def first_zeros_by_language():
         word = known[octal or field["decimal"].split("::")[-1]]
         prefixes = [letter for letter, prefix in (("0b", "binary"), ("0o", "octal"),
                                                   ("0x", "hexadecimal")) if field[prefix] != "None"]
-        if prefixes and field["upper"] == "true":
-            prefixes.append("either case")
-        cells = [first_zero_said(kind, word, text) for text in FIRST]
-        yield [marked(it) for it in (name, ", ".join(prefixes) or "none", FIRST_ZERO[kind], *cells)]
+        if prefixes and field["upper"] != "true":
+            prefixes.append("lower case")
+        cells = [re.sub(r"\b0[box]\b", r"`\g<0>`", ", ".join(prefixes)) or "none", FIRST_ZERO[kind]]
+        yield name, cells, [first_zero_said(kind, word, text) for text in FIRST]
 
 
 def first_zero_said(kind, word, text):
@@ -186,11 +188,6 @@ def first_zero_said(kind, word, text):
     if kind == "Alone" and end > 1 or kind == "Zeros" and value > 0:
         return "refused"
     return str(value) if end == len(text) else f"{digits}, then {text[end:]}"
-
-
-def marked(cell):
-    """A cell with its code marked."""
-    return re.sub(r"\b0[box]\b|\b[A-Z]\w*|(?<=^0, then ).*|^0(?=, then)", r"`\g<0>`", cell)
 
 
 def tool_values():
@@ -233,8 +230,8 @@ def of_forms():
 
 # ---- the page
 
-FIRST_ZEROS = ("Language", "Prefixes", "A first 0 says", *(f"`{text}`" for text in FIRST))
-WITH_NAMES = ("X", "Radix 10", "16", "8", "2")
+FIRST_ZEROS = ("Language", "Prefixes", "A first 0 says")
+WITH_NAMES = ("X", "Radix 10", "16", "8, 2")
 WORKED = {
     ("Flags", "Bytes", "Drained", "Count", "Why"): examples,
     ("Flags", "Bytes", "Cursor, count", "Drained", "Why"): within,
@@ -316,16 +313,14 @@ def bits(lines):
                 yield f"{PAGE}:{line}: {kind.lower()} of {component} is bit {bit}"
 
 
-def as_tools_read(lines):
-    """No row of a first 0 is read otherwise by the tool of the language."""
-    table = Table(lines, FIRST_ZEROS)
-    shown = {name: row[-len(FIRST):] for row in table.rows
-             for name in re.findall(r"`(\w+)`", row[0])}
+def as_tools_read():
+    """What a first 0 of a language says isn't read otherwise by the language's own tool."""
+    read_of = {name: values for name, _, values in first_zeros_by_language()}
     for language, text, value in tool_values():
-        if language in shown and text in FIRST:
-            cell = shown[language][FIRST.index(text)]
-            if (cell if cell.isdigit() else "NO") != value:
-                yield f"{TOOLS}:1: {text} of {language} is {value}, and {cell} in {PAGE}"
+        if language in read_of and text in FIRST:
+            here = read_of[language][FIRST.index(text)]
+            if (here if here.isdigit() else "NO") != value:
+                yield f"{TOOLS}:1: {text} of {language} is {value}, and {here} by {LANGUAGES}"
 
 
 def named():
@@ -351,7 +346,7 @@ def check():
     lines = read(PAGE).split("\n")
     faults = [difference(page, text, MEND.partition(" ")[2]) for page, text in written().items()
               if text != read(page)]
-    faults += [*reasons(lines), *bits(lines), *as_tools_read(lines), *named(), *served()]
+    faults += [*reasons(lines), *bits(lines), *as_tools_read(), *named(), *served()]
     rows = sum(line.startswith("| ") for page in (PAGE, FORMS_PAGE) for line in read(page).split("\n"))
     return (f"{rows + len(states())} rows of {PAGE} and {FORMS_PAGE}, and the names of "
             f"{len(named_words())} words"), faults

@@ -8,16 +8,13 @@ LIBRARY = "library"
 # The columns of the table for C: the ends of a side's name from C and of the same call in Rattle.
 DOOR = {
     "constant word": (", from C", ""),
-    "within a text": (", within a text, from C", ", within a text"),
     "word as argument": (", a word, from C", ", a word"),
     "form as argument": (", a form, from C", ""),
 }
-LIST = ", a list from C"
 # The rows that the table for C shows, and those that the table of peers leaves out.
 DOOR_ROWS = [
     "u64, 1 to 4 digits", "u64, 19 digits", "i32, 1 to 9 digits, signs",
-    "hexadecimal u64, 1 to 4 digits", "grouped u64, 8 to 20 digits", "f64, coordinates",
-    "f64, 17 digits in [0, 1)", "JSON, mixed", "JSON, coordinates",
+    "grouped u64, 8 to 20 digits", "f64, coordinates", "f64, 17 digits in [0, 1)", "JSON, mixed",
 ]
 LEFT_OUT = {
     "u64, 16 digits", "hexadecimal u64, 8 to 16 digits", "grouped u64, 4 to 7 digits",
@@ -141,17 +138,16 @@ def door():
     body = []
     for name in DOOR_ROWS:
         found = [above(rows[name], column) for column in DOOR]
-        of_list = rows[name].get(LIBRARY + LIST)
-        body.append([name, *(f"{it[0]:.0f} (+{it[1]:.0f})" if it else "–" for it in found),
-                     f"{of_list[0]:.0f}" if of_list else "–"])
+        body.append([name, *(f"{it[0]:.0f} (+{it[1]:.0f})" if it else "–" for it in found)])
     spans = {}
     for column in DOOR:
         more = [it[1] for sides in rows.values() if (it := above(sides, column))]
         spans[column] = f"{min(more):.0f} to {max(more):.0f}"
     text = table("Instructions for a number; in brackets how many more than of the same call in "
                  "Rattle, which the compiler puts into the caller's loop:",
-                 ["What is read", *DOOR, "a list"], body)
-    text.append(f"Over all rows a call takes {spans['constant word']} instructions more than in "
-                f"Rattle, by a word as argument {spans['word as argument']}: it tests in each call "
-                "whether the word is supported, and a loop in Rattle does so once.")
+                 ["What is read", *DOOR], body)
+    text.append("Over all that is counted a call takes "
+                f"{spans['constant word']} instructions more, by a word as argument "
+                f"{spans['word as argument']}: each call tests whether the word is supported, and a "
+                "loop in Rattle does so once.")
     return "\n".join(text)
