@@ -1,6 +1,6 @@
 //! Lists whose numbers are read by their ends, beside the same lists with each number read alone:
-//! on made texts, with 60 to 256 bytes left, faults among the numbers, numbers of 1 to 40 digits, up
-//! to three blanks around separators, and another form from the 21st number on.
+//! on made texts, with 60 to 256 bytes left, faults among the numbers, numbers of 1 to 40 digits,
+//! up to three blanks around separators, and another form from the 21st number on.
 
 ghost use Rattle.std.specs.Prelude.{IsTrue, ◌<◌};
 ghost use Rattle.lexical_format.specs.Word.{is_supported};
