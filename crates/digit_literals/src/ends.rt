@@ -91,10 +91,23 @@ fn is_shared(rule: Rule, gap: Gap) -> bool
     rule.separator != 0 && accepts(gap.separators, rule.separator)
 }
 
+/// Which of 16 bytes are no digits, the first by the lowest bit, in lists that are rather read one by
+/// one: numbers of two digits each.
+const TWO: u64 = 0b0100_1001_0010_0100;
+
+/// The same of three digits each.
+const THREE: u64 = 0b1000_1000_1000_1000;
+
+/// The same of three digits, and then two other bytes, as a comma and a blank.
+const THREE_APART: u64 = 0b0110_0011_0001_1000;
+
+/// The same after a blank, where the list goes on.
+const BLANK_AND_THREE: u64 = 0b1100_0110_0011_0001;
+
 /// Whether the numbers of a list are read by their ends from its first one on: the radix is 10, no
 /// digit is a blank, no separator of the word is between two numbers, the text is long enough, and
-/// 16 bytes have no separator of the word, are no digits in less than half, and are no numbers of
-/// two digits each, or of three.
+/// 16 bytes have no separator of the word, are no digits in less than half, and have none of the
+/// forms above.
 #[inline(always)]
 pub(super) fn is_by_ends(text: &[u8], word: u128, gap: Gap, at: usize) -> bool
     requires { at ≤ length text.now }
@@ -115,7 +128,11 @@ pub(super) fn is_by_ends(text: &[u8], word: u128, gap: Gap, at: usize) -> bool
     let others = (bytes - u8x16::splat(b'0'))
         .simd_ge(u8x16::splat(10))
         .to_bitmask();
-    others.count_ones() < 8 && others != 0b0100_1001_0010_0100 && others != 0b1000_1000_1000_1000
+    let is_short = others == TWO
+        || others == THREE
+        || others == THREE_APART
+        || others == BLANK_AND_THREE;
+    others.count_ones() < 8 && !is_short
 }
 
 /// What is known before the digits of a number are read.
