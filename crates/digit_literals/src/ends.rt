@@ -91,8 +91,8 @@ fn is_shared(rule: Rule, gap: Gap) -> bool
     rule.separator != 0 && accepts(gap.separators, rule.separator)
 }
 
-/// Which of 16 bytes are no digits, the first by the lowest bit, in lists that are rather read one by
-/// one: numbers of two digits each.
+/// Which of 16 bytes are no digits, the first by the lowest bit, in lists that are rather read one
+/// by one: numbers of two digits each.
 const TWO: u64 = 0b0100_1001_0010_0100;
 
 /// The same of three digits each.
