@@ -201,7 +201,7 @@ fn any_head<T: Integer>(text: &[u8], gap: Gap, at: usize, rest: u64) -> Option<H
     ensures others { IfSome result (λ head. AreOthers text.now head.begin head.others) }
     ensures some { IfSome result (λ head. 0 < head.others) }
 {
-    // of a type without a sign the usual one, which begins with its first digit
+    // of a type without a sign the usual number, which begins with its first digit
     let digits = rest.trailing_zeros();
     if T::MIN_MAGNITUDE == 0 && digits > 0 && digits < 64 {
         return Some(Head {
@@ -280,7 +280,7 @@ fn next_past_blanks(text: &[u8], gap: Gap, end: usize) -> Result<usize, usize>
 
 /// Where the next number may be, if a separator follows the `count` digits from a position on;
 /// otherwise the error is the first position without a blank. `None` if the byte after them is the
-/// word's separator: then they may not be all.
+/// word's separator, which more digits of the number may follow.
 #[inline(always)]
 fn next_after_digits(
     text: &[u8],
@@ -330,12 +330,12 @@ struct Read<T> {
     end: usize,
     /// Where the next one may be; otherwise the first position after it without a blank.
     next: Result<Place, usize>,
-    /// Whether it has a sign, or a number before it.
+    /// Whether this number has a sign, or one before it.
     may_be_signed: bool,
 }
 
-/// The number of `count` digits and of what is before them, if the type has it, and if its digits
-/// are all.
+/// The number of `count` digits and of what is before them, if the type has it, and the word's
+/// separator doesn't follow them.
 #[inline(always)]
 fn number_of<T: Integer>(
     text: &[u8],
