@@ -28,7 +28,7 @@ pub use self::hexadecimal::{HexMantissa, read_hex_float_from, read_hex_mantissa,
 pub use self::list::read_float_list;
 pub use self::parts::{
     Mantissa, Marks, Power, has_mark, read_exponent, read_mantissa, read_short_exponent,
-    read_short_fraction, read_short_whole,
+    read_short_exponent_here, read_short_fraction, read_short_whole,
 };
 pub use self::read::{parse_float, parse_float_from, read_float, read_float_from};
 pub use self::round::{round_few, round_few_with, round_parts};

@@ -16,6 +16,7 @@ use super::error::FloatError;
 use super::plain::read_decimal_part;
 use digit_literals::{
     FirstDigits, has_byte, read_few_digits_from, read_first_digits_from, read_some_digits_from,
+    read_some_digits_here,
 };
 use lexical_digits::skip::Component;
 
@@ -429,6 +430,49 @@ pub fn read_short_exponent(text: &[u8], word: u128, at: usize, mark: u8) -> Opti
 {
     let (negative, start) = read_sign(text, at + 1);
     let (part, end) = read_power_digits(text, word, start)?;
+    Some(Power {
+        negative,
+        value: part.value,
+        end,
+    })
+}
+
+/// [`read_power_digits`] in the place of its call.
+#[inline(always)]
+#[tactic(auto, unfolding(crate::specs::Float::digits_from, crate::specs::Float::digits_end))]
+fn read_power_digits_here(text: &[u8], word: u128, at: usize) -> Option<(FirstDigits, usize)>
+    requires supported { IsTrue (is_supported word) }
+    requires decimal { exponent_radix word ≡ 10 }
+    requires within { at ≤ length text.now }
+    ensures first { IfSome result (λ r. ReadsFirst 10 (10 ^ 19 - 1) 0
+        (digits_from word text.now Exponent at) r.0) }
+    ensures all { IfSome result (λ r. r.0.dropped ≡ 0) }
+    ensures end { IfSome result (λ r. r.1 ≡ digits_end word text.now Exponent at) }
+    ensures onward { IfSome result (λ r. at + r.0.count ≤ r.1) }
+    ensures within { IfSome result (λ r. r.1 ≤ length text.now) }
+    ensures some { IfSome result (λ r. 0 < r.0.count) }
+{
+    read_some_digits_here(text, word, Component::Exponent, at)
+}
+
+/// [`read_short_exponent`], whose digits are read in the place of its call. It is only for speed,
+/// of numbers of a form with an exponent and no point (the peers' row of JSON).
+#[inline(always)]
+#[tactic(auto, unfolding(crate::specs::Float::exponents))]
+pub fn read_short_exponent_here(text: &[u8], word: u128, at: usize, mark: u8) -> Option<Power>
+    requires supported { IsTrue (is_supported word) }
+    requires decimal { exponent_radix word ≡ 10 }
+    requires mark { stands (is_mark mark) text.now at ≡ true }
+    requires within { at < length text.now }
+    ensures value { IfSome result (λ p.
+        p.value ≡ min (digits_value 10 (exponent_digits word text.now mark at)) (2 ^ 64 - 1)) }
+    ensures negative { IfSome result (λ p. p.negative ≡ exponent_negative word text.now mark at) }
+    ensures end { IfSome result (λ p. p.end ≡ exponent_end word text.now mark at) }
+    ensures within { IfSome result (λ p. (at ≤ p.end) × (p.end ≤ length text.now)) }
+    ensures some { IfSome result (λ _. 0 < length (exponent_digits word text.now mark at)) }
+{
+    let (negative, start) = read_sign(text, at + 1);
+    let (part, end) = read_power_digits_here(text, word, start)?;
     Some(Power {
         negative,
         value: part.value,

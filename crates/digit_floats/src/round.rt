@@ -63,7 +63,7 @@ pub fn round_few_with<F: Float>(
         (10 ^ (mantissa.places + (if power.negative then n else 0)))) }
     ensures no_nan { IfSome result (λ x. NotNan (F.value x)) }
 {
-    if power.value > 0xffff_ffff {
+    if power.value > 0x7fff_ffff {
         return None;
     }
     let places = mantissa.places as u64;

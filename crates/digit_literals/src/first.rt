@@ -326,16 +326,37 @@ pub fn read_some_digits_from(
     ensures some { IfSome result (λ read. 0 < read.0.count) }
     ensures digit { IfSome result (λ _. holds_of is_ascii_digit (slice_get text.now start) ≡ true) }
 {
+    read_some_digits_here(text, word, component, start)
+}
+
+/// [`read_some_digits_from`] in the place of its call.
+#[inline(always)]
+pub fn read_some_digits_here(
+    text: &[u8],
+    word: u128,
+    component: Component,
+    start: usize,
+) -> Option<(FirstDigits, usize)>
+    requires supported { IsTrue (is_supported word) }
+    requires decimal { (rule_of word component).radix ≡ 10 }
+    requires within { start ≤ length text.now }
+    ensures first { let r = rule_of word component in
+        let digits = digits_between r text.now start (stop r text.now start 0) in
+        IfSome result (λ read. ReadsFirst r.radix (10 ^ 19 - 1) 0 digits read.0) }
+    ensures stops { IfSome result (λ read.
+        read.1 ≡ stop (rule_of word component) text.now start 0) }
+    ensures all { IfSome result (λ read. read.0.dropped ≡ 0) }
+    ensures few { IfSome result (λ read. read.0.count ≤ 19) }
+    ensures below { IfSome result (λ read. read.0.value < 10 ^ read.0.count) }
+    ensures onward { IfSome result (λ read. start + read.0.count ≤ read.1) }
+    ensures end { IfSome result (λ read. read.1 ≤ length text.now) }
+    ensures some { IfSome result (λ read. 0 < read.0.count) }
+    ensures digit { IfSome result (λ _. holds_of is_ascii_digit (slice_get text.now start) ≡ true) }
+{
     let rule = Rule::of(word, component);
     let first = decimal_at(text, rule, start)?;
     let plain = begin(text, rule, 10, start, 0, Some(first), None);
-    let read = few_slice(text, rule, start, 0, 0, plain)?;
-    let all = FirstDigits {
-        value: read.value,
-        count: read.count,
-        dropped: 0,
-    };
-    Some((all, read.end))
+    few_from(text, word, component, rule, start, 0, 0, plain)
 }
 
 /// Reads the decimal digits of a component that begins at `start`, after a value of so many digits,
@@ -368,6 +389,40 @@ pub fn read_few_digits_from(
 {
     let rule = Rule::of(word, component);
     let plain = read_plain(text, rule, start, before, true);
+    few_from(text, word, component, rule, start, before, counted, plain)
+}
+
+/// [`read_few_digits_from`], where some of the digits were read.
+#[inline(always)]
+fn few_from(
+    text: &[u8],
+    word: u128,
+    component: Component,
+    rule: Rule,
+    start: usize,
+    before: u64,
+    counted: usize,
+    plain: Plain,
+) -> Option<(FirstDigits, usize)>
+    requires supported { IsTrue (is_supported word) }
+    requires rule { rule ≡ rule_of word component }
+    requires decimal { rule.radix ≡ 10 }
+    requires within { start ≤ length text.now }
+    requires before { before < 10 ^ counted }
+    requires counted { counted ≤ 19 }
+    requires plain { ArePlain rule text.now start before None plain.end plain.value }
+    ensures first { let r = rule_of word component in
+        let digits = digits_between r text.now start (stop r text.now start 0) in
+        IfSome result (λ read. ReadsFirst r.radix (10 ^ 19 - 1) before digits read.0) }
+    ensures stops { IfSome result (λ read.
+        read.1 ≡ stop (rule_of word component) text.now start 0) }
+    ensures all { IfSome result (λ read. read.0.dropped ≡ 0) }
+    ensures few { IfSome result (λ read. counted + read.0.count ≤ 19) }
+    ensures below { IfSome result (λ read. read.0.value < 10 ^ (counted + read.0.count)) }
+    ensures onward { IfSome result (λ read. start + read.0.count ≤ read.1) }
+    ensures end { IfSome result (λ read. read.1 ≤ length text.now) }
+    ensures some { IfSome result (λ read. plain.end ≤ start + read.0.count) }
+{
     let read = few_slice(text, rule, start, before, counted, plain)?;
     let all = FirstDigits {
         value: read.value,

@@ -40,7 +40,7 @@ pub use self::component::{pass_digits, pass_zeros, read_digits_of, read_digits_u
 pub use self::exactly::{read_at_most, read_exactly};
 pub use self::first::{
     FirstDigits, read_few_digits_from, read_first_digits, read_first_digits_from,
-    read_some_digits_from,
+    read_some_digits_from, read_some_digits_here,
 };
 pub use self::integer::{count_digits, read_integer, read_integer_from, stop_from};
 pub use self::list::{

@@ -6,6 +6,7 @@ use Rattle.std.specs.Float.Numeral.{Parts, nearest_float}
 use Rattle.std.specs.Str.Parse.{digits_value}
 use Rattle.lexical_digits.specs.declared.skip.component.Component.TheVariants.{Integer}
 use Rattle.digit_floats.specs.Float.{IsDecimal, digits_from, digits_end, fraction_digits, mantissa_end}
+use Rattle.digit_floats.specs.Float.{exponent_digits, exponent_end, exponent_negative}
 use Rattle.digit_floats.specs.Parts.{integer_of, fraction_of, IsMantissa}
 use Rattle.digit_floats.specs.Hexadecimal.{IsHexMantissa, hex_integer_of, hex_fraction_of}
 use Rattle.digit_floats.specs.declared.hexadecimal.HexMantissa.{HexMantissa}
@@ -66,6 +67,16 @@ pub record IsPowerAt (f : Form) (text : List ℕ) (at : ℕ) (p : Power) : Type 
   pub negative : 0 < digits_value 10 (exponent f text at)
       → p.negative ≡ (parts f text at).exponent_negative
   pub ends : p.end ≡ digits_stop f text at
+
+-- a power is that of the exponent whose mark follows a mantissa, and has a digit
+pub record IsExponentAt (f : Form) (text : List ℕ) (m : Mantissa) (p : Power) : Type 0 where
+  pub value : p.value ≡ min (digits_value 10
+      (exponent_digits f.integers.decimal text f.marks.exponent m.end)) (2 ^ 64 - 1)
+  pub negative : p.negative ≡ exponent_negative f.integers.decimal text f.marks.exponent m.end
+  pub ends : p.end ≡ exponent_end f.integers.decimal text f.marks.exponent m.end
+  pub some : 0 < length (exponent_digits f.integers.decimal text f.marks.exponent m.end)
+  pub onward : m.end ≤ p.end
+  pub within : p.end ≤ length text
 
 -- a float is that at a position, and ends there
 pub record IsFloatAt (f : Form) (text : List ℕ) (at : ℕ) (negative : Bool) (format : Format)

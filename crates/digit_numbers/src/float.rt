@@ -15,13 +15,13 @@ ghost use Rattle.digit_floats.specs.Float.{IsDecimal, digits_from, digits_end, e
 ghost use Rattle.digit_floats.specs.Parts.{integer_of, fraction_of, IsMantissa, IsShort};
 ghost use Rattle.digit_numbers.specs.Forms.{IsForm, is_barred};
 ghost use Rattle.digit_numbers.specs.Numbers.{allows_point, digits_stop, exponent, fraction, has_exponent, has_more_zeros, is_float, mark_at, mark_or, parts, whole_end};
-ghost use Rattle.digit_numbers.specs.Reads.{IsMantissaAt, IsMantissaOf, IsWholeOf, IsPowerAt, IsFloatAt, whole_of};
+ghost use Rattle.digit_numbers.specs.Reads.{IsMantissaAt, IsExponentAt, IsWholeOf, IsPowerAt, IsFloatAt, whole_of};
 
 use super::form::Form;
 use super::integer::is_zero;
 use digit_floats::{
-    Float, Mantissa, Marks, Power, has_mark, read_exponent, read_mantissa, read_short_exponent,
-    read_short_fraction, round_few, round_few_with, round_parts,
+    Float, Mantissa, Power, has_mark, read_exponent, read_mantissa, read_short_exponent,
+    read_short_exponent_here, read_short_fraction, round_few, round_few_with, round_parts,
 };
 use digit_literals::has_byte;
 
@@ -196,43 +196,15 @@ fn round_at<F: Float>(
     round_parts::<F>(text, negative, mantissa, power)
 }
 
-/// The float of a mantissa and of the exponent whose mark follows it, and where it ends, if 1 to 19
-/// digits follow the mark, and one operation or one product tells.
+/// The float of a mantissa and of the exponent after it, and where it ends, if the form has an
+/// exponent here, and one operation or one product tells.
 #[inline(always)]
-fn read_few_powered<F: Float>(
-    text: &[u8],
-    word: u128,
-    marks: Marks,
-    negative: bool,
-    mantissa: Mantissa,
-) -> Option<(F, usize)>
-    requires supported { IsTrue (is_supported word) }
-    requires decimal { IsDecimal word }
-    requires is { IsMantissaOf word marks.point text.now mantissa }
-    requires few { mantissa.dropped ≡ 0 }
-    requires mark { stands (is_mark marks.exponent) text.now mantissa.end ≡ true }
-    requires within { mantissa.end < length text.now }
-    ensures value { IfSome result (λ r. F.value r.0
-        ≡ nearest_float F.format negative (parts_at word text.now marks mantissa.start)) }
-    ensures number { IfSome result (λ r. NotNan (F.value r.0)) }
-    ensures ends { IfSome result (λ r.
-        r.1 ≡ exponent_end word text.now marks.exponent mantissa.end) }
-    ensures some { IfSome result (λ _.
-        0 < length (exponent_digits word text.now marks.exponent mantissa.end)) }
-    ensures within { IfSome result (λ r. (mantissa.end ≤ r.1) × (r.1 ≤ length text.now)) }
-{
-    let power = read_short_exponent(text, word, mantissa.end, marks.exponent)?;
-    let x = round_few_with::<F>(text, negative, mantissa, power)?;
-    Some((x, power.end))
-}
-
-/// [`read_few_powered`], if the form has an exponent here.
-#[inline(always)]
-fn read_marked<F: Float>(
+fn round_marked<F: Float>(
     text: &[u8],
     form: Form,
     negative: bool,
     mantissa: Mantissa,
+    power: Power,
 ) -> Option<(F, usize)>
     requires form { IsForm form }
     requires one_mark { form.other_mark ≡ None }
@@ -242,8 +214,8 @@ fn read_marked<F: Float>(
     requires pointed { stands (is_point form.marks.point) text.now mantissa.whole_end ≡ true
         → 0 < mantissa.places }
     requires mark { stands (is_mark form.marks.exponent) text.now mantissa.end ≡ true }
-    requires within { mantissa.end < length text.now }
     requires few { mantissa.dropped ≡ 0 }
+    requires power { IsExponentAt form text.now mantissa power }
     ensures is { IfSome result (λ r.
         IsFloatAt form text.now mantissa.start negative F.format (F.value r.0) r.1) }
     ensures number { IfSome result (λ r. NotNan (F.value r.0)) }
@@ -253,11 +225,29 @@ fn read_marked<F: Float>(
     if !form.exponents.allow(has_fraction) {
         return None;
     }
-    let word = form.integers.decimal;
-    match read_few_powered::<F>(text, word, form.marks, negative, mantissa) {
-        Some((x, end)) => Some((x, end)),
+    match round_powered::<F>(text, form, negative, mantissa, power) {
+        Some(x) => Some((x, power.end)),
         None => None,
     }
+}
+
+/// The float of a mantissa and of the exponent after it, if one operation or one product tells.
+#[inline(always)]
+fn round_powered<F: Float>(
+    text: &[u8],
+    form: Form,
+    negative: bool,
+    mantissa: Mantissa,
+    power: Power,
+) -> Option<F>
+    requires is { IsMantissaAt form text.now mantissa }
+    requires few { mantissa.dropped ≡ 0 }
+    requires power { IsExponentAt form text.now mantissa power }
+    ensures value { IfSome result (λ x. F.value x ≡ nearest_float F.format negative
+        (parts_at form.integers.decimal text.now form.marks mantissa.start)) }
+    ensures number { IfSome result (λ x. NotNan (F.value x)) }
+{
+    round_few_with::<F>(text, negative, mantissa, power)
 }
 
 /// The mantissa after its integer, if it is short.
@@ -334,8 +324,10 @@ pub fn read_short_pointed<F: Float>(
     if mantissa.places == 0 {
         return None;
     }
-    if has_mark(text, mantissa.end, form.marks.exponent) {
-        return read_marked::<F>(text, form, negative, mantissa);
+    let mark = form.marks.exponent;
+    if has_mark(text, mantissa.end, mark) {
+        let power = read_short_exponent(text, form.integers.decimal, mantissa.end, mark)?;
+        return round_marked::<F>(text, form, negative, mantissa, power);
     }
     let x = round_unmarked::<F>(text, form, negative, mantissa)?;
     Some((x, mantissa.end))
@@ -378,7 +370,9 @@ pub fn read_short_power<F: Float>(
         return None;
     }
     let mantissa = mantissa_of_whole(text, form, whole);
-    read_marked::<F>(text, form, negative, mantissa)
+    let mark = form.marks.exponent;
+    let power = read_short_exponent_here(text, form.integers.decimal, mantissa.end, mark)?;
+    round_marked::<F>(text, form, negative, mantissa, power)
 }
 
 /// The float that few digits are by themselves, if one division tells.

@@ -7,6 +7,7 @@ ghost use Rattle.lexical_digits.specs.declared.skip.component.Component.TheVaria
 
 use digit_literals::{
     FirstDigits, read_few_digits_from, read_first_digits_from, read_some_digits_from,
+    read_some_digits_here,
 };
 use lexical_digits::skip::Component;
 use lexical_format::STANDARD;
@@ -39,6 +40,7 @@ fn assert_few(rt: &impl Abort, text: &[u8], word: u128, is_separated: bool)
 {
     let all = read_first_digits_from(text, word, Component::Integer, 0, 0, MOST);
     let some = read_some_digits_from(text, word, Component::Integer, 0);
+    assert!(rt; read_some_digits_here(text, word, Component::Integer, 0) == some);
     assert!(rt;
         some == few_of(all, 1, 0, is_separated),
         "{text:?}: {some:?}"

@@ -7,7 +7,7 @@ use Rattle.digit_literals.specs.declared.reading.Digits.{Digits}
 use Rattle.digit_literals.specs.After.{IsDigits}
 use Rattle.digit_literals.proofs.Firsts.{reads_all}
 use Rattle.digit_literals.proofs.States.{own_of_fresh}
-use Rattle.digit_literals.proofs.first.read_few_digits_from.Goals as goal
+use Rattle.digit_literals.proofs.first.few_from.Goals as goal
 
 pub few_slice-requires-clause-supported : goal.few_slice-requires-clause-supported
 few_slice-requires-clause-supported c =
@@ -22,7 +22,7 @@ returns-clause-first c =
     let s = with_cursor (start c.args.text.now c.args.word) c.args.start in
     let valid : IsState s = grind arith in
     let none = own_of_fresh k c.args.text.now c.args.word c.args.start in
-    let reads = rw c.of-rule.ensures at c.in_ok-read.ensures.reads.reads 0 in
+    let reads = rw c.requires.rule at c.in_ok-read.ensures.reads.reads 0 in
     let all : Digits = record { value = c.in_ok-read.read.value; count = c.in_ok-read.read.count }
     in
     let between = leading_between k s valid in

@@ -1,11 +1,12 @@
 use Rattle.std.proofs.Common.{◌<◌, length, sym, arith}
 use Rattle.digit_numbers.specs.Numbers.{whole_digits}
 use Rattle.digit_numbers.proofs.Short.{powered_float}
-use Rattle.digit_numbers.proofs.float.read_marked.Goals as goal
+use Rattle.digit_numbers.proofs.float.round_marked.Goals as goal
 
 pub returns-in-Some-clause-is : goal.returns-in-Some-clause-is
 returns-in-Some-clause-is g c =
     let e = c.in-Some.ensures in
+    let power = c.requires.power in
     let f = c.args.form in
     let text = c.args.text.now in
     let m = c.args.mantissa in
@@ -15,9 +16,9 @@ returns-in-Some-clause-is g c =
     let whole : 0 < length (whole_digits f text m.start) =
     omega (arith, digits, places, c.requires.some) in
     let pointed = rw (is.whole_end, places) at c.requires.pointed in
-    let follows = rw is.ends at e.some in
+    let follows = rw is.ends at power.some in
     let mark = rw is.ends at c.requires.mark in
     let allowed = rw places at (sym c.if-not-allow.ensures) in
-    rw (e.ends, is.ends) (powered_float f text m.start c.requires.one_mark whole pointed
+    rw (power.ends, is.ends) (powered_float f text m.start c.requires.one_mark whole pointed
     c.requires.zeros
     g.F.Float.format c.args.negative _ e.value allowed (λ _. follows) (λ _. mark))
