@@ -10,8 +10,6 @@ pub mod laws;
 mod list;
 mod optional;
 mod prices;
-#[cfg(test)]
-mod tests;
 
 pub use self::enclosed::{EnclosedError, read_enclosed};
 pub use self::error::NoNumber;

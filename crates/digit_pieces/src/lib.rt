@@ -8,8 +8,6 @@ pub mod laws;
 mod lists;
 mod piece;
 mod sure;
-#[cfg(test)]
-mod tests;
 
 pub use self::kind::Kind;
 pub use self::kinds::{Both, BothError, Floats, Integers, OfForm, OfLanguage, Scaled};

@@ -8,8 +8,6 @@ pub mod laws;
 mod one;
 mod reader;
 mod stream;
-#[cfg(test)]
-mod tests;
 mod window;
 
 pub use self::reader::NumberReader;

@@ -1,24 +1,8 @@
-//! A program that adds up the numbers of its input, one a line. Start reading at
-//! [`engine::serve_arguments`].
+//! A program that adds up the numbers of its input, one a line, by `digit_totals`.
 #![tactic(auto)]
 
-pub mod arguments;
-pub mod engine;
-pub mod fault;
-pub mod field;
-pub mod floats;
-pub mod input;
-pub mod laws;
-pub mod lines;
-pub mod options;
-pub mod output;
-#[cfg(test)]
-mod tests;
-pub mod text;
-pub mod totals;
-pub mod value;
-
-use self::output::write_output;
+use digit_totals::engine;
+use digit_totals::output::write_output;
 use std::alloc::{AllocError, Global};
 use std::process::ExitCode;
 use std::{env, io};

@@ -1,0 +1,103 @@
+-- The float that a line has, and what some floats are together.
+use Rattle.std.specs.Prelude.{◌≡◌, ℕ, ◌+◌, ◌==◌, nat_lt, ◌||◌, if◌then◌else◌, List, [], ◌∷◌, ◌++◌, length, take, Option, None, Some, Result, Ok, Err}
+use Rattle.std.specs.Float.{float_zero, binary64}
+use Rattle.std.specs.Float.Ieee.{Float, add, lt}
+use Rattle.lexical_format.specs.declared.words.TheConstants.{PYTHON_LITERAL}
+use Rattle.lexical_format.specs.declared.TheConstants.{STANDARD}
+use Rattle.digit_literals.specs.declared.bytes.TheConstants.{BLANKS}
+use Rattle.digit_literals.specs.Bytes.{past_bytes}
+use Rattle.digit_floats.specs.declared.error.FloatError.{FloatError}
+use Rattle.digit_floats.specs.Float.{read_at, whole_of, plain_marks}
+use Rattle.digit_totals.specs.declared.options.FloatOptions.{FloatOptions}
+use Rattle.digit_totals.specs.declared.floats.totals.FloatTotals.{FloatTotals}
+use Rattle.digit_totals.specs.declared.fault.NumberError.{NumberError}
+use Rattle.digit_totals.specs.declared.fault.NumberError.TheVariants as errors
+use Rattle.digit_totals.specs.declared.fault.Fault.{Fault}
+use Rattle.digit_totals.specs.declared.fault.Fault.TheVariants.{Number, LongLine}
+use Rattle.digit_totals.specs.Field.{span_of}
+use Rattle.digit_totals.specs.Lines.{lines_of}
+use Rattle.digit_totals.specs.Totals.{most_bytes}
+use Rattle.digit_totals.specs.Value.{with_blanks}
+
+-- ---- the float of a line
+
+-- the float from a position to the end of a text, with any blanks around it: the nearest one
+abbrev pub float_in : ℕ → List ℕ → ℕ → Result Float FloatError
+float_in word text start =
+    whole_of word text (with_blanks text
+    (read_at word text plain_marks binary64 (past_bytes text start BLANKS)))
+
+-- a reader's error as one of a line
+abbrev pub as_float : Result Float FloatError → Result Float NumberError
+as_float (Ok value) = Ok value
+as_float (Err error) = Err (errors.Float error)
+
+-- the separators of the numbers
+abbrev pub word_of : FloatOptions → ℕ
+word_of options = if options.underscores then PYTHON_LITERAL else STANDARD
+
+abbrev pub in_span : FloatOptions → List ℕ → Option (ℕ × ℕ) → Result Float NumberError
+in_span options line None = Err errors.Missing
+in_span options line (Some (start, end)) =
+    as_float (float_in (word_of options) (take end line) start)
+
+-- the float in the column of a line
+abbrev pub value_of : FloatOptions → List ℕ → Result Float NumberError
+value_of options line = in_span options line (span_of options.column line)
+
+-- ---- totals
+
+-- of no number
+abbrev pub no_floats : FloatTotals
+no_floats = record {
+  count = 0;
+  sum = float_zero;
+  least = float_zero;
+  greatest = float_zero;
+}
+
+-- with one number more
+abbrev pub plus : FloatTotals → Float → FloatTotals
+plus t value = record {
+  count = t.count + 1;
+  sum = add binary64 t.sum value;
+  least = if (t.count == 0) || lt value t.least then value else t.least;
+  greatest = if (t.count == 0) || lt t.greatest value then value else t.greatest;
+}
+
+-- with the number of the next line; or that line's fault
+abbrev pub with_value : FloatTotals → Result Float NumberError → Result FloatTotals Fault
+with_value t (Ok value) = Ok (plus t value)
+with_value t (Err error) = Err (Number (t.count + 1) error)
+
+module _ (options : FloatOptions) where
+  -- with the number of the next line, which has at most 65,535 bytes
+  abbrev pub with_line : FloatTotals → List ℕ → Result FloatTotals Fault
+  with_line t line =
+      if nat_lt most_bytes (length line)
+      then Err (LongLine (t.count + 1))
+      else with_value t (value_of options line)
+
+  -- with the lines after these; or what ends them
+  abbrev pub continue : (FloatTotals → Result FloatTotals Fault) → Result FloatTotals Fault
+      → Result FloatTotals Fault
+  continue rest (Ok t) = rest t
+  continue rest (Err fault) = Err fault
+
+  -- with the numbers of these lines
+  abbrev pub with_lines : FloatTotals → List (List ℕ) → Result FloatTotals Fault
+  with_lines t [] = Ok t
+  with_lines t (line ∷ lines) =
+      continue (λ u. with_lines u lines) (with_line t line)
+
+  abbrev pub report_of : List ℕ → Result FloatTotals Fault
+  report_of text = with_lines no_floats (lines_of text)
+
+  -- Whatever follows a text: the totals after its lines are those after the lines of the rest.
+  abbrev pub LeavesRest : FloatTotals → List ℕ → FloatTotals → List ℕ → Type 0
+  LeavesRest t text u rest = (more : List ℕ)
+      → with_lines t (lines_of (text ++ more)) ≡ with_lines u (lines_of (rest ++ more))
+
+  -- Whatever follows a text, a line of it ends the lines.
+  abbrev pub EndsIn : FloatTotals → List ℕ → Fault → Type 0
+  EndsIn t text fault = (more : List ℕ) → with_lines t (lines_of (text ++ more)) ≡ Err fault

@@ -1,0 +1,102 @@
+-- What a run leaves in its reader and its writers, by what it answers. Nothing is said of a reader
+-- or a writer whose contract does not describe its bytes.
+use Rattle.std.specs.Prelude.{◌≡◌, ⊤, ℕ, ◌<◌, List, ◌++◌, length, Option, None, Some, Result, Ok, Err, IfSome}
+use Rattle.std.specs.Io.KnownBytes.{Appends, Keeps, IsAtEnd}
+use Rattle.digit_totals.specs.declared.fault.Fault.{Fault}
+use Rattle.digit_totals.specs.declared.fault.Fault.TheVariants.{Number, Sum, LongLine, Read, Write, Memory, Text}
+use Rattle.digit_totals.specs.declared.options.Column.{Column}
+use Rattle.digit_totals.specs.declared.options.Options.{Options}
+use Rattle.digit_totals.specs.declared.totals.Totals.{Totals}
+use Rattle.digit_totals.specs.Lines.{lines_of}
+use Rattle.digit_totals.specs.Text.{line_of, error_line, status_of}
+use Rattle.digit_totals.specs.Totals.{with_lines, report_of}
+
+module _ (options : Options) where
+  -- the report of the known bytes is this
+  abbrev pub Reports : Option (List ℕ) → Result Totals Fault → Type 0
+  Reports input report = IfSome input (λ text. report_of options text ≡ report)
+
+  -- what adding up answers: the report of the input; or a read failed
+  abbrev pub Sums : Option (List ℕ) → Result Totals Fault → Type 0
+  Sums input (Ok totals) = Reports input (Ok totals)
+  Sums input (Err Read) = ⊤
+  Sums input (Err Write) = ⊥
+  Sums input (Err Memory) = ⊥
+  Sums input (Err Text) = ⊥
+  Sums input (Err fault) = Reports input (Err fault)
+
+  -- The totals so far, with the lines of what was read and is not among them, and of what is left,
+  -- are those of all.
+  abbrev pub Continues : (old new : Option (List ℕ)) → List ℕ → Totals → Type 0
+  Continues None new pending t = ⊤
+  Continues (Some text) None pending t = ⊥
+  Continues (Some text) (Some rest) pending t =
+      report_of options text ≡ with_lines options t (lines_of (pending ++ rest))
+
+-- the known bytes grow by a prefix of `bytes`, and not by the whole
+pub record AppendsPart (old new : Option (List ℕ)) (bytes : List ℕ) : Type 0 where
+  pub written : List ℕ
+  pub rest : List ℕ
+  pub split : bytes ≡ written ++ rest
+  pub some_rest : 0 < length rest
+  pub appended : Appends old new written
+
+-- the bytes that the reader had and has left, and those that the writer had and has now
+pub record Streams : Type 0 where
+  pub input : Option (List ℕ)
+  pub rest : Option (List ℕ)
+  pub had : Option (List ℕ)
+  pub has : Option (List ℕ)
+
+module _ (options : Options) (s : Streams) where
+  -- The input was read to its end, and all of its totals' line was written.
+  pub record WritesTotals : Type 0 where
+    pub totals : Totals
+    pub ended : IsAtEnd s.rest
+    pub reports : Reports options s.input (Ok totals)
+    pub written : Appends s.had s.has (line_of options.kind totals)
+
+  -- The input was read to its end, and a prefix of its totals' line was written, never the whole.
+  pub record WritesPart : Type 0 where
+    pub totals : Totals
+    pub ended : IsAtEnd s.rest
+    pub reports : Reports options s.input (Ok totals)
+    pub written : AppendsPart s.had s.has (line_of options.kind totals)
+
+  -- A line of the input has a fault, and nothing was written.
+  abbrev pub EndsAtLine : Fault → Type 0
+  EndsAtLine fault = Reports options s.input (Err fault) × Keeps s.had s.has
+
+  -- what a run does, by its answer
+  abbrev pub Runs : Result (Unit {0}) Fault → Type 0
+  Runs (Ok done) = WritesTotals
+  Runs (Err (Number line error)) = EndsAtLine (Number line error)
+  Runs (Err (Sum line)) = EndsAtLine (Sum line)
+  Runs (Err (LongLine line)) = EndsAtLine (LongLine line)
+  Runs (Err Read) = Keeps s.had s.has
+  Runs (Err Write) = WritesPart
+  Runs (Err Memory) = Keeps s.had s.has
+  Runs (Err Text) = ⊥
+
+-- what `tell` does, by its answer; it can answer no other fault
+abbrev pub Tells : (had has : Option (List ℕ)) → List ℕ → Result (Unit {0}) Fault → Type 0
+Tells had has line (Ok done) = Appends had has line
+Tells had has line (Err Write) = AppendsPart had has line
+Tells had has line (Err Memory) = Keeps had has
+Tells had has line (Err _) = ⊥
+
+-- what is written to the standard error after the run, and the status: nothing and 0, or what
+-- `tell` writes and the status of the fault
+abbrev pub EndsWith : Option Column → (had has : Option (List ℕ)) → Result (Unit {0}) Fault → ℕ
+    → Type 0
+EndsWith column had has (Ok done) status = (status ≡ 0) × (has ≡ had)
+EndsWith column had has (Err fault) status =
+    (status ≡ status_of fault) × (answer : Result (Unit {0}) Fault)
+    × Tells had has (error_line column fault) answer
+
+-- A run, and what is written to the standard error after it.
+pub record Serves (options : Options) (s : Streams) (had has : Option (List ℕ)) (status : ℕ)
+    : Type 0 where
+  pub answer : Result (Unit {0}) Fault
+  pub runs : Runs options s answer
+  pub ends : EndsWith options.column had has answer status

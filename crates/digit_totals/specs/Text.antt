@@ -1,0 +1,87 @@
+-- What is written: the totals, or why there are none.
+use Rattle.std.specs.Prelude.{ℕ, ℤ, ◌-◌, ◌/◌, ◌%◌, ◌^◌, ◌==◌, if◌then◌else◌, List, ◌++◌, length, replicate, Option, None, Some, codes, decimal, unsigned_abs}
+use Rattle.std.specs.Fmt.{sign_text, signed_decimal}
+use Rattle.std.specs.Int.{is_negative}
+use Rattle.digit_literals.specs.Errors as integers
+use Rattle.digit_floats.specs.Scaled as decimals
+use Rattle.digit_floats.specs.Errors as floats
+use Rattle.digit_totals.specs.declared.fault.Fault.{Fault}
+use Rattle.digit_totals.specs.declared.fault.Fault.TheVariants.{Number, Sum, LongLine, Read, Write, Memory, Text}
+use Rattle.digit_totals.specs.declared.fault.NumberError.{NumberError}
+use Rattle.digit_totals.specs.declared.fault.NumberError.TheVariants.{Missing, Integer, Decimal, Float}
+use Rattle.digit_totals.specs.declared.options.Column.{Column}
+use Rattle.digit_totals.specs.declared.options.Kind.{Kind}
+use Rattle.digit_totals.specs.declared.options.Kind.TheVariants.{Integers, Places}
+use Rattle.digit_totals.specs.declared.totals.Totals.{Totals}
+
+-- ---- the totals
+
+-- digits, with zeros before them up to so many
+abbrev pub padded : ℕ → List ℕ → List ℕ
+padded places digits = replicate (places - length digits) 48 ++ digits
+
+-- a number in units of its last place, with a point before the places
+unfoldable pub with_point : ℕ → ℤ → List ℕ
+with_point places value =
+    sign_text (is_negative value) ++ decimal (unsigned_abs value / 10 ^ places)
+    ++ codes "." ++ padded places (decimal (unsigned_abs value % 10 ^ places))
+
+unfoldable pub amount : Kind → ℤ → List ℕ
+amount Integers value = signed_decimal value
+amount (Places places) value =
+    if places == 0 then signed_decimal value else with_point places value
+
+-- an amount of some numbers; of none a `-`
+unfoldable pub amount_of_some : ℕ → Kind → ℤ → List ℕ
+amount_of_some count kind value = if count == 0 then codes "-" else amount kind value
+
+unfoldable pub count_and_sum : ℕ → List ℕ → List ℕ
+count_and_sum count sum = codes "count=" ++ decimal count ++ codes " sum=" ++ sum
+
+unfoldable pub extremes : List ℕ → List ℕ → List ℕ
+extremes least greatest =
+    codes " min=" ++ least ++ codes " max=" ++ greatest ++ codes "\n"
+
+abbrev pub line_of : Kind → Totals → List ℕ
+line_of kind t =
+    count_and_sum t.count (amount kind t.sum)
+    ++ extremes (amount_of_some t.count kind t.least) (amount_of_some t.count kind t.greatest)
+
+-- ---- faults
+
+-- what is wrong with a line, by the readers' words
+abbrev pub message : NumberError → List ℕ
+message Missing = codes "there is no such column"
+message (Integer error) = integers.message error
+message (Decimal error) = decimals.message error
+message (Float error) = floats.message error
+
+-- where it is
+abbrev pub place : Option Column → ℕ → List ℕ
+place None line = codes "error: line " ++ decimal line ++ codes ": "
+place (Some column) line =
+    codes "error: line " ++ decimal line ++ codes ", column " ++ decimal column.number
+    ++ codes ": "
+
+-- and what
+abbrev pub told : Option Column → ℕ → List ℕ → List ℕ
+told column line what = place column line ++ what ++ codes "\n"
+
+-- the line that is written for a fault
+abbrev pub error_line : Option Column → Fault → List ℕ
+error_line column (Number line error) = told column line (message error)
+error_line column (Sum line) = told column line (codes "the sum leaves 128 bits")
+error_line column (LongLine line) = told column line (codes "the line is too long")
+error_line column Read = codes "error: read failed\n"
+error_line column Write = codes "error: write failed\n"
+error_line column Memory = codes "error: out of memory\n"
+error_line column Text = codes "error: a float is not read from its text\n"
+
+abbrev pub status_of : Fault → ℕ
+status_of (Number line error) = 3
+status_of (Sum line) = 4
+status_of (LongLine line) = 5
+status_of Read = 6
+status_of Write = 7
+status_of Memory = 8
+status_of Text = 9

@@ -1,0 +1,67 @@
+//! The reasons for which a run ends early.
+
+ghost use Rattle.std.specs.Prelude.{◌≡◌};
+ghost use Rattle.digit_totals.specs.declared.fault.Fault.TheVariants.{Memory};
+
+use digit_floats::{FloatError, ScaledError};
+use digit_literals::ParseError;
+use std::alloc::AllocError;
+
+/// Why a line has no number. Positions count the line's bytes, from 0.
+#[derive(Clone, Copy, Debug, PartialEq, Eq)]
+pub enum NumberError {
+    /// The line has no such column.
+    Missing,
+    /// It is no integer of 128 bits.
+    Integer(ParseError),
+    /// It is no decimal number of 128 bits with the places of the run.
+    Decimal(ScaledError),
+    /// It is no float.
+    Float(FloatError),
+}
+
+/// Why a run ended early. Lines count from 1.
+#[derive(Clone, Copy, Debug, PartialEq, Eq)]
+pub enum Fault {
+    /// This line has no number.
+    Number(u128, NumberError),
+    /// With the number of this line the sum leaves 128 bits.
+    Sum(u128),
+    /// This line is longer than 65,535 bytes.
+    LongLine(u128),
+    /// A read failed.
+    Read,
+    /// A write failed, or wrote nothing although bytes were left.
+    Write,
+    /// The allocator refused memory.
+    Memory,
+    /// The text of a float among the totals is not read as that float.
+    Text,
+}
+
+impl Fault {
+    ghost use Rattle.digit_totals.specs.Text.{status_of};
+
+    /// The exit status of the program for this fault: 3 to 9 in the order of the variants.
+    pub fn status(&self) -> u8
+        ensures { result ≡ status_of self.now }
+    {
+        match self {
+            Fault::Number(_, _) => 3,
+            Fault::Sum(_) => 4,
+            Fault::LongLine(_) => 5,
+            Fault::Read => 6,
+            Fault::Write => 7,
+            Fault::Memory => 8,
+            Fault::Text => 9,
+        }
+    }
+}
+
+impl From<AllocError> for Fault {
+    ghost from_gives = { λ _ fault. fault ≡ Memory };
+
+    fn from(_error: AllocError) -> Fault {
+        Fault::Memory
+    }
+}

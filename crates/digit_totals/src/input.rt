@@ -1,0 +1,149 @@
+//! Reads the input piece by piece, and adds its lines.
+
+ghost use Rattle.std.specs.Prelude.{◌≡◌, ◌≢◌, ◌<◌, ◌≤◌, ◌+◌, ◌-◌, All, ◌^◌, Ok, Err, length, take, drop, slice_range, IfOk, IfErr, OnOk};
+ghost use Rattle.std.specs.Io.KnownBytes.{Consumes, IsAtEnd};
+ghost use Rattle.digit_totals.specs.declared.fault.Fault.TheVariants.{Read};
+ghost use Rattle.digit_totals.specs.Lines.{lines_of};
+ghost use Rattle.digit_totals.specs.Totals.{most_bytes, with_lines, LeavesRest, EndsIn};
+ghost use Rattle.digit_totals.specs.Outcome.{Sums};
+ghost use Rattle.digit_totals.specs.Value.{HasFewPlaces};
+
+use super::fault::Fault;
+use super::field::find;
+use super::lines::{add_line, add_lines};
+use super::options::Options;
+use super::totals::Totals;
+use std::io::{ErrorKind, Read};
+
+/// The length of the buffer: a line has fewer bytes.
+pub const SIZE: usize = 65536;
+
+/// Reads once into the buffer, after its first `filled` bytes. An interrupted read is tried again.
+pub fn fill<R: Read>(reader: &mut R, buffer: &mut [u8], filled: usize) -> Result<usize, Fault>
+    requires { filled < length buffer.old }
+    ensures read { IfOk result (λ n. Consumes (R.remaining reader.old) (R.remaining reader.new)
+        (take n (drop filled buffer.new))) }
+    ensures end { result ≡ Ok 0 → IsAtEnd (R.remaining reader.new) }
+    ensures kept { take filled buffer.new ≡ take filled buffer.old }
+    ensures length { length buffer.new ≡ length buffer.old }
+    ensures within { IfOk result (λ n. filled + n ≤ length buffer.new) }
+    ensures fault { IfErr result (λ fault. fault ≡ Read) }
+{
+    for _ in 0..u64::MAX {
+        match reader.read(&mut buffer[filled..]) {
+            Ok(n) => return Ok(n),
+            Err(error) => {
+                if error.kind() != ErrorKind::Interrupted {
+                    return Err(Fault::Read);
+                }
+            }
+        }
+    }
+    Err(Fault::Read)
+}
+
+/// Moves a part of the buffer to its front.
+pub fn keep(buffer: &mut [u8], start: usize, end: usize)
+    requires order { start ≤ end }
+    requires within { end ≤ length buffer.old }
+    ensures length { length buffer.new ≡ length buffer.old }
+    ensures front { take (end - start) buffer.new ≡ slice_range buffer.old start end }
+{
+    buffer.copy_within(start..end, 0);
+}
+
+/// Adds the last line, which has no line feed, if there is one.
+fn add_last(options: Options, totals: Totals, text: &[u8]) -> Result<Totals, Fault>
+    requires few { HasFewPlaces options.kind }
+    requires short { length text.now ≤ most_bytes }
+    requires whole { All (λ byte. byte ≢ 10) text.now }
+    requires room { totals.count < 2 ^ 127 }
+    ensures { result ≡ with_lines options totals (lines_of text.now) }
+{
+    if text.is_empty() {
+        Ok(totals)
+    } else {
+        add_line(options, totals, text)
+    }
+}
+
+/// Totals, and how many bytes at the front of the buffer are of no line among them.
+#[derive(Clone, Copy)]
+struct Kept {
+    totals: Totals,
+    filled: usize,
+}
+
+/// Adds the whole lines of the first `end` bytes of the buffer, of which the first `filled` have no
+/// line feed, and moves the others to its front. A line that comes in many pieces is not read again
+/// at each of them.
+fn add_piece(
+    options: Options,
+    totals: Totals,
+    buffer: &mut [u8],
+    filled: usize,
+    end: usize,
+) -> Result<Kept, Fault>
+    requires few { HasFewPlaces options.kind }
+    requires order { filled ≤ end }
+    requires within { end ≤ length buffer.old }
+    requires short { length buffer.old ≤ most_bytes + 1 }
+    requires room { totals.count + end ≤ 2 ^ 127 }
+    requires whole { All (λ byte. byte ≢ 10) (take filled buffer.old) }
+    ensures rest { IfOk result (λ kept. LeavesRest options totals (take end buffer.old)
+        kept.totals (take kept.filled buffer.new)) }
+    ensures whole { IfOk result (λ kept.
+        All (λ byte. byte ≢ 10) (take kept.filled buffer.new)) }
+    ensures within { IfOk result (λ kept. kept.filled ≤ end) }
+    ensures room { IfOk result (λ kept. kept.totals.count + kept.filled ≤ totals.count + end) }
+    ensures length { length buffer.new ≡ length buffer.old }
+    ensures fault { IfErr result (λ fault. EndsIn options totals (take end buffer.old) fault) }
+{
+    if find(&buffer[filled..end], b'\n').is_none() {
+        return Ok(Kept {
+            totals,
+            filled: end,
+        });
+    }
+    let added = match add_lines(options, totals, &buffer[..end]) {
+        Ok(added) => added,
+        Err(fault) => return Err(fault),
+    };
+    let kept = Kept {
+        totals: added.totals,
+        filled: added.rest.len(),
+    };
+    keep(buffer, end - kept.filled, end);
+    Ok(kept)
+}
+
+/// The totals of the numbers of an input, a piece at a time.
+pub fn sum_input<R: Read>(options: Options, reader: &mut R) -> Result<Totals, Fault>
+    requires { HasFewPlaces options.kind }
+    ensures is { Sums options (R.remaining reader.old) result }
+    ensures end { OnOk result (IsAtEnd (R.remaining reader.new)) }
+{
+    let mut buffer = [0; SIZE];
+    let mut totals = Totals::new();
+    let mut filled = 0;
+    for _ in 0..u64::MAX {
+        let count = match fill(reader, &mut buffer, filled) {
+            Ok(count) => count,
+            Err(fault) => return Err(fault),
+        };
+        if count == 0 {
+            return add_last(options, totals, &buffer[..filled]);
+        }
+        match add_piece(options, totals, &mut buffer, filled, filled + count) {
+            Ok(kept) => {
+                totals = kept.totals;
+                filled = kept.filled;
+            }
+            Err(fault) => return Err(fault),
+        }
+        if filled == SIZE {
+            return Err(Fault::LongLine(totals.count + 1));
+        }
+    }
+    Err(Fault::Read)
+}

@@ -1,0 +1,17 @@
+//! Adds up the numbers of an input, one a line, and writes their totals, as the program `digit_sum`
+//! does. Start reading at [`engine::serve_arguments`].
+#![tactic(auto)]
+
+pub mod arguments;
+pub mod engine;
+pub mod fault;
+pub mod field;
+pub mod floats;
+pub mod input;
+pub mod laws;
+pub mod lines;
+pub mod options;
+pub mod output;
+pub mod text;
+pub mod totals;
+pub mod value;

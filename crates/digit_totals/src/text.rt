@@ -1,0 +1,212 @@
+//! What is written: the totals, or why there are none.
+
+ghost use Rattle.std.specs.Prelude.{◌≡◌, ◌<◌, ◌≤◌, ◌^◌, ◌++◌, ◌-◌, replicate, IfOk, OnOk, string_bytes};
+ghost use Rattle.digit_totals.specs.Text as Text;
+ghost use Rattle.digit_totals.specs.Value.{HasFewPlaces};
+
+use super::fault::{Fault, NumberError};
+use super::options::{Column, Kind};
+use super::totals::Totals;
+use std::alloc::{AllocError, Allocator};
+
+/// Adds `count` zeros to a text.
+fn push_zeros<A: Allocator>(text: &mut String<A>, count: usize) -> Result<(), AllocError>
+    ensures { OnOk result (string_bytes text.new ≡ string_bytes text.old ++ replicate count 48) }
+{
+    for _ in 0..count {
+        text.push_str("0")?;
+    }
+    Ok(())
+}
+
+/// Ten to the power of the places.
+fn unit_of(places: usize) -> u128
+    requires { places ≤ 38 }
+    ensures is { result ≡ 10 ^ places }
+    ensures some { 0 < result }
+{
+    10u128.pow(places as u32)
+}
+
+/// So many of the last place, with a point before the places.
+#[tactic(auto, unfolding(crate::specs::Text::with_point))]
+fn with_point<A: Allocator>(alloc: &A, places: usize, value: i128) -> Result<String<&A>, AllocError>
+    requires { places ≤ 38 }
+    ensures { IfOk result (λ text. string_bytes text ≡ Text.with_point places value) }
+{
+    let magnitude = value.unsigned_abs();
+    let unit = unit_of(places);
+    let whole = magnitude / unit;
+    let part = magnitude % unit;
+    let sign = if value < 0 { "-" } else { "" };
+    let digits = format!(in alloc; "{part}")?;
+    let mut text = format!(in alloc; "{sign}{whole}.")?;
+    push_zeros(&mut text, places.saturating_sub(digits.len()))?;
+    text.push_str(digits.as_str())?;
+    Ok(text)
+}
+
+/// The text of an integer, or of a decimal number, whose value is in units of its last place.
+#[tactic(auto, unfolding(crate::specs::Text::amount))]
+fn amount<A: Allocator>(alloc: &A, kind: Kind, value: i128) -> Result<String<&A>, AllocError>
+    requires { HasFewPlaces kind }
+    ensures { IfOk result (λ text. string_bytes text ≡ Text.amount kind value) }
+{
+    match kind {
+        Kind::Places(places) if places > 0 => with_point(alloc, places, value),
+        _ => format!(in alloc; "{value}"),
+    }
+}
+
+/// The least or the greatest of some numbers; of none a `-`.
+#[tactic(auto, unfolding(crate::specs::Text::amount_of_some))]
+fn amount_of_some<A: Allocator>(
+    alloc: &A,
+    count: u128,
+    kind: Kind,
+    value: i128,
+) -> Result<String<&A>, AllocError>
+    requires { HasFewPlaces kind }
+    ensures { IfOk result (λ text. string_bytes text ≡ Text.amount_of_some count kind value) }
+{
+    if count == 0 {
+        String::from_str(alloc, "-")
+    } else {
+        amount(alloc, kind, value)
+    }
+}
+
+/// A count and a sum, with their names.
+#[tactic(auto, unfolding(crate::specs::Text::count_and_sum))]
+pub fn count_and_sum<'a, A: Allocator>(
+    alloc: &'a A,
+    count: u128,
+    sum: &str,
+) -> Result<String<&'a A>, AllocError>
+    ensures { IfOk result (λ text. string_bytes text ≡ Text.count_and_sum count sum.now) }
+{
+    format!(in alloc; "count={count} sum={sum}")
+}
+
+/// The least and the greatest amount, with their names, and the line feed.
+#[tactic(auto, unfolding(crate::specs::Text::extremes))]
+pub fn extremes<'a, A: Allocator>(
+    alloc: &'a A,
+    least: &str,
+    greatest: &str,
+) -> Result<String<&'a A>, AllocError>
+    ensures { IfOk result (λ text. string_bytes text ≡ Text.extremes least.now greatest.now) }
+{
+    format!(in alloc; " min={least} max={greatest}\n")
+}
+
+/// The line of the totals without its end.
+fn line_front<A: Allocator>(alloc: &A, kind: Kind, totals: Totals) -> Result<String<&A>, AllocError>
+    requires { HasFewPlaces kind }
+    ensures { IfOk result (λ text.
+        string_bytes text ≡ Text.count_and_sum totals.count (Text.amount kind totals.sum)) }
+{
+    let sum = amount(alloc, kind, totals.sum)?;
+    count_and_sum(alloc, totals.count, sum.as_str())
+}
+
+/// The end of the line of the totals.
+fn line_end<A: Allocator>(alloc: &A, kind: Kind, totals: Totals) -> Result<String<&A>, AllocError>
+    requires { HasFewPlaces kind }
+    ensures { IfOk result (λ text. string_bytes text
+        ≡ Text.extremes (Text.amount_of_some totals.count kind totals.least)
+        (Text.amount_of_some totals.count kind totals.greatest)) }
+{
+    let least = amount_of_some(alloc, totals.count, kind, totals.least)?;
+    let greatest = amount_of_some(alloc, totals.count, kind, totals.greatest)?;
+    extremes(alloc, least.as_str(), greatest.as_str())
+}
+
+/// The line of the totals.
+pub fn line_of<A: Allocator>(
+    alloc: &A,
+    kind: Kind,
+    totals: Totals,
+) -> Result<String<&A>, AllocError>
+    requires { HasFewPlaces kind }
+    ensures { IfOk result (λ text. string_bytes text ≡ Text.line_of kind totals) }
+{
+    let mut line = line_front(alloc, kind, totals)?;
+    let end = line_end(alloc, kind, totals)?;
+    line.push_str(end.as_str())?;
+    Ok(line)
+}
+
+/// What is wrong with a line.
+fn message<A: Allocator>(alloc: &A, error: NumberError) -> Result<String<&A>, AllocError>
+    ensures { IfOk result (λ text. string_bytes text ≡ Text.message error) }
+{
+    match error {
+        NumberError::Missing => String::from_str(alloc, "there is no such column"),
+        NumberError::Integer(error) => format!(in alloc; "{error}"),
+        NumberError::Decimal(error) => format!(in alloc; "{error}"),
+        NumberError::Float(error) => format!(in alloc; "{error}"),
+    }
+}
+
+/// The place of a fault: its line and its column.
+fn place<A: Allocator>(
+    alloc: &A,
+    column: Option<Column>,
+    line: u128,
+) -> Result<String<&A>, AllocError>
+    ensures { IfOk result (λ text. string_bytes text ≡ Text.place column line) }
+{
+    match column {
+        None => format!(in alloc; "error: line {line}: "),
+        Some(column) => {
+            let number = column.number;
+            format!(in alloc; "error: line {line}, column {number}: ")
+        }
+    }
+}
+
+/// The place of a fault, and what is wrong.
+fn told<'a, A: Allocator>(
+    alloc: &'a A,
+    column: Option<Column>,
+    line: u128,
+    what: &str,
+) -> Result<String<&'a A>, AllocError>
+    ensures { IfOk result (λ text. string_bytes text ≡ Text.told column line what.now) }
+{
+    let place = place(alloc, column, line)?;
+    format!(in alloc; "{place}{what}\n")
+}
+
+/// The line that is written for a line without a number.
+fn number_line<A: Allocator>(
+    alloc: &A,
+    column: Option<Column>,
+    line: u128,
+    error: NumberError,
+) -> Result<String<&A>, AllocError>
+    ensures { IfOk result (λ text. string_bytes text ≡ Text.told column line (Text.message error)) }
+{
+    let message = message(alloc, error)?;
+    told(alloc, column, line, message.as_str())
+}
+
+/// The line that is written for a fault.
+pub fn error_line<A: Allocator>(
+    alloc: &A,
+    column: Option<Column>,
+    fault: Fault,
+) -> Result<String<&A>, AllocError>
+    ensures { IfOk result (λ text. string_bytes text ≡ Text.error_line column fault) }
+{
+    match fault {
+        Fault::Number(line, error) => number_line(alloc, column, line, error),
+        Fault::Sum(line) => told(alloc, column, line, "the sum leaves 128 bits"),
+        Fault::LongLine(line) => told(alloc, column, line, "the line is too long"),
+        Fault::Read => String::from_str(alloc, "error: read failed\n"),
+        Fault::Write => String::from_str(alloc, "error: write failed\n"),
+        Fault::Memory => String::from_str(alloc, "error: out of memory\n"),
+        Fault::Text => String::from_str(alloc, "error: a float is not read from its text\n"),
+    }
+}

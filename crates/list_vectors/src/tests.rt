@@ -1,0 +1,7 @@
+//! Tests over the public calls of `digit_pieces`, `digit_streams`, `digit_lists` and
+//! `digit_totals`.
+
+mod lists;
+mod pieces;
+mod streams;
+mod sum;

@@ -1,0 +1,100 @@
+//! Runs in which the reader or a writer fails, and long lines.
+
+use super::run_over;
+use super::streams::{ScriptedReader, ScriptedWriter, Turn, Turns};
+use digit_totals::engine::serve_arguments;
+use std::alloc::{AllocError, Global};
+
+/// Passes all bytes.
+const ALL: Turn = Turn::Pass(usize::MAX);
+
+/// A reader of two lines.
+fn two_lines<'a>(first: &'a [Turn], then: Turn) -> ScriptedReader<'a> {
+    ScriptedReader {
+        rest: b"12\n34\n",
+        again: &[],
+        turns: Turns { first, then },
+    }
+}
+
+static FIRST_TURNS: [&[Turn]; 3] = [&[], &[Turn::Pass(1)], &[ALL]];
+
+/// An interrupted read is tried again; one that fails ends the run.
+#[test]
+fn reads_are_tried_again(rt: HostRuntime) {
+    let totals = b"count=2 sum=46 min=12 max=34\n";
+    let mut reader = two_lines(&[Turn::Interrupt, Turn::Pass(1), Turn::Interrupt], ALL);
+    assert!(rt; run_over(rt.alloc(), &[], &mut reader).is(totals, b"", 0));
+    for first in &FIRST_TURNS {
+        let mut reader = two_lines(first, Turn::Fail);
+        let ended = run_over(rt.alloc(), &[], &mut reader);
+        assert!(rt; ended.is(b"", b"error: read failed\n", 6));
+    }
+}
+
+/// The status of a run with these writers, and what they were given.
+fn run_writing(alloc: Global, out: Turns, err: Turns) -> (u8, Vec<u8>, Vec<u8>) {
+    let mut reader = b"12\n34\n".as_slice();
+    let mut writer = ScriptedWriter {
+        written: Vec::new(alloc),
+        turns: out,
+    };
+    let mut errors = ScriptedWriter {
+        written: Vec::new(alloc),
+        turns: err,
+    };
+    let status = serve_arguments(alloc, &[], &mut reader, &mut writer, &mut errors);
+    (status, writer.written, errors.written)
+}
+
+#[test]
+fn writes_may_fail(rt: HostRuntime) {
+    let all = Turns {
+        first: &[],
+        then: ALL,
+    };
+    let slow = Turns {
+        first: &[],
+        then: Turn::Pass(3),
+    };
+    let failing = Turns {
+        first: &[Turn::Pass(3)],
+        then: Turn::Fail,
+    };
+    let (status, written, told) = run_writing(rt.alloc(), slow, all);
+    assert!(rt; status == 0 && told.is_empty());
+    assert!(rt; written.as_slice() == b"count=2 sum=46 min=12 max=34\n".as_slice());
+    let (status, written, told) = run_writing(rt.alloc(), failing, all);
+    assert!(rt; status == 7 && written.as_slice() == b"cou".as_slice());
+    assert!(rt; told.as_slice() == b"error: write failed\n".as_slice());
+    let (status, _, told) = run_writing(rt.alloc(), failing, failing);
+    assert!(rt; status == 7 && told.as_slice() == b"err".as_slice());
+}
+
+/// Whether a run over so many zeros, and then this end, writes and tells this.
+fn adds_zeros(
+    alloc: Global,
+    zeros: usize,
+    end: &[u8],
+    ended: (&[u8], &[u8], u8),
+) -> Result<bool, AllocError> {
+    let mut text = vec![in alloc; b'0'; zeros]?;
+    text.extend_from_slice(end)?;
+    let mut reader = text.as_slice();
+    let (written, told, status) = ended;
+    Ok(run_over(alloc, &[], &mut reader).is(written, told, status))
+}
+
+#[test]
+fn a_line_may_have_65535_bytes(rt: HostRuntime) {
+    let two = (b"count=2 sum=1 min=0 max=1\n".as_slice(), b"".as_slice(), 0);
+    assert!(rt; adds_zeros(rt.alloc(), 65535, b"\n1\n", two) == Ok(true));
+    let one = (b"count=1 sum=1 min=1 max=1\n".as_slice(), b"".as_slice(), 0);
+    assert!(rt; adds_zeros(rt.alloc(), 65534, b"1", one) == Ok(true));
+    let long = (
+        b"".as_slice(),
+        b"error: line 1: the line is too long\n".as_slice(),
+        5,
+    );
+    assert!(rt; adds_zeros(rt.alloc(), 65536, b"\n1\n", long) == Ok(true));
+}
