@@ -309,27 +309,31 @@ pub(super) fn value_at(text: &[u8], at: usize, count: usize) -> u64
     first * small_ten_to(rest) + few_at(text, at + 16, rest)
 }
 
-/// The number that a text of at most seven bytes is, if all are decimal digits. It is only for
-/// speed, of `parse_number` (the rows `u: 1 to 4 digits`).
+/// The number that a text of one to seven bytes is, if all are decimal digits. It is only for speed,
+/// of `parse_number` (the rows `u: 1 to 4 digits`).
 #[inline(always)]
 pub(super) fn read_few(text: &[u8]) -> Option<u64>
     requires { length text.now < 8 }
+    ensures some { IfSome result (λ _. 0 < length text.now) }
     ensures written { IfSome result (IsWritten text.now 0 (length text.now)) }
     ensures few { IfSome result (λ value. value < 10 ^ 7) }
 {
+    if text.is_empty() {
+        return None;
+    }
     let mut value = 0;
     // a compiler writes a loop out whose turns are counted
     for at in 0..7 {
-        if at == text.len() {
-            return Some(value);
-        }
-        let digit = text[at].wrapping_sub(b'0');
+        let digit = u64::from(text[at]).wrapping_sub(u64::from(b'0'));
         if digit > 9 {
             return None;
         }
-        value = value * 10 + u64::from(digit);
+        value = value * 10 + digit;
+        if at + 1 == text.len() {
+            return Some(value);
+        }
     }
-    Some(value)
+    None
 }
 
 /// A number that a text is from a position on to its end.

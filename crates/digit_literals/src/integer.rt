@@ -134,9 +134,6 @@ pub(super) fn read_few_integer(text: &[u8], word: u128, start: usize, most: u128
         integer_at (rule_of word Integer) text.now start most ≡ Ok (value, length text.now)) }
     ensures fits { IfSome result (λ value. value ≤ most) }
 {
-    if start == text.len() {
-        return None;
-    }
     let value = read_few(&text[start..])?;
     if may_be(value, most) {
         Some(value)

@@ -219,7 +219,7 @@ fn parse_the_rest<T: Integer>(
 }
 
 /// [`parse_number_from`], where it is by words. What isn't read to the end is read again.
-#[inline]
+#[inline(always)]
 fn parse_by_words<T: Integer>(text: &[u8], word: u128, start: usize) -> Result<T, ParseError>
     requires supported { IsTrue (is_supported word) }
     requires within { start ≤ length text.now }
