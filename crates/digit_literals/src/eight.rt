@@ -309,8 +309,8 @@ pub(super) fn value_at(text: &[u8], at: usize, count: usize) -> u64
     first * small_ten_to(rest) + few_at(text, at + 16, rest)
 }
 
-/// The number that a text of one to seven bytes is, if all are decimal digits. It is only for speed,
-/// of `parse_number` (the rows `u: 1 to 4 digits`).
+/// The number that a text of one to seven bytes is, if all are decimal digits. It is only for
+/// speed, of `parse_number` (the rows `u: 1 to 4 digits`).
 #[inline(always)]
 pub(super) fn read_few(text: &[u8]) -> Option<u64>
     requires { length text.now < 8 }
