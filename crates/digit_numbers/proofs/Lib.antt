@@ -13,6 +13,6 @@ pub mod NamesAt
 pub mod OnTexts
 pub mod SameNames
 pub mod SameParts
-pub mod Short
+pub mod ShortNumbers
 pub mod WhatFollows
 pub mod Zeros

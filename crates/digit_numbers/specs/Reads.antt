@@ -15,7 +15,7 @@ use Rattle.digit_floats.specs.declared.parts.Power.{Power}
 use Rattle.digit_languages.specs.declared.language.Language.{Language}
 use Rattle.digit_languages.specs.Literals.{prefix_word, word_at, digits_at}
 use Rattle.digit_numbers.specs.declared.form.Form.{Form}
-use Rattle.digit_numbers.specs.declared.number.Sign.{Sign}
+use Rattle.digit_numbers.specs.declared.sign.Sign.{Sign}
 use Rattle.digit_numbers.specs.Numbers.{has_sign, is_negative, past_sign, is_float, fraction, exponent, parts, digits_stop}
 
 -- a mantissa is that of a word at its start, by the byte of the point

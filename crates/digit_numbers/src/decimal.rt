@@ -16,10 +16,11 @@ ghost use Rattle.digit_numbers.specs.Reads.{IsMantissaAt, IsPowerAt, IsSign};
 
 use super::float::{float_power, has_more_zeros, whole_of};
 use super::form::Form;
-use super::integer::{is_zero, read_integer};
-use super::number::{
-    NumberError, Sign, has_separator, language_of, read_digits, read_sign, special_of,
-};
+use super::integer::{has_separator, is_zero, read_integer};
+use super::number::NumberError;
+use super::plain::read_digits;
+use super::sign::{Sign, language_of, read_sign};
+use super::special::special_of;
 use digit_floats::{Decimal, Mantissa, Power, decimal_of};
 use digit_languages::{LanguageError, prefix_word};
 

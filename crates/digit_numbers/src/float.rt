@@ -252,7 +252,7 @@ fn round_powered<F: Float>(
 
 /// The mantissa after its integer, if it is short.
 #[inline(always)]
-#[tactic(auto, using(crate::proofs::Short::no_point_end))]
+#[tactic(auto, using(crate::proofs::ShortNumbers::no_point_end))]
 fn read_fraction(text: &[u8], form: Form, whole: Mantissa) -> Option<Mantissa>
     requires form { IsForm form }
     requires is { IsShort form.integers.decimal text.now whole }
@@ -335,7 +335,7 @@ pub fn read_short_pointed<F: Float>(
 
 /// The mantissa that the digits of an integer are where no point follows them.
 #[inline(always)]
-#[tactic(auto, unfolding(crate::proofs::Short::mantissas))]
+#[tactic(auto, unfolding(crate::proofs::ShortNumbers::mantissas))]
 fn mantissa_of_whole(text: &[u8], form: Form, whole: Mantissa) -> Mantissa
     requires is { IsShort form.integers.decimal text.now whole }
     requires point { stands (is_point form.marks.point) text.now whole.whole_end ≡ false }

@@ -178,7 +178,7 @@ fn read_digits<F: Float>(
 /// of its own.
 #[inline(never)]
 #[tactic(auto, unfolding(crate::specs::Numbers::hex_word_at))]
-pub fn read_hex<F: Float>(
+fn read_hex<F: Float>(
     text: &[u8],
     form: Form,
     language: Language,
@@ -204,4 +204,34 @@ pub fn read_hex<F: Float>(
     }
     let word = hex_word(text, language, at)?;
     read_digits::<F>(text, form, word, negative, at + 2)
+}
+
+/// The hexadecimal float at a position, if the form has any.
+#[inline(always)]
+#[tactic(auto, unfolding(crate::specs::Numbers::hex_word_at))]
+pub fn hex_of<F: Float>(
+    text: &[u8],
+    form: Form,
+    language: Language,
+    negative: bool,
+    at: usize,
+) -> Option<(F, usize)>
+    requires form { IsForm form }
+    requires language { IsLanguage language }
+    requires hexadecimal { has_hex form.hex_floats ≡ true
+        → IfSome language.hexadecimal IsHexadecimal }
+    requires within { at ≤ length text.now }
+    ensures is { MatchOption result (hex_word_at form language text.now at ≡ None)
+        (λ r. is_some (hex_word_at form language text.now at) ≡ true) }
+    ensures reads { IfSome result (λ r. (word : ℕ) →
+        hex_word_at form language text.now at ≡ Some word →
+        (F.value r.0 ≡ hex_value (hex_form form word) text.now (at + 2) F.format negative)
+        × (r.1 ≡ digits_stop (hex_form form word) text.now (at + 2))) }
+    ensures number { IfSome result (λ r. NotNan (F.value r.0)) }
+    ensures within { IfSome result (λ r. (at < r.1) × (r.1 ≤ length text.now)) }
+{
+    if !form.hex_floats.exist() {
+        return None;
+    }
+    read_hex::<F>(text, form, language, negative, at)
 }

@@ -2,10 +2,13 @@
 
 ghost use Rattle.std.specs.Prelude.{◌≡◌, Ok, ◌+◌, ◌-◌, ◌^◌, ◌≤◌, ◌<◌, true, length, IfOk, IfSome, slice_get};
 ghost use Rattle.std.specs.Char.{is_ascii_alphabetic};
+ghost use Rattle.lexical_format.specs.Word.{separator};
 ghost use Rattle.lexical_digits.specs.Cursor.{holds_of};
+ghost use Rattle.lexical_digits.specs.Separators.{is_separator};
 ghost use Rattle.lexical_digits.specs.declared.skip.component.Component.TheVariants.{Integer};
 ghost use Rattle.lexical_digits.specs.State.{rule_of};
 ghost use Rattle.digit_literals.specs.Integers.{IsIntegerFrom};
+ghost use Rattle.digit_floats.specs.Bytes.{stands};
 ghost use Rattle.digit_literals.specs.Numbers.{has_byte};
 ghost use Rattle.digit_languages.specs.Words.{IsLanguage};
 ghost use Rattle.digit_languages.specs.Literals.{literal_at};
@@ -15,6 +18,7 @@ ghost use Rattle.digit_numbers.specs.Reads.{IsPlain, IsWholeOf};
 use digit_floats::Mantissa;
 use digit_languages::{FirstZero, Language, LanguageError, Literal, read_literal};
 use digit_literals::has_byte;
+use lexical_format::NumberFormat;
 
 /// A language without its prefixes.
 #[inline(always)]
@@ -47,6 +51,19 @@ fn has_letter(text: &[u8], at: usize) -> bool
 {
     match text.get(at) {
         Some(byte) => byte.is_ascii_alphabetic(),
+        None => false,
+    }
+}
+
+/// Whether the separator of a word is at a position.
+#[inline(always)]
+#[tactic(auto, unfolding(lexical_digits::specs::Separators::is_separator))]
+pub fn has_separator(text: &[u8], word: u128, at: usize) -> bool
+    ensures { result ≡ stands (is_separator (separator word)) text.now at }
+{
+    let separator = NumberFormat::new(word).digit_separator();
+    match text.get(at) {
+        Some(byte) => separator != 0 && *byte == separator,
         None => false,
     }
 }

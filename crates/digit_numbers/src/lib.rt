@@ -13,6 +13,9 @@ mod list;
 pub mod names;
 mod number;
 mod numbered;
+mod plain;
+mod short;
+mod sign;
 mod special;
 
 pub use self::decimal::read_decimal_of;

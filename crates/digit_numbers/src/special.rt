@@ -152,7 +152,7 @@ fn may_be_here(text: &[u8], form: Form, at: usize, first: usize, special: Specia
 /// Whether a special value of a form may be at a position, as far as first bytes tell. It is only
 /// for speed, of forms with names: most numbers begin with a digit.
 #[inline(always)]
-pub fn may_begin(text: &[u8], form: Form, specials: Specials, at: usize) -> bool
+fn may_begin(text: &[u8], form: Form, specials: Specials, at: usize) -> bool
     requires form { IsForm form }
     requires specials { form.specials ≡ Some specials }
     requires within { at ≤ length text.now }
@@ -172,7 +172,7 @@ pub fn may_begin(text: &[u8], form: Form, specials: Specials, at: usize) -> bool
 /// own.
 #[inline(never)]
 #[tactic(auto, unfolding(crate::specs::Specials::special_at))]
-pub fn read_special(
+fn read_special(
     text: &[u8],
     form: Form,
     at: usize,
@@ -197,4 +197,51 @@ pub fn read_special(
         }
     }
     found
+}
+
+/// [`read_special`], whose form and answer in memory belong to this function.
+#[inline(always)]
+fn special_in(
+    text: &[u8],
+    form: Form,
+    at: usize,
+    is_signed: bool,
+    is_minus: bool,
+) -> Option<(Special, usize)>
+    requires form { IsForm form }
+    requires within { at ≤ length text.now }
+    ensures is { MatchOption result (special_at form text.now at is_signed is_minus ≡ None)
+        (λ r. special_at form text.now at is_signed is_minus ≡ Some r.0) }
+    ensures end { IfSome result (λ r. r.1 ≡ name_end form text.now at r.0) }
+    ensures within { IfSome result (λ r. (at < r.1) × (r.1 ≤ length text.now)) }
+{
+    match read_special(text, form, at, is_signed, is_minus) {
+        Some((special, end)) => Some((special, end)),
+        None => None,
+    }
+}
+
+/// The special value of a form at a position, if the form has any.
+#[inline(always)]
+#[tactic(auto, unfolding(crate::specs::Specials::special_at))]
+pub fn special_of(
+    text: &[u8],
+    form: Form,
+    at: usize,
+    is_signed: bool,
+    is_minus: bool,
+) -> Option<(Special, usize)>
+    requires form { IsForm form }
+    requires within { at ≤ length text.now }
+    ensures is { MatchOption result (special_at form text.now at is_signed is_minus ≡ None)
+        (λ r. special_at form text.now at is_signed is_minus ≡ Some r.0) }
+    ensures end { IfSome result (λ r. r.1 ≡ name_end form text.now at r.0) }
+    ensures within { IfSome result (λ r. (at < r.1) × (r.1 ≤ length text.now)) }
+{
+    match form.specials {
+        Some(specials) if may_begin(text, form, specials, at) => {
+            special_in(text, form, at, is_signed, is_minus)
+        }
+        _ => None,
+    }
 }

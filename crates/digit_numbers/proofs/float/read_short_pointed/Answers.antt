@@ -1,7 +1,7 @@
 use Rattle.std.proofs.Common.{◌≡◌, ◌<◌, true, length, sym, arith}
 use Rattle.digit_floats.specs.Bytes.{stands, is_point}
 use Rattle.digit_numbers.specs.Numbers.{whole_digits, fraction}
-use Rattle.digit_numbers.proofs.Short.{pointed_float}
+use Rattle.digit_numbers.proofs.ShortNumbers.{pointed_float}
 use Rattle.digit_numbers.proofs.float.read_short_pointed.Goals as goal
 
 pub returns-clause-is : goal.returns-clause-is

@@ -1,6 +1,6 @@
 use Rattle.std.proofs.Common.{◌<◌, length, sym, arith}
 use Rattle.digit_numbers.specs.Numbers.{whole_digits}
-use Rattle.digit_numbers.proofs.Short.{powered_float}
+use Rattle.digit_numbers.proofs.ShortNumbers.{powered_float}
 use Rattle.digit_numbers.proofs.float.round_marked.Goals as goal
 
 pub returns-in-Some-clause-is : goal.returns-in-Some-clause-is

@@ -1,7 +1,7 @@
 use Rattle.std.proofs.Common.{sym, ◌∙◌}
 use Rattle.digit_floats.specs.Float.{parts_at}
 use Rattle.digit_numbers.proofs.Alone.{nearest_alone}
-use Rattle.digit_numbers.proofs.Short.{no_mark}
+use Rattle.digit_numbers.proofs.ShortNumbers.{no_mark}
 use Rattle.digit_numbers.proofs.float.round_unmarked.Goals as goal
 
 pub returns-in-Some-clause-value : goal.returns-in-Some-clause-value

@@ -1,6 +1,6 @@
 use Rattle.std.proofs.Common.{sym, ◌∙◌}
 use Rattle.digit_numbers.proofs.Zeros.{large_plain}
-use Rattle.digit_numbers.proofs.number.read_other.Goals as goal
+use Rattle.digit_numbers.proofs.plain.read_other.Goals as goal
 
 pub read_large-x-requires-clause-large : goal.read_large-x-requires-clause-large
 read_large-x-requires-clause-large g c =
