@@ -302,3 +302,66 @@ few_is n y x some few fits k is =
           is ∙ ap (λ j. x * 2 ^ (64 - 8 * j) % 2 ^ 64) eight ∙ omega (arith, fits) in
           rw (whole, eight) (all_eight x fits (λ i s. k i (omega (arith, s, eight))))
     ]
+
+-- ---- five to seven bytes
+
+-- a word is below the power of its bytes
+spelt_below : (n : ℕ) (b : ℕ → ℕ) → ((i : ℕ) → b i < 256) → spelt n b < 256 ^ n
+spelt_below zero b fit = omega arith
+spelt_below (suc n) b fit =
+    let power : 256 ^ suc n ≡ 256 ^ n * 256 = simp unary_clauses refl in
+    omega (arith, power, fit 0, spelt_below n (λ i. b (suc i)) (λ i. fit (suc i)))
+
+-- without `0` in each of eight bytes, what is above so many bytes is of no interest
+short_sum : (n w x : ℕ) → 5 ≤ n → n < 8 → w < 256 ^ n
+    → x ≡ (w + (2 ^ 64 - 0x3030_3030_3030_3030)) % 2 ^ 64
+    → x + repeated 48 n ≡ w + (x + repeated 48 n) / 256 ^ n * 256 ^ n
+short_sum zero w x some few small is = absurd (omega (arith, some))
+short_sum (suc zero) w x some few small is = absurd (omega (arith, some))
+short_sum (suc (suc zero)) w x some few small is = absurd (omega (arith, some))
+short_sum (suc (suc (suc zero))) w x some few small is = absurd (omega (arith, some))
+short_sum (suc (suc (suc (suc zero)))) w x some few small is = absurd (omega (arith, some))
+short_sum (suc (suc (suc (suc (suc zero))))) w x some few small is = omega (arith, small, is)
+short_sum (suc (suc (suc (suc (suc (suc zero)))))) w x some few small is = omega (arith, small, is)
+short_sum (suc (suc (suc (suc (suc (suc (suc zero))))))) w x some few small is =
+    omega (arith, small, is)
+short_sum (suc (suc (suc (suc (suc (suc (suc (suc n)))))))) w x some few small is =
+    absurd (omega (arith, few))
+
+-- each byte of a word
+below_each : (n x : ℕ) → AreBelow 10 n x → (i : ℕ) → i < n → byte_of x i < 10
+below_each zero x k i l = absurd (omega arith)
+below_each (suc n) x k zero l = k.0
+below_each (suc n) x k (suc i) l = below_each n (x / 256) k.1 i (omega (arith, l))
+
+-- the bytes before the first that is no digit, if there is one
+pub tested : (x others count : ℕ) → (others ≡ 0 → AreBelow 10 8 x)
+    → (0 < others → (i : ℕ) → i < trailing_zeros w64 others / 8 → byte_of x i < 10)
+    → count < 8 → count ≤ trailing_zeros w64 others / 8
+    → (i : ℕ) → i < count → byte_of x i < 10
+tested x others count none first few all i l =
+    elim (cases_lt 0 others) [
+      | inl some ↦ first some i (omega (arith, l, all))
+      | inr is ↦ below_each 8 x (none (omega (arith, is))) i (omega (arith, l, few))
+    ]
+
+pub short_written : (text : List ℕ) (word digits value : ℕ) → 5 ≤ length text → length text < 8
+    → ((i : ℕ) → slice_index text i < 256) → word ≡ spelt (length text) (slice_index text)
+    → digits ≡ (word + (2 ^ 64 - 0x3030_3030_3030_3030)) % 2 ^ 64
+    → ((i : ℕ) → i < length text → byte_of digits i < 10)
+    → value ≡ written (byte_of digits) (length text)
+    → IsWritten text 0 (length text) value
+short_written text word digits value some few fit spells less below is =
+    let n = length text in
+    let c = (digits + repeated 48 n) / 256 ^ n in
+    let small : word < 256 ^ n = rw spells (spelt_below n (slice_index text) fit) in
+    let e : digits + repeated 48 n ≡ spelt n (slice_index text) + c * 256 ^ n =
+    short_sum n word digits some few small less ∙ ap (λ w. w + c * 256 ^ n) spells in
+    let bytes : (i : ℕ) → i < n → slice_index text (0 + i) ≡ byte_of digits i + 48 =
+    λ i l. ap (slice_index text) {y = i} (omega arith)
+    ∙ each_is n n (slice_index text) digits c (omega arith) fit e below i l in
+    record {
+      within = omega arith;
+      digits = λ i l. omega (arith, bytes i l, below i l);
+      is = is ∙ same_written _ _ n (λ i l. omega (arith, bytes i l));
+    }

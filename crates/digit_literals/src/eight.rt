@@ -81,6 +81,30 @@ pub(super) fn word_at(text: &[u8], at: usize) -> u64
     ])
 }
 
+/// The four bytes from a position on as a word, the first in the lowest byte.
+#[inline(always)]
+pub(super) fn four_at(text: &[u8], at: usize) -> u32
+    requires { at + 4 ≤ length text.now }
+    ensures { result ≡ spelt 4 (λ i. slice_index text.now (at + i)) }
+{
+    // a compiler makes one load of these
+    u32::from_le_bytes([text[at], text[at + 1], text[at + 2], text[at + 3]])
+}
+
+/// The bytes of a text of five to seven as a word, the first in the lowest byte. Two loads take
+/// them, which have bytes in common.
+#[inline(always)]
+fn short_word(text: &[u8]) -> u64
+    requires some { 5 ≤ length text.now }
+    requires few { length text.now < 8 }
+    ensures { result ≡ spelt (length text.now) (slice_index text.now) }
+{
+    let first = four_at(text, 0);
+    let last = four_at(text, text.len() - 4);
+    let others = 64 - 8 * text.len();
+    u64::from(first) + (u64::from(last >> others) << 32)
+}
+
 /// The digits of the eight bytes from a position on, if all are decimal.
 #[inline(always)]
 fn digits_at(text: &[u8], at: usize) -> Option<u64>
@@ -386,15 +410,30 @@ fn end_whole(text: &[u8], at: usize, value: u64) -> Whole
     }
 }
 
+/// The number that a text of five to seven bytes is. No branch depends on how many there are.
+#[inline(always)]
+pub(super) fn read_short(text: &[u8]) -> Whole
+    requires some { 5 ≤ length text.now }
+    requires few { length text.now < 8 }
+    ensures { result.is_whole ≡ true → IsWritten text.now 0 (length text.now) result.value }
+{
+    let digits = short_word(text).wrapping_sub(0x3030_3030_3030_3030);
+    let count = text.len() as u32;
+    if others_of(digits).trailing_zeros() / 8 < count {
+        return NONE;
+    }
+    Whole {
+        value: first_of(digits, count),
+        is_whole: true,
+    }
+}
+
 /// The number that a text of at least 8 bytes is.
 #[inline(never)]
 pub(super) fn read_whole(text: &[u8]) -> Whole
     requires { 8 ≤ length text.now }
     ensures { result.is_whole ≡ true → IsWritten text.now 0 (length text.now) result.value }
 {
-    if text.len() > 20 {
-        return NONE;
-    }
     let Some(first) = eight_from(text, 0) else {
         return NONE;
     };
@@ -404,5 +443,15 @@ pub(super) fn read_whole(text: &[u8]) -> Whole
     let Some(second) = eight_from(text, 8) else {
         return NONE;
     };
-    end_whole(text, 16, first * 100_000_000 + second)
+    let value = first * 100_000_000 + second;
+    if text.len() == 16 {
+        return Whole {
+            value,
+            is_whole: true,
+        };
+    }
+    if text.len() > 20 {
+        return NONE;
+    }
+    end_whole(text, 16, value)
 }

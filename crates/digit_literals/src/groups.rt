@@ -3,29 +3,19 @@
 //! speed, of `parse_number` where the word drops lone separators between digits (the rows
 //! `u: I, grouped`).
 
-ghost use Rattle.std.specs.Prelude.{◌≡◌, ℕ, ◌+◌, ◌-◌, ◌/◌, ◌^◌, ◌<◌, ◌≤◌, length, slice_index, true, false, Some, Ok, IfSome, IsTrue};
+ghost use Rattle.std.specs.Prelude.{◌≡◌, ℕ, ◌+◌, ◌-◌, ◌/◌, ◌^◌, ◌<◌, ◌≤◌, length, true, false, Some, Ok, IfSome, IsTrue};
 ghost use Rattle.lexical_format.specs.Word.{is_supported};
 ghost use Rattle.lexical_digits.specs.declared.skip.component.Component.TheVariants.{Integer};
 ghost use Rattle.lexical_digits.specs.Separators.{IsSupported};
 ghost use Rattle.lexical_digits.specs.State.{rule_of};
-ghost use Rattle.digit_literals.specs.Eight.{byte_of, spelt, written, IsWritten};
+ghost use Rattle.digit_literals.specs.Eight.{byte_of, written, IsWritten};
 ghost use Rattle.digit_literals.specs.Groups.{AreThree, IsGroup};
 ghost use Rattle.digit_literals.specs.Integers.{integer_at};
 ghost use Rattle.digit_literals.specs.Reads.{IsOffSlice};
 
-use super::eight::{NONE, Whole};
+use super::eight::{NONE, Whole, four_at};
 use super::slice::ReadTo;
 use lexical_digits::skip::{Component, Rule};
-
-/// The four bytes from a position on as a word, the first in the lowest byte.
-#[inline(always)]
-fn four_at(text: &[u8], at: usize) -> u32
-    requires { at + 4 ≤ length text.now }
-    ensures { result ≡ spelt 4 (λ i. slice_index text.now (at + i)) }
-{
-    // a compiler makes one load of these
-    u32::from_le_bytes([text[at], text[at + 1], text[at + 2], text[at + 3]])
-}
 
 /// Whether the lowest byte of a word is 0 and the three others are below ten.
 #[inline(always)]

@@ -13,7 +13,7 @@ ghost use Rattle.digit_literals.specs.Integers.{integer_at};
 ghost use Rattle.digit_literals.specs.Reads.{ReadsTo, IsFirst, integer_of};
 
 use super::LiteralError;
-use super::eight::{NONE, Whole, read_few, read_whole};
+use super::eight::{Whole, read_few, read_short, read_whole};
 use super::groups::read_grouped;
 use super::slice::{ReadTo, first_digit, read_bytes, read_slice};
 use lexical_digits::iterator::Iter;
@@ -142,20 +142,16 @@ pub(super) fn read_few_integer(text: &[u8], word: u128, start: usize, most: u128
     }
 }
 
-/// The number that a text is, if all its bytes are decimal digits.
+/// The number that a text of at least five bytes is.
 #[inline(always)]
 fn read_all_digits(text: &[u8]) -> Whole
+    requires { 5 ≤ length text.now }
     ensures { result.is_whole ≡ true → IsWritten text.now 0 (length text.now) result.value }
 {
     if text.len() >= 8 {
-        return read_whole(text);
-    }
-    match read_few(text) {
-        Some(value) => Whole {
-            value,
-            is_whole: true,
-        },
-        None => NONE,
+        read_whole(text)
+    } else {
+        read_short(text)
     }
 }
 

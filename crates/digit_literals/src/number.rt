@@ -151,10 +151,13 @@ fn read_to_end(text: &[u8], word: u128, start: usize, most: u128) -> Option<u64>
         integer_at (rule_of word Integer) text.now start most ≡ Ok (value, length text.now)) }
     ensures fits { IfSome result (λ value. value ≤ most) }
 {
-    let bytes = text.len() - start;
-    let internal = Rule::of(word, Component::Integer).internal;
-    // the compiler writes the short loop out, since at most seven bytes are left
-    if bytes >= 8 || (bytes >= 5 && internal) {
+    // at most seven, so the compiler writes the loop over them out
+    let few = if Rule::of(word, Component::Integer).internal {
+        4
+    } else {
+        7
+    };
+    if text.len() - start > few {
         read_long_integer(text, word, start, most)
     } else {
         read_few_integer(text, word, start, most)

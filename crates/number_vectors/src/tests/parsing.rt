@@ -44,7 +44,7 @@ fn the_first_fault_of_a_text_is_reported(rt: HostRuntime) {
 }
 
 /// Texts with groups of three digits, their values and faults; `_` may stand between two digits.
-static GROUPED: [(&[u8], Result<u64, ParseError>); 47] = [
+static GROUPED: [(&[u8], Result<u64, ParseError>); 54] = [
     (b"1_234", Ok(1234)),
     (b"12_345", Ok(12345)),
     (b"123_456", Ok(123456)),
@@ -92,7 +92,14 @@ static GROUPED: [(&[u8], Result<u64, ParseError>); 47] = [
     (b"1a234_567", Err(ParseError::Invalid(1))),
     (b"1:234", Err(ParseError::Invalid(1))),
     (b"12345", Ok(12345)),
+    (b"00000", Ok(0)),
+    (b"654321", Ok(654321)),
+    (b"9999999", Ok(9999999)),
+    (b"/2345", Err(ParseError::Invalid(0))),
+    (b"1234x", Err(ParseError::Invalid(4))),
     (b"1234:6", Err(ParseError::Invalid(4))),
+    (b"123/567", Err(ParseError::Invalid(3))),
+    (b"12345\xb07", Err(ParseError::Invalid(5))),
     (b"123456/", Err(ParseError::Invalid(6))),
     (b"1234567890123456789", Ok(1234567890123456789)),
     (b"100000000000000000000", Err(ParseError::Overflow(20))),
