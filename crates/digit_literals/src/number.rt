@@ -141,7 +141,7 @@ fn is_by_words<T: Integer>(word: u128, bytes: usize) -> bool
 /// The value of the integer that a text is from `start` on to its end, where the radix is 10, if it
 /// is at most `most` and nothing else is there than digits, or digits in groups if lone separators
 /// between them are dropped. Few bytes are read one by one, and none is tested for being too large;
-/// eight and more, and groups, are read in code of their own.
+/// more are read in code of their own.
 #[inline(always)]
 fn read_to_end(text: &[u8], word: u128, start: usize, most: u128) -> Option<u64>
     requires supported { IsTrue (is_supported word) }
