@@ -412,7 +412,7 @@ fn end_whole(text: &[u8], at: usize, value: u64) -> Whole
 
 /// The number that a text of five to seven bytes is. No branch depends on how many there are.
 #[inline(always)]
-pub(super) fn read_short(text: &[u8]) -> Whole
+pub(super) fn read_five_to_seven(text: &[u8]) -> Whole
     requires some { 5 ≤ length text.now }
     requires few { length text.now < 8 }
     ensures { result.is_whole ≡ true → IsWritten text.now 0 (length text.now) result.value }

@@ -13,7 +13,7 @@ ghost use Rattle.digit_literals.specs.Integers.{integer_at};
 ghost use Rattle.digit_literals.specs.Reads.{ReadsTo, IsFirst, integer_of};
 
 use super::LiteralError;
-use super::eight::{Whole, read_few, read_short, read_whole};
+use super::eight::{Whole, read_few, read_five_to_seven, read_whole};
 use super::groups::read_grouped;
 use super::slice::{ReadTo, first_digit, read_bytes, read_slice};
 use lexical_digits::iterator::Iter;
@@ -151,7 +151,7 @@ fn read_all_digits(text: &[u8]) -> Whole
     if text.len() >= 8 {
         read_whole(text)
     } else {
-        read_short(text)
+        read_five_to_seven(text)
     }
 }
 

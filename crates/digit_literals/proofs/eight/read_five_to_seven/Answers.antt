@@ -1,6 +1,6 @@
 use Rattle.std.proofs.Common.{ℕ, ◌<◌, length, slice_index, refl, arith}
 use Rattle.digit_literals.proofs.FrontOfWord.{tested, short_written}
-use Rattle.digit_literals.proofs.eight.read_short.Goals as goal
+use Rattle.digit_literals.proofs.eight.read_five_to_seven.Goals as goal
 
 pub first_of-requires-clause-below : goal.first_of-requires-clause-below
 first_of-requires-clause-below c =
