@@ -21,6 +21,7 @@ mod plain;
 mod plain_rows;
 mod radixes;
 mod reads;
+mod requests;
 mod rules;
 mod scripts;
 mod spaced;
