@@ -1,6 +1,6 @@
 -- The decimal digits that eight bytes in a word begin with: their test, and the number that they
 -- write.
-use Rattle.std.proofs.Common.{◌≡◌, ℕ, zero, suc, ◌+◌, ◌-◌, ◌*◌, ◌/◌, ◌%◌, ◌^◌, ◌<◌, ◌≤◌, bit_and, bit_or, List, length, refl, ap, ◌∙◌, inl, inr, arith}
+use Rattle.std.proofs.Common.{◌≡◌, ℕ, zero, suc, ◌+◌, ◌-◌, ◌*◌, ◌/◌, ◌%◌, ◌^◌, ◌<◌, ◌≤◌, bit_and, bit_or, List, length, refl, ap, sym, ◌∙◌, inl, inr, arith}
 use Rattle.std.specs.Prelude.{slice_index}
 use Rattle.std.specs.Int.{bit_at, trailing_zeros, w64}
 use native.Mathlib.Numerals.{unary_clauses}
@@ -8,7 +8,7 @@ use Rattle.std.proofs.Math.Pow.{mod-mod-pow}
 use Rattle.std.proofs.lemmas.Bool.{cases_lt}
 use Rattle.std.proofs.lemmas.Nat.{shr-shr, field_of, or_lt, and_le_l}
 use Rattle.std.proofs.lemmas.Nat.Bits.{bit_at_or, bit_at_and, bit_at-trailing_zeros}
-use Rattle.digit_literals.specs.Eight.{byte_of, AreBelow, spelt, number_of, written, IsWritten}
+use Rattle.digit_literals.specs.Eight.{byte_of, AreBelow, padded, spelt, number_of, written, IsWritten}
 use Rattle.digit_literals.proofs.WordOfDigits.{repeated, bytes_from, same_written}
 
 -- ---- the test
@@ -305,28 +305,20 @@ few_is n y x some few fits k is =
 
 -- ---- five to seven bytes
 
--- a word is below the power of its bytes
-spelt_below : (n : ℕ) (b : ℕ → ℕ) → ((i : ℕ) → b i < 256) → spelt n b < 256 ^ n
-spelt_below zero b fit = omega arith
-spelt_below (suc n) b fit =
-    let power : 256 ^ suc n ≡ 256 ^ n * 256 = simp unary_clauses refl in
-    omega (arith, power, fit 0, spelt_below n (λ i. b (suc i)) (λ i. fit (suc i)))
+padded_before : (m i : ℕ) (b : ℕ → ℕ) → i < m → padded m b i ≡ 48
+padded_before zero i b l = absurd (omega (arith, l))
+padded_before (suc m) zero b l = refl
+padded_before (suc m) (suc i) b l = padded_before m i b (omega (arith, l))
 
--- without `0` in each of eight bytes, what is above so many bytes is of no interest
-short_sum : (n w x : ℕ) → 5 ≤ n → n < 8 → w < 256 ^ n
-    → x ≡ (w + (2 ^ 64 - 0x3030_3030_3030_3030)) % 2 ^ 64
-    → x + repeated 48 n ≡ w + (x + repeated 48 n) / 256 ^ n * 256 ^ n
-short_sum zero w x some few small is = absurd (omega (arith, some))
-short_sum (suc zero) w x some few small is = absurd (omega (arith, some))
-short_sum (suc (suc zero)) w x some few small is = absurd (omega (arith, some))
-short_sum (suc (suc (suc zero))) w x some few small is = absurd (omega (arith, some))
-short_sum (suc (suc (suc (suc zero)))) w x some few small is = absurd (omega (arith, some))
-short_sum (suc (suc (suc (suc (suc zero))))) w x some few small is = omega (arith, small, is)
-short_sum (suc (suc (suc (suc (suc (suc zero)))))) w x some few small is = omega (arith, small, is)
-short_sum (suc (suc (suc (suc (suc (suc (suc zero))))))) w x some few small is =
-    omega (arith, small, is)
-short_sum (suc (suc (suc (suc (suc (suc (suc (suc n)))))))) w x some few small is =
-    absurd (omega (arith, few))
+padded_after : (m i : ℕ) (b : ℕ → ℕ) → padded m b (m + i) ≡ b i
+padded_after zero i b = ap b (omega arith)
+padded_after (suc m) i b =
+    ap (padded (suc m) b) {y = suc (m + i)} (omega arith) ∙ padded_after m i b
+
+padded_fits : (m i : ℕ) (b : ℕ → ℕ) → ((i : ℕ) → b i < 256) → padded m b i < 256
+padded_fits zero i b fit = fit i
+padded_fits (suc m) zero b fit = omega arith
+padded_fits (suc m) (suc i) b fit = padded_fits m i b fit
 
 -- each byte of a word
 below_each : (n x : ℕ) → AreBelow 10 n x → (i : ℕ) → i < n → byte_of x i < 10
@@ -334,34 +326,46 @@ below_each zero x k i l = absurd (omega arith)
 below_each (suc n) x k zero l = k.0
 below_each (suc n) x k (suc i) l = below_each n (x / 256) k.1 i (omega (arith, l))
 
--- the bytes before the first that is no digit, if there is one
-pub tested : (x others count : ℕ) → (others ≡ 0 → AreBelow 10 8 x)
-    → (0 < others → (i : ℕ) → i < trailing_zeros w64 others / 8 → byte_of x i < 10)
-    → count < 8 → count ≤ trailing_zeros w64 others / 8
-    → (i : ℕ) → i < count → byte_of x i < 10
-tested x others count none first few all i l =
-    elim (cases_lt 0 others) [
-      | inl some ↦ first some i (omega (arith, l, all))
-      | inr is ↦ below_each 8 x (none (omega (arith, is))) i (omega (arith, l, few))
-    ]
+-- zeros before the digits write nothing
+after_zeros : (n : ℕ) (d : ℕ → ℕ) → 5 ≤ n → n < 8 → ((i : ℕ) → i < 8 - n → d i ≡ 0)
+    → number_of d ≡ written (λ i. d (8 - n + i)) n
+after_zeros zero d some few z = absurd (omega (arith, some))
+after_zeros (suc zero) d some few z = absurd (omega (arith, some))
+after_zeros (suc (suc zero)) d some few z = absurd (omega (arith, some))
+after_zeros (suc (suc (suc zero))) d some few z = absurd (omega (arith, some))
+after_zeros (suc (suc (suc (suc zero)))) d some few z = absurd (omega (arith, some))
+after_zeros (suc (suc (suc (suc (suc zero))))) d some few z =
+    omega (arith, z 0 (omega arith), z 1 (omega arith), z 2 (omega arith))
+after_zeros (suc (suc (suc (suc (suc (suc zero)))))) d some few z =
+    omega (arith, z 0 (omega arith), z 1 (omega arith))
+after_zeros (suc (suc (suc (suc (suc (suc (suc zero))))))) d some few z =
+    omega (arith, z 0 (omega arith))
+after_zeros (suc (suc (suc (suc (suc (suc (suc (suc n)))))))) d some few z =
+    absurd (omega (arith, few))
 
-pub short_written : (text : List ℕ) (word digits value : ℕ) → 5 ≤ length text → length text < 8
-    → ((i : ℕ) → slice_index text i < 256) → word ≡ spelt (length text) (slice_index text)
-    → digits ≡ (word + (2 ^ 64 - 0x3030_3030_3030_3030)) % 2 ^ 64
-    → ((i : ℕ) → i < length text → byte_of digits i < 10)
-    → value ≡ written (byte_of digits) (length text)
-    → IsWritten text 0 (length text) value
-short_written text word digits value some few fit spells less below is =
+pub filled_written : (text : List ℕ) (word digits value : ℕ) → 5 ≤ length text
+    → length text < 8 → ((i : ℕ) → slice_index text i < 256)
+    → word ≡ spelt 8 (padded (8 - length text) (slice_index text))
+    → word ≡ digits + 0x3030_3030_3030_3030 → AreBelow 10 8 digits
+    → value ≡ number_of (byte_of digits) → IsWritten text 0 (length text) value
+filled_written text word digits value some few fit spells less below is =
     let n = length text in
-    let c = (digits + repeated 48 n) / 256 ^ n in
-    let small : word < 256 ^ n = rw spells (spelt_below n (slice_index text) fit) in
-    let e : digits + repeated 48 n ≡ spelt n (slice_index text) + c * 256 ^ n =
-    short_sum n word digits some few small less ∙ ap (λ w. w + c * 256 ^ n) spells in
-    let bytes : (i : ℕ) → i < n → slice_index text (0 + i) ≡ byte_of digits i + 48 =
-    λ i l. ap (slice_index text) {y = i} (omega arith)
-    ∙ each_is n n (slice_index text) digits c (omega arith) fit e below i l in
+    let b = slice_index text in
+    let m = 8 - n in
+    let e : digits + repeated 48 8 ≡ spelt 8 (padded m b) + 0 * 256 ^ 8 =
+    omega (arith, less) ∙ spells ∙ omega arith in
+    let each : (i : ℕ) → i < 8 → padded m b i ≡ byte_of digits i + 48 =
+    each_is 8 8 (padded m b) digits 0 (omega arith) (λ i. padded_fits m i b fit) e
+    (below_each 8 digits below) in
+    let bytes : (i : ℕ) → i < n → slice_index text (0 + i) ≡ byte_of digits (m + i) + 48 =
+    λ i l. ap b {y = i} (omega arith) ∙ sym (padded_after m i b)
+    ∙ each (m + i) (omega (arith, l, few)) in
+    let zeros : (i : ℕ) → i < m → byte_of digits i ≡ 0 =
+    λ i l. omega (arith, padded_before m i b l, each i (omega (arith, l))) in
     record {
       within = omega arith;
-      digits = λ i l. omega (arith, bytes i l, below i l);
-      is = is ∙ same_written _ _ n (λ i l. omega (arith, bytes i l));
+      digits = λ i l.
+          omega (arith, bytes i l, below_each 8 digits below (m + i) (omega (arith, l, few)));
+      is = is ∙ after_zeros n (byte_of digits) some few zeros
+          ∙ same_written _ _ n (λ i l. omega (arith, bytes i l));
     }

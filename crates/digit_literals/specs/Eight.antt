@@ -17,6 +17,12 @@ abbrev pub spelt : ℕ → (ℕ → ℕ) → ℕ
 spelt zero b = 0
 spelt (suc n) b = b 0 + 256 * spelt n (λ i. b (suc i))
 
+-- so many `0`, and then these bytes
+abbrev pub padded : ℕ → (ℕ → ℕ) → ℕ → ℕ
+padded zero b i = b i
+padded (suc m) b zero = 48
+padded (suc m) b (suc i) = padded m b i
+
 -- the number that eight digits write
 abbrev pub number_of : (ℕ → ℕ) → ℕ
 number_of d =

@@ -2,7 +2,7 @@
 
 ghost use Rattle.std.specs.Prelude.{◌≡◌, ℕ, ◌+◌, ◌-◌, ◌*◌, ◌/◌, ◌^◌, ◌<◌, ◌≤◌, length, slice_index, true, None, Some, IfSome};
 ghost use Rattle.std.specs.Int.{trailing_zeros, w64};
-ghost use Rattle.digit_literals.specs.Eight.{AreBelow, byte_of, spelt, number_of, written, AreDigits, IsWritten};
+ghost use Rattle.digit_literals.specs.Eight.{AreBelow, byte_of, padded, spelt, number_of, written, AreDigits, IsWritten};
 ghost use Rattle.digit_literals.specs.Ends.{AreDecimal};
 ghost use Rattle.digit_literals.specs.Reads.{ArePlain};
 
@@ -91,18 +91,18 @@ pub(super) fn four_at(text: &[u8], at: usize) -> u32
     u32::from_le_bytes([text[at], text[at + 1], text[at + 2], text[at + 3]])
 }
 
-/// The bytes of a text of five to seven as a word, the first in the lowest byte. Two loads take
-/// them, which have bytes in common.
+/// Eight bytes as a word, the first in the lowest byte: a text of five to seven, and a `0` for each
+/// missing one before it. Two loads take the text, which have bytes in common.
 #[inline(always)]
-fn short_word(text: &[u8]) -> u64
+fn filled_word(text: &[u8]) -> u64
     requires some { 5 ≤ length text.now }
     requires few { length text.now < 8 }
-    ensures { result ≡ spelt (length text.now) (slice_index text.now) }
+    ensures { result ≡ spelt 8 (padded (8 - length text.now) (slice_index text.now)) }
 {
-    let first = four_at(text, 0);
+    let missing = 64 - 8 * text.len();
+    let first = (four_at(text, 0) << missing) + (0x0030_3030 >> (24 - missing));
     let last = four_at(text, text.len() - 4);
-    let others = 64 - 8 * text.len();
-    u64::from(first) + (u64::from(last >> others) << 32)
+    u64::from(first) + (u64::from(last) << 32)
 }
 
 /// The digits of the eight bytes from a position on, if all are decimal.
@@ -417,14 +417,12 @@ pub(super) fn read_five_to_seven(text: &[u8]) -> Whole
     requires few { length text.now < 8 }
     ensures { result.is_whole ≡ true → IsWritten text.now 0 (length text.now) result.value }
 {
-    let digits = short_word(text).wrapping_sub(0x3030_3030_3030_3030);
-    let count = text.len() as u32;
-    if others_of(digits).trailing_zeros() / 8 < count {
-        return NONE;
-    }
-    Whole {
-        value: first_of(digits, count),
-        is_whole: true,
+    match digits_of(filled_word(text)) {
+        Some(digits) => Whole {
+            value: value_of(digits),
+            is_whole: true,
+        },
+        None => NONE,
     }
 }
 
