@@ -99,8 +99,8 @@ fn filled_word(text: &[u8]) -> u64
     requires few { length text.now < 8 }
     ensures { result ≡ spelt 8 (padded (8 - length text.now) (slice_index text.now)) }
 {
-    let missing = 64 - 8 * text.len();
-    let first = (four_at(text, 0) << missing) + (0x0030_3030 >> (24 - missing));
+    let bits_before = 64 - 8 * text.len();
+    let first = (four_at(text, 0) << bits_before) + (0x0030_3030 >> (24 - bits_before));
     let last = four_at(text, text.len() - 4);
     u64::from(first) + (u64::from(last) << 32)
 }

@@ -18,7 +18,7 @@ use super::LiteralError;
 use super::bytes::accepts;
 use super::eight::{few_at, value_at};
 use super::list::{Gap, ListEnd, ListRead};
-use super::number::{Integer, greatest};
+use super::number::{Integer, greatest, greatest_of_both};
 use lexical_digits::skip::{Component, Rule};
 use std::simd::prelude::*;
 
@@ -223,19 +223,6 @@ fn any_head<T: Integer>(text: &[u8], gap: Gap, at: usize, rest: u64) -> Option<H
     pass_sign::<T>(text, place, others)
 }
 
-/// The smaller one of a type's greatest magnitudes, with a `-` and without.
-#[inline(always)]
-fn each_has<T: Integer>() -> u128
-    ensures positive { result ≤ T.MAX }
-    ensures negative { 0 < T.MIN_MAGNITUDE → result ≤ T.MIN_MAGNITUDE }
-{
-    if T::MIN_MAGNITUDE == 0 || T::MAX < T::MIN_MAGNITUDE {
-        T::MAX
-    } else {
-        T::MIN_MAGNITUDE
-    }
-}
-
 /// Whether a type has a number of so many digits, with a `-` or without. Where it has each of so
 /// many digits, a compiler leaves the test out.
 #[inline(always)]
@@ -245,8 +232,8 @@ fn fits<T: Integer>(value: u64, count: usize, is_negative: bool) -> bool
     requires sign { is_negative ≡ true → 0 < T.MIN_MAGNITUDE }
     ensures { result ≡ true → value ≤ (if is_negative then T.MIN_MAGNITUDE else T.MAX) }
 {
-    (count <= 8 && each_has::<T>() >= 99_999_999)
-        || (count <= 16 && each_has::<T>() >= 9_999_999_999_999_999)
+    (count <= 8 && greatest_of_both::<T>() >= 99_999_999)
+        || (count <= 16 && greatest_of_both::<T>() >= 9_999_999_999_999_999)
         || u128::from(value) <= greatest::<T>(is_negative)
 }
 

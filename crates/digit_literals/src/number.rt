@@ -1,6 +1,6 @@
 //! Numbers of any integer type.
 
-ghost use Rattle.std.specs.Prelude.{◌≡◌, ◌+◌, ◌-◌, ◌<◌, ◌≤◌, if◌then◌else◌, Some, Ok, Err, length, false, IfSome, IfOk, IfErr, MatchResult, IsTrue, true};
+ghost use Rattle.std.specs.Prelude.{◌≡◌, ℕ, ◌+◌, ◌-◌, ◌<◌, ◌≤◌, if◌then◌else◌, Some, Ok, Err, length, false, IfSome, IfOk, IfErr, MatchResult, IsTrue, true};
 ghost use Rattle.lexical_format.specs.Word.{is_supported};
 ghost use Rattle.lexical_digits.specs.declared.skip.component.Component.TheVariants.{Integer};
 ghost use Rattle.lexical_digits.specs.State.{rule_of};
@@ -36,6 +36,20 @@ pub(super) fn greatest<T: Integer>(has_minus: bool) -> u128
     ensures { result ≡ (if has_minus then T.MIN_MAGNITUDE else T.MAX) }
 {
     if has_minus { T::MIN_MAGNITUDE } else { T::MAX }
+}
+
+/// The greatest magnitude that a type has both with a `-` and without, or of a type without a sign
+/// its greatest one.
+#[inline(always)]
+pub(super) fn greatest_of_both<T: Integer>() -> u128
+    ensures positive { result ≤ T.MAX }
+    ensures negative { 0 < T.MIN_MAGNITUDE → result ≤ T.MIN_MAGNITUDE }
+{
+    if T::MIN_MAGNITUDE == 0 || T::MAX < T::MIN_MAGNITUDE {
+        T::MAX
+    } else {
+        T::MIN_MAGNITUDE
+    }
 }
 
 /// What a number begins with at a position.
@@ -123,9 +137,9 @@ fn pass_sign<T: Integer>(text: &[u8], start: usize) -> (bool, usize)
     if T::MIN_MAGNITUDE == 0 || start == text.len() {
         return (false, start);
     }
-    let is_negative = text[start] == b'-';
-    let is_positive = text[start] == b'+';
-    (is_negative, start + usize::from(is_negative | is_positive))
+    let byte = text[start];
+    let has_sign = matches!(byte, b'+' | b'-');
+    (byte == b'-', start + usize::from(has_sign))
 }
 
 /// Whether a number of so many bytes is read by words: the radix is 10, and there are at most 20
@@ -139,17 +153,17 @@ fn is_by_words<T: Integer>(word: u128, bytes: usize) -> bool
 }
 
 /// The value of the integer that a text is from `start` on to its end, where the radix is 10, if it
-/// is at most `most` and nothing else is there than digits, or digits in groups if lone separators
+/// is at most `bound` and nothing else is there than digits, or digits in groups if lone separators
 /// between them are dropped. Few bytes are read one by one, and none is tested for being too large;
 /// more are read in code of their own.
 #[inline(always)]
-fn read_to_end(text: &[u8], word: u128, start: usize, most: u128) -> Option<u64>
+fn read_to_end(text: &[u8], word: u128, start: usize, bound: u128) -> Option<u64>
     requires supported { IsTrue (is_supported word) }
     requires ten { (rule_of word Integer).radix ≡ 10 }
     requires within { start ≤ length text.now }
-    ensures is { IfSome result (λ value.
+    ensures is { IfSome result (λ value. (most : ℕ) → value ≤ most →
         integer_at (rule_of word Integer) text.now start most ≡ Ok (value, length text.now)) }
-    ensures fits { IfSome result (λ value. value ≤ most) }
+    ensures fits { IfSome result (λ value. value ≤ bound) }
 {
     // at most seven, so the compiler writes the loop over them out
     let few = if Rule::of(word, Component::Integer).internal {
@@ -158,32 +172,26 @@ fn read_to_end(text: &[u8], word: u128, start: usize, most: u128) -> Option<u64>
         7
     };
     if text.len() - start > few {
-        read_long_integer(text, word, start, most)
+        read_long_integer(text, word, start, bound)
     } else {
-        read_few_integer(text, word, start, most)
+        read_few_integer(text, word, start, bound)
     }
 }
 
-/// [`parse_number_from`] after the sign, by code of its own.
+/// [`parse_number_from`], by code of its own.
 #[cold]
 #[inline(never)]
-fn parse_again<T: Integer>(
-    text: &[u8],
-    word: u128,
-    start: usize,
-    is_negative: bool,
-) -> Result<T, ParseError>
+fn parse_again<T: Integer>(text: &[u8], word: u128, start: usize) -> Result<T, ParseError>
     requires supported { IsTrue (is_supported word) }
     requires within { start ≤ length text.now }
-    requires sign { is_negative ≡ true → 0 < T.MIN_MAGNITUDE }
-    ensures is { let most = if is_negative then T.MIN_MAGNITUDE else T.MAX in
-        let read = to_end text.now (with_sign is_negative
-        (integer_at (rule_of word Integer) text.now start most)) in
+    ensures is { let r = rule_of word Integer in
+        let read = to_end text.now (number_at T.MIN_MAGNITUDE T.MAX r text.now start) in
         MatchResult result (λ value. read ≡ Ok (T.number value)) (λ error. read ≡ Err error) }
     ensures fault_at { let n = length text.now in
         IfErr result (λ error. (start ≤ position error) × (position error ≤ n)) }
 {
-    let read = read_again(text, word, start, greatest::<T>(is_negative));
+    let (is_negative, begin) = pass_sign::<T>(text, start);
+    let read = read_again(text, word, begin, greatest::<T>(is_negative));
     if read.is_empty {
         if read.end == text.len() {
             return Err(ParseError::Empty(read.end));
@@ -202,26 +210,20 @@ fn parse_again<T: Integer>(
 
 /// [`parse_again`], alone: the place of its answer isn't set to 0 before it is needed.
 #[inline(always)]
-fn parse_the_rest<T: Integer>(
-    text: &[u8],
-    word: u128,
-    start: usize,
-    is_negative: bool,
-) -> Result<T, ParseError>
+fn parse_the_rest<T: Integer>(text: &[u8], word: u128, start: usize) -> Result<T, ParseError>
     requires supported { IsTrue (is_supported word) }
     requires within { start ≤ length text.now }
-    requires sign { is_negative ≡ true → 0 < T.MIN_MAGNITUDE }
-    ensures is { let most = if is_negative then T.MIN_MAGNITUDE else T.MAX in
-        let read = to_end text.now (with_sign is_negative
-        (integer_at (rule_of word Integer) text.now start most)) in
+    ensures is { let r = rule_of word Integer in
+        let read = to_end text.now (number_at T.MIN_MAGNITUDE T.MAX r text.now start) in
         MatchResult result (λ value. read ≡ Ok (T.number value)) (λ error. read ≡ Err error) }
     ensures fault_at { let n = length text.now in
         IfErr result (λ error. (start ≤ position error) × (position error ≤ n)) }
 {
-    parse_again::<T>(text, word, start, is_negative)
+    parse_again::<T>(text, word, start)
 }
 
-/// [`parse_number_from`], where it is by words. What isn't read to the end is read again.
+/// [`parse_number_from`], where it is by words. What isn't read to the end is read again. So is a
+/// type's least number: the bound is that of both signs, and no branch depends on the sign.
 #[inline(always)]
 fn parse_by_words<T: Integer>(text: &[u8], word: u128, start: usize) -> Result<T, ParseError>
     requires supported { IsTrue (is_supported word) }
@@ -234,10 +236,10 @@ fn parse_by_words<T: Integer>(text: &[u8], word: u128, start: usize) -> Result<T
         IfErr result (λ error. (start ≤ position error) × (position error ≤ n)) }
 {
     let (is_negative, begin) = pass_sign::<T>(text, start);
-    if let Some(value) = read_to_end(text, word, begin, greatest::<T>(is_negative)) {
+    if let Some(value) = read_to_end(text, word, begin, greatest_of_both::<T>()) {
         return Ok(T::of_magnitude(is_negative, u128::from(value)));
     }
-    parse_the_rest::<T>(text, word, begin, is_negative)
+    parse_the_rest::<T>(text, word, start)
 }
 
 /// Whether a number of so many bytes is read by [`read_hexadecimal`]: the radix is 16, no separator
@@ -266,7 +268,7 @@ fn parse_hexadecimal<T: Integer>(text: &[u8], word: u128, start: usize) -> Resul
     if let Some(value) = read_hexadecimal(text, word, begin, greatest::<T>(is_negative)) {
         return Ok(T::of_magnitude(is_negative, u128::from(value)));
     }
-    parse_the_rest::<T>(text, word, begin, is_negative)
+    parse_the_rest::<T>(text, word, start)
 }
 
 /// What [`parse_number_from`] answers, by the number that begins at `start`.

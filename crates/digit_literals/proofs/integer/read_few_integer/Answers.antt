@@ -5,7 +5,6 @@ use Rattle.digit_literals.proofs.Whole.{rest_is}
 use Rattle.digit_literals.proofs.integer.read_few_integer.Goals as goal
 
 pub returns-then-may_be-clause-is : goal.returns-then-may_be-clause-is
-returns-then-may_be-clause-is c =
+returns-then-may_be-clause-is c = λ most fits.
     rest_is (rule_of c.args.word Integer) c.args.text.now c.args.start c.in_ok-value.value
-    c.args.most c.requires.ten (grind arith) c.in_ok-value.ensures.written
-    (c.may_be.ensures c.if-may_be.true)
+    most c.requires.ten (grind arith) c.in_ok-value.ensures.written fits
