@@ -193,10 +193,14 @@ fn number_texts() -> Vec<Case> {
         "u: I, grouped, u32": literals(8..=9, true), skip::<I>(NumberOf(U32));
         "u: no flags, 1 to 4 digits, u32": literals(1..=4, false), skip::<NONE>(NumberOf(U32));
         "u: I, 1 to 4 digits, u32": literals(1..=4, false), skip::<I>(NumberOf(U32));
+        "u: no flags, 5 to 7 digits, u32": literals(5..=7, false), skip::<NONE>(NumberOf(U32));
+        "u: I, 5 to 7 digits, u32": literals(5..=7, false), skip::<I>(NumberOf(U32));
         "u: no flags, i32": signed(8..=9, false), skip::<NONE>(NumberOf(I32));
         "u: I, grouped, i32": signed(8..=9, true), skip::<I>(NumberOf(I32));
         "u: no flags, 1 to 4 digits, i32": signed(1..=4, false), skip::<NONE>(NumberOf(I32));
         "u: I, 1 to 4 digits, i32": signed(1..=4, false), skip::<I>(NumberOf(I32));
+        "u: no flags, 4 digits, i32": signed(4..=4, false), skip::<NONE>(NumberOf(I32));
+        "u: I, 4 digits, i32": signed(4..=4, false), skip::<I>(NumberOf(I32));
         "u: no flags, 1 to 4 digits, i64": signed(1..=4, false), skip::<NONE>(NumberOf(I64));
         "u: I, 1 to 4 digits, i64": signed(1..=4, false), skip::<I>(NumberOf(I64));
         "u: no flags, u128": literals(8..=20, false), skip::<NONE>(NumberOf(U128));

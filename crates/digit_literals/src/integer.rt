@@ -122,20 +122,20 @@ fn may_be(value: u64, most: u128) -> bool
 }
 
 /// The value of the integer that a text is from `start` on to its end, where the radix is 10 and at
-/// most seven bytes are left, if all of them are digits and their value is at most `bound`. No digit
+/// most seven bytes are left, if all of them are digits and their value is at most `most`. No digit
 /// is tested for being too large.
 #[inline(always)]
-pub(super) fn read_few_integer(text: &[u8], word: u128, start: usize, bound: u128) -> Option<u64>
+pub(super) fn read_few_integer(text: &[u8], word: u128, start: usize, most: u128) -> Option<u64>
     requires supported { IsTrue (is_supported word) }
     requires ten { (rule_of word Integer).radix ≡ 10 }
     requires within { start ≤ length text.now }
     requires few { length text.now < start + 8 }
-    ensures is { IfSome result (λ value. (most : ℕ) → value ≤ most →
-        integer_at (rule_of word Integer) text.now start most ≡ Ok (value, length text.now)) }
-    ensures fits { IfSome result (λ value. value ≤ bound) }
+    ensures is { IfSome result (λ value. (bound : ℕ) → value ≤ bound →
+        integer_at (rule_of word Integer) text.now start bound ≡ Ok (value, length text.now)) }
+    ensures fits { IfSome result (λ value. value ≤ most) }
 {
     let value = read_few(&text[start..])?;
-    if may_be(value, bound) {
+    if may_be(value, most) {
         Some(value)
     } else {
         None
@@ -196,19 +196,19 @@ fn read_long(text: &[u8], word: u128, start: usize) -> Whole
 }
 
 /// The value of the integer that a text is from `start` on to its end, where the radix is 10, if
-/// [`read_long`] reads it, and it is at most `bound`.
+/// [`read_long`] reads it, and it is at most `most`.
 #[inline(always)]
-pub(super) fn read_long_integer(text: &[u8], word: u128, start: usize, bound: u128) -> Option<u64>
+pub(super) fn read_long_integer(text: &[u8], word: u128, start: usize, most: u128) -> Option<u64>
     requires supported { IsTrue (is_supported word) }
     requires ten { (rule_of word Integer).radix ≡ 10 }
     requires five { start + 5 ≤ length text.now }
     requires eight { (rule_of word Integer).internal ≡ false → start + 8 ≤ length text.now }
-    ensures is { IfSome result (λ value. (most : ℕ) → value ≤ most →
-        integer_at (rule_of word Integer) text.now start most ≡ Ok (value, length text.now)) }
-    ensures fits { IfSome result (λ value. value ≤ bound) }
+    ensures is { IfSome result (λ value. (bound : ℕ) → value ≤ bound →
+        integer_at (rule_of word Integer) text.now start bound ≡ Ok (value, length text.now)) }
+    ensures fits { IfSome result (λ value. value ≤ most) }
 {
     let whole = read_long(text, word, start);
-    if whole.is_whole && u128::from(whole.value) <= bound {
+    if whole.is_whole && u128::from(whole.value) <= most {
         Some(whole.value)
     } else {
         None

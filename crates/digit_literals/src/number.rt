@@ -7,7 +7,7 @@ ghost use Rattle.lexical_digits.specs.State.{rule_of};
 ghost use Rattle.digit_literals.specs.Outcomes.{IfEmpty, IfOverflow};
 ghost use Rattle.digit_literals.specs.Errors.{position};
 ghost use Rattle.digit_literals.specs.Integers.{integer_at};
-ghost use Rattle.digit_literals.specs.Numbers.{number_at, to_end, with_sign, digits_from, is_negative_from};
+ghost use Rattle.digit_literals.specs.Numbers.{number_at, to_end, digits_from, is_negative_from};
 ghost use Rattle.digit_literals.specs.Reads.{IsFirst};
 
 use super::hexadecimal::read_hexadecimal;
@@ -153,17 +153,17 @@ fn is_by_words<T: Integer>(word: u128, bytes: usize) -> bool
 }
 
 /// The value of the integer that a text is from `start` on to its end, where the radix is 10, if it
-/// is at most `bound` and nothing else is there than digits, or digits in groups if lone separators
+/// is at most `most` and nothing else is there than digits, or digits in groups if lone separators
 /// between them are dropped. Few bytes are read one by one, and none is tested for being too large;
 /// more are read in code of their own.
 #[inline(always)]
-fn read_to_end(text: &[u8], word: u128, start: usize, bound: u128) -> Option<u64>
+fn read_to_end(text: &[u8], word: u128, start: usize, most: u128) -> Option<u64>
     requires supported { IsTrue (is_supported word) }
     requires ten { (rule_of word Integer).radix ≡ 10 }
     requires within { start ≤ length text.now }
-    ensures is { IfSome result (λ value. (most : ℕ) → value ≤ most →
-        integer_at (rule_of word Integer) text.now start most ≡ Ok (value, length text.now)) }
-    ensures fits { IfSome result (λ value. value ≤ bound) }
+    ensures is { IfSome result (λ value. (bound : ℕ) → value ≤ bound →
+        integer_at (rule_of word Integer) text.now start bound ≡ Ok (value, length text.now)) }
+    ensures fits { IfSome result (λ value. value ≤ most) }
 {
     // at most seven, so the compiler writes the loop over them out
     let few = if Rule::of(word, Component::Integer).internal {
@@ -172,9 +172,9 @@ fn read_to_end(text: &[u8], word: u128, start: usize, bound: u128) -> Option<u64
         7
     };
     if text.len() - start > few {
-        read_long_integer(text, word, start, bound)
+        read_long_integer(text, word, start, most)
     } else {
-        read_few_integer(text, word, start, bound)
+        read_few_integer(text, word, start, most)
     }
 }
 
