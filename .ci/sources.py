@@ -40,7 +40,8 @@ def crates():
 # The crates that no caller in Rattle uses: examples, the programs, tests, the benchmark, the
 # library for C.
 INNER = ("digit_hello", "digit_uses", "digit_requests", "digit_drain", "digit_totals", "digit_sum",
-         "digit_vectors", "number_vectors", "list_vectors", "digit_bench", "digits_c", "digit_jobs")
+         "digit_vectors", "number_vectors", "list_vectors", "digit_bench", "digits_c", "digit_jobs",
+         "digit_rows")
 
 # The crate that only passes on what the others have.
 DOOR = "digits"

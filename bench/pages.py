@@ -10,7 +10,7 @@ sys.dont_write_bytecode = True
 TOP = os.path.normpath(os.path.join(os.path.dirname(os.path.abspath(__file__)), ".."))
 CASES = "bench/cases.txt"
 from cases import UNITS, table, target  # noqa: E402
-from peers import door, peers, span as to_peers  # noqa: E402
+from peers import door, peers, span as to_peers, times  # noqa: E402
 from picture import svg  # noqa: E402
 
 # The rows of SPEED, with the cases that they show.
@@ -163,7 +163,9 @@ Slow are grouped floats (up to {most_of(cases, "x:", "Constant", "Filter")} time
 JSON ({most_of(cases, "z:", "Constant", "Filter")}), runs of dropped separators \
 ({most_of(cases, "e:", "Constant")} times lexical-util), letters \
 ({most_of(cases, "k:", "Constant")}), and a word that only run time knows (up to \
-{most_of(cases, "", "Library")})."""
+{most_of(cases, "", "Library")}).
+
+{times()} ([SPEED](docs/SPEED.md#beside-other-readers))."""
 
 
 # ---- all of them

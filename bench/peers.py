@@ -11,16 +11,11 @@ DOOR = {
     "word as argument": (", a word, from C", ", a word"),
     "form as argument": (", a form, from C", ""),
 }
-# The rows that the table for C shows, and those that the table of peers leaves out.
+# The rows that the table for C shows.
 DOOR_ROWS = [
     "u64, 1 to 4 digits", "u64, 19 digits", "i32, 1 to 9 digits, signs",
     "grouped u64, 8 to 20 digits", "f64, coordinates", "f64, 17 digits in [0, 1)", "JSON, mixed",
 ]
-LEFT_OUT = {
-    "u64, 16 digits", "hexadecimal u64, 8 to 16 digits", "grouped u64, 4 to 7 digits",
-    "f64, 13 to 15 places", "f64, shortest in [0, 1)", "f32, coordinates",
-    "f32, shortest of random bits", "JSON, integers of 1 to 4 digits",
-}
 # What a side doesn't do that the library does, in the rows whose names begin so.
 LESS = {
     ("", "atoi"): "no test for overflow",
@@ -77,22 +72,24 @@ def cells(row, sides):
             ratio(mine[0], best(row, sides, lambda it: it[0], True))]
 
 
-def time(row, sides):
-    """The ratio of the library's time to the fastest that does the same work, in the run in which
-    it is greatest."""
-    if not sides:
-        return "–"
+def slower_run(row, sides):
+    """The library's time, and the fastest peer that does the same work, in the run in which their
+    ratio is greatest."""
     runs = range(min(len(it) for it in sides.values()))
-    peers = [best(row, sides, lambda it: it[run], False) for run in runs]
-    most = max(runs, key=lambda run: sides[LIBRARY][run] / peers[run][0])
-    return ratio(sides[LIBRARY][most], peers[most])
+    found = [(sides[LIBRARY][run], best(row, sides, lambda it: it[run], False)) for run in runs]
+    return max(found, key=lambda it: it[0] / it[1][0])
+
+
+def time(row, sides):
+    """The ratio of the library's time to the fastest that does the same work."""
+    return ratio(*slower_run(row, sides)) if sides else "–"
 
 
 def peers():
     """What docs/SPEED.md has between its comments on peers."""
     counts, times = Figures("counts.txt"), Figures("times.txt")
     head = ["What is read", "Library", "to the best peer", "to one that does less"]
-    body = [cells(row, sides) for row, sides in counts.rows.items() if row not in LEFT_OUT]
+    body = [cells(row, sides) for row, sides in counts.rows.items()]
     words = ("Instructions for a number with a constant word; their ratio to the best peer that "
              "does the same work, and that does less")
     if times.rows:
@@ -118,6 +115,19 @@ def span(start):
               for row, sides in counts.items() if row.startswith(start)]
     least, most = f"{min(ratios):.1f}", f"{max(ratios):.1f}"
     return most if least == most else f"{least} to {most}"
+
+
+def times():
+    """What README.md says of the times: in how many rows the library is fastest, and the others."""
+    rows = Figures("times.txt").rows
+    ratios = {row: mine / peer[0] for row, (mine, peer) in
+              ((row, slower_run(row, sides)) for row, sides in rows.items())}
+    slower = sorted((it for it in ratios.items() if it[1] > 1), key=lambda it: -it[1])
+    names = " and ".join(f'{it:.2f} in "{row}"' for row, it in slower)
+    return (f"By time, in the slower of two runs on a quiet machine, the library takes "
+            f"{min(ratios.values()):.2f} to 1.00 times the fastest other reader that does the same "
+            f"work in {len(ratios) - len(slower)} of {len(ratios)} rows"
+            + (f", and {names}" if slower else ""))
 
 
 # ---- from C
