@@ -1,15 +1,15 @@
 -- The decimal digits that eight bytes in a word begin with: their test, and the number that they
 -- write.
-use Rattle.std.proofs.Common.{◌≡◌, ℕ, zero, suc, ◌+◌, ◌-◌, ◌*◌, ◌/◌, ◌%◌, ◌^◌, ◌<◌, ◌≤◌, bit_and, bit_or, List, length, refl, ap, sym, ◌∙◌, inl, inr, arith}
+use Rattle.std.proofs.Common.{◌≡◌, ℕ, zero, suc, ◌+◌, ◌-◌, ◌*◌, ◌/◌, ◌%◌, ◌^◌, ◌<◌, ◌≤◌, bit_and, bit_or, List, length, refl, ap, sym, ◌∙◌, arith}
 use Rattle.std.specs.Prelude.{slice_index}
 use Rattle.std.specs.Int.{bit_at, trailing_zeros, w64}
 use native.Mathlib.Numerals.{unary_clauses}
 use Rattle.std.proofs.Math.Pow.{mod-mod-pow}
-use Rattle.std.proofs.lemmas.Bool.{cases_lt}
 use Rattle.std.proofs.lemmas.Nat.{shr-shr, field_of, or_lt, and_le_l}
 use Rattle.std.proofs.lemmas.Nat.Bits.{bit_at_or, bit_at_and, bit_at-trailing_zeros}
 use Rattle.digit_literals.specs.Eight.{byte_of, AreBelow, padded, spelt, number_of, written, IsWritten}
-use Rattle.digit_literals.proofs.WordOfDigits.{repeated, bytes_from, same_written}
+use Rattle.digit_literals.proofs.WordOfDigits.{repeated, at_most, same_written}
+use Rattle.digit_literals.proofs.ShiftedWord.{below_each, placed}
 
 -- ---- the test
 
@@ -99,92 +99,6 @@ module _ (x others : ℕ) (is : others ≡ bit_or (bit_and x 0x8080_8080_8080_80
       (λ j l. (none_at j (omega (arith, l, few)) (none j l)).0)
       (λ j l. (none_at j (omega (arith, l, few)) (none j l)).1)
 
--- ---- the number
-
--- the first bytes of a word, shifted up over all others
-shifted : (n y x : ℕ) → n < 8 → ((i : ℕ) → i < n → byte_of x i < 10)
-    → y ≡ x * 2 ^ 8 % 2 ^ 64 * 2 ^ (56 - 8 * n) % 2 ^ 64
-    → AreBelow 10 8 y × (number_of (byte_of y) ≡ written (byte_of x) n)
-shifted zero y x few k is =
-    let both =
-    bytes_from y 0 0 0 0 0 0 0 0 (omega arith) (omega arith) (omega arith) (omega arith)
-    (omega arith) (omega arith) (omega arith) (omega arith) (omega (arith, is)) in
-    (both.0, omega (arith, both.1))
-shifted (suc zero) y x few k is =
-    let a = x % 256 in
-    let both =
-    bytes_from y 0 0 0 0 0 0 0 a (omega arith) (omega arith) (omega arith) (omega arith)
-    (omega arith) (omega arith) (omega arith) (k 0 (omega arith)) (omega (arith, is)) in
-    (both.0, omega (arith, both.1))
-shifted (suc (suc zero)) y x few k is =
-    let a = x % 256 in
-    let b = x / 256 % 256 in
-    let both =
-    bytes_from y 0 0 0 0 0 0 a b (omega arith) (omega arith) (omega arith) (omega arith)
-    (omega arith) (omega arith) (k 0 (omega arith)) (k 1 (omega arith)) (omega (arith, is)) in
-    (both.0, omega (arith, both.1))
-shifted (suc (suc (suc zero))) y x few k is =
-    let a = x % 256 in
-    let b = x / 256 % 256 in
-    let c = x / 256 / 256 % 256 in
-    let both =
-    bytes_from y 0 0 0 0 0 a b c (omega arith) (omega arith) (omega arith) (omega arith)
-    (omega arith) (k 0 (omega arith)) (k 1 (omega arith)) (k 2 (omega arith))
-    (omega (arith, is)) in
-    (both.0, omega (arith, both.1))
-shifted (suc (suc (suc (suc zero)))) y x few k is =
-    let a = x % 256 in
-    let b = x / 256 % 256 in
-    let c = x / 256 / 256 % 256 in
-    let d = x / 256 / 256 / 256 % 256 in
-    let both =
-    bytes_from y 0 0 0 0 a b c d (omega arith) (omega arith) (omega arith) (omega arith)
-    (k 0 (omega arith)) (k 1 (omega arith)) (k 2 (omega arith)) (k 3 (omega arith))
-    (omega (arith, is)) in
-    (both.0, omega (arith, both.1))
-shifted (suc (suc (suc (suc (suc zero))))) y x few k is =
-    let a = x % 256 in
-    let b = x / 256 % 256 in
-    let c = x / 256 / 256 % 256 in
-    let d = x / 256 / 256 / 256 % 256 in
-    let e = x / 256 / 256 / 256 / 256 % 256 in
-    let both =
-    bytes_from y 0 0 0 a b c d e (omega arith) (omega arith) (omega arith) (k 0 (omega arith))
-    (k 1 (omega arith)) (k 2 (omega arith)) (k 3 (omega arith)) (k 4 (omega arith))
-    (omega (arith, is)) in
-    (both.0, omega (arith, both.1))
-shifted (suc (suc (suc (suc (suc (suc zero)))))) y x few k is =
-    let a = x % 256 in
-    let b = x / 256 % 256 in
-    let c = x / 256 / 256 % 256 in
-    let d = x / 256 / 256 / 256 % 256 in
-    let e = x / 256 / 256 / 256 / 256 % 256 in
-    let f = x / 256 / 256 / 256 / 256 / 256 % 256 in
-    let both =
-    bytes_from y 0 0 a b c d e f (omega arith) (omega arith) (k 0 (omega arith))
-    (k 1 (omega arith)) (k 2 (omega arith)) (k 3 (omega arith)) (k 4 (omega arith))
-    (k 5 (omega arith)) (omega (arith, is)) in
-    (both.0, omega (arith, both.1))
-shifted (suc (suc (suc (suc (suc (suc (suc zero))))))) y x few k is =
-    let a = x % 256 in
-    let b = x / 256 % 256 in
-    let c = x / 256 / 256 % 256 in
-    let d = x / 256 / 256 / 256 % 256 in
-    let e = x / 256 / 256 / 256 / 256 % 256 in
-    let f = x / 256 / 256 / 256 / 256 / 256 % 256 in
-    let g = x / 256 / 256 / 256 / 256 / 256 / 256 % 256 in
-    let both =
-    bytes_from y 0 a b c d e f g (omega arith) (k 0 (omega arith)) (k 1 (omega arith))
-    (k 2 (omega arith)) (k 3 (omega arith)) (k 4 (omega arith)) (k 5 (omega arith))
-    (k 6 (omega arith)) (omega (arith, is)) in
-    (both.0, omega (arith, both.1))
-shifted (suc (suc (suc (suc (suc (suc (suc (suc n)))))))) y x few k is = absurd (omega arith)
-
-pub front_is : (n y x : ℕ) → n < 8 → ((i : ℕ) → i < n → byte_of x i < 10)
-    → y ≡ x * 2 ^ 8 % 2 ^ 64 * 2 ^ (56 - 8 * n) % 2 ^ 64
-    → AreBelow 10 8 y × (number_of (byte_of y) ≡ written (byte_of x) n)
-front_is = shifted
-
 -- ---- the bytes
 
 -- each byte is `0` and a digit, as far as all before it are
@@ -262,47 +176,6 @@ known_digits text at word digits count fit spells less few known =
     omega (arith, less, fits) ∙ ap (λ w. w + c * 256 ^ 8) spells in
     known_below 8 count (λ i. slice_index text (at + i)) digits c few fit e known
 
--- the shift of `few_of`
-shift_is : (n x : ℕ) → 0 < n → n < 8
-    → x * 2 ^ (64 - 8 * n) % 2 ^ 64 ≡ x * 2 ^ 8 % 2 ^ 64 * 2 ^ (56 - 8 * n) % 2 ^ 64
-shift_is zero x some few = absurd (omega arith)
-shift_is (suc zero) x some few = omega arith
-shift_is (suc (suc zero)) x some few = omega arith
-shift_is (suc (suc (suc zero))) x some few = omega arith
-shift_is (suc (suc (suc (suc zero)))) x some few = omega arith
-shift_is (suc (suc (suc (suc (suc zero))))) x some few = omega arith
-shift_is (suc (suc (suc (suc (suc (suc zero)))))) x some few = omega arith
-shift_is (suc (suc (suc (suc (suc (suc (suc zero))))))) x some few = omega arith
-shift_is (suc (suc (suc (suc (suc (suc (suc (suc n)))))))) x some few = absurd (omega arith)
-
--- all eight bytes
-all_eight : (x : ℕ) → x < 2 ^ 64 → ((i : ℕ) → i < 8 → byte_of x i < 10)
-    → AreBelow 10 8 x × (number_of (byte_of x) ≡ written (byte_of x) 8)
-all_eight x fits k =
-    let b0 : x % 256 < 10 = k 0 (omega arith) in
-    let b1 : x / 256 % 256 < 10 = k 1 (omega arith) in
-    let b2 : x / 256 / 256 % 256 < 10 = k 2 (omega arith) in
-    let b3 : x / 256 / 256 / 256 % 256 < 10 = k 3 (omega arith) in
-    let b4 : x / 256 / 256 / 256 / 256 % 256 < 10 = k 4 (omega arith) in
-    let b5 : x / 256 / 256 / 256 / 256 / 256 % 256 < 10 = k 5 (omega arith) in
-    let b6 : x / 256 / 256 / 256 / 256 / 256 / 256 % 256 < 10 = k 6 (omega arith) in
-    let b7 : x / 256 / 256 / 256 / 256 / 256 / 256 / 256 % 256 < 10 = k 7 (omega arith) in
-    let none : x / 256 / 256 / 256 / 256 / 256 / 256 / 256 / 256 ≡ 0 = omega (arith, fits) in
-    ((b0, (b1, (b2, (b3, (b4, (b5, (b6, (b7, none)))))))), omega arith)
-
-pub few_is : (n y x : ℕ) → 0 < n → n ≤ 8 → x < 2 ^ 64
-    → ((i : ℕ) → i < n → byte_of x i < 10) → y ≡ x * 2 ^ (64 - 8 * n) % 2 ^ 64
-    → AreBelow 10 8 y × (number_of (byte_of y) ≡ written (byte_of x) n)
-few_is n y x some few fits k is =
-    elim (cases_lt n 8) [
-      | inl l ↦ front_is n y x l k (is ∙ shift_is n x some l)
-      | inr l ↦
-          let eight : n ≡ 8 = omega (arith, l, few) in
-          let whole : y ≡ x =
-          is ∙ ap (λ j. x * 2 ^ (64 - 8 * j) % 2 ^ 64) eight ∙ omega (arith, fits) in
-          rw (whole, eight) (all_eight x fits (λ i s. k i (omega (arith, s, eight))))
-    ]
-
 -- ---- five to seven bytes
 
 padded_before : (m i : ℕ) (b : ℕ → ℕ) → i < m → padded m b i ≡ 48
@@ -319,29 +192,6 @@ padded_fits : (m i : ℕ) (b : ℕ → ℕ) → ((i : ℕ) → b i < 256) → pa
 padded_fits zero i b fit = fit i
 padded_fits (suc m) zero b fit = omega arith
 padded_fits (suc m) (suc i) b fit = padded_fits m i b fit
-
--- each byte of a word
-below_each : (n x : ℕ) → AreBelow 10 n x → (i : ℕ) → i < n → byte_of x i < 10
-below_each zero x k i l = absurd (omega arith)
-below_each (suc n) x k zero l = k.0
-below_each (suc n) x k (suc i) l = below_each n (x / 256) k.1 i (omega (arith, l))
-
--- zeros before the digits write nothing
-after_zeros : (n : ℕ) (d : ℕ → ℕ) → 5 ≤ n → n < 8 → ((i : ℕ) → i < 8 - n → d i ≡ 0)
-    → number_of d ≡ written (λ i. d (8 - n + i)) n
-after_zeros zero d some few z = absurd (omega (arith, some))
-after_zeros (suc zero) d some few z = absurd (omega (arith, some))
-after_zeros (suc (suc zero)) d some few z = absurd (omega (arith, some))
-after_zeros (suc (suc (suc zero))) d some few z = absurd (omega (arith, some))
-after_zeros (suc (suc (suc (suc zero)))) d some few z = absurd (omega (arith, some))
-after_zeros (suc (suc (suc (suc (suc zero))))) d some few z =
-    omega (arith, z 0 (omega arith), z 1 (omega arith), z 2 (omega arith))
-after_zeros (suc (suc (suc (suc (suc (suc zero)))))) d some few z =
-    omega (arith, z 0 (omega arith), z 1 (omega arith))
-after_zeros (suc (suc (suc (suc (suc (suc (suc zero))))))) d some few z =
-    omega (arith, z 0 (omega arith))
-after_zeros (suc (suc (suc (suc (suc (suc (suc (suc n)))))))) d some few z =
-    absurd (omega (arith, few))
 
 pub filled_written : (text : List ℕ) (word digits value : ℕ) → 5 ≤ length text
     → length text < 8 → ((i : ℕ) → slice_index text i < 256)
@@ -362,10 +212,12 @@ filled_written text word digits value some few fit spells less below is =
     ∙ each (m + i) (omega (arith, l, few)) in
     let zeros : (i : ℕ) → i < m → byte_of digits i ≡ 0 =
     λ i l. omega (arith, padded_before m i b l, each i (omega (arith, l))) in
+    let fits : digits < 2 ^ 64 = omega (arith, at_most 9 8 digits below) in
     record {
       within = omega arith;
       digits = λ i l.
           omega (arith, bytes i l, below_each 8 digits below (m + i) (omega (arith, l, few)));
-      is = is ∙ after_zeros n (byte_of digits) some few zeros
+      is = is ∙ (placed m n digits (λ i. byte_of digits (m + i)) (omega (arith, few)) fits zeros
+          (λ i l. refl) (λ i l. below_each 8 digits below (m + i) (omega (arith, l, few)))).1
           ∙ same_written _ _ n (λ i l. omega (arith, bytes i l));
     }

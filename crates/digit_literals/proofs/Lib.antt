@@ -1,4 +1,5 @@
 pub mod WordOfDigits
+pub mod ShiftedWord
 pub mod FrontOfWord
 pub mod ThreeDigits
 pub mod Plain

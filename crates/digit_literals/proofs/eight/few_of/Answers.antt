@@ -1,14 +1,12 @@
-use Rattle.std.proofs.Common.{◌∙◌, refl, arith}
-use Rattle.digit_literals.proofs.FrontOfWord.{few_is}
+use Rattle.std.proofs.Common.{◌∙◌, refl}
+use Rattle.digit_literals.proofs.ShiftedWord.{few_is}
 use Rattle.digit_literals.proofs.eight.few_of.Goals as goal
 
 pub value_of-requires : goal.value_of-requires
 value_of-requires c =
-    (few_is c.args.count _ c.args.digits c.requires.some c.requires.few (omega arith)
-    c.requires.below refl).0
+    (few_is c.args.count _ c.args.digits c.requires.few c.requires.below refl).0
 
 pub returns-clause-is : goal.returns-clause-is
 returns-clause-is c =
     c.value_of.ensures.is
-    ∙ (few_is c.args.count _ c.args.digits c.requires.some c.requires.few (omega arith)
-    c.requires.below refl).1
+    ∙ (few_is c.args.count _ c.args.digits c.requires.few c.requires.below refl).1

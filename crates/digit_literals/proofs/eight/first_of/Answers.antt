@@ -1,5 +1,5 @@
 use Rattle.std.proofs.Common.{◌∙◌, refl}
-use Rattle.digit_literals.proofs.FrontOfWord.{front_is}
+use Rattle.digit_literals.proofs.ShiftedWord.{front_is}
 use Rattle.digit_literals.proofs.eight.first_of.Goals as goal
 
 pub value_of-requires : goal.value_of-requires
