@@ -429,8 +429,8 @@ bool digits_as_u64(const digits_number *number, uint64_t *integer);
  * By these two a list is over, with DIGITS_OK, where no number begins: `x` at 0, `1 x` at 2, and by
  * '\n' "1\n\n2" at 2. By another byte that is a fault, as in `1,x`.
  *
- * A byte of a number isn't between two: by DIGITS_FORM_STR2DOUBLE and DIGITS_FORM_CSHARP_PARSE `1,2`
- * is one number, 12.
+ * `between` is to be no byte that a number may have: by DIGITS_FORM_STR2DOUBLE and by
+ * DIGITS_FORM_CSHARP_PARSE, whose numbers may have a `,` inside, `1,2` is one number, 12.
  *
  *     double numbers[64];
  *     size_t count, at = 0;
@@ -443,8 +443,8 @@ bool digits_as_u64(const digits_number *number, uint64_t *integer);
  *
  * DIGITS_OK    the list is over; `at` is after it and the blanks that follow, of which by '\n' a
  *              second line feed is none. Compare `at` with `length`, if nothing else may follow
- * DIGITS_FULL  there is no more room, and the list goes on at `at`: after `between`, or by ' ' after
- *              the blanks. The next call says whether a number is there: `at` may be `length`
+ * DIGITS_FULL  there is no more room, and the list goes on at `at`: after `between`, or by ' '
+ *              after the blanks. The next call says whether a number is there: `at` may be `length`
  * Any other    no number is where one has to be, by this fault at `at`; those before it were read
  */
 
@@ -517,8 +517,8 @@ digits_outcome digits_open_list(const void *text, size_t length, size_t start, u
  * DIGITS_MORE. With `is_last` nothing follows, and the calls answer what those of lists do. Positions
  * count from the start of the piece.
  *
- * A text is over where a read gives 0 bytes. One of a socket or a terminal often gives fewer bytes
- * than there is room for, and more of them come later.
+ * The last piece is the one for which a read gave 0 bytes: a read of a socket or a terminal often
+ * gives fewer bytes than there is room for, and more of them come.
  *
  *     char text[4096];
  *     double numbers[64];
