@@ -24,8 +24,11 @@ class Edit:
         self.crate = path.split("/")[-3]
         self.name = f"{self.crate}/{os.path.basename(path)[:-len('.edit')]}"
         self.examples, self.changes, self.functions = [], [], set()
-        for line in read(path).split("\n"):
-            word, _, rest = line.partition(": ")
+        lines = [line.partition(": ") for line in read(path).split("\n")]
+        order = " ".join(word for word, *_ in lines if word in ("file", "old", "new"))
+        if not re.fullmatch(r"(file( old new)+ ?)+", order):
+            sys.exit(f"{self.name}: not lines `file:`, each with pairs of `old:` and `new:`")
+        for word, _, rest in lines:
             if word == "example":
                 self.examples.append(rest)
             elif word == "file":
@@ -46,7 +49,6 @@ def check():
         try:
             edit = Edit(path)
             faults += [] if edit.examples else [f"{path}:1: no line `example:` (docs/WORKING.md)"]
-            faults += [] if edit.changes else [f"{path}:1: no lines `old:` and `new:`"]
             edited([edit])
         except (OSError, SystemExit) as error:
             faults.append(f"{path}:1: {error}")

@@ -11,8 +11,7 @@ sys.path.append(os.path.join(TOP, "bench"))
 import pages as speed  # noqa: E402
 
 MOST_WORDS = {"CALLING.md": 2200}
-NAMES = ("zero one two three four five six seven eight nine ten eleven twelve thirteen fourteen "
-         "fifteen sixteen").split()
+NAMES = "zero one two three four five six seven eight nine ten eleven twelve".split()
 
 
 class Numbers:
@@ -43,29 +42,13 @@ def pages():
     return [path for path in files_below(".", ".md") if not path.startswith("docs/reference/")]
 
 
-def number(word):
-    return NAMES.index(word) if word in NAMES else int(word.replace(",", ""))
-
-
 def counted(it):
-    """What the repository has so many of, where a page says how many."""
-    sources = files_below("crates", ".rt")
-    counts = {
-        r"crates": len(crates()),
-        r"libraries": len(libraries()),
-        r"must-fail edits|edits": len(files_below("crates", ".edit")),
-        r"tests": sum(read(path).count("#[test]") for path in sources),
-        r"programs (?:of|in) `refused`|programs are refused":
-            len(files_below("crates/digit_vectors/refused", ".txt")),
-    }
-    for page in ("README.md", "CALLING.md", "docs/WORKING.md", "docs/SPEED.md", "docs/PROMISES.md",
-                 "CHANGELOG.md"):
-        for line, text in it.lines(page):
-            for what, there in counts.items():
-                for m in re.finditer(rf"(?<![\w.,])(\d[\d,]*|{'|'.join(NAMES)}) (?:{what})\b",
-                                     text, re.I):
-                    it.compare(page, line, f"the number of {m[0].partition(' ')[2]}",
-                               number(m[1].lower()), there)
+    """How many programs the gate sees refused, and which crates there are, in which order."""
+    there = NAMES[len(files_below("crates/digit_vectors/refused", ".txt"))]
+    for page, pattern in (("docs/PROMISES.md", r"\b(\w+) programs are refused"),
+                          ("docs/DECISIONS.md", r"the gate checks (\w+) texts \(`refused`\)")):
+        for line, m in it.find(page, pattern):
+            it.compare(page, line, "the number of refused programs", m[1], there)
     listed = re.search(r"## Use it\n(.*?)\n## ", read("README.md"), re.S)
     first = read("README.md").count("\n", 0, listed.start()) + 1 if listed else 1
     names = re.findall(rf"`([a-z]+_[a-z]+|{DOOR})`", listed[1]) if listed else []
@@ -161,14 +144,11 @@ def names(it):
 
 def by_hand(it):
     """The head of each example says how many lines of its proof were written by hand: those of its
-    own files and of the files of lemmas that these name, without imports, comments and blanks."""
+    own files, without imports, comments and blanks."""
     proofs = files_below(f"{USES}/proofs", ".antt")
     for path in files_below(f"{USES}/src", ".rt"):
         own = [file for file in proofs
                if file.startswith(path.replace("/src/", "/proofs/")[:-3] + "/")]
-        text = "".join(map(read, [path, *own]))
-        own += [file for file in proofs if re.search(
-            r"\b(crate|digit_uses)(::|\.)proofs(::|\.)" + os.path.basename(file)[:-5] + r"\b", text)]
         lines = [line for file in own for line in read(file).split("\n")
                  if line.strip() and not re.match(r"\s*(--|use )", line)]
         for line, m in it.matches(path, r"^//! Proof by hand: (\d+|none)"):

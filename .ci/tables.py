@@ -35,7 +35,7 @@ WHY = "?"  # the last column of a worked row that doesn't say why
 def rows_of(path, name):
     """The rows of a static array, each in its parts."""
     found = re.search(rf"static {name}: \[[^=]*= \[\n(.*?)\n\];", read(path), re.S)
-    rows = parts_of(re.sub(r"//[^\n]*", "", found[1])) if found else []
+    rows = parts_of(found[1]) if found else []
     return [parts_of(row[1:-1]) for row in rows]
 
 

@@ -426,6 +426,12 @@ bool digits_as_u64(const digits_number *number, uint64_t *integer);
  * ' '   any blanks, which may also follow the last number
  * '\n'  a line feed, which may also follow the last number, with other blanks around it
  *
+ * By these two a list is over, with DIGITS_OK, where no number begins: `x` at 0, `1 x` at 2, and by
+ * '\n' "1\n\n2" at 2. By another byte that is a fault, as in `1,x`.
+ *
+ * `between` is to be no byte that a number may have: by DIGITS_FORM_STR2DOUBLE and by
+ * DIGITS_FORM_CSHARP_PARSE, whose numbers may have a `,` inside, `1,2` is one number, 12.
+ *
  *     double numbers[64];
  *     size_t count, at = 0;
  *     digits_outcome list;
@@ -435,8 +441,10 @@ bool digits_as_u64(const digits_number *number, uint64_t *integer);
  *         at = list.at;
  *     } while (list.status == DIGITS_FULL);
  *
- * DIGITS_OK    the list is over; `at` is after it and the blanks that follow
- * DIGITS_FULL  there is no more room; `at` is where the list goes on
+ * DIGITS_OK    the list is over; `at` is after it and the blanks that follow, of which by '\n' a
+ *              second line feed is none. Compare `at` with `length`, if nothing else may follow
+ * DIGITS_FULL  there is no more room, and the list goes on at `at`: after `between`, or by ' '
+ *              after the blanks. The next call says whether a number is there: `at` may be `length`
  * Any other    no number is where one has to be, by this fault at `at`; those before it were read
  */
 
@@ -465,7 +473,7 @@ digits_outcome digits_read_number_list(const void *text, size_t length, size_t s
  * digits_past_blanks  the first position from `start` on without a blank, or `length`; `start`
  *                     itself if it is after the end
  * digits_expect_byte  reads a byte, such as ']' or ':', which blanks may be before; `at` is after
- *                     the byte
+ *                     the byte. A blank is never that byte, since it is passed: DIGITS_OTHER_BYTE
  * digits_open_list    reads the byte that opens a list, such as '[', which blanks may be before;
  *                     `at` is where the first number has to be, past blanks, or after the byte that
  *                     closes the list
@@ -509,13 +517,16 @@ digits_outcome digits_open_list(const void *text, size_t length, size_t start, u
  * DIGITS_MORE. With `is_last` nothing follows, and the calls answer what those of lists do. Positions
  * count from the start of the piece.
  *
+ * The last piece is the one for which a read gave 0 bytes: a read of a socket or a terminal often
+ * gives fewer bytes than there is room for, and more of them come.
+ *
  *     char text[4096];
  *     double numbers[64];
  *     size_t length = 0, count;
  *     digits_outcome list;
  *     do {
- *         const size_t room = sizeof text - length, more = fread(text + length, 1, room, file);
- *         const bool is_last = more < room;
+ *         const size_t more = fread(text + length, 1, sizeof text - length, file);
+ *         const bool is_last = more == 0;
  *         size_t at = 0;
  *         length += more;
  *         do {

@@ -280,7 +280,7 @@ inline step open_list(std::string_view text, std::size_t start, char opening, ch
     return {read.at, read.status};
 }
 
-// ---- lists in a text that comes in pieces ----
+// ---- lists in a text that comes in pieces: the last one is where a read gives 0 bytes ----
 
 /// T is int64_t, uint64_t or double.
 template <typename T>

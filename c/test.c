@@ -289,6 +289,38 @@ static void lists(void)
     CHECK(count == 1 && f64[0] == 1.0);
 }
 
+/* Where no number is: by ' ' and '\n' a list is over there, and by another byte it is a fault. And
+ * where a list goes on that had no more room. */
+static void ends_of_lists(void)
+{
+    int64_t i64[3];
+    size_t count = 7;
+
+    IS(digits_read_i64_list(TEXT("1 x"), 0, ' ', i64, 3, &count), DIGITS_OK, 2);
+    CHECK(count == 1);
+    IS(digits_read_i64_list(TEXT("x"), 0, ' ', i64, 3, &count), DIGITS_OK, 0);
+    CHECK(count == 0);
+    IS(digits_read_i64_list(TEXT("1 -"), 0, ' ', i64, 3, &count), DIGITS_EMPTY, 3);
+    IS(digits_read_i64_list(TEXT("1\n\n2"), 0, ' ', i64, 3, &count), DIGITS_OK, 4);
+    CHECK(count == 2);
+    IS(digits_read_i64_list(TEXT("1\n\n2"), 0, '\n', i64, 3, &count), DIGITS_OK, 2);
+    CHECK(count == 1);
+    IS(digits_read_i64_list(TEXT("x"), 0, '\n', i64, 3, &count), DIGITS_OK, 0);
+    IS(digits_read_i64_list(TEXT("1 2"), 0, '\n', i64, 3, &count), DIGITS_OK, 2);
+    IS(digits_read_i64_list(TEXT("1,x"), 0, ',', i64, 3, &count), DIGITS_EMPTY, 2);
+    IS(digits_read_i64_list(TEXT("x"), 0, ',', i64, 3, &count), DIGITS_EMPTY, 0);
+
+    IS(digits_read_i64_list(TEXT("4 , 5 , 6"), 0, ',', i64, 2, &count), DIGITS_FULL, 7);
+    IS(digits_read_i64_list(TEXT("1 2  x"), 0, ' ', i64, 2, &count), DIGITS_FULL, 5);
+    IS(digits_read_i64_list(TEXT("1 2  x"), 5, ' ', i64, 2, &count), DIGITS_OK, 5);
+    CHECK(count == 0);
+    IS(digits_read_i64_list(TEXT("1\n2\n"), 0, '\n', i64, 2, &count), DIGITS_FULL, 4);
+    IS(digits_read_i64_list(TEXT("1\n2\n"), 4, '\n', i64, 2, &count), DIGITS_OK, 4);
+    CHECK(count == 0);
+    IS(digits_read_i64_list(TEXT("4,5,"), 0, ',', i64, 2, &count), DIGITS_FULL, 4);
+    IS(digits_read_i64_list(TEXT("4,5,"), 4, ',', i64, 2, &count), DIGITS_EMPTY, 4);
+}
+
 /* Numbers of a form in a list, which are fewer than those of a list without one. */
 static void lists_of_a_form(void)
 {
@@ -322,6 +354,12 @@ static void lists_of_a_form(void)
     IS(digits_read_number_list(TEXT("0x10 .5"), 0, DIGITS_FORM_JSON5, ' ', numbers, 4, &count),
        DIGITS_OK, 7);
     CHECK(count == 2 && numbers[0].low == 16 && numbers[1].value == 0.5);
+    IS(digits_read_number_list(TEXT("1,2"), 0, DIGITS_FORM_STR2DOUBLE, ',', numbers, 4, &count),
+       DIGITS_OK, 3);
+    CHECK(count == 1 && numbers[0].value == 12.0);
+    IS(digits_read_number_list(TEXT("1,2"), 0, DIGITS_FORM_CSHARP_PARSE, ',', numbers, 4, &count),
+       DIGITS_OK, 3);
+    CHECK(count == 1 && numbers[0].value == 12.0);
     IS(digits_read_number_list(TEXT("1"), 1, 1000, ',', numbers, 4, &count), DIGITS_BAD_FORM, 1);
     CHECK(count == 0);
     IS(digits_read_number_list(TEXT("1"), 2, DIGITS_FORM_JSON, ',', numbers, 4, &count),
@@ -345,6 +383,10 @@ static void bytes(void)
     IS(digits_expect_byte(TEXT("1 "), 1, ':'), DIGITS_OTHER_BYTE, 2);
     IS(digits_expect_byte(TEXT("1 "), 3, ':'), DIGITS_BAD_START, 3);
     IS(digits_expect_byte(TEXT("\xff"), 0, 0xff), DIGITS_OK, 1);
+    IS(digits_expect_byte(TEXT("1 2"), 1, ' '), DIGITS_OTHER_BYTE, 2);
+    IS(digits_expect_byte(TEXT("1\n"), 1, '\n'), DIGITS_OTHER_BYTE, 2);
+    IS(digits_expect_byte(TEXT("\t"), 0, '\t'), DIGITS_OTHER_BYTE, 1);
+    IS(digits_expect_byte(TEXT("\r"), 0, '\r'), DIGITS_OTHER_BYTE, 1);
     IS(digits_open_list(TEXT(" [ 1]"), 0, '[', ']'), DIGITS_OK, 3);
     IS(digits_open_list(TEXT("[x"), 0, '[', ']'), DIGITS_OK, 1);
     IS(digits_open_list(TEXT("["), 0, '[', ']'), DIGITS_OK, 1);
@@ -443,6 +485,56 @@ static void pieces(void)
     CHECK(count == 1 && numbers[0].low == 10);
     IS(digits_read_number_piece(TEXT("1"), 1, 1000, ',', false, numbers, 3, &count), DIGITS_BAD_FORM, 1);
     CHECK(count == 0);
+}
+
+/* A read as of a socket: three bytes at most, and none at the end. */
+static size_t receive(const char **stream, char *text, size_t room)
+{
+    size_t size = 0;
+
+    while (size < 3 && size < room && **stream != 0)
+        text[size++] = *(*stream)++;
+    return size;
+}
+
+/* The sum of the floats that a stream has, by the loop of digits.h. `at` is how many bytes are left. */
+static digits_outcome sum_of_stream(const char *stream, double *sum)
+{
+    char text[16];
+    double numbers[2];
+    size_t length = 0, count, i;
+    digits_outcome list;
+
+    *sum = 0;
+    do {
+        const size_t more = receive(&stream, text + length, sizeof text - length);
+        const bool is_last = more == 0;
+        size_t at = 0;
+
+        length += more;
+        do {
+            list = digits_read_f64_piece(text, length, at, ',', is_last, numbers, 2, &count);
+            for (i = 0; i < count; i++)
+                *sum += numbers[i];
+            at = list.at;
+        } while (list.status == DIGITS_FULL);
+        length -= at;
+        memmove(text, text + at, length);
+    } while (list.status == DIGITS_MORE && length < sizeof text);
+    list.at = length;
+    return list;
+}
+
+static void streams(void)
+{
+    double sum = 7;
+
+    IS(sum_of_stream("12345,-6.5 ,7e2 , 8", &sum), DIGITS_OK, 0);
+    CHECK(sum == 13046.5);
+    IS(sum_of_stream("1,23]", &sum), DIGITS_OK, 1);
+    CHECK(sum == 24.0);
+    IS(sum_of_stream("1,12345678901234567890,2", &sum), DIGITS_MORE, 16);
+    CHECK(sum == 1.0);
 }
 
 /* Up to where a piece is sure: after the last byte that no number has. */
@@ -553,10 +645,12 @@ int main(void)
     numbers();
     values();
     lists();
+    ends_of_lists();
     lists_of_a_form();
     bytes();
     arrays();
     pieces();
+    streams();
     sure_ends();
     no_digits();
     not_a_number();

@@ -27,16 +27,16 @@ int main(int words, char **word)
     size_t length = 0, before = 0; /* what is in `text`, and the bytes of the file before it */
     double sum = 0;
     digits_outcome list = {0, DIGITS_MORE};
-    bool is_last = false;
 
     if (file == NULL) {
         perror(word[1]);
         return 1;
     }
     while (list.status == DIGITS_MORE && length < sizeof text) {
-        length += fread(text + length, 1, sizeof text - length, file);
-        is_last = length < sizeof text;
-        list = add(text, length, is_last, &sum);
+        const size_t more = fread(text + length, 1, sizeof text - length, file);
+
+        length += more;
+        list = add(text, length, more == 0, &sum);
         before += list.at;
         length -= list.at;
         memmove(text, text + list.at, length);
@@ -45,7 +45,7 @@ int main(int words, char **word)
         perror("reading");
         return 1;
     }
-    if (list.status == DIGITS_OK && length == 0 && is_last) {
+    if (list.status == DIGITS_OK && length == 0) {
         printf("%.17g\n", sum);
         return 0;
     }

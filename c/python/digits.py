@@ -23,6 +23,7 @@ writes it, of ../../lib, where `make install` does, or of the system.
 import array
 import collections
 import ctypes
+import errno
 import os
 from ctypes import POINTER, byref, c_bool, c_double, c_float, c_int, c_int32, c_int64, c_size_t
 from ctypes import c_ssize_t, c_uint8, c_uint32, c_uint64, c_void_p
@@ -507,7 +508,9 @@ def _list_calls(name, code, given):
 
     def read_piece(text, start, between, is_last):
         """The numbers of a list in a piece of a text, as an array, where it ends, and whether more of
-        the text is needed: then the bytes from there on have to come again, with what follows."""
+        the text is needed: then the bytes from there on have to come again, with what follows.
+        `is_last` says that nothing follows, as where a read gave no bytes: one of a socket often
+        gives fewer than it may."""
         numbers, outcome = calls.read(calls.piece, text, start, ord(between), is_last)
         return numbers, outcome.at, outcome.status == MORE
 
@@ -577,12 +580,25 @@ def sure_end(text, form=None, word=None):
     return _sure_end(text) if word is None else _sure_end_by(text, _halves(word))
 
 
+def _block(file, size):
+    """The bytes that a file has by now, up to a size. There are none only at its end."""
+    if not hasattr(file, "read1"):
+        block = file.read(size)
+    else:
+        # before the end a file that doesn't wait gives b"" here, and None there
+        block = file.read1(size) or file.read(1)
+    if block is None:
+        raise BlockingIOError(errno.EAGAIN, "the file has no bytes yet, and doesn't wait for them")
+    return block
+
+
 def numbers_of(file, between=b" ", read_piece=read_f64_piece, size=1 << 16):
-    """Yields the numbers of a file, or of whatever else reads bytes, which is one list. Where the list
-    is over and the file is not, there is a fault. Only a block of some `size` bytes is in memory, or
-    what one number takes. `read_piece` is one of the calls above, of a form other than JSON
-    functools.partial(read_number_piece, form=..). The position of a fault counts from where the file
-    was.
+    """Yields the numbers of a file, or of whatever else reads bytes, which is one list. A number comes
+    as soon as the bytes are there that end it. Where the list is over and the file is not, there is a
+    fault. Only a block of some `size` bytes is in memory, or what one number takes. `read_piece` is
+    one of the calls above, of a form other than JSON functools.partial(read_number_piece, form=..).
+    The position of a fault counts from where the file was. A file that doesn't wait for its bytes is a
+    BlockingIOError where it has none.
 
     >>> import io
     >>> sum(numbers_of(io.BytesIO(b"1.5 2\\n-3e1"), size=4))
@@ -590,7 +606,7 @@ def numbers_of(file, between=b" ", read_piece=read_f64_piece, size=1 << 16):
     """
     text, before, is_more = b"", 0, True
     while is_more:
-        block = file.read(size)
+        block = _block(file, size)
         text += block
         try:
             numbers, at, is_more = read_piece(text, 0, between, not block)
@@ -599,5 +615,5 @@ def numbers_of(file, between=b" ", read_piece=read_f64_piece, size=1 << 16):
             raise Fault(fault.status, before + fault.at) from None
         yield from numbers
         text, before = text[at:], before + at
-    if text or file.read(1):
+    if text or block and _block(file, 1):
         raise Fault(INVALID, before)

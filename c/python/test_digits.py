@@ -4,6 +4,8 @@ import doctest
 import functools
 import io
 import mmap
+import os
+import signal
 import unittest
 
 import digits
@@ -116,6 +118,31 @@ class Calls(unittest.TestCase):
         read = digits.numbers_of(io.BytesIO(b"1 2 3e ]"), size=3)
         self.assertEqual([next(read), next(read)], [1.0, 2.0])
         self.fails(digits.EMPTY_EXPONENT, 6, next, read)
+
+    def test_numbers_as_they_come(self):
+        signal.alarm(20)  # a read that waits for more ends the tests
+        for buffering in (-1, 0):
+            here, there = os.pipe()
+            with open(here, "rb", buffering) as file, open(there, "wb", 0) as pipe:
+                numbers = digits.numbers_of(file, b",")
+                for text, number in ((b"1.5,", 1.5), (b" -2e3 ,", -2000.0), (b"3,4", 3.0)):
+                    pipe.write(text)
+                    self.assertEqual(next(numbers), number)
+                pipe.write(b"5")
+                pipe.close()
+                self.assertEqual(list(numbers), [45.0])
+        signal.alarm(0)
+
+    def test_a_file_that_does_not_wait(self):
+        for buffering in (-1, 0):
+            here, there = os.pipe()
+            os.set_blocking(here, False)
+            with open(here, "rb", buffering) as file, open(there, "wb", 0) as pipe:
+                numbers = digits.numbers_of(file, b",")
+                pipe.write(b"1,2")
+                self.assertEqual(next(numbers), 1.0)
+                with self.assertRaisesRegex(BlockingIOError, "the file has no bytes yet"):
+                    next(numbers)
 
     def test_texts(self):
         text = b"  1234;"

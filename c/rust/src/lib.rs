@@ -608,7 +608,8 @@ extern "C" {
 }
 
 /// The numbers of a list in a piece of a text, as of [`read_list`]. What is read stays, whatever
-/// follows the piece; `is_last` says that nothing does.
+/// follows the piece; `is_last` says that nothing does, as where a read gave 0 bytes: one of a socket
+/// often gives fewer than there is room for.
 pub fn read_piece<T: ListValue>(
     text: &[u8],
     start: usize,
