@@ -30,6 +30,10 @@ module _ (text : List ℕ) (from : ℕ) where
   pub moved_length : from ≤ length text → from + length (drop from text) ≡ length text
   moved_length within = omega (arith, length-drop from text)
 
+-- a test of positions that are both so much later
+pub same_place : (by a b : ℕ) → (by + a == by + b) ≡ (a == b)
+same_place by a b = grind (arith, nat_tests)
+
 -- ---- lists of positions
 
 -- a range from a later start on
