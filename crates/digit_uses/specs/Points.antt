@@ -35,6 +35,6 @@ column_of (Coordinate error) = literal_position error
 column_of (NoColon at) = at
 
 -- whether an error says that no point begins at a position
-abbrev pub none_at : ℕ → PointError → Bool
-none_at place (Coordinate error) = literal_none_at place error
-none_at place (NoColon at) = false
+abbrev pub no_point_at : ℕ → PointError → Bool
+no_point_at place (Coordinate error) = literal_none_at place error
+no_point_at place (NoColon at) = false

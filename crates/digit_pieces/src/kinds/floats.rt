@@ -35,7 +35,7 @@ impl<F: Float> Kind for Floats<F> {
     ghost use Rattle.std.specs.Prelude.{◌≡◌, ◌+◌, ◌<◌, IsTrue};
     ghost use Rattle.std.specs.Float as Ieee;
     ghost use Rattle.lexical_format.specs.Word.{is_supported};
-    ghost use Rattle.digit_floats.specs.Errors.{none_at, position};
+    ghost use Rattle.digit_floats.specs.Errors.{none_at as float_none_at, position};
     ghost use Rattle.digit_floats.specs.Float.{IsDecimal, plain_marks, read_at};
     ghost use Rattle.digit_pieces.specs.Cuts.{is_float_byte};
     ghost use Rattle.digit_pieces.specs.Moves.{float_later};
@@ -61,7 +61,7 @@ impl<F: Float> Kind for Floats<F> {
 
     ghost error_later = { float_later };
 
-    ghost none_at = { none_at };
+    ghost none_at = { float_none_at };
 
     #[inline(always)]
     fn read_number(self, text: &[u8], start: usize) -> Result<(F, usize), FloatError> {

@@ -38,7 +38,7 @@ impl<F: Float> Kind for OfForm<F> {
     ghost use Rattle.digit_numbers.specs.Follows.{is_number_byte};
     ghost use Rattle.digit_numbers.specs.Forms.{IsForm};
     ghost use Rattle.digit_numbers.specs.Numbers.{number_of_at};
-    ghost use Rattle.digit_numbers.specs.Values.{none_at, position, with_value};
+    ghost use Rattle.digit_numbers.specs.Values.{none_at as number_none_at, position, with_value};
     ghost use Rattle.digit_pieces.specs.Laws.OfForm.{number_ends, number_follows, number_later_at, number_later_more};
     ghost use Rattle.digit_pieces.specs.Laws.OfForm.{number_none_later, number_precedes};
     ghost use Rattle.digit_pieces.specs.Moves.{number_later};
@@ -63,7 +63,7 @@ impl<F: Float> Kind for OfForm<F> {
 
     ghost error_later = { number_later };
 
-    ghost none_at = { none_at };
+    ghost none_at = { number_none_at };
 
     #[inline(always)]
     fn read_number(self, text: &[u8], start: usize) -> Result<(Number<F>, usize), NumberError> {

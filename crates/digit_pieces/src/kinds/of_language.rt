@@ -35,7 +35,7 @@ impl<T: Integer> Kind for OfLanguage<T> {
     ghost use Rattle.std.proofs.Props.{props};
     ghost use Rattle.std.specs.Prelude.{ℤ};
     ghost use Rattle.digit_languages.specs.Follows.{is_literal_byte};
-    ghost use Rattle.digit_languages.specs.Literals.{literal_at, none_at, position, typed};
+    ghost use Rattle.digit_languages.specs.Literals.{literal_at, none_at as language_none_at, position, typed};
     ghost use Rattle.digit_languages.specs.Words.{IsLanguage};
     ghost use Rattle.digit_pieces.specs.Languages.{language_later};
     ghost use Rattle.digit_pieces.specs.Laws.OfLanguage as laws;
@@ -60,7 +60,7 @@ impl<T: Integer> Kind for OfLanguage<T> {
 
     ghost error_later = { language_later };
 
-    ghost none_at = { none_at };
+    ghost none_at = { language_none_at };
 
     #[inline(always)]
     fn read_number(self, text: &[u8], start: usize) -> Result<(T, usize), LanguageError> {

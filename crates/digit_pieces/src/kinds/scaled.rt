@@ -43,7 +43,7 @@ impl<T: Integer> Kind for Scaled<T> {
     ghost use Rattle.std.specs.Prelude.{◌≡◌, ◌+◌, ◌≤◌, ◌<◌, ℤ, IsTrue};
     ghost use Rattle.lexical_format.specs.Word.{is_supported};
     ghost use Rattle.digit_floats.specs.Float.{IsDecimal};
-    ghost use Rattle.digit_floats.specs.Scaled.{none_at, position, read_scaled_at};
+    ghost use Rattle.digit_floats.specs.Scaled.{none_at as scaled_none_at, position, read_scaled_at};
     ghost use Rattle.digit_pieces.specs.Cuts.{is_scaled_byte};
     ghost use Rattle.digit_pieces.specs.Moves.{scaled_later};
     ghost use Rattle.digit_pieces.specs.Laws.OfKinds as laws;
@@ -69,7 +69,7 @@ impl<T: Integer> Kind for Scaled<T> {
 
     ghost error_later = { scaled_later };
 
-    ghost none_at = { none_at };
+    ghost none_at = { scaled_none_at };
 
     #[inline(always)]
     fn read_number(self, text: &[u8], start: usize) -> Result<(T, usize), ScaledError> {
