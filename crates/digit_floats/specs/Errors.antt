@@ -1,5 +1,5 @@
 -- What an error holds, and what is printed of it.
-use Rattle.std.specs.Prelude.{ℕ, List, ◌++◌, codes, decimal}
+use Rattle.std.specs.Prelude.{ℕ, ◌==◌, Bool, false, List, ◌++◌, codes, decimal}
 use Rattle.digit_floats.specs.declared.error.FloatError.{FloatError}
 use Rattle.digit_floats.specs.declared.error.FloatError.TheVariants.{Empty, EmptyExponent, Invalid}
 
@@ -8,6 +8,12 @@ abbrev pub position : FloatError → ℕ
 position (Empty at) = at
 position (EmptyExponent at) = at
 position (Invalid at) = at
+
+-- whether it says that no float begins at a position
+abbrev pub none_at : ℕ → FloatError → Bool
+none_at place (Empty at) = at == place
+none_at place (EmptyExponent at) = false
+none_at place (Invalid at) = false
 
 -- what is printed of an error
 abbrev pub message : FloatError → List ℕ

@@ -1,5 +1,5 @@
 -- A decimal number in units of its last place: times a power of ten, if that is an integer.
-use Rattle.std.specs.Prelude.{ℕ, ℤ, ◌+◌, ◌-◌, ◌*◌, ◌/◌, ◌^◌, ◌==◌, ◌&&◌, nat_lt, nat_le, if◌then◌else◌, Bool, List, ◌++◌, length, filter, take, drop, slice_range, codes, decimal, Result, Ok, Err}
+use Rattle.std.specs.Prelude.{ℕ, ℤ, ◌+◌, ◌-◌, ◌*◌, ◌/◌, ◌^◌, ◌==◌, ◌&&◌, nat_lt, nat_le, if◌then◌else◌, Bool, false, List, ◌++◌, length, filter, take, drop, slice_range, codes, decimal, Result, Ok, Err}
 use Rattle.std.specs.Char.{is_ascii_digit}
 use Rattle.std.specs.List.{list_all, prefix_len, range_with_len}
 use Rattle.std.specs.Str.Parse.{digits_value, digits_value_after}
@@ -94,6 +94,13 @@ position (Empty at) = at
 position (TooLarge at) = at
 position (TooFine at) = at
 position (Invalid at) = at
+
+-- whether it says that no number begins at a position
+abbrev pub none_at : ℕ → ScaledError → Bool
+none_at place (Empty at) = at == place
+none_at place (TooLarge at) = false
+none_at place (TooFine at) = false
+none_at place (Invalid at) = false
 
 -- what is printed of an error
 abbrev pub message : ScaledError → List ℕ

@@ -27,6 +27,17 @@ impl FloatError {
             FloatError::Empty(at) | FloatError::EmptyExponent(at) | FloatError::Invalid(at) => at,
         }
     }
+
+    /// Whether the error says that no float begins at a position: there is no digit, nor a sign or
+    /// a point.
+    pub fn is_none_at(&self, place: usize) -> bool
+        ensures { result ≡ errors.none_at place self.now }
+    {
+        match *self {
+            FloatError::Empty(at) => at == place,
+            FloatError::EmptyExponent(_) | FloatError::Invalid(_) => false,
+        }
+    }
 }
 
 impl fmt::Display for FloatError {

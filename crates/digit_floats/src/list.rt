@@ -5,7 +5,7 @@ ghost use Rattle.std.specs.Float.{NotNan};
 ghost use Rattle.std.specs.List.{All};
 ghost use Rattle.lexical_format.specs.Word.{is_supported};
 ghost use Rattle.digit_literals.specs.Lists.{list_at, Fills, IfFull, IfOver};
-ghost use Rattle.digit_floats.specs.Errors.{position};
+ghost use Rattle.digit_floats.specs.Errors.{none_at};
 ghost use Rattle.digit_floats.specs.Float.{IsDecimal, plain_marks, read_at};
 
 use super::error::FloatError;
@@ -34,7 +34,7 @@ pub fn read_float_list<F: Float>(
     requires supported { IsTrue (is_supported word) }
     requires decimal { IsDecimal word }
     requires within { start ≤ length text.now }
-    ensures is { let list = list_at (read_at word text.now plain_marks F.format) position gap
+    ensures is { let list = list_at (read_at word text.now plain_marks F.format) none_at gap
         text.now (length out.old) start in
         Fills F.value list result out.old out.new }
     ensures no_nan { All (λ x. NotNan (F.value x)) (take result.count out.new) }
@@ -48,7 +48,7 @@ pub fn read_float_list<F: Float>(
         let (x, end) = match read_float_from::<F>(text, word, place) {
             Ok(read) => read,
             Err(error) => {
-                let end = gap.no_number(place, error.position(), error);
+                let end = gap.no_number(place, error.is_none_at(place), error);
                 return ListRead { count, end };
             }
         };

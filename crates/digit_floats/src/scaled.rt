@@ -8,7 +8,7 @@ ghost use Rattle.lexical_digits.specs.declared.skip.component.Component.TheVaria
 ghost use Rattle.digit_literals.specs.Numbers.{is_negative_from, digits_from};
 ghost use Rattle.digit_floats.specs.Float.{IsDecimal, digits_end, mantissa_end};
 ghost use Rattle.digit_floats.specs.Parts.{IsMantissa, integer_of, fraction_of};
-ghost use Rattle.digit_floats.specs.Scaled.{is_exact, first_value, scaled_value, fitting, fault_at, scaled_at, read_scaled_at, whole_of, position, message};
+ghost use Rattle.digit_floats.specs.Scaled.{is_exact, first_value, scaled_value, fitting, fault_at, scaled_at, read_scaled_at, whole_of, none_at, position, message};
 
 use super::parts::{Mantissa, read_mantissa};
 use super::zeros::are_zeros;
@@ -39,6 +39,17 @@ impl ScaledError {
             | ScaledError::TooLarge(at)
             | ScaledError::TooFine(at)
             | ScaledError::Invalid(at) => at,
+        }
+    }
+
+    /// Whether the error says that no number begins at a position: there is no digit, nor a sign
+    /// or a point.
+    pub fn is_none_at(&self, place: usize) -> bool
+        ensures { result ≡ none_at place self.now }
+    {
+        match *self {
+            ScaledError::Empty(at) => at == place,
+            ScaledError::TooLarge(_) | ScaledError::TooFine(_) | ScaledError::Invalid(_) => false,
         }
     }
 }

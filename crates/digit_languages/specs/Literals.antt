@@ -1,5 +1,5 @@
 -- The integer literals of a language: what says their word, and what they are worth.
-use Rattle.std.specs.Prelude.{ℕ, ℤ, pos, ◌+◌, ◌-◌, Bool, true, false, ◌&&◌, ◌||◌, nat_lt, if◌then◌else◌, List, ◌++◌, codes, decimal, Option, Some, None, is_some, Result, Ok, Err}
+use Rattle.std.specs.Prelude.{ℕ, ℤ, pos, ◌+◌, ◌-◌, ◌==◌, Bool, true, false, ◌&&◌, ◌||◌, nat_lt, if◌then◌else◌, List, ◌++◌, codes, decimal, Option, Some, None, is_some, Result, Ok, Err}
 use Rattle.lexical_digits.specs.State.{rule_of}
 use Rattle.lexical_digits.specs.declared.skip.component.Component.TheVariants.{Integer}
 use Rattle.digit_literals.specs.declared.LiteralError.{LiteralError}
@@ -92,6 +92,12 @@ abbrev pub position : LanguageError → ℕ
 position (Empty at) = at
 position (Overflow at) = at
 position (Zero at) = at
+
+-- whether it says that no literal begins at a position
+abbrev pub none_at : ℕ → LanguageError → Bool
+none_at place (Empty at) = at == place
+none_at place (Overflow at) = false
+none_at place (Zero at) = false
 
 -- what is printed of an error
 abbrev pub message : LanguageError → List ℕ

@@ -4,7 +4,7 @@ ghost use Rattle.std.specs.Prelude.{◌≡◌, ◌+◌, ◌-◌, ◌<◌, ◌≤
 ghost use Rattle.lexical_format.specs.Word.{is_supported};
 ghost use Rattle.digit_literals.specs.Numbers.{has_byte};
 ghost use Rattle.digit_languages.specs.Words.{IsLanguage};
-ghost use Rattle.digit_languages.specs.Literals.{has_prefix, prefix_word, plain_word, refuses, literal_at, typed, language_error, position, message};
+ghost use Rattle.digit_languages.specs.Literals.{has_prefix, prefix_word, plain_word, refuses, literal_at, typed, language_error, none_at, position, message};
 
 use super::language::{FirstZero, Language};
 use digit_literals::{Integer, LiteralError, has_byte, read_wide_from};
@@ -43,6 +43,17 @@ impl LanguageError {
     {
         match *self {
             LanguageError::Empty(at) | LanguageError::Overflow(at) | LanguageError::Zero(at) => at,
+        }
+    }
+
+    /// Whether it says that no literal begins at a position: no digit is there.
+    #[inline(always)]
+    pub fn is_none_at(&self, place: usize) -> bool
+        ensures { result ≡ none_at place self.now }
+    {
+        match *self {
+            LanguageError::Empty(at) => at == place,
+            LanguageError::Overflow(_) | LanguageError::Zero(_) => false,
         }
     }
 }

@@ -28,20 +28,20 @@ use Rattle.digit_lists.specs.declared.list.ListError.TheVariants as lists
 
 -- ---- a text of blanks
 
-module _ {A E : Type 0} (one : ℕ → Result (A × ℕ) E) (position : E → ℕ) (gap : Gap)
+module _ {A E : Type 0} (one : ℕ → Result (A × ℕ) E) (none_at : ℕ → E → Bool) (gap : Gap)
     (text : List ℕ) (error : E) (blank : past_blanks gap text 0 ≡ length text)
-    (none : one (length text) ≡ Err error) (there : position error ≡ length text) where
+    (none : one (length text) ≡ Err error) (there : none_at (length text) error ≡ true) where
   self : nat_eq (length text) (length text) ≡ true
   self = eq-eqb (length text) (length text) refl
 
   pub may_trail : (room : ℕ) → gap.may_trail ≡ true
-      → parsed text (full_list one position gap text room 0) ≡ Ok 0
+      → parsed text (full_list one none_at gap text room 0) ≡ Ok 0
   unfolding list_at
-  may_trail zero trails = rw (blank, none, trails, there, self, self) refl
-  may_trail (suc room) trails = rw (blank, none, trails, there, self, self) refl
+  may_trail zero trails = rw (blank, none, trails, there, self) refl
+  may_trail (suc room) trails = rw (blank, none, trails, there, self) refl
 
   pub no_trail : (room : ℕ) → gap.may_trail ≡ false
-      → parsed text (full_list one position gap text room 0) ≡ Err (lists.Number error)
+      → parsed text (full_list one none_at gap text room 0) ≡ Err (lists.Number error)
   unfolding list_at
   no_trail zero not = rw (blank, none, not) refl
   no_trail (suc room) not = rw (blank, none, not) refl

@@ -11,24 +11,25 @@ use Rattle.digit_lists.specs.declared.enclosed.EnclosedError.{EnclosedError}
 use Rattle.digit_lists.specs.declared.enclosed.EnclosedError.TheVariants as enclosing
 
 -- why a list ends that has filled its room, where the next number may be: it is there, or none is
-abbrev pub after_full : {A E : Type 0} → (E → ℕ) → Gap → ℕ → Result (A × ℕ) E → ListEnd E
-after_full position gap place (Ok read) = Full place
-after_full position gap place (Err error) = no_number gap place (position error) error
+abbrev pub after_full : {A E : Type 0} → (ℕ → E → Bool) → Gap → ℕ → Result (A × ℕ) E → ListEnd E
+after_full none_at gap place (Ok read) = Full place
+after_full none_at gap place (Err error) = no_number gap place (none_at place error) error
 
--- `one` is the number at a position, and where it ends; or an error, which has a position
-module _ {A E : Type 0} (one : ℕ → Result (A × ℕ) E) (position : E → ℕ) (gap : Gap)
+-- `one` is the number at a position, and where it ends; or an error. `none_at` is whether an error
+-- says that no number begins at a position.
+module _ {A E : Type 0} (one : ℕ → Result (A × ℕ) E) (none_at : ℕ → E → Bool) (gap : Gap)
     (text : List ℕ) where
   -- an end where `Full` has the position of one number more
   abbrev pub full_end : ListEnd E → ListEnd E
   full_end (Full at) =
-      after_full position gap (past_blanks gap text at) (one (past_blanks gap text at))
+      after_full none_at gap (past_blanks gap text at) (one (past_blanks gap text at))
   full_end (Over at) = Over at
   full_end (Fault error) = Fault error
 
   -- the numbers from a position on, as many as there is room for, and why there are no more
   abbrev pub full_list : ℕ → ℕ → Numbers A E
   full_list room start =
-      let list = list_at one position gap text room start in (list.0, full_end list.1)
+      let list = list_at one none_at gap text room start in (list.0, full_end list.1)
 
 module _ {A E : Type 0} (text : List ℕ) where
   -- how many numbers a text has that is to be a list
@@ -45,13 +46,13 @@ module _ {A E : Type 0} (text : List ℕ) where
   closed closing (numbers, Over at) =
       if has_byte text at closing then Ok (length numbers, at + 1) else Err (enclosing.NoClosing at)
 
-module _ {A E : Type 0} (one : ℕ → Result (A × ℕ) E) (position : E → ℕ) (gap : Gap)
+module _ {A E : Type 0} (one : ℕ → Result (A × ℕ) E) (none_at : ℕ → E → Bool) (gap : Gap)
     (text : List ℕ) where
   -- the list after an opening byte: an empty one, if the closing byte is first
   abbrev pub inside : ℕ → ℕ → ℕ → Numbers A E
   inside closing room at =
       if has_byte text (past_blanks gap text at) closing then ([], Over (past_blanks gap text at))
-      else full_list one position gap text room at
+      else full_list one none_at gap text room at
 
   -- the list between two bytes
   abbrev pub enclosed : ℕ → ℕ → ℕ → ℕ → Result (ℕ × ℕ) (EnclosedError E)

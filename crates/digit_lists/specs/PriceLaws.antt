@@ -23,9 +23,9 @@ use Rattle.digit_pieces.specs.Laws.NoBytes.{fails_of, none_of_scaled, other_scal
 use Rattle.digit_pieces.specs.Laws.MovedStops.{moved_range}
 use Rattle.digit_pieces.specs.Laws.MovedIntegers.{moved_digits_from}
 use Rattle.digit_pieces.specs.Laws.MovedFloats.{moved_end, moved_fraction}
-use Rattle.digit_pieces.specs.Laws.OfKinds.{scaled_follows, scaled_precedes, scaled_ends, scaled_later_at, scaled_later_more}
+use Rattle.digit_pieces.specs.Laws.OfKinds.{scaled_follows, scaled_precedes, scaled_ends, scaled_later_at, scaled_later_more, scaled_none_later}
 use Rattle.digit_lists.specs.Groups.{groups_at, is_group, wrong_of, wrong_at}
-use Rattle.digit_lists.specs.Prices.{of_number, if_exact, if_grouped, places_at, price_by, price_position, price_later}
+use Rattle.digit_lists.specs.Prices.{of_number, if_exact, if_grouped, places_at, price_by, price_none_at, price_position, price_later}
 use Rattle.digit_lists.specs.declared.prices.PriceError.{PriceError}
 use Rattle.digit_lists.specs.declared.prices.PriceError.TheVariants.{Number, Group, Places}
 
@@ -347,6 +347,12 @@ pub price_later_at : (by : ℕ) (e : PriceError)
 price_later_at by (Number error) = scaled_later_at by error
 price_later_at by (Group at) = refl
 price_later_at by (Places at) = refl
+
+pub price_none_later : (by place : ℕ) (e : PriceError)
+    → price_none_at (by + place) (price_later by e) ≡ price_none_at place e
+price_none_later by place (Number error) = scaled_none_later by place error
+price_none_later by place (Group at) = refl
+price_none_later by place (Places at) = refl
 
 pub price_later_more : (by more : ℕ) (e : PriceError)
     → price_later by (price_later more e) ≡ price_later (by + more) e

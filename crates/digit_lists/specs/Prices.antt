@@ -66,6 +66,12 @@ price_position (Number error) = scaled.position error
 price_position (Group at) = at
 price_position (Places at) = at
 
+-- whether it says that no number begins at a position
+abbrev pub price_none_at : ℕ → PriceError → Bool
+price_none_at place (Number error) = scaled.none_at place error
+price_none_at place (Group at) = false
+price_none_at place (Places at) = false
+
 -- whether it says that there is no digit
 abbrev pub price_is_empty : PriceError → Bool
 price_is_empty (Number error) = scaled_is_empty error

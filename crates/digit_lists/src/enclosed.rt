@@ -67,7 +67,7 @@ fn read_inside<K: Kind>(
 ) -> ListRead<K::Error>
     requires valid { K.valid kind }
     requires within { at ≤ length text.now }
-    ensures is { let list = inside (K.number_at kind text.now) K.error_at gap text.now closing
+    ensures is { let list = inside (K.number_at kind text.now) K.none_at gap text.now closing
         (length out.old) at in
         Fills K.meaning list result out.old out.new }
     ensures count { result.count ≤ length out.old }
@@ -107,13 +107,13 @@ pub fn read_enclosed<K: Kind>(
     out: &mut [K::Number],
 ) -> Result<(usize, usize), EnclosedError<K::Error>>
     requires valid { K.valid kind }
-    ensures is { result ≡ enclosed (K.number_at kind text.now) K.error_at gap text.now opening
+    ensures is { result ≡ enclosed (K.number_at kind text.now) K.none_at gap text.now opening
         closing (length out.old) start }
     ensures numbers { has_byte text.now start opening ≡ true →
-        let list = inside (K.number_at kind text.now) K.error_at gap text.now closing
+        let list = inside (K.number_at kind text.now) K.none_at gap text.now closing
         (length out.old) (start + 1) in
         Holds K.meaning list.0 out.old out.new }
-    ensures front { let list = inside (K.number_at kind text.now) K.error_at gap text.now closing
+    ensures front { let list = inside (K.number_at kind text.now) K.none_at gap text.now closing
         (length out.old) (start + 1) in
         IfOk result (λ read. map K.meaning (take read.0 out.new) ≡ list.0) }
     ensures untouched { has_byte text.now start opening ≡ false → out.new ≡ out.old }

@@ -91,7 +91,7 @@ impl<T: Integer> Kind for Prices<T> {
     ghost use Rattle.lexical_format.specs.Word.{is_supported};
     ghost use Rattle.digit_floats.specs.Float.{IsDecimal};
     ghost use Rattle.digit_pieces.specs.Cuts.{is_scaled_byte};
-    ghost use Rattle.digit_lists.specs.Prices.{price_by, price_later, price_position};
+    ghost use Rattle.digit_lists.specs.Prices.{price_by, price_later, price_none_at, price_position};
     ghost use Rattle.digit_lists.specs.PriceLaws as laws;
 
     type Number = T;
@@ -114,6 +114,8 @@ impl<T: Integer> Kind for Prices<T> {
     ghost error_at = { price_position };
 
     ghost error_later = { price_later };
+
+    ghost none_at = { price_none_at };
 
     #[inline(always)]
     fn read_number(self, text: &[u8], start: usize) -> Result<(T, usize), PriceError> {
@@ -152,6 +154,11 @@ impl<T: Integer> Kind for Prices<T> {
         }
     }
 
+    #[inline(always)]
+    fn is_none_at(error: PriceError, place: usize) -> bool {
+        error.is_none_at(place)
+    }
+
     ghost follows = { λ k one other at start valid upto from.
         laws.price_follows k.is_exact k.is_grouped k.word k.point k.places T.MIN_MAGNITUDE T.MAX
         valid.1 one other at start upto from };
@@ -167,4 +174,6 @@ impl<T: Integer> Kind for Prices<T> {
     ghost later_at = { laws.price_later_at };
 
     ghost later_more = { laws.price_later_more };
+
+    ghost none_later = { laws.price_none_later };
 }

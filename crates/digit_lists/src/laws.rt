@@ -22,17 +22,17 @@ use digit_pieces::Kind;
 
 /// A text of blanks, and so an empty one, is a list of no numbers if the gap may trail. Otherwise
 /// it is none, and the error is that of the number at the end of the text. Requires that this
-/// error holds the position of the end: [`no_number_at_the_end`] says so of each kind.
+/// error says that no number begins there: [`no_number_at_the_end`] says so of each kind.
 #[tactic(auto, using(crate::proofs::AtEnd::blanks))]
 pub fn a_blank_text<K: Kind>(kind: K, text: &[u8], gap: Gap, error: K::Error)
     requires blank { past_blanks gap text.now 0 ≡ length text.now }
     requires none { K.number_at kind text.now (length text.now) ≡ Err error }
-    requires there { K.error_at error ≡ length text.now }
+    requires there { K.none_at (length text.now) error ≡ true }
     ensures may_trail { (room : ℕ) → gap.may_trail ≡ true →
-        let list = full_list (K.number_at kind text.now) K.error_at gap text.now room 0 in
+        let list = full_list (K.number_at kind text.now) K.none_at gap text.now room 0 in
         parsed text.now list ≡ Ok 0 }
     ensures no_trail { (room : ℕ) → gap.may_trail ≡ false →
-        let list = full_list (K.number_at kind text.now) K.error_at gap text.now room 0 in
+        let list = full_list (K.number_at kind text.now) K.none_at gap text.now room 0 in
         parsed text.now list ≡ Err (lists.Number error) }
 {}
 

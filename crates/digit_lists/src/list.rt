@@ -66,7 +66,7 @@ pub fn read_list_by<K: Kind>(
 ) -> ListRead<K::Error>
     requires valid { K.valid kind }
     requires within { start ≤ length text.now }
-    ensures is { let list = list_at (K.number_at kind text.now) K.error_at gap text.now
+    ensures is { let list = list_at (K.number_at kind text.now) K.none_at gap text.now
         (length out.old) start in
         Fills K.meaning list result out.old out.new }
     ensures count { result.count ≤ length out.old }
@@ -79,7 +79,7 @@ pub fn read_list_by<K: Kind>(
         let (number, end) = match kind.read_number(text, place) {
             Ok(read) => read,
             Err(error) => {
-                let end = gap.no_number(place, K::error_at(error), error);
+                let end = gap.no_number(place, K::is_none_at(error, place), error);
                 return ListRead { count, end };
             }
         };
@@ -105,13 +105,13 @@ pub fn read_list_by<K: Kind>(
 fn after_full<K: Kind>(kind: K, text: &[u8], gap: Gap, place: usize) -> ListEnd<K::Error>
     requires valid { K.valid kind }
     requires within { place ≤ length text.now }
-    ensures is { result ≡ after_full K.error_at gap place (K.number_at kind text.now place) }
+    ensures is { result ≡ after_full K.none_at gap place (K.number_at kind text.now place) }
     ensures full { IfFull result (λ at. at ≡ place) }
     ensures over { IfOver result (λ at. at ≡ place) }
 {
     match kind.read_number(text, place) {
         Ok(_) => ListEnd::Full(place),
-        Err(error) => gap.no_number(place, K::error_at(error), error),
+        Err(error) => gap.no_number(place, K::is_none_at(error, place), error),
     }
 }
 
@@ -126,7 +126,7 @@ pub(super) fn read_full_list<K: Kind>(
 ) -> ListRead<K::Error>
     requires valid { K.valid kind }
     requires within { start ≤ length text.now }
-    ensures is { let list = full_list (K.number_at kind text.now) K.error_at gap text.now
+    ensures is { let list = full_list (K.number_at kind text.now) K.none_at gap text.now
         (length out.old) start in
         Fills K.meaning list result out.old out.new }
     ensures count { result.count ≤ length out.old }
@@ -169,13 +169,13 @@ pub fn parse_list<K: Kind>(
     out: &mut [K::Number],
 ) -> Result<usize, ListError<K::Error>>
     requires valid { K.valid kind }
-    ensures is { let list = full_list (K.number_at kind text.now) K.error_at gap text.now
+    ensures is { let list = full_list (K.number_at kind text.now) K.none_at gap text.now
         (length out.old) 0 in
         result ≡ parsed text.now list }
-    ensures numbers { let list = full_list (K.number_at kind text.now) K.error_at gap text.now
+    ensures numbers { let list = full_list (K.number_at kind text.now) K.none_at gap text.now
         (length out.old) 0 in
         Holds K.meaning list.0 out.old out.new }
-    ensures front { let list = full_list (K.number_at kind text.now) K.error_at gap text.now
+    ensures front { let list = full_list (K.number_at kind text.now) K.none_at gap text.now
         (length out.old) 0 in
         IfOk result (λ count. map K.meaning (take count out.new) ≡ list.0) }
     ensures count { IfOk result (λ count. count ≤ length out.old) }

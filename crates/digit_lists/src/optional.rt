@@ -3,14 +3,12 @@
 ghost use Rattle.std.specs.Prelude.{◌≡◌, ◌≤◌, length, Ok, Err, IfOk, IfSome, MatchResult};
 ghost use Rattle.digit_lists.specs.Optional.{optional, with_meaning};
 
-use super::error::NoNumber;
 use digit_pieces::Kind;
 
 /// The number of a kind that begins at `start`, and the position after it; or `None` if no number
-/// begins there. That is so where the number's error says that there is no digit, or by a form no
-/// number, and holds the position `start` itself: at the end of the text, at a letter, or at a
-/// blank. A sign without a digit is an error, and so is a number that is too large. Requires that
-/// the kind is valid and that `start` is within the text.
+/// begins there. The number's error says that ([`Kind::is_none_at`]): at the end of the text, at a
+/// letter, or at a blank. A sign without a digit is an error, and so is a number that is too large.
+/// Requires that the kind is valid and that `start` is within the text.
 ///
 /// ```text
 /// an `i8` of `x=-12;` from 2: Ok(Some((-12, 5))); from 5: Ok(None)
@@ -22,12 +20,9 @@ pub fn read_optional<K: Kind>(
     text: &[u8],
     start: usize,
 ) -> Result<Option<(K::Number, usize)>, K::Error>
-where
-    K::Error: NoNumber,
     requires valid { K.valid kind }
     requires within { start ≤ length text.now }
-    ensures is { let found = optional K.error_at K.Error.is_empty start
-        (K.number_at kind text.now start) in
+    ensures is { let found = optional K.none_at start (K.number_at kind text.now start) in
         MatchResult result (λ number. found ≡ Ok (with_meaning K.meaning number))
         (λ error. found ≡ Err error) }
     ensures end { IfOk result (λ number.
@@ -35,7 +30,7 @@ where
 {
     match kind.read_number(text, start) {
         Ok(read) => Ok(Some(read)),
-        Err(error) if error.is_empty() && K::error_at(error) == start => Ok(None),
+        Err(error) if K::is_none_at(error, start) => Ok(None),
         Err(error) => Err(error),
     }
 }

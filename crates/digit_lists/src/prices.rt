@@ -36,6 +36,17 @@ impl PriceError {
             PriceError::Group(at) | PriceError::Places(at) => at,
         }
     }
+
+    /// Whether the error says that no number begins at a position: there is no digit, nor a sign
+    /// or a point.
+    pub fn is_none_at(&self, place: usize) -> bool
+        ensures { result ≡ price_none_at place self.now }
+    {
+        match *self {
+            PriceError::Number(error) => error.is_none_at(place),
+            PriceError::Group(_) | PriceError::Places(_) => false,
+        }
+    }
 }
 
 impl fmt::Display for PriceError {

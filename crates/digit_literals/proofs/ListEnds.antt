@@ -1,6 +1,6 @@
 -- What the end of a list says.
 use Rattle.std.proofs.Common.{◌≡◌, ℕ, zero, suc, ◌+◌, ◌<◌, ◌≤◌, List, [], length, refl, subst, arith}
-use Rattle.std.specs.Prelude.{Bool, true, false, Result, Ok, Err, ◌&&◌, ◌==◌, if◌then◌else◌, nat_lt}
+use Rattle.std.specs.Prelude.{Bool, true, false, Result, Ok, Err, ◌&&◌, if◌then◌else◌, nat_lt}
 use Rattle.digit_literals.specs.declared.list.Gap.{Gap}
 use Rattle.digit_literals.specs.declared.list.ListEnd.TheVariants.{Full, Over, Fault}
 use Rattle.digit_literals.specs.declared.list.ListRead.{ListRead}
@@ -8,10 +8,10 @@ use Rattle.digit_literals.specs.Lists.{Numbers, has_blank, has_separator, past_b
 use Rattle.digit_literals.specs.ListEnds.{EndSays}
 use Rattle.digit_literals.proofs.PassedAll.{no_blank_past}
 
-module _ {A E : Type 0} (one : ℕ → Result (A × ℕ) E) (position : E → ℕ) (gap : Gap)
+module _ {A E : Type 0} (one : ℕ → Result (A × ℕ) E) (none_at : ℕ → E → Bool) (gap : Gap)
     (text : List ℕ) where
   abbrev of : ℕ → ℕ → Numbers A E
-  of room at = list_at one position gap text room at
+  of room at = list_at one none_at gap text room at
 
   -- ---- at most as many numbers as there is room for; just as many, where it is full
 
@@ -31,7 +31,7 @@ module _ {A E : Type 0} (one : ℕ → Result (A × ℕ) E) (position : E → �
       with_one x (numbers, Fault error) (few, all) = (omega (arith, few), all)
 
       after_both : ((next : ℕ) → IsWithin room (of room next)) → (x : A) (next : Result ℕ ℕ)
-          → IsWithin (suc room) (after_number one position gap text (of room) x next)
+          → IsWithin (suc room) (after_number one none_at gap text (of room) x next)
       after_both more x (Ok next) = with_one x (of room next) (more next)
       after_both more x (Err over) = (omega arith, tt)
 
@@ -42,11 +42,11 @@ module _ {A E : Type 0} (one : ℕ → Result (A × ℕ) E) (position : E → �
 
       from_both : ((next : ℕ) → IsWithin room (of room next)) → (read : Result (A × ℕ) E)
           → IsWithin (suc room)
-          (from_number one position gap text (of room) (past_blanks gap text start) read)
+          (from_number one none_at gap text (of room) (past_blanks gap text start) read)
       from_both more (Ok (x, end)) = after_both more x (next_after gap text end)
       from_both more (Err error) =
           none error (past_blanks gap text start)
-          (gap.may_trail && position error == past_blanks gap text start)
+          (gap.may_trail && none_at (past_blanks gap text start) error)
 
   -- ---- where it is over
 
@@ -79,7 +79,7 @@ module _ {A E : Type 0} (one : ℕ → Result (A × ℕ) E) (position : E → �
       -- no separator is after a number
       ends : ((next : ℕ) → EndsOver (of room next)) → (x : A) (end : ℕ) (separates more : Bool)
           → has_separator gap text (past_blanks gap text end) ≡ separates
-          → EndsOver (after_number one position gap text (of room) x
+          → EndsOver (after_number one none_at gap text (of room) x
           (if separates then Ok (past_blanks gap text end + 1)
           else if more then Ok (past_blanks gap text end) else Err (past_blanks gap text end)))
       ends others x end true more is =
@@ -107,21 +107,21 @@ module _ {A E : Type 0} (one : ℕ → Result (A × ℕ) E) (position : E → �
       both false b is = is
 
       from_both : ((next : ℕ) → EndsOver (of room next)) → (read : Result (A × ℕ) E)
-          → EndsOver (from_number one position gap text (of room) place read)
+          → EndsOver (from_number one none_at gap text (of room) place read)
       from_both others (Ok (x, end)) =
           ends others x end (has_separator gap text (past_blanks gap text end))
           (gap.blanks_separate && nat_lt end (past_blanks gap text end)) refl
       from_both others (Err error) =
-          none error (gap.may_trail && position error == place)
-          (both gap.may_trail (position error == place))
+          none error (gap.may_trail && none_at place error)
+          (both gap.may_trail (none_at place error))
 
 -- ---- what was read into a slice
 
-module _ {V A E : Type 0} (value : V → A) (one : ℕ → Result (A × ℕ) E) (position : E → ℕ)
+module _ {V A E : Type 0} (value : V → A) (one : ℕ → Result (A × ℕ) E) (none_at : ℕ → E → Bool)
     (gap : Gap) (text : List ℕ) where
   -- of a list, as of what was read of it
-  says : (room : ℕ) (list : Numbers A E) → IsWithin one position gap text room list
-      → EndsOver one position gap text list
+  says : (room : ℕ) (list : Numbers A E) → IsWithin one none_at gap text room list
+      → EndsOver one none_at gap text list
       → EndSays gap text room (record { count = length list.0; end = list.1 })
   says room (numbers, Full at) (few, all) over = record {
     full = all;
@@ -143,13 +143,13 @@ module _ {V A E : Type 0} (value : V → A) (one : ℕ → Result (A × ℕ) E) 
   }
 
   pub end_says : (start : ℕ) (read : ListRead E) (old new : List V)
-      → Fills value (list_at one position gap text (length old) start) read old new
+      → Fills value (list_at one none_at gap text (length old) start) read old new
       → EndSays gap text (length old) read
   end_says start read old new fills =
-      let list : Numbers A E = list_at one position gap text (length old) start in
+      let list : Numbers A E = list_at one none_at gap text (length old) start in
       let all : EndSays gap text (length old) (record { count = length list.0; end = list.1 }) =
-      says (length old) list (within one position gap text (length old) start)
-      (over one position gap text (length old) start) in
+      says (length old) list (within one none_at gap text (length old) start)
+      (over one none_at gap text (length old) start) in
       let same : (record { count = length list.0; end = list.1 }) ≡ read =
       grind (arith, fills.count, fills.end) in
       subst (EndSays gap text (length old)) same all

@@ -1,7 +1,7 @@
 -- One turn of a loop that reads a list into a slice.
 pub use Rattle.digit_literals.specs.Lists.{SoFar}
 use Rattle.std.proofs.Common.{◌≡◌, ℕ, zero, suc, ◌+◌, ◌-◌, ◌<◌, ◌≤◌, List, [], ◌∷◌, ◌++◌, map, length, take, drop, ◌/◌, ◌%◌, ◌^◌, refl, sym, ◌∙◌, ap, ◌*◌, arith}
-use Rattle.std.specs.Prelude.{Bool, true, false, nat_lt, Option, Some, None, slice_get, ◌&&◌, ◌==◌, if◌then◌else◌, Result, Ok, Err, set}
+use Rattle.std.specs.Prelude.{Bool, true, false, nat_lt, Option, Some, None, slice_get, ◌&&◌, if◌then◌else◌, Result, Ok, Err, set}
 use Rattle.std.proofs.lemmas.List.{take_more_set, drop-set-lt, drop-drop, length-set, map-append, append_assoc, length-map, length-take-le, append-nil}
 use Rattle.std.proofs.lemmas.Bool.Decides.{nat_tests}
 use Rattle.std.proofs.lemmas.Nat.{pow-add, shr-shr}
@@ -78,10 +78,14 @@ no_digit_is gap none byte low high =
     let small : nat_lt byte 128 ≡ true = grind (arith, nat_tests, high) in
     rw (small, off) refl
 
-module _ {V A E : Type 0} (value : V → A) (one : ℕ → Result (A × ℕ) E) (position : E → ℕ)
+module _ {V A E : Type 0} (value : V → A) (one : ℕ → Result (A × ℕ) E) (none_at : ℕ → E → Bool)
     (gap : Gap) (text : List ℕ) where
   abbrev of : ℕ → ℕ → Numbers A E
-  of room at = list_at one position gap text room at
+  of room at = list_at one none_at gap text room at
+
+  -- why the list ends at an error
+  abbrev none_end : ℕ → E → ListEnd E
+  none_end place error = no_number gap place (none_at place error) error
 
   -- ---- one step of the definition
 
@@ -101,7 +105,7 @@ module _ {V A E : Type 0} (value : V → A) (one : ℕ → Result (A × ℕ) E) 
   over_is room at end over x is more = rw (is, more) refl
 
   none_is : (room at : ℕ) (error : E) → one (past_blanks gap text at) ≡ Err error
-      → of (suc room) at ≡ ([], no_number gap (past_blanks gap text at) (position error) error)
+      → of (suc room) at ≡ ([], none_end (past_blanks gap text at) error)
   unfolding list_at
   none_is room at error is = rw is refl
 
@@ -125,8 +129,8 @@ module _ {V A E : Type 0} (value : V → A) (one : ℕ → Result (A × ℕ) E) 
       place = past_blanks gap text start
 
       after_both : (x : A) → ((next : ℕ) → of (n + m) next ≡ and_then (of n next) (of m))
-          → (next : Result ℕ ℕ) → after_number one position gap text (of (n + m)) x next
-          ≡ and_then (after_number one position gap text (of n) x next) (of m)
+          → (next : Result ℕ ℕ) → after_number one none_at gap text (of (n + m)) x next
+          ≡ and_then (after_number one none_at gap text (of n) x next) (of m)
       after_both x same (Ok next) = rw (same next) (before_both x (of n next) (of m))
       after_both x same (Err over) = refl
 
@@ -140,15 +144,15 @@ module _ {V A E : Type 0} (value : V → A) (one : ℕ → Result (A × ℕ) E) 
 
       from_both : ((next : ℕ) → of (n + m) next ≡ and_then (of n next) (of m))
           → (read : Result (A × ℕ) E)
-          → from_number one position gap text (of (n + m)) place read
-          ≡ and_then (from_number one position gap text (of n) place read) (of m)
+          → from_number one none_at gap text (of (n + m)) place read
+          ≡ and_then (from_number one none_at gap text (of n) place read) (of m)
       from_both same (Ok (x, end)) = after_both x same (next_after gap text end)
-      from_both same (Err error) = no_more error (gap.may_trail && position error == place)
+      from_both same (Err error) = no_more error (gap.may_trail && none_at place error)
 
   -- ---- a loop
 
   abbrev So : ℕ → ℕ → ℕ → List V → List V → Type 0
-  So = SoFar value one position gap text
+  So = SoFar value one none_at gap text
 
   pub turns_begin : (start : ℕ) (old : List V) → So start 0 start old old
   turns_begin start old = let none : length old - 0 ≡ length old = omega arith in record {
@@ -194,12 +198,12 @@ module _ {V A E : Type 0} (value : V → A) (one : ℕ → Result (A × ℕ) E) 
       pub turns_none : (error : E) → one (past_blanks gap text at) ≡ Err error
           → Fills value (of (length old) start) (record {
             count = i;
-            end = no_number gap (past_blanks gap text at) (position error) error;
+            end = none_end (past_blanks gap text at) error;
           }) old new
       turns_none error is =
           let step = rw (left, none_is (length old - (i + 1)) at error is) at so.numbers in
-          finish start i (no_number gap (past_blanks gap text at) (position error) error)
-          old new (omega (arith, room)) (sym (append-nil (map value (take i new))) ∙ step)
+          finish start i (none_end (past_blanks gap text at) error) old new
+          (omega (arith, room)) (sym (append-nil (map value (take i new))) ∙ step)
           (rw (left, none_is (length old - (i + 1)) at error is) at so.end) so.rest so.same_length
 
       module _ (x : V) where

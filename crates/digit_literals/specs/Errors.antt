@@ -1,5 +1,5 @@
 -- What an error holds, what is printed of it, and what it is as another one.
-use Rattle.std.specs.Prelude.{ℕ, List, ◌++◌, codes, decimal}
+use Rattle.std.specs.Prelude.{ℕ, ◌==◌, Bool, false, List, ◌++◌, codes, decimal}
 use Rattle.digit_literals.specs.declared.LiteralError.{LiteralError}
 use Rattle.digit_literals.specs.declared.LiteralError.TheVariants as literal
 use Rattle.digit_literals.specs.declared.parse.ParseError.{ParseError}
@@ -11,6 +11,11 @@ use Rattle.digit_literals.specs.declared.parse.ParseError.TheVariants.{Empty, In
 abbrev pub literal_position : LiteralError → ℕ
 literal_position (literal.Empty at) = at
 literal_position (literal.Overflow at) = at
+
+-- whether it says that no number begins at a position
+abbrev pub literal_none_at : ℕ → LiteralError → Bool
+literal_none_at place (literal.Empty at) = at == place
+literal_none_at place (literal.Overflow at) = false
 
 abbrev pub literal_message : LiteralError → List ℕ
 literal_message (literal.Empty at) = codes "there is no digit at " ++ decimal at

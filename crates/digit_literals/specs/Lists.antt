@@ -1,5 +1,5 @@
 -- Lists of numbers: what is between two of them, and what is read into a slice.
-use Rattle.std.specs.Prelude.{◌≡◌, ⊤, ℕ, zero, suc, ◌+◌, ◌-◌, ◌==◌, Bool, not, ◌&&◌, nat_lt, if◌then◌else◌, List, [], ◌∷◌, ◌++◌, length, map, take, drop, take_while, slice_get, Result, Ok, Err}
+use Rattle.std.specs.Prelude.{◌≡◌, ⊤, ℕ, zero, suc, ◌+◌, ◌-◌, Bool, not, ◌&&◌, nat_lt, if◌then◌else◌, List, [], ◌∷◌, ◌++◌, length, map, take, drop, take_while, slice_get, Result, Ok, Err}
 use Rattle.lexical_digits.specs.ByteSet.{accepts}
 use Rattle.lexical_digits.specs.Cursor.{holds_of}
 use Rattle.digit_literals.specs.declared.list.Gap.{Gap}
@@ -31,10 +31,11 @@ module _ (gap : Gap) (text : List ℕ) where
       else if gap.blanks_separate && nat_lt end (past_blanks end) then Ok (past_blanks end)
       else Err (past_blanks end)
 
--- why the list ends where a number may be, if none is there: with an error, which has a position
-abbrev pub no_number : {E : Type 0} → Gap → ℕ → ℕ → E → ListEnd E
-no_number gap place at error =
-    if gap.may_trail && at == place then Over place else Fault error
+-- why the list ends where a number may be, if there is none but an error, which says whether a
+-- number begins there
+abbrev pub no_number : {E : Type 0} → Gap → ℕ → Bool → E → ListEnd E
+no_number gap place is_none error =
+    if gap.may_trail && is_none then Over place else Fault error
 
 -- numbers, and why there are no more
 abbrev pub Numbers : Type 0 → Type 0 → Type 0
@@ -52,8 +53,8 @@ module _ {A E : Type 0} where
   and_then (numbers, Fault error) more = (numbers, Fault error)
 
 -- The numbers of a list, as many as there is room for. `one` is the number at a position, and where
--- it ends; or an error, which has a position.
-module _ {A E : Type 0} (one : ℕ → Result (A × ℕ) E) (position : E → ℕ) (gap : Gap)
+-- it ends; or an error. `none_at` is whether an error says that no number begins at a position.
+module _ {A E : Type 0} (one : ℕ → Result (A × ℕ) E) (none_at : ℕ → E → Bool) (gap : Gap)
     (text : List ℕ) where
   abbrev pub after_number : (ℕ → Numbers A E) → A → Result ℕ ℕ → Numbers A E
   after_number others x (Ok next) = before x (others next)
@@ -61,7 +62,7 @@ module _ {A E : Type 0} (one : ℕ → Result (A × ℕ) E) (position : E → �
 
   abbrev pub from_number : (ℕ → Numbers A E) → ℕ → Result (A × ℕ) E → Numbers A E
   from_number others place (Ok (x, end)) = after_number others x (next_after gap text end)
-  from_number others place (Err error) = ([], no_number gap place (position error) error)
+  from_number others place (Err error) = ([], no_number gap place (none_at place error) error)
 
   unfoldable pub list_at : ℕ → ℕ → Numbers A E
   list_at zero start = ([], Full start)
@@ -71,13 +72,13 @@ module _ {A E : Type 0} (one : ℕ → Result (A × ℕ) E) (position : E → �
 
 -- Of a loop that no caller sees: before the turn with this index, which begins here, the slice has
 -- the first numbers, and the text from here on the others. No public clause uses this word.
-module _ {V A E : Type 0} (value : V → A) (one : ℕ → Result (A × ℕ) E) (position : E → ℕ)
+module _ {V A E : Type 0} (value : V → A) (one : ℕ → Result (A × ℕ) E) (none_at : ℕ → E → Bool)
     (gap : Gap) (text : List ℕ) where
   pub record SoFar (start i at : ℕ) (old new : List V) : Type 0 where
-    pub numbers : map value (take i new) ++ (list_at one position gap text (length old - i) at).0
-        ≡ (list_at one position gap text (length old) start).0
-    pub end : (list_at one position gap text (length old - i) at).1
-        ≡ (list_at one position gap text (length old) start).1
+    pub numbers : map value (take i new) ++ (list_at one none_at gap text (length old - i) at).0
+        ≡ (list_at one none_at gap text (length old) start).0
+    pub end : (list_at one none_at gap text (length old - i) at).1
+        ≡ (list_at one none_at gap text (length old) start).1
     pub rest : drop i new ≡ drop i old
     pub same_length : length new ≡ length old
 

@@ -9,7 +9,7 @@ ghost use Rattle.lexical_digits.specs.Separators.{is_separator};
 ghost use Rattle.lexical_digits.specs.State.{rule_of};
 ghost use Rattle.digit_literals.specs.Eight.{IsWritten};
 ghost use Rattle.digit_literals.specs.Ends.{AreByEnds, AreOthers, IsPlaceAfter, IsOverAfter};
-ghost use Rattle.digit_literals.specs.Errors.{literal_position};
+ghost use Rattle.digit_literals.specs.Errors.{literal_none_at};
 ghost use Rattle.digit_literals.specs.Integers.{integer_at};
 ghost use Rattle.digit_literals.specs.Lists.{SoFar, Fills, IfFull, IfOver, is_blank, list_at, next_after, past_blanks};
 ghost use Rattle.digit_literals.specs.Numbers.{number_at, is_negative_from, digits_from, signed};
@@ -487,10 +487,10 @@ pub(super) fn read_by_ends<T: Integer>(
     requires list { AreByEnds (rule_of word Integer) gap }
     requires within { start ≤ length text.now }
     ensures so { let one = number_at T.MIN_MAGNITUDE T.MAX (rule_of word Integer) text.now in
-        IfOk result (λ went. SoFar T.number one literal_position gap text.now start went.count
+        IfOk result (λ went. SoFar T.number one literal_none_at gap text.now start went.count
         went.at out.old out.new) }
     ensures fills { let one = number_at T.MIN_MAGNITUDE T.MAX (rule_of word Integer) text.now in
-        IfErr result (λ read. Fills T.number (list_at one literal_position gap text.now
+        IfErr result (λ read. Fills T.number (list_at one literal_none_at gap text.now
         (length out.old) start) read out.old out.new) }
     ensures onward { IfOk result (λ went. start ≤ went.at) }
     ensures within { IfOk result (λ went. went.at ≤ length text.now) }

@@ -10,7 +10,7 @@
 #![tactic(auto)]
 
 ghost use Rattle.std.specs.Prelude.{◌≡◌, ℕ, ◌≤◌};
-ghost use Rattle.digit_literals.specs.Errors.{literal_position};
+ghost use Rattle.digit_literals.specs.Errors.{literal_none_at, literal_position};
 ghost use Rattle.digit_literals.specs.Outcomes.{ReadsAll, FindsNone, PassesMost};
 
 mod bytes;
@@ -74,6 +74,18 @@ impl LiteralError {
     {
         match *self {
             LiteralError::Empty(at) | LiteralError::Overflow(at) => at,
+        }
+    }
+
+    /// Whether it says that no number begins at a position: no digit is there. A sign without a
+    /// digit begins one, and so does a number that is too large.
+    #[inline(always)]
+    pub fn is_none_at(&self, place: usize) -> bool
+        ensures { result ≡ literal_none_at place self.now }
+    {
+        match *self {
+            LiteralError::Empty(at) => at == place,
+            LiteralError::Overflow(_) => false,
         }
     }
 }

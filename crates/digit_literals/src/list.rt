@@ -5,7 +5,7 @@ ghost use Rattle.lexical_format.specs.Word.{is_supported};
 ghost use Rattle.lexical_digits.specs.declared.skip.component.Component.TheVariants.{Integer};
 ghost use Rattle.lexical_digits.specs.ByteSet.{accepts};
 ghost use Rattle.lexical_digits.specs.State.{rule_of};
-ghost use Rattle.digit_literals.specs.Errors.{literal_position};
+ghost use Rattle.digit_literals.specs.Errors.{literal_none_at};
 ghost use Rattle.digit_literals.specs.Lists.{is_blank, has_blank, has_separator, past_blanks, next_after, no_number, list_at, SoFar, Fills, IfFull, IfOver};
 ghost use Rattle.digit_literals.specs.Numbers.{number_at};
 
@@ -218,12 +218,13 @@ impl Gap {
         }
     }
 
-    /// Why a list ends where a number may be, if none is there: the error has the position `at`.
+    /// Why a list ends where a number may be, if there is none but an error. `is_none` is whether
+    /// the error says that no number begins there.
     #[inline(always)]
-    pub fn no_number<E: Copy>(self, place: usize, at: usize, error: E) -> ListEnd<E>
-        ensures { result ≡ no_number self place at error }
+    pub fn no_number<E: Copy>(self, place: usize, is_none: bool, error: E) -> ListEnd<E>
+        ensures { result ≡ no_number self place is_none error }
     {
-        if self.may_trail && at == place {
+        if self.may_trail && is_none {
             ListEnd::Over(place)
         } else {
             ListEnd::Fault(error)
@@ -251,8 +252,8 @@ fn read_rest<T: Integer>(
     requires room { from ≤ length out.old }
     ensures fills { let one = number_at T.MIN_MAGNITUDE T.MAX (rule_of word Integer) text.now in
         (start : ℕ) (old : List T)
-        → SoFar T.number one literal_position gap text.now start from begin old out.old
-        → Fills T.number (list_at one literal_position gap text.now (length old) start) result old
+        → SoFar T.number one literal_none_at gap text.now start from begin old out.old
+        → Fills T.number (list_at one literal_none_at gap text.now (length old) start) result old
         out.new }
     ensures count { result.count ≤ length out.old }
     ensures full { IfFull result.end (λ at. (begin ≤ at) × (at ≤ length text.now)) }
@@ -265,7 +266,7 @@ fn read_rest<T: Integer>(
         let (value, end) = match read_number_from::<T>(text, word, place) {
             Ok(read) => read,
             Err(error) => {
-                let end = gap.no_number(place, error.position(), error);
+                let end = gap.no_number(place, error.is_none_at(place), error);
                 return ListRead { count, end };
             }
         };
@@ -315,7 +316,7 @@ pub fn read_list<T: Integer>(
     requires supported { IsTrue (is_supported word) }
     requires within { start ≤ length text.now }
     ensures is { let r = rule_of word Integer in
-        let list = list_at (number_at T.MIN_MAGNITUDE T.MAX r text.now) literal_position gap
+        let list = list_at (number_at T.MIN_MAGNITUDE T.MAX r text.now) literal_none_at gap
         text.now (length out.old) start in
         Fills T.number list result out.old out.new }
     ensures count { result.count ≤ length out.old }

@@ -1,5 +1,5 @@
 -- What a number is as a value of a type of integers, and as a float; what an error says.
-use Rattle.std.specs.Prelude.{ℕ, ℤ, if◌then◌else◌, nat_le, Option, Some, None, ⊤}
+use Rattle.std.specs.Prelude.{ℕ, ℤ, ◌==◌, Bool, false, if◌then◌else◌, nat_le, Option, Some, None, ⊤}
 use Rattle.std.specs.Prelude.{List, ◌++◌, codes, decimal}
 use Rattle.std.specs.Float.{Float, Format, NotNan}
 use Rattle.std.specs.Float.Ieee.{round}
@@ -39,6 +39,12 @@ abbrev pub position : NumberError → ℕ
 position (errors.Empty at) = at
 position (errors.Overflow at) = at
 position (errors.Invalid at) = at
+
+-- whether it says that no number begins at a position
+abbrev pub none_at : ℕ → NumberError → Bool
+none_at place (errors.Empty at) = at == place
+none_at place (errors.Overflow at) = false
+none_at place (errors.Invalid at) = false
 
 -- what is printed of it
 abbrev pub message : NumberError → List ℕ

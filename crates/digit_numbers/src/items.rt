@@ -1,6 +1,6 @@
 //! Lists of values of one's own, which are read into a slice.
 
-ghost use Rattle.std.specs.Prelude.{◌≡◌, ℕ, ◌≤◌, List, length, take, Result, IfOk};
+ghost use Rattle.std.specs.Prelude.{◌≡◌, ℕ, ◌≤◌, Bool, List, length, take, Result, IfOk};
 ghost use Rattle.digit_literals.specs.Lists.{list_at, Fills, IfFull, IfOver};
 
 use digit_literals::{Gap, ListEnd, ListRead};
@@ -16,6 +16,9 @@ pub trait Item: Copy {
     /// The position that an error holds.
     ghost error_at: { Self.Error → ℕ };
 
+    /// Whether an error says that no value begins at a position.
+    ghost none_at: { ℕ → Self.Error → Bool };
+
     /// The value that begins at `start`, and the position after it.
     fn read_item(text: &[u8], start: usize) -> Result<(Self, usize), Self::Error>
         requires within { start ≤ length text.now }
@@ -25,6 +28,11 @@ pub trait Item: Copy {
     /// The position that an error holds.
     fn error_at(error: Self::Error) -> usize
         ensures { result ≡ error_at error };
+
+    /// Whether an error says that no value begins at a position: a list whose gap may trail is over
+    /// there. Of a value that is refused, such as one too large, it is `false`.
+    fn is_none_at(error: Self::Error, place: usize) -> bool
+        ensures { result ≡ none_at place error };
 }
 
 /// The values of a type of your own from `start` on, read into a slice: each as by its
@@ -34,10 +42,10 @@ pub trait Item: Copy {
 #[inline(always)]
 pub fn read_items<T: Item>(text: &[u8], start: usize, gap: Gap, out: &mut [T]) -> ListRead<T::Error>
     requires within { start ≤ length text.now }
-    ensures is { let list = list_at (T.item_at text.now) T.error_at gap text.now
+    ensures is { let list = list_at (T.item_at text.now) T.none_at gap text.now
         (length out.old) start in
         Fills (λ item. item) list result out.old out.new }
-    ensures front { let list = list_at (T.item_at text.now) T.error_at gap text.now
+    ensures front { let list = list_at (T.item_at text.now) T.none_at gap text.now
         (length out.old) start in
         take result.count out.new ≡ list.0 }
     ensures count { result.count ≤ length out.old }
@@ -50,7 +58,7 @@ pub fn read_items<T: Item>(text: &[u8], start: usize, gap: Gap, out: &mut [T]) -
         let (item, end) = match T::read_item(text, place) {
             Ok(read) => read,
             Err(error) => {
-                let end = gap.no_number(place, T::error_at(error), error);
+                let end = gap.no_number(place, T::is_none_at(error, place), error);
                 return ListRead { count, end };
             }
         };

@@ -4,7 +4,7 @@ ghost use Rattle.std.specs.Prelude.{◌≤◌, length};
 ghost use Rattle.digit_literals.specs.Lists.{list_at, Fills, IfFull, IfOver};
 ghost use Rattle.digit_numbers.specs.Forms.{IsForm};
 ghost use Rattle.digit_numbers.specs.Numbers.{number_of_at};
-ghost use Rattle.digit_numbers.specs.Values.{position, with_value};
+ghost use Rattle.digit_numbers.specs.Values.{none_at, with_value};
 
 use super::form::Form;
 use super::number::{Number, NumberError, read_number_of};
@@ -30,7 +30,7 @@ pub fn read_list_of<F: Float>(
 ) -> ListRead<NumberError>
     requires within { start ≤ length text.now }
     requires form { IsForm form }
-    ensures is { let list = list_at (λ at. number_of_at form text.now at F.format) position gap
+    ensures is { let list = list_at (λ at. number_of_at form text.now at F.format) none_at gap
         text.now (length out.old) start in
         Fills (with_value F.value) list result out.old out.new }
     ensures count { result.count ≤ length out.old }
@@ -43,7 +43,7 @@ pub fn read_list_of<F: Float>(
         let (number, end) = match read_number_of::<F>(text, place, form) {
             Ok(read) => read,
             Err(error) => {
-                let end = gap.no_number(place, error.position(), error);
+                let end = gap.no_number(place, error.is_none_at(place), error);
                 return ListRead { count, end };
             }
         };

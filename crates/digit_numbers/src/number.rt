@@ -6,7 +6,7 @@ ghost use Rattle.std.specs.Float.{NotNan};
 ghost use Rattle.digit_numbers.specs.Forms.{IsForm};
 ghost use Rattle.digit_numbers.specs.Numbers.{hex_word_here, number_of_at, special_here, to_end};
 ghost use Rattle.digit_numbers.specs.Reads.{IsSign};
-ghost use Rattle.digit_numbers.specs.Values.{integer_in, float_in, with_value, IsNoNan, position, message};
+ghost use Rattle.digit_numbers.specs.Values.{integer_in, float_in, with_value, IsNoNan, none_at, position, message};
 
 use super::form::Form;
 use super::hexadecimal::hex_of;
@@ -116,6 +116,17 @@ impl NumberError {
     {
         match self {
             NumberError::Empty(at) | NumberError::Overflow(at) | NumberError::Invalid(at) => at,
+        }
+    }
+
+    /// Whether the error says that no number begins at a position: there is neither a digit nor a
+    /// special value of the form, nor a sign.
+    pub fn is_none_at(self, place: usize) -> bool
+        ensures { result ≡ none_at place self }
+    {
+        match self {
+            NumberError::Empty(at) => at == place,
+            NumberError::Overflow(_) | NumberError::Invalid(_) => false,
         }
     }
 }

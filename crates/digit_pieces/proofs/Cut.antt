@@ -1,7 +1,7 @@
 -- A list of a text that is there in part: that of the part, and where it asks for more, what is
 -- read from there on.
 use Rattle.std.proofs.Common.{◌≡◌, ℕ, zero, suc, ◌-◌, ◌<◌, ◌≤◌, Bool, true, false, List, [], ◌++◌, length, refl, ◌∙◌, arith}
-use Rattle.std.specs.Prelude.{Result, Ok, Err, IfOk, ◌&&◌, ◌==◌, nat_lt, if◌then◌else◌}
+use Rattle.std.specs.Prelude.{Result, Ok, Err, IfOk, ◌&&◌, nat_lt, if◌then◌else◌}
 use Rattle.std.proofs.lemmas.Bool.Decides.{nat_tests}
 use Rattle.digit_literals.specs.declared.list.Gap.{Gap}
 use Rattle.digit_literals.specs.declared.list.ListEnd.{ListEnd}
@@ -62,14 +62,14 @@ module _ {A E : Type 0} where
   more_same room (numbers, Over at) f g same = refl
   more_same room (numbers, Fault error) f g same = refl
 
-module _ {A E : Type 0} (one one_whole : ℕ → Result (A × ℕ) E) (position : E → ℕ) (gap : Gap)
+module _ {A E : Type 0} (one one_whole : ℕ → Result (A × ℕ) E) (none_at : ℕ → E → Bool) (gap : Gap)
     (piece more : List ℕ) (sure : ℕ) (low : sure ≤ length piece)
     (stays : (at : ℕ) → at < sure → one_whole at ≡ one at) where
   abbrev of_whole : ℕ → ℕ → Numbers A E
-  of_whole room at = list_at one_whole position gap (piece ++ more) room at
+  of_whole room at = list_at one_whole none_at gap (piece ++ more) room at
 
   abbrev of_piece : ℕ → ℕ → PieceNumbers A E
-  of_piece room at = piece_at one position gap piece sure false room at
+  of_piece room at = piece_at one none_at gap piece sure false room at
 
   -- from a place on it is the list
   from_place : (room at : ℕ) → at ≤ length piece
@@ -99,9 +99,9 @@ module _ {A E : Type 0} (one one_whole : ℕ → Result (A × ℕ) E) (position 
       after_both : ((next : ℕ) → next ≤ length piece
           → of_whole room next ≡ and_more room (of_piece room next) of_whole)
           → (x : A) (next : Result ℕ ℕ) → IfOk next (λ n. n ≤ length piece)
-          → whole.after_number one_whole position gap (piece ++ more) (of_whole room) x next
+          → whole.after_number one_whole none_at gap (piece ++ more) (of_whole room) x next
           ≡ and_more (suc room)
-          (after_number one position gap piece sure false (of_piece room) x next) of_whole
+          (after_number one none_at gap piece sure false (of_piece room) x next) of_whole
       after_both same x (Ok next) here =
           rw (others_more room x (of_piece room next) of_whole, ← same next here) refl
       after_both same x (Err over) here = refl
@@ -110,10 +110,10 @@ module _ {A E : Type 0} (one one_whole : ℕ → Result (A × ℕ) E) (position 
           → of_whole room next ≡ and_more room (of_piece room next) of_whole)
           → (x : A) (end : ℕ) (parted : Bool)
           → nat_lt (past_blanks gap piece end) (length piece) ≡ parted
-          → of_whole (suc room) at ≡ whole.from_number one_whole position gap (piece ++ more)
+          → of_whole (suc room) at ≡ whole.from_number one_whole none_at gap (piece ++ more)
           (of_whole room) place (Ok (x, end))
           → of_whole (suc room) at ≡ and_more (suc room)
-          (if parted then after_number one position gap piece sure false (of_piece room) x
+          (if parted then after_number one none_at gap piece sure false (of_piece room) x
           (next_after gap piece end) else ([], More place)) of_whole
       by_parted same x end true is step =
           let part : past_blanks gap piece end < length piece = grind (arith, nat_tests, is) in
@@ -125,20 +125,20 @@ module _ {A E : Type 0} (one one_whole : ℕ → Result (A × ℕ) E) (position 
       by_read : ((next : ℕ) → next ≤ length piece
           → of_whole room next ≡ and_more room (of_piece room next) of_whole)
           → (read : Result (A × ℕ) E) → place < sure
-          → of_whole (suc room) at ≡ whole.from_number one_whole position gap (piece ++ more)
+          → of_whole (suc room) at ≡ whole.from_number one_whole none_at gap (piece ++ more)
           (of_whole room) place read
           → of_whole (suc room) at ≡ and_more (suc room)
-          (from_number one position gap piece sure false (of_piece room) place read) of_whole
+          (from_number one none_at gap piece sure false (of_piece room) place read) of_whole
       by_read same (Ok (x, end)) l step =
           by_parted same x end (nat_lt (past_blanks gap piece end) (length piece)) refl step
       by_read same (Err error) l step =
-          step ∙ no_more (suc room) place error (gap.may_trail && position error == place)
+          step ∙ no_more (suc room) place error (gap.may_trail && none_at place error)
 
       by_sure : ((next : ℕ) → next ≤ length piece
           → of_whole room next ≡ and_more room (of_piece room next) of_whole)
           → (is_sure : Bool) → nat_lt place sure ≡ is_sure
           → of_whole (suc room) at ≡ and_more (suc room)
-          (if is_sure then from_number one position gap piece sure false (of_piece room) place
+          (if is_sure then from_number one none_at gap piece sure false (of_piece room) place
           (one place) else ([], More place)) of_whole
       by_sure same true is =
           let l : place < sure = grind (arith, nat_tests, is) in
@@ -182,14 +182,14 @@ module _ {A E : Type 0} (one one_whole : ℕ → Result (A × ℕ) E) (position 
         after : ((there : ℕ) → IsNext there → IfMore (of_piece room there).1 IsNext)
             → (x : A) (next : Result ℕ ℕ) → IfOk next IsNext
             → IfMore
-            (after_number one position gap piece sure false (of_piece room) x next).1 IsNext
+            (after_number one none_at gap piece sure false (of_piece room) x next).1 IsNext
         after same x (Ok next) is = same next is
         after same x (Err over) is = tt
 
         by_parted : ((there : ℕ) → IsNext there → IfMore (of_piece room there).1 IsNext)
             → (x : A) (end : ℕ) (parted : Bool)
             → nat_lt (past_blanks gap piece end) (length piece) ≡ parted
-            → IfMore (if parted then after_number one position gap piece sure false (of_piece room)
+            → IfMore (if parted then after_number one none_at gap piece sure false (of_piece room)
             x (next_after gap piece end) else ([], More place)).1 IsNext
         by_parted same x end true is =
             let part : past_blanks gap piece end < length piece = grind (arith, nat_tests, is) in
@@ -200,16 +200,16 @@ module _ {A E : Type 0} (one one_whole : ℕ → Result (A × ℕ) E) (position 
 
         by_read : ((there : ℕ) → IsNext there → IfMore (of_piece room there).1 IsNext)
             → (read : Result (A × ℕ) E)
-            → IfMore (from_number one position gap piece sure false (of_piece room) place read).1
+            → IfMore (from_number one none_at gap piece sure false (of_piece room) place read).1
             IsNext
         by_read same (Ok (x, end)) =
             by_parted same x end (nat_lt (past_blanks gap piece end) (length piece)) refl
         by_read same (Err error) =
-            no_number_more place error (gap.may_trail && position error == place)
+            no_number_more place error (gap.may_trail && none_at place error)
 
         by_sure : ((there : ℕ) → IsNext there → IfMore (of_piece room there).1 IsNext)
             → (is_sure : Bool)
-            → IfMore (if is_sure then from_number one position gap piece sure false (of_piece room)
+            → IfMore (if is_sure then from_number one none_at gap piece sure false (of_piece room)
             place (one place) else ([], More place)).1 IsNext
         by_sure same true = by_read same (one place)
         by_sure same false = here

@@ -1,6 +1,6 @@
 -- The list of a text whose first bytes are gone is that of the text, with positions later.
 use Rattle.std.proofs.Common.{◌≡◌, ℕ, zero, suc, ◌+◌, ◌<◌, ◌≤◌, Bool, true, false, List, [], length, drop, refl, ap, arith, length-drop}
-use Rattle.std.specs.Prelude.{Result, Ok, Err, IfOk, ◌&&◌, ◌==◌, nat_lt, if◌then◌else◌}
+use Rattle.std.specs.Prelude.{Result, Ok, Err, IfOk, ◌&&◌, nat_lt, if◌then◌else◌}
 use Rattle.std.proofs.lemmas.Bool.Decides.{nat_tests}
 use Rattle.digit_literals.specs.declared.list.Gap.{Gap}
 use Rattle.digit_literals.specs.declared.list.ListEnd.{ListEnd}
@@ -10,10 +10,7 @@ use Rattle.digit_pieces.specs.Moves.{outcome_later}
 use Rattle.digit_pieces.specs.Pieces.{end_later, list_later}
 use Rattle.digit_pieces.proofs.Blanks.{blanks_within, blanks_moved, separator_moved, separator_within}
 
--- ---- tests of positions that are all so much later
-
-eq_moved : (by a b : ℕ) → (by + a == by + b) ≡ (a == b)
-eq_moved by a b = grind (arith, nat_tests)
+-- ---- a test of positions that are both so much later
 
 lt_moved : (by a b : ℕ) → nat_lt (by + a) (by + b) ≡ nat_lt a b
 lt_moved by a b = grind (arith, nat_tests)
@@ -68,9 +65,10 @@ next_within gap text end h =
 
 -- ---- a list
 
-module _ {A E : Type 0} (one : List ℕ → ℕ → Result (A × ℕ) E) (position : E → ℕ)
+module _ {A E : Type 0} (one : List ℕ → ℕ → Result (A × ℕ) E) (none_at : ℕ → E → Bool)
     (later : ℕ → E → E) (gap : Gap) (text : List ℕ) (from : ℕ) (within : from ≤ length text)
-    (later_at : (by : ℕ) (e : E) → position (later by e) ≡ by + position e)
+    (none_later : (by place : ℕ) (e : E)
+    → none_at (by + place) (later by e) ≡ none_at place e)
     (moves : (at : ℕ) → from + at ≤ length text
     → one text (from + at) ≡ outcome_later later from (one (drop from text) at))
     (ends : (start end : ℕ) (x : A) → start ≤ length (drop from text)
@@ -79,10 +77,10 @@ module _ {A E : Type 0} (one : List ℕ → ℕ → Result (A × ℕ) E) (positi
   rest = drop from text
 
   abbrev of_text : ℕ → ℕ → Numbers A E
-  of_text room at = list_at (one text) position gap text room at
+  of_text room at = list_at (one text) none_at gap text room at
 
   abbrev of_rest : ℕ → ℕ → Numbers A E
-  of_rest room at = list_at (one rest) position gap rest room at
+  of_rest room at = list_at (one rest) none_at gap rest room at
 
   in_text : (at : ℕ) → at ≤ length rest → from + at ≤ length text
   in_text at h = omega (arith, length-drop from text)
@@ -102,12 +100,12 @@ module _ {A E : Type 0} (one : List ℕ → ℕ → Result (A × ℕ) E) (positi
   no_number_later place false error = refl
 
   no_number_moved : (place : ℕ) (error : E)
-      → no_number gap (from + place) (position (later from error)) (later from error)
-      ≡ end_later later from (no_number gap place (position error) error)
+      → no_number gap (from + place) (none_at (from + place) (later from error)) (later from error)
+      ≡ end_later later from (no_number gap place (none_at place error) error)
   unfolding no_number_of
   no_number_moved place error =
-      rw (later_at from error, eq_moved from (position error) place)
-      (no_number_later place (gap.may_trail && position error == place) error)
+      rw (none_later from place error)
+      (no_number_later place (gap.may_trail && none_at place error) error)
 
   pub list_moved : (room at : ℕ) → at ≤ length rest
       → of_text room (from + at) ≡ list_later later from (of_rest room at)
@@ -126,8 +124,8 @@ module _ {A E : Type 0} (one : List ℕ → ℕ → Result (A × ℕ) E) (positi
       after_both : ((next : ℕ) → next ≤ length rest
           → of_text room (from + next) ≡ list_later later from (of_rest room next))
           → (x : A) (next : Result ℕ ℕ) → IfOk next (λ n. n ≤ length rest)
-          → after_number (one text) position gap text (of_text room) x (next_later from next)
-          ≡ list_later later from (after_number (one rest) position gap rest (of_rest room) x next)
+          → after_number (one text) none_at gap text (of_text room) x (next_later from next)
+          ≡ list_later later from (after_number (one rest) none_at gap rest (of_rest room) x next)
       after_both same x (Ok next) here =
           rw (same next here) (before_later x (of_rest room next))
       after_both same x (Err over) here = refl
@@ -135,10 +133,10 @@ module _ {A E : Type 0} (one : List ℕ → ℕ → Result (A × ℕ) E) (positi
       from_both : ((next : ℕ) → next ≤ length rest
           → of_text room (from + next) ≡ list_later later from (of_rest room next))
           → (read : Result (A × ℕ) E) → one rest place ≡ read
-          → from_number (one text) position gap text (of_text room) (from + place)
+          → from_number (one text) none_at gap text (of_text room) (from + place)
           (outcome_later later from read)
           ≡ list_later later from
-          (from_number (one rest) position gap rest (of_rest room) place read)
+          (from_number (one rest) none_at gap rest (of_rest room) place read)
       from_both same (Ok (x, end)) is =
           let here = ends place end x low is in
           rw (next_moved gap text from end)

@@ -16,7 +16,7 @@ use Rattle.digit_pieces.proofs.Moved.{list_moved}
 use Rattle.digit_pieces.proofs.Cut.{IsNext, more_same, if_more, always_more, cut_list, more_is_next}
 
 -- What a kind of numbers promises.
-pub record AreNumbers {A E : Type 0} (one : List ℕ → ℕ → Result (A × ℕ) E) (position : E → ℕ)
+pub record AreNumbers {A E : Type 0} (one : List ℕ → ℕ → Result (A × ℕ) E) (none_at : ℕ → E → Bool)
     (later : ℕ → E → E) (has : ℕ → Bool) : Type 0 where
   pub follows : (text other : List ℕ) (at start : ℕ) → AreSameBefore has text other at
       → start ≤ at → one text start ≡ one other start
@@ -24,7 +24,8 @@ pub record AreNumbers {A E : Type 0} (one : List ℕ → ℕ → Result (A × �
       → one text (from + at) ≡ outcome_later later from (one (drop from text) at)
   pub ends : (text : List ℕ) (start end : ℕ) (x : A) → start ≤ length text
       → one text start ≡ Ok (x, end) → end ≤ length text
-  pub later_at : (by : ℕ) (e : E) → position (later by e) ≡ by + position e
+  pub none_later : (by place : ℕ) (e : E)
+      → none_at (by + place) (later by e) ≡ none_at place e
 
 -- a position with nothing of a number before it, in a text that goes on
 fresh_on : (has : ℕ → Bool) (text more : List ℕ) (at : ℕ) → at ≤ length text
@@ -32,11 +33,11 @@ fresh_on : (has : ℕ → Bool) (text more : List ℕ) (at : ℕ) → at ≤ len
 fresh_on has text more zero low h = h
 fresh_on has text more (suc at) low h = rw (get_front text more at (omega arith)) h
 
-module _ {A E : Type 0} (one : List ℕ → ℕ → Result (A × ℕ) E) (position : E → ℕ)
+module _ {A E : Type 0} (one : List ℕ → ℕ → Result (A × ℕ) E) (none_at : ℕ → E → Bool)
     (later : ℕ → E → E) (has : ℕ → Bool) (gap : Gap)
-    (are : AreNumbers one position later has) where
+    (are : AreNumbers one none_at later has) where
   abbrev of : List ℕ → ℕ → ℕ → Numbers A E
-  of text room start = list_of one position later has gap text room start
+  of text room start = list_of one none_at later has gap text room start
 
   -- before the sure end what follows makes no difference
   pub stays : (text more : List ℕ) (at : ℕ) → at < sure_end has text
@@ -48,30 +49,30 @@ module _ {A E : Type 0} (one : List ℕ → ℕ → Result (A × ℕ) E) (positi
       → (room at : ℕ) → at ≤ length (drop from text)
       → of text room (from + at) ≡ list_later later from (of (drop from text) room at)
   moved text from within fresh =
-      list_moved one position later gap text from within are.later_at
+      list_moved one none_at later gap text from within are.none_later
       (λ at low. are.precedes text from at low fresh) (are.ends (drop from text))
 
   module _ (apart : IsApart has gap) where
     -- one cut: the piece, and where it asks for more, the list of what is left with what follows
     pub cut : (piece more : List ℕ) (room : ℕ)
         → of (piece ++ more) room 0 ≡ and_more room
-        (piece_of one position later has gap piece room 0)
+        (piece_of one none_at later has gap piece room 0)
         (λ left at. list_later later at (of (drop at piece ++ more) left 0))
     cut piece more room =
-        cut_list (one piece) (one (piece ++ more)) position gap piece more sure
+        cut_list (one piece) (one (piece ++ more)) none_at gap piece more sure
         (sure_within has piece) (stays piece more) room 0 (omega arith)
-        ∙ more_same room (piece_of one position later has gap piece room 0) _ _
-        (if_more (IsNext (one piece) (one (piece ++ more)) position gap piece more sure
+        ∙ more_same room (piece_of one none_at later has gap piece room 0) _ _
+        (if_more (IsNext (one piece) (one (piece ++ more)) none_at gap piece more sure
         (sure_within has piece) (stays piece more) has apart) _
-        (piece_of one position later has gap piece room 0).1 then
-        (more_is_next (one piece) (one (piece ++ more)) position gap piece more sure
+        (piece_of one none_at later has gap piece room 0).1 then
+        (more_is_next (one piece) (one (piece ++ more)) none_at gap piece more sure
         (sure_within has piece) (stays piece more) has apart room 0
         (record { within = omega arith; fresh = refl })))
       where
         sure : ℕ
         sure = sure_end has piece
 
-        then : (at : ℕ) → IsNext (one piece) (one (piece ++ more)) position gap piece more sure
+        then : (at : ℕ) → IsNext (one piece) (one (piece ++ more)) none_at gap piece more sure
             (sure_within has piece) (stays piece more) has apart at
             → (left : ℕ) → of (piece ++ more) left at
             ≡ list_later later at (of (drop at piece ++ more) left 0)
@@ -85,7 +86,7 @@ module _ {A E : Type 0} (one : List ℕ → ℕ → Result (A × ℕ) E) (positi
 
     -- any number of cuts
     pub all_pieces : (room : ℕ) (rest : List ℕ) (pieces : List (List ℕ)) (last : List ℕ)
-        → read_pieces one position later has gap room rest pieces last
+        → read_pieces one none_at later has gap room rest pieces last
         ≡ of (rest ++ (concat pieces ++ last)) room 0
     unfolding read_pieces
     all_pieces room rest [] last = refl
@@ -95,6 +96,6 @@ module _ {A E : Type 0} (one : List ℕ → ℕ → Result (A × ℕ) E) (positi
         let same : rest ++ ((piece ++ concat pieces) ++ last) ≡ text ++ more =
         rw (append_assoc rest piece more, append_assoc piece (concat pieces) last) refl in
         rw (same, cut text more room)
-        (more_same room (piece_of one position later has gap text room 0) _ _
-        (always_more _ (piece_of one position later has gap text room 0).1
+        (more_same room (piece_of one none_at later has gap text room 0) _ _
+        (always_more _ (piece_of one none_at later has gap text room 0).1
         (λ at left. ap (list_later later at) (all_pieces left (drop at text) pieces last))))

@@ -8,16 +8,20 @@ use Rattle.digit_pieces.specs.declared.piece.PieceEnd.{PieceEnd}
 use Rattle.digit_pieces.specs.declared.piece.PieceEnd.TheVariants.{More, Full, Over}
 use Rattle.digit_pieces.specs.Pieces.{PieceNumbers, of_list, is_sure, is_parted, piece_at, FillsPiece}
 
-module _ {V A E : Type 0} (value : V → A) (one : ℕ → Result (A × ℕ) E) (position : E → ℕ)
+module _ {V A E : Type 0} (value : V → A) (one : ℕ → Result (A × ℕ) E) (none_at : ℕ → E → Bool)
     (gap : Gap) (text : List ℕ) (sure : ℕ) (is_last : Bool) where
   abbrev of : ℕ → ℕ → PieceNumbers A E
-  of room at = piece_at one position gap text sure is_last room at
+  of room at = piece_at one none_at gap text sure is_last room at
 
   abbrev surely : ℕ → Bool
   surely at = is_sure is_last sure at
 
   abbrev parted : ℕ → Bool
   parted end = is_parted gap text is_last end
+
+  -- why the list ends at an error
+  abbrev none_end : ℕ → E → PieceEnd E
+  none_end place error = of_list (no_number gap place (none_at place error) error)
 
   -- ---- one step of the definition
 
@@ -32,7 +36,7 @@ module _ {V A E : Type 0} (value : V → A) (one : ℕ → Result (A × ℕ) E) 
 
   none_is : (room at : ℕ) (error : E) → surely (past_blanks gap text at) ≡ true
       → one (past_blanks gap text at) ≡ Err error → of (suc room) at
-      ≡ ([], of_list (no_number gap (past_blanks gap text at) (position error) error))
+      ≡ ([], none_end (past_blanks gap text at) error)
   unfolding piece_at
   none_is room at error here is = rw (here, is) refl
 
@@ -122,10 +126,10 @@ module _ {V A E : Type 0} (value : V → A) (one : ℕ → Result (A × ℕ) E) 
           → one (past_blanks gap text at) ≡ Err error
           → FillsPiece value (of (length old) start) (record {
             count = i;
-            end = of_list (no_number gap (past_blanks gap text at) (position error) error);
+            end = none_end (past_blanks gap text at) error;
           }) old new
       turns_none error here is =
-          no_more (of_list (no_number gap (past_blanks gap text at) (position error) error))
+          no_more (none_end (past_blanks gap text at) error)
           (none_is (length old - (i + 1)) at error here is)
 
       pub turns_touch : (end : ℕ) (x : A) → surely (past_blanks gap text at) ≡ true

@@ -1,5 +1,5 @@
 -- Two numbers with a byte between them, as `3:4`.
-use Rattle.std.specs.Prelude.{ℕ, ◌+◌, ◌==◌, ◌||◌, Bool, if◌then◌else◌, List, Result, Ok, Err}
+use Rattle.std.specs.Prelude.{ℕ, ◌+◌, ◌==◌, ◌||◌, Bool, false, if◌then◌else◌, List, Result, Ok, Err}
 use Rattle.digit_literals.specs.Numbers.{has_byte}
 use Rattle.digit_pieces.specs.declared.kinds.both.BothError.{BothError}
 use Rattle.digit_pieces.specs.declared.kinds.both.BothError.TheVariants.{First, Between, Second}
@@ -31,6 +31,12 @@ module _ {D E : Type 0} (first : D → ℕ) (second : E → ℕ) where
   both_error_at (First error) = first error
   both_error_at (Between at) = at
   both_error_at (Second error) = second error
+
+-- whether an error says that no two begin at a position: not the first
+abbrev pub both_none_at : {D E : Type 0} → (ℕ → D → Bool) → ℕ → BothError D E → Bool
+both_none_at first place (First error) = first place error
+both_none_at first place (Between at) = false
+both_none_at first place (Second error) = false
 
 module _ {D E : Type 0} (first : ℕ → D → D) (second : ℕ → E → E) where
   -- an error with its position so much later

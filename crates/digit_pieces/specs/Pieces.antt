@@ -52,9 +52,9 @@ abbrev pub is_parted : Gap → List ℕ → Bool → ℕ → Bool
 is_parted gap text is_last end = is_last || nat_lt (past_blanks gap text end) (length text)
 
 -- The numbers of a piece, as many as there is room for. `one` is the number at a position, and
--- where it ends; or an error, which has a position. What it answers before `sure` stays, whatever
--- follows the piece.
-module _ {A E : Type 0} (one : ℕ → Result (A × ℕ) E) (position : E → ℕ) (gap : Gap)
+-- where it ends; or an error. `none_at` is whether an error says that no number begins at a
+-- position. What `one` answers before `sure` stays, whatever follows the piece.
+module _ {A E : Type 0} (one : ℕ → Result (A × ℕ) E) (none_at : ℕ → E → Bool) (gap : Gap)
     (text : List ℕ) (sure : ℕ) (is_last : Bool) where
   abbrev pub after_number : (ℕ → PieceNumbers A E) → A → Result ℕ ℕ → PieceNumbers A E
   after_number others x (Ok next) = and_others x (others next)
@@ -65,7 +65,7 @@ module _ {A E : Type 0} (one : ℕ → Result (A × ℕ) E) (position : E → �
       if is_parted gap text is_last end then after_number others x (next_after gap text end)
       else ([], More place)
   from_number others place (Err error) =
-      ([], of_list (no_number gap place (position error) error))
+      ([], of_list (no_number gap place (none_at place error) error))
 
   unfoldable pub piece_at : ℕ → ℕ → PieceNumbers A E
   piece_at zero start = ([], Full start)

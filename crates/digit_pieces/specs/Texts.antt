@@ -11,16 +11,16 @@ abbrev pub IsApart : (ℕ → Bool) → Gap → Type 0
 IsApart has gap = (byte : ℕ) → has byte ≡ true
     → accepts gap.separators byte || accepts gap.blanks byte ≡ false
 
-module _ {A E : Type 0} (one : List ℕ → ℕ → Result (A × ℕ) E) (position : E → ℕ)
+module _ {A E : Type 0} (one : List ℕ → ℕ → Result (A × ℕ) E) (none_at : ℕ → E → Bool)
     (later : ℕ → E → E) (has : ℕ → Bool) (gap : Gap) where
   -- the list of a whole text, from a position on
   abbrev pub list_of : List ℕ → ℕ → ℕ → Numbers A E
-  list_of text room start = list_at (one text) position gap text room start
+  list_of text room start = list_at (one text) none_at gap text room start
 
   -- what is read of a piece that isn't the last
   abbrev pub piece_of : List ℕ → ℕ → ℕ → PieceNumbers A E
   piece_of text room start =
-      piece_at (one text) position gap text (sure_end has text) false room start
+      piece_at (one text) none_at gap text (sure_end has text) false room start
 
   -- What is read of pieces, each after what was left of those before it: `rest`. Positions count
   -- from where that begins.

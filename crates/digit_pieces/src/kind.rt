@@ -36,6 +36,9 @@ pub trait Kind: Copy {
 
     ghost error_later: { ℕ → Self.Error → Self.Error };
 
+    // Whether an error says that no number begins at a position.
+    ghost none_at: { ℕ → Self.Error → Bool };
+
     /// The number that begins at `start`, and the position after it.
     fn read_number(self, text: &[u8], start: usize) -> Result<(Self::Number, usize), Self::Error>
         requires valid { valid self }
@@ -58,6 +61,11 @@ pub trait Kind: Copy {
         requires { by + error_at error < 2 ^ 64 }
         ensures { result ≡ error_later by error };
 
+    /// Whether an error says that no number begins at a position: a list whose gap may trail is
+    /// over there. Of a number that is refused, such as one too large, it is `false`.
+    fn is_none_at(error: Self::Error, place: usize) -> bool
+        ensures { result ≡ none_at place error };
+
     // What follows a byte that no number has makes no difference.
     ghost follows: { (k : Self) (one other : List ℕ) (at start : ℕ) → valid k
         → AreSameBefore (has_byte k) one other at → start ≤ at
@@ -77,4 +85,7 @@ pub trait Kind: Copy {
 
     ghost later_more: { (by more : ℕ) (e : Self.Error) → error_later by (error_later more e)
         ≡ error_later (by + more) e };
+
+    ghost none_later: { (by place : ℕ) (e : Self.Error)
+        → none_at (by + place) (error_later by e) ≡ none_at place e };
 }

@@ -18,8 +18,8 @@ pub fn pieces_give_the_list<K: Kind>(kind: K, gap: Gap)
     requires { K.valid kind }
     ensures { (room : ℕ) (rest : List ℕ) (pieces : List (List ℕ)) (last : List ℕ) →
         IsApart (K.has_byte kind) gap →
-        read_pieces (K.number_at kind) K.error_at K.error_later (K.has_byte kind) gap room rest
+        read_pieces (K.number_at kind) K.none_at K.error_later (K.has_byte kind) gap room rest
         pieces last
-        ≡ list_of (K.number_at kind) K.error_at K.error_later (K.has_byte kind) gap
+        ≡ list_of (K.number_at kind) K.none_at K.error_later (K.has_byte kind) gap
         (rest ++ (concat pieces ++ last)) room 0 }
 {}

@@ -4,15 +4,15 @@ ghost use Rattle.std.specs.Prelude.{◌≤◌, length, IsTrue};
 ghost use Rattle.lexical_format.specs.Word.{is_supported};
 ghost use Rattle.lexical_digits.specs.State.{rule_of};
 ghost use Rattle.lexical_digits.specs.declared.skip.component.Component.TheVariants.{Integer};
-ghost use Rattle.digit_literals.specs.Errors.{literal_position};
+ghost use Rattle.digit_literals.specs.Errors.{literal_none_at};
 ghost use Rattle.digit_literals.specs.Numbers.{number_at};
-ghost use Rattle.digit_floats.specs.Errors.{position as float_position};
+ghost use Rattle.digit_floats.specs.Errors.{none_at as float_none_at};
 ghost use Rattle.digit_floats.specs.Float.{IsDecimal, plain_marks, read_at};
-ghost use Rattle.digit_floats.specs.Scaled.{position as scaled_position, read_scaled_at};
+ghost use Rattle.digit_floats.specs.Scaled.{none_at as scaled_none_at, read_scaled_at};
 ghost use Rattle.digit_numbers.specs.Follows.{is_number_byte};
 ghost use Rattle.digit_numbers.specs.Forms.{IsForm};
 ghost use Rattle.digit_numbers.specs.Numbers.{number_of_at};
-ghost use Rattle.digit_numbers.specs.Values.{position, with_value};
+ghost use Rattle.digit_numbers.specs.Values.{none_at, with_value};
 ghost use Rattle.digit_pieces.specs.Cuts.{is_integer_byte, is_float_byte, is_scaled_byte, sure_end};
 ghost use Rattle.digit_pieces.specs.Pieces.{piece_at, FillsPiece, IfAt};
 
@@ -42,7 +42,7 @@ pub fn read_list_piece<T: Integer>(
     ensures is { let one = number_at T.MIN_MAGNITUDE T.MAX (rule_of word Integer) text.now in
         let sure = sure_end (is_integer_byte T.MIN_MAGNITUDE word) text.now in
         let room = length out.old in
-        let read = piece_at one literal_position gap text.now sure is_last room start in
+        let read = piece_at one literal_none_at gap text.now sure is_last room start in
         FillsPiece T.number read result out.old out.new }
     ensures count { result.count ≤ length out.old }
     ensures at { IfAt result.end (λ at. (start ≤ at) × (at ≤ length text.now)) }
@@ -72,7 +72,7 @@ pub fn read_float_list_piece<F: Float>(
     ensures is { let one = read_at word text.now plain_marks F.format in
         let sure = sure_end (is_float_byte word plain_marks) text.now in
         let room = length out.old in
-        let read = piece_at one float_position gap text.now sure is_last room start in
+        let read = piece_at one float_none_at gap text.now sure is_last room start in
         FillsPiece F.value read result out.old out.new }
     ensures count { result.count ≤ length out.old }
     ensures at { IfAt result.end (λ at. (start ≤ at) × (at ≤ length text.now)) }
@@ -95,7 +95,7 @@ pub fn read_list_piece_of<F: Float>(
     requires within { start ≤ length text.now }
     ensures is { let sure = sure_end (is_number_byte form) text.now in
         let room = length out.old in
-        let read = piece_at (λ at. number_of_at form text.now at F.format) position gap text.now
+        let read = piece_at (λ at. number_of_at form text.now at F.format) none_at gap text.now
         sure is_last room start in
         FillsPiece (with_value F.value) read result out.old out.new }
     ensures count { result.count ≤ length out.old }
@@ -129,7 +129,7 @@ pub fn read_scaled_list_piece<T: Integer>(
         T.MIN_MAGNITUDE T.MAX in
         let sure = sure_end (is_scaled_byte kind.word kind.point) text.now in
         let room = length out.old in
-        let read = piece_at one scaled_position gap text.now sure is_last room start in
+        let read = piece_at one scaled_none_at gap text.now sure is_last room start in
         FillsPiece T.number read result out.old out.new }
     ensures count { result.count ≤ length out.old }
     ensures at { IfAt result.end (λ at. (start ≤ at) × (at ≤ length text.now)) }

@@ -87,7 +87,7 @@ pub fn read_piece<K: Kind>(
     requires valid { K.valid kind }
     requires within { start ≤ length text.now }
     ensures is { let sure = sure_end (K.has_byte kind) text.now in
-        let read = piece_at (K.number_at kind text.now) K.error_at gap text.now sure is_last
+        let read = piece_at (K.number_at kind text.now) K.none_at gap text.now sure is_last
         (length out.old) start in
         FillsPiece K.meaning read result out.old out.new }
     ensures count { result.count ≤ length out.old }
@@ -104,7 +104,7 @@ pub fn read_piece<K: Kind>(
         let (number, end) = match kind.read_number(text, place) {
             Ok(read) => read,
             Err(error) => {
-                let end = of_list(gap.no_number(place, K::error_at(error), error));
+                let end = of_list(gap.no_number(place, K::is_none_at(error, place), error));
                 return PieceRead { count, end };
             }
         };

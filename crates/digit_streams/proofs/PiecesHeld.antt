@@ -21,24 +21,24 @@ abbrev as_piece : {A E : Type 0} → Numbers A E → PieceNumbers A E
 as_piece (numbers, end) = (numbers, of_list end)
 
 -- a piece that is the last gives its list
-module _ {A E : Type 0} (one : ℕ → Result (A × ℕ) E) (error_at : E → ℕ) (gap : Gap)
+module _ {A E : Type 0} (one : ℕ → Result (A × ℕ) E) (none_at : ℕ → E → Bool) (gap : Gap)
     (text : List ℕ) (sure : ℕ) where
   abbrev piece : ℕ → ℕ → PieceNumbers A E
-  piece room start = piece_at one error_at gap text sure true room start
+  piece room start = piece_at one none_at gap text sure true room start
 
   abbrev list : ℕ → ℕ → Numbers A E
-  list room start = list_at one error_at gap text room start
+  list room start = list_at one none_at gap text room start
 
   last_next : (room : ℕ) (x : A) → ((start : ℕ) → piece room start ≡ as_piece (list room start))
-      → (next : Result ℕ ℕ) → after_number one error_at gap text sure true (piece room) x next
-      ≡ as_piece (words.after_number one error_at gap text (list room) x next)
+      → (next : Result ℕ ℕ) → after_number one none_at gap text sure true (piece room) x next
+      ≡ as_piece (words.after_number one none_at gap text (list room) x next)
   last_next room x same (Ok next) = ap (and_others x) (same next)
   last_next room x same (Err over) = refl
 
   last_read : (room place : ℕ) → ((start : ℕ) → piece room start ≡ as_piece (list room start))
       → (read : Result (A × ℕ) E)
-      → from_number one error_at gap text sure true (piece room) place read
-      ≡ as_piece (words.from_number one error_at gap text (list room) place read)
+      → from_number one none_at gap text sure true (piece room) place read
+      ≡ as_piece (words.from_number one none_at gap text (list room) place read)
   last_read room place same (Ok (x, end)) = last_next room x same (next_after gap text end)
   last_read room place same (Err error) = refl
 
@@ -64,11 +64,11 @@ module _ {A E : Type 0} (one : ℕ → Result (A × ℕ) E) (error_at : E → �
   last_more room start numbers by is =
       more_of_list room start numbers by (list room start) (sym (last_piece room start) ∙ is)
 
-module _ {A E : Type 0} (one : List ℕ → ℕ → Result (A × ℕ) E) (error_at : E → ℕ)
+module _ {A E : Type 0} (one : List ℕ → ℕ → Result (A × ℕ) E) (none_at : ℕ → E → Bool)
     (later : ℕ → E → E) (gap : Gap)
     (later_more : (by more : ℕ) (e : E) → later by (later more e) ≡ later (by + more) e) where
   abbrev of : ℕ → List ℕ → ℕ → StreamNumbers A E
-  of position text room = stream_list one error_at later gap position text room
+  of position text room = stream_list one none_at later gap position text room
 
   -- an end that is later twice
   pub end_twice : (position at : ℕ) (end : ListEnd E) → end_in_stream later position
@@ -82,14 +82,14 @@ module _ {A E : Type 0} (one : List ℕ → ℕ → Result (A × ℕ) E) (error_
   abbrev rest : List ℕ → List ℕ → ℕ → ℕ → Numbers A E
   rest text more left at =
       list_later later at
-      (list_at (one (drop at text ++ more)) error_at gap (drop at text ++ more) left 0)
+      (list_at (one (drop at text ++ more)) none_at gap (drop at text ++ more) left 0)
 
   cut_held : (position room : ℕ) (text more : List ℕ) (read : PieceNumbers A E)
       (whole : Numbers A E) → whole ≡ and_more room read (rest text more)
       → ReadsOn (in_stream later position whole) read.0 (held_of later position read.1)
       (of (position + used read.1) (drop (used read.1) text ++ more) (room - length read.0))
   cut_held position room text more (numbers, pieces.More at) whole is =
-      let left : Numbers A E = list_at (one (drop at text ++ more)) error_at gap
+      let left : Numbers A E = list_at (one (drop at text ++ more)) none_at gap
       (drop at text ++ more) (room - length numbers) 0 in
       ap (in_stream later position) is
       ∙ ap (λ end. (numbers ++ left.0, end)) (end_twice position at left.1)
@@ -119,10 +119,10 @@ module _ {A E : Type 0} (one : List ℕ → ℕ → Result (A × ℕ) E) (error_
   last_held position (numbers, lists.Over at) others = refl
   last_held position (numbers, lists.Fault error) others = refl
 
-  module _ (has : ℕ → Bool) (are : AreNumbers one error_at later has) (apart : IsApart has gap)
+  module _ (has : ℕ → Bool) (are : AreNumbers one none_at later has) (apart : IsApart has gap)
       (position room : ℕ) (text more : List ℕ) where
     abbrev read_of : Bool → PieceNumbers A E
-    read_of is_last = piece_at (one text) error_at gap text (sure_end has text) is_last room 0
+    read_of is_last = piece_at (one text) none_at gap text (sure_end has text) is_last room 0
 
     pub held_list : (is_last : Bool) → (is_last ≡ true → more ≡ [])
         → ReadsOn (of position (text ++ more) room) (read_of is_last).0
@@ -131,20 +131,20 @@ module _ {A E : Type 0} (one : List ℕ → ℕ → Result (A × ℕ) E) (error_
         (room - length (read_of is_last).0))
     held_list false last =
         cut_held position room text more (read_of false)
-        (list_at (one (text ++ more)) error_at gap (text ++ more) room 0)
-        (cut one error_at later has gap are apart text more room)
+        (list_at (one (text ++ more)) none_at gap (text ++ more) room 0)
+        (cut one none_at later has gap are apart text more room)
     held_list true last =
         let whole : text ++ more ≡ text = ap (λ m. text ++ m) (last refl) ∙ append-nil text in
-        rw (whole, last_piece (one text) error_at gap text (sure_end has text) room 0)
-        (last_held position (list_at (one text) error_at gap text room 0) _)
+        rw (whole, last_piece (one text) none_at gap text (sure_end has text) room 0)
+        (last_held position (list_at (one text) none_at gap text room 0) _)
 
     pub held_begins : (is_last : Bool) → (is_last ≡ true → more ≡ [])
         → BeginsWith (of position (text ++ more) room).0 (read_of is_last).0
     held_begins false last =
         cut_begins room text more (read_of false)
-        (list_at (one (text ++ more)) error_at gap (text ++ more) room 0)
-        (cut one error_at later has gap are apart text more room)
+        (list_at (one (text ++ more)) none_at gap (text ++ more) room 0)
+        (cut one none_at later has gap are apart text more room)
     held_begins true last =
         let whole : text ++ more ≡ text = ap (λ m. text ++ m) (last refl) ∙ append-nil text in
-        rw (whole, last_piece (one text) error_at gap text (sure_end has text) room 0)
+        rw (whole, last_piece (one text) none_at gap text (sure_end has text) room 0)
         ([], sym (append-nil _))

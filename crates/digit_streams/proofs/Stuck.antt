@@ -1,6 +1,6 @@
 -- Where the whole buffer is in use and more bytes are needed, it has no number that is sure.
 use Rattle.std.proofs.Common.{◌≡◌, ℕ, zero, suc, ◌+◌, ◌-◌, ◌<◌, ◌≤◌, Bool, true, false, List, [], length, take, drop, refl, sym, ap, subst, ◌∙◌, arith, length-drop}
-use Rattle.std.specs.Prelude.{Result, Ok, Err, ⊤, IfOk, ◌&&◌, ◌==◌, nat_lt, if◌then◌else◌}
+use Rattle.std.specs.Prelude.{Result, Ok, Err, ⊤, IfOk, ◌&&◌, nat_lt, if◌then◌else◌}
 use Rattle.std.proofs.lemmas.Bool.Decides.{nat_tests}
 use Rattle.std.proofs.lemmas.List.{length-take}
 use Rattle.digit_literals.specs.declared.list.Gap.{Gap}
@@ -43,10 +43,10 @@ next_onward gap text end =
     by false true false is = tt
     by false false more is = tt
 
-module _ {A E : Type 0} (one : ℕ → Result (A × ℕ) E) (error_at : E → ℕ) (gap : Gap)
+module _ {A E : Type 0} (one : ℕ → Result (A × ℕ) E) (none_at : ℕ → E → Bool) (gap : Gap)
     (text : List ℕ) (sure : ℕ) (is_last : Bool) where
   abbrev of : ℕ → ℕ → PieceNumbers A E
-  of room start = piece_at one error_at gap text sure is_last room start
+  of room start = piece_at one none_at gap text sure is_last room start
 
   no_more : (place : ℕ) (error : E) (is_over : Bool)
       → IsOnward (of_list (if is_over then lists.Over place else lists.Fault error))
@@ -67,12 +67,12 @@ module _ {A E : Type 0} (one : ℕ → Result (A × ℕ) E) (error_at : E → �
 
       after : ((next : ℕ) → 0 < next → IsOnward (of room next).1) → (x : A)
           → (next : Result ℕ ℕ) → IfOk next (λ n. 0 < n)
-          → IsOnward (after_number one error_at gap text sure is_last (of room) x next).1
+          → IsOnward (after_number one none_at gap text sure is_last (of room) x next).1
       after same x (Ok next) m = same next m
       after same x (Err over) m = tt
 
       by_parted : ((next : ℕ) → 0 < next → IsOnward (of room next).1) → (x : A) (end : ℕ)
-          → (parted : Bool) → IsOnward (if parted then after_number one error_at gap text sure
+          → (parted : Bool) → IsOnward (if parted then after_number one none_at gap text sure
           is_last (of room) x (next_after gap text end) else ([], More place)).1
       by_parted same x end true =
           after same x (next_after gap text end) (next_onward gap text end)
@@ -80,12 +80,12 @@ module _ {A E : Type 0} (one : ℕ → Result (A × ℕ) E) (error_at : E → �
 
       by_read : ((next : ℕ) → 0 < next → IsOnward (of room next).1)
           → (read : Result (A × ℕ) E)
-          → IsOnward (from_number one error_at gap text sure is_last (of room) place read).1
+          → IsOnward (from_number one none_at gap text sure is_last (of room) place read).1
       by_read same (Ok (x, end)) = by_parted same x end (is_parted gap text is_last end)
-      by_read same (Err error) = no_more place error (gap.may_trail && error_at error == place)
+      by_read same (Err error) = no_more place error (gap.may_trail && none_at place error)
 
       by_sure : ((next : ℕ) → 0 < next → IsOnward (of room next).1) → (is : Bool)
-          → IsOnward (if is then from_number one error_at gap text sure is_last (of room) place
+          → IsOnward (if is then from_number one none_at gap text sure is_last (of room) place
           (one place) else ([], More place)).1
       by_sure same true = by_read same (one place)
       by_sure same false = here
@@ -101,16 +101,16 @@ module _ {A E : Type 0} (one : ℕ → Result (A × ℕ) E) (error_at : E → �
       place = past_blanks gap text 0
 
       after : (x : A) (next : Result ℕ ℕ) → IfOk next (λ n. 0 < n)
-          → after_number one error_at gap text sure is_last (of room) x next ≡ (numbers, More 0)
-          → after_number one error_at gap text sure is_last (of 0) x next ≡ ([], More 0)
+          → after_number one none_at gap text sure is_last (of room) x next ≡ (numbers, More 0)
+          → after_number one none_at gap text sure is_last (of 0) x next ≡ ([], More 0)
       after x (Ok next) m same =
           let no : 0 < 0 = subst IsOnward (ap (λ l. l.1) same) (onward room next m) in
           absurd (omega (arith, no))
       after x (Err over) m same = let e : Over over ≡ More 0 = ap (λ l. l.1) same in absurd cc
 
-      by_parted : (x : A) (end : ℕ) (parted : Bool) → (if parted then after_number one error_at
+      by_parted : (x : A) (end : ℕ) (parted : Bool) → (if parted then after_number one none_at
           gap text sure is_last (of room) x (next_after gap text end) else ([], More place))
-          ≡ (numbers, More 0) → (if parted then after_number one error_at gap text sure is_last
+          ≡ (numbers, More 0) → (if parted then after_number one none_at gap text sure is_last
           (of 0) x (next_after gap text end) else ([], More place)) ≡ ([], More 0)
       by_parted x end true same =
           after x (next_after gap text end) (next_onward gap text end) same
@@ -123,36 +123,36 @@ module _ {A E : Type 0} (one : ℕ → Result (A × ℕ) E) (error_at : E → �
       by_over error false same = let e : Fault error ≡ More 0 = ap (λ l. l.1) same in cc
 
       by_read : (read : Result (A × ℕ) E)
-          → from_number one error_at gap text sure is_last (of room) place read
+          → from_number one none_at gap text sure is_last (of room) place read
           ≡ (numbers, More 0)
-          → from_number one error_at gap text sure is_last (of 0) place read ≡ ([], More 0)
+          → from_number one none_at gap text sure is_last (of 0) place read ≡ ([], More 0)
       by_read (Ok (x, end)) same = by_parted x end (is_parted gap text is_last end) same
       by_read (Err error) same =
-          absurd (by_over error (gap.may_trail && error_at error == place) same)
+          absurd (by_over error (gap.may_trail && none_at place error) same)
 
-      by_sure : (is_sure : Bool) → (if is_sure then from_number one error_at gap text sure is_last
+      by_sure : (is_sure : Bool) → (if is_sure then from_number one none_at gap text sure is_last
           (of room) place (one place) else ([], More place)) ≡ (numbers, More 0)
-          → (if is_sure then from_number one error_at gap text sure is_last
+          → (if is_sure then from_number one none_at gap text sure is_last
           (of 0) place (one place) else ([], More place)) ≡ ([], More 0)
       by_sure true same = by_read (one place) same
       by_sure false same = ap (λ l. ([], l.1)) same
 
-module _ {A E : Type 0} (one : List ℕ → ℕ → Result (A × ℕ) E) (error_at : E → ℕ)
+module _ {A E : Type 0} (one : List ℕ → ℕ → Result (A × ℕ) E) (none_at : ℕ → E → Bool)
     (has : ℕ → Bool) (gap : Gap) where
   -- what a piece asks for, if the bytes that are left of it fill the buffer
   pub stuck : (old new : List ℕ) (is_last : Bool) (room used capacity : ℕ) (numbers : List A)
-      → piece_at (one old) error_at gap old (sure_end has old) is_last room 0
+      → piece_at (one old) none_at gap old (sure_end has old) is_last room 0
       ≡ (numbers, More used) → used ≤ length old → new ≡ drop used old → length old ≤ capacity
-      → capacity ≤ length new → NeedsMore one error_at has gap new
+      → capacity ≤ length new → NeedsMore one none_at has gap new
   stuck old new true room used capacity numbers is within rest fits full =
-      absurd (last_more (one old) error_at gap old (sure_end has old) room 0 numbers used is)
+      absurd (last_more (one old) none_at gap old (sure_end has old) room 0 numbers used is)
   stuck old new false room used capacity numbers is within rest fits full =
       let lengths : length new ≡ length old - used = ap length rest ∙ length-drop used old in
       let none : used ≡ 0 = omega (arith, lengths, within, fits, full) in
       let same : new ≡ old = rest ∙ ap (λ n. drop n old) none in
-      let again = at_once (one old) error_at gap old (sure_end has old) false room numbers
+      let again = at_once (one old) none_at gap old (sure_end has old) false room numbers
       (is ∙ ap (λ n. (numbers, More n)) none) in
-      subst (NeedsMore one error_at has gap) (sym same) again
+      subst (NeedsMore one none_at has gap) (sym same) again
 
   -- the same where the buffer is full, of what a window holds
   pub no_room : (error : StreamError E) (filled held : Window) (old : List ℕ) (is_last : Bool)
@@ -160,9 +160,9 @@ module _ {A E : Type 0} (one : List ℕ → ℕ → Result (A × ℕ) E) (error_
       → IfNoRoom (streams.Fault error) (filled ≡ held)
       → IsPlace (streams.Fault error) position capacity (length (unread filled))
       → length old ≤ capacity → Uses from to old (unread held)
-      → piece_at (one old) error_at gap old (sure_end has old) is_last room 0
+      → piece_at (one old) none_at gap old (sure_end has old) is_last room 0
       ≡ (numbers, More (to - from))
-      → IfNoRoom (streams.Fault error) (NeedsMore one error_at has gap (unread filled))
+      → IfNoRoom (streams.Fault error) (NeedsMore one none_at has gap (unread filled))
   no_room (errors.NoRoom at) filled held old is_last room from to position capacity numbers same
       place fits uses is =
       stuck old (unread filled) is_last room (to - from) capacity numbers is uses.within

@@ -33,10 +33,10 @@ in_stream later position (numbers, end) = (numbers, end_in_stream later position
 
 -- The numbers of a stream whose bytes from a position on are `text`, as many as there is room for.
 -- `one` is the number at a position of a text, and where it ends; or an error.
-abbrev pub stream_list : {A E : Type 0} → (List ℕ → ℕ → Result (A × ℕ) E) → (E → ℕ)
+abbrev pub stream_list : {A E : Type 0} → (List ℕ → ℕ → Result (A × ℕ) E) → (ℕ → E → Bool)
     → (ℕ → E → E) → Gap → ℕ → List ℕ → ℕ → StreamNumbers A E
-stream_list one error_at later gap position text room =
-    in_stream later position (list_at (one text) error_at gap text room 0)
+stream_list one none_at later gap position text room =
+    in_stream later position (list_at (one text) none_at gap text room 0)
 
 -- the end that is answered again
 abbrev pub end_again : {E : Type 0} → Ended E → StreamEnd E
@@ -70,11 +70,11 @@ pub record Stream (K E : Type 0) : Type 0 where
   pub ended : Option (Ended E)
 
 -- the numbers that a reader gives, if the bytes that were not used yet are these
-abbrev pub numbers_of : {K A E : Type 0} → (K → List ℕ → ℕ → Result (A × ℕ) E) → (E → ℕ)
+abbrev pub numbers_of : {K A E : Type 0} → (K → List ℕ → ℕ → Result (A × ℕ) E) → (ℕ → E → Bool)
     → (ℕ → E → E) → Stream K E → List ℕ → ℕ → StreamNumbers A E
-numbers_of number_at error_at later s bytes room =
+numbers_of number_at none_at later s bytes room =
     after_end s.ended
-    (stream_list (number_at s.kind) error_at later s.gap s.position bytes room)
+    (stream_list (number_at s.kind) none_at later s.gap s.position bytes room)
 
 -- the first numbers of a list are these
 abbrev pub BeginsWith : {A : Type 0} → List A → List A → Type 0
@@ -134,16 +134,16 @@ IsPlace (Fault TooLong) position capacity held = ⊤
 IsPlace (Fault (Trailing at)) position capacity held = ⊥
 
 -- a piece has these numbers, and the bytes after those that are used are needed again
-abbrev pub AsksFor : {A E : Type 0} → (List ℕ → ℕ → Result (A × ℕ) E) → (E → ℕ) → (ℕ → Bool)
-    → Gap → List ℕ → Bool → ℕ → List A → ℕ → Type 0
-AsksFor one error_at has gap text is_last room numbers used =
-    piece_at (one text) error_at gap text (sure_end has text) is_last room 0
+abbrev pub AsksFor : {A E : Type 0} → (List ℕ → ℕ → Result (A × ℕ) E) → (ℕ → E → Bool)
+    → (ℕ → Bool) → Gap → List ℕ → Bool → ℕ → List A → ℕ → Type 0
+AsksFor one none_at has gap text is_last room numbers used =
+    piece_at (one text) none_at gap text (sure_end has text) is_last room 0
     ≡ (numbers, pieces.More used)
 
 -- the next number of a text that goes on is not sure: it touches the end, or the blanks after it do
-abbrev pub NeedsMore : {A E : Type 0} → (List ℕ → ℕ → Result (A × ℕ) E) → (E → ℕ) → (ℕ → Bool)
-    → Gap → List ℕ → Type 0
-NeedsMore one error_at has gap text = AsksFor one error_at has gap text false 1 [] 0
+abbrev pub NeedsMore : {A E : Type 0} → (List ℕ → ℕ → Result (A × ℕ) E) → (ℕ → E → Bool)
+    → (ℕ → Bool) → Gap → List ℕ → Type 0
+NeedsMore one none_at has gap text = AsksFor one none_at has gap text false 1 [] 0
 
 -- a fact, if there is no room
 abbrev pub IfNoRoom : {E : Type 0} → StreamEnd E → Type 0 → Type 0

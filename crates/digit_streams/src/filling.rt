@@ -60,13 +60,13 @@ pub fn read_stream<K: Kind, R: Read>(
         (bytes_left window.old (R.remaining reader.old))
         (bytes_left window.new (R.remaining reader.new)) }
     ensures no_room { IfNoRoom result.end
-        (NeedsMore (K.number_at kind) K.error_at (K.has_byte kind) gap (unread window.new)) }
+        (NeedsMore (K.number_at kind) K.none_at (K.has_byte kind) gap (unread window.new)) }
     ensures place { IsPlace result.end window.new.position (length window.new.buffer.now)
         (length (unread window.new)) }
     ensures capacity { length window.new.buffer.now ≡ length window.old.buffer.now }
     ensures list { IfSome (bytes_left window.old (R.remaining reader.old)) (λ text.
         IsApart (K.has_byte kind) gap →
-        Gives (stream_list (K.number_at kind) K.error_at K.error_later gap window.old.position text
+        Gives (stream_list (K.number_at kind) K.none_at K.error_later gap window.old.position text
         (length out.old)) (map K.meaning (take result.count out.new)) result.end) }
 {
     let mut count = 0;
@@ -109,14 +109,14 @@ pub fn read_next<K: Kind, R: Read>(
         (bytes_left window.old (R.remaining reader.old))
         (bytes_left window.new (R.remaining reader.new)) }
     ensures no_room { IfNoRoom result.1
-        (NeedsMore (K.number_at kind) K.error_at (K.has_byte kind) gap (unread window.new)) }
+        (NeedsMore (K.number_at kind) K.none_at (K.has_byte kind) gap (unread window.new)) }
     ensures place { IsPlace result.1 window.new.position (length window.new.buffer.now)
         (length (unread window.new)) }
     ensures capacity { length window.new.buffer.now ≡ length window.old.buffer.now }
     ensures full { (at : ℕ) → result.1 ≡ StreamEnd.Full at → IsSome result.0 }
     ensures list { IfSome (bytes_left window.old (R.remaining reader.old)) (λ text.
         IsApart (K.has_byte kind) gap →
-        Gives (stream_list (K.number_at kind) K.error_at K.error_later gap window.old.position text
+        Gives (stream_list (K.number_at kind) K.none_at K.error_later gap window.old.position text
         1) (list_of_option K.meaning result.0) result.1) }
 {
     for _ in 0..u64::MAX {

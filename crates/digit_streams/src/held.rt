@@ -73,11 +73,11 @@ fn read_held<K: Kind>(
     ensures place { IsHeldPlace result.1 window.new.position }
     ensures capacity { length window.new.buffer.now ≡ length window.old.buffer.now }
     ensures asks { result.1 ≡ Held.More →
-        AsksFor (K.number_at kind) K.error_at (K.has_byte kind) gap (unread window.old) is_last
+        AsksFor (K.number_at kind) K.none_at (K.has_byte kind) gap (unread window.old) is_last
         (length out.old) (map K.meaning (take result.0 out.new))
         (window.new.position - window.old.position) }
     ensures list { (more : List ℕ) → IsApart (K.has_byte kind) gap → (is_last ≡ true → more ≡ []) →
-        let list = stream_list (K.number_at kind) K.error_at K.error_later gap in
+        let list = stream_list (K.number_at kind) K.none_at K.error_later gap in
         ReadsOn (list window.old.position (unread window.old ++ more) (length out.old))
         (map K.meaning (take result.0 out.new)) result.1
         (list window.new.position (unread window.new ++ more) (length out.old - result.0)) }
@@ -111,11 +111,11 @@ pub fn read_held_after<K: Kind>(
     ensures place { IsHeldPlace result.1 window.new.position }
     ensures capacity { length window.new.buffer.now ≡ length window.old.buffer.now }
     ensures asks { result.1 ≡ Held.More →
-        AsksFor (K.number_at kind) K.error_at (K.has_byte kind) gap (unread window.old) is_last
+        AsksFor (K.number_at kind) K.none_at (K.has_byte kind) gap (unread window.old) is_last
         (length out.old - count) (map K.meaning (take result.0 (drop count out.new)))
         (window.new.position - window.old.position) }
     ensures list { (more : List ℕ) → IsApart (K.has_byte kind) gap → (is_last ≡ true → more ≡ []) →
-        let list = stream_list (K.number_at kind) K.error_at K.error_later gap in
+        let list = stream_list (K.number_at kind) K.none_at K.error_later gap in
         let room = length out.old - count in
         ReadsOn (list window.old.position (unread window.old ++ more) room)
         (map K.meaning (take result.0 (drop count out.new))) result.1
@@ -140,11 +140,11 @@ pub fn read_held_one<K: Kind>(
     ensures place { IsHeldPlace result.1 window.new.position }
     ensures capacity { length window.new.buffer.now ≡ length window.old.buffer.now }
     ensures asks { result.1 ≡ Held.More →
-        AsksFor (K.number_at kind) K.error_at (K.has_byte kind) gap (unread window.old) is_last
+        AsksFor (K.number_at kind) K.none_at (K.has_byte kind) gap (unread window.old) is_last
         1 (list_of_option K.meaning result.0)
         (window.new.position - window.old.position) }
     ensures list { (more : List ℕ) → IsApart (K.has_byte kind) gap → (is_last ≡ true → more ≡ []) →
-        let list = stream_list (K.number_at kind) K.error_at K.error_later gap in
+        let list = stream_list (K.number_at kind) K.none_at K.error_later gap in
         let numbers = list_of_option K.meaning result.0 in
         ReadsOn (list window.old.position (unread window.old ++ more) 1) numbers result.1
         (list window.new.position (unread window.new ++ more) (1 - length numbers)) }

@@ -12,7 +12,7 @@ use digit_pieces::Kind;
 pub fn calls_go_on<K: Kind>(kind: K, gap: Gap)
     requires { K.valid kind }
     ensures { (n m position : ℕ) (text : List ℕ) → IsApart (K.has_byte kind) gap →
-        let list = stream_list (K.number_at kind) K.error_at K.error_later gap in
+        let list = stream_list (K.number_at kind) K.none_at K.error_later gap in
         list position text (n + m) ≡ then_from (list position text n)
         (λ at. list at (drop (at - position) text) m) }
 {}

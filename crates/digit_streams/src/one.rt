@@ -76,7 +76,7 @@ pub fn read_one<K: Kind>(
     is_last: bool,
 ) -> OneRead<K::Number, K::Error>
     requires { K.valid kind }
-    ensures is { piece_at (K.number_at kind text.now) K.error_at gap text.now
+    ensures is { piece_at (K.number_at kind text.now) K.none_at gap text.now
         (sure_end (K.has_byte kind) text.now) is_last 1 0
         ≡ (list_of_option K.meaning result.number, result.end) }
     ensures more { (at : ℕ) → result.end ≡ PieceEnd.More at → result.number ≡ None }
@@ -101,7 +101,7 @@ pub fn read_one<K: Kind>(
         }
         Err(error) => {
             let end = if is_sure(kind, text, is_last, place, place) {
-                of_list(gap.no_number(place, K::error_at(error), error))
+                of_list(gap.no_number(place, K::is_none_at(error, place), error))
             } else {
                 PieceEnd::More(place)
             };

@@ -98,7 +98,7 @@ impl<'b, K: Kind, R: Read> NumberReader<'b, K, R> {
     pub fn read_into(&mut self, out: &mut [K::Number]) -> StreamRead<K::Error>
         ensures list { IfSome self.old.bytes (λ bytes.
             IsApart (K.has_byte self.old.kind) self.old.gap →
-            let list = numbers_of K.number_at K.error_at K.error_later self.old bytes
+            let list = numbers_of K.number_at K.none_at K.error_later self.old bytes
             (length out.old) in
             Gives list (map K.meaning (take result.count out.new)) result.end) }
         ensures count { result.count ≤ length out.old }
@@ -106,7 +106,7 @@ impl<'b, K: Kind, R: Read> NumberReader<'b, K, R> {
         ensures uses { UsesKnown self.old.position self.new.position self.old.bytes
             self.new.bytes }
         ensures no_room { IfNone self.old.ended (IfNoRoom result.end
-            (NeedsMore (K.number_at self.old.kind) K.error_at (K.has_byte self.old.kind)
+            (NeedsMore (K.number_at self.old.kind) K.none_at (K.has_byte self.old.kind)
             self.old.gap self.new.held)) }
         ensures place { IfNone self.old.ended (IsPlace result.end self.new.position
             self.new.capacity (length self.new.held)) }
@@ -142,12 +142,12 @@ impl<'b, K: Kind, R: Read> NumberReader<'b, K, R> {
     pub fn next_number(&mut self) -> Option<Result<K::Number, StreamError<K::Error>>>
         ensures next { IfSome self.old.bytes (λ bytes.
             IsApart (K.has_byte self.old.kind) self.old.gap →
-            IsNext K.meaning (numbers_of K.number_at K.error_at K.error_later self.old bytes 1)
+            IsNext K.meaning (numbers_of K.number_at K.none_at K.error_later self.old bytes 1)
             result) }
         ensures uses { UsesKnown self.old.position self.new.position self.old.bytes
             self.new.bytes }
         ensures no_room { IfNone self.old.ended (IfNoRoomOfNext result
-            (NeedsMore (K.number_at self.old.kind) K.error_at (K.has_byte self.old.kind)
+            (NeedsMore (K.number_at self.old.kind) K.none_at (K.has_byte self.old.kind)
             self.old.gap self.new.held)) }
         ensures place { IfNone self.old.ended (IsPlaceOfNext result self.new.position
             self.new.capacity (length self.new.held)) }
@@ -207,12 +207,12 @@ impl<'b, K: Kind, R: Read> NumberReader<'b, K, R> {
     fn read_one(&mut self) -> (Option<K::Number>, StreamEnd<K::Error>)
         ensures list { IfSome self.old.bytes (λ bytes.
             IsApart (K.has_byte self.old.kind) self.old.gap →
-            let list = numbers_of K.number_at K.error_at K.error_later self.old bytes 1 in
+            let list = numbers_of K.number_at K.none_at K.error_later self.old bytes 1 in
             Gives list (list_of_option K.meaning result.0) result.1) }
         ensures uses { UsesKnown self.old.position self.new.position self.old.bytes
             self.new.bytes }
         ensures no_room { IfNone self.old.ended (IfNoRoom result.1
-            (NeedsMore (K.number_at self.old.kind) K.error_at (K.has_byte self.old.kind)
+            (NeedsMore (K.number_at self.old.kind) K.none_at (K.has_byte self.old.kind)
             self.old.gap self.new.held)) }
         ensures place { IfNone self.old.ended (IsPlace result.1 self.new.position
             self.new.capacity (length self.new.held)) }

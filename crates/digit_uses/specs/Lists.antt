@@ -5,7 +5,7 @@ use Rattle.digits.specs.Bytes.{BLANKS}
 use Rattle.digits.specs.Forms.{JSON}
 use Rattle.digits.specs.Gaps.{COMMAS}
 use Rattle.digits.specs.ListEnds as ends
-use Rattle.digits.specs.Words.{binary64, ListEnd, Number, NumberError, has_byte, list_at, number_of_at, past_bytes, position}
+use Rattle.digits.specs.Words.{binary64, ListEnd, Number, NumberError, has_byte, list_at, number_of_at, number_none_at, past_bytes, position}
 use Rattle.digit_uses.specs.declared.lists.ArrayError.{ArrayError}
 use Rattle.digit_uses.specs.declared.lists.ArrayError.TheVariants.{Fault, Full}
 
@@ -35,7 +35,7 @@ module _ (text : List ℕ) where
   inner room start =
       if has_byte text start 93 then if_ended [] (closed start) else
       let list =
-      list_at (λ at. number_of_at JSON text at binary64) position COMMAS text room start in
+      list_at (λ at. number_of_at JSON text at binary64) number_none_at COMMAS text room start in
       if_ended list.0 (ended list.1)
 
   -- the numbers of an array that is the text

@@ -1,8 +1,8 @@
 -- A point, as `12:-5`.
-use Rattle.std.specs.Prelude.{ℕ, ℤ, ◌-◌, ◌^◌, List, Result, Ok, Err}
+use Rattle.std.specs.Prelude.{ℕ, ℤ, ◌-◌, ◌^◌, Bool, false, List, Result, Ok, Err}
 use Rattle.std.specs.Result.{result_map_both}
 use Rattle.digits.specs.Constants.{STANDARD}
-use Rattle.digits.specs.Words.{Integer, expect_byte, literal_position, number_at, rule_of}
+use Rattle.digits.specs.Words.{Integer, expect_byte, literal_none_at, literal_position, number_at, rule_of}
 use Rattle.digit_uses.specs.declared.points.Point.{Point}
 use Rattle.digit_uses.specs.declared.points.PointError.{PointError}
 use Rattle.digit_uses.specs.declared.points.PointError.TheVariants.{Coordinate, NoColon}
@@ -33,3 +33,8 @@ module _ (text : List ℕ) where
 abbrev pub column_of : PointError → ℕ
 column_of (Coordinate error) = literal_position error
 column_of (NoColon at) = at
+
+-- whether an error says that no point begins at a position
+abbrev pub no_point_at : ℕ → PointError → Bool
+no_point_at place (Coordinate error) = literal_none_at place error
+no_point_at place (NoColon at) = false

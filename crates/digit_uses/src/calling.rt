@@ -2,7 +2,7 @@
 #![tactic(auto, unfolding(digits::proofs::Literals::lexical_on_literals))]
 
 ghost use Rattle.std.specs.Prelude.{◌≡◌, ℕ, ◌+◌, ◌-◌, ◌^◌, ◌<◌, ◌≤◌, length, pos, Ok, Err, IfOk, IfErr, IfSome, IsTrue, MatchResult, true};
-ghost use Rattle.digits.specs.Words.{Fills, Integer, binary64, digits_between, has_byte, integer_at, is_supported, list_at, literal_at, literal_position, number_at, number_of_at, parse_at, plain_marks, rule_of, stop, to_end};
+ghost use Rattle.digits.specs.Words.{Fills, Integer, binary64, digits_between, has_byte, integer_at, is_supported, list_at, literal_at, literal_none_at, number_at, number_of_at, parse_at, plain_marks, rule_of, stop, to_end};
 
 use digits::languages::RUST;
 use digits::words::PYTHON_LITERAL;
@@ -50,7 +50,7 @@ pub fn read_size(text: &[u8]) -> Result<(u32, u32, usize), LiteralError>
 /// there are no more.
 pub fn read_ports(text: &[u8], ports: &mut [u16]) -> ListRead<LiteralError>
     ensures { let port_at = number_at 0 (2 ^ 16 - 1) (rule_of STANDARD Integer) text.now in
-        let list = list_at port_at literal_position COMMAS text.now (length ports.old) 0 in
+        let list = list_at port_at literal_none_at COMMAS text.now (length ports.old) 0 in
         Fills (λ port. pos port) list result ports.old ports.new }
 {
     read_list::<u16>(text, 0, STANDARD, COMMAS, ports)

@@ -5,7 +5,7 @@
 
 ghost use Rattle.std.specs.Prelude.{length};
 ghost use Rattle.digits.specs.Words.{Fills, list_at};
-ghost use Rattle.digit_uses.specs.Points.{column_of, point_at};
+ghost use Rattle.digit_uses.specs.Points.{column_of, no_point_at, point_at};
 
 use digits::{
     Item, LINES, ListRead, LiteralError, STANDARD, expect_byte, read_items, read_number_from,
@@ -32,6 +32,8 @@ impl Item for Point {
 
     ghost error_at = { column_of };
 
+    ghost none_at = { no_point_at };
+
     fn read_item(text: &[u8], start: usize) -> Result<(Point, usize), PointError> {
         let coordinate = read_number_from::<i32>(text, STANDARD, start);
         let (x, end) = coordinate.map_err(PointError::Coordinate)?;
@@ -47,11 +49,18 @@ impl Item for Point {
             PointError::NoColon(at) => at,
         }
     }
+
+    fn is_none_at(error: PointError, place: usize) -> bool {
+        match error {
+            PointError::Coordinate(error) => error.is_none_at(place),
+            PointError::NoColon(_) => false,
+        }
+    }
 }
 
 /// The points of a text, one in each line, in the front of a slice.
 pub fn read_points(text: &[u8], points: &mut [Point]) -> ListRead<PointError>
-    ensures { let list = list_at (point_at text.now) column_of LINES text.now
+    ensures { let list = list_at (point_at text.now) no_point_at LINES text.now
         (length points.old) 0 in
         Fills (λ point. point) list result points.old points.new }
 {

@@ -24,10 +24,10 @@ unfoldable pub use Rattle.digit_literals.specs.Bytes.{name_end, past_bytes}
 pub use Rattle.digit_literals.specs.Exactly.{at_most_at, exactly_at}
 unfoldable pub use Rattle.digit_literals.specs.Exactly.{counted_at}
 unfoldable pub use Rattle.digit_literals.specs.Integers.{integer_at}
-pub use Rattle.digit_literals.specs.Errors.{literal_position, position as parse_position}
+pub use Rattle.digit_literals.specs.Errors.{literal_none_at, literal_position, position as parse_position}
 pub use Rattle.digit_literals.specs.Numbers.{has_byte, number_at, signed, to_end}
 pub use Rattle.digit_languages.specs.declared.literal.Literal.{Literal}
-pub use Rattle.digit_languages.specs.Literals.{literal_at, position as language_position, typed}
+pub use Rattle.digit_languages.specs.Literals.{literal_at, none_at as language_none_at, position as language_position, typed}
 pub use Rattle.digit_languages.specs.Words.{IsLanguage}
 -- lists
 pub use Rattle.digit_literals.specs.declared.list.Gap.{Gap}
@@ -42,9 +42,10 @@ pub use Rattle.digit_floats.specs.declared.error.FloatError.{FloatError}
 pub use Rattle.digit_floats.specs.declared.parts.Marks.{Marks}
 pub use Rattle.digit_floats.specs.declared.scaled.ScaledError.{ScaledError}
 pub use Rattle.digit_floats.specs.Decimals.{read_decimal_at}
-pub use Rattle.digit_floats.specs.Errors.{position as float_position}
+pub use Rattle.digit_floats.specs.Errors.{none_at as float_none_at, position as float_position}
 pub use Rattle.digit_floats.specs.Float.{IsDecimal, parse_at, plain_marks, read_at}
-pub use Rattle.digit_floats.specs.Scaled.{position as scaled_position, read_scaled_at, whole_of}
+pub use Rattle.digit_floats.specs.Scaled.{none_at as scaled_none_at, position as scaled_position}
+pub use Rattle.digit_floats.specs.Scaled.{read_scaled_at, whole_of}
 unfoldable pub use Rattle.digit_floats.specs.Scaled.{scaled_at}
 -- numbers by a form
 pub use Rattle.digit_numbers.specs.declared.form.Form.{Form}
@@ -56,7 +57,7 @@ pub use Rattle.digit_numbers.specs.Forms.{IsForm}
 unfoldable pub use Rattle.digit_numbers.specs.Numbered.{form_of, format_form}
 pub use Rattle.digit_numbers.specs.Decimals.{decimal_of_at}
 pub use Rattle.digit_numbers.specs.Numbers.{number_of_at, to_end as number_to_end}
-pub use Rattle.digit_numbers.specs.Values.{position, with_value}
+pub use Rattle.digit_numbers.specs.Values.{none_at as number_none_at, position, with_value}
 pub use Rattle.digit_numbers.specs.Values.{float_in, integer_in}
 -- texts in pieces, and streams
 pub use Rattle.digit_numbers.specs.Follows.{is_number_byte}
@@ -81,4 +82,4 @@ pub use Rattle.digit_lists.specs.Empty.{float_is_empty, literal_is_empty}
 pub use Rattle.digit_lists.specs.Empty.{number_is_empty, scaled_is_empty}
 pub use Rattle.digit_lists.specs.Groups.{AreGroups, groups_at, wrong_at}
 pub use Rattle.digit_lists.specs.Prices.{exact_at, grouped_at, places_at, price_at}
-pub use Rattle.digit_lists.specs.Prices.{price_is_empty, price_position}
+pub use Rattle.digit_lists.specs.Prices.{price_is_empty, price_none_at, price_position}

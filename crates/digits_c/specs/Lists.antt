@@ -1,11 +1,11 @@
 -- Lists of numbers, as C has them.
-use Rattle.std.specs.Prelude.{◌≡◌, ℕ, ℤ, ◌==◌, ◌-◌, ◌^◌, nat_lt, if◌then◌else◌, false, List, [], length, map, take, drop, Option, None, Some, Result}
+use Rattle.std.specs.Prelude.{◌≡◌, ℕ, ℤ, ◌==◌, ◌-◌, ◌^◌, Bool, nat_lt, if◌then◌else◌, false, List, [], length, map, take, drop, Option, None, Some, Result}
 use Rattle.std.specs.Float.{Float, Format}
 use Rattle.lexical_digits.specs.declared.ops.ByteSet.{ByteSet}
 use Rattle.digits.specs.Bytes.{BLANKS}
 use Rattle.digits.specs.Gaps.{LINES, WHITESPACE}
 use Rattle.digits.specs.ListEnds.{Full, Over, Fault}
-use Rattle.digits.specs.Words.{Gap, ListEnd, list_at, literal_position, float_position, position}
+use Rattle.digits.specs.Words.{Gap, ListEnd, list_at, literal_none_at, float_none_at, number_none_at}
 use Rattle.digits.specs.Words.{Integer, STANDARD, number_at, plain_marks, read_at, rule_of}
 use Rattle.digits.specs.Words.{Form}
 use Rattle.digits_c.specs.declared.numbers.NumberParts.{NumberParts}
@@ -44,22 +44,22 @@ with_outcome fault_of (numbers, end) = (numbers, end_of fault_of end)
 
 -- the numbers of a list at a start, as many as there is room for, and why there are no more
 module _ (text : List ℕ) (start between room : ℕ) where
-  abbrev pub list_by : {A E : Type 0} → (E → Outcome) → (E → ℕ) → (ℕ → Result (A × ℕ) E) →
+  abbrev pub list_by : {A E : Type 0} → (E → Outcome) → (ℕ → E → Bool) → (ℕ → Result (A × ℕ) E) →
       List A × Outcome
-  list_by fault_of position one =
+  list_by fault_of none_at one =
       if nat_lt (length text) start then ([], fault BAD_START start)
-      else with_outcome fault_of (list_at one position (gap_of between) text room start)
+      else with_outcome fault_of (list_at one none_at (gap_of between) text room start)
 
   abbrev pub integers_from : ℕ → ℕ → List ℤ × Outcome
   integers_from least most =
-      list_by literal_fault literal_position
+      list_by literal_fault literal_none_at
       (number_at least most (rule_of STANDARD Integer) text)
 
   abbrev pub floats_from : Format → List Float × Outcome
-  floats_from f = list_by float_fault float_position (read_at STANDARD text plain_marks f)
+  floats_from f = list_by float_fault float_none_at (read_at STANDARD text plain_marks f)
 
   abbrev pub numbers_from : Form → List NumberParts × Outcome
-  numbers_from form = list_by number_fault position (parts_at form text)
+  numbers_from form = list_by number_fault number_none_at (parts_at form text)
 
   -- the same by a form that has a number, or has none
   abbrev pub numbers_by : Option Form → List NumberParts × Outcome

@@ -6,7 +6,7 @@ use Rattle.digit_pieces.specs.Cuts.{is_float_byte, is_integer_byte, sure_end}
 use Rattle.digit_pieces.specs.Pieces.{piece_at}
 use Rattle.digit_pieces.specs.declared.piece.PieceEnd.{PieceEnd}
 use Rattle.digit_pieces.specs.declared.piece.PieceEnd.TheVariants.{More, Full, Over, Fault}
-use Rattle.digits.specs.Words.{Form, literal_position, float_position, position}
+use Rattle.digits.specs.Words.{Form, literal_none_at, float_none_at, number_none_at}
 use Rattle.digits.specs.Words.{Integer, STANDARD, is_supported, number_at, plain_marks, read_at, rule_of}
 use Rattle.digits_c.specs.declared.numbers.NumberParts.{NumberParts}
 use Rattle.digits_c.specs.declared.outcome.Outcome.{Outcome}
@@ -28,26 +28,26 @@ with_outcome fault_of (numbers, end) = (numbers, end_of fault_of end)
 
 -- the numbers of a piece at a start, as many as there is room for, and why there are no more
 module _ (text : List ℕ) (start between : ℕ) (is_last : Bool) (room : ℕ) where
-  abbrev pub piece_by : {A E : Type 0} → (E → Outcome) → (E → ℕ) → (ℕ → Bool)
+  abbrev pub piece_by : {A E : Type 0} → (E → Outcome) → (ℕ → E → Bool) → (ℕ → Bool)
       → (ℕ → Result (A × ℕ) E) → List A × Outcome
-  piece_by fault_of position has one =
+  piece_by fault_of none_at has one =
       if nat_lt (length text) start then ([], fault BAD_START start)
       else with_outcome fault_of
-      (piece_at one position (gap_of between) text (sure_end has text) is_last room start)
+      (piece_at one none_at (gap_of between) text (sure_end has text) is_last room start)
 
   abbrev pub integers_in : ℕ → ℕ → List ℤ × Outcome
   integers_in least most =
-      piece_by literal_fault literal_position (is_integer_byte least STANDARD)
+      piece_by literal_fault literal_none_at (is_integer_byte least STANDARD)
       (number_at least most (rule_of STANDARD Integer) text)
 
   abbrev pub floats_in : Format → List Float × Outcome
   floats_in f =
-      piece_by float_fault float_position (is_float_byte STANDARD plain_marks)
+      piece_by float_fault float_none_at (is_float_byte STANDARD plain_marks)
       (read_at STANDARD text plain_marks f)
 
   abbrev pub numbers_in : Form → List NumberParts × Outcome
   numbers_in form =
-      piece_by number_fault position (is_number_byte form) (parts_at form text)
+      piece_by number_fault number_none_at (is_number_byte form) (parts_at form text)
 
   -- the same by a form that has a number, or has none
   abbrev pub numbers_in_by : Option Form → List NumberParts × Outcome

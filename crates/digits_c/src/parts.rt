@@ -39,9 +39,9 @@ pub struct Parts<S: FormSource> {
 impl<S: FormSource> Kind for Parts<S> {
     ghost use Rattle.std.proofs.Props.{props};
     ghost use Rattle.digit_numbers.specs.Follows.{is_number_byte};
-    ghost use Rattle.digit_pieces.specs.Laws.OfForm.{number_later_at, number_later_more};
+    ghost use Rattle.digit_pieces.specs.Laws.OfForm.{number_later_at, number_later_more, number_none_later};
     ghost use Rattle.digit_pieces.specs.Moves.{number_later};
-    ghost use Rattle.digits.specs.Words.{IsForm, position};
+    ghost use Rattle.digits.specs.Words.{IsForm, number_none_at, position};
     ghost use Rattle.digits_c.specs.declared.numbers.NumberParts as Written;
     ghost use Rattle.digits_c.specs.Laws.Parts as laws;
     ghost use Rattle.digits_c.specs.Numbers.{parts_at};
@@ -66,6 +66,8 @@ impl<S: FormSource> Kind for Parts<S> {
 
     ghost error_later = { number_later };
 
+    ghost none_at = { number_none_at };
+
     #[inline(always)]
     fn read_number(self, text: &[u8], start: usize) -> Result<(NumberParts, usize), NumberError> {
         read_one(text, start, self.source)
@@ -85,6 +87,11 @@ impl<S: FormSource> Kind for Parts<S> {
         OfForm::<f64>::error_later(error, by)
     }
 
+    #[inline(always)]
+    fn is_none_at(error: NumberError, place: usize) -> bool {
+        error.is_none_at(place)
+    }
+
     ghost follows = { λ k one other at start valid upto from.
         laws.follows (S.form k.source) one other at start upto from };
 
@@ -97,4 +104,6 @@ impl<S: FormSource> Kind for Parts<S> {
     ghost later_at = { number_later_at };
 
     ghost later_more = { number_later_more };
+
+    ghost none_later = { number_none_later };
 }

@@ -3,7 +3,7 @@
 ghost use Rattle.std.specs.Prelude.{◌≡◌, ℕ, ◌+◌, List, length};
 ghost use Rattle.lexical_digits.specs.declared.skip.component.Component.TheVariants.{Integer};
 ghost use Rattle.lexical_digits.specs.State.{rule_of};
-ghost use Rattle.digit_literals.specs.Errors.{literal_position};
+ghost use Rattle.digit_literals.specs.Errors.{literal_none_at};
 ghost use Rattle.digit_literals.specs.ListEnds.{EndSays};
 ghost use Rattle.digit_literals.specs.Lists.{list_at, and_then, Fills};
 ghost use Rattle.digit_literals.specs.declared.LiteralError.{LiteralError};
@@ -16,7 +16,7 @@ use crate::{Gap, Integer};
 /// was full, with room for `m`, they are the numbers with room for all; and the list ends as that.
 pub fn a_list_goes_on<T: Integer>(text: &[u8], word: u128, gap: Gap)
     ensures { (n m start : ℕ) → let r = rule_of word Integer in
-        let of = list_at (number_at T.MIN_MAGNITUDE T.MAX r text.now) literal_position gap
+        let of = list_at (number_at T.MIN_MAGNITUDE T.MAX r text.now) literal_none_at gap
         text.now in
         of (n + m) start ≡ and_then (of n start) (of m) }
 {}
@@ -27,7 +27,7 @@ pub fn a_list_goes_on<T: Integer>(text: &[u8], word: u128, gap: Gap)
 pub fn list_ends_say<T: Integer>(text: &[u8], word: u128, gap: Gap)
     ensures { (start : ℕ) (read : ListRead LiteralError) (old new : List T) →
         let r = rule_of word Integer in
-        let of = list_at (number_at T.MIN_MAGNITUDE T.MAX r text.now) literal_position gap
+        let of = list_at (number_at T.MIN_MAGNITUDE T.MAX r text.now) literal_none_at gap
         text.now in
         Fills T.number (of (length old) start) read old new →
         EndSays gap text.now (length old) read }

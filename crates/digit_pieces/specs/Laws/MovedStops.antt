@@ -1,7 +1,9 @@
 -- What is before a position makes no difference to the digits from there on, where no digit and no
 -- separator is before it.
 use Rattle.std.proofs.Common.{◌≡◌, ℕ, zero, suc, ◌+◌, ◌-◌, ◌≤◌, Bool, true, false, not, Some, List, [], ◌∷◌, ◌++◌, length, get_or, take, drop, reverse, refl, sym, ap, arith, inl, inr, map, slice_get, slice_range, find, filter, unwrap_or, length-drop, get_or-drop}
+use Rattle.std.specs.Prelude.{◌==◌}
 use Rattle.std.proofs.Math.Seq.{take-suc, take-add}
+use Rattle.std.proofs.lemmas.Bool.Decides.{nat_tests}
 use Rattle.std.proofs.lemmas.List.{drop-drop}
 use Rattle.lexical_digits.specs.Laws.Terms.{cases_Bool, reverse-append, gets, range_with_len, is_digit, is_separator, class, neighbour, right_side, left_side, holds_separator, is_dropped, is_kept, digits_seen, kept_positions, drain, stop}
 use Rattle.lexical_digits.specs.declared.skip.rule.Rule.{Rule}
@@ -29,6 +31,10 @@ module _ (text : List ℕ) (from : ℕ) where
 
   pub moved_length : from ≤ length text → from + length (drop from text) ≡ length text
   moved_length within = omega (arith, length-drop from text)
+
+-- a test of positions that are both so much later
+pub same_place : (by a b : ℕ) → (by + a == by + b) ≡ (a == b)
+same_place by a b = grind (arith, nat_tests)
 
 -- ---- lists of positions
 

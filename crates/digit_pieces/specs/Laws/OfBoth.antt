@@ -10,7 +10,7 @@ use Rattle.digit_languages.proofs.Before.{same_as_cut, same_test, passes_before}
 use Rattle.digit_pieces.specs.declared.kinds.both.BothError.{BothError}
 use Rattle.digit_pieces.specs.declared.kinds.both.BothError.TheVariants.{First, Between, Second}
 use Rattle.digit_pieces.specs.Moves.{byte_before, IsFresh, outcome_later}
-use Rattle.digit_pieces.specs.Both.{with_second, after_first, both_at, is_byte_of_both, both_error_at, both_later}
+use Rattle.digit_pieces.specs.Both.{with_second, after_first, both_at, is_byte_of_both, both_error_at, both_later, both_none_at}
 use Rattle.digit_pieces.specs.Laws.MovedStops.{moved_get}
 
 -- ---- fewer bytes
@@ -205,6 +205,17 @@ pub later_at : {D E : Type 0} (first : D → ℕ) (second : E → ℕ) (later : 
 later_at first second later second_later a b by (First error) = a by error
 later_at first second later second_later a b by (Between at) = refl
 later_at first second later second_later a b by (Second error) = b by error
+
+-- whether an error says that no two begin at a position
+pub none_later : {D E : Type 0} (first : ℕ → D → Bool) (later : ℕ → D → D)
+    (second_later : ℕ → E → E)
+    → ((by place : ℕ) (e : D) → first (by + place) (later by e) ≡ first place e)
+    → (by place : ℕ) (e : BothError D E)
+    → both_none_at first (by + place) (both_later later second_later by e)
+    ≡ both_none_at first place e
+none_later first later second_later moves by place (First error) = moves by place error
+none_later first later second_later moves by place (Between at) = refl
+none_later first later second_later moves by place (Second error) = refl
 
 -- an error that is later twice
 pub later_more : {D E : Type 0} (later : ℕ → D → D) (second_later : ℕ → E → E)

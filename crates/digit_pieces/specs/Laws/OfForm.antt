@@ -9,10 +9,11 @@ use Rattle.digit_numbers.specs.declared.number.NumberError.{NumberError}
 use Rattle.digit_numbers.specs.declared.number.NumberError.TheVariants.{Empty, Overflow, Invalid}
 use Rattle.digit_numbers.specs.Follows.{is_number_byte}
 use Rattle.digit_numbers.specs.Numbers.{number_of_at}
-use Rattle.digit_numbers.specs.Values.{position}
+use Rattle.digit_numbers.specs.Values.{none_at, position}
 use Rattle.digit_numbers.proofs.WhatFollows.{outcome_same}
 use Rattle.digit_pieces.specs.Moves.{IsFresh, outcome_later, number_later}
 use Rattle.digit_pieces.specs.Laws.FormEnds as ends
+use Rattle.digit_pieces.specs.Laws.MovedStops.{same_place}
 use Rattle.digit_pieces.specs.Laws.MovedForms as moved
 
 pub number_follows : (f : Form) (one other : List ℕ) (at start : ℕ) (format : Format)
@@ -35,6 +36,13 @@ pub number_later_at : (by : ℕ) (e : NumberError) → position (number_later by
 number_later_at by (Empty at) = refl
 number_later_at by (Overflow at) = refl
 number_later_at by (Invalid at) = refl
+
+-- whether an error says that no number begins at a position
+pub number_none_later : (by place : ℕ) (e : NumberError)
+    → none_at (by + place) (number_later by e) ≡ none_at place e
+number_none_later by place (Empty at) = same_place by at place
+number_none_later by place (Overflow at) = refl
+number_none_later by place (Invalid at) = refl
 
 -- an error that is later twice
 pub number_later_more : (by more : ℕ) (e : NumberError)

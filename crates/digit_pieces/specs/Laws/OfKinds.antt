@@ -3,11 +3,11 @@ use Rattle.std.proofs.Common.{◌≡◌, ℕ, ◌+◌, ◌≤◌, List, length, 
 use Rattle.std.specs.Float.{Format}
 use Rattle.lexical_digits.specs.State.{rule_of}
 use Rattle.lexical_digits.specs.declared.skip.component.Component.TheVariants.{Integer}
-use Rattle.digit_literals.specs.Errors.{literal_position}
+use Rattle.digit_literals.specs.Errors.{literal_none_at, literal_position}
 use Rattle.digit_literals.specs.Numbers.{number_at}
 use Rattle.digit_literals.specs.declared.LiteralError.{LiteralError}
 use Rattle.digit_literals.specs.declared.LiteralError.TheVariants as integers
-use Rattle.digit_floats.specs.Errors.{position}
+use Rattle.digit_floats.specs.Errors.{none_at, position}
 use Rattle.digit_floats.specs.Float.{read_at}
 use Rattle.digit_floats.specs.Scaled.{read_scaled_at}
 use Rattle.digit_floats.specs.Scaled as scaled
@@ -19,6 +19,7 @@ use Rattle.digit_floats.specs.declared.scaled.ScaledError.TheVariants as errors
 use Rattle.digit_pieces.specs.Cuts.{is_integer_byte, is_scaled_byte, is_float_byte}
 use Rattle.digit_pieces.specs.Moves.{byte_before, IsFresh, outcome_later, literal_later, float_later, scaled_later}
 use Rattle.digit_pieces.specs.Laws.NoBytes.{fails_of, other_of, none_of_integer, other_scaled_whole, other_scaled_part, none_scaled, other_power}
+use Rattle.digit_pieces.specs.Laws.MovedStops.{same_place}
 use Rattle.digit_pieces.specs.Laws.MovedIntegers.{moved_number}
 use Rattle.digit_pieces.specs.Laws.MovedFloats.{moved_float, moved_scaled}
 pub use Rattle.digit_pieces.specs.Laws.Following.{integer_follows, float_follows, scaled_follows}
@@ -75,6 +76,26 @@ scaled_later_at by (errors.Empty at) = refl
 scaled_later_at by (errors.TooLarge at) = refl
 scaled_later_at by (errors.TooFine at) = refl
 scaled_later_at by (errors.Invalid at) = refl
+
+-- ---- whether an error says that no number begins at a position
+
+pub literal_none_later : (by place : ℕ) (e : LiteralError)
+    → literal_none_at (by + place) (literal_later by e) ≡ literal_none_at place e
+literal_none_later by place (integers.Empty at) = same_place by at place
+literal_none_later by place (integers.Overflow at) = refl
+
+pub float_none_later : (by place : ℕ) (e : FloatError)
+    → none_at (by + place) (float_later by e) ≡ none_at place e
+float_none_later by place (floats.Empty at) = same_place by at place
+float_none_later by place (floats.EmptyExponent at) = refl
+float_none_later by place (floats.Invalid at) = refl
+
+pub scaled_none_later : (by place : ℕ) (e : ScaledError)
+    → scaled.none_at (by + place) (scaled_later by e) ≡ scaled.none_at place e
+scaled_none_later by place (errors.Empty at) = same_place by at place
+scaled_none_later by place (errors.TooLarge at) = refl
+scaled_none_later by place (errors.TooFine at) = refl
+scaled_none_later by place (errors.Invalid at) = refl
 
 -- ---- an error that is later twice
 

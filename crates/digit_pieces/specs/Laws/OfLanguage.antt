@@ -6,12 +6,13 @@ use Rattle.digit_languages.specs.declared.literal.Literal.{Literal}
 use Rattle.digit_languages.specs.declared.literal.LanguageError.{LanguageError}
 use Rattle.digit_languages.specs.declared.literal.LanguageError.TheVariants.{Empty, Overflow, Zero}
 use Rattle.digit_languages.specs.Follows.{AreSameBefore, is_literal_byte}
-use Rattle.digit_languages.specs.Literals.{literal_at, position, typed}
+use Rattle.digit_languages.specs.Literals.{literal_at, none_at, position, typed}
 use Rattle.digit_languages.proofs.WhatFollows.{same_literal}
 use Rattle.digit_pieces.specs.Languages.{language_later, read_later}
 use Rattle.digit_pieces.specs.Moves.{IsFresh, outcome_later}
 use Rattle.digit_pieces.specs.Laws.FormEnds.{EndsLow, literal_low}
 use Rattle.digit_pieces.specs.Laws.MovedLiterals as moved
+use Rattle.digit_pieces.specs.Laws.MovedStops.{same_place}
 
 pub literal_follows : (l : Language) (most : ℕ) (one other : List ℕ) (at start : ℕ)
     → AreSameBefore (is_literal_byte l) one other at → start ≤ at
@@ -52,6 +53,12 @@ pub language_later_at : (by : ℕ) (e : LanguageError)
 language_later_at by (Empty at) = refl
 language_later_at by (Overflow at) = refl
 language_later_at by (Zero at) = refl
+
+pub language_none_later : (by place : ℕ) (e : LanguageError)
+    → none_at (by + place) (language_later by e) ≡ none_at place e
+language_none_later by place (Empty at) = same_place by at place
+language_none_later by place (Overflow at) = refl
+language_none_later by place (Zero at) = refl
 
 pub language_later_more : (by more : ℕ) (e : LanguageError)
     → language_later by (language_later more e) ≡ language_later (by + more) e

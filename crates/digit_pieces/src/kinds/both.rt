@@ -28,7 +28,7 @@ pub enum BothError<D, E> {
 
 impl<A: Kind, B: Kind> Kind for Both<A, B> {
     ghost use Rattle.std.specs.Prelude.{◌+◌, drop};
-    ghost use Rattle.digit_pieces.specs.Both.{both_at, is_byte_of_both, both_error_at, both_later};
+    ghost use Rattle.digit_pieces.specs.Both.{both_at, is_byte_of_both, both_error_at, both_later, both_none_at};
     ghost use Rattle.digit_pieces.specs.Laws.OfBoth as laws;
 
     type Number = (A::Number, B::Number);
@@ -52,6 +52,8 @@ impl<A: Kind, B: Kind> Kind for Both<A, B> {
     ghost error_at = { both_error_at A.error_at B.error_at };
 
     ghost error_later = { both_later A.error_later B.error_later };
+
+    ghost none_at = { both_none_at A.none_at };
 
     #[inline(always)]
     fn read_number(
@@ -97,6 +99,14 @@ impl<A: Kind, B: Kind> Kind for Both<A, B> {
         }
     }
 
+    #[inline(always)]
+    fn is_none_at(error: BothError<A::Error, B::Error>, place: usize) -> bool {
+        match error {
+            BothError::First(error) => A::is_none_at(error, place),
+            BothError::Between(_) | BothError::Second(_) => false,
+        }
+    }
+
     ghost follows = { λ k one other at start valid upto from.
         laws.both_follows (A.number_at k.first) k.between (B.number_at k.second)
         (A.has_byte k.first) (B.has_byte k.second)
@@ -123,4 +133,6 @@ impl<A: Kind, B: Kind> Kind for Both<A, B> {
         B.later_at };
 
     ghost later_more = { laws.later_more A.error_later B.error_later A.later_more B.later_more };
+
+    ghost none_later = { laws.none_later A.none_at A.error_later B.error_later A.none_later };
 }

@@ -35,7 +35,7 @@ impl<F: Float> Kind for Floats<F> {
     ghost use Rattle.std.specs.Prelude.{◌≡◌, ◌+◌, ◌<◌, IsTrue};
     ghost use Rattle.std.specs.Float as Ieee;
     ghost use Rattle.lexical_format.specs.Word.{is_supported};
-    ghost use Rattle.digit_floats.specs.Errors.{position};
+    ghost use Rattle.digit_floats.specs.Errors.{none_at as float_none_at, position};
     ghost use Rattle.digit_floats.specs.Float.{IsDecimal, plain_marks, read_at};
     ghost use Rattle.digit_pieces.specs.Cuts.{is_float_byte};
     ghost use Rattle.digit_pieces.specs.Moves.{float_later};
@@ -60,6 +60,8 @@ impl<F: Float> Kind for Floats<F> {
     ghost error_at = { position };
 
     ghost error_later = { float_later };
+
+    ghost none_at = { float_none_at };
 
     #[inline(always)]
     fn read_number(self, text: &[u8], start: usize) -> Result<(F, usize), FloatError> {
@@ -86,6 +88,11 @@ impl<F: Float> Kind for Floats<F> {
         }
     }
 
+    #[inline(always)]
+    fn is_none_at(error: FloatError, place: usize) -> bool {
+        error.is_none_at(place)
+    }
+
     ghost follows = { λ k one other at start valid upto from.
         laws.float_follows k.word plain_marks F.format one other at start upto from };
 
@@ -98,4 +105,6 @@ impl<F: Float> Kind for Floats<F> {
     ghost later_at = { laws.float_later_at };
 
     ghost later_more = { laws.float_later_more };
+
+    ghost none_later = { laws.float_none_later };
 }

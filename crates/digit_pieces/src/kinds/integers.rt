@@ -36,7 +36,7 @@ impl<T: Integer> Kind for Integers<T> {
     ghost use Rattle.lexical_format.specs.Word.{is_supported};
     ghost use Rattle.lexical_digits.specs.State.{rule_of};
     ghost use Rattle.lexical_digits.specs.declared.skip.component.Component.TheVariants as components;
-    ghost use Rattle.digit_literals.specs.Errors.{literal_position};
+    ghost use Rattle.digit_literals.specs.Errors.{literal_none_at, literal_position};
     ghost use Rattle.digit_literals.specs.Numbers as numbers;
     ghost use Rattle.digit_pieces.specs.Cuts.{is_integer_byte};
     ghost use Rattle.digit_pieces.specs.Moves.{literal_later};
@@ -63,6 +63,8 @@ impl<T: Integer> Kind for Integers<T> {
 
     ghost error_later = { literal_later };
 
+    ghost none_at = { literal_none_at };
+
     #[inline(always)]
     fn read_number(self, text: &[u8], start: usize) -> Result<(T, usize), LiteralError> {
         read_number_from::<T>(text, self.word, start)
@@ -86,6 +88,11 @@ impl<T: Integer> Kind for Integers<T> {
         }
     }
 
+    #[inline(always)]
+    fn is_none_at(error: LiteralError, place: usize) -> bool {
+        error.is_none_at(place)
+    }
+
     ghost follows = { λ k one other at start valid upto from.
         laws.integer_follows T.MIN_MAGNITUDE T.MAX k.word one other at start upto from };
 
@@ -99,4 +106,6 @@ impl<T: Integer> Kind for Integers<T> {
     ghost later_at = { laws.literal_later_at };
 
     ghost later_more = { laws.literal_later_more };
+
+    ghost none_later = { laws.literal_none_later };
 }

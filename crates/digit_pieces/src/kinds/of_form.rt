@@ -38,9 +38,9 @@ impl<F: Float> Kind for OfForm<F> {
     ghost use Rattle.digit_numbers.specs.Follows.{is_number_byte};
     ghost use Rattle.digit_numbers.specs.Forms.{IsForm};
     ghost use Rattle.digit_numbers.specs.Numbers.{number_of_at};
-    ghost use Rattle.digit_numbers.specs.Values.{position, with_value};
+    ghost use Rattle.digit_numbers.specs.Values.{none_at as number_none_at, position, with_value};
     ghost use Rattle.digit_pieces.specs.Laws.OfForm.{number_ends, number_follows, number_later_at, number_later_more};
-    ghost use Rattle.digit_pieces.specs.Laws.OfForm.{number_precedes};
+    ghost use Rattle.digit_pieces.specs.Laws.OfForm.{number_none_later, number_precedes};
     ghost use Rattle.digit_pieces.specs.Moves.{number_later};
 
     type Number = Number<F>;
@@ -62,6 +62,8 @@ impl<F: Float> Kind for OfForm<F> {
     ghost error_at = { position };
 
     ghost error_later = { number_later };
+
+    ghost none_at = { number_none_at };
 
     #[inline(always)]
     fn read_number(self, text: &[u8], start: usize) -> Result<(Number<F>, usize), NumberError> {
@@ -86,6 +88,11 @@ impl<F: Float> Kind for OfForm<F> {
         }
     }
 
+    #[inline(always)]
+    fn is_none_at(error: NumberError, place: usize) -> bool {
+        error.is_none_at(place)
+    }
+
     ghost follows = { λ k one other at start valid upto from.
         number_follows k.form one other at start F.format upto from };
 
@@ -98,4 +105,6 @@ impl<F: Float> Kind for OfForm<F> {
     ghost later_at = { number_later_at };
 
     ghost later_more = { number_later_more };
+
+    ghost none_later = { number_none_later };
 }

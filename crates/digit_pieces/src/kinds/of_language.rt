@@ -35,7 +35,7 @@ impl<T: Integer> Kind for OfLanguage<T> {
     ghost use Rattle.std.proofs.Props.{props};
     ghost use Rattle.std.specs.Prelude.{ℤ};
     ghost use Rattle.digit_languages.specs.Follows.{is_literal_byte};
-    ghost use Rattle.digit_languages.specs.Literals.{literal_at, position, typed};
+    ghost use Rattle.digit_languages.specs.Literals.{literal_at, none_at as language_none_at, position, typed};
     ghost use Rattle.digit_languages.specs.Words.{IsLanguage};
     ghost use Rattle.digit_pieces.specs.Languages.{language_later};
     ghost use Rattle.digit_pieces.specs.Laws.OfLanguage as laws;
@@ -60,6 +60,8 @@ impl<T: Integer> Kind for OfLanguage<T> {
 
     ghost error_later = { language_later };
 
+    ghost none_at = { language_none_at };
+
     #[inline(always)]
     fn read_number(self, text: &[u8], start: usize) -> Result<(T, usize), LanguageError> {
         read_literal_as::<T>(text, start, self.language)
@@ -83,6 +85,11 @@ impl<T: Integer> Kind for OfLanguage<T> {
         }
     }
 
+    #[inline(always)]
+    fn is_none_at(error: LanguageError, place: usize) -> bool {
+        error.is_none_at(place)
+    }
+
     ghost follows = { λ k one other at start valid upto from.
         laws.literal_follows k.language T.MAX one other at start upto from };
 
@@ -95,4 +102,6 @@ impl<T: Integer> Kind for OfLanguage<T> {
     ghost later_at = { laws.language_later_at };
 
     ghost later_more = { laws.language_later_more };
+
+    ghost none_later = { laws.language_none_later };
 }

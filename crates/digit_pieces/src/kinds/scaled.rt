@@ -43,7 +43,7 @@ impl<T: Integer> Kind for Scaled<T> {
     ghost use Rattle.std.specs.Prelude.{◌≡◌, ◌+◌, ◌≤◌, ◌<◌, ℤ, IsTrue};
     ghost use Rattle.lexical_format.specs.Word.{is_supported};
     ghost use Rattle.digit_floats.specs.Float.{IsDecimal};
-    ghost use Rattle.digit_floats.specs.Scaled.{position, read_scaled_at};
+    ghost use Rattle.digit_floats.specs.Scaled.{none_at as scaled_none_at, position, read_scaled_at};
     ghost use Rattle.digit_pieces.specs.Cuts.{is_scaled_byte};
     ghost use Rattle.digit_pieces.specs.Moves.{scaled_later};
     ghost use Rattle.digit_pieces.specs.Laws.OfKinds as laws;
@@ -69,6 +69,8 @@ impl<T: Integer> Kind for Scaled<T> {
 
     ghost error_later = { scaled_later };
 
+    ghost none_at = { scaled_none_at };
+
     #[inline(always)]
     fn read_number(self, text: &[u8], start: usize) -> Result<(T, usize), ScaledError> {
         read_scaled_from::<T>(text, self.word, start, self.point, self.places)
@@ -93,6 +95,11 @@ impl<T: Integer> Kind for Scaled<T> {
         }
     }
 
+    #[inline(always)]
+    fn is_none_at(error: ScaledError, place: usize) -> bool {
+        error.is_none_at(place)
+    }
+
     ghost follows = { λ k one other at start valid upto from.
         laws.scaled_follows k.word k.point k.places T.MIN_MAGNITUDE T.MAX valid.1 one other at
         start upto from };
@@ -107,4 +114,6 @@ impl<T: Integer> Kind for Scaled<T> {
     ghost later_at = { laws.scaled_later_at };
 
     ghost later_more = { laws.scaled_later_more };
+
+    ghost none_later = { laws.scaled_none_later };
 }

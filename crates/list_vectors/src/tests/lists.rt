@@ -1,13 +1,18 @@
 //! Tests: worked rows, by hand.
 
 use digit_floats::{FloatError, ScaledError};
+use digit_languages::LanguageError;
+use digit_languages::languages::PYTHON;
 use digit_lists::{
     EnclosedError, ListError, NoNumber, PriceError, Prices, parse_list, read_enclosed,
     read_exact_from, read_grouped_from, read_list_by, read_optional, read_price_from, wrong_group,
 };
 use digit_literals::{COMMAS, COMMAS_IN_LINE, Gap, LINES, ListEnd, LiteralError, WHITESPACE};
 use digit_numbers::{Number, NumberError, forms};
-use digit_pieces::{Floats, Integers, Kind, OfForm, PieceEnd, Scaled, read_piece};
+use digit_pieces::{
+    Both, BothError, Floats, Integers, Kind, OfForm, OfLanguage, PieceEnd, Scaled, read_piece,
+};
+use digit_streams::{NumberReader, StreamError};
 use lexical_format::words::PYTHON_LITERAL;
 use lexical_format::{INTEGER_INTERNAL_DIGIT_SEPARATOR, STANDARD};
 
@@ -174,6 +179,62 @@ fn a_vector_with_blanks_between(rt: HostRuntime) {
     assert!(rt; read == Ok((0, 2)));
     let read = read_enclosed(kind, b"(", 9, b'(', WHITESPACE, b')', &mut out);
     assert!(rt; read == Err(EnclosedError::NoOpening(9)));
+}
+
+#[test]
+#[tactic(auto, unfolding(lexical_format::proofs::OnLiterals::lexical_on_literals))]
+fn a_number_that_is_too_large_ends_no_list(rt: HostRuntime) {
+    // with two places 3 is 300
+    let small = Scaled::<u8>::new(STANDARD, b'.', 2);
+    let too_large = ScaledError::TooLarge(2);
+    let text = b"1\n3\n2\n";
+    let mut out = [0u8; 3];
+    let read = read_list_by(small, text, 0, LINES, &mut out);
+    assert!(rt;
+        read.count == 1 && read.end == ListEnd::Fault(too_large),
+        "{read:?}"
+    );
+    let read = read_piece(small, text, 0, LINES, true, &mut out);
+    assert!(rt;
+        read.count == 1 && read.end == PieceEnd::Fault(too_large),
+        "{read:?}"
+    );
+    let row = parse_list(small, text, LINES, &mut out[..1]);
+    assert!(rt; row == Err(ListError::Number(too_large)), "{row:?}");
+    let mut buffer = [0; 8];
+    let mut numbers = NumberReader::new(text.as_slice(), &mut buffer, small, LINES);
+    assert!(rt; numbers.next_number() == Some(Ok(100)));
+    assert!(rt; numbers.next_number() == Some(Err(StreamError::Number(too_large))));
+    let both = Both {
+        first: small,
+        between: b':',
+        second: small,
+    };
+    let read = read_list_by(both, b"1:1\n3:1\n", 0, LINES, &mut [(0, 0); 3]);
+    let end = ListEnd::Fault(BothError::First(ScaledError::TooLarge(4)));
+    assert!(rt; read.count == 1 && read.end == end, "{read:?}");
+    // no number begins with a letter
+    let read = read_list_by(small, b"1\nx", 0, LINES, &mut out);
+    assert!(rt; read.count == 1 && read.end == ListEnd::Over(2), "{read:?}");
+}
+
+#[test]
+#[tactic(auto, unfolding(lexical_format::proofs::OnLiterals::lexical_on_literals))]
+fn a_number_that_is_refused_ends_no_list(rt: HostRuntime) {
+    let literals = OfLanguage::<u8>::new(PYTHON);
+    let mut out = [0u8; 3];
+    let read = read_list_by(literals, b"5 01 7", 0, WHITESPACE, &mut out);
+    let zero = ListEnd::Fault(LanguageError::Zero(2));
+    assert!(rt; read.count == 1 && read.end == zero, "{read:?}");
+    let read = read_list_by(literals, b"5 x", 0, WHITESPACE, &mut out);
+    assert!(rt; read.count == 1 && read.end == ListEnd::Over(2), "{read:?}");
+    let mut cents = [0i64; 3];
+    let grouped = Prices::<i64>::grouped(GROUPS, b'.', 2);
+    let row = parse_list(grouped, b"1,234\n1234\n", LINES, &mut cents);
+    assert!(rt;
+        row == Err(ListError::Number(PriceError::Group(6))),
+        "{row:?}"
+    );
 }
 
 #[test]

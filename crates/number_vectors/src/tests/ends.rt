@@ -31,7 +31,7 @@ fn read_alone<T: Integer>(
         let (value, end) = match read_number_from::<T>(text, word, place) {
             Ok(read) => read,
             Err(error) => {
-                let end = gap.no_number(place, error.position(), error);
+                let end = gap.no_number(place, error.is_none_at(place), error);
                 return ListRead { count, end };
             }
         };

@@ -5,7 +5,7 @@ ghost use Rattle.std.specs.Result.{result_flatten, result_map_both};
 ghost use Rattle.lexical_digits.specs.State.{rule_of};
 ghost use Rattle.lexical_digits.specs.declared.skip.component.Component.TheVariants.{Integer};
 ghost use Rattle.lexical_format.specs.declared.TheConstants.{STANDARD};
-ghost use Rattle.digit_literals.specs.Errors.{literal_position};
+ghost use Rattle.digit_literals.specs.Errors.{literal_none_at, literal_position};
 ghost use Rattle.digit_literals.specs.Integers.{integer_at};
 ghost use Rattle.digit_literals.specs.declared.LiteralError.TheVariants.{Empty};
 ghost use Rattle.digit_numbers.specs.Bytes.{expect_bytes};
@@ -34,6 +34,8 @@ impl Item for Sides {
 
     ghost error_at = { literal_position };
 
+    ghost none_at = { literal_none_at };
+
     #[tactic(auto, unfolding(lexical_format::proofs::OnLiterals::lexical_on_literals))]
     fn read_item(text: &[u8], start: usize) -> Result<(Sides, usize), LiteralError> {
         let (x, end) = read_integer_from(text, STANDARD, start, 255)?;
@@ -44,6 +46,10 @@ impl Item for Sides {
 
     fn error_at(error: LiteralError) -> usize {
         error.position()
+    }
+
+    fn is_none_at(error: LiteralError, place: usize) -> bool {
+        error.is_none_at(place)
     }
 }
 

@@ -2,15 +2,15 @@ use Rattle.std.proofs.Common.{refl, sym, arith}
 use Rattle.std.specs.Float.{NotNan}
 use Rattle.digit_literals.proofs.Lists.{turns_none, turns_next, turns_over}
 use Rattle.digit_floats.proofs.Fronts.{all_more}
-use Rattle.digit_floats.specs.Errors.{position}
+use Rattle.digit_floats.specs.Errors.{none_at}
 use Rattle.digit_floats.specs.Float.{plain_marks, read_at}
 use Rattle.digit_floats.proofs.list.read_float_list.Goals as goal
 
 pub returns-in-Err-clause-is : goal.returns-in-Err-clause-is
 returns-in-Err-clause-is g c =
     let f = g.F.Float in
-    rw (c.no_number-end.ensures, c.position.ensures, c.past_blanks-place.ensures.is)
-    (turns_none f.value (read_at c.args.word c.args.text.now plain_marks f.format) position
+    rw (c.no_number-end.ensures, c.is_none_at.ensures, c.past_blanks-place.ensures.is)
+    (turns_none f.value (read_at c.args.word c.args.text.now plain_marks f.format) none_at
     c.args.gap c.args.text.now c.args.start c.loop-count.count c.loop-count.at
     c.args.out.now c.loop-count.out c.loop-count.invariant.so (omega arith) c.in-Err.error
     (rw c.past_blanks-place.ensures.is at c.in-Err.ensures.reads))
@@ -25,7 +25,7 @@ returns-in-Err-next_after-clause-no_nan g c =
 pub returns-in-Err-next_after-clause-is : goal.returns-in-Err-next_after-clause-is
 returns-in-Err-next_after-clause-is g c =
     let f = g.F.Float in
-    turns_over f.value (read_at c.args.word c.args.text.now plain_marks f.format) position
+    turns_over f.value (read_at c.args.word c.args.text.now plain_marks f.format) none_at
     c.args.gap c.args.text.now c.args.start c.loop-count.count c.loop-count.at
     c.args.out.now c.loop-count.out c.loop-count.invariant.so (omega arith) c.in-Ok.read.0
     c.in-Ok.read.1 c.in-Err-next_after.over
@@ -36,7 +36,7 @@ pub loop-count-preserved : goal.loop-count-preserved
 loop-count-preserved g c =
     let f = g.F.Float in
     record {
-      so = turns_next f.value (read_at c.args.word c.args.text.now plain_marks f.format) position
+      so = turns_next f.value (read_at c.args.word c.args.text.now plain_marks f.format) none_at
           c.args.gap c.args.text.now c.args.start c.loop-count.count c.loop-count.at
           c.args.out.now c.loop-count.out c.loop-count.invariant.so (omega arith) c.in-Ok.read.0
           c.in-Ok.read.1 c.in-Ok-next_after.next

@@ -5,8 +5,8 @@ use Rattle.digit_lists.proofs.list.read_list_by.Goals as goal
 pub returns-in-Err-clause-is : goal.returns-in-Err-clause-is
 returns-in-Err-clause-is g c =
     let k = g.K.Kind in
-    rw (c.no_number-end.ensures, c.error_at.ensures, c.past_blanks-place.ensures.is)
-    (turns_none k.meaning (k.number_at c.args.kind c.args.text.now) k.error_at c.args.gap
+    rw (c.no_number-end.ensures, c.is_none_at.ensures, c.past_blanks-place.ensures.is)
+    (turns_none k.meaning (k.number_at c.args.kind c.args.text.now) k.none_at c.args.gap
     c.args.text.now c.args.start c.loop-count.count c.loop-count.at c.args.out.now
     c.loop-count.out c.loop-count.invariant.so (omega arith) c.in-Err.error
     (rw c.past_blanks-place.ensures.is at c.in-Err.ensures.is))
@@ -14,7 +14,7 @@ returns-in-Err-clause-is g c =
 pub returns-in-Err-next_after-clause-is : goal.returns-in-Err-next_after-clause-is
 returns-in-Err-next_after-clause-is g c =
     let k = g.K.Kind in
-    turns_over k.meaning (k.number_at c.args.kind c.args.text.now) k.error_at c.args.gap
+    turns_over k.meaning (k.number_at c.args.kind c.args.text.now) k.none_at c.args.gap
     c.args.text.now c.args.start c.loop-count.count c.loop-count.at c.args.out.now
     c.loop-count.out c.loop-count.invariant.so (omega arith) c.in-Ok.read.0 c.in-Ok.read.1
     c.in-Err-next_after.over (rw c.past_blanks-place.ensures.is at c.in-Ok.ensures.is)
@@ -24,7 +24,7 @@ pub loop-count-preserved : goal.loop-count-preserved
 loop-count-preserved g c =
     let k = g.K.Kind in
     record {
-      so = turns_next k.meaning (k.number_at c.args.kind c.args.text.now) k.error_at c.args.gap
+      so = turns_next k.meaning (k.number_at c.args.kind c.args.text.now) k.none_at c.args.gap
           c.args.text.now c.args.start c.loop-count.count c.loop-count.at c.args.out.now
           c.loop-count.out c.loop-count.invariant.so (omega arith) c.in-Ok.read.0 c.in-Ok.read.1
           c.in-Ok-next_after.next (rw c.past_blanks-place.ensures.is at c.in-Ok.ensures.is)

@@ -2,7 +2,7 @@ use Rattle.std.proofs.Common.{refl, ◌∙◌, arith}
 use Rattle.std.proofs.lemmas.List.{length-set}
 use Rattle.lexical_digits.specs.declared.skip.component.Component.TheVariants.{Integer}
 use Rattle.lexical_digits.specs.State.{rule_of}
-use Rattle.digit_literals.specs.Errors.{literal_position}
+use Rattle.digit_literals.specs.Errors.{literal_none_at}
 use Rattle.digit_literals.specs.Numbers.{number_at}
 use Rattle.digit_literals.proofs.Lists.{turns_next, turns_over}
 use Rattle.digit_literals.proofs.ends.read_by_ends.Goals as goal
@@ -14,7 +14,7 @@ returns-in-Err-clause-fills g c =
     let over = rw c.in-Err.is at c.in-Some.ensures.over in
     turns_over t.number
     (number_at t.MIN_MAGNITUDE t.MAX (rule_of c.args.word Integer) c.args.text.now)
-    literal_position c.args.gap c.args.text.now c.args.start c.loop-count.count
+    literal_none_at c.args.gap c.args.text.now c.args.start c.loop-count.count
     c.loop-count.place.at
     c.args.out.now c.loop-count.out so (omega (arith, so.same_length)) c.in-Some.read.value
     c.in-Some.read.end c.in-Err.over c.in-Some.ensures.is over.is
@@ -27,7 +27,7 @@ loop-count-preserved g c =
     record {
       so = turns_next t.number
           (number_at t.MIN_MAGNITUDE t.MAX (rule_of c.args.word Integer) c.args.text.now)
-          literal_position c.args.gap c.args.text.now c.args.start c.loop-count.count
+          literal_none_at c.args.gap c.args.text.now c.args.start c.loop-count.count
           c.loop-count.place.at
           c.args.out.now c.loop-count.out so (omega (arith, so.same_length))
           c.in-Some.read.value c.in-Some.read.end c.in-Ok.next.at c.in-Some.ensures.is

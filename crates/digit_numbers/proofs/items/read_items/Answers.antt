@@ -6,9 +6,9 @@ use Rattle.digit_numbers.proofs.items.read_items.Goals as goal
 pub returns-in-Err-clause-is : goal.returns-in-Err-clause-is
 returns-in-Err-clause-is g c =
     let i = g.T.Item in
-    rw (c.no_number-end.ensures, c.error_at.ensures, c.past_blanks-place.ensures.is)
+    rw (c.no_number-end.ensures, c.is_none_at.ensures, c.past_blanks-place.ensures.is)
     (turns_none (λ x. x) (i.item_at c.args.text.now)
-    i.error_at
+    i.none_at
     c.args.gap c.args.text.now c.args.start c.loop-count.count c.loop-count.at
     c.args.out.now c.loop-count.out c.loop-count.invariant.so (omega arith) c.in-Err.error
     (sym (rw c.past_blanks-place.ensures.is at c.in-Err.ensures.is)))
@@ -17,7 +17,7 @@ pub returns-in-Err-next_after-clause-is : goal.returns-in-Err-next_after-clause-
 returns-in-Err-next_after-clause-is g c =
     let i = g.T.Item in
     turns_over (λ x. x) (i.item_at c.args.text.now)
-    i.error_at
+    i.none_at
     c.args.gap c.args.text.now c.args.start c.loop-count.count c.loop-count.at
     c.args.out.now c.loop-count.out c.loop-count.invariant.so (omega arith) c.in-Ok.read.0
     c.in-Ok.read.1 c.in-Err-next_after.over
@@ -30,7 +30,7 @@ loop-count-preserved g c =
     record {
       so =
           turns_next (λ x. x)
-          (i.item_at c.args.text.now) i.error_at
+          (i.item_at c.args.text.now) i.none_at
           c.args.gap c.args.text.now c.args.start c.loop-count.count c.loop-count.at
           c.args.out.now c.loop-count.out c.loop-count.invariant.so (omega arith) c.in-Ok.read.0
           c.in-Ok.read.1 c.in-Ok-next_after.next

@@ -6,7 +6,7 @@ abbrev pub invariant-loop-count : goal.invariant-loop-count
 invariant-loop-count g l =
     let i = g.T.Item in
     record {
-      so : SoFar (λ x. x) (i.item_at l.text) i.error_at l.gap
+      so : SoFar (λ x. x) (i.item_at l.text) i.none_at l.gap
           l.text l.start
           l.count l.at l.initial.out l.out;
       onward : l.start ≤ l.at;

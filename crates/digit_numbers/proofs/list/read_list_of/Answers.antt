@@ -1,15 +1,15 @@
 use Rattle.std.proofs.Common.{refl, sym, arith}
 use Rattle.digit_literals.proofs.Lists.{turns_none, turns_next, turns_over}
 use Rattle.digit_numbers.specs.Numbers.{number_of_at}
-use Rattle.digit_numbers.specs.Values.{position, with_value}
+use Rattle.digit_numbers.specs.Values.{none_at, with_value}
 use Rattle.digit_numbers.proofs.list.read_list_of.Goals as goal
 
 pub returns-in-Err-clause-is : goal.returns-in-Err-clause-is
 returns-in-Err-clause-is g c =
     let f = g.F.Float in
-    rw (c.no_number-end.ensures, c.position.ensures, c.past_blanks-place.ensures.is)
+    rw (c.no_number-end.ensures, c.is_none_at.ensures, c.past_blanks-place.ensures.is)
     (turns_none (with_value f.value) (λ at. number_of_at c.args.form c.args.text.now at f.format)
-    position
+    none_at
     c.args.gap c.args.text.now c.args.start c.loop-count.count c.loop-count.at
     c.args.out.now c.loop-count.out c.loop-count.invariant.so (omega arith) c.in-Err.error
     (rw c.past_blanks-place.ensures.is at c.in-Err.ensures.is))
@@ -18,7 +18,7 @@ pub returns-in-Err-next_after-clause-is : goal.returns-in-Err-next_after-clause-
 returns-in-Err-next_after-clause-is g c =
     let f = g.F.Float in
     turns_over (with_value f.value) (λ at. number_of_at c.args.form c.args.text.now at f.format)
-    position
+    none_at
     c.args.gap c.args.text.now c.args.start c.loop-count.count c.loop-count.at
     c.args.out.now c.loop-count.out c.loop-count.invariant.so (omega arith) c.in-Ok.read.0
     c.in-Ok.read.1 c.in-Err-next_after.over
@@ -31,7 +31,7 @@ loop-count-preserved g c =
     record {
       so =
           turns_next (with_value f.value)
-          (λ at. number_of_at c.args.form c.args.text.now at f.format) position
+          (λ at. number_of_at c.args.form c.args.text.now at f.format) none_at
           c.args.gap c.args.text.now c.args.start c.loop-count.count c.loop-count.at
           c.args.out.now c.loop-count.out c.loop-count.invariant.so (omega arith) c.in-Ok.read.0
           c.in-Ok.read.1 c.in-Ok-next_after.next

@@ -16,7 +16,7 @@ returns-then-not-is_parted-clause-is g c =
     let touches : is_parted c.args.gap text c.args.is_last c.in-Ok.read.1 ≡ false =
     rw (← c.is_parted.ensures) c.if-not-is_parted.true in
     rw c.past_blanks-place.ensures.is
-    (turns_touch k.meaning (k.number_at c.args.kind text) k.error_at c.args.gap text sure
+    (turns_touch k.meaning (k.number_at c.args.kind text) k.none_at c.args.gap text sure
     c.args.is_last c.args.start c.loop-count.count c.loop-count.at c.args.out.now
     c.loop-count.out c.loop-count.invariant.so (omega arith) c.in-Ok.read.1
     (k.meaning c.in-Ok.read.0) here
@@ -32,7 +32,7 @@ returns-in-Err-next_after-clause-is g c =
     c.if-not-is_sure.false in
     let parts : is_parted c.args.gap text c.args.is_last c.in-Ok.read.1 ≡ true =
     rw (← c.is_parted.ensures) c.if-not-is_parted.false in
-    turns_over k.meaning (k.number_at c.args.kind text) k.error_at c.args.gap text sure
+    turns_over k.meaning (k.number_at c.args.kind text) k.none_at c.args.gap text sure
     c.args.is_last c.args.start c.loop-count.count c.loop-count.at c.args.out.now
     c.loop-count.out c.loop-count.invariant.so (omega arith) c.in-Ok.read.0 c.in-Ok.read.1
     c.in-Err-next_after.over here (rw c.past_blanks-place.ensures.is at c.in-Ok.ensures.is) parts
@@ -49,7 +49,7 @@ loop-count-preserved g c =
     let parts : is_parted c.args.gap text c.args.is_last c.in-Ok.read.1 ≡ true =
     rw (← c.is_parted.ensures) c.if-not-is_parted.false in
     record {
-      so = turns_next k.meaning (k.number_at c.args.kind text) k.error_at c.args.gap text sure
+      so = turns_next k.meaning (k.number_at c.args.kind text) k.none_at c.args.gap text sure
           c.args.is_last c.args.start c.loop-count.count c.loop-count.at c.args.out.now
           c.loop-count.out c.loop-count.invariant.so (omega arith) c.in-Ok.read.0 c.in-Ok.read.1
           c.in-Ok-next_after.next here

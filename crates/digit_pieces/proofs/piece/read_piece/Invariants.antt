@@ -7,7 +7,7 @@ abbrev pub invariant-loop-count : goal.invariant-loop-count
 invariant-loop-count g l =
     let k = g.K.Kind in
     record {
-      so : SoFar k.meaning (k.number_at l.kind l.text) k.error_at l.gap l.text
+      so : SoFar k.meaning (k.number_at l.kind l.text) k.none_at l.gap l.text
           (sure_end (k.has_byte l.kind) l.text) l.is_last l.start l.count l.at l.initial.out l.out;
       onward : l.start ≤ l.at;
       within : l.at ≤ length l.text;

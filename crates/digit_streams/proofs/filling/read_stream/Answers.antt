@@ -34,7 +34,7 @@ returns-in-End-clause-list g c =
     let k = g.K.Kind in
     let kind = c.args.kind in
     let gap = c.args.gap in
-    let list = stream_list (k.number_at kind) k.error_at k.error_later gap in
+    let list = stream_list (k.number_at kind) k.none_at k.error_later gap in
     let step = c.read_held_after-more in
     let text = prepend_known (unread c.args.window.now) (g.R.Read.remaining c.args.reader.now) in
     let from = c.args.window.now.position in
@@ -59,7 +59,7 @@ returns-in-Err-clause-list g c =
     let k = g.K.Kind in
     let kind = c.args.kind in
     let gap = c.args.gap in
-    let list = stream_list (k.number_at kind) k.error_at k.error_later gap in
+    let list = stream_list (k.number_at kind) k.none_at k.error_later gap in
     let step = c.read_held_after-more in
     let text = prepend_known (unread c.args.window.now) (g.R.Read.remaining c.args.reader.now) in
     let from = c.args.window.now.position in
@@ -85,7 +85,7 @@ loop-preserved g c =
     let k = g.K.Kind in
     let kind = c.args.kind in
     let gap = c.args.gap in
-    let list = stream_list (k.number_at kind) k.error_at k.error_later gap in
+    let list = stream_list (k.number_at kind) k.none_at k.error_later gap in
     let step = c.read_held_after-more in
     let text = prepend_known (unread c.args.window.now) (g.R.Read.remaining c.args.reader.now) in
     let from = c.args.window.now.position in
@@ -124,7 +124,7 @@ returns-in-Err-clause-no_room g c =
     let step = c.read_held_after-more in
     let capacity : length (unread c.loop.window) ≤ length c.fill.new.window.buffer.now =
     omega (arith, unread_fits c.loop.window, c.fill.ensures.capacity, step.ensures.capacity) in
-    no_room (k.number_at c.args.kind) k.error_at (k.has_byte c.args.kind) c.args.gap c.in-Err.error
+    no_room (k.number_at c.args.kind) k.none_at (k.has_byte c.args.kind) c.args.gap c.in-Err.error
     c.fill.new.window step.new.window (unread c.loop.window) c.loop.is_over _
     c.loop.window.position step.new.window.position _ _ _ c.in-Err.ensures.same
     c.in-Err.ensures.place capacity step.ensures.uses (step.ensures.asks c.in-More.is)

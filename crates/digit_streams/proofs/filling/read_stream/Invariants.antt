@@ -11,7 +11,7 @@ invariant-loop g l =
     let k = g.K.Kind in
     let first = l.initial.window in
     let text = prepend_known (unread first) (g.R.Read.remaining l.initial.reader) in
-    let list = stream_list (k.number_at l.kind) k.error_at k.error_later l.gap in
+    let list = stream_list (k.number_at l.kind) k.none_at k.error_later l.gap in
     record {
       capacity : length l.window.buffer.now ≡ length first.buffer.now;
       within : l.count ≤ length l.initial.out;

@@ -7,13 +7,13 @@ returns-in-Some-clause-list g c =
     let k = g.K.Kind in
     let m = g.met.K.Kind in
     let kind = c.args.kind in
-    let are : AreNumbers (k.number_at kind) k.error_at k.error_later (k.has_byte kind) = record {
+    let are : AreNumbers (k.number_at kind) k.none_at k.error_later (k.has_byte kind) = record {
       follows = λ text other at start upto from.
           m.follows kind text other at start c.requires upto from;
       precedes = λ text from at within fresh.
           m.precedes kind text from at c.requires within fresh;
       ends = λ text start end x within is. m.ends kind text start end x c.requires within is;
-      later_at = m.later_at;
+      none_later = m.none_later;
     } in
     λ more apart last.
     rw (
@@ -23,7 +23,7 @@ returns-in-Some-clause-list g c =
       ← c.unread.ensures,
     )
     (rw c.read_one-read.ensures.is at
-    (held_list (k.number_at kind) k.error_at k.error_later c.args.gap m.later_more
+    (held_list (k.number_at kind) k.none_at k.error_later c.args.gap m.later_more
     (k.has_byte kind) are apart c.args.window.now.position 1 c.unread.result.now more
     c.args.is_last last))
 
@@ -32,17 +32,17 @@ returns-in-None-clause-list g c =
     let k = g.K.Kind in
     let m = g.met.K.Kind in
     let kind = c.args.kind in
-    let are : AreNumbers (k.number_at kind) k.error_at k.error_later (k.has_byte kind) = record {
+    let are : AreNumbers (k.number_at kind) k.none_at k.error_later (k.has_byte kind) = record {
       follows = λ text other at start upto from.
           m.follows kind text other at start c.requires upto from;
       precedes = λ text from at within fresh.
           m.precedes kind text from at c.requires within fresh;
       ends = λ text start end x within is. m.ends kind text start end x c.requires within is;
-      later_at = m.later_at;
+      none_later = m.none_later;
     } in
     λ more apart last.
     rw (← c.unread.ensures)
     (rw c.read_one-read.ensures.is at
-    (held_begins (k.number_at kind) k.error_at k.error_later c.args.gap m.later_more
+    (held_begins (k.number_at kind) k.none_at k.error_later c.args.gap m.later_more
     (k.has_byte kind) are apart c.args.window.now.position 1 c.unread.result.now more
     c.args.is_last last))

@@ -7,12 +7,12 @@ returns g c =
     let m = g.met.K.Kind in
     let kind = c.args.kind in
     λ n m' position text apart.
-    lemmas.calls_go_on (k.number_at kind) k.error_at k.error_later (k.has_byte kind) c.args.gap
+    lemmas.calls_go_on (k.number_at kind) k.none_at k.error_later (k.has_byte kind) c.args.gap
     (record {
       follows = λ text other at start upto from.
           m.follows kind text other at start c.requires upto from;
       precedes = λ text from at within fresh.
           m.precedes kind text from at c.requires within fresh;
       ends = λ text start end x within is. m.ends kind text start end x c.requires within is;
-      later_at = m.later_at;
+      none_later = m.none_later;
     }) apart text m.later_more position m' n

@@ -36,7 +36,7 @@ pub fn first_of<K: Kind>(
 ) -> Option<Result<K::Number, StreamError<K::Error>>>
     requires { K.valid kind }
     ensures { IsApart (K.has_byte kind) gap → IsNext K.meaning
-        (stream_list (K.number_at kind) K.error_at K.error_later gap 0 text.now 1) result }
+        (stream_list (K.number_at kind) K.none_at K.error_later gap 0 text.now 1) result }
 {
     NumberReader::new(text, buffer, kind, gap).next_number()
 }

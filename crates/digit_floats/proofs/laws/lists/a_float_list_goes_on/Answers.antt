@@ -1,5 +1,5 @@
 use Rattle.digit_literals.proofs.Lists.{goes_on}
-use Rattle.digit_floats.specs.Errors.{position}
+use Rattle.digit_floats.specs.Errors.{none_at}
 use Rattle.digit_floats.specs.Float.{plain_marks, read_at}
 use Rattle.digit_floats.proofs.laws.lists.a_float_list_goes_on.Goals as goal
 
@@ -7,4 +7,4 @@ pub returns : goal.returns
 returns g c =
     let f = g.F.Float in
     goes_on {V = g.row.F.Denot} f.value
-    (read_at c.args.word c.args.text.now plain_marks f.format) position c.args.gap c.args.text.now
+    (read_at c.args.word c.args.text.now plain_marks f.format) none_at c.args.gap c.args.text.now

@@ -14,13 +14,13 @@ returns-in-Some-clause-next g c =
     let read = c.read_one-number.result in
     let one = k.number_at kind in
     let list = λ (text : List ℕ). after_end reader.ended
-    (stream_list one k.error_at k.error_later gap reader.position text 1) in
+    (stream_list one k.none_at k.error_later gap reader.position text 1) in
     let P : List ℕ → Type 0 = λ text. IsApart (k.has_byte kind) gap
     → Gives (list text) (list_of_option k.meaning read.0) read.1 in
     let Q : List ℕ → Type 0 = λ text. IsApart (k.has_byte kind) gap
     → (list text).0 ≡ k.meaning c.in-Some.number ∷ [] in
     let step : (text : List ℕ) → P text → Q text = λ text gives apart.
-    gives_next one k.error_at k.error_later gap reader.position text reader.ended
+    gives_next one k.none_at k.error_later gap reader.position text reader.ended
     (k.meaning c.in-Some.number) read.1 (rw c.in-Some.is at (gives apart)) in
     some_then reader.bytes P Q step
     c.read_one-number.ensures.list
