@@ -1,5 +1,5 @@
 -- At the end of a text no number by a form begins.
-use Rattle.std.proofs.Common.{◌≡◌, ℕ, ◌-◌, Bool, true, false, not, cond, ◌&&◌, List, [], ◌∷◌, None, length, filter, refl, arith}
+use Rattle.std.proofs.Common.{◌≡◌, ℕ, ◌-◌, Bool, true, false, not, cond, ◌&&◌, List, [], ◌∷◌, None, length, filter, refl, ap, arith}
 use Rattle.std.specs.Prelude.{◌^◌, ◌==◌, nat_lt, Err}
 use Rattle.std.specs.List.{starts_with}
 use Rattle.std.specs.Float.{Format}
@@ -145,6 +145,6 @@ module _ (f : Form) (text : List ℕ) (format : Format) where
 
 pub literal_ends : (l : Language) (text : List ℕ) (most : ℕ)
     → typed (literal_at l text (length text) most) ≡ Err (literals.Empty (length text))
-literal_ends l text most = rw (no_literal l text most) refl
+literal_ends l text most = ap typed (no_literal l text most)
 
 pub ruleset form_ends = (number_ends, literal_ends)
