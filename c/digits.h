@@ -515,7 +515,8 @@ digits_outcome digits_open_list(const void *text, size_t length, size_t start, u
  * As digits_read_.._list, of a piece of a text. What is read stays, whatever follows the piece, if
  * `between` is no byte that a number may have, such as a digit. Where it isn't sure yet the status is
  * DIGITS_MORE. With `is_last` nothing follows, and the calls answer what those of lists do. Positions
- * count from the start of the piece.
+ * count from the start of the piece. With `between` ' ' a number is sure as soon as one blank follows
+ * it, and `at` of DIGITS_FULL is after that blank, also with `is_last`.
  *
  * The last piece is the one for which a read gave 0 bytes: a read of a socket or a terminal often
  * gives fewer bytes than there is room for, and more of them come.

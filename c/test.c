@@ -464,6 +464,11 @@ static void pieces(void)
     CHECK(count == 2 && u64[0] == 7 && u64[1] == 8 && u64[2] == 7);
     IS(digits_read_u64_piece(TEXT("18446744073709551616 "), 0, ' ', false, u64, 3, &count),
        DIGITS_OVERFLOW, 19);
+    IS(digits_read_u64_piece(TEXT("5\n"), 0, ' ', false, u64, 3, &count), DIGITS_MORE, 2);
+    CHECK(count == 1 && u64[0] == 5);
+    IS(digits_read_u64_piece(TEXT("6  \n9"), 0, ' ', false, u64, 1, &count), DIGITS_FULL, 2);
+    IS(digits_read_u64_piece(TEXT("6  \n9"), 0, ' ', true, u64, 1, &count), DIGITS_FULL, 2);
+    CHECK(count == 1 && u64[0] == 6);
     IS(digits_read_u64_piece(NULL, 0, 0, ',', false, NULL, 0, &count), DIGITS_FULL, 0);
     IS(digits_read_u64_piece(NULL, 0, 0, ',', false, u64, 1, &count), DIGITS_MORE, 0);
     IS(digits_read_u64_piece(NULL, 0, 0, ',', true, u64, 1, &count), DIGITS_EMPTY, 0);

@@ -1,5 +1,5 @@
 -- At the end of a text no number by a form begins.
-use Rattle.std.proofs.Common.{◌≡◌, ℕ, ◌-◌, Bool, true, false, not, cond, ◌&&◌, List, [], ◌∷◌, None, length, filter, refl, arith}
+use Rattle.std.proofs.Common.{◌≡◌, ℕ, ◌-◌, Bool, true, false, not, cond, ◌&&◌, List, [], ◌∷◌, None, length, filter, refl, ap, arith}
 use Rattle.std.specs.Prelude.{◌^◌, ◌==◌, nat_lt, Err}
 use Rattle.std.specs.List.{starts_with}
 use Rattle.std.specs.Float.{Format}
@@ -12,7 +12,7 @@ use Rattle.lexical_format.specs.Word.{separator}
 use Rattle.digit_floats.specs.Bytes.{stands, is_point}
 use Rattle.digit_languages.specs.declared.language.Language.{Language}
 use Rattle.digit_languages.specs.declared.literal.LanguageError.TheVariants as literals
-use Rattle.digit_languages.specs.Literals.{literal_at}
+use Rattle.digit_languages.specs.Literals.{literal_at, typed}
 use Rattle.digit_numbers.specs.declared.form.Form.{Form}
 use Rattle.digit_numbers.specs.declared.form.Special.{Special}
 use Rattle.digit_numbers.specs.declared.number.NumberError.TheVariants as errors
@@ -142,3 +142,9 @@ module _ (f : Form) (text : List ℕ) (format : Format) where
       (past_sign f text (length text)) ≡ false =
       rw (past_end_of f text) (none_stands (is_separator (separator f.integers.decimal)) text) in
       rw (special, hex, separates) no_plain
+
+pub literal_ends : (l : Language) (text : List ℕ) (most : ℕ)
+    → typed (literal_at l text (length text) most) ≡ Err (literals.Empty (length text))
+literal_ends l text most = ap typed (no_literal l text most)
+
+pub ruleset form_ends = (number_ends, literal_ends)

@@ -8,6 +8,10 @@ use Rattle.digit_floats.specs.declared.scaled.ScaledError.{ScaledError}
 use Rattle.digit_floats.specs.declared.scaled.ScaledError.TheVariants as scaled
 use Rattle.digit_numbers.specs.declared.number.NumberError.{NumberError}
 use Rattle.digit_numbers.specs.declared.number.NumberError.TheVariants as numbers
+use Rattle.digit_languages.specs.declared.literal.LanguageError.{LanguageError}
+use Rattle.digit_languages.specs.declared.literal.LanguageError.TheVariants as languages
+use Rattle.digit_pieces.specs.declared.kinds.both.BothError.{BothError}
+use Rattle.digit_pieces.specs.declared.kinds.both.BothError.TheVariants.{First, Between, Second}
 
 abbrev pub literal_is_empty : LiteralError → Bool
 literal_is_empty (integers.Empty at) = true
@@ -28,3 +32,14 @@ abbrev pub number_is_empty : NumberError → Bool
 number_is_empty (numbers.Empty at) = true
 number_is_empty (numbers.Overflow at) = false
 number_is_empty (numbers.Invalid at) = false
+
+abbrev pub language_is_empty : LanguageError → Bool
+language_is_empty (languages.Empty at) = true
+language_is_empty (languages.Overflow at) = false
+language_is_empty (languages.Zero at) = false
+
+-- of two numbers: that of the first
+abbrev pub both_is_empty : {D E : Type 0} → (D → Bool) → BothError D E → Bool
+both_is_empty first (First error) = first error
+both_is_empty first (Between at) = false
+both_is_empty first (Second error) = false

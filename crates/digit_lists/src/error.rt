@@ -4,8 +4,10 @@ ghost use Rattle.std.specs.Prelude.{◌≡◌};
 
 use super::prices::PriceError;
 use digit_floats::{FloatError, ScaledError};
+use digit_languages::LanguageError;
 use digit_literals::LiteralError;
 use digit_numbers::NumberError;
+use digit_pieces::BothError;
 
 /// Why there is no number. The errors of all kinds of numbers here are of this trait.
 pub trait NoNumber: Copy {
@@ -19,7 +21,8 @@ pub trait NoNumber: Copy {
     fn fault_at(self) -> usize
         ensures { result ≡ fault_at self };
 
-    /// Whether it says that there is no digit, or by a form no number.
+    /// Whether it says that there is no digit, or by a form no number. Of two numbers: whether the
+    /// error of the first says so.
     fn is_empty(self) -> bool
         ensures { result ≡ is_empty self };
 }
@@ -97,6 +100,51 @@ impl NoNumber for NumberError {
     #[inline(always)]
     fn is_empty(self) -> bool {
         matches!(self, NumberError::Empty(_))
+    }
+}
+
+impl NoNumber for LanguageError {
+    ghost use Rattle.digit_languages.specs.Literals.{position};
+    ghost use Rattle.digit_lists.specs.Empty.{language_is_empty};
+
+    ghost fault_at = { position };
+
+    ghost is_empty = { language_is_empty };
+
+    #[inline(always)]
+    fn fault_at(self) -> usize {
+        self.position()
+    }
+
+    #[inline(always)]
+    fn is_empty(self) -> bool {
+        matches!(self, LanguageError::Empty(_))
+    }
+}
+
+impl<D: NoNumber, E: NoNumber> NoNumber for BothError<D, E> {
+    ghost use Rattle.digit_pieces.specs.Both.{both_error_at};
+    ghost use Rattle.digit_lists.specs.Empty.{both_is_empty};
+
+    ghost fault_at = { both_error_at D.fault_at E.fault_at };
+
+    ghost is_empty = { both_is_empty D.is_empty };
+
+    #[inline(always)]
+    fn fault_at(self) -> usize {
+        match self {
+            BothError::First(error) => error.fault_at(),
+            BothError::Between(at) => at,
+            BothError::Second(error) => error.fault_at(),
+        }
+    }
+
+    #[inline(always)]
+    fn is_empty(self) -> bool {
+        match self {
+            BothError::First(error) => error.is_empty(),
+            BothError::Between(_) | BothError::Second(_) => false,
+        }
     }
 }
 

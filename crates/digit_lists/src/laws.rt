@@ -1,10 +1,10 @@
 //! Laws of lists: functions that do nothing. Their contracts are the laws.
 
-ghost use Rattle.std.specs.Prelude.{◌≡◌, ℕ, true, false, length, Ok, Err};
+ghost use Rattle.std.specs.Prelude.{◌≡◌, ℕ, ◌+◌, true, false, length, Ok, Err};
 ghost use Rattle.std.specs.Float.{Format};
 ghost use Rattle.lexical_digits.specs.State.{rule_of};
 ghost use Rattle.lexical_digits.specs.declared.skip.component.Component.TheVariants.{Integer};
-ghost use Rattle.digit_literals.specs.Lists.{past_blanks};
+ghost use Rattle.digit_literals.specs.Lists.{past_blanks, list_at, and_then};
 ghost use Rattle.digit_literals.specs.Numbers.{number_at};
 ghost use Rattle.digit_literals.specs.declared.LiteralError.TheVariants as integers;
 ghost use Rattle.digit_floats.specs.Float.{plain_marks, read_at};
@@ -14,15 +14,30 @@ ghost use Rattle.digit_floats.specs.declared.scaled.ScaledError.TheVariants as s
 ghost use Rattle.digit_numbers.specs.Numbers.{number_of_at};
 ghost use Rattle.digit_numbers.specs.declared.form.Form.{Form};
 ghost use Rattle.digit_numbers.specs.declared.number.NumberError.TheVariants as numbers;
+ghost use Rattle.digit_languages.specs.Literals.{literal_at, typed};
+ghost use Rattle.digit_languages.specs.declared.language.Language.{Language};
+ghost use Rattle.digit_languages.specs.declared.literal.LanguageError.TheVariants as languages;
+ghost use Rattle.digit_pieces.specs.Both.{both_at};
+ghost use Rattle.digit_pieces.specs.declared.kinds.both.BothError.TheVariants as pairs;
 ghost use Rattle.digit_lists.specs.Lists.{full_list, parsed};
 ghost use Rattle.digit_lists.specs.declared.list.ListError.TheVariants as lists;
 
 use digit_literals::Gap;
-use digit_pieces::Kind;
+use digit_pieces::{Both, Kind};
+
+/// A list of any kind may be read by several calls. With room for `n` numbers, and then, where the
+/// slice was full, with room for `m`, they are the numbers with room for all; and the list ends as
+/// that.
+pub fn a_list_by_goes_on<K: Kind>(kind: K, text: &[u8], gap: Gap)
+    ensures { (n m start : ℕ) →
+        let of = list_at (K.number_at kind text.now) K.none_at gap text.now in
+        of (n + m) start ≡ and_then (of n start) (of m) }
+{}
 
 /// A text of blanks, and so an empty one, is a list of no numbers if the gap may trail. Otherwise
 /// it is none, and the error is that of the number at the end of the text. Requires that this
-/// error says that no number begins there: [`no_number_at_the_end`] says so of each kind.
+/// error says that no number begins there: [`no_number_at_the_end`] says so of each kind, and
+/// [`no_pair_at_the_end`] of two numbers.
 #[tactic(auto, using(crate::proofs::AtEnd::blanks))]
 pub fn a_blank_text<K: Kind>(kind: K, text: &[u8], gap: Gap, error: K::Error)
     requires blank { past_blanks gap text.now 0 ≡ length text.now }
@@ -38,7 +53,7 @@ pub fn a_blank_text<K: Kind>(kind: K, text: &[u8], gap: Gap, error: K::Error)
 
 /// At the end of a text no number begins: the error is that no digit is there, or by a form no
 /// number.
-#[tactic(auto, using(crate::proofs::AtEnd::ends, crate::proofs::FormEnd::number_ends))]
+#[tactic(auto, using(crate::proofs::AtEnd::ends, crate::proofs::FormEnd::form_ends))]
 pub fn no_number_at_the_end(text: &[u8], word: u128)
     ensures integer { (least most : ℕ) →
         number_at least most (rule_of word Integer) text.now (length text.now)
@@ -50,4 +65,14 @@ pub fn no_number_at_the_end(text: &[u8], word: u128)
         ≡ Err (scaled.Empty (length text.now)) }
     ensures number { (form : Form) (f : Format) → number_of_at form text.now (length text.now) f
         ≡ Err (numbers.Empty (length text.now)) }
+    ensures literal { (language : Language) (most : ℕ) →
+        typed (literal_at language text.now (length text.now) most)
+        ≡ Err (languages.Empty (length text.now)) }
+{}
+
+/// Where the first of two numbers doesn't begin at the end of a text, both don't.
+pub fn no_pair_at_the_end<A: Kind, B: Kind>(kind: Both<A, B>, text: &[u8], error: A::Error)
+    requires { A.number_at kind.first text.now (length text.now) ≡ Err error }
+    ensures { both_at (A.number_at kind.first) kind.between (B.number_at kind.second) text.now
+        (length text.now) ≡ Err (pairs.First error) }
 {}

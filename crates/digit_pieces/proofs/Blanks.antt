@@ -1,13 +1,15 @@
 -- What is between two numbers, in a text that goes on, and in one whose first bytes are gone.
 use Rattle.std.proofs.Common.{◌≡◌, ℕ, zero, suc, ◌+◌, ◌<◌, ◌≤◌, Bool, true, false, List, [], ◌∷◌, ◌++◌, length, drop, take_while, refl, ap, arith, length-drop, inl, inr}
-use Rattle.std.specs.Prelude.{slice_get}
-use Rattle.std.proofs.lemmas.Bool.{cases_Bool}
+use Rattle.std.specs.Prelude.{Result, Ok, IfOk, ◌&&◌, ◌||◌, nat_lt, if◌then◌else◌, slice_get}
+use Rattle.std.proofs.lemmas.Bool.{cases_Bool, cases_lt}
+use Rattle.std.proofs.lemmas.Bool.Decides.{nat_tests}
 use Rattle.std.proofs.lemmas.List.{drop-append-le, drop-drop}
 use Rattle.std.proofs.lemmas.List.Sums.{take_while-cons}
 use Rattle.lexical_digits.specs.ByteSet.{accepts}
 use Rattle.lexical_digits.specs.Cursor.{holds_of}
 use Rattle.digit_literals.specs.declared.list.Gap.{Gap}
 use Rattle.digit_literals.specs.Lists.{is_blank, has_separator, past_blanks, next_after}
+use Rattle.digit_pieces.specs.Pieces.{is_of_blanks, is_parted, next_start}
 
 -- ---- how many pass at the front of a list
 
@@ -78,6 +80,35 @@ module _ (gap : Gap) where
   unfolding past_blanks
   blanks_onward text at = omega arith
 
+  -- a fact of where the next number may be
+  pub start_if : (P : ℕ → Type 0) (text : List ℕ) (end : ℕ)
+      → (end < past_blanks gap text end → P (end + 1)) → IfOk (next_after gap text end) P
+      → IfOk (next_start gap text end) P
+  start_if P text end one next = by (is_of_blanks gap) (nat_lt end (past_blanks gap text end)) refl
+    where
+      by : (is more : Bool) → nat_lt end (past_blanks gap text end) ≡ more
+          → IfOk (if is && more then Ok (end + 1) else next_after gap text end) P
+      by true true e = one (grind (arith, nat_tests, e))
+      by true false e = next
+      by false more e = next
+
+  -- a number that is parted ends before a byte
+  pub parted_within : (text : List ℕ) (end : ℕ) → is_parted gap text false end ≡ true
+      → end < length text
+  parted_within text end =
+      by (is_of_blanks gap) (nat_lt end (length text))
+      (nat_lt (past_blanks gap text end) (length text)) refl refl
+    where
+      by : (is one past : Bool) → nat_lt end (length text) ≡ one
+          → nat_lt (past_blanks gap text end) (length text) ≡ past → is && one || past ≡ true
+          → end < length text
+      by is true past e l h = grind (arith, nat_tests, e)
+      by is false true e l h =
+          let low : past_blanks gap text end < length text = grind (arith, nat_tests, l) in
+          omega (arith, low, blanks_onward text end)
+      by true false false e l h = absurd cc
+      by false false false e l h = absurd cc
+
   -- ---- in a text that goes on
 
   module _ (piece more : List ℕ) where
@@ -108,6 +139,52 @@ module _ (gap : Gap) where
         → next_after gap (piece ++ more) end ≡ next_after gap piece end
     next_same end h =
         rw (blanks_same end h, get_front piece more (past_blanks gap piece end) h) refl
+
+    -- one blank, and others that follow
+    one_blank : (end : ℕ) (next other : Result ℕ ℕ) (is there here : Bool) → is ≡ true
+        → there ≡ true → here ≡ true
+        → (if is && there then Ok (end + 1) else next)
+        ≡ (if is && here then Ok (end + 1) else other)
+    one_blank end next other true true true e h k = refl
+    one_blank end next other true true false e h k = absurd cc
+    one_blank end next other true false here e h k = absurd cc
+    one_blank end next other false there here e h k = absurd cc
+
+    both_same : (end : ℕ) (next other : Result ℕ ℕ) (is there here : Bool) → there ≡ here
+        → next ≡ other
+        → (if is && there then Ok (end + 1) else next)
+        ≡ (if is && here then Ok (end + 1) else other)
+    both_same end next other true true true e h = refl
+    both_same end next other true false false e h = h
+    both_same end next other true true false e h = absurd cc
+    both_same end next other true false true e h = absurd cc
+    both_same end next other false there here e h = h
+
+    alone : (is one past : Bool) → is && one || past ≡ true → past ≡ false → is ≡ true
+    alone true one past h e = refl
+    alone false one true h e = absurd cc
+    alone false one false h e = absurd cc
+
+    -- after a number that is parted
+    pub start_same : (end : ℕ) → is_parted gap piece false end ≡ true
+        → next_start gap (piece ++ more) end ≡ next_start gap piece end
+    start_same end h = elim (cases_lt (past_blanks gap piece end) (length piece)) [
+      | inl l ↦
+          both_same end _ _ (is_of_blanks gap) _ _
+          (ap (nat_lt end) (blanks_same end l)) (next_same end l)
+      | inr l ↦
+          let low : end < length piece = parted_within piece end h in
+          let here : end < past_blanks gap piece end = omega arith in
+          let there : end < past_blanks gap (piece ++ more) end = omega (
+            arith,
+            here,
+            blanks_go_on end (omega arith),
+            blanks_onward (piece ++ more) (past_blanks gap piece end),
+          ) in
+          one_blank end _ _ (is_of_blanks gap) _ _
+          (alone (is_of_blanks gap) _ _ h (grind (arith, nat_tests)))
+          (grind (arith, nat_tests, there)) (grind (arith, nat_tests, here))
+    ]
 
   -- ---- in a text whose first bytes are gone
 

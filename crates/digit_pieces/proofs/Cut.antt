@@ -6,16 +6,15 @@ use Rattle.std.proofs.lemmas.Bool.Decides.{nat_tests}
 use Rattle.digit_literals.specs.declared.list.Gap.{Gap}
 use Rattle.digit_literals.specs.declared.list.ListEnd.{ListEnd}
 use Rattle.digit_literals.specs.declared.list.ListEnd.TheVariants as lists
-use Rattle.digit_literals.specs.Lists.{Numbers, past_blanks, next_after, before, list_at}
-use Rattle.digit_literals.specs.Lists as whole
+use Rattle.digit_literals.specs.Lists.{Numbers, past_blanks, before}
 use Rattle.digit_pieces.specs.declared.piece.PieceEnd.{PieceEnd}
 use Rattle.digit_pieces.specs.declared.piece.PieceEnd.TheVariants.{More, Full, Over, Fault}
 use Rattle.digit_pieces.specs.Moves.{IsFresh}
 use Rattle.digit_pieces.specs.Texts.{IsApart}
-use Rattle.digit_pieces.specs.Pieces.{PieceNumbers, of_list, and_others, and_more, after_number, from_number, piece_at}
-use Rattle.digit_pieces.proofs.Blanks.{blanks_within, blanks_same, blanks_go_on, blanks_onward, next_same}
-use Rattle.digit_pieces.proofs.Moved.{next_within}
-use Rattle.digit_pieces.proofs.Fresh.{past_fresh, next_fresh}
+use Rattle.digit_pieces.specs.Pieces.{PieceNumbers, of_list, and_others, and_more, is_parted, next_start, after_number, from_number, piece_at, after_of_whole, from_of_whole, whole_at}
+use Rattle.digit_pieces.proofs.Blanks.{blanks_within, blanks_same, blanks_go_on, parted_within, start_same}
+use Rattle.digit_pieces.proofs.Moved.{start_within}
+use Rattle.digit_pieces.proofs.Fresh.{past_fresh, start_fresh}
 
 -- a fact of where a piece asks for more
 pub IfMore : {E : Type 0} → PieceEnd E → (ℕ → Type 0) → Type 0
@@ -66,7 +65,7 @@ module _ {A E : Type 0} (one one_whole : ℕ → Result (A × ℕ) E) (none_at :
     (piece more : List ℕ) (sure : ℕ) (low : sure ≤ length piece)
     (stays : (at : ℕ) → at < sure → one_whole at ≡ one at) where
   abbrev of_whole : ℕ → ℕ → Numbers A E
-  of_whole room at = list_at one_whole none_at gap (piece ++ more) room at
+  of_whole room at = whole_at one_whole none_at gap (piece ++ more) room at
 
   abbrev of_piece : ℕ → ℕ → PieceNumbers A E
   of_piece room at = piece_at one none_at gap piece sure false room at
@@ -74,7 +73,7 @@ module _ {A E : Type 0} (one one_whole : ℕ → Result (A × ℕ) E) (none_at :
   -- from a place on it is the list
   from_place : (room at : ℕ) → at ≤ length piece
       → of_whole (suc room) at ≡ of_whole (suc room) (past_blanks gap piece at)
-  unfolding list_at
+  unfolding whole_at
   from_place room at h = rw (blanks_go_on gap piece more at h) refl
 
   asks : (room at : ℕ) → at ≤ length piece → of_whole (suc room) at
@@ -89,7 +88,7 @@ module _ {A E : Type 0} (one one_whole : ℕ → Result (A × ℕ) E) (none_at :
 
   pub cut_list : (room at : ℕ) → at ≤ length piece
       → of_whole room at ≡ and_more room (of_piece room at) of_whole
-  unfolding list_at piece_at
+  unfolding whole_at piece_at
   cut_list zero at h = refl
   cut_list (suc room) at h = by_sure (λ next. cut_list room next) (nat_lt place sure) refl
     where
@@ -99,7 +98,7 @@ module _ {A E : Type 0} (one one_whole : ℕ → Result (A × ℕ) E) (none_at :
       after_both : ((next : ℕ) → next ≤ length piece
           → of_whole room next ≡ and_more room (of_piece room next) of_whole)
           → (x : A) (next : Result ℕ ℕ) → IfOk next (λ n. n ≤ length piece)
-          → whole.after_number one_whole none_at gap (piece ++ more) (of_whole room) x next
+          → after_of_whole one_whole none_at gap (piece ++ more) (of_whole room) x next
           ≡ and_more (suc room)
           (after_number one none_at gap piece sure false (of_piece room) x next) of_whole
       after_both same x (Ok next) here =
@@ -109,28 +108,27 @@ module _ {A E : Type 0} (one one_whole : ℕ → Result (A × ℕ) E) (none_at :
       by_parted : ((next : ℕ) → next ≤ length piece
           → of_whole room next ≡ and_more room (of_piece room next) of_whole)
           → (x : A) (end : ℕ) (parted : Bool)
-          → nat_lt (past_blanks gap piece end) (length piece) ≡ parted
-          → of_whole (suc room) at ≡ whole.from_number one_whole none_at gap (piece ++ more)
+          → is_parted gap piece false end ≡ parted
+          → of_whole (suc room) at ≡ from_of_whole one_whole none_at gap (piece ++ more)
           (of_whole room) place (Ok (x, end))
           → of_whole (suc room) at ≡ and_more (suc room)
           (if parted then after_number one none_at gap piece sure false (of_piece room) x
-          (next_after gap piece end) else ([], More place)) of_whole
+          (next_start gap piece end) else ([], More place)) of_whole
       by_parted same x end true is step =
-          let part : past_blanks gap piece end < length piece = grind (arith, nat_tests, is) in
-          let here : end ≤ length piece = omega (arith, part, blanks_onward gap piece end) in
-          step ∙ rw (next_same gap piece more end part)
-          (after_both same x (next_after gap piece end) (next_within gap piece end here))
+          let here : end ≤ length piece = omega (arith, parted_within gap piece end is) in
+          step ∙ rw (start_same gap piece more end is)
+          (after_both same x (next_start gap piece end) (start_within gap piece end here))
       by_parted same x end false is step = asks room at h
 
       by_read : ((next : ℕ) → next ≤ length piece
           → of_whole room next ≡ and_more room (of_piece room next) of_whole)
           → (read : Result (A × ℕ) E) → place < sure
-          → of_whole (suc room) at ≡ whole.from_number one_whole none_at gap (piece ++ more)
+          → of_whole (suc room) at ≡ from_of_whole one_whole none_at gap (piece ++ more)
           (of_whole room) place read
           → of_whole (suc room) at ≡ and_more (suc room)
           (from_number one none_at gap piece sure false (of_piece room) place read) of_whole
       by_read same (Ok (x, end)) l step =
-          by_parted same x end (nat_lt (past_blanks gap piece end) (length piece)) refl step
+          by_parted same x end (is_parted gap piece false end) refl step
       by_read same (Err error) l step =
           step ∙ no_more (suc room) place error (gap.may_trail && none_at place error)
 
@@ -188,14 +186,13 @@ module _ {A E : Type 0} (one one_whole : ℕ → Result (A × ℕ) E) (none_at :
 
         by_parted : ((there : ℕ) → IsNext there → IfMore (of_piece room there).1 IsNext)
             → (x : A) (end : ℕ) (parted : Bool)
-            → nat_lt (past_blanks gap piece end) (length piece) ≡ parted
+            → is_parted gap piece false end ≡ parted
             → IfMore (if parted then after_number one none_at gap piece sure false (of_piece room)
-            x (next_after gap piece end) else ([], More place)).1 IsNext
+            x (next_start gap piece end) else ([], More place)).1 IsNext
         by_parted same x end true is =
-            let part : past_blanks gap piece end < length piece = grind (arith, nat_tests, is) in
-            let low : end ≤ length piece = omega (arith, part, blanks_onward gap piece end) in
-            after same x (next_after gap piece end)
-            (next_is _ (next_within gap piece end low) (next_fresh has gap apart piece end))
+            let low : end ≤ length piece = omega (arith, parted_within gap piece end is) in
+            after same x (next_start gap piece end)
+            (next_is _ (start_within gap piece end low) (start_fresh has gap apart piece end))
         by_parted same x end false is = here
 
         by_read : ((there : ℕ) → IsNext there → IfMore (of_piece room there).1 IsNext)
@@ -203,7 +200,7 @@ module _ {A E : Type 0} (one one_whole : ℕ → Result (A × ℕ) E) (none_at :
             → IfMore (from_number one none_at gap piece sure false (of_piece room) place read).1
             IsNext
         by_read same (Ok (x, end)) =
-            by_parted same x end (nat_lt (past_blanks gap piece end) (length piece)) refl
+            by_parted same x end (is_parted gap piece false end) refl
         by_read same (Err error) =
             no_number_more place error (gap.may_trail && none_at place error)
 

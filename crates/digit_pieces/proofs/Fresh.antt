@@ -8,8 +8,9 @@ use Rattle.lexical_digits.specs.Cursor.{holds_of}
 use Rattle.digit_literals.specs.declared.list.Gap.{Gap}
 use Rattle.digit_literals.specs.Lists.{is_blank, has_separator, past_blanks, next_after}
 use Rattle.digit_pieces.specs.Moves.{IsFresh}
+use Rattle.digit_pieces.specs.Pieces.{next_start}
 use Rattle.digit_pieces.specs.Texts.{IsApart}
-use Rattle.digit_pieces.proofs.Blanks.{led_passing, led_other, get_rest}
+use Rattle.digit_pieces.proofs.Blanks.{led_passing, led_other, get_rest, start_if}
 
 -- the last of the bytes that pass at the front passes
 last_passes : (p : ℕ → Bool) (xs : List ℕ) (m : ℕ) → length (take_while p xs) ≡ suc m
@@ -23,6 +24,24 @@ last_passes p (x ∷ xs) (suc m) h = elim (cases_Bool (p x)) [
   | inl is ↦ last_passes p xs m (omega (arith, led_passing p x xs is))
   | inr is ↦ absurd (omega (arith, led_other p x xs is))
 ]
+
+-- and so does the first
+first_passes : (p : ℕ → Bool) (xs : List ℕ) → 0 < length (take_while p xs)
+    → holds_of p (slice_get xs 0) ≡ true
+first_passes p [] h = absurd (omega arith)
+first_passes p (x ∷ xs) h = elim (cases_Bool (p x)) [
+  | inl is ↦ is
+  | inr is ↦ absurd (omega (arith, h, led_other p x xs is))
+]
+
+-- where blanks are passed one is
+pub blank_here : (gap : Gap) (text : List ℕ) (at : ℕ) → at < past_blanks gap text at
+    → holds_of (is_blank gap) (slice_get text at) ≡ true
+unfolding past_blanks
+blank_here gap text at h =
+    let some : 0 < length (take_while (is_blank gap) (drop at text)) = omega (arith, h) in
+    let none : at + 0 ≡ at = omega arith in
+    rw none at (rw (get_rest text at 0) at (first_passes (is_blank gap) (drop at text) some))
 
 module _ (has : ℕ → Bool) (gap : Gap) (apart : IsApart has gap) where
   spared : (byte : ℕ) → accepts gap.separators byte || accepts gap.blanks byte ≡ true
@@ -70,7 +89,7 @@ module _ (has : ℕ → Bool) (gap : Gap) (apart : IsApart has gap) where
         by (suc n) e = past_some at n e
 
     -- after what is between two numbers
-    pub next_fresh : (end : ℕ) → IfOk (next_after gap text end) (IsFresh has text)
+    next_fresh : (end : ℕ) → IfOk (next_after gap text end) (IsFresh has text)
     next_fresh end =
         by (has_separator gap text at) gap.blanks_separate (nat_lt end at) refl refl
       where
@@ -85,3 +104,12 @@ module _ (has : ℕ → Bool) (gap : Gap) (apart : IsApart has gap) where
         by false true true is some = past_more end (grind (arith, nat_tests, some))
         by false true false is some = tt
         by false false more is some = tt
+
+    -- after one blank
+    one_fresh : (end : ℕ) → end < past_blanks gap text end → IsFresh has text (end + 1)
+    one_fresh end some =
+        rw (add-one end) (blank_spared (slice_get text end) (blank_here gap text end some))
+
+    pub start_fresh : (end : ℕ) → IfOk (next_start gap text end) (IsFresh has text)
+    start_fresh end =
+        start_if gap (IsFresh has text) text end (λ some. one_fresh end some) (next_fresh end)

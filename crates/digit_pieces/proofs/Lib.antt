@@ -1,6 +1,8 @@
+pub mod AsLists
 pub mod Blanks
 pub mod Cut
 pub mod Fresh
+pub mod GoesOn
 pub mod Moved
 pub mod NameBytes
 pub mod SureEnds

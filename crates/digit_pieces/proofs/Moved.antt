@@ -1,14 +1,14 @@
 -- The list of a text whose first bytes are gone is that of the text, with positions later.
-use Rattle.std.proofs.Common.{◌≡◌, ℕ, zero, suc, ◌+◌, ◌<◌, ◌≤◌, Bool, true, false, List, [], length, drop, refl, ap, arith, length-drop}
+use Rattle.std.proofs.Common.{◌≡◌, ℕ, zero, suc, ◌+◌, ◌<◌, ◌≤◌, Bool, true, false, List, [], length, drop, refl, ap, ◌∙◌, arith, length-drop}
 use Rattle.std.specs.Prelude.{Result, Ok, Err, IfOk, ◌&&◌, nat_lt, if◌then◌else◌}
 use Rattle.std.proofs.lemmas.Bool.Decides.{nat_tests}
 use Rattle.digit_literals.specs.declared.list.Gap.{Gap}
 use Rattle.digit_literals.specs.declared.list.ListEnd.{ListEnd}
 use Rattle.digit_literals.specs.declared.list.ListEnd.TheVariants.{Over, Fault}
-use Rattle.digit_literals.specs.Lists.{Numbers, has_separator, past_blanks, next_after, no_number, before, after_number, from_number, list_at}
+use Rattle.digit_literals.specs.Lists.{Numbers, has_separator, past_blanks, next_after, no_number, before}
 use Rattle.digit_pieces.specs.Moves.{outcome_later}
-use Rattle.digit_pieces.specs.Pieces.{end_later, list_later}
-use Rattle.digit_pieces.proofs.Blanks.{blanks_within, blanks_moved, separator_moved, separator_within}
+use Rattle.digit_pieces.specs.Pieces.{end_later, list_later, is_of_blanks, next_start, after_of_whole, from_of_whole, whole_at}
+use Rattle.digit_pieces.proofs.Blanks.{blanks_within, blanks_moved, separator_moved, separator_within, start_if}
 
 -- ---- a test of positions that are both so much later
 
@@ -32,8 +32,17 @@ next_of_later by at true blanks = ap Ok (omega arith)
 next_of_later by at false true = refl
 next_of_later by at false false = refl
 
+start_of_later : (by end : ℕ) (other next : Result ℕ ℕ) (is there here : Bool) → there ≡ here
+    → other ≡ next_later by next → (if is && there then Ok (by + end + 1) else other)
+    ≡ next_later by (if is && here then Ok (end + 1) else next)
+start_of_later by end other next true true true e h = ap Ok (omega arith)
+start_of_later by end other next true false false e h = h
+start_of_later by end other next true true false e h = absurd cc
+start_of_later by end other next true false true e h = absurd cc
+start_of_later by end other next false there here e h = h
+
 module _ (gap : Gap) (text : List ℕ) (from : ℕ) where
-  pub next_moved : (end : ℕ)
+  next_moved : (end : ℕ)
       → next_after gap text (from + end) ≡ next_later from (next_after gap (drop from text) end)
   unfolding next_of_tests
   next_moved end =
@@ -46,8 +55,16 @@ module _ (gap : Gap) (text : List ℕ) (from : ℕ) where
       (has_separator gap (drop from text) (past_blanks gap (drop from text) end))
       (gap.blanks_separate && nat_lt end (past_blanks gap (drop from text) end)))
 
+  pub start_moved : (end : ℕ)
+      → next_start gap text (from + end) ≡ next_later from (next_start gap (drop from text) end)
+  start_moved end =
+      start_of_later from end _ _ (is_of_blanks gap) _ _
+      (ap (nat_lt (from + end)) (blanks_moved gap text from end)
+      ∙ lt_moved from end (past_blanks gap (drop from text) end))
+      (next_moved end)
+
 -- the next number is within the text
-pub next_within : (gap : Gap) (text : List ℕ) (end : ℕ) → end ≤ length text
+next_within : (gap : Gap) (text : List ℕ) (end : ℕ) → end ≤ length text
     → IfOk (next_after gap text end) (λ next. next ≤ length text)
 next_within gap text end h =
     by (has_separator gap text at) (gap.blanks_separate && nat_lt end at)
@@ -63,6 +80,12 @@ next_within gap text end h =
     by false true there low = low
     by false false there low = tt
 
+pub start_within : (gap : Gap) (text : List ℕ) (end : ℕ) → end ≤ length text
+    → IfOk (next_start gap text end) (λ next. next ≤ length text)
+start_within gap text end h =
+    start_if gap (λ next. next ≤ length text) text end
+    (λ some. omega (arith, some, blanks_within gap text end h)) (next_within gap text end h)
+
 -- ---- a list
 
 module _ {A E : Type 0} (one : List ℕ → ℕ → Result (A × ℕ) E) (none_at : ℕ → E → Bool)
@@ -77,10 +100,10 @@ module _ {A E : Type 0} (one : List ℕ → ℕ → Result (A × ℕ) E) (none_a
   rest = drop from text
 
   abbrev of_text : ℕ → ℕ → Numbers A E
-  of_text room at = list_at (one text) none_at gap text room at
+  of_text room at = whole_at (one text) none_at gap text room at
 
   abbrev of_rest : ℕ → ℕ → Numbers A E
-  of_rest room at = list_at (one rest) none_at gap rest room at
+  of_rest room at = whole_at (one rest) none_at gap rest room at
 
   in_text : (at : ℕ) → at ≤ length rest → from + at ≤ length text
   in_text at h = omega (arith, length-drop from text)
@@ -109,7 +132,7 @@ module _ {A E : Type 0} (one : List ℕ → ℕ → Result (A × ℕ) E) (none_a
 
   pub list_moved : (room at : ℕ) → at ≤ length rest
       → of_text room (from + at) ≡ list_later later from (of_rest room at)
-  unfolding list_at
+  unfolding whole_at
   list_moved zero at h = refl
   list_moved (suc room) at h =
       rw (blanks_moved gap text from at, moves place (in_text place low))
@@ -124,8 +147,9 @@ module _ {A E : Type 0} (one : List ℕ → ℕ → Result (A × ℕ) E) (none_a
       after_both : ((next : ℕ) → next ≤ length rest
           → of_text room (from + next) ≡ list_later later from (of_rest room next))
           → (x : A) (next : Result ℕ ℕ) → IfOk next (λ n. n ≤ length rest)
-          → after_number (one text) none_at gap text (of_text room) x (next_later from next)
-          ≡ list_later later from (after_number (one rest) none_at gap rest (of_rest room) x next)
+          → after_of_whole (one text) none_at gap text (of_text room) x (next_later from next)
+          ≡ list_later later from
+          (after_of_whole (one rest) none_at gap rest (of_rest room) x next)
       after_both same x (Ok next) here =
           rw (same next here) (before_later x (of_rest room next))
       after_both same x (Err over) here = refl
@@ -133,14 +157,14 @@ module _ {A E : Type 0} (one : List ℕ → ℕ → Result (A × ℕ) E) (none_a
       from_both : ((next : ℕ) → next ≤ length rest
           → of_text room (from + next) ≡ list_later later from (of_rest room next))
           → (read : Result (A × ℕ) E) → one rest place ≡ read
-          → from_number (one text) none_at gap text (of_text room) (from + place)
+          → from_of_whole (one text) none_at gap text (of_text room) (from + place)
           (outcome_later later from read)
           ≡ list_later later from
-          (from_number (one rest) none_at gap rest (of_rest room) place read)
+          (from_of_whole (one rest) none_at gap rest (of_rest room) place read)
       from_both same (Ok (x, end)) is =
           let here = ends place end x low is in
-          rw (next_moved gap text from end)
-          (after_both same x (next_after gap rest end) (next_within gap rest end here))
+          rw (start_moved gap text from end)
+          (after_both same x (next_start gap rest end) (start_within gap rest end here))
       from_both same (Err error) is =
           let none : List A = [] in
           ap (λ (e : ListEnd E). (none, e)) (no_number_moved place error)

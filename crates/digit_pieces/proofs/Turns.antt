@@ -3,10 +3,10 @@ use Rattle.std.proofs.Common.{◌≡◌, ℕ, suc, ◌+◌, ◌-◌, ◌<◌, �
 use Rattle.std.specs.Prelude.{Bool, true, false, Result, Ok, Err, set}
 use Rattle.std.proofs.lemmas.List.{take_more_set, drop-set-lt, drop-drop, length-set, map-append, append_assoc, length-map, length-take-le, append-nil}
 use Rattle.digit_literals.specs.declared.list.Gap.{Gap}
-use Rattle.digit_literals.specs.Lists.{past_blanks, next_after, no_number}
+use Rattle.digit_literals.specs.Lists.{past_blanks, no_number}
 use Rattle.digit_pieces.specs.declared.piece.PieceEnd.{PieceEnd}
 use Rattle.digit_pieces.specs.declared.piece.PieceEnd.TheVariants.{More, Full, Over}
-use Rattle.digit_pieces.specs.Pieces.{PieceNumbers, of_list, is_sure, is_parted, piece_at, FillsPiece}
+use Rattle.digit_pieces.specs.Pieces.{PieceNumbers, of_list, is_sure, is_parted, next_start, piece_at, FillsPiece}
 
 module _ {V A E : Type 0} (value : V → A) (one : ℕ → Result (A × ℕ) E) (none_at : ℕ → E → Bool)
     (gap : Gap) (text : List ℕ) (sure : ℕ) (is_last : Bool) where
@@ -48,14 +48,14 @@ module _ {V A E : Type 0} (value : V → A) (one : ℕ → Result (A × ℕ) E) 
 
   next_is : (room at end next : ℕ) (x : A) → surely (past_blanks gap text at) ≡ true
       → one (past_blanks gap text at) ≡ Ok (x, end) → parted end ≡ true
-      → next_after gap text end ≡ Ok next
+      → next_start gap text end ≡ Ok next
       → of (suc room) at ≡ (x ∷ (of room next).0, (of room next).1)
   unfolding piece_at
   next_is room at end next x here is apart more = rw (here, is, apart, more) refl
 
   over_is : (room at end over : ℕ) (x : A) → surely (past_blanks gap text at) ≡ true
       → one (past_blanks gap text at) ≡ Ok (x, end) → parted end ≡ true
-      → next_after gap text end ≡ Err over → of (suc room) at ≡ (x ∷ [], Over over)
+      → next_start gap text end ≡ Err over → of (suc room) at ≡ (x ∷ [], Over over)
   unfolding piece_at
   over_is room at end over x here is apart more = rw (here, is, apart, more) refl
 
@@ -160,7 +160,7 @@ module _ {V A E : Type 0} (value : V → A) (one : ℕ → Result (A × ℕ) E) 
         -- a number, and a separator after it
         pub turns_next : (end next : ℕ) → surely (past_blanks gap text at) ≡ true
             → one (past_blanks gap text at) ≡ Ok (value x, end) → parted end ≡ true
-            → next_after gap text end ≡ Ok next → SoFar start (i + 1) next old (set new i x)
+            → next_start gap text end ≡ Ok next → SoFar start (i + 1) next old (set new i x)
         turns_next end next here is apart more =
             let room' : ℕ = length old - (i + 1) in
             record {
@@ -175,7 +175,7 @@ module _ {V A E : Type 0} (value : V → A) (one : ℕ → Result (A × ℕ) E) 
         -- a number, and no separator after it
         pub turns_over : (end over : ℕ) → surely (past_blanks gap text at) ≡ true
             → one (past_blanks gap text at) ≡ Ok (value x, end) → parted end ≡ true
-            → next_after gap text end ≡ Err over → FillsPiece value (of (length old) start)
+            → next_start gap text end ≡ Err over → FillsPiece value (of (length old) start)
             (record { count = i + 1; end = Over over }) old (set new i x)
         turns_over end over here is apart more =
             let room' : ℕ = length old - (i + 1) in

@@ -1,9 +1,9 @@
 -- A list of numbers in a piece of a text: what may be read before the rest of the text is there.
-use Rattle.std.specs.Prelude.{◌≡◌, ℕ, zero, suc, ◌+◌, ◌-◌, Bool, ◌||◌, nat_lt, if◌then◌else◌, List, [], ◌∷◌, ◌++◌, length, map, take, drop, Result, Ok, Err}
+use Rattle.std.specs.Prelude.{◌≡◌, ℕ, zero, suc, ◌+◌, ◌-◌, ◌==◌, Bool, ◌&&◌, ◌||◌, nat_lt, if◌then◌else◌, List, [], ◌∷◌, ◌++◌, length, map, take, drop, Result, Ok, Err}
 use Rattle.digit_literals.specs.declared.list.Gap.{Gap}
 use Rattle.digit_literals.specs.declared.list.ListEnd.{ListEnd}
 use Rattle.digit_literals.specs.declared.list.ListEnd.TheVariants as lists
-use Rattle.digit_literals.specs.Lists.{Numbers, past_blanks, next_after, no_number}
+use Rattle.digit_literals.specs.Lists.{Numbers, past_blanks, next_after, no_number, before}
 use Rattle.digit_pieces.specs.declared.piece.PieceEnd.{PieceEnd}
 use Rattle.digit_pieces.specs.declared.piece.PieceEnd.TheVariants.{More, Full, Over, Fault}
 use Rattle.digit_pieces.specs.declared.piece.PieceRead.{PieceRead}
@@ -42,14 +42,62 @@ module _ {A E : Type 0} where
   and_more room (numbers, Over at) more = (numbers, lists.Over at)
   and_more room (numbers, Fault error) more = (numbers, lists.Fault error)
 
+-- numbers of a piece, and where the room for them was full, those that are read from there on
+abbrev pub and_full : {A E : Type 0} → PieceNumbers A E → (ℕ → PieceNumbers A E) → PieceNumbers A E
+and_full (numbers, More at) more = (numbers, More at)
+and_full (numbers, Full at) more = (numbers ++ (more at).0, (more at).1)
+and_full (numbers, Over at) more = (numbers, Over at)
+and_full (numbers, Fault error) more = (numbers, Fault error)
+
+-- a list as numbers of a piece
+abbrev pub as_piece : {A E : Type 0} → Numbers A E → PieceNumbers A E
+as_piece (numbers, end) = (numbers, of_list end)
+
+-- a list whose `Full` is past the blanks at its position
+abbrev pub full_past : {A E : Type 0} → Gap → List ℕ → Numbers A E → Numbers A E
+full_past gap text (numbers, lists.Full at) = (numbers, lists.Full (past_blanks gap text at))
+full_past gap text (numbers, lists.Over at) = (numbers, lists.Over at)
+full_past gap text (numbers, lists.Fault error) = (numbers, lists.Fault error)
+
 -- whether the outcome at a position stays
 abbrev pub is_sure : Bool → ℕ → ℕ → Bool
 is_sure is_last sure at = is_last || nat_lt at sure
 
+-- whether blanks alone separate: no byte is a separator
+abbrev pub is_of_blanks : Gap → Bool
+is_of_blanks gap = gap.blanks_separate && gap.separators.low == 0 && gap.separators.high == 0
+
+-- Where the next number may be, after the number that ends at a position: as in a list, but that
+-- one blank is enough where blanks alone separate.
+abbrev pub next_start : Gap → List ℕ → ℕ → Result ℕ ℕ
+next_start gap text end =
+    if is_of_blanks gap && nat_lt end (past_blanks gap text end) then Ok (end + 1)
+    else next_after gap text end
+
 -- whether it stays what follows the number that ends at a position: a byte of the piece is there
--- that is no blank
+-- that is no blank; any byte, where blanks alone separate
 abbrev pub is_parted : Gap → List ℕ → Bool → ℕ → Bool
-is_parted gap text is_last end = is_last || nat_lt (past_blanks gap text end) (length text)
+is_parted gap text is_last end =
+    is_last || is_of_blanks gap && nat_lt end (length text)
+    || nat_lt (past_blanks gap text end) (length text)
+
+-- The numbers of a whole text that may come in pieces: its list, but that `Full` is after one blank
+-- where blanks alone separate, however many follow.
+module _ {A E : Type 0} (one : ℕ → Result (A × ℕ) E) (none_at : ℕ → E → Bool) (gap : Gap)
+    (text : List ℕ) where
+  abbrev pub after_of_whole : (ℕ → Numbers A E) → A → Result ℕ ℕ → Numbers A E
+  after_of_whole others x (Ok next) = before x (others next)
+  after_of_whole others x (Err over) = (x ∷ [], lists.Over over)
+
+  abbrev pub from_of_whole : (ℕ → Numbers A E) → ℕ → Result (A × ℕ) E → Numbers A E
+  from_of_whole others place (Ok (x, end)) = after_of_whole others x (next_start gap text end)
+  from_of_whole others place (Err error) = ([], no_number gap place (none_at place error) error)
+
+  unfoldable pub whole_at : ℕ → ℕ → Numbers A E
+  whole_at zero start = ([], lists.Full start)
+  whole_at (suc room) start =
+      from_of_whole (whole_at room) (past_blanks gap text start)
+      (one (past_blanks gap text start))
 
 -- The numbers of a piece, as many as there is room for. `one` is the number at a position, and
 -- where it ends; or an error. `none_at` is whether an error says that no number begins at a
@@ -62,7 +110,7 @@ module _ {A E : Type 0} (one : ℕ → Result (A × ℕ) E) (none_at : ℕ → E
 
   abbrev pub from_number : (ℕ → PieceNumbers A E) → ℕ → Result (A × ℕ) E → PieceNumbers A E
   from_number others place (Ok (x, end)) =
-      if is_parted gap text is_last end then after_number others x (next_after gap text end)
+      if is_parted gap text is_last end then after_number others x (next_start gap text end)
       else ([], More place)
   from_number others place (Err error) =
       ([], of_list (no_number gap place (none_at place error) error))

@@ -2,9 +2,9 @@
 use Rattle.std.specs.Prelude.{◌≡◌, ℕ, Bool, true, false, ◌||◌, List, [], ◌∷◌, ◌++◌, drop, Result}
 use Rattle.lexical_digits.specs.ByteSet.{accepts}
 use Rattle.digit_literals.specs.declared.list.Gap.{Gap}
-use Rattle.digit_literals.specs.Lists.{Numbers, list_at}
+use Rattle.digit_literals.specs.Lists.{Numbers}
 use Rattle.digit_pieces.specs.Cuts.{sure_end}
-use Rattle.digit_pieces.specs.Pieces.{PieceNumbers, piece_at, and_more, list_later}
+use Rattle.digit_pieces.specs.Pieces.{PieceNumbers, piece_at, whole_at, and_more, list_later}
 
 -- no byte that may be between two numbers may be in one
 abbrev pub IsApart : (ℕ → Bool) → Gap → Type 0
@@ -13,9 +13,9 @@ IsApart has gap = (byte : ℕ) → has byte ≡ true
 
 module _ {A E : Type 0} (one : List ℕ → ℕ → Result (A × ℕ) E) (none_at : ℕ → E → Bool)
     (later : ℕ → E → E) (has : ℕ → Bool) (gap : Gap) where
-  -- the list of a whole text, from a position on
+  -- the numbers of a whole text, from a position on
   abbrev pub list_of : List ℕ → ℕ → ℕ → Numbers A E
-  list_of text room start = list_at (one text) none_at gap text room start
+  list_of text room start = whole_at (one text) none_at gap text room start
 
   -- what is read of a piece that isn't the last
   abbrev pub piece_of : List ℕ → ℕ → ℕ → PieceNumbers A E

@@ -1,8 +1,8 @@
 //! Lists of numbers in a piece of a text, which are read into a slice.
 
-ghost use Rattle.std.specs.Prelude.{◌≡◌, ◌≤◌, length};
+ghost use Rattle.std.specs.Prelude.{◌≡◌, ◌<◌, ◌≤◌, length, IfOk, IfErr};
 ghost use Rattle.digit_pieces.specs.Cuts.{sure_end};
-ghost use Rattle.digit_pieces.specs.Pieces.{of_list, is_sure, is_parted, piece_at, FillsPiece, IfAt};
+ghost use Rattle.digit_pieces.specs.Pieces.{of_list, is_of_blanks, is_sure, is_parted, next_start, piece_at, FillsPiece, IfAt};
 
 use super::kind::Kind;
 use super::sure::sure_end;
@@ -14,7 +14,8 @@ pub enum PieceEnd<E> {
     /// More of the text is needed: the bytes from this position on have to come again, with what
     /// follows them. A number may begin there.
     More(usize),
-    /// The slice is full. The next number may begin at this position, which is after a separator.
+    /// The slice is full. The next number may begin at this position, which is after a separator;
+    /// after one blank, where blanks alone separate.
     Full(usize),
     /// The list is over. No separator is at this position, past the blanks after the last number;
     /// or no number begins there.
@@ -52,21 +53,48 @@ fn is_sure(is_last: bool, sure: usize, at: usize) -> bool
     is_last || at < sure
 }
 
+/// Whether blanks alone separate.
+#[inline(always)]
+fn is_of_blanks(gap: Gap) -> bool
+    ensures { result ≡ is_of_blanks gap }
+{
+    gap.blanks_separate && gap.separators.low == 0 && gap.separators.high == 0
+}
+
 /// Whether it stays what follows the number that ends at a position.
 #[inline(always)]
 fn is_parted(gap: Gap, text: &[u8], is_last: bool, end: usize) -> bool
     requires { end ≤ length text.now }
     ensures { result ≡ is_parted gap text.now is_last end }
 {
-    is_last || gap.past_blanks(text, end) < text.len()
+    is_last || is_of_blanks(gap) && end < text.len() || gap.past_blanks(text, end) < text.len()
+}
+
+/// Where the next number may be, after the number that ends at a position: as by
+/// [`Gap::next_after`], but that one blank is enough where blanks alone separate. Requires that the
+/// position is within the text.
+#[inline(always)]
+fn next_start(gap: Gap, text: &[u8], end: usize) -> Result<usize, usize>
+    requires { end ≤ length text.now }
+    ensures is { result ≡ next_start gap text.now end }
+    ensures onward { IfOk result (λ next. end < next) }
+    ensures within { IfOk result (λ next. next ≤ length text.now) }
+    ensures over { IfErr result (λ over. (end ≤ over) × (over ≤ length text.now)) }
+{
+    if is_of_blanks(gap) && end < gap.past_blanks(text, end) {
+        Ok(end + 1)
+    } else {
+        gap.next_after(text, end)
+    }
 }
 
 /// The numbers of a kind from `start` on, in a piece of a text, read into a slice, with what `gap`
 /// says between two of them. `is_last` says that nothing follows the piece. If something may, then
 /// a number that touches the end of the piece is left, with the blanks after it, since what follows
-/// may go on with it: the end is [`More`](PieceEnd::More). Otherwise the piece is read and ends as
-/// a list does ([`read_list`](digit_literals::read_list)). Requires that the kind is valid and that
-/// `start` is within the text. Takes no memory.
+/// may go on with it: the end is [`More`](PieceEnd::More). Where blanks alone separate, one blank
+/// after a number is enough, and [`Full`](PieceEnd::Full) is after it. Otherwise the piece is read
+/// and ends as a list does ([`read_list`](digit_literals::read_list)). Requires that the kind is
+/// valid and that `start` is within the text. Takes no memory.
 ///
 /// So the numbers of a text can be read piece by piece, each piece after what was left of those
 /// before it ([`pieces_give_the_list`](crate::laws::pieces_give_the_list)).
@@ -113,7 +141,7 @@ pub fn read_piece<K: Kind>(
             return PieceRead { count, end: more };
         }
         out[count] = number;
-        match gap.next_after(text, end) {
+        match next_start(gap, text, end) {
             Ok(next) => at = next,
             Err(over) => {
                 return PieceRead {

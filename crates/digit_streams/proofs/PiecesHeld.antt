@@ -1,24 +1,20 @@
 -- What a piece of a stream gives: the list of the stream, or its first numbers, and the list of
 -- what is left.
-use Rattle.std.proofs.Common.{◌≡◌, ℕ, zero, suc, ◌+◌, ◌-◌, Bool, true, false, List, [], ◌++◌, length, drop, refl, sym, ap, ◌∙◌, add_assoc, append-nil}
-use Rattle.std.specs.Prelude.{Result, Ok, Err}
+use Rattle.std.proofs.Common.{◌≡◌, ℕ, ◌+◌, ◌-◌, Bool, true, false, List, [], ◌++◌, length, drop, refl, sym, ap, ◌∙◌, add_assoc, append-nil}
+use Rattle.std.specs.Prelude.{Result}
 use Rattle.digit_literals.specs.declared.list.Gap.{Gap}
 use Rattle.digit_literals.specs.declared.list.ListEnd.{ListEnd}
 use Rattle.digit_literals.specs.declared.list.ListEnd.TheVariants as lists
-use Rattle.digit_literals.specs.Lists.{Numbers, past_blanks, next_after, list_at}
-use Rattle.digit_literals.specs.Lists as words
+use Rattle.digit_literals.specs.Lists.{Numbers}
 use Rattle.digit_pieces.specs.declared.piece.PieceEnd.TheVariants as pieces
 use Rattle.digit_pieces.specs.Cuts.{sure_end}
-use Rattle.digit_pieces.specs.Pieces.{PieceNumbers, of_list, and_others, and_more, end_later, list_later, after_number, from_number, piece_at}
+use Rattle.digit_pieces.specs.Pieces.{PieceNumbers, of_list, as_piece, and_more, end_later, list_later, piece_at, whole_at}
 use Rattle.digit_pieces.specs.Texts.{IsApart}
+use Rattle.digit_pieces.proofs.GoesOn.{last_piece}
 use Rattle.digit_pieces.proofs.Theorem.{AreNumbers, cut}
 use Rattle.digit_streams.specs.declared.stream.StreamEnd.TheVariants.{Full, Over, Fault}
 use Rattle.digit_streams.specs.declared.stream.StreamError.TheVariants.{Number}
 use Rattle.digit_streams.specs.Streams.{StreamNumbers, end_in_stream, in_stream, stream_list, BeginsWith, ReadsOn, held_of, used}
-
--- a list as numbers of a piece
-abbrev as_piece : {A E : Type 0} → Numbers A E → PieceNumbers A E
-as_piece (numbers, end) = (numbers, of_list end)
 
 -- a piece that is the last gives its list
 module _ {A E : Type 0} (one : ℕ → Result (A × ℕ) E) (none_at : ℕ → E → Bool) (gap : Gap)
@@ -27,27 +23,7 @@ module _ {A E : Type 0} (one : ℕ → Result (A × ℕ) E) (none_at : ℕ → E
   piece room start = piece_at one none_at gap text sure true room start
 
   abbrev list : ℕ → ℕ → Numbers A E
-  list room start = list_at one none_at gap text room start
-
-  last_next : (room : ℕ) (x : A) → ((start : ℕ) → piece room start ≡ as_piece (list room start))
-      → (next : Result ℕ ℕ) → after_number one none_at gap text sure true (piece room) x next
-      ≡ as_piece (words.after_number one none_at gap text (list room) x next)
-  last_next room x same (Ok next) = ap (and_others x) (same next)
-  last_next room x same (Err over) = refl
-
-  last_read : (room place : ℕ) → ((start : ℕ) → piece room start ≡ as_piece (list room start))
-      → (read : Result (A × ℕ) E)
-      → from_number one none_at gap text sure true (piece room) place read
-      ≡ as_piece (words.from_number one none_at gap text (list room) place read)
-  last_read room place same (Ok (x, end)) = last_next room x same (next_after gap text end)
-  last_read room place same (Err error) = refl
-
-  last_piece : (room start : ℕ) → piece room start ≡ as_piece (list room start)
-  unfolding piece_at list_at
-  last_piece zero start = refl
-  last_piece (suc room) start =
-      last_read room (past_blanks gap text start) (λ next. last_piece room next)
-      (one (past_blanks gap text start))
+  list room start = whole_at one none_at gap text room start
 
   -- so it asks for no more bytes
   more_of_list : (room start : ℕ) (numbers : List A) (by : ℕ) (whole : Numbers A E)
@@ -62,7 +38,8 @@ module _ {A E : Type 0} (one : ℕ → Result (A × ℕ) E) (none_at : ℕ → E
   pub last_more : (room start : ℕ) (numbers : List A) (by : ℕ)
       → piece room start ≡ (numbers, pieces.More by) → ⊥
   last_more room start numbers by is =
-      more_of_list room start numbers by (list room start) (sym (last_piece room start) ∙ is)
+      more_of_list room start numbers by (list room start)
+      (sym (last_piece one none_at gap text sure room start) ∙ is)
 
 module _ {A E : Type 0} (one : List ℕ → ℕ → Result (A × ℕ) E) (none_at : ℕ → E → Bool)
     (later : ℕ → E → E) (gap : Gap)
@@ -82,14 +59,14 @@ module _ {A E : Type 0} (one : List ℕ → ℕ → Result (A × ℕ) E) (none_a
   abbrev rest : List ℕ → List ℕ → ℕ → ℕ → Numbers A E
   rest text more left at =
       list_later later at
-      (list_at (one (drop at text ++ more)) none_at gap (drop at text ++ more) left 0)
+      (whole_at (one (drop at text ++ more)) none_at gap (drop at text ++ more) left 0)
 
   cut_held : (position room : ℕ) (text more : List ℕ) (read : PieceNumbers A E)
       (whole : Numbers A E) → whole ≡ and_more room read (rest text more)
       → ReadsOn (in_stream later position whole) read.0 (held_of later position read.1)
       (of (position + used read.1) (drop (used read.1) text ++ more) (room - length read.0))
   cut_held position room text more (numbers, pieces.More at) whole is =
-      let left : Numbers A E = list_at (one (drop at text ++ more)) none_at gap
+      let left : Numbers A E = whole_at (one (drop at text ++ more)) none_at gap
       (drop at text ++ more) (room - length numbers) 0 in
       ap (in_stream later position) is
       ∙ ap (λ end. (numbers ++ left.0, end)) (end_twice position at left.1)
@@ -131,18 +108,18 @@ module _ {A E : Type 0} (one : List ℕ → ℕ → Result (A × ℕ) E) (none_a
         (room - length (read_of is_last).0))
     held_list false last =
         cut_held position room text more (read_of false)
-        (list_at (one (text ++ more)) none_at gap (text ++ more) room 0)
+        (whole_at (one (text ++ more)) none_at gap (text ++ more) room 0)
         (cut one none_at later has gap are apart text more room)
     held_list true last =
         let whole : text ++ more ≡ text = ap (λ m. text ++ m) (last refl) ∙ append-nil text in
         rw (whole, last_piece (one text) none_at gap text (sure_end has text) room 0)
-        (last_held position (list_at (one text) none_at gap text room 0) _)
+        (last_held position (whole_at (one text) none_at gap text room 0) _)
 
     pub held_begins : (is_last : Bool) → (is_last ≡ true → more ≡ [])
         → BeginsWith (of position (text ++ more) room).0 (read_of is_last).0
     held_begins false last =
         cut_begins room text more (read_of false)
-        (list_at (one (text ++ more)) none_at gap (text ++ more) room 0)
+        (whole_at (one (text ++ more)) none_at gap (text ++ more) room 0)
         (cut one none_at later has gap are apart text more room)
     held_begins true last =
         let whole : text ++ more ≡ text = ap (λ m. text ++ m) (last refl) ∙ append-nil text in

@@ -2,7 +2,8 @@
 use Rattle.std.proofs.Common.{◌≡◌, ℕ, List, [], ◌∷◌, sym, ap, ◌∙◌}
 use Rattle.std.specs.Prelude.{Option, None, Some, Result, Ok, Err}
 use Rattle.digit_literals.specs.declared.list.Gap.{Gap}
-use Rattle.digit_literals.specs.Lists.{past_blanks, next_after, list_at, after_number, from_number}
+use Rattle.digit_literals.specs.Lists.{past_blanks}
+use Rattle.digit_pieces.specs.Pieces.{next_start, after_of_whole, from_of_whole, whole_at}
 use Rattle.digit_streams.specs.declared.stream.Ended.{Ended}
 use Rattle.digit_streams.specs.declared.stream.StreamEnd.{StreamEnd}
 use Rattle.digit_streams.specs.declared.stream.StreamEnd.TheVariants.{Full, Over, Fault}
@@ -21,18 +22,19 @@ none_short y others h = absurd cc
 module _ {A E : Type 0} (one : ℕ → Result (A × ℕ) E) (none_at : ℕ → E → Bool) (gap : Gap)
     (text : List ℕ) where
   next_short : (x : A) (next : Result ℕ ℕ)
-      → IsShort (after_number one none_at gap text (list_at one none_at gap text 0) x next).0
-  unfolding list_at
+      → IsShort (after_of_whole one none_at gap text (whole_at one none_at gap text 0) x next).0
+  unfolding whole_at
   next_short x (Ok next) = one_short x
   next_short x (Err over) = one_short x
 
   read_short : (place : ℕ) (read : Result (A × ℕ) E)
-      → IsShort (from_number one none_at gap text (list_at one none_at gap text 0) place read).0
-  read_short place (Ok (x, end)) = next_short x (next_after gap text end)
+      → IsShort
+      (from_of_whole one none_at gap text (whole_at one none_at gap text 0) place read).0
+  read_short place (Ok (x, end)) = next_short x (next_start gap text end)
   read_short place (Err error) = none_short
 
-  list_short : (start : ℕ) → IsShort (list_at one none_at gap text 1 start).0
-  unfolding list_at
+  list_short : (start : ℕ) → IsShort (whole_at one none_at gap text 1 start).0
+  unfolding whole_at
   list_short start = read_short (past_blanks gap text start) (one (past_blanks gap text start))
 
 module _ {A E : Type 0} where

@@ -9,8 +9,8 @@ use Rattle.digit_literals.specs.Lists.{past_blanks, next_after, has_separator}
 use Rattle.digit_pieces.specs.declared.piece.PieceEnd.{PieceEnd}
 use Rattle.digit_pieces.specs.declared.piece.PieceEnd.TheVariants.{More, Full, Over, Fault}
 use Rattle.digit_pieces.specs.Cuts.{sure_end}
-use Rattle.digit_pieces.specs.Pieces.{PieceNumbers, of_list, is_sure, is_parted, after_number, from_number, piece_at}
-use Rattle.digit_pieces.proofs.Blanks.{blanks_onward}
+use Rattle.digit_pieces.specs.Pieces.{PieceNumbers, of_list, is_sure, is_parted, next_start, after_number, from_number, piece_at}
+use Rattle.digit_pieces.proofs.Blanks.{blanks_onward, start_if}
 use Rattle.digit_streams.specs.declared.stream.StreamError.{StreamError}
 use Rattle.digit_streams.specs.declared.stream.StreamError.TheVariants as errors
 use Rattle.digit_streams.specs.declared.stream.StreamEnd.TheVariants as streams
@@ -43,6 +43,11 @@ next_onward gap text end =
     by false true false is = tt
     by false false more is = tt
 
+start_onward : (gap : Gap) (text : List ℕ) (end : ℕ)
+    → IfOk (next_start gap text end) (λ next. 0 < next)
+start_onward gap text end =
+    start_if gap (λ next. 0 < next) text end (λ some. omega arith) (next_onward gap text end)
+
 module _ {A E : Type 0} (one : ℕ → Result (A × ℕ) E) (none_at : ℕ → E → Bool) (gap : Gap)
     (text : List ℕ) (sure : ℕ) (is_last : Bool) where
   abbrev of : ℕ → ℕ → PieceNumbers A E
@@ -73,9 +78,9 @@ module _ {A E : Type 0} (one : ℕ → Result (A × ℕ) E) (none_at : ℕ → E
 
       by_parted : ((next : ℕ) → 0 < next → IsOnward (of room next).1) → (x : A) (end : ℕ)
           → (parted : Bool) → IsOnward (if parted then after_number one none_at gap text sure
-          is_last (of room) x (next_after gap text end) else ([], More place)).1
+          is_last (of room) x (next_start gap text end) else ([], More place)).1
       by_parted same x end true =
-          after same x (next_after gap text end) (next_onward gap text end)
+          after same x (next_start gap text end) (start_onward gap text end)
       by_parted same x end false = here
 
       by_read : ((next : ℕ) → 0 < next → IsOnward (of room next).1)
@@ -109,11 +114,11 @@ module _ {A E : Type 0} (one : ℕ → Result (A × ℕ) E) (none_at : ℕ → E
       after x (Err over) m same = let e : Over over ≡ More 0 = ap (λ l. l.1) same in absurd cc
 
       by_parted : (x : A) (end : ℕ) (parted : Bool) → (if parted then after_number one none_at
-          gap text sure is_last (of room) x (next_after gap text end) else ([], More place))
+          gap text sure is_last (of room) x (next_start gap text end) else ([], More place))
           ≡ (numbers, More 0) → (if parted then after_number one none_at gap text sure is_last
-          (of 0) x (next_after gap text end) else ([], More place)) ≡ ([], More 0)
+          (of 0) x (next_start gap text end) else ([], More place)) ≡ ([], More 0)
       by_parted x end true same =
-          after x (next_after gap text end) (next_onward gap text end) same
+          after x (next_start gap text end) (start_onward gap text end) same
       by_parted x end false same = ap (λ l. ([], l.1)) same
 
       by_over : (error : E) (is_over : Bool) → ◌≡◌ {A = PieceNumbers A E}

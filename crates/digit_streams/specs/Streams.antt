@@ -3,11 +3,11 @@ use Rattle.std.specs.Prelude.{◌≡◌, Bool, false, ⊤, ℕ, ◌+◌, ◌-◌
 use Rattle.digit_literals.specs.declared.list.Gap.{Gap}
 use Rattle.digit_literals.specs.declared.list.ListEnd.{ListEnd}
 use Rattle.digit_literals.specs.declared.list.ListEnd.TheVariants as lists
-use Rattle.digit_literals.specs.Lists.{Numbers, list_at}
+use Rattle.digit_literals.specs.Lists.{Numbers}
 use Rattle.digit_pieces.specs.declared.piece.PieceEnd.{PieceEnd}
 use Rattle.digit_pieces.specs.declared.piece.PieceEnd.TheVariants as pieces
 use Rattle.digit_pieces.specs.Cuts.{sure_end}
-use Rattle.digit_pieces.specs.Pieces.{piece_at}
+use Rattle.digit_pieces.specs.Pieces.{piece_at, whole_at}
 use Rattle.digit_streams.specs.declared.stream.StreamEnd.{StreamEnd}
 use Rattle.digit_streams.specs.declared.stream.StreamEnd.TheVariants.{Full, Over, Fault}
 use Rattle.digit_streams.specs.declared.stream.StreamError.{StreamError}
@@ -36,7 +36,7 @@ in_stream later position (numbers, end) = (numbers, end_in_stream later position
 abbrev pub stream_list : {A E : Type 0} → (List ℕ → ℕ → Result (A × ℕ) E) → (ℕ → E → Bool)
     → (ℕ → E → E) → Gap → ℕ → List ℕ → ℕ → StreamNumbers A E
 stream_list one none_at later gap position text room =
-    in_stream later position (list_at (one text) none_at gap text room 0)
+    in_stream later position (whole_at (one text) none_at gap text room 0)
 
 -- the end that is answered again
 abbrev pub end_again : {E : Type 0} → Ended E → StreamEnd E

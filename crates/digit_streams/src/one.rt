@@ -1,8 +1,8 @@
 //! The next number of a piece of a text.
 
-ghost use Rattle.std.specs.Prelude.{◌≡◌, true, ℕ, None, ◌<◌, ◌≤◌, length, nat_lt, IsSome};
+ghost use Rattle.std.specs.Prelude.{◌≡◌, true, ℕ, None, ◌<◌, ◌≤◌, length, nat_lt, IsSome, IfOk, IfErr};
 ghost use Rattle.digit_pieces.specs.Cuts.{sure_end};
-ghost use Rattle.digit_pieces.specs.Pieces.{IfAt, is_sure, is_parted, of_list, piece_at};
+ghost use Rattle.digit_pieces.specs.Pieces.{IfAt, is_of_blanks, is_sure, is_parted, next_start, of_list, piece_at};
 ghost use Rattle.digit_streams.specs.Streams.{list_of_option};
 
 use digit_literals::{Gap, ListEnd};
@@ -48,12 +48,33 @@ fn is_sure<K: Kind>(kind: K, text: &[u8], is_last: bool, place: usize, end: usiz
     is_last || ends_at(kind, text, end) || has_end(kind, text, place)
 }
 
+/// Whether blanks alone separate.
+fn is_of_blanks(gap: Gap) -> bool
+    ensures { result ≡ is_of_blanks gap }
+{
+    gap.blanks_separate && gap.separators.low == 0 && gap.separators.high == 0
+}
+
 /// Whether it stays what follows the number that ends at a position.
 fn is_parted(gap: Gap, text: &[u8], is_last: bool, end: usize) -> bool
     requires { end ≤ length text.now }
     ensures { result ≡ is_parted gap text.now is_last end }
 {
-    is_last || gap.past_blanks(text, end) < text.len()
+    is_last || is_of_blanks(gap) && end < text.len() || gap.past_blanks(text, end) < text.len()
+}
+
+/// Where the next number may be, after the number that ends at a position.
+fn next_start(gap: Gap, text: &[u8], end: usize) -> Result<usize, usize>
+    requires { end ≤ length text.now }
+    ensures is { result ≡ next_start gap text.now end }
+    ensures within { IfOk result (λ next. next ≤ length text.now) }
+    ensures over { IfErr result (λ over. over ≤ length text.now) }
+{
+    if is_of_blanks(gap) && end < gap.past_blanks(text, end) {
+        Ok(end + 1)
+    } else {
+        gap.next_after(text, end)
+    }
 }
 
 /// The end of a list as that of a piece.
@@ -92,7 +113,7 @@ pub fn read_one<K: Kind>(
                     end: PieceEnd::More(place),
                 };
             }
-            let end = match gap.next_after(text, end) {
+            let end = match next_start(gap, text, end) {
                 Ok(next) => PieceEnd::Full(next),
                 Err(over) => PieceEnd::Over(over),
             };

@@ -17,9 +17,9 @@ use std::marker::Model;
 /// The numbers are those of the whole stream, however the reader cuts it into pieces. The premise
 /// is that no byte that may be between two numbers may be in one.
 ///
-/// A number has to fit the buffer, with the blanks after it and the byte that ends them; at the end
-/// of the stream too, one byte more than the number. Otherwise there is
-/// [`NoRoom`](StreamError::NoRoom).
+/// A number has to fit the buffer, with the blanks after it and the byte that ends them, or one
+/// blank where blanks alone separate; at the end of the stream too, one byte more than the number.
+/// Otherwise there is [`NoRoom`](StreamError::NoRoom). It is answered as soon as that byte is read.
 #[derive(Drop)]
 pub struct NumberReader<'b, K: Kind, R: Read> {
     format: Format<K>,
@@ -76,7 +76,8 @@ impl<'b, K: Kind, R: Read> NumberReader<'b, K, R> {
     }
 
     /// The position in the stream of the first byte that was not used yet: after the numbers that
-    /// were read, and after the separator and the blanks that follow them.
+    /// were read, and after the separator that follows them, or one blank where blanks alone
+    /// separate.
     pub fn position(&self) -> u64
         ensures { result ≡ self.now.position }
     {
@@ -170,7 +171,9 @@ impl<'b, K: Kind, R: Read> NumberReader<'b, K, R> {
     /// Whether the stream is at its end: nothing follows the bytes that were used. If something
     /// does, the error is [`Trailing`](StreamError::Trailing) with the position. After an error,
     /// that is answered again. Call it after the last number: a list is over where no number
-    /// begins, as at a letter, or by [`LINES`](digit_literals::LINES) at an empty line.
+    /// begins, as at a letter, or by [`LINES`](digit_literals::LINES) at an empty line. Where
+    /// blanks alone separate, the blanks at the end are used as
+    /// [`next_number`](NumberReader::next_number) answers `None`.
     pub fn finish(&mut self) -> Result<(), StreamError<K::Error>>
         ensures ok { OnOk result (IfSome self.old.bytes (λ bytes. bytes ≡ [])) }
         ensures trailing { IfNone self.old.ended (IfErr result (λ error. IfTrailing error (λ at.

@@ -41,7 +41,8 @@ impl<E: Error> Error for StreamError<E> {}
 /// Why numbers of a stream were read no further. Positions count bytes of the stream from 0.
 #[derive(Clone, Copy, Debug, PartialEq, Eq)]
 pub enum StreamEnd<E> {
-    /// The slice is full. The next number may begin at this position, which is after a separator.
+    /// The slice is full. The next number may begin at this position, which is after a separator;
+    /// after one blank, where blanks alone separate.
     Full(u64),
     /// The list is over. No separator is at this position, past the blanks after the last number;
     /// or no number begins there.

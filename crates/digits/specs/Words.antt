@@ -65,8 +65,8 @@ pub use Rattle.digit_pieces.specs.declared.piece.PieceEnd.{PieceEnd}
 pub use Rattle.digit_pieces.specs.declared.piece.PieceRead.{PieceRead}
 pub use Rattle.digit_pieces.specs.Cuts.{is_integer_byte, is_float_byte, is_scaled_byte}
 unfoldable pub use Rattle.digit_pieces.specs.Cuts.{sure_end}
-pub use Rattle.digit_pieces.specs.Pieces.{FillsPiece, IfAt, and_more, list_later}
-unfoldable pub use Rattle.digit_pieces.specs.Pieces.{piece_at}
+pub use Rattle.digit_pieces.specs.Pieces.{FillsPiece, IfAt, and_full, and_more, as_piece, full_past, is_of_blanks, list_later}
+unfoldable pub use Rattle.digit_pieces.specs.Pieces.{piece_at, whole_at}
 pub use Rattle.digit_pieces.specs.Texts.{IsApart, list_of, piece_of}
 unfoldable pub use Rattle.digit_pieces.specs.Texts.{read_pieces}
 pub use Rattle.digit_streams.specs.declared.stream.StreamEnd.{StreamEnd}
@@ -78,7 +78,7 @@ pub use Rattle.digit_lists.specs.declared.enclosed.EnclosedError.{EnclosedError}
 pub use Rattle.digit_lists.specs.declared.prices.PriceError.{PriceError}
 pub use Rattle.digit_lists.specs.Lists.{Holds, enclosed, full_list, inside, parsed}
 pub use Rattle.digit_lists.specs.Optional.{optional, with_meaning}
-pub use Rattle.digit_lists.specs.Empty.{float_is_empty, literal_is_empty}
+pub use Rattle.digit_lists.specs.Empty.{both_is_empty, float_is_empty, language_is_empty, literal_is_empty}
 pub use Rattle.digit_lists.specs.Empty.{number_is_empty, scaled_is_empty}
 pub use Rattle.digit_lists.specs.Groups.{AreGroups, groups_at, wrong_at}
 pub use Rattle.digit_lists.specs.Prices.{exact_at, grouped_at, places_at, price_at}

@@ -6,17 +6,18 @@ ghost use Rattle.std.specs.Float.{Format};
 ghost use Rattle.digit_pieces.specs.Cuts.{is_float_byte, sure_end};
 ghost use Rattle.digits.specs.Words.{STANDARD, form_of, plain_marks};
 ghost use Rattle.digits_c.specs.Calls.{float_from, integer_from, scaled_from, word_of};
-ghost use Rattle.digits_c.specs.Numbers.{integer_by, number_by};
-ghost use Rattle.digits_c.specs.Outcomes.{AnswersIf};
+ghost use Rattle.digits_c.specs.Numbers.{integer_by, no_parts, number_by};
+ghost use Rattle.digits_c.specs.Outcomes.{Answers, AnswersIf};
 ghost use Rattle.digits_c.specs.Pieces.{sure_by, sure_of};
 ghost use Rattle.digits_c.specs.declared.numbers.TheConstants as kinds;
 ghost use Rattle.digits_c.specs.declared.outcome.TheConstants as statuses;
 
 use super::numbers::{NumberParts, digits_as_i64, digits_read_number};
+use super::outcome::Outcome;
 use super::pieces::{digits_sure_end, digits_sure_end_by, digits_sure_end_of};
 use super::word::Word;
 
-/// [`digits_as_i64`] after [`digits_read_number`]: what it answers is a function of the text.
+/// [`digits_as_i64`] after [`digits_read_number`]: what both answer is a function of the text.
 #[tactic(auto, using(crate::proofs::Read::read_is))]
 pub fn read_then_as_i64(
     text: &[u8],
@@ -24,12 +25,14 @@ pub fn read_then_as_i64(
     form: u32,
     number: &mut NumberParts,
     integer: &mut i64,
-) -> bool
-    ensures { AnswersIf (integer_by (2 ^ 63) (2 ^ 63 - 1) text.now start (form_of form))
-        integer.new result }
+) -> (Outcome, bool)
+    ensures number { Answers no_parts (number_by text.now start (form_of form)) number.new
+        result.0 }
+    ensures integer { AnswersIf (integer_by (2 ^ 63) (2 ^ 63 - 1) text.now start (form_of form))
+        integer.new result.1 }
 {
-    let _outcome = digits_read_number(text, start, form, number);
-    digits_as_i64(number, integer)
+    let outcome = digits_read_number(text, start, form, number);
+    (outcome, digits_as_i64(number, integer))
 }
 
 /// What a read without a word answers at a start before [`digits_sure_end`] stays, whatever follows

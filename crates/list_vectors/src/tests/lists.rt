@@ -3,6 +3,7 @@
 use digit_floats::{FloatError, ScaledError};
 use digit_languages::LanguageError;
 use digit_languages::languages::PYTHON;
+use digit_lists::laws::a_list_by_goes_on;
 use digit_lists::{
     EnclosedError, ListError, NoNumber, PriceError, Prices, parse_list, read_enclosed,
     read_exact_from, read_grouped_from, read_list_by, read_optional, read_price_from, wrong_group,
@@ -257,6 +258,33 @@ fn a_number_or_none(rt: HostRuntime) {
     let json = OfForm::<f64>::new(forms::JSON);
     assert!(rt; read_optional(json, b"null", 0) == Ok(None));
     assert!(rt; read_optional(json, b"1e2", 0) == Ok(Some((Number::Float(100.0), 3))));
+}
+
+#[test]
+#[tactic(auto, unfolding(lexical_format::proofs::OnLiterals::lexical_on_literals))]
+fn a_literal_or_a_pair_or_none(rt: HostRuntime) {
+    let python = OfLanguage::<u8>::new(PYTHON);
+    assert!(rt; read_optional(python, b"x", 0) == Ok(None));
+    assert!(rt; read_optional(python, b"0x1f", 0) == Ok(Some((31, 4))));
+    assert!(rt; read_optional(python, b"01", 0) == Err(LanguageError::Zero(0)));
+    assert!(rt; read_optional(python, b"0x", 0) == Err(LanguageError::Empty(2)));
+    let side = Integers::<u8>::new(STANDARD);
+    let point = Both {
+        first: side,
+        between: b':',
+        second: side,
+    };
+    assert!(rt; read_optional(point, b"3:4;", 0) == Ok(Some(((3, 4), 3))));
+    assert!(rt; read_optional(point, b";", 0) == Ok(None));
+    assert!(rt; read_optional(point, b"3;", 0) == Err(BothError::Between(1)));
+    let none = BothError::Second(LiteralError::Empty(2));
+    assert!(rt; read_optional(point, b"3:", 0) == Err(none));
+    let mut points = [(0, 0); 2];
+    let row = parse_list(point, b"1:2, 3:400", COMMAS, &mut points);
+    let large = ListError::Number(BothError::Second(LiteralError::Overflow(9)));
+    assert!(rt; row == Err(large) && large.position() == 9);
+    assert!(rt; none.fault_at() == 2 && !none.is_empty());
+    a_list_by_goes_on(point, b"1:2, 3:4", COMMAS);
 }
 
 #[test]

@@ -4,8 +4,9 @@ ghost use Rattle.std.specs.Prelude.{◌<◌, length};
 
 use digit_floats::FloatError;
 use digit_languages::languages::RUST;
-use digit_literals::{COMMAS, Gap, LINES, LiteralError, WHITESPACE};
+use digit_literals::{COMMAS, Gap, LINES, LiteralError, SPACES_IN_LINE, WHITESPACE};
 use digit_numbers::{Number, forms};
+use digit_pieces::laws::{a_piece_goes_on, a_text_is_a_list, pieces_give_the_list};
 use digit_pieces::{
     Both, BothError, Floats, Integers, Kind, OfForm, OfLanguage, PieceEnd, Scaled,
     read_float_list_piece, read_list_piece, read_list_piece_of, read_piece, read_scaled_list_piece,
@@ -14,10 +15,16 @@ use digit_pieces::{
 use lexical_format::STANDARD;
 use lexical_format::words::PYTHON_LITERAL;
 
+/// A comma or blanks, so that what follows a blank decides.
+const COMMAS_OR_BLANKS: Gap = Gap {
+    blanks_separate: true,
+    ..COMMAS
+};
+
 /// A piece, what is between its numbers, how many of its floats are read, and why no more.
 type Row = (&'static [u8], Gap, usize, PieceEnd<FloatError>);
 
-static ROWS: [Row; 20] = [
+static ROWS: [Row; 28] = [
     (b"", COMMAS, 0, PieceEnd::More(0)),
     (b"1.5", COMMAS, 0, PieceEnd::More(0)),
     (b"1.5,-2", COMMAS, 1, PieceEnd::More(4)),
@@ -37,7 +44,15 @@ static ROWS: [Row; 20] = [
         PieceEnd::Fault(FloatError::EmptyExponent(6)),
     ),
     (b"1,2,3,4,5,6", COMMAS, 4, PieceEnd::Full(8)),
-    (b"1 2 ", WHITESPACE, 1, PieceEnd::More(2)),
+    (b"1 2 ", WHITESPACE, 2, PieceEnd::More(4)),
+    (b"1 2", WHITESPACE, 1, PieceEnd::More(2)),
+    (b"1 2 3 4 ", WHITESPACE, 4, PieceEnd::Full(8)),
+    (b"1 2 3 4\r\n\n5", WHITESPACE, 4, PieceEnd::Full(8)),
+    (b"1 2 3 4;", WHITESPACE, 4, PieceEnd::Over(7)),
+    (b"1 2 ;", WHITESPACE, 2, PieceEnd::Over(4)),
+    (b"1\t ", SPACES_IN_LINE, 1, PieceEnd::More(3)),
+    (b"1 2 ", COMMAS_OR_BLANKS, 1, PieceEnd::More(2)),
+    (b"1 2 , 3 4 5", COMMAS_OR_BLANKS, 4, PieceEnd::Full(10)),
     (b"1 2\n\n3", WHITESPACE, 2, PieceEnd::More(5)),
     (b" \n", WHITESPACE, 0, PieceEnd::More(2)),
     (b"1\r", LINES, 0, PieceEnd::More(0)),
@@ -79,6 +94,31 @@ fn a_piece_of_each_kind(rt: HostRuntime) {
     assert!(rt; sure_end(Integers::<u64>::new(STANDARD), b"1-2") == 2);
     assert!(rt; sure_end(Integers::<i64>::new(STANDARD), b"1-2") == 0);
     assert!(rt; sure_end(OfLanguage::<u64>::new(RUST), b"0x1f, 0b") == 6);
+}
+
+/// Where blanks alone separate, a full slice ends after one blank: also of the last piece.
+#[test]
+#[tactic(auto, unfolding(lexical_format::proofs::OnLiterals::lexical_on_literals))]
+fn a_full_slice_waits_for_no_blank(rt: HostRuntime) {
+    let kind = Integers::<u8>::new(STANDARD);
+    let mut two = [0; 2];
+    for is_last in [false, true] {
+        let read = read_piece(kind, b" 1  2   3", 0, WHITESPACE, is_last, &mut two);
+        assert!(rt; read.count == 2 && read.end == PieceEnd::Full(6) && two == [1, 2]);
+        let read = read_piece(kind, b" 1  2   3", 6, WHITESPACE, is_last, &mut two[..1]);
+        assert!(rt;
+            read.end
+                == if is_last {
+                    PieceEnd::Over(9)
+                } else {
+                    PieceEnd::More(8)
+                }
+        );
+    }
+    assert!(rt; two == [3, 2]);
+    a_piece_goes_on(kind, b"1 2", WHITESPACE);
+    a_text_is_a_list(kind, b"1 2", WHITESPACE);
+    pieces_give_the_list(kind, WHITESPACE);
 }
 
 /// Numbers by chance, from a seed.

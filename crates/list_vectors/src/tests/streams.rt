@@ -6,9 +6,11 @@
 //!   read before each piece, into slices of 1 to 4 places and number by number: `rows`
 //! - a reader that fails in mid-stream, and what was read before; a number as long as the buffer,
 //!   and one that is longer; what is answered again: `ends`
+//! - a number that is answered before the reader is asked again: `waits`
 //! - a caller: `uses`
 
 mod ends;
 mod readers;
 mod rows;
 mod uses;
+mod waits;

@@ -22,8 +22,8 @@ returns-then-not-is_parted-clause-is g c =
     (k.meaning c.in-Ok.read.0) here
     (rw c.past_blanks-place.ensures.is at c.in-Ok.ensures.is) touches)
 
-pub returns-in-Err-next_after-clause-is : goal.returns-in-Err-next_after-clause-is
-returns-in-Err-next_after-clause-is g c =
+pub returns-in-Err-next_start-clause-is : goal.returns-in-Err-next_start-clause-is
+returns-in-Err-next_start-clause-is g c =
     let k = g.K.Kind in
     let text = c.args.text.now in
     let sure = sure_end (k.has_byte c.args.kind) text in
@@ -35,8 +35,8 @@ returns-in-Err-next_after-clause-is g c =
     turns_over k.meaning (k.number_at c.args.kind text) k.none_at c.args.gap text sure
     c.args.is_last c.args.start c.loop-count.count c.loop-count.at c.args.out.now
     c.loop-count.out c.loop-count.invariant.so (omega arith) c.in-Ok.read.0 c.in-Ok.read.1
-    c.in-Err-next_after.over here (rw c.past_blanks-place.ensures.is at c.in-Ok.ensures.is) parts
-    (sym c.in-Err-next_after.ensures.is)
+    c.in-Err-next_start.over here (rw c.past_blanks-place.ensures.is at c.in-Ok.ensures.is) parts
+    (sym c.in-Err-next_start.ensures.is)
 
 pub loop-count-preserved : goal.loop-count-preserved
 loop-count-preserved g c =
@@ -52,16 +52,16 @@ loop-count-preserved g c =
       so = turns_next k.meaning (k.number_at c.args.kind text) k.none_at c.args.gap text sure
           c.args.is_last c.args.start c.loop-count.count c.loop-count.at c.args.out.now
           c.loop-count.out c.loop-count.invariant.so (omega arith) c.in-Ok.read.0 c.in-Ok.read.1
-          c.in-Ok-next_after.next here
+          c.in-Ok-next_start.next here
           (rw c.past_blanks-place.ensures.is at c.in-Ok.ensures.is) parts
-          (sym c.in-Ok-next_after.ensures.is);
+          (sym c.in-Ok-next_start.ensures.is);
       onward = omega (
         arith,
         c.loop-count.invariant.onward,
         c.past_blanks-place.ensures.onward,
         c.in-Ok.ensures.end,
-        c.in-Ok-next_after.ensures.onward,
+        c.in-Ok-next_start.ensures.onward,
       );
-      within = c.in-Ok-next_after.ensures.within;
+      within = c.in-Ok-next_start.ensures.within;
       room = refl;
     }
