@@ -1,4 +1,5 @@
 pub mod Arguments
+pub mod ErrorKinds
 pub mod Field
 pub mod FloatMeaning
 pub mod FloatOutcome

@@ -6,6 +6,7 @@ ghost use Rattle.digit_totals.specs.declared.fault.Fault.TheVariants.{Memory};
 use digit_floats::{FloatError, ScaledError};
 use digit_literals::ParseError;
 use std::alloc::AllocError;
+use std::io::ErrorKind;
 
 /// Why a line has no number. Positions count the line's bytes, from 0.
 #[derive(Clone, Copy, Debug, PartialEq, Eq)]
@@ -29,10 +30,11 @@ pub enum Fault {
     Sum(u128),
     /// This line is longer than 65,535 bytes.
     LongLine(u128),
-    /// A read failed.
-    Read,
-    /// A write failed, or wrote nothing although bytes were left.
-    Write,
+    /// A read failed with an error of this kind. An interrupted one is tried again.
+    Read(ErrorKind),
+    /// A write failed with an error of this kind. [`ErrorKind::WriteZero`]: it wrote nothing, and
+    /// bytes were left.
+    Write(ErrorKind),
     /// The allocator refused memory.
     Memory,
     /// The text of a float among the totals is not read as that float.
@@ -50,8 +52,8 @@ impl Fault {
             Fault::Number(_, _) => 3,
             Fault::Sum(_) => 4,
             Fault::LongLine(_) => 5,
-            Fault::Read => 6,
-            Fault::Write => 7,
+            Fault::Read(_) => 6,
+            Fault::Write(_) => 7,
             Fault::Memory => 8,
             Fault::Text => 9,
         }
