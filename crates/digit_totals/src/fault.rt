@@ -1,6 +1,7 @@
 //! The reasons for which a run ends early.
 
-ghost use Rattle.std.specs.Prelude.{◌≡◌};
+ghost use Rattle.std.specs.Prelude.{◌≡◌, ◌+◌, ◌^◌, ◌<◌};
+ghost use Rattle.digit_totals.specs.Errors as Errors;
 ghost use Rattle.digit_totals.specs.declared.fault.Fault.TheVariants.{Memory};
 
 use digit_floats::{FloatError, ScaledError};
@@ -19,6 +20,35 @@ pub enum NumberError {
     Decimal(ScaledError),
     /// It is no float.
     Float(FloatError),
+}
+
+impl NumberError {
+    /// With its position so much later: of a line, if this is of a field that begins there.
+    #[cold]
+    pub fn later(self, by: usize) -> NumberError
+        requires { by + Errors.position self < 2 ^ 64 }
+        ensures { result ≡ Errors.later by self }
+    {
+        match self {
+            NumberError::Missing => self,
+            NumberError::Integer(error) => NumberError::Integer(match error {
+                ParseError::Empty(at) => ParseError::Empty(by + at),
+                ParseError::Invalid(at) => ParseError::Invalid(by + at),
+                ParseError::Overflow(at) => ParseError::Overflow(by + at),
+            }),
+            NumberError::Decimal(error) => NumberError::Decimal(match error {
+                ScaledError::Empty(at) => ScaledError::Empty(by + at),
+                ScaledError::TooLarge(at) => ScaledError::TooLarge(by + at),
+                ScaledError::TooFine(at) => ScaledError::TooFine(by + at),
+                ScaledError::Invalid(at) => ScaledError::Invalid(by + at),
+            }),
+            NumberError::Float(error) => NumberError::Float(match error {
+                FloatError::Empty(at) => FloatError::Empty(by + at),
+                FloatError::EmptyExponent(at) => FloatError::EmptyExponent(by + at),
+                FloatError::Invalid(at) => FloatError::Invalid(by + at),
+            }),
+        }
+    }
 }
 
 /// Why a run ended early. Lines count from 1.
