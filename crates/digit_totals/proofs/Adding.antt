@@ -54,7 +54,7 @@ last_added options t text some short whole =
 
 pub plain_value : (options : Options) (word : ℕ) (line : List ℕ) (value : ℤ)
     → options.column ≡ None → word_of options ≡ word
-    → number_in word line 0 options.kind ≡ Ok value → value_of options line ≡ Ok value
+    → number_in word line options.kind ≡ Ok value → value_of options line ≡ Ok value
 plain_value options word line value none same is =
     rw (none, same, take_all (length line) line (omega arith), is) refl
 

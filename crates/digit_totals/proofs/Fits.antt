@@ -1,5 +1,5 @@
 -- The number of a line has 128 bits.
-use Rattle.std.proofs.Common.{◌≡◌, ℕ, ℤ, zero, suc, ◌-◌, ◌^◌, ◌≤◌, Bool, true, false, cond, List, take, Some, None, Ok, Err, Result, refl, arith}
+use Rattle.std.proofs.Common.{◌≡◌, ℕ, ℤ, zero, suc, ◌-◌, ◌^◌, ◌≤◌, Bool, true, false, cond, List, slice_range, Some, None, Ok, Err, Result, refl, arith}
 use Rattle.std.specs.Prelude.{Option}
 use Rattle.std.proofs.lemmas.Bool.Decides.{nat_tests}
 use Rattle.lexical_digits.specs.State.{rule_of}
@@ -17,6 +17,8 @@ use Rattle.digit_floats.specs.Scaled.{scaled_at, read_scaled_at, whole_of}
 use Rattle.digit_totals.specs.declared.options.Kind.{Kind}
 use Rattle.digit_totals.specs.declared.options.Kind.TheVariants.{Integers, Places}
 use Rattle.digit_totals.specs.declared.options.Options.{Options}
+use Rattle.digit_totals.specs.declared.fault.NumberError.{NumberError}
+use Rattle.digit_totals.specs.Errors.{of_field_at}
 use Rattle.digit_totals.specs.Field.{span_of}
 use Rattle.digit_totals.specs.Totals.{has_128_bits}
 use Rattle.digit_totals.specs.Value.{with_blanks, as_integer, as_decimal, integer_in, decimal_in, number_in, in_span, value_of, word_of}
@@ -38,11 +40,11 @@ of_end text (Ok (other, end)) value e = (end, grind (arith, nat_tests, e))
 of_end text (Err (literal.Empty at)) value e = absurd (grind (arith, nat_tests, e))
 of_end text (Err (literal.Overflow at)) value e = absurd (grind (arith, nat_tests, e))
 
-integer_fits : (word : ℕ) (text : List ℕ) (start : ℕ) (value : ℤ)
-    → integer_in word text start ≡ Ok value → has_128_bits value ≡ true
-integer_fits word text start value e =
+integer_fits : (word : ℕ) (text : List ℕ) (value : ℤ)
+    → integer_in word text ≡ Ok value → has_128_bits value ≡ true
+integer_fits word text value e =
     let rule = rule_of word Integer in
-    let b = past_bytes text start BLANKS in
+    let b = past_bytes text 0 BLANKS in
     let (end, read) = of_end text (number_at (2 ^ 127) (2 ^ 127 - 1) rule text b) value e in
     let negative = is_negative_from (2 ^ 127) text b in
     let from = digits_from (2 ^ 127) text b in
@@ -62,10 +64,10 @@ scaled_fits : (word : ℕ) (text : List ℕ) (places most i magnitude end : ℕ)
 unfolding scaled_at
 scaled_fits word text places most i magnitude end e = grind (arith, nat_tests, e)
 
-decimal_fits : (word : ℕ) (text : List ℕ) (start places : ℕ) (value : ℤ)
-    → decimal_in word text start places ≡ Ok value → has_128_bits value ≡ true
-decimal_fits word text start places value e =
-    let b = past_bytes text start BLANKS in
+decimal_fits : (word : ℕ) (text : List ℕ) (places : ℕ) (value : ℤ)
+    → decimal_in word text places ≡ Ok value → has_128_bits value ≡ true
+decimal_fits word text places value e =
+    let b = past_bytes text 0 BLANKS in
     let (end, read) = of_whole text
     (read_scaled_at word text 46 places (2 ^ 127) (2 ^ 127 - 1) b) value e in
     let negative = is_negative_from (2 ^ 127) text b in
@@ -78,28 +80,35 @@ decimal_fits word text start places value e =
 
 -- ---- a line
 
-number_fits : (word : ℕ) (text : List ℕ) (start : ℕ) (kind : Kind) (value : ℤ)
-    → number_in word text start kind ≡ Ok value → has_128_bits value ≡ true
-number_fits word text start Integers value e =
-    by_integer (integer_in word text start) refl e
+number_fits : (word : ℕ) (text : List ℕ) (kind : Kind) (value : ℤ)
+    → number_in word text kind ≡ Ok value → has_128_bits value ≡ true
+number_fits word text Integers value e =
+    by_integer (integer_in word text) refl e
   where
-    by_integer : (read : Result ℤ ParseError) → integer_in word text start ≡ read
+    by_integer : (read : Result ℤ ParseError) → integer_in word text ≡ read
         → as_integer read ≡ Ok value → has_128_bits value ≡ true
-    by_integer (Ok other) is e = grind (arith, integer_fits word text start other is, e)
+    by_integer (Ok other) is e = grind (arith, integer_fits word text other is, e)
     by_integer (Err error) is e = absurd (grind (arith, e))
-number_fits word text start (Places places) value e =
-    by_decimal (decimal_in word text start places) refl e
+number_fits word text (Places places) value e =
+    by_decimal (decimal_in word text places) refl e
   where
-    by_decimal : (read : Result ℤ ScaledError) → decimal_in word text start places ≡ read
+    by_decimal : (read : Result ℤ ScaledError) → decimal_in word text places ≡ read
         → as_decimal read ≡ Ok value → has_128_bits value ≡ true
-    by_decimal (Ok other) is e = grind (arith, decimal_fits word text start places other is, e)
+    by_decimal (Ok other) is e = grind (arith, decimal_fits word text places other is, e)
     by_decimal (Err error) is e = absurd (grind (arith, e))
+
+of_field : (start : ℕ) (read : Result ℤ NumberError) (value : ℤ)
+    → of_field_at start read ≡ Ok value → read ≡ Ok value
+of_field start (Ok other) value e = e
+of_field start (Err error) value e = absurd (grind (arith, e))
 
 span_fits : (options : Options) (line : List ℕ) (span : Option (ℕ × ℕ)) (value : ℤ)
     → in_span options line span ≡ Ok value → has_128_bits value ≡ true
 span_fits options line None value e = absurd (grind (arith, e))
 span_fits options line (Some (start, end)) value e =
-    number_fits (word_of options) (take end line) start options.kind value e
+    let field : List ℕ = slice_range line start end in
+    number_fits (word_of options) field options.kind value
+    (of_field start (number_in (word_of options) field options.kind) value e)
 
 pub value_fits : (options : Options) (line : List ℕ) (value : ℤ)
     → value_of options line ≡ Ok value → has_128_bits value ≡ true

@@ -1,5 +1,6 @@
 pub mod Adding
 pub mod Bits
+pub mod ErrorsWithin
 pub mod Fields
 pub mod FirstLine
 pub mod FirstMark

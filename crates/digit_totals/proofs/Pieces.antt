@@ -64,8 +64,8 @@ abbrev IsOfLine : Fault → Type 0
 IsOfLine (Number n error) = ⊤
 IsOfLine (Sum n) = ⊤
 IsOfLine (LongLine n) = ⊤
-IsOfLine Read = ⊥
-IsOfLine Write = ⊥
+IsOfLine (Read kind) = ⊥
+IsOfLine (Write kind) = ⊥
 IsOfLine Memory = ⊥
 IsOfLine Text = ⊥
 
@@ -106,8 +106,8 @@ module _ (options : Options) where
   of_line (Number n error) p a r = r
   of_line (Sum n) p a r = r
   of_line (LongLine n) p a r = r
-  of_line Read p a r = absurd p
-  of_line Write p a r = absurd p
+  of_line (Read kind) p a r = absurd p
+  of_line (Write kind) p a r = absurd p
   of_line Memory p a r = absurd p
   of_line Text p a r = absurd p
 

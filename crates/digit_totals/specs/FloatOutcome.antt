@@ -1,6 +1,7 @@
 -- What a run of floats leaves in its reader and its writers, by what it answers.
-use Rattle.std.specs.Prelude.{◌≡◌, ⊤, ℕ, List, ◌++◌, Option, None, Some, Result, Ok, Err, IfSome}
+use Rattle.std.specs.Prelude.{◌≡◌, ◌≢◌, ⊤, ℕ, List, ◌++◌, Option, None, Some, Result, Ok, Err, IfSome}
 use Rattle.std.specs.Io.KnownBytes.{Appends, Keeps, IsAtEnd}
+use Rattle.std.specs.declared.io.ErrorKind.TheVariants.{Interrupted}
 use Rattle.digit_totals.specs.declared.fault.Fault.{Fault}
 use Rattle.digit_totals.specs.declared.fault.Fault.TheVariants.{Number, Sum, LongLine, Read, Write, Memory, Text}
 use Rattle.digit_totals.specs.declared.options.FloatOptions.{FloatOptions}
@@ -8,19 +9,19 @@ use Rattle.digit_totals.specs.declared.floats.totals.FloatTotals.{FloatTotals}
 use Rattle.digit_totals.specs.FloatText.{IsLineOf}
 use Rattle.digit_totals.specs.Floats.{with_lines, report_of}
 use Rattle.digit_totals.specs.Lines.{lines_of}
-use Rattle.digit_totals.specs.Outcome.{AppendsPart, Streams, EndsWith}
+use Rattle.digit_totals.specs.Outcome.{AppendsPart, Streams, EndsAtRead, EndsWith}
 
 module _ (options : FloatOptions) where
   -- the report of the known bytes is this
   abbrev pub Reports : Option (List ℕ) → Result FloatTotals Fault → Type 0
   Reports input report = IfSome input (λ text. report_of options text ≡ report)
 
-  -- what adding up answers: the report of the input; or a read failed
+  -- what adding up answers: the report of the input; or a read failed, and was not interrupted
   abbrev pub Sums : Option (List ℕ) → Result FloatTotals Fault → Type 0
   Sums input (Ok totals) = Reports input (Ok totals)
   Sums input (Err (Number line error)) = Reports input (Err (Number line error))
   Sums input (Err (LongLine line)) = Reports input (Err (LongLine line))
-  Sums input (Err Read) = ⊤
+  Sums input (Err (Read kind)) = kind ≢ Interrupted
   Sums input (Err fault) = ⊥
 
   -- The totals so far, with the lines of what was read and is not among them, and of what is left,
@@ -61,8 +62,8 @@ module _ (options : FloatOptions) (s : Streams) where
   RunsFloats (Err (Number line error)) = EndsAtLine (Number line error)
   RunsFloats (Err (Sum line)) = ⊥
   RunsFloats (Err (LongLine line)) = EndsAtLine (LongLine line)
-  RunsFloats (Err Read) = Keeps s.had s.has
-  RunsFloats (Err Write) = WritesPart
+  RunsFloats (Err (Read kind)) = EndsAtRead s kind
+  RunsFloats (Err (Write kind)) = WritesPart
   RunsFloats (Err Memory) = Keeps s.had s.has
   RunsFloats (Err Text) = Keeps s.had s.has
 

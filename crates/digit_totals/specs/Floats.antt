@@ -1,5 +1,5 @@
 -- The float that a line has, and what some floats are together.
-use Rattle.std.specs.Prelude.{◌≡◌, ℕ, ◌+◌, ◌==◌, nat_lt, ◌||◌, if◌then◌else◌, List, [], ◌∷◌, ◌++◌, length, take, Option, None, Some, Result, Ok, Err}
+use Rattle.std.specs.Prelude.{◌≡◌, ℕ, ◌+◌, ◌==◌, nat_lt, ◌||◌, if◌then◌else◌, List, [], ◌∷◌, ◌++◌, length, slice_range, Option, None, Some, Result, Ok, Err}
 use Rattle.std.specs.Float.{float_zero, binary64}
 use Rattle.std.specs.Float.Ieee.{Float, add, lt}
 use Rattle.lexical_format.specs.declared.words.TheConstants.{PYTHON_LITERAL}
@@ -14,6 +14,7 @@ use Rattle.digit_totals.specs.declared.fault.NumberError.{NumberError}
 use Rattle.digit_totals.specs.declared.fault.NumberError.TheVariants as errors
 use Rattle.digit_totals.specs.declared.fault.Fault.{Fault}
 use Rattle.digit_totals.specs.declared.fault.Fault.TheVariants.{Number, LongLine}
+use Rattle.digit_totals.specs.Errors.{of_field_at}
 use Rattle.digit_totals.specs.Field.{span_of}
 use Rattle.digit_totals.specs.Lines.{lines_of}
 use Rattle.digit_totals.specs.Totals.{most_bytes}
@@ -21,11 +22,11 @@ use Rattle.digit_totals.specs.Value.{with_blanks}
 
 -- ---- the float of a line
 
--- the float from a position to the end of a text, with any blanks around it: the nearest one
-abbrev pub float_in : ℕ → List ℕ → ℕ → Result Float FloatError
-float_in word text start =
+-- the float that a text is, with any blanks around it: the nearest one
+abbrev pub float_in : ℕ → List ℕ → Result Float FloatError
+float_in word text =
     whole_of word text (with_blanks text
-    (read_at word text plain_marks binary64 (past_bytes text start BLANKS)))
+    (read_at word text plain_marks binary64 (past_bytes text 0 BLANKS)))
 
 -- a reader's error as one of a line
 abbrev pub as_float : Result Float FloatError → Result Float NumberError
@@ -36,10 +37,11 @@ as_float (Err error) = Err (errors.Float error)
 abbrev pub word_of : FloatOptions → ℕ
 word_of options = if options.underscores then PYTHON_LITERAL else STANDARD
 
+-- the float of a field, by its bytes alone
 abbrev pub in_span : FloatOptions → List ℕ → Option (ℕ × ℕ) → Result Float NumberError
 in_span options line None = Err errors.Missing
 in_span options line (Some (start, end)) =
-    as_float (float_in (word_of options) (take end line) start)
+    of_field_at start (as_float (float_in (word_of options) (slice_range line start end)))
 
 -- the float in the column of a line
 abbrev pub value_of : FloatOptions → List ℕ → Result Float NumberError

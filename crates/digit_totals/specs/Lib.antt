@@ -1,4 +1,6 @@
 pub mod Arguments
+pub mod ErrorKinds
+pub mod Errors
 pub mod Field
 pub mod FloatMeaning
 pub mod FloatOutcome

@@ -1,7 +1,9 @@
 -- What a run leaves in its reader and its writers, by what it answers. Nothing is said of a reader
 -- or a writer whose contract does not describe its bytes.
-use Rattle.std.specs.Prelude.{◌≡◌, ⊤, ℕ, ◌<◌, List, ◌++◌, length, Option, None, Some, Result, Ok, Err, IfSome}
+use Rattle.std.specs.Prelude.{◌≡◌, ◌≢◌, ⊤, ℕ, ◌<◌, List, ◌++◌, length, Option, None, Some, Result, Ok, Err, IfSome}
 use Rattle.std.specs.Io.KnownBytes.{Appends, Keeps, IsAtEnd}
+use Rattle.std.specs.declared.io.ErrorKind.{ErrorKind}
+use Rattle.std.specs.declared.io.ErrorKind.TheVariants.{Interrupted}
 use Rattle.digit_totals.specs.declared.fault.Fault.{Fault}
 use Rattle.digit_totals.specs.declared.fault.Fault.TheVariants.{Number, Sum, LongLine, Read, Write, Memory, Text}
 use Rattle.digit_totals.specs.declared.options.Column.{Column}
@@ -16,11 +18,11 @@ module _ (options : Options) where
   abbrev pub Reports : Option (List ℕ) → Result Totals Fault → Type 0
   Reports input report = IfSome input (λ text. report_of options text ≡ report)
 
-  -- what adding up answers: the report of the input; or a read failed
+  -- what adding up answers: the report of the input; or a read failed, and was not interrupted
   abbrev pub Sums : Option (List ℕ) → Result Totals Fault → Type 0
   Sums input (Ok totals) = Reports input (Ok totals)
-  Sums input (Err Read) = ⊤
-  Sums input (Err Write) = ⊥
+  Sums input (Err (Read kind)) = kind ≢ Interrupted
+  Sums input (Err (Write kind)) = ⊥
   Sums input (Err Memory) = ⊥
   Sums input (Err Text) = ⊥
   Sums input (Err fault) = Reports input (Err fault)
@@ -48,6 +50,10 @@ pub record Streams : Type 0 where
   pub had : Option (List ℕ)
   pub has : Option (List ℕ)
 
+-- A read failed, and was not interrupted. Nothing was written.
+abbrev pub EndsAtRead : Streams → ErrorKind → Type 0
+EndsAtRead s kind = (kind ≢ Interrupted) × Keeps s.had s.has
+
 module _ (options : Options) (s : Streams) where
   -- The input was read to its end, and all of its totals' line was written.
   pub record WritesTotals : Type 0 where
@@ -73,15 +79,20 @@ module _ (options : Options) (s : Streams) where
   Runs (Err (Number line error)) = EndsAtLine (Number line error)
   Runs (Err (Sum line)) = EndsAtLine (Sum line)
   Runs (Err (LongLine line)) = EndsAtLine (LongLine line)
-  Runs (Err Read) = Keeps s.had s.has
-  Runs (Err Write) = WritesPart
+  Runs (Err (Read kind)) = EndsAtRead s kind
+  Runs (Err (Write kind)) = WritesPart
   Runs (Err Memory) = Keeps s.had s.has
   Runs (Err Text) = ⊥
+
+-- a write failed
+abbrev pub IsWriteFault : Fault → Type 0
+IsWriteFault (Write kind) = ⊤
+IsWriteFault fault = ⊥
 
 -- what `tell` does, by its answer; it can answer no other fault
 abbrev pub Tells : (had has : Option (List ℕ)) → List ℕ → Result (Unit {0}) Fault → Type 0
 Tells had has line (Ok done) = Appends had has line
-Tells had has line (Err Write) = AppendsPart had has line
+Tells had has line (Err (Write kind)) = AppendsPart had has line
 Tells had has line (Err Memory) = Keeps had has
 Tells had has line (Err _) = ⊥
 

@@ -14,5 +14,5 @@ HasNoLowByte rule = (byte : ℕ) → byte < 43 → class rule (Some byte) ≡ Ot
 -- the first line of a text is a number of a kind
 abbrev pub BeginsWith : ℕ → Kind → List ℕ → ℤ → List ℕ → Type 0
 BeginsWith word kind text value rest =
-    (line : List ℕ) × (number_in word line 0 kind ≡ Ok value) × IsFirstLine text line rest
+    (line : List ℕ) × (number_in word line kind ≡ Ok value) × IsFirstLine text line rest
     × (length line < length text)

@@ -5,6 +5,8 @@ use Rattle.std.specs.Int.{is_negative}
 use Rattle.digit_literals.specs.Errors as integers
 use Rattle.digit_floats.specs.Scaled as decimals
 use Rattle.digit_floats.specs.Errors as floats
+use Rattle.std.specs.declared.io.ErrorKind.{ErrorKind}
+use Rattle.digit_totals.specs.ErrorKinds.{words_of}
 use Rattle.digit_totals.specs.declared.fault.Fault.{Fault}
 use Rattle.digit_totals.specs.declared.fault.Fault.TheVariants.{Number, Sum, LongLine, Read, Write, Memory, Text}
 use Rattle.digit_totals.specs.declared.fault.NumberError.{NumberError}
@@ -67,13 +69,17 @@ place (Some column) line =
 abbrev pub told : Option Column → ℕ → List ℕ → List ℕ
 told column line what = place column line ++ what ++ codes "\n"
 
+-- a call of a reader or a writer that failed, and the kind of its error
+abbrev pub failed : List ℕ → ErrorKind → List ℕ
+failed call kind = codes "error: " ++ call ++ codes " failed: " ++ words_of kind ++ codes "\n"
+
 -- the line that is written for a fault
 abbrev pub error_line : Option Column → Fault → List ℕ
 error_line column (Number line error) = told column line (message error)
 error_line column (Sum line) = told column line (codes "the sum leaves 128 bits")
 error_line column (LongLine line) = told column line (codes "the line is too long")
-error_line column Read = codes "error: read failed\n"
-error_line column Write = codes "error: write failed\n"
+error_line column (Read kind) = failed (codes "read") kind
+error_line column (Write kind) = failed (codes "write") kind
 error_line column Memory = codes "error: out of memory\n"
 error_line column Text = codes "error: a float is not read from its text\n"
 
@@ -81,7 +87,7 @@ abbrev pub status_of : Fault → ℕ
 status_of (Number line error) = 3
 status_of (Sum line) = 4
 status_of (LongLine line) = 5
-status_of Read = 6
-status_of Write = 7
+status_of (Read kind) = 6
+status_of (Write kind) = 7
 status_of Memory = 8
 status_of Text = 9

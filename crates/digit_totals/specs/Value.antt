@@ -1,5 +1,5 @@
 -- The number that a line has, or why there is none.
-use Rattle.std.specs.Prelude.{ℕ, ℤ, ◌-◌, ◌^◌, ◌≤◌, ⊤, if◌then◌else◌, List, take, Option, None, Some, Result, Ok, Err}
+use Rattle.std.specs.Prelude.{ℕ, ℤ, ◌-◌, ◌^◌, ◌≤◌, ⊤, if◌then◌else◌, List, slice_range, Option, None, Some, Result, Ok, Err}
 use Rattle.lexical_format.specs.declared.words.TheConstants.{PYTHON_LITERAL}
 use Rattle.lexical_format.specs.declared.TheConstants.{STANDARD}
 use Rattle.lexical_digits.specs.declared.skip.component.Component.TheVariants.{Integer}
@@ -17,6 +17,7 @@ use Rattle.digit_totals.specs.declared.options.Request.{Request}
 use Rattle.digit_totals.specs.declared.options.Request.TheVariants.{Exact, Floats}
 use Rattle.digit_totals.specs.declared.fault.NumberError.{NumberError}
 use Rattle.digit_totals.specs.declared.fault.NumberError.TheVariants as errors
+use Rattle.digit_totals.specs.Errors.{of_field_at}
 use Rattle.digit_totals.specs.Field.{span_of}
 
 -- ---- options
@@ -50,12 +51,12 @@ abbrev pub as_decimal : Result ℤ ScaledError → Result ℤ NumberError
 as_decimal (Ok value) = Ok value
 as_decimal (Err error) = Err (errors.Decimal error)
 
-module _ (word : ℕ) (text : List ℕ) (start : ℕ) where
+module _ (word : ℕ) (text : List ℕ) where
   -- where a number begins: after the blanks
   abbrev pub begin : ℕ
-  begin = past_bytes text start BLANKS
+  begin = past_bytes text 0 BLANKS
 
-  -- the integer from a position to the end of a text
+  -- the integer that a text is
   abbrev pub integer_in : Result ℤ ParseError
   integer_in = to_end text
       (with_blanks text (number_at (2 ^ 127) (2 ^ 127 - 1) (rule_of word Integer) text begin))
@@ -71,10 +72,11 @@ module _ (word : ℕ) (text : List ℕ) (start : ℕ) where
 
 -- ---- of a line
 
+-- the number of a field, by its bytes alone
 abbrev pub in_span : Options → List ℕ → Option (ℕ × ℕ) → Result ℤ NumberError
 in_span options line None = Err errors.Missing
 in_span options line (Some (start, end)) =
-    number_in (word_of options) (take end line) start options.kind
+    of_field_at start (number_in (word_of options) (slice_range line start end) options.kind)
 
 -- the number in the column of a line
 abbrev pub value_of : Options → List ℕ → Result ℤ NumberError

@@ -1,11 +1,13 @@
 //! The reasons for which a run ends early.
 
-ghost use Rattle.std.specs.Prelude.{◌≡◌};
+ghost use Rattle.std.specs.Prelude.{◌≡◌, ◌+◌, ◌^◌, ◌<◌};
+ghost use Rattle.digit_totals.specs.Errors as Errors;
 ghost use Rattle.digit_totals.specs.declared.fault.Fault.TheVariants.{Memory};
 
 use digit_floats::{FloatError, ScaledError};
 use digit_literals::ParseError;
 use std::alloc::AllocError;
+use std::io::ErrorKind;
 
 /// Why a line has no number. Positions count the line's bytes, from 0.
 #[derive(Clone, Copy, Debug, PartialEq, Eq)]
@@ -20,6 +22,35 @@ pub enum NumberError {
     Float(FloatError),
 }
 
+impl NumberError {
+    /// With its position so much later: of a line, if this is of a field that begins there.
+    #[cold]
+    pub fn later(self, by: usize) -> NumberError
+        requires { by + Errors.position self < 2 ^ 64 }
+        ensures { result ≡ Errors.later by self }
+    {
+        match self {
+            NumberError::Missing => self,
+            NumberError::Integer(error) => NumberError::Integer(match error {
+                ParseError::Empty(at) => ParseError::Empty(by + at),
+                ParseError::Invalid(at) => ParseError::Invalid(by + at),
+                ParseError::Overflow(at) => ParseError::Overflow(by + at),
+            }),
+            NumberError::Decimal(error) => NumberError::Decimal(match error {
+                ScaledError::Empty(at) => ScaledError::Empty(by + at),
+                ScaledError::TooLarge(at) => ScaledError::TooLarge(by + at),
+                ScaledError::TooFine(at) => ScaledError::TooFine(by + at),
+                ScaledError::Invalid(at) => ScaledError::Invalid(by + at),
+            }),
+            NumberError::Float(error) => NumberError::Float(match error {
+                FloatError::Empty(at) => FloatError::Empty(by + at),
+                FloatError::EmptyExponent(at) => FloatError::EmptyExponent(by + at),
+                FloatError::Invalid(at) => FloatError::Invalid(by + at),
+            }),
+        }
+    }
+}
+
 /// Why a run ended early. Lines count from 1.
 #[derive(Clone, Copy, Debug, PartialEq, Eq)]
 pub enum Fault {
@@ -29,10 +60,11 @@ pub enum Fault {
     Sum(u128),
     /// This line is longer than 65,535 bytes.
     LongLine(u128),
-    /// A read failed.
-    Read,
-    /// A write failed, or wrote nothing although bytes were left.
-    Write,
+    /// A read failed with an error of this kind. An interrupted one is tried again.
+    Read(ErrorKind),
+    /// A write failed with an error of this kind. [`ErrorKind::WriteZero`]: it wrote nothing, and
+    /// bytes were left.
+    Write(ErrorKind),
     /// The allocator refused memory.
     Memory,
     /// The text of a float among the totals is not read as that float.
@@ -50,8 +82,8 @@ impl Fault {
             Fault::Number(_, _) => 3,
             Fault::Sum(_) => 4,
             Fault::LongLine(_) => 5,
-            Fault::Read => 6,
-            Fault::Write => 7,
+            Fault::Read(_) => 6,
+            Fault::Write(_) => 7,
             Fault::Memory => 8,
             Fault::Text => 9,
         }

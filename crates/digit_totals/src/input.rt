@@ -2,7 +2,7 @@
 
 ghost use Rattle.std.specs.Prelude.{◌≡◌, ◌≢◌, ◌<◌, ◌≤◌, ◌+◌, ◌-◌, All, ◌^◌, Ok, Err, length, take, drop, slice_range, IfOk, IfErr, OnOk};
 ghost use Rattle.std.specs.Io.KnownBytes.{Consumes, IsAtEnd};
-ghost use Rattle.digit_totals.specs.declared.fault.Fault.TheVariants.{Read};
+ghost use Rattle.std.specs.declared.io.ErrorKind.TheVariants.{Interrupted};
 ghost use Rattle.digit_totals.specs.Lines.{lines_of};
 ghost use Rattle.digit_totals.specs.Totals.{most_bytes, with_lines, LeavesRest, EndsIn};
 ghost use Rattle.digit_totals.specs.Outcome.{Sums};
@@ -19,7 +19,7 @@ use std::io::{ErrorKind, Read};
 pub const SIZE: usize = 65536;
 
 /// Reads once into the buffer, after its first `filled` bytes. An interrupted read is tried again.
-pub fn fill<R: Read>(reader: &mut R, buffer: &mut [u8], filled: usize) -> Result<usize, Fault>
+pub fn fill<R: Read>(reader: &mut R, buffer: &mut [u8], filled: usize) -> Result<usize, ErrorKind>
     requires { filled < length buffer.old }
     ensures read { IfOk result (λ n. Consumes (R.remaining reader.old) (R.remaining reader.new)
         (take n (drop filled buffer.new))) }
@@ -27,19 +27,20 @@ pub fn fill<R: Read>(reader: &mut R, buffer: &mut [u8], filled: usize) -> Result
     ensures kept { take filled buffer.new ≡ take filled buffer.old }
     ensures length { length buffer.new ≡ length buffer.old }
     ensures within { IfOk result (λ n. filled + n ≤ length buffer.new) }
-    ensures fault { IfErr result (λ fault. fault ≡ Read) }
+    ensures retried { IfErr result (λ kind. kind ≢ Interrupted) }
 {
     for _ in 0..u64::MAX {
         match reader.read(&mut buffer[filled..]) {
             Ok(n) => return Ok(n),
             Err(error) => {
-                if error.kind() != ErrorKind::Interrupted {
-                    return Err(Fault::Read);
+                let kind = error.kind();
+                if kind != ErrorKind::Interrupted {
+                    return Err(kind);
                 }
             }
         }
     }
-    Err(Fault::Read)
+    Err(ErrorKind::TimedOut)
 }
 
 /// Moves a part of the buffer to its front.
@@ -129,7 +130,7 @@ pub fn sum_input<R: Read>(options: Options, reader: &mut R) -> Result<Totals, Fa
     for _ in 0..u64::MAX {
         let count = match fill(reader, &mut buffer, filled) {
             Ok(count) => count,
-            Err(fault) => return Err(fault),
+            Err(kind) => return Err(Fault::Read(kind)),
         };
         if count == 0 {
             return add_last(options, totals, &buffer[..filled]);
@@ -145,5 +146,5 @@ pub fn sum_input<R: Read>(options: Options, reader: &mut R) -> Result<Totals, Fa
             return Err(Fault::LongLine(totals.count + 1));
         }
     }
-    Err(Fault::Read)
+    Err(Fault::Read(ErrorKind::TimedOut))
 }

@@ -4,6 +4,7 @@
 
 pub mod arguments;
 pub mod engine;
+pub mod error_kind;
 pub mod fault;
 pub mod field;
 pub mod floats;

@@ -4,10 +4,12 @@ ghost use Rattle.std.specs.Prelude.{◌≡◌, ◌<◌, ◌≤◌, ◌^◌, ◌+
 ghost use Rattle.digit_totals.specs.Text as Text;
 ghost use Rattle.digit_totals.specs.Value.{HasFewPlaces};
 
+use super::error_kind::words_of;
 use super::fault::{Fault, NumberError};
 use super::options::{Column, Kind};
 use super::totals::Totals;
 use std::alloc::{AllocError, Allocator};
+use std::io::ErrorKind;
 
 /// Adds `count` zeros to a text.
 fn push_zeros<A: Allocator>(text: &mut String<A>, count: usize) -> Result<(), AllocError>
@@ -192,6 +194,18 @@ fn number_line<A: Allocator>(
     told(alloc, column, line, message.as_str())
 }
 
+/// The line that is written where a read or a write failed.
+fn failed<'a, A: Allocator>(
+    alloc: &'a A,
+    call: &str,
+    kind: ErrorKind,
+) -> Result<String<&'a A>, AllocError>
+    ensures { IfOk result (λ text. string_bytes text ≡ Text.failed call.now kind) }
+{
+    let words = words_of(kind);
+    format!(in alloc; "error: {call} failed: {words}\n")
+}
+
 /// The line that is written for a fault.
 pub fn error_line<A: Allocator>(
     alloc: &A,
@@ -204,8 +218,8 @@ pub fn error_line<A: Allocator>(
         Fault::Number(line, error) => number_line(alloc, column, line, error),
         Fault::Sum(line) => told(alloc, column, line, "the sum leaves 128 bits"),
         Fault::LongLine(line) => told(alloc, column, line, "the line is too long"),
-        Fault::Read => String::from_str(alloc, "error: read failed\n"),
-        Fault::Write => String::from_str(alloc, "error: write failed\n"),
+        Fault::Read(kind) => failed(alloc, "read", kind),
+        Fault::Write(kind) => failed(alloc, "write", kind),
         Fault::Memory => String::from_str(alloc, "error: out of memory\n"),
         Fault::Text => String::from_str(alloc, "error: a float is not read from its text\n"),
     }

@@ -1,8 +1,11 @@
 //! The number that a line has.
 
-ghost use Rattle.std.specs.Prelude.{◌≡◌, ◌≤◌, length, IsTrue, Ok, Err};
+ghost use Rattle.std.specs.Prelude.{◌≡◌, ◌≤◌, length, IsTrue, IfErr, Ok, Err};
 ghost use Rattle.lexical_format.specs.Word.{is_supported};
+ghost use Rattle.digit_literals.specs.Errors as integers;
 ghost use Rattle.digit_floats.specs.Float.{IsDecimal};
+ghost use Rattle.digit_floats.specs.Scaled as decimals;
+ghost use Rattle.digit_totals.specs.Errors.{position};
 ghost use Rattle.digit_totals.specs.Value as Value;
 ghost use Rattle.digit_totals.specs.Value.{HasFewPlaces};
 
@@ -14,14 +17,14 @@ use digit_literals::{BLANKS, LiteralError, ParseError, past_bytes, read_number_f
 use lexical_format::STANDARD;
 use lexical_format::words::PYTHON_LITERAL;
 
-/// The integer from a position to the end of a text, with any blanks around it.
+/// The integer that a text is, with any blanks around it.
 #[inline]
-fn parse_integer(text: &[u8], word: u128, start: usize) -> Result<i128, ParseError>
-    requires supported { IsTrue (is_supported word) }
-    requires within { start ≤ length text.now }
-    ensures { result ≡ Value.integer_in word text.now start }
+fn parse_integer(text: &[u8], word: u128) -> Result<i128, ParseError>
+    requires { IsTrue (is_supported word) }
+    ensures is { result ≡ Value.integer_in word text.now }
+    ensures within { IfErr result (λ error. integers.position error ≤ length text.now) }
 {
-    let begin = past_bytes(text, start, BLANKS);
+    let begin = past_bytes(text, 0, BLANKS);
     match read_number_from::<i128>(text, word, begin) {
         Ok((value, end)) => {
             let rest = past_bytes(text, end, BLANKS);
@@ -42,17 +45,17 @@ fn parse_integer(text: &[u8], word: u128, start: usize) -> Result<i128, ParseErr
     }
 }
 
-/// The decimal number from a position to the end of a text, in units of its last place, with any
-/// blanks around it.
+/// The decimal number that a text is, in units of its last place, with any blanks around it.
 #[inline]
-fn parse_decimal(text: &[u8], word: u128, start: usize, places: usize) -> Result<i128, ScaledError>
+#[tactic(auto, using(crate::proofs::ErrorsWithin::within))]
+fn parse_decimal(text: &[u8], word: u128, places: usize) -> Result<i128, ScaledError>
     requires supported { IsTrue (is_supported word) }
     requires decimal { IsDecimal word }
-    requires within { start ≤ length text.now }
     requires places { places ≤ 38 }
-    ensures { result ≡ Value.decimal_in word text.now start places }
+    ensures is { result ≡ Value.decimal_in word text.now places }
+    ensures within { IfErr result (λ error. decimals.position error ≤ length text.now) }
 {
-    let begin = past_bytes(text, start, BLANKS);
+    let begin = past_bytes(text, 0, BLANKS);
     let (value, end) = read_scaled_from::<i128>(text, word, begin, b'.', places)?;
     let rest = past_bytes(text, end, BLANKS);
     if rest == text.len() {
@@ -62,29 +65,44 @@ fn parse_decimal(text: &[u8], word: u128, start: usize, places: usize) -> Result
     }
 }
 
-/// The number from a position to the end of a text, with any blanks around it.
+/// The number that a text is, with any blanks around it.
 #[inline]
-fn parse_number(text: &[u8], word: u128, start: usize, kind: Kind) -> Result<i128, NumberError>
+fn parse_number(text: &[u8], word: u128, kind: Kind) -> Result<i128, NumberError>
     requires supported { IsTrue (is_supported word) }
     requires decimal { IsDecimal word }
-    requires within { start ≤ length text.now }
     requires few { HasFewPlaces kind }
-    ensures { result ≡ Value.number_in word text.now start kind }
+    ensures is { result ≡ Value.number_in word text.now kind }
+    ensures within { IfErr result (λ error. position error ≤ length text.now) }
 {
     match kind {
-        Kind::Integers => match parse_integer(text, word, start) {
+        Kind::Integers => match parse_integer(text, word) {
             Ok(value) => Ok(value),
             Err(error) => Err(NumberError::Integer(error)),
         },
-        Kind::Places(places) => match parse_decimal(text, word, start, places) {
+        Kind::Places(places) => match parse_decimal(text, word, places) {
             Ok(value) => Ok(value),
             Err(error) => Err(NumberError::Decimal(error)),
         },
     }
 }
 
-/// The number in the column of a line, or why there is none.
+/// The number that a field is, with any blanks around it.
+#[inline]
 #[tactic(auto, unfolding(lexical_format::proofs::OnLiterals::lexical_on_literals))]
+fn parse_field(options: Options, field: &[u8]) -> Result<i128, NumberError>
+    requires { HasFewPlaces options.kind }
+    ensures is { result ≡ Value.number_in (Value.word_of options) field.now options.kind }
+    ensures within { IfErr result (λ error. position error ≤ length field.now) }
+{
+    if options.underscores {
+        parse_number(field, PYTHON_LITERAL, options.kind)
+    } else {
+        parse_number(field, STANDARD, options.kind)
+    }
+}
+
+/// The number in the column of a line, or why there is none. What is beside the field makes no
+/// difference.
 pub fn value_of(options: Options, line: &[u8]) -> Result<i128, NumberError>
     requires { HasFewPlaces options.kind }
     ensures { result ≡ Value.value_of options line.now }
@@ -92,10 +110,8 @@ pub fn value_of(options: Options, line: &[u8]) -> Result<i128, NumberError>
     let Some((start, end)) = find_span(options.column, line) else {
         return Err(NumberError::Missing);
     };
-    let text = &line[..end];
-    if options.underscores {
-        parse_number(text, PYTHON_LITERAL, start, options.kind)
-    } else {
-        parse_number(text, STANDARD, start, options.kind)
+    match parse_field(options, &line[start..end]) {
+        Ok(value) => Ok(value),
+        Err(error) => Err(error.later(start)),
     }
 }

@@ -13,7 +13,7 @@ use crate::fault::Fault;
 use crate::field::find;
 use crate::input::{SIZE, fill, keep};
 use crate::options::FloatOptions;
-use std::io::Read;
+use std::io::{ErrorKind, Read};
 
 /// Adds the last line, which has no line feed, if there is one.
 fn add_last(options: FloatOptions, totals: FloatTotals, text: &[u8]) -> Result<FloatTotals, Fault>
@@ -89,7 +89,7 @@ pub fn sum_floats<R: Read>(options: FloatOptions, reader: &mut R) -> Result<Floa
     for _ in 0..u64::MAX {
         let count = match fill(reader, &mut buffer, filled) {
             Ok(count) => count,
-            Err(fault) => return Err(fault),
+            Err(kind) => return Err(Fault::Read(kind)),
         };
         if count == 0 {
             return add_last(options, totals, &buffer[..filled]);
@@ -105,5 +105,5 @@ pub fn sum_floats<R: Read>(options: FloatOptions, reader: &mut R) -> Result<Floa
             return Err(Fault::LongLine(totals.count + 1));
         }
     }
-    Err(Fault::Read)
+    Err(Fault::Read(ErrorKind::TimedOut))
 }

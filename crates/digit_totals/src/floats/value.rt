@@ -1,7 +1,8 @@
 //! The float that a line has.
 
-ghost use Rattle.std.specs.Prelude.{◌≡◌, ◌≤◌, length, IsTrue};
+ghost use Rattle.std.specs.Prelude.{◌≡◌, ◌≤◌, length, IsTrue, IfErr};
 ghost use Rattle.lexical_format.specs.Word.{is_supported};
+ghost use Rattle.digit_floats.specs.Errors.{position};
 ghost use Rattle.digit_floats.specs.Float.{IsDecimal};
 ghost use Rattle.digit_totals.specs.Floats as Floats;
 
@@ -13,15 +14,16 @@ use digit_literals::{BLANKS, past_bytes};
 use lexical_format::STANDARD;
 use lexical_format::words::PYTHON_LITERAL;
 
-/// The float from a position to the end of a text, with any blanks around it.
+/// The float that a text is, with any blanks around it.
 #[inline]
-fn parse_float(text: &[u8], word: u128, start: usize) -> Result<f64, FloatError>
+#[tactic(auto, using(crate::proofs::ErrorsWithin::within))]
+fn parse_float(text: &[u8], word: u128) -> Result<f64, FloatError>
     requires supported { IsTrue (is_supported word) }
     requires decimal { IsDecimal word }
-    requires within { start ≤ length text.now }
-    ensures { result ≡ Floats.float_in word text.now start }
+    ensures is { result ≡ Floats.float_in word text.now }
+    ensures within { IfErr result (λ error. position error ≤ length text.now) }
 {
-    let begin = past_bytes(text, start, BLANKS);
+    let begin = past_bytes(text, 0, BLANKS);
     let (value, end) = read_float_from::<f64>(text, word, begin)?;
     let rest = past_bytes(text, end, BLANKS);
     if rest == text.len() {
@@ -31,22 +33,30 @@ fn parse_float(text: &[u8], word: u128, start: usize) -> Result<f64, FloatError>
     }
 }
 
-/// The float in the column of a line, or why there is none.
+/// The float that a field is, with any blanks around it.
+#[inline]
 #[tactic(auto, unfolding(lexical_format::proofs::OnLiterals::lexical_on_literals))]
+fn parse_field(options: FloatOptions, field: &[u8]) -> Result<f64, FloatError>
+    ensures is { result ≡ Floats.float_in (Floats.word_of options) field.now }
+    ensures within { IfErr result (λ error. position error ≤ length field.now) }
+{
+    if options.underscores {
+        parse_float(field, PYTHON_LITERAL)
+    } else {
+        parse_float(field, STANDARD)
+    }
+}
+
+/// The float in the column of a line, or why there is none. What is beside the field makes no
+/// difference.
 pub fn value_of(options: FloatOptions, line: &[u8]) -> Result<f64, NumberError>
     ensures { result ≡ Floats.value_of options line.now }
 {
     let Some((start, end)) = find_span(options.column, line) else {
         return Err(NumberError::Missing);
     };
-    let text = &line[..end];
-    let parsed = if options.underscores {
-        parse_float(text, PYTHON_LITERAL, start)
-    } else {
-        parse_float(text, STANDARD, start)
-    };
-    match parsed {
+    match parse_field(options, &line[start..end]) {
         Ok(value) => Ok(value),
-        Err(error) => Err(NumberError::Float(error)),
+        Err(error) => Err(NumberError::Float(error).later(start)),
     }
 }

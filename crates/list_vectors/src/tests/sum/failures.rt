@@ -4,9 +4,15 @@ use super::run_over;
 use super::streams::{ScriptedReader, ScriptedWriter, Turn, Turns};
 use digit_totals::engine::serve_arguments;
 use std::alloc::{AllocError, Global};
+use std::io::ErrorKind;
 
 /// Passes all bytes.
 const ALL: Turn = Turn::Pass(usize::MAX);
+
+/// Ends with an error that isn't one of a signal.
+const FAIL: Turn = Turn::Fail(ErrorKind::PermissionDenied);
+
+const INTERRUPT: Turn = Turn::Fail(ErrorKind::Interrupted);
 
 /// A reader of two lines.
 fn two_lines<'a>(first: &'a [Turn], then: Turn) -> ScriptedReader<'a> {
@@ -23,12 +29,70 @@ static FIRST_TURNS: [&[Turn]; 3] = [&[], &[Turn::Pass(1)], &[ALL]];
 #[test]
 fn reads_are_tried_again(rt: HostRuntime) {
     let totals = b"count=2 sum=46 min=12 max=34\n";
-    let mut reader = two_lines(&[Turn::Interrupt, Turn::Pass(1), Turn::Interrupt], ALL);
+    let mut reader = two_lines(&[INTERRUPT, Turn::Pass(1), INTERRUPT], ALL);
     assert!(rt; run_over(rt.alloc(), &[], &mut reader).is(totals, b"", 0));
     for first in &FIRST_TURNS {
-        let mut reader = two_lines(first, Turn::Fail);
+        let told = b"error: read failed: permission denied\n";
+        let mut reader = two_lines(first, FAIL);
+        assert!(rt; run_over(rt.alloc(), &[], &mut reader).is(b"", told, 6));
+        let mut reader = two_lines(first, FAIL);
+        assert!(rt; run_over(rt.alloc(), &[b"--floats"], &mut reader).is(b"", told, 6));
+    }
+}
+
+/// All kinds but that of an interrupted read.
+static KINDS: [ErrorKind; 41] = [
+    ErrorKind::NotFound,
+    ErrorKind::PermissionDenied,
+    ErrorKind::ConnectionRefused,
+    ErrorKind::ConnectionReset,
+    ErrorKind::HostUnreachable,
+    ErrorKind::NetworkUnreachable,
+    ErrorKind::ConnectionAborted,
+    ErrorKind::NotConnected,
+    ErrorKind::AddrInUse,
+    ErrorKind::AddrNotAvailable,
+    ErrorKind::NetworkDown,
+    ErrorKind::BrokenPipe,
+    ErrorKind::AlreadyExists,
+    ErrorKind::WouldBlock,
+    ErrorKind::NotADirectory,
+    ErrorKind::IsADirectory,
+    ErrorKind::DirectoryNotEmpty,
+    ErrorKind::ReadOnlyFilesystem,
+    ErrorKind::FilesystemLoop,
+    ErrorKind::StaleNetworkFileHandle,
+    ErrorKind::InvalidInput,
+    ErrorKind::InvalidData,
+    ErrorKind::TimedOut,
+    ErrorKind::WriteZero,
+    ErrorKind::StorageFull,
+    ErrorKind::NotSeekable,
+    ErrorKind::QuotaExceeded,
+    ErrorKind::FileTooLarge,
+    ErrorKind::ResourceBusy,
+    ErrorKind::ExecutableFileBusy,
+    ErrorKind::Deadlock,
+    ErrorKind::CrossesDevices,
+    ErrorKind::TooManyLinks,
+    ErrorKind::InvalidFilename,
+    ErrorKind::ArgumentListTooLong,
+    ErrorKind::Unsupported,
+    ErrorKind::UnexpectedEof,
+    ErrorKind::OutOfMemory,
+    ErrorKind::InProgress,
+    ErrorKind::Other,
+    ErrorKind::Uncategorized,
+];
+
+/// A kind is told in the words that std's `Display` writes.
+#[test]
+fn kinds_are_told_in_the_words_of_std(rt: HostRuntime) {
+    for kind in &KINDS {
+        let mut reader = two_lines(&[], Turn::Fail(*kind));
         let ended = run_over(rt.alloc(), &[], &mut reader);
-        assert!(rt; ended.is(b"", b"error: read failed\n", 6));
+        let told = format!(in rt.alloc(); "error: read failed: {kind}\n").unwrap();
+        assert!(rt; ended.is(b"", told.as_bytes(), 6));
     }
 }
 
@@ -59,16 +123,39 @@ fn writes_may_fail(rt: HostRuntime) {
     };
     let failing = Turns {
         first: &[Turn::Pass(3)],
-        then: Turn::Fail,
+        then: FAIL,
     };
     let (status, written, told) = run_writing(rt.alloc(), slow, all);
     assert!(rt; status == 0 && told.is_empty());
     assert!(rt; written.as_slice() == b"count=2 sum=46 min=12 max=34\n".as_slice());
     let (status, written, told) = run_writing(rt.alloc(), failing, all);
     assert!(rt; status == 7 && written.as_slice() == b"cou".as_slice());
-    assert!(rt; told.as_slice() == b"error: write failed\n".as_slice());
+    assert!(rt; told.as_slice() == b"error: write failed: permission denied\n".as_slice());
     let (status, _, told) = run_writing(rt.alloc(), failing, failing);
     assert!(rt; status == 7 && told.as_slice() == b"err".as_slice());
+}
+
+/// What is told where the first write is this turn.
+fn told_of_a_write(alloc: Global, turn: Turn) -> Vec<u8> {
+    let out = Turns {
+        first: &[turn],
+        then: ALL,
+    };
+    let err = Turns {
+        first: &[],
+        then: ALL,
+    };
+    let (_, _, told) = run_writing(alloc, out, err);
+    told
+}
+
+/// An interrupted write isn't tried again, nor is one that takes nothing.
+#[test]
+fn writes_are_tried_once(rt: HostRuntime) {
+    let told = told_of_a_write(rt.alloc(), INTERRUPT);
+    assert!(rt; told.as_slice() == b"error: write failed: operation interrupted\n".as_slice());
+    let told = told_of_a_write(rt.alloc(), Turn::Pass(0));
+    assert!(rt; told.as_slice() == b"error: write failed: write zero\n".as_slice());
 }
 
 /// Whether a run over so many zeros, and then this end, writes and tells this.

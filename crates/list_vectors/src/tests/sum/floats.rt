@@ -58,7 +58,7 @@ fn totals_are_written(rt: HostRuntime) {
 }
 
 /// The arguments of rows, the text, what is told, and the status.
-static FAULTS: [(&[&[u8]], &[u8], &[u8], u8); 9] = [
+static FAULTS: [(&[&[u8]], &[u8], &[u8], u8); 11] = [
     (
         &[b"--floats"],
         b"1\n2x\n",
@@ -93,6 +93,25 @@ static FAULTS: [(&[&[u8]], &[u8], &[u8], u8); 9] = [
         &[b"--floats", b"--column", b"2"],
         b"1,2\n3\n",
         b"error: line 2, column 2: there is no such column\n",
+        3,
+    ),
+    (
+        &[b"--floats", b"--column", b"2"],
+        b"a,1e\n",
+        b"error: line 1, column 2: the exponent has no digit at 4\n",
+        3,
+    ),
+    (
+        &[
+            b"--floats",
+            b"--column",
+            b"2",
+            b"--separator",
+            b"1",
+            b"--underscores",
+        ],
+        b"1_5\n",
+        b"error: line 1, column 2: there is no digit before 1\n",
         3,
     ),
     (

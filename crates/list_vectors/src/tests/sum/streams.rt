@@ -8,8 +8,7 @@ use std::io::{ErrorKind, Read, Write};
 pub enum Turn {
     /// Gives or takes at most this many bytes.
     Pass(usize),
-    Fail,
-    Interrupt,
+    Fail(ErrorKind),
 }
 
 /// The turns of a stream, one a call, and the turn that it takes at each call after them.
@@ -31,8 +30,7 @@ impl Turns<'_> {
         }
         match turn {
             Turn::Pass(most) => Ok(most),
-            Turn::Fail => Err(io::Error::from(ErrorKind::Other)),
-            Turn::Interrupt => Err(io::Error::from(ErrorKind::Interrupted)),
+            Turn::Fail(kind) => Err(io::Error::from(kind)),
         }
     }
 }

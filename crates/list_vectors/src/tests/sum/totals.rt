@@ -5,7 +5,7 @@ use super::{Outcome, run_of, run_over};
 use std::alloc::Global;
 
 /// The arguments of rows, the text, and what is written.
-static TOTALS: [(&[&[u8]], &[u8], &[u8]); 16] = [
+static TOTALS: [(&[&[u8]], &[u8], &[u8]); 17] = [
     (&[], b"", b"count=0 sum=0 min=- max=-\n"),
     (&[], b"7", b"count=1 sum=7 min=7 max=7\n"),
     (&[], b"1\n-2\n+3\n", b"count=3 sum=2 min=-2 max=3\n"),
@@ -48,6 +48,11 @@ static TOTALS: [(&[&[u8]], &[u8], &[u8]); 16] = [
         b"count=2 sum=-2 min=-5 max=3\n",
     ),
     (
+        &[b"--column", b"2"],
+        b"\"a,3,b\",1\n",
+        b"count=1 sum=3 min=3 max=3\n",
+    ),
+    (
         &[b"--column", b"1"],
         b"8,x\n",
         b"count=1 sum=8 min=8 max=8\n",
@@ -80,7 +85,7 @@ fn totals_are_written(rt: HostRuntime) {
 }
 
 /// The arguments of rows, the text, what is told, and the status.
-static FAULTS: [(&[&[u8]], &[u8], &[u8], u8); 18] = [
+static FAULTS: [(&[&[u8]], &[u8], &[u8], u8); 24] = [
     (
         &[],
         b"1\n\n2\n",
@@ -128,6 +133,50 @@ static FAULTS: [(&[&[u8]], &[u8], &[u8], u8); 18] = [
         &[b"--column", b"2"],
         b"1,x\n",
         b"error: line 1, column 2: the byte at 2 is no part of an integer\n",
+        3,
+    ),
+    (
+        &[b"--column", b"1"],
+        b"\"3\",4\n",
+        b"error: line 1, column 1: the byte at 0 is no part of an integer\n",
+        3,
+    ),
+    (
+        &[b"--column", b"2"],
+        b"a,170141183460469231731687303715884105728\n",
+        b"error: line 1, column 2: the number is too large with the digit at 40\n",
+        3,
+    ),
+    (
+        &[b"--column", b"1"],
+        b"170141183460469231731687303715884105727,\n1,\n",
+        b"error: line 2, column 1: the sum leaves 128 bits\n",
+        4,
+    ),
+    (
+        &[b"--column", b"2", b"--separator", b"1", b"--underscores"],
+        b"1_5\n",
+        b"error: line 1, column 2: the byte at 1 is no part of an integer\n",
+        3,
+    ),
+    (
+        &[
+            b"--column",
+            b"2",
+            b"--separator",
+            b"1",
+            b"--underscores",
+            b"--places",
+            b"0",
+        ],
+        b"1_5\n",
+        b"error: line 1, column 2: there is no digit before 1\n",
+        3,
+    ),
+    (
+        &[b"--column", b"2", b"--places", b"1"],
+        b"ab,0.25\n",
+        b"error: line 1, column 2: the digit at 6 is after the last place\n",
         3,
     ),
     (
