@@ -1,5 +1,7 @@
 pub mod Calls
+pub mod Ends
 pub mod Finished
+pub mod ForCallers
 pub mod Known
 pub mod PiecesHeld
 pub mod Single

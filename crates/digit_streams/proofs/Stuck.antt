@@ -162,7 +162,7 @@ module _ {A E : Type 0} (one : List ℕ → ℕ → Result (A × ℕ) E) (none_a
   -- the same where the buffer is full, of what a window holds
   pub no_room : (error : StreamError E) (filled held : Window) (old : List ℕ) (is_last : Bool)
       (room from to position capacity : ℕ) (numbers : List A)
-      → IfNoRoom (streams.Fault error) (filled ≡ held)
+      → unread filled ≡ unread held
       → IsPlace (streams.Fault error) position capacity (length (unread filled))
       → length old ≤ capacity → Uses from to old (unread held)
       → piece_at (one old) none_at gap old (sure_end has old) is_last room 0
@@ -171,7 +171,7 @@ module _ {A E : Type 0} (one : List ℕ → ℕ → Result (A × ℕ) E) (none_a
   no_room (errors.NoRoom at) filled held old is_last room from to position capacity numbers same
       place fits uses is =
       stuck old (unread filled) is_last room (to - from) capacity numbers is uses.within
-      (ap unread same ∙ uses.rest) fits place.1
+      (same ∙ uses.rest) fits place.1
   no_room (errors.Number error) filled held old is_last room from to position capacity numbers same
       place fits uses is = tt
   no_room (errors.Read kind) filled held old is_last room from to position capacity numbers same

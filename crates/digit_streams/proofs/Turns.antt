@@ -94,7 +94,7 @@ module _ {A E : Type 0} where
   first_are list numbers others (Number error) one is = absurd is
   first_are list numbers others (NoRoom at) one is = (others.0, ap (λ l. l.0) one)
   first_are list numbers others (Read kind) one is = (others.0, ap (λ l. l.0) one)
-  first_are list numbers others TooLong one is = (others.0, ap (λ l. l.0) one)
+  first_are list numbers others TooLong one is = absurd is
   first_are list numbers others (Trailing at) one is = absurd is
 
   module _ (list : ℕ → List ℕ → ℕ → StreamNumbers A E) (Apart : Type 0) (from at to : ℕ)

@@ -1,5 +1,6 @@
 -- Lists of numbers in a stream. Positions count bytes of the stream.
-use Rattle.std.specs.Prelude.{◌≡◌, Bool, false, ⊤, ℕ, ◌+◌, ◌-◌, ◌≤◌, List, [], ◌∷◌, ◌++◌, length, drop, Option, None, Some, Result, Ok, Err}
+use Rattle.std.specs.Prelude.{◌≡◌, ◌≢◌, Bool, false, ⊤, ℕ, ◌+◌, ◌-◌, ◌^◌, ◌≤◌, ◌⊎◌, if◌then◌else◌, List, [], ◌∷◌, ◌++◌, length, drop, Option, None, Some, Result, Ok, Err}
+use Rattle.std.specs.declared.io.ErrorKind.TheVariants.{Interrupted}
 use Rattle.digit_literals.specs.declared.list.Gap.{Gap}
 use Rattle.digit_literals.specs.declared.list.ListEnd.{ListEnd}
 use Rattle.digit_literals.specs.declared.list.ListEnd.TheVariants as lists
@@ -7,7 +8,8 @@ use Rattle.digit_literals.specs.Lists.{Numbers}
 use Rattle.digit_pieces.specs.declared.piece.PieceEnd.{PieceEnd}
 use Rattle.digit_pieces.specs.declared.piece.PieceEnd.TheVariants as pieces
 use Rattle.digit_pieces.specs.Cuts.{sure_end}
-use Rattle.digit_pieces.specs.Pieces.{piece_at, whole_at}
+use Rattle.digit_pieces.specs.Pieces.{PieceNumbers, piece_at, whole_at}
+use Rattle.digit_streams.specs.Errors.{may_go_on}
 use Rattle.digit_streams.specs.declared.stream.StreamEnd.{StreamEnd}
 use Rattle.digit_streams.specs.declared.stream.StreamEnd.TheVariants.{Full, Over, Fault}
 use Rattle.digit_streams.specs.declared.stream.StreamError.{StreamError}
@@ -80,12 +82,12 @@ numbers_of number_at none_at later s bytes room =
 abbrev pub BeginsWith : {A : Type 0} → List A → List A → Type 0
 BeginsWith {A} list numbers = (others : List A) × (list ≡ numbers ++ others)
 
--- a reason that no list has: the reader failed, or the buffer is too small
+-- why a buffer isn't filled: it is full, or the reader failed; one that is interrupted is read again
 abbrev pub IsFailure : {E : Type 0} → StreamError E → Type 0
 IsFailure (Number error) = ⊥
 IsFailure (NoRoom at) = ⊤
-IsFailure (Read kind) = ⊤
-IsFailure TooLong = ⊤
+IsFailure (Read kind) = kind ≢ Interrupted
+IsFailure TooLong = ⊥
 IsFailure (Trailing at) = ⊥
 
 -- These numbers and this end are those of a list. Where the reader failed, or the buffer is too
@@ -133,12 +135,17 @@ IsPlace (Fault (Read kind)) position capacity held = ⊤
 IsPlace (Fault TooLong) position capacity held = ⊤
 IsPlace (Fault (Trailing at)) position capacity held = ⊥
 
+-- the numbers of the bytes that a buffer holds, as many as there is room for
+abbrev pub held_piece : {A E : Type 0} → (List ℕ → ℕ → Result (A × ℕ) E) → (ℕ → E → Bool)
+    → (ℕ → Bool) → Gap → List ℕ → Bool → ℕ → PieceNumbers A E
+held_piece one none_at has gap text is_last room =
+    piece_at (one text) none_at gap text (sure_end has text) is_last room 0
+
 -- a piece has these numbers, and the bytes after those that are used are needed again
 abbrev pub AsksFor : {A E : Type 0} → (List ℕ → ℕ → Result (A × ℕ) E) → (ℕ → E → Bool)
     → (ℕ → Bool) → Gap → List ℕ → Bool → ℕ → List A → ℕ → Type 0
 AsksFor one none_at has gap text is_last room numbers used =
-    piece_at (one text) none_at gap text (sure_end has text) is_last room 0
-    ≡ (numbers, pieces.More used)
+    held_piece one none_at has gap text is_last room ≡ (numbers, pieces.More used)
 
 -- the next number of a text that goes on is not sure: it touches the end, or the blanks after it do
 abbrev pub NeedsMore : {A E : Type 0} → (List ℕ → ℕ → Result (A × ℕ) E) → (ℕ → E → Bool)
@@ -155,22 +162,93 @@ IfNoRoom (Fault (Read kind)) P = ⊤
 IfNoRoom (Fault TooLong) P = ⊤
 IfNoRoom (Fault (Trailing at)) P = ⊤
 
--- the same of a piece, which never ends for want of room
-abbrev pub IsHeldPlace : {E : Type 0} → Held E → ℕ → Type 0
-IsHeldPlace held.More position = ⊤
-IsHeldPlace (held.End (Full at)) position = at ≡ position
-IsHeldPlace (held.End (Over at)) position = at ≡ position
-IsHeldPlace (held.End (Fault (Number error))) position = ⊤
-IsHeldPlace (held.End (Fault (NoRoom at))) position = ⊥
-IsHeldPlace (held.End (Fault (Read kind))) position = ⊤
-IsHeldPlace (held.End (Fault TooLong)) position = ⊤
-IsHeldPlace (held.End (Fault (Trailing at))) position = ⊥
+-- These bytes are what was left of a piece that was read: no number in them was sure.
+abbrev pub IsLeft : {A E : Type 0} → (List ℕ → ℕ → Result (A × ℕ) E) → (ℕ → E → Bool)
+    → (ℕ → Bool) → Gap → List ℕ → Type 0
+IsLeft {A} one none_at has gap left =
+    (text : List ℕ) × (room : ℕ) × (numbers : List A) × (used : ℕ)
+    × AsksFor one none_at has gap text false room numbers used × (left ≡ drop used text)
 
--- the end that is answered from then on
+-- a fact of the error with which a piece ends
+abbrev pub IsPieceFault : {E : Type 0} → PieceEnd E → (E → Type 0) → Type 0
+IsPieceFault (pieces.More at) P = ⊥
+IsPieceFault (pieces.Full at) P = ⊥
+IsPieceFault (pieces.Over at) P = ⊥
+IsPieceFault (pieces.Fault error) P = P error
+
+-- A position is above `u64::MAX`, or nearly: that after these bytes, which begin at a position, or
+-- that of the error with which they end.
+abbrev pub IsTooLong : {A E : Type 0} → (List ℕ → ℕ → Result (A × ℕ) E) → (ℕ → E → Bool)
+    → (E → ℕ) → (ℕ → Bool) → Gap → ℕ → List ℕ → Type 0
+IsTooLong one none_at error_at has gap position text =
+    (2 ^ 64 ≤ position + length text + 2)
+    ⊎ ((is_last : Bool) × (room : ℕ) × IsPieceFault
+    (held_piece one none_at has gap text is_last room).1
+    (λ error. 2 ^ 64 ≤ position + error_at error))
+
+-- When a reader fails, or a position is too large. The buffer holds these bytes, which begin at a
+-- position.
+abbrev pub HasReason : {A E : Type 0} → (List ℕ → ℕ → Result (A × ℕ) E) → (ℕ → E → Bool)
+    → (E → ℕ) → (ℕ → Bool) → Gap → StreamEnd E → ℕ → List ℕ → Type 0
+HasReason one none_at error_at has gap (Full at) position text = ⊤
+HasReason one none_at error_at has gap (Over at) position text = ⊤
+HasReason one none_at error_at has gap (Fault (Number error)) position text = ⊤
+HasReason one none_at error_at has gap (Fault (NoRoom at)) position text = ⊤
+HasReason one none_at error_at has gap (Fault (Read kind)) position text =
+    (kind ≢ Interrupted) × IsLeft one none_at has gap text
+HasReason one none_at error_at has gap (Fault TooLong) position text =
+    IsTooLong one none_at error_at has gap position text
+HasReason one none_at error_at has gap (Fault (Trailing at)) position text = ⊥
+
+-- Where a piece ends. It has no reason of a reader; a position may be too large, if `Long`.
+abbrev pub IsHeldPlace : {E : Type 0} → Held E → ℕ → Type 0 → Type 0
+IsHeldPlace held.More position Long = ⊤
+IsHeldPlace (held.End (Full at)) position Long = at ≡ position
+IsHeldPlace (held.End (Over at)) position Long = at ≡ position
+IsHeldPlace (held.End (Fault (Number error))) position Long = ⊤
+IsHeldPlace (held.End (Fault (NoRoom at))) position Long = ⊥
+IsHeldPlace (held.End (Fault (Read kind))) position Long = ⊥
+IsHeldPlace (held.End (Fault TooLong)) position Long = Long
+IsHeldPlace (held.End (Fault (Trailing at))) position Long = ⊥
+
+-- a fact, if a piece ends with an error
+abbrev pub IfHeldFault : {E : Type 0} → Held E → Type 0 → Type 0
+IfHeldFault held.More P = ⊤
+IfHeldFault (held.End (Full at)) P = ⊤
+IfHeldFault (held.End (Over at)) P = ⊤
+IfHeldFault (held.End (Fault error)) P = P
+
+-- the end that is answered from then on, if the next call doesn't go on
 abbrev pub ended_by : {E : Type 0} → StreamEnd E → Option (Ended E)
 ended_by (Full at) = None
 ended_by (Over at) = Some (ended.Over at)
-ended_by (Fault error) = Some (ended.Fault error)
+ended_by (Fault error) = if may_go_on error then None else Some (ended.Fault error)
+
+-- Of these numbers the last come again: the list is the first, and then what others are.
+pub record ComeAgain {A E : Type 0} (list : StreamNumbers A E) (numbers : List A)
+    (others : ℕ → StreamNumbers A E) : Type 0 where
+  pub first : List A
+  pub again : List A
+  pub are : numbers ≡ first ++ again
+  pub on : GoesOn list first (others (length first))
+
+-- Where a list goes on after an error: after its numbers, if the reader failed or the buffer is too
+-- small; otherwise some of them come again. `others` is the list from there on, after so many.
+abbrev pub StandsAfter : {A E : Type 0} → StreamNumbers A E → List A → StreamEnd E
+    → (ℕ → StreamNumbers A E) → Type 0
+StandsAfter list numbers (Full at) others = ⊤
+StandsAfter list numbers (Over at) others = ⊤
+StandsAfter list numbers (Fault (Number error)) others = ComeAgain list numbers others
+StandsAfter list numbers (Fault (NoRoom at)) others = GoesOn list numbers (others (length numbers))
+StandsAfter list numbers (Fault (Read kind)) others = GoesOn list numbers (others (length numbers))
+StandsAfter list numbers (Fault TooLong) others = ComeAgain list numbers others
+StandsAfter list numbers (Fault (Trailing at)) others = ⊤
+
+-- a fact, if there is an error
+abbrev pub IfEndsFault : {E : Type 0} → StreamEnd E → Type 0 → Type 0
+IfEndsFault (Full at) P = ⊤
+IfEndsFault (Over at) P = ⊤
+IfEndsFault (Fault error) P = P
 
 -- What `next_number` answers, of a list for which there is one place: its number; none, if it is
 -- over; or why there is none.
@@ -197,13 +275,36 @@ IfNoRoomOfNext None P = ⊤
 IfNoRoomOfNext (Some (Ok x)) P = ⊤
 IfNoRoomOfNext (Some (Err error)) P = IfNoRoom (Fault error) P
 
--- what `next_number` answers from then on: after no number that again, and after an error that
+-- What `next_number` answers from then on: after no number that again, and after an error that,
+-- unless the next call goes on.
 abbrev pub EndsSo : {V E : Type 0} → Option (Result V (StreamError E)) → Option (Ended E) → Type 0
 EndsSo None after = (at : ℕ) × (after ≡ Some (ended.Over at))
 EndsSo (Some (Ok x)) after = ⊤
-EndsSo (Some (Err error)) after = after ≡ Some (ended.Fault error)
+EndsSo (Some (Err error)) after = may_go_on error ≡ false → after ≡ Some (ended.Fault error)
 
--- the same, as its answer
+-- what `next_number` answers of a number, or why there is none
+abbrev pub next_of : {V E : Type 0} → Option V → StreamEnd E → Option (Result V (StreamError E))
+next_of (Some x) end = Some (Ok x)
+next_of None (Full at) = None
+next_of None (Over at) = None
+next_of None (Fault error) = Some (Err error)
+
+-- The numbers of what `next_number` answered, and how they end, as `read_into` tells them of one
+-- place: by the position and the end that is answered from then on.
+abbrev pub numbers_of_next : {V A E : Type 0} → (V → A) → Option (Result V (StreamError E))
+    → List A
+numbers_of_next meaning None = []
+numbers_of_next meaning (Some (Ok x)) = meaning x ∷ []
+numbers_of_next meaning (Some (Err error)) = []
+
+abbrev pub end_of_next : {V E : Type 0} → Option (Result V (StreamError E)) → ℕ → Option (Ended E)
+    → StreamEnd E
+end_of_next None position after = Over position
+end_of_next (Some (Ok x)) position None = Full position
+end_of_next (Some (Ok x)) position (Some ended) = end_again ended
+end_of_next (Some (Err error)) position after = Fault error
+
+-- what `next_number` answers after an end
 abbrev pub next_again : {V E : Type 0} → Ended E → Option (Result V (StreamError E))
 next_again (ended.Over at) = None
 next_again (ended.Fault error) = Some (Err error)
@@ -214,6 +315,13 @@ used (pieces.More at) = at
 used (pieces.Full at) = at
 used (pieces.Over at) = at
 used (pieces.Fault error) = 0
+
+-- the position to which a piece was read: at its end, or that of its error
+abbrev pub reach : {E : Type 0} → (E → ℕ) → PieceEnd E → ℕ
+reach error_at (pieces.More at) = at
+reach error_at (pieces.Full at) = at
+reach error_at (pieces.Over at) = at
+reach error_at (pieces.Fault error) = error_at error
 
 -- a list has these numbers; and where more bytes are needed, then others
 abbrev pub ReadsOn : {A E : Type 0} → StreamNumbers A E → List A → Held E → StreamNumbers A E
@@ -226,6 +334,12 @@ abbrev pub list_of_option : {V A : Type 0} → (V → A) → Option V → List A
 list_of_option meaning None = []
 list_of_option meaning (Some x) = meaning x ∷ []
 
+-- a fact, unless there was an error
+abbrev pub IfNoFault : {E : Type 0} → Option (Ended E) → Type 0 → Type 0
+IfNoFault None P = P
+IfNoFault (Some (ended.Over at)) P = P
+IfNoFault (Some (ended.Fault error)) P = ⊤
+
 -- a fact of the position where a stream goes on after its numbers
 abbrev pub IfTrailing : {E : Type 0} → StreamError E → (ℕ → Type 0) → Type 0
 IfTrailing (Number error) P = ⊤
@@ -233,6 +347,16 @@ IfTrailing (NoRoom at) P = ⊤
 IfTrailing (Read kind) P = ⊤
 IfTrailing TooLong P = ⊤
 IfTrailing (Trailing at) P = P at
+
+-- Why it isn't known whether a stream goes on after its numbers: the buffer holds nothing, and has
+-- no place, or the reader failed. No other error is answered, but for `Trailing`.
+abbrev pub IsUnknown : {E : Type 0} → StreamError E → (position capacity : ℕ) → (held : List ℕ)
+    → Type 0
+IsUnknown (Number error) position capacity held = ⊥
+IsUnknown (NoRoom at) position capacity held = (at ≡ position) × (capacity ≡ 0)
+IsUnknown (Read kind) position capacity held = (held ≡ []) × (kind ≢ Interrupted)
+IsUnknown TooLong position capacity held = ⊥
+IsUnknown (Trailing at) position capacity held = ⊤
 
 -- a fact of the error that is answered again
 abbrev pub IfFault : {E : Type 0} → Ended E → (StreamError E → Type 0) → Type 0

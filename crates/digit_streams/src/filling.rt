@@ -1,17 +1,17 @@
 //! The numbers of a stream, whose bytes come by a window.
 
-ghost use Rattle.std.specs.Prelude.{◌≡◌, true, false, ◌<◌, ◌≤◌, length, map, take, drop, IfOk, IfErr, IfSome, IsSome, ℕ};
+ghost use Rattle.std.specs.Prelude.{◌≡◌, true, false, [], ◌-◌, ◌<◌, ◌≤◌, length, map, take, drop, IfOk, IfErr, IfSome, IsSome, ℕ};
 ghost use Rattle.std.specs.Io.KnownBytes.{Keeps, IsAtEnd};
 ghost use Rattle.digit_pieces.specs.Texts.{IsApart};
 ghost use Rattle.digit_streams.specs.Windows.{unread, bytes_left};
-ghost use Rattle.digit_streams.specs.Streams.{Gives, IfNoRoom, IsFailure, NeedsMore, IsPlace, UsesKnown, stream_list, list_of_option};
+ghost use Rattle.digit_streams.specs.Streams.{Gives, GoesOn, HasReason, IfEndsFault, IfNoRoom, IsFailure, NeedsMore, IsPlace, StandsAfter, UsesKnown, stream_list, list_of_option};
 
 use super::held::{Held, read_held_after, read_held_one};
 use super::stream::{StreamEnd, StreamError, StreamRead};
 use super::window::Window;
 use digit_literals::Gap;
 use digit_pieces::Kind;
-use std::io::{ErrorKind, Read};
+use std::io::Read;
 
 /// Reads once into a window: whether the reader is at its end.
 pub fn fill<R: Read, E: Copy>(
@@ -22,12 +22,12 @@ pub fn fill<R: Read, E: Copy>(
         (bytes_left window.new (R.remaining reader.new)) }
     ensures position { window.new.position ≡ window.old.position }
     ensures last { IfOk result (λ is_last. is_last ≡ true → IsAtEnd (R.remaining reader.new)) }
-    ensures more { IfOk result (λ is_last. is_last ≡ false → 0 < length (unread window.new)) }
+    ensures more { IfOk result (λ is_last. is_last ≡ false →
+        length (unread window.old) < length (unread window.new)) }
     ensures none { IfOk result (λ is_last. is_last ≡ true →
         length (unread window.new) ≡ length (unread window.old)) }
     ensures failure { IfErr result (λ error. IsFailure error) }
-    ensures same { IfErr result (λ error. IfNoRoom (StreamEnd.Fault error)
-        (window.new ≡ window.old)) }
+    ensures same { IfErr result (λ error. unread window.new ≡ unread window.old) }
     ensures place { IfErr result (λ error. IsPlace (StreamEnd.Fault error) window.new.position
         (length window.new.buffer.now) (length (unread window.new))) }
     ensures capacity { length window.new.buffer.now ≡ length window.old.buffer.now }
@@ -63,6 +63,15 @@ pub fn read_stream<K: Kind, R: Read>(
         (NeedsMore (K.number_at kind) K.none_at (K.has_byte kind) gap (unread window.new)) }
     ensures place { IsPlace result.end window.new.position (length window.new.buffer.now)
         (length (unread window.new)) }
+    ensures reason { HasReason (K.number_at kind) K.none_at K.error_at (K.has_byte kind) gap result.end
+        window.new.position (unread window.new) }
+    ensures onward { IfSome (bytes_left window.old (R.remaining reader.old)) (λ text.
+        IsApart (K.has_byte kind) gap →
+        let list = stream_list (K.number_at kind) K.none_at K.error_later gap in
+        let rest = drop (window.new.position - window.old.position) text in
+        StandsAfter (list window.old.position text (length out.old))
+        (map K.meaning (take result.count out.new)) result.end
+        (λ count. list window.new.position rest (length out.old - count))) }
     ensures capacity { length window.new.buffer.now ≡ length window.old.buffer.now }
     ensures list { IfSome (bytes_left window.old (R.remaining reader.old)) (λ text.
         IsApart (K.has_byte kind) gap →
@@ -70,7 +79,7 @@ pub fn read_stream<K: Kind, R: Read>(
         (length out.old)) (map K.meaning (take result.count out.new)) result.end) }
 {
     let mut count = 0;
-    for _ in 0..u64::MAX {
+    for turn in 0..u64::MAX {
         let (more, held) = read_held_after(window, kind, gap, *is_over, out, count);
         count += more;
         match held {
@@ -89,7 +98,7 @@ pub fn read_stream<K: Kind, R: Read>(
     }
     StreamRead {
         count,
-        end: StreamEnd::Fault(StreamError::Read(ErrorKind::TimedOut)),
+        end: StreamEnd::Fault(StreamError::TooLong),
     }
 }
 
@@ -112,6 +121,16 @@ pub fn read_next<K: Kind, R: Read>(
         (NeedsMore (K.number_at kind) K.none_at (K.has_byte kind) gap (unread window.new)) }
     ensures place { IsPlace result.1 window.new.position (length window.new.buffer.now)
         (length (unread window.new)) }
+    ensures reason { HasReason (K.number_at kind) K.none_at K.error_at (K.has_byte kind) gap result.1
+        window.new.position (unread window.new) }
+    ensures onward { IfEndsFault result.1
+        (IfSome (bytes_left window.old (R.remaining reader.old)) (λ text.
+        IsApart (K.has_byte kind) gap →
+        let list = stream_list (K.number_at kind) K.none_at K.error_later gap in
+        let rest = drop (window.new.position - window.old.position) text in
+        GoesOn (list window.old.position text 1) [] (list window.new.position rest 1))) }
+    ensures fault { (error : StreamError K.Error) → result.1 ≡ StreamEnd.Fault error
+        → IsSome result.0 → error ≡ StreamError.TooLong }
     ensures capacity { length window.new.buffer.now ≡ length window.old.buffer.now }
     ensures full { (at : ℕ) → result.1 ≡ StreamEnd.Full at → IsSome result.0 }
     ensures list { IfSome (bytes_left window.old (R.remaining reader.old)) (λ text.
@@ -119,7 +138,7 @@ pub fn read_next<K: Kind, R: Read>(
         Gives (stream_list (K.number_at kind) K.none_at K.error_later gap window.old.position text
         1) (list_of_option K.meaning result.0) result.1) }
 {
-    for _ in 0..u64::MAX {
+    for turn in 0..u64::MAX {
         let (number, held) = read_held_one(window, kind, gap, *is_over);
         match held {
             Held::End(end) => return (number, end),
@@ -132,6 +151,5 @@ pub fn read_next<K: Kind, R: Read>(
             },
         }
     }
-    let error = StreamError::Read(ErrorKind::TimedOut);
-    (None, StreamEnd::Fault(error))
+    (None, StreamEnd::Fault(StreamError::TooLong))
 }

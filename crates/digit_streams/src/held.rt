@@ -1,10 +1,10 @@
 //! The numbers of what a buffer holds.
 
-ghost use Rattle.std.specs.Prelude.{◌≡◌, ℕ, List, true, [], None, ◌+◌, ◌-◌, ◌≤◌, ◌++◌, length, map, take, drop, IfSome, IfNone, IsSome};
+ghost use Rattle.std.specs.Prelude.{◌≡◌, ℕ, List, true, [], None, ◌+◌, ◌-◌, ◌^◌, ◌≤◌, ◌++◌, length, map, take, drop, IfSome, IfNone, IsSome};
 ghost use Rattle.digit_pieces.specs.Texts.{IsApart};
 ghost use Rattle.digit_pieces.specs.Pieces.{IfAt};
 ghost use Rattle.digit_streams.specs.Windows.{unread};
-ghost use Rattle.digit_streams.specs.Streams.{AsksFor, Uses, IsHeldPlace, ReadsOn, stream_list, held_of, used, list_of_option};
+ghost use Rattle.digit_streams.specs.Streams.{AsksFor, Uses, IfHeldFault, IsHeldPlace, IsTooLong, ReadsOn, stream_list, held_of, reach, used, list_of_option};
 
 use super::one::read_one;
 use super::stream::{StreamEnd, StreamError};
@@ -30,7 +30,7 @@ fn use_piece<K: Kind>(window: &mut Window<'_>, end: PieceEnd<K::Error>) -> Optio
     ensures unread { IfSome result (λ held.
         unread window.new ≡ drop (used end) (unread window.old)) }
     ensures none { IfNone result (window.new ≡ window.old) }
-    ensures place { IfSome result (λ held. IsHeldPlace held window.new.position) }
+    ensures past { IfNone result (2 ^ 64 ≤ window.old.position + reach K.error_at end) }
     ensures capacity { length window.new.buffer.now ≡ length window.old.buffer.now }
 {
     match end {
@@ -70,7 +70,10 @@ fn read_held<K: Kind>(
     ensures rest { drop result.0 out.new ≡ drop result.0 out.old }
     ensures uses { Uses window.old.position window.new.position (unread window.old)
         (unread window.new) }
-    ensures place { IsHeldPlace result.1 window.new.position }
+    ensures place { IsHeldPlace result.1 window.new.position
+        (IsTooLong (K.number_at kind) K.none_at K.error_at (K.has_byte kind) gap window.new.position
+        (unread window.new)) }
+    ensures still { IfHeldFault result.1 (window.new.position ≡ window.old.position) }
     ensures capacity { length window.new.buffer.now ≡ length window.old.buffer.now }
     ensures asks { result.1 ≡ Held.More →
         AsksFor (K.number_at kind) K.none_at (K.has_byte kind) gap (unread window.old) is_last
@@ -108,7 +111,10 @@ pub fn read_held_after<K: Kind>(
     ensures rest { drop result.0 (drop count out.new) ≡ drop result.0 (drop count out.old) }
     ensures uses { Uses window.old.position window.new.position (unread window.old)
         (unread window.new) }
-    ensures place { IsHeldPlace result.1 window.new.position }
+    ensures place { IsHeldPlace result.1 window.new.position
+        (IsTooLong (K.number_at kind) K.none_at K.error_at (K.has_byte kind) gap window.new.position
+        (unread window.new)) }
+    ensures still { IfHeldFault result.1 (window.new.position ≡ window.old.position) }
     ensures capacity { length window.new.buffer.now ≡ length window.old.buffer.now }
     ensures asks { result.1 ≡ Held.More →
         AsksFor (K.number_at kind) K.none_at (K.has_byte kind) gap (unread window.old) is_last
@@ -135,9 +141,14 @@ pub fn read_held_one<K: Kind>(
     requires { K.valid kind }
     ensures more { result.1 ≡ Held.More → result.0 ≡ None }
     ensures full { (at : ℕ) → result.1 ≡ Held.End (StreamEnd.Full at) → IsSome result.0 }
+    ensures fault { (error : StreamError K.Error) → result.1 ≡ Held.End (StreamEnd.Fault error)
+        → IsSome result.0 → error ≡ StreamError.TooLong }
     ensures uses { Uses window.old.position window.new.position (unread window.old)
         (unread window.new) }
-    ensures place { IsHeldPlace result.1 window.new.position }
+    ensures place { IsHeldPlace result.1 window.new.position
+        (IsTooLong (K.number_at kind) K.none_at K.error_at (K.has_byte kind) gap window.new.position
+        (unread window.new)) }
+    ensures still { IfHeldFault result.1 (window.new.position ≡ window.old.position) }
     ensures capacity { length window.new.buffer.now ≡ length window.old.buffer.now }
     ensures asks { result.1 ≡ Held.More →
         AsksFor (K.number_at kind) K.none_at (K.has_byte kind) gap (unread window.old) is_last

@@ -102,6 +102,8 @@ pub fn read_one<K: Kind>(
         ≡ (list_of_option K.meaning result.number, result.end) }
     ensures more { (at : ℕ) → result.end ≡ PieceEnd.More at → result.number ≡ None }
     ensures full { (at : ℕ) → result.end ≡ PieceEnd.Full at → IsSome result.number }
+    ensures fault { (error : K.Error) → result.end ≡ PieceEnd.Fault error →
+        result.number ≡ None }
     ensures at { IfAt result.end (λ at. at ≤ length text.now) }
 {
     let place = gap.past_blanks(text, 0);

@@ -2,7 +2,7 @@
 
 use super::filling::{fill, read_next, read_stream};
 use super::format::Format;
-use super::stream::{Ended, StreamEnd, StreamError, StreamRead, ended_by};
+use super::stream::{Ended, StreamEnd, StreamError, StreamRead, ended_by, next_of};
 use super::window::Window;
 use digit_literals::Gap;
 use digit_pieces::Kind;
@@ -51,10 +51,10 @@ impl<'b, K: Kind, R: Read> Model for NumberReader<'b, K, R> {
 }
 
 impl<'b, K: Kind, R: Read> NumberReader<'b, K, R> {
-    ghost use Rattle.std.specs.Prelude.{◌≡◌, ◌<◌, ◌≤◌, [], length, map, take, drop, None, Err, IfSome, IfNone, IfErr, OnOk, IsSome, ℕ};
+    ghost use Rattle.std.specs.Prelude.{◌≡◌, ◌-◌, ◌<◌, ◌≤◌, [], length, map, take, drop, None, Err, IfSome, IfNone, IfErr, OnOk, IsSome, ℕ};
     ghost use Rattle.std.specs.Io.KnownBytes.{Keeps};
     ghost use Rattle.digit_pieces.specs.Texts.{IsApart};
-    ghost use Rattle.digit_streams.specs.Streams.{Gives, IfNoRoom, IfNoRoomOfNext, IsNext, IsPlace, IsPlaceOfNext, NeedsMore, UsesKnown, numbers_of, ended_by, EndsSo, next_again, end_again, list_of_option, IfFault, IfTrailing};
+    ghost use Rattle.digit_streams.specs.Streams.{EndsSo, Gives, GoesOn, HasReason, IfEndsFault, IfFault, IfNoFault, IfNoRoom, IfNoRoomOfNext, IfTrailing, IsNext, IsPlace, IsPlaceOfNext, IsUnknown, NeedsMore, StandsAfter, UsesKnown, stream_list, numbers_of, numbers_of_next, end_of_next, ended_by, next_again, end_again, list_of_option};
 
     /// A reader of the numbers of a stream. Requires that the kind is valid.
     pub fn new(reader: R, buffer: &'b mut [u8], kind: K, gap: Gap) -> NumberReader<'b, K, R>
@@ -77,7 +77,8 @@ impl<'b, K: Kind, R: Read> NumberReader<'b, K, R> {
 
     /// The position in the stream of the first byte that was not used yet: after the numbers that
     /// were read, and after the separator that follows them, or one blank where blanks alone
-    /// separate.
+    /// separate. After a [`Number`](StreamError::Number) of
+    /// [`read_into`](NumberReader::read_into) some of its numbers may follow this position.
     pub fn position(&self) -> u64
         ensures { result ≡ self.now.position }
     {
@@ -95,7 +96,9 @@ impl<'b, K: Kind, R: Read> NumberReader<'b, K, R> {
     /// Reads numbers into a slice, until it is full, the list is over, or no number is where one
     /// has to be. The front of the slice has the numbers that were read, its rest isn't touched.
     ///
-    /// If the list was over, or there was an error, then each later call answers that again.
+    /// If the list was over, or there was an error, then each later call answers that again. But
+    /// after [`Read`](StreamError::Read) of `WouldBlock` or `TimedOut` the next call goes on, and no
+    /// byte is lost.
     pub fn read_into(&mut self, out: &mut [K::Number]) -> StreamRead<K::Error>
         ensures list { IfSome self.old.bytes (λ bytes.
             IsApart (K.has_byte self.old.kind) self.old.gap →
@@ -111,8 +114,19 @@ impl<'b, K: Kind, R: Read> NumberReader<'b, K, R> {
             self.old.gap self.new.held)) }
         ensures place { IfNone self.old.ended (IsPlace result.end self.new.position
             self.new.capacity (length self.new.held)) }
+        ensures reason { IfNone self.old.ended (HasReason (K.number_at self.old.kind) K.none_at K.error_at
+            (K.has_byte self.old.kind) self.old.gap result.end self.new.position self.new.held) }
+        ensures onward { IfNone self.old.ended (IfSome self.old.bytes (λ bytes.
+            IsApart (K.has_byte self.old.kind) self.old.gap →
+            let list = stream_list (K.number_at self.old.kind) K.none_at K.error_later
+            self.old.gap in
+            let rest = drop (self.new.position - self.old.position) bytes in
+            StandsAfter (list self.old.position bytes (length out.old))
+            (map K.meaning (take result.count out.new)) result.end
+            (λ count. list self.new.position rest (length out.old - count)))) }
         ensures ended { IfNone self.old.ended (self.new.ended ≡ ended_by result.end) }
         ensures again { IfSome self.old.ended (λ end. self.new.ended ≡ self.old.ended) }
+        ensures still { IfSome self.old.ended (λ end. self.new.position ≡ self.old.position) }
         ensures kind { self.new.kind ≡ self.old.kind }
         ensures gap { self.new.gap ≡ self.old.gap }
         ensures capacity { self.new.capacity ≡ self.old.capacity }
@@ -139,7 +153,9 @@ impl<'b, K: Kind, R: Read> NumberReader<'b, K, R> {
     /// Reads the next number. `None` if the list is over, which it is where no number begins:
     /// [`finish`](NumberReader::finish) says whether the stream is at its end there.
     ///
-    /// If the list was over, or there was an error, then each later call answers that again.
+    /// If the list was over, or there was an error, then each later call answers that again. But
+    /// after [`Read`](StreamError::Read) of `WouldBlock` or `TimedOut` the next call goes on, and no
+    /// byte is lost.
     pub fn next_number(&mut self) -> Option<Result<K::Number, StreamError<K::Error>>>
         ensures next { IfSome self.old.bytes (λ bytes.
             IsApart (K.has_byte self.old.kind) self.old.gap →
@@ -152,20 +168,36 @@ impl<'b, K: Kind, R: Read> NumberReader<'b, K, R> {
             self.old.gap self.new.held)) }
         ensures place { IfNone self.old.ended (IsPlaceOfNext result self.new.position
             self.new.capacity (length self.new.held)) }
+        ensures reason { IfNone self.old.ended (HasReason (K.number_at self.old.kind) K.none_at K.error_at
+            (K.has_byte self.old.kind) self.old.gap
+            (end_of_next result self.new.position self.new.ended) self.new.position
+            self.new.held) }
+        ensures list { IfNone self.old.ended (IfSome self.old.bytes (λ bytes.
+            IsApart (K.has_byte self.old.kind) self.old.gap →
+            let list = stream_list (K.number_at self.old.kind) K.none_at K.error_later
+            self.old.gap in
+            Gives (list self.old.position bytes 1) (numbers_of_next K.meaning result)
+            (end_of_next result self.new.position self.new.ended))) }
+        ensures onward { IfNone self.old.ended (IfEndsFault
+            (end_of_next result self.new.position self.new.ended)
+            (IfSome self.old.bytes (λ bytes.
+            IsApart (K.has_byte self.old.kind) self.old.gap →
+            let list = stream_list (K.number_at self.old.kind) K.none_at K.error_later
+            self.old.gap in
+            let rest = drop (self.new.position - self.old.position) bytes in
+            GoesOn (list self.old.position bytes 1) [] (list self.new.position rest 1)))) }
         ensures ended { EndsSo result self.new.ended }
+        ensures goes_on { IfNone self.old.ended (self.new.ended
+            ≡ ended_by (end_of_next result self.new.position self.new.ended)) }
         ensures again { IfSome self.old.ended (λ ended. result ≡ next_again ended) }
+        ensures stays { IfSome self.old.ended (λ ended. self.new.ended ≡ self.old.ended) }
+        ensures still { IfSome self.old.ended (λ ended. self.new.position ≡ self.old.position) }
         ensures kind { self.new.kind ≡ self.old.kind }
         ensures gap { self.new.gap ≡ self.old.gap }
         ensures capacity { self.new.capacity ≡ self.old.capacity }
     {
         let (number, end) = self.read_one();
-        match number {
-            Some(number) => Some(Ok(number)),
-            None => match end {
-                StreamEnd::Fault(error) => Some(Err(error)),
-                StreamEnd::Full(_) | StreamEnd::Over(_) => None,
-            },
-        }
+        next_of(number, end)
     }
 
     /// Whether the stream is at its end: nothing follows the bytes that were used. If something
@@ -176,9 +208,11 @@ impl<'b, K: Kind, R: Read> NumberReader<'b, K, R> {
     /// [`next_number`](NumberReader::next_number) answers `None`.
     pub fn finish(&mut self) -> Result<(), StreamError<K::Error>>
         ensures ok { OnOk result (IfSome self.old.bytes (λ bytes. bytes ≡ [])) }
-        ensures trailing { IfNone self.old.ended (IfErr result (λ error. IfTrailing error (λ at.
+        ensures trailing { IfNoFault self.old.ended (IfErr result (λ error. IfTrailing error (λ at.
             (at ≡ self.old.position)
             × IfSome self.old.bytes (λ bytes. 0 < length bytes)))) }
+        ensures unknown { IfNoFault self.old.ended (IfErr result (λ error. IsUnknown error
+            self.old.position self.old.capacity self.old.held)) }
         ensures again { IfSome self.old.ended (λ ended.
             IfFault ended (λ error. result ≡ Err error)) }
         ensures bytes { Keeps self.old.bytes self.new.bytes }
@@ -219,9 +253,22 @@ impl<'b, K: Kind, R: Read> NumberReader<'b, K, R> {
             self.old.gap self.new.held)) }
         ensures place { IfNone self.old.ended (IsPlace result.1 self.new.position
             self.new.capacity (length self.new.held)) }
+        ensures reason { IfNone self.old.ended (HasReason (K.number_at self.old.kind) K.none_at K.error_at
+            (K.has_byte self.old.kind) self.old.gap result.1 self.new.position self.new.held) }
+        ensures onward { IfNone self.old.ended (IfEndsFault result.1
+            (IfSome self.old.bytes (λ bytes.
+            IsApart (K.has_byte self.old.kind) self.old.gap →
+            let list = stream_list (K.number_at self.old.kind) K.none_at K.error_later
+            self.old.gap in
+            let rest = drop (self.new.position - self.old.position) bytes in
+            GoesOn (list self.old.position bytes 1) [] (list self.new.position rest 1)))) }
         ensures full { (at : ℕ) → result.1 ≡ StreamEnd.Full at → IsSome result.0 }
-        ensures ended { self.new.ended ≡ ended_by result.1 }
+        ensures fault { (error : StreamError K.Error) → result.1 ≡ StreamEnd.Fault error
+            → IsSome result.0 → error ≡ StreamError.TooLong }
+        ensures ended { IfNone self.old.ended (self.new.ended ≡ ended_by result.1) }
         ensures again { IfSome self.old.ended (λ ended. result ≡ (None, end_again ended)) }
+        ensures stays { IfSome self.old.ended (λ ended. self.new.ended ≡ self.old.ended) }
+        ensures still { IfSome self.old.ended (λ ended. self.new.position ≡ self.old.position) }
         ensures kind { self.new.kind ≡ self.old.kind }
         ensures gap { self.new.gap ≡ self.old.gap }
         ensures capacity { self.new.capacity ≡ self.old.capacity }

@@ -1,7 +1,8 @@
 //! Why a reader of numbers gives no more.
 
 ghost use Rattle.std.specs.Prelude.{◌≡◌};
-ghost use Rattle.digit_streams.specs.Streams.{ended_by, end_again};
+ghost use Rattle.digit_streams.specs.Errors.{may_try_again, may_go_on, stream_message};
+ghost use Rattle.digit_streams.specs.Streams.{ended_by, end_again, next_of};
 
 use std::error::Error;
 use std::fmt;
@@ -15,9 +16,10 @@ pub enum StreamError<E> {
     /// A number that may begin at this position does not fit the buffer, with the blanks after it
     /// and the byte that ends them.
     NoRoom(u64),
-    /// The reader failed so.
+    /// The reader failed so. After `WouldBlock` and `TimedOut`, which say that nothing has come yet,
+    /// the next call reads on.
     Read(ErrorKind),
-    /// A position is above `u64::MAX`.
+    /// A position is above `u64::MAX`, or may be: the stream has `u64::MAX` - 1 bytes or more.
     TooLong,
     /// The numbers are over, and the stream goes on at this position. Only
     /// `finish` answers it.
@@ -25,9 +27,11 @@ pub enum StreamError<E> {
 }
 
 impl<E: fmt::Display> fmt::Display for StreamError<E> {
+    ghost output = { λ e. stream_message E.output e };
+
     fn fmt<W: fmt::Write>(&self, f: &mut fmt::Formatter<W>) -> fmt::Result {
         match self {
-            StreamError::Number(error) => write!(f, "{error}"),
+            StreamError::Number(error) => fmt::Display::fmt(error, f),
             StreamError::NoRoom(at) => write!(f, "the buffer has no room for the number at {at}"),
             StreamError::Read(kind) => write!(f, "the reader failed: {kind}"),
             StreamError::TooLong => write!(f, "a position is above {}", u64::MAX),
@@ -79,13 +83,57 @@ impl<E: Copy> Ended<E> {
     }
 }
 
-/// The end that is answered from then on.
+/// Whether a reader that failed so may be read again: nothing had come yet.
+fn may_try_again(kind: ErrorKind) -> bool
+    ensures { result ≡ may_try_again kind }
+{
+    match kind {
+        ErrorKind::WouldBlock | ErrorKind::TimedOut => true,
+        _ => false,
+    }
+}
+
+/// Whether the next call goes on after an error.
+fn may_go_on<E: Copy>(error: StreamError<E>) -> bool
+    ensures { result ≡ may_go_on error }
+{
+    match error {
+        StreamError::Read(kind) => may_try_again(kind),
+        StreamError::Number(_)
+        | StreamError::NoRoom(_)
+        | StreamError::TooLong
+        | StreamError::Trailing(_) => false,
+    }
+}
+
+/// The end that is answered from then on, if the next call doesn't go on.
 pub fn ended_by<E: Copy>(end: StreamEnd<E>) -> Option<Ended<E>>
     ensures { result ≡ ended_by end }
 {
     match end {
         StreamEnd::Full(_) => None,
         StreamEnd::Over(at) => Some(Ended::Over(at)),
-        StreamEnd::Fault(error) => Some(Ended::Fault(error)),
+        StreamEnd::Fault(error) => {
+            if may_go_on(error) {
+                return None;
+            }
+            Some(Ended::Fault(error))
+        }
+    }
+}
+
+/// The next number, or why there is none; nothing, if the list is over.
+pub fn next_of<N: Copy, E: Copy>(
+    number: Option<N>,
+    end: StreamEnd<E>,
+) -> Option<Result<N, StreamError<E>>>
+    ensures { result ≡ next_of number end }
+{
+    match number {
+        Some(number) => Some(Ok(number)),
+        None => match end {
+            StreamEnd::Fault(error) => Some(Err(error)),
+            StreamEnd::Full(_) | StreamEnd::Over(_) => None,
+        },
     }
 }

@@ -1,12 +1,12 @@
 //! The bytes that were read of a reader and not yet used, in a buffer that is lent.
 
-ghost use Rattle.std.specs.Prelude.{◌≡◌, true, false, [], ◌+◌, ◌^◌, ◌<◌, ◌≤◌, length, take, drop, IfOk, MatchResult};
+ghost use Rattle.std.specs.Prelude.{◌≡◌, ◌≢◌, true, false, [], ◌+◌, ◌^◌, ◌<◌, ◌≤◌, length, take, drop, IfOk, IfErr, MatchResult};
 ghost use Rattle.std.specs.Io.KnownBytes.{Consumes, Keeps, IsAtEnd, prepend_known};
 ghost use Rattle.digit_streams.specs.Windows.{unread};
 
 use std::io::{ErrorKind, Read};
 
-/// One read; one that is interrupted is tried again.
+/// One read; one that is interrupted is tried again. After `u64::MAX` of these it is `TimedOut`.
 fn read_once<R: Read>(reader: &mut R, buffer: &mut [u8]) -> Result<usize, ErrorKind>
     ensures within { IfOk result (λ count. count ≤ length buffer.new) }
     ensures bytes { MatchResult result
@@ -15,6 +15,7 @@ fn read_once<R: Read>(reader: &mut R, buffer: &mut [u8]) -> Result<usize, ErrorK
         (λ error. Keeps (R.remaining reader.old) (R.remaining reader.new)) }
     ensures end { IfOk result (λ count. count ≡ 0 → 0 < length buffer.old →
         IsAtEnd (R.remaining reader.new)) }
+    ensures retried { IfErr result (λ kind. kind ≢ ErrorKind.Interrupted) }
 {
     for _ in 0..u64::MAX {
         match reader.read(buffer) {
@@ -41,6 +42,7 @@ fn read_after<R: Read>(reader: &mut R, buffer: &mut [u8], to: usize) -> Result<u
         (λ error. Keeps (R.remaining reader.old) (R.remaining reader.new)) }
     ensures end { IfOk result (λ count. count ≡ 0 → to < length buffer.old →
         IsAtEnd (R.remaining reader.new)) }
+    ensures retried { IfErr result (λ kind. kind ≢ ErrorKind.Interrupted) }
 {
     read_once(reader, &mut buffer[to..])
 }
@@ -142,6 +144,8 @@ impl<'b> Window<'b> {
         ensures end { IfOk result (λ count. count ≡ 0 →
             length (unread self.old) < length self.old.buffer.now →
             IsAtEnd (R.remaining reader.new)) }
+        ensures none { IfErr result (λ kind. unread self.new ≡ unread self.old) }
+        ensures retried { IfErr result (λ kind. kind ≢ ErrorKind.Interrupted) }
         ensures position { self.new.position ≡ self.old.position }
         ensures capacity { length self.new.buffer.now ≡ length self.old.buffer.now }
     {

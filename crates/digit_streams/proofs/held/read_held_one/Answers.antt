@@ -1,4 +1,6 @@
 use Rattle.digit_pieces.proofs.Theorem.{AreNumbers}
+use Rattle.std.proofs.Common.{sym, ap, ◌∙◌}
+use Rattle.digit_streams.proofs.Ends.{held_place, held_still, held_fault, too_long}
 use Rattle.digit_streams.proofs.PiecesHeld.{held_list, held_begins}
 use Rattle.digit_streams.proofs.held.read_held_one.Goals as goal
 
@@ -46,3 +48,29 @@ returns-in-None-clause-list g c =
     (held_begins (k.number_at kind) k.none_at k.error_later c.args.gap m.later_more
     (k.has_byte kind) are apart c.args.window.now.position 1 c.unread.result.now more
     c.args.is_last last))
+
+pub returns-in-Some-clause-place : goal.returns-in-Some-clause-place
+returns-in-Some-clause-place g c =
+    rw (c.in-Some.ensures.is, c.in-Some.ensures.position)
+    (held_place g.K.Kind.error_later c.args.window.now.position c.read_one-read.result.end _)
+
+pub returns-in-Some-clause-still : goal.returns-in-Some-clause-still
+returns-in-Some-clause-still g c =
+    rw (c.in-Some.ensures.is, c.in-Some.ensures.position)
+    (held_still g.K.Kind.error_later c.args.window.now.position c.read_one-read.result.end)
+
+pub returns-in-Some-clause-fault : goal.returns-in-Some-clause-fault
+returns-in-Some-clause-fault g c = λ error is some.
+    held_fault g.K.Kind.error_later c.args.window.now.position c.read_one-read.result.number
+    c.read_one-read.result.end error c.read_one-read.ensures.fault
+    (sym c.in-Some.ensures.is ∙ is) some
+
+pub returns-in-None-clause-place : goal.returns-in-None-clause-place
+returns-in-None-clause-place g c =
+    let k = g.K.Kind in
+    let kind = c.args.kind in
+    rw (c.in-None.ensures.none, ← c.unread.ensures)
+    (too_long (k.number_at kind) k.none_at k.error_at (k.has_byte kind) c.args.gap
+    c.args.window.now.position c.unread.result.now c.args.is_last 1 c.read_one-read.result.end _
+    (λ at here. here) c.read_one-read.ensures.at (ap (λ l. l.1) c.read_one-read.ensures.is)
+    c.in-None.ensures.past)

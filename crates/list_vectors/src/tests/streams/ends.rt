@@ -45,6 +45,43 @@ fn a_reader_that_fails(rt: HostRuntime) {
     );
 }
 
+/// The numbers before the reader had to wait count, and the next call goes on after them.
+#[test]
+fn a_reader_that_waits(rt: HostRuntime) {
+    let waits = StreamEnd::Fault(StreamError::Read(ErrorKind::WouldBlock));
+    let late = StreamEnd::Fault(StreamError::Read(ErrorKind::TimedOut));
+    let turns = [Turn::Pass(3), Turn::Wait];
+    assert_eq!(rt;
+        read_twice(b"1,2,3,4", &turns, &mut [0; 16]),
+        (1, waits, 2, waits)
+    );
+    let turns = [Turn::TimeOut, Turn::Pass(9)];
+    assert_eq!(rt;
+        read_twice(b"1,2,3", &turns, &mut [0; 16]),
+        (0, late, 2, late)
+    );
+    let turns = [Turn::Pass(4), Turn::Wait, Turn::Fail];
+    let failed = StreamEnd::Fault(StreamError::Read(ErrorKind::Other));
+    assert_eq!(rt;
+        read_twice(b"1,2,3,4", &turns, &mut [0; 16]),
+        (2, waits, 0, failed)
+    );
+}
+
+/// Whether a stream is finished isn't known before the reader says so.
+#[tactic(auto, unfolding(lexical_format::proofs::OnLiterals::lexical_on_literals))]
+#[test]
+fn an_end_that_waits(rt: HostRuntime) {
+    let kind = Integers::<u64>::new(STANDARD);
+    let waits = StreamError::Read(ErrorKind::WouldBlock);
+    let turns = [Turn::Pass(2), Turn::Wait];
+    let mut buffer = [0; 8];
+    let mut numbers = NumberReader::new(Pieces::new(b"1,", &turns), &mut buffer, kind, COMMAS);
+    assert_eq!(rt; numbers.next_number(), Some(Ok(1)));
+    assert_eq!(rt; numbers.finish(), Err(waits));
+    assert_eq!(rt; numbers.finish(), Ok(()));
+}
+
 #[test]
 fn numbers_as_long_as_the_buffer(rt: HostRuntime) {
     let turns = [Turn::Pass(3)];
@@ -140,6 +177,8 @@ fn errors_are_told(rt: HostRuntime) {
     );
     let failed = told(alloc, StreamError::Read(ErrorKind::NotFound));
     assert_eq!(rt; failed.as_str(), "the reader failed: entity not found");
+    let more = told(alloc, StreamError::Trailing(7));
+    assert_eq!(rt; more.as_str(), "the byte at 7 follows the numbers");
     let long = told(alloc, StreamError::TooLong);
     assert_eq!(rt; long.as_str(), "a position is above 18446744073709551615");
 }

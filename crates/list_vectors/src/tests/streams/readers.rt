@@ -10,6 +10,10 @@ pub enum Turn {
     Pass(usize),
     /// It is interrupted.
     Interrupt,
+    /// It has nothing yet.
+    Wait,
+    /// It waited too long.
+    TimeOut,
     /// It fails.
     Fail,
 }
@@ -50,6 +54,8 @@ impl Read for Pieces<'_> {
         let most = match self.next_turn() {
             Turn::Pass(most) => most,
             Turn::Interrupt => return Err(io::Error::from(ErrorKind::Interrupted)),
+            Turn::Wait => return Err(io::Error::from(ErrorKind::WouldBlock)),
+            Turn::TimeOut => return Err(io::Error::from(ErrorKind::TimedOut)),
             Turn::Fail => return Err(io::Error::from(ErrorKind::Other)),
         };
         let n = most.min(self.rest.len()).min(buf.len());

@@ -6,6 +6,7 @@ use digit_literals::{COMMAS, Gap, LINES, WHITESPACE};
 use digit_pieces::Floats;
 use digit_streams::{NumberReader, StreamEnd, StreamError};
 use lexical_format::STANDARD;
+use std::io::ErrorKind;
 
 /// A text, what is between its numbers, its floats, how many they are, and why no more.
 type Row = (&'static [u8], Gap, [f64; 4], usize, StreamEnd<FloatError>);
@@ -93,6 +94,12 @@ struct All {
     end: StreamEnd<FloatError>,
 }
 
+/// Whether the next call reads on.
+fn reads_on(error: StreamError<FloatError>) -> bool {
+    error == StreamError::Read(ErrorKind::WouldBlock)
+        || error == StreamError::Read(ErrorKind::TimedOut)
+}
+
 /// Reads the floats of a stream, so many at a call.
 #[tactic(auto, unfolding(lexical_format::proofs::OnLiterals::lexical_on_literals))]
 fn read_by(reader: Pieces<'_>, buffer: &mut [u8], gap: Gap, places: usize) -> All {
@@ -100,7 +107,7 @@ fn read_by(reader: Pieces<'_>, buffer: &mut [u8], gap: Gap, places: usize) -> Al
     let mut numbers = [0.0; 4];
     let mut count = 0;
     let mut end = StreamEnd::Full(0);
-    for _ in 0..9 {
+    for _ in 0..99 {
         if count >= 4 {
             break;
         }
@@ -110,7 +117,12 @@ fn read_by(reader: Pieces<'_>, buffer: &mut [u8], gap: Gap, places: usize) -> Al
         end = read.end;
         match end {
             StreamEnd::Full(_) => {}
-            StreamEnd::Over(_) | StreamEnd::Fault(_) => break,
+            StreamEnd::Over(_) => break,
+            StreamEnd::Fault(error) => {
+                if !reads_on(error) {
+                    break;
+                }
+            }
         }
     }
     All {
@@ -127,24 +139,26 @@ fn read_singly(reader: Pieces<'_>, buffer: &mut [u8], gap: Gap) -> All {
     let mut numbers = [0.0; 4];
     let mut end = StreamEnd::Full(0);
     let mut count = 0;
-    for i in 0..4 {
+    for _ in 0..99 {
         match reader.next_number() {
             Some(Ok(x)) => {
-                numbers[i] = x;
-                count = i + 1;
+                if count >= 4 {
+                    break;
+                }
+                numbers[count] = x;
+                count += 1;
             }
             Some(Err(error)) => {
                 end = StreamEnd::Fault(error);
-                break;
+                if !reads_on(error) {
+                    break;
+                }
             }
             None => {
                 end = StreamEnd::Over(reader.position());
                 break;
             }
         }
-    }
-    if count == 4 && reader.next_number() == None {
-        end = StreamEnd::Over(reader.position());
     }
     All {
         numbers,
@@ -184,6 +198,15 @@ fn texts_in_pieces(rt: HostRuntime) {
     for most in 1..10 {
         assert_eq!(rt; wrongly_read(&[Turn::Pass(most)]), None);
         assert_eq!(rt; wrongly_read(&[Turn::Interrupt, Turn::Pass(most)]), None);
+        assert_eq!(rt; wrongly_read(&[Turn::Pass(most), Turn::Wait]), None);
+        let turns = [
+            Turn::TimeOut,
+            Turn::Pass(most),
+            Turn::Wait,
+            Turn::Interrupt,
+            Turn::Wait,
+        ];
+        assert_eq!(rt; wrongly_read(&turns), None);
     }
     assert_eq!(rt;
         wrongly_read(&[Turn::Pass(1), Turn::Pass(5), Turn::Pass(2)]),

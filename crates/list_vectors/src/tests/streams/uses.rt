@@ -5,6 +5,7 @@ ghost use Rattle.digit_streams.specs.Streams.{IsNext, stream_list};
 
 use digit_literals::{Gap, LiteralError, WHITESPACE};
 use digit_pieces::{Integers, Kind};
+use digit_streams::laws::first_two;
 use digit_streams::{NumberReader, StreamError};
 use lexical_format::STANDARD;
 use std::io::Read;
@@ -60,4 +61,11 @@ fn a_sum(rt: HostRuntime) {
         WHITESPACE,
     );
     assert_eq!(rt; first, Some(Ok(12)));
+    let two = first_two(
+        b"12 3 4",
+        &mut [0; 4],
+        Integers::<u64>::new(STANDARD),
+        WHITESPACE,
+    );
+    assert_eq!(rt; two, Some((12, 3)));
 }

@@ -1,26 +1,87 @@
-use Rattle.std.proofs.Common.{◌≡◌, ℕ, List, [], ◌∷◌}
+use Rattle.std.proofs.Common.{◌≡◌, ℕ, ◌-◌, List, [], length, drop}
+use Rattle.std.specs.Prelude.{IfSome, IfNone}
 use Rattle.digit_pieces.specs.Texts.{IsApart}
-use Rattle.digit_streams.specs.Streams.{Gives, stream_list, after_end, list_of_option}
-use Rattle.digit_streams.proofs.Single.{gives_next}
-use Rattle.digit_streams.proofs.Turns.{some_then}
+use Rattle.digit_streams.specs.declared.stream.StreamEnd.{StreamEnd}
+use Rattle.digit_streams.specs.Streams.{Gives, GoesOn, HasReason, IfEndsFault, end_of_next, ended_by, list_of_option, next_of, stream_list}
+use Rattle.digit_streams.proofs.Single.{ends_so, gives_next, next_end, none_list, none_then, numbers_are}
 use Rattle.digit_streams.proofs.reader.NumberReader.next_number.Goals as goal
 
-pub returns-in-Some-clause-next : goal.returns-in-Some-clause-next
-returns-in-Some-clause-next g c =
+pub returns-clause-next : goal.returns-clause-next
+returns-clause-next g c =
     let k = g.K.Kind in
     let reader = c.args.self.now in
     let kind = reader.kind in
-    let gap = reader.gap in
-    let read = c.read_one-number.result in
-    let one = k.number_at kind in
-    let list = λ (text : List ℕ). after_end reader.ended
-    (stream_list one k.none_at k.error_later gap reader.position text 1) in
-    let P : List ℕ → Type 0 = λ text. IsApart (k.has_byte kind) gap
-    → Gives (list text) (list_of_option k.meaning read.0) read.1 in
-    let Q : List ℕ → Type 0 = λ text. IsApart (k.has_byte kind) gap
-    → (list text).0 ≡ k.meaning c.in-Some.number ∷ [] in
-    let step : (text : List ℕ) → P text → Q text = λ text gives apart.
-    gives_next one k.none_at k.error_later gap reader.position text reader.ended
-    (k.meaning c.in-Some.number) read.1 (rw c.in-Some.is at (gives apart)) in
-    some_then reader.bytes P Q step
-    c.read_one-number.ensures.list
+    let read = c.read_one-number in
+    rw c.next_of.ensures
+    (gives_next k.meaning (k.number_at kind) k.none_at k.error_later reader.gap reader.position
+    reader.ended reader.bytes (IsApart (k.has_byte kind) reader.gap) read.result.0 read.result.1
+    read.ensures.full read.ensures.list)
+
+pub returns-clause-list : goal.returns-clause-list
+returns-clause-list g c =
+    let k = g.K.Kind in
+    let reader = c.args.self.now in
+    let kind = reader.kind in
+    let read = c.read_one-number in
+    let new = read.new.self in
+    let Apart = IsApart (k.has_byte kind) reader.gap in
+    let list = λ (bytes : List ℕ).
+    stream_list (k.number_at kind) k.none_at k.error_later reader.gap reader.position bytes 1 in
+    rw (c.next_of.ensures, numbers_are k.meaning read.result.0 read.result.1)
+    (none_then reader.ended (λ end. IfSome reader.bytes (λ bytes. Apart → Gives (list bytes)
+    (list_of_option k.meaning read.result.0) end)) (end_of_next (next_of read.result.0 read.result.1) new.position new.ended) read.result.1
+    (next_end reader.ended read.result.0 read.result.1 new.position new.capacity (length new.held)
+    new.ended read.ensures.full read.ensures.fault read.ensures.place read.ensures.ended)
+    (none_list reader.ended reader.bytes Apart list (list_of_option k.meaning read.result.0)
+    read.result.1 read.ensures.list))
+
+pub returns-clause-reason : goal.returns-clause-reason
+returns-clause-reason g c =
+    let k = g.K.Kind in
+    let reader = c.args.self.now in
+    let kind = reader.kind in
+    let read = c.read_one-number in
+    let new = read.new.self in
+    rw c.next_of.ensures
+    (none_then reader.ended (λ end. HasReason (k.number_at kind) k.none_at k.error_at (k.has_byte kind)
+    reader.gap end new.position new.held)
+    (end_of_next (next_of read.result.0 read.result.1) new.position new.ended) read.result.1
+    (next_end reader.ended read.result.0 read.result.1 new.position new.capacity (length new.held)
+    new.ended read.ensures.full read.ensures.fault read.ensures.place read.ensures.ended)
+    read.ensures.reason)
+
+pub returns-clause-onward : goal.returns-clause-onward
+returns-clause-onward g c =
+    let k = g.K.Kind in
+    let reader = c.args.self.now in
+    let kind = reader.kind in
+    let read = c.read_one-number in
+    let new = read.new.self in
+    let list = stream_list (k.number_at kind) k.none_at k.error_later reader.gap in
+    rw c.next_of.ensures
+    (none_then reader.ended (λ end. IfEndsFault end (IfSome reader.bytes (λ bytes.
+    IsApart (k.has_byte kind) reader.gap → GoesOn (list reader.position bytes 1) []
+    (list new.position (drop (new.position - reader.position) bytes) 1))))
+    (end_of_next (next_of read.result.0 read.result.1) new.position new.ended) read.result.1
+    (next_end reader.ended read.result.0 read.result.1 new.position new.capacity (length new.held)
+    new.ended read.ensures.full read.ensures.fault read.ensures.place read.ensures.ended)
+    read.ensures.onward)
+
+pub returns-clause-goes_on : goal.returns-clause-goes_on
+returns-clause-goes_on g c =
+    let reader = c.args.self.now in
+    let read = c.read_one-number in
+    let new = read.new.self in
+    rw c.next_of.ensures
+    (none_then reader.ended (λ end. new.ended ≡ ended_by end)
+    (end_of_next (next_of read.result.0 read.result.1) new.position new.ended) read.result.1
+    (next_end reader.ended read.result.0 read.result.1 new.position new.capacity (length new.held)
+    new.ended read.ensures.full read.ensures.fault read.ensures.place read.ensures.ended)
+    read.ensures.ended)
+
+pub returns-clause-ended : goal.returns-clause-ended
+returns-clause-ended g c =
+    let read = c.read_one-number in
+    rw c.next_of.ensures
+    (ends_so c.args.self.now.ended read.result.0 read.result.1 read.new.self.ended
+    read.ensures.full read.ensures.ended read.ensures.again read.ensures.stays)

@@ -1,0 +1,32 @@
+-- Errors of a stream: after which of them a call goes on, and what is printed of one.
+use Rattle.std.specs.Prelude.{Bool, true, false, ℕ, List, ◌++◌, codes, decimal, Option, None, Some}
+use Rattle.std.specs.declared.io.ErrorKind.{ErrorKind}
+use Rattle.std.specs.declared.io.ErrorKind.TheVariants.{WouldBlock, TimedOut}
+use Rattle.digit_streams.specs.declared.stream.StreamError.{StreamError}
+use Rattle.digit_streams.specs.declared.stream.StreamError.TheVariants.{Number, NoRoom, Read, TooLong, Trailing}
+
+-- whether a reader that failed so may be read again: nothing had come yet
+abbrev pub may_try_again : ErrorKind → Bool
+may_try_again WouldBlock = true
+may_try_again TimedOut = true
+may_try_again kind = false
+
+-- whether the next call goes on after an error
+abbrev pub may_go_on : {E : Type 0} → StreamError E → Bool
+may_go_on (Number error) = false
+may_go_on (NoRoom at) = false
+may_go_on (Read kind) = may_try_again kind
+may_go_on TooLong = false
+may_go_on (Trailing at) = false
+
+-- what is printed of an error, where it is known; `output` says it of a number's error
+abbrev pub stream_message : {E : Type 0} → (E → Option (List ℕ)) → StreamError E
+    → Option (List ℕ)
+stream_message output (Number error) = output error
+stream_message output (NoRoom at) =
+    Some (codes "the buffer has no room for the number at " ++ decimal at)
+stream_message output (Read kind) = None
+stream_message output TooLong =
+    Some (codes "a position is above " ++ decimal 18446744073709551615)
+stream_message output (Trailing at) =
+    Some (codes "the byte at " ++ decimal at ++ codes " follows the numbers")
