@@ -194,6 +194,7 @@ turn_on turn from to old new filled true before uses none more =
 turn_on turn from to old new filled false before uses none more =
     let is : length new < length filled = more refl in
     let lengths : length new ≡ length old - (to - from) =
-    ap length uses.rest ∙ length-drop (to - from) old in
-    (omega (arith, before, uses.onward, uses.within, lengths, is),
-    λ e. omega (arith, before, uses.onward, uses.within, lengths, is))
+    ap length uses.rest ∙ length-drop (to - from) old in (
+      omega (arith, before, uses.onward, uses.within, lengths, is),
+      λ e. omega (arith, before, uses.onward, uses.within, lengths, is),
+    )
