@@ -1,5 +1,5 @@
 -- What a caller of two calls knows.
-use Rattle.std.proofs.Common.{◌≡◌, ℕ, ◌-◌, List, [], ◌∷◌, ◌++◌, drop, ap}
+use Rattle.std.proofs.Common.{◌≡◌, ℕ, ◌-◌, List, [], ◌∷◌, drop, ap}
 use Rattle.std.specs.Prelude.{Bool, Option, None, Some, Result, Ok, IfSome, IfNone}
 use Rattle.digit_literals.specs.declared.list.Gap.{Gap}
 use Rattle.digit_pieces.specs.Texts.{IsApart}
