@@ -11,7 +11,6 @@ use Rattle.digit_streams.specs.declared.stream.StreamEnd.{StreamEnd}
 use Rattle.digit_streams.specs.declared.stream.StreamEnd.TheVariants.{Full, Over, Fault}
 use Rattle.digit_streams.specs.declared.stream.StreamError.{StreamError}
 use Rattle.digit_streams.specs.declared.stream.StreamError.TheVariants.{Number, NoRoom, Read, TooLong, Trailing}
-use Rattle.digit_streams.specs.declared.held.Held.{Held}
 use Rattle.digit_streams.specs.declared.held.Held.TheVariants as held
 use Rattle.digit_streams.specs.Streams.{StreamNumbers, AsksFor, GoesOn, HasReason, IfEndsFault, IfHeldFault, IsFailure, IsHeldPlace, IsLeft, IsTooLong, StandsAfter, Uses, held_of, held_piece, reach, used}
 use Rattle.digit_streams.proofs.PiecesHeld.{last_more}
@@ -194,6 +193,7 @@ turn_on turn from to old new filled true before uses none more =
 turn_on turn from to old new filled false before uses none more =
     let is : length new < length filled = more refl in
     let lengths : length new ≡ length old - (to - from) =
-    ap length uses.rest ∙ length-drop (to - from) old in
-    (omega (arith, before, uses.onward, uses.within, lengths, is),
-    λ e. omega (arith, before, uses.onward, uses.within, lengths, is))
+    ap length uses.rest ∙ length-drop (to - from) old in (
+      omega (arith, before, uses.onward, uses.within, lengths, is),
+      λ e. omega (arith, before, uses.onward, uses.within, lengths, is),
+    )

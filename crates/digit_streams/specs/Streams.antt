@@ -82,7 +82,7 @@ numbers_of number_at none_at later s bytes room =
 abbrev pub BeginsWith : {A : Type 0} → List A → List A → Type 0
 BeginsWith {A} list numbers = (others : List A) × (list ≡ numbers ++ others)
 
--- why a buffer isn't filled: it is full, or the reader failed; one that is interrupted is read again
+-- why a buffer isn't filled: it is full, or the reader failed; an interrupted one is read again
 abbrev pub IsFailure : {E : Type 0} → StreamError E → Type 0
 IsFailure (Number error) = ⊥
 IsFailure (NoRoom at) = ⊤

@@ -77,8 +77,8 @@ impl<'b, K: Kind, R: Read> NumberReader<'b, K, R> {
 
     /// The position in the stream of the first byte that was not used yet: after the numbers that
     /// were read, and after the separator that follows them, or one blank where blanks alone
-    /// separate. After a [`Number`](StreamError::Number) of
-    /// [`read_into`](NumberReader::read_into) some of its numbers may follow this position.
+    /// separate. After the error [`Number`](StreamError::Number) of
+    /// [`read_into`](NumberReader::read_into) some numbers that it gave may follow this position.
     pub fn position(&self) -> u64
         ensures { result ≡ self.now.position }
     {
@@ -97,8 +97,8 @@ impl<'b, K: Kind, R: Read> NumberReader<'b, K, R> {
     /// has to be. The front of the slice has the numbers that were read, its rest isn't touched.
     ///
     /// If the list was over, or there was an error, then each later call answers that again. But
-    /// after [`Read`](StreamError::Read) of `WouldBlock` or `TimedOut` the next call goes on, and no
-    /// byte is lost.
+    /// after [`Read`](StreamError::Read) of `WouldBlock` or `TimedOut` the next call goes on, and
+    /// no byte is lost.
     pub fn read_into(&mut self, out: &mut [K::Number]) -> StreamRead<K::Error>
         ensures list { IfSome self.old.bytes (λ bytes.
             IsApart (K.has_byte self.old.kind) self.old.gap →
@@ -154,8 +154,8 @@ impl<'b, K: Kind, R: Read> NumberReader<'b, K, R> {
     /// [`finish`](NumberReader::finish) says whether the stream is at its end there.
     ///
     /// If the list was over, or there was an error, then each later call answers that again. But
-    /// after [`Read`](StreamError::Read) of `WouldBlock` or `TimedOut` the next call goes on, and no
-    /// byte is lost.
+    /// after [`Read`](StreamError::Read) of `WouldBlock` or `TimedOut` the next call goes on, and
+    /// no byte is lost.
     pub fn next_number(&mut self) -> Option<Result<K::Number, StreamError<K::Error>>>
         ensures next { IfSome self.old.bytes (λ bytes.
             IsApart (K.has_byte self.old.kind) self.old.gap →

@@ -16,8 +16,8 @@ pub enum StreamError<E> {
     /// A number that may begin at this position does not fit the buffer, with the blanks after it
     /// and the byte that ends them.
     NoRoom(u64),
-    /// The reader failed so. After `WouldBlock` and `TimedOut`, which say that nothing has come yet,
-    /// the next call reads on.
+    /// The reader failed so. After `WouldBlock` and `TimedOut`, which say that nothing has come
+    /// yet, the next call reads on.
     Read(ErrorKind),
     /// A position is above `u64::MAX`, or may be: the stream has `u64::MAX` - 1 bytes or more.
     TooLong,

@@ -72,7 +72,8 @@ loop-turn-preserved g c =
       last = c.in-Ok.ensures.last;
       uses = rw c.fill.ensures.position
           (uses_kept _ _ _ _ _
-          (uses_turn _ _ _ _ _ _ _ c.loop-turn.invariant.uses step.ensures.uses) c.fill.ensures.text);
+          (uses_turn _ _ _ _ _ _ _ c.loop-turn.invariant.uses step.ensures.uses)
+          c.fill.ensures.text);
       goes_on = rw c.fill.ensures.position (rw (c.in-More.is, none) at turn);
     }
 

@@ -44,8 +44,9 @@ returns-in-End-clause-list g c =
     let more = map k.meaning (take step.result.0 (drop c.loop-turn.count step.new.out)) in
     let same : length c.loop-turn.out ≡ length c.args.out.now = omega arith in
     let turn = list_turn list (IsApart (k.has_byte kind) gap) from c.loop-turn.window.position
-    step.new.window.position room (room - c.loop-turn.count) (room - c.loop-turn.count - step.result.0)
-    before more step.result.1 (unread c.loop-turn.window) (unread step.new.window) c.loop-turn.is_over
+    step.new.window.position room (room - c.loop-turn.count)
+    (room - c.loop-turn.count - step.result.0) before more step.result.1
+    (unread c.loop-turn.window) (unread step.new.window) c.loop-turn.is_over
     text (g.R.Read.remaining c.loop-turn.reader) c.loop-turn.invariant.uses step.ensures.uses
     c.loop-turn.invariant.last (rw same at step.ensures.list) c.loop-turn.invariant.goes_on in
     let P : List k.Meaning → Type 0 = λ numbers. IfSome text (λ whole. IsApart (k.has_byte kind) gap
@@ -69,8 +70,9 @@ returns-in-Err-clause-list g c =
     let more = map k.meaning (take step.result.0 (drop c.loop-turn.count step.new.out)) in
     let same : length c.loop-turn.out ≡ length c.args.out.now = omega arith in
     let turn = list_turn list (IsApart (k.has_byte kind) gap) from c.loop-turn.window.position
-    step.new.window.position room (room - c.loop-turn.count) (room - c.loop-turn.count - step.result.0)
-    before more step.result.1 (unread c.loop-turn.window) (unread step.new.window) c.loop-turn.is_over
+    step.new.window.position room (room - c.loop-turn.count)
+    (room - c.loop-turn.count - step.result.0) before more step.result.1
+    (unread c.loop-turn.window) (unread step.new.window) c.loop-turn.is_over
     text (g.R.Read.remaining c.loop-turn.reader) c.loop-turn.invariant.uses step.ensures.uses
     c.loop-turn.invariant.last (rw same at step.ensures.list) c.loop-turn.invariant.goes_on in
     let P : List k.Meaning → Type 0 = λ numbers. IfSome text (λ whole. IsApart (k.has_byte kind) gap
@@ -94,11 +96,13 @@ loop-turn-preserved g c =
     let before = map k.meaning (take c.loop-turn.count c.loop-turn.out) in
     let more = map k.meaning (take step.result.0 (drop c.loop-turn.count step.new.out)) in
     let same : length c.loop-turn.out ≡ length c.args.out.now = omega arith in
-    let left : room - (c.loop-turn.count + step.result.0) ≡ room - c.loop-turn.count - step.result.0 =
+    let left : room - (c.loop-turn.count + step.result.0)
+    ≡ room - c.loop-turn.count - step.result.0 =
     omega arith in
     let turn = list_turn list (IsApart (k.has_byte kind) gap) from c.loop-turn.window.position
-    step.new.window.position room (room - c.loop-turn.count) (room - c.loop-turn.count - step.result.0)
-    before more step.result.1 (unread c.loop-turn.window) (unread step.new.window) c.loop-turn.is_over
+    step.new.window.position room (room - c.loop-turn.count)
+    (room - c.loop-turn.count - step.result.0) before more step.result.1
+    (unread c.loop-turn.window) (unread step.new.window) c.loop-turn.is_over
     text (g.R.Read.remaining c.loop-turn.reader) c.loop-turn.invariant.uses step.ensures.uses
     c.loop-turn.invariant.last (rw same at step.ensures.list) c.loop-turn.invariant.goes_on in
     let on = goes_on (k.number_at kind) k.none_at (k.has_byte kind) gap (unread c.loop-turn.window)
@@ -116,7 +120,8 @@ loop-turn-preserved g c =
       last = c.in-Ok.ensures.last;
       uses = rw c.fill.ensures.position
           (uses_kept _ _ _ _ _
-          (uses_turn _ _ _ _ _ _ _ c.loop-turn.invariant.uses step.ensures.uses) c.fill.ensures.text);
+          (uses_turn _ _ _ _ _ _ _ c.loop-turn.invariant.uses step.ensures.uses)
+          c.fill.ensures.text);
       goes_on =
           rw (
             c.fill.ensures.position,

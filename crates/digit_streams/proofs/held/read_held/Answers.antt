@@ -1,5 +1,5 @@
 use Rattle.digit_pieces.proofs.Theorem.{AreNumbers}
-use Rattle.std.proofs.Common.{◌≤◌, length, sym, ap}
+use Rattle.std.proofs.Common.{sym}
 use Rattle.digit_streams.proofs.Ends.{held_place, held_still, too_long}
 use Rattle.digit_streams.proofs.PiecesHeld.{held_list, held_begins}
 use Rattle.digit_streams.proofs.held.read_held.Goals as goal

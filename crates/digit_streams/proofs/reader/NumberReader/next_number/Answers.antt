@@ -1,7 +1,6 @@
 use Rattle.std.proofs.Common.{◌≡◌, ℕ, ◌-◌, List, [], length, drop}
-use Rattle.std.specs.Prelude.{IfSome, IfNone}
+use Rattle.std.specs.Prelude.{IfSome}
 use Rattle.digit_pieces.specs.Texts.{IsApart}
-use Rattle.digit_streams.specs.declared.stream.StreamEnd.{StreamEnd}
 use Rattle.digit_streams.specs.Streams.{Gives, GoesOn, HasReason, IfEndsFault, end_of_next, ended_by, list_of_option, next_of, stream_list}
 use Rattle.digit_streams.proofs.Single.{ends_so, gives_next, next_end, none_list, none_then, numbers_are}
 use Rattle.digit_streams.proofs.reader.NumberReader.next_number.Goals as goal
@@ -29,7 +28,8 @@ returns-clause-list g c =
     stream_list (k.number_at kind) k.none_at k.error_later reader.gap reader.position bytes 1 in
     rw (c.next_of.ensures, numbers_are k.meaning read.result.0 read.result.1)
     (none_then reader.ended (λ end. IfSome reader.bytes (λ bytes. Apart → Gives (list bytes)
-    (list_of_option k.meaning read.result.0) end)) (end_of_next (next_of read.result.0 read.result.1) new.position new.ended) read.result.1
+    (list_of_option k.meaning read.result.0) end))
+    (end_of_next (next_of read.result.0 read.result.1) new.position new.ended) read.result.1
     (next_end reader.ended read.result.0 read.result.1 new.position new.capacity (length new.held)
     new.ended read.ensures.full read.ensures.fault read.ensures.place read.ensures.ended)
     (none_list reader.ended reader.bytes Apart list (list_of_option k.meaning read.result.0)
