@@ -4,7 +4,7 @@ use lib.Dec.{T}
 use lib.Ieee.{Float, Format, nan, inf, fin, binary32, binary64, emax, low, round, le, lt, eq}
 use lib.Ieee.Order.{round_mono}
 
-above_inf : (x : Float) → T (le (inf false) x) → x ≡ inf false
+pub above_inf : (x : Float) → T (le (inf false) x) → x ≡ inf false
 unfolding le lt eq
 above_inf nan t = absurd t
 above_inf (inf true) t = absurd t

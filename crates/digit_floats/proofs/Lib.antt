@@ -26,4 +26,5 @@ mod Tens
 mod Units
 pub mod WhatFollows
 mod WholePart
+mod Within
 mod Written

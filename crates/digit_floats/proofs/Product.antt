@@ -122,6 +122,24 @@ module _ (num den m more q t z s k l : ℕ) (D : 0 < den) (M : 0 < m) (r : IsRow
       (2 ^ s)
       (ten_pos (342 - q)) g (m + more) t (mul-pos (mul-pos some (pow_pos z)) D) a r.below b.to)
 
+-- ---- the number is from `h` to below `g` of units that are 2 ^ 64 of the product
+
+module _ (num den m more q t z : ℕ) (D : 0 < den) (M : 0 < m) (r : IsRow q t)
+    (b : IsScaled num den m (m + more) q) where
+  pub least_product : (h : ℕ) → h * 2 ^ 64 ≤ m * 2 ^ z * t
+      → h * 2 ^ 64 * 2 ^ power_scale q * den ≤ num * 2 ^ z * 2 ^ 1200
+  least_product h a =
+      from num den (10 ^ (q - 342)) (10 ^ (342 - q)) (2 ^ power_scale q) (2 ^ 1200) (2 ^ z)
+      (2 ^ 64) (ten_pos (342 - q)) h m t a r.from b.from
+
+  pub most_product : (g : ℕ) → (m + more) * 2 ^ z * (t + 1) ≤ g * 2 ^ 64
+      → num * 2 ^ z * 2 ^ 1200 < g * 2 ^ 64 * 2 ^ power_scale q * den
+  most_product g a =
+      let some : 0 < m + more = omega (arith, M) in
+      to_lt num den (10 ^ (q - 342)) (10 ^ (342 - q)) (2 ^ power_scale q) (2 ^ 1200) (2 ^ z)
+      (2 ^ 64) (ten_pos (342 - q)) g (m + more) t (mul-pos (mul-pos some (pow_pos z)) D) a
+      r.below b.to
+
 -- ---- a number of halves rounds
 
 -- an odd one is exceeded

@@ -168,3 +168,54 @@ module _ (f : Format) (q k : ℕ) (few : q ≤ 2 ^ prec f) (many : 0 < k → hid
           → cond b (odd (suc (prec f)) false q k (low f)) (inf false) ≡ inf false
       go true l = absurd (omega (arith, l tt, large))
       go false l = refl
+
+infinite_of : (f : Format) (q k : ℕ) → 2 ^ (low f + suc (emax f)) ≤ q * 2 ^ k
+    → units f false q k ≡ inf false
+unfolding units
+infinite_of f q k large =
+    go (ltb (q * 2 ^ k) (2 ^ (low f + suc (emax f))))
+    (ltb→lt (q * 2 ^ k) (2 ^ (low f + suc (emax f))))
+  where
+    go : (b : Bool) → (T b → q * 2 ^ k < 2 ^ (low f + suc (emax f)))
+        → cond b (odd (suc (prec f)) false q k (low f)) (inf false) ≡ inf false
+    go true l = absurd (omega (arith, l tt, large))
+    go false l = refl
+
+-- a power of two, at the end of a scale and at the start of the next
+module _ (f : Format) (k : ℕ) where
+  abbrev end : ℕ
+  end = 2 ^ (low f + suc (emax f))
+
+  half : 2 ^ prec f ≡ 2 ^ (prec f - 1) * 2
+  half =
+      let e : prec f ≡ prec f - 1 + 1 = omega (arith, two f) in
+      ap (λ z. 2 ^ z) e ∙ pow-add 2 (prec f - 1) 1
+
+  same : 2 ^ prec f * 2 ^ k ≡ 2 ^ (prec f - 1) * 2 ^ (k + 1)
+  same =
+      let e : prec f + k ≡ prec f - 1 + (k + 1) = omega (arith, two f) in
+      sym (pow-add 2 (prec f) k) ∙ ap (λ z. 2 ^ z) e ∙ pow-add 2 (prec f - 1) (k + 1)
+
+  pub carried : units f false (2 ^ prec f) k ≡ units f false (2 ^ (prec f - 1)) (k + 1)
+  carried =
+      go (ltb (2 ^ prec f * 2 ^ k) end) (ltb→lt (2 ^ prec f * 2 ^ k) end)
+      (nltb→le (2 ^ prec f * 2 ^ k) end)
+    where
+      go : (b : Bool) → (T b → 2 ^ prec f * 2 ^ k < end) → (T (not b) → end ≤ 2 ^ prec f * 2 ^ k)
+          → units f false (2 ^ prec f) k ≡ units f false (2 ^ (prec f - 1)) (k + 1)
+      go true l m =
+          let few : prec f + k < low f + suc (emax f) =
+          pow_below (prec f + k) (low f + suc (emax f))
+          (subst (λ z. z < end) (sym (pow-add 2 (prec f) k)) (l tt)) in
+          let next : (k + 1) * hid f ≡ k * hid f + hid f = grind arith in
+          let e : k * hid f + 2 ^ prec f ≡ (k + 1) * hid f + 2 ^ (prec f - 1) =
+          omega (arith, next, half) in
+          sym (of_bits_is f (2 ^ prec f) k (omega arith) (λ _. omega (arith, half))
+          (omega (arith, few, two f)))
+          ∙ ap (of_bits f) e
+          ∙ of_bits_is f (2 ^ (prec f - 1)) (k + 1) (omega (arith, half)) (λ _. omega arith)
+          (omega (arith, few, two f))
+      go false l m =
+          infinite_of f (2 ^ prec f) k (m tt)
+          ∙ sym (infinite_of f (2 ^ (prec f - 1)) (k + 1)
+          (subst (λ z. end ≤ z) same (m tt)))

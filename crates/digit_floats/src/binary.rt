@@ -1,8 +1,8 @@
 //! The float nearest to a whole number times a power of two.
 
 ghost use Rattle.std.specs.Prelude.{◌≡◌, false, ◌+◌, ◌-◌, ◌*◌, ◌/◌, ◌^◌, ◌<◌, ◌≤◌, ℕ, IfSome};
-ghost use Rattle.std.specs.Float.{NotNan};
-ghost use Rattle.std.specs.Float.Ieee.{round, low};
+ghost use Rattle.std.specs.Float.{Format, NotNan};
+ghost use Rattle.std.specs.Float.Ieee.{prec, low, units, round};
 ghost use Rattle.digit_floats.specs.Binary.{IsWholePart, shifted};
 
 use super::float::{Float, signed};
@@ -60,6 +60,32 @@ fn shift_digits(digits: u128, shift: u128, more: bool) -> u64
     whole + whole % 2
 }
 
+/// How many units of the least float above 0, times 2 to a scale, are nearest to a number whose whole
+/// part is the digits, in units of 2 to `above` over 2 to `below` of the least floats above 0; `more`
+/// says whether the number is above that.
+pub fn nearest_binary(
+    digits: u128,
+    more: bool,
+    above: u128,
+    below: u128,
+    precision: u64,
+) -> (u64, u128)
+    requires many { 2 ^ 53 ≤ digits }
+    requires few { digits < 2 ^ 119 }
+    requires above { above < 2 ^ 72 }
+    requires below { below < 2 ^ 72 }
+    requires precision { (0 < precision) × (precision ≤ 53) }
+    ensures is { (f : Format) → prec f ≡ precision → (num den : ℕ) → 0 < den
+        → IsWholePart (num * 2 ^ low f * 2 ^ below) (2 ^ above * den) digits more
+        → units f false result.0 result.1 ≡ round f false num den }
+    ensures many { 0 < result.1 → 2 ^ (precision - 1) ≤ result.0 }
+    ensures few { result.0 ≤ 2 ^ precision }
+{
+    let size = bit_length(digits);
+    let (scale, shift) = scale_of(size, above, below, precision as u128);
+    (shift_digits(digits, shift, more), scale)
+}
+
 /// The float nearest to a number whose whole part is the digits, in units of 2 to `above` over 2 to
 /// `below` of the least floats above 0; `more` says whether the number is above that.
 pub fn round_binary<F: Float>(digits: u128, more: bool, above: u128, below: u128) -> F
@@ -71,9 +97,8 @@ pub fn round_binary<F: Float>(digits: u128, more: bool, above: u128, below: u128
         → IsWholePart (num * 2 ^ low F.format * 2 ^ below) (2 ^ above * den) digits more
         → F.value result ≡ round F.format false num den }
 {
-    let size = bit_length(digits);
-    let (scale, shift) = scale_of(size, above, below, F::precision() as u128);
-    F::of_units(shift_digits(digits, shift, more), scale)
+    let (count, scale) = nearest_binary(digits, more, above, below, F::precision());
+    F::of_units(count, scale)
 }
 
 /// The float nearest to a whole number.

@@ -2,6 +2,7 @@
 #![tactic(auto)]
 
 mod binary;
+mod bounds;
 mod decimal;
 mod error;
 mod exact;

@@ -10,7 +10,7 @@ use super::powers::{row, scale};
 
 /// The digits shifted up until the top bit is set, and by how much.
 #[inline(always)]
-fn normalized(digits: u64) -> (u64, u64)
+pub fn normalized(digits: u64) -> (u64, u64)
     requires { 0 < digits }
     ensures shifted { result.0 ≡ digits * 2 ^ result.1 }
     ensures top { (2 ^ 63 ≤ result.0) × (result.1 ≤ 63) }

@@ -35,11 +35,12 @@ fn read_float_apart<F: Float>(
     Ok((x, parts.power.end))
 }
 
-/// [`read_float_apart`] by a word that drops separators between digits, in code of its own: a group
-/// seldom has eight digits.
+/// [`read_float_apart`], digit by digit, in code of its own: of a word that drops separators between
+/// digits, since a group seldom has eight, and of a text that no digit begins, which is short or no
+/// number.
 #[inline(never)]
 #[tactic(auto, using(crate::proofs::Numbers::round_number))]
-fn read_float_in_groups<F: Float>(
+fn read_float_by_digits<F: Float>(
     text: &[u8],
     word: u128,
     start: usize,
@@ -66,13 +67,23 @@ fn has_groups(word: u128) -> bool {
     Rule::of(word, Component::Integer).internal || Rule::of(word, Component::Fraction).internal
 }
 
-/// [`read_float_apart`] or [`read_float_in_groups`], by the word. Their answer in memory belongs to
-/// this function, so it is set only where they are called.
+/// Whether a digit is at a position.
+#[inline(always)]
+fn has_digit(text: &[u8], at: usize) -> bool {
+    match text.get(at) {
+        Some(byte) => byte.is_ascii_digit(),
+        None => false,
+    }
+}
+
+/// [`read_float_apart`] or [`read_float_by_digits`], by the word and by the byte after the sign.
+/// Their answer in memory belongs to this function, so it is set only where they are called.
 #[inline(always)]
 fn read_float_rest<F: Float>(
     text: &[u8],
     word: u128,
     start: usize,
+    after_sign: usize,
 ) -> Result<(F, usize), FloatError>
     requires supported { IsTrue (is_supported word) }
     requires decimal { IsDecimal word }
@@ -84,8 +95,8 @@ fn read_float_rest<F: Float>(
     ensures onward { IfOk result (λ r. start < r.1) }
     ensures within { IfOk result (λ r. r.1 ≤ length text.now) }
 {
-    let read = if has_groups(word) {
-        read_float_in_groups::<F>(text, word, start)
+    let read = if has_groups(word) || !has_digit(text, after_sign) {
+        read_float_by_digits::<F>(text, word, start)
     } else {
         read_float_apart::<F>(text, word, start)
     };
@@ -127,7 +138,7 @@ pub fn read_float_from<F: Float>(
             return Ok((x, power.end));
         }
     }
-    read_float_rest::<F>(text, word, start)
+    read_float_rest::<F>(text, word, start, sign.1)
 }
 
 /// [`read_float_from`] of a number after which none is read: no branch depends on its minus. Within
@@ -159,7 +170,7 @@ fn read_last_float<F: Float>(
             return Ok((x, power.end));
         }
     }
-    read_float_rest::<F>(text, word, start)
+    read_float_rest::<F>(text, word, start, sign.1)
 }
 
 /// [`read_float_from`] from the start of a text on.

@@ -6,6 +6,7 @@ ghost use Rattle.std.specs.Float.Ieee.{round};
 ghost use Rattle.std.specs.Str.Parse.{digits_value};
 ghost use Rattle.digit_floats.specs.Parts.{integer_of, fraction_of, IsMantissa};
 
+use super::bounds::round_bounds;
 use super::exact::round_exact;
 use super::float::{Float, signed};
 use super::long::round_digits;
@@ -132,6 +133,31 @@ pub fn round_unsigned<F: Float>(
     }
 }
 
+/// [`round_parts`] by [`round_bounds`]. Only for speed: zeros, infinities and numbers that aren't
+/// normal need no text for std then.
+#[inline(always)]
+fn round_far<F: Float>(text: &[u8], negative: bool, mantissa: Mantissa, power: Power) -> Option<F>
+    requires { IsMantissa text.now mantissa }
+    ensures { IfSome result (λ x. (n : ℕ) → power.value ≡ min n (2 ^ 64 - 1)
+        → F.value x ≡ round F.format negative
+        (digits_value 10 (integer_of text.now mantissa ++ fraction_of text.now mantissa)
+        * 10 ^ (if power.negative then 0 else n))
+        (10 ^ (mantissa.places + (if power.negative then n else 0)))) }
+{
+    if mantissa.value == 0 || power.value > 0xffff_ffff {
+        return None;
+    }
+    let x: F = round_bounds(
+        negative,
+        mantissa.value,
+        mantissa.dropped as u64,
+        mantissa.places as u64,
+        power.negative,
+        power.value,
+    )?;
+    Some(x)
+}
+
 /// [`round_parts`] of a number that no product tells, in code of its own.
 #[cold]
 #[inline(never)]
@@ -144,6 +170,9 @@ fn round_apart<F: Float>(text: &[u8], negative: bool, mantissa: Mantissa, power:
         (10 ^ (mantissa.places + (if power.negative then n else 0))) }
 {
     if let Some(x) = round_middle::<F>(text, negative, mantissa, power) {
+        return x;
+    }
+    if let Some(x) = round_far::<F>(text, negative, mantissa, power) {
         return x;
     }
     round_digits::<F>(
@@ -186,8 +215,8 @@ pub fn round_parts<F: Float>(text: &[u8], negative: bool, mantissa: Mantissa, po
     // 2^53 (of an `f32` 2^24) and 10^22 (10^10). Otherwise one product of 64 bits with a power of
     // ten decides; of random numbers with 16 digits and more it leaves 1 in 400 undecided, and also
     // powers beyond its table. These go the long way: a whole number over at most 16 by itself, if
-    // the first 19 digits are one of 54 binary digits or more, and the others follow the point; all
-    // else by a text for std.
+    // the first 19 digits are one of 54 binary digits or more, and the others follow the point; then
+    // by the two ends of the product; all else by a text for std.
     let places = mantissa.places as u64;
     let cut = mantissa.dropped as u64;
     let value = mantissa.value;

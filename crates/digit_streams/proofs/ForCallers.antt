@@ -26,22 +26,22 @@ first_two meaning list position at text (Some bytes) None first second on one us
     rw (on, one) (rw (← uses.rest) (ap (λ l. meaning first ∷ l) two))
 
 -- what a reader of a kind and a gap gives is the list by these
-module _ {K A E : Type 0} (number_at : K → List ℕ → ℕ → Result (A × ℕ) E) (error_at : E → ℕ)
+module _ {K A E : Type 0} (number_at : K → List ℕ → ℕ → Result (A × ℕ) E) (none_at : ℕ → E → Bool)
     (later : ℕ → E → E) (has : K → ℕ → Bool) (s : Stream K E) (kind : K) (gap : Gap)
     (is_kind : s.kind ≡ kind) (is_gap : s.gap ≡ gap) (apart : IsApart (has kind) gap) where
   pub first_gives : (text : List ℕ) (numbers : List A) (end : StreamEnd E) → s.ended ≡ None
       → s.position ≡ 0 → s.bytes ≡ Some text
       → IfNone s.ended (IfSome s.bytes (λ bytes. IsApart (has s.kind) s.gap
-      → Gives (stream_list (number_at s.kind) error_at later s.gap s.position bytes 1) numbers end))
-      → Gives (stream_list (number_at kind) error_at later gap 0 text 1) numbers end
+      → Gives (stream_list (number_at s.kind) none_at later s.gap s.position bytes 1) numbers end))
+      → Gives (stream_list (number_at kind) none_at later gap 0 text 1) numbers end
   first_gives text numbers end is_ended is_position is_bytes h =
       let gives = rw (is_ended, is_position, is_bytes, is_kind, is_gap) at h in gives apart
 
   pub next_gives : (numbers : List A)
       → IfSome s.bytes (λ bytes. IsApart (has s.kind) s.gap
-      → (numbers_of number_at error_at later s bytes 1).0 ≡ numbers)
+      → (numbers_of number_at none_at later s bytes 1).0 ≡ numbers)
       → IfSome s.bytes (λ bytes. (after_end s.ended
-      (stream_list (number_at kind) error_at later gap s.position bytes 1)).0 ≡ numbers)
+      (stream_list (number_at kind) none_at later gap s.position bytes 1)).0 ≡ numbers)
   next_gives numbers h =
       rw (← is_kind, ← is_gap)
       (some_then s.bytes _ _ (λ bytes goes. goes (rw (is_kind, is_gap) apart)) h)
