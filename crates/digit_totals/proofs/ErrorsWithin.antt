@@ -137,5 +137,3 @@ module _ (text : List ℕ) where
   scaled_within word point places least most start error is =
       scaled_low word point places _ _ error
       (signed_error word point places most start _ _ error is)
-
-pub ruleset within = (float_within, scaled_within)

@@ -47,7 +47,7 @@ fn parse_integer(text: &[u8], word: u128) -> Result<i128, ParseError>
 
 /// The decimal number that a text is, in units of its last place, with any blanks around it.
 #[inline]
-#[tactic(auto, using(crate::proofs::ErrorsWithin::within))]
+#[tactic(auto, using(crate::proofs::ErrorsWithin::scaled_within))]
 fn parse_decimal(text: &[u8], word: u128, places: usize) -> Result<i128, ScaledError>
     requires supported { IsTrue (is_supported word) }
     requires decimal { IsDecimal word }

@@ -16,7 +16,6 @@ use lexical_format::words::PYTHON_LITERAL;
 
 /// The float that a text is, with any blanks around it.
 #[inline]
-#[tactic(auto, using(crate::proofs::ErrorsWithin::within))]
 fn parse_float(text: &[u8], word: u128) -> Result<f64, FloatError>
     requires supported { IsTrue (is_supported word) }
     requires decimal { IsDecimal word }
@@ -24,7 +23,10 @@ fn parse_float(text: &[u8], word: u128) -> Result<f64, FloatError>
     ensures within { IfErr result (λ error. position error ≤ length text.now) }
 {
     let begin = past_bytes(text, 0, BLANKS);
-    let (value, end) = read_float_from::<f64>(text, word, begin)?;
+    let (value, end) = match read_float_from::<f64>(text, word, begin) {
+        Ok(read) => read,
+        Err(error) => return Err(error),
+    };
     let rest = past_bytes(text, end, BLANKS);
     if rest == text.len() {
         Ok(value)
