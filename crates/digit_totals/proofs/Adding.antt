@@ -1,6 +1,7 @@
 -- Lines that are added one by one.
-use Rattle.std.proofs.Common.{◌≡◌, ◌≢◌, ℕ, ℤ, All, Result, List, ◌++◌, length, ◌<◌, ◌≤◌, take, refl, sym, ◌∙◌, ap, arith, None, Ok, Err, take_all, take-append-drop, append_assoc, drop}
+use Rattle.std.proofs.Common.{◌≡◌, ◌≢◌, ℕ, ℤ, All, Result, List, ◌++◌, length, ◌<◌, ◌≤◌, take, refl, sym, ◌∙◌, ap, arith, None, Ok, Err, take-append-drop, append_assoc, drop}
 use Rattle.std.proofs.lemmas.Bool.Decides.{nat_tests}
+use Rattle.digit_literals.proofs.ForCallers.{all_is}
 use Rattle.digit_totals.specs.declared.options.Options.{Options}
 use Rattle.digit_totals.specs.declared.totals.Totals.{Totals}
 use Rattle.digit_totals.specs.declared.fault.Fault.{Fault}
@@ -56,7 +57,7 @@ pub plain_value : (options : Options) (word : ℕ) (line : List ℕ) (value : �
     → options.column ≡ None → word_of options ≡ word
     → number_in word line options.kind ≡ Ok value → value_of options line ≡ Ok value
 plain_value options word line value none same is =
-    rw (none, same, take_all (length line) line (omega arith), is) refl
+    rw (none, same, all_is line, is) refl
 
 module _ (options : Options) (word : ℕ) (none : options.column ≡ None)
     (same : word_of options ≡ word) (t : Totals) (text rest : List ℕ) (value : ℤ)
