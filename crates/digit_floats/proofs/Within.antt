@@ -1,5 +1,5 @@
 -- A number between two that round alike rounds as they do.
-use Rattle.std.proofs.Common.{◌≡◌, ℕ, zero, suc, ◌+◌, ◌-◌, ◌*◌, ◌/◌, ◌^◌, ◌<◌, ◌≤◌, Bool, true, false, ◌&&◌, cond, T, ltb, refl, sym, ap, subst, ◌∙◌, true≢false, ◌⊎◌, inl, inr, arith, mul-le-mul_left, mul-le-mul_right}
+use Rattle.std.proofs.Common.{◌≡◌, ℕ, suc, ◌+◌, ◌-◌, ◌*◌, ◌/◌, ◌^◌, ◌<◌, ◌≤◌, Bool, true, false, ◌&&◌, cond, T, ltb, refl, sym, ap, subst, ◌∙◌, true≢false, ◌⊎◌, inl, inr, arith, mul-le-mul_left, mul-le-mul_right}
 use mathlib.Core.Bool.{◌||◌}
 use native.Mathlib.Nat.{le_antisymm, le_of_lt, le_trans, le_of_mul-le-mul_right, mul-pos}
 use Rattle.std.specs.Prelude.{min}
@@ -14,7 +14,7 @@ use lib.Ieee.Order.{round_mono, transfer}
 use Rattle.digit_floats.specs.Binary.{IsWholePart}
 use Rattle.digit_floats.specs.Near.{power_scale, IsRow, IsScaled, IsCutAt}
 use Rattle.digit_floats.proofs.HexDigits.{zero_is}
-use Rattle.digit_floats.proofs.Huge.{above_inf, round_huge, emax_below, low_below}
+use Rattle.digit_floats.proofs.Huge.{above_inf, round_huge, emax_below}
 use Rattle.digit_floats.proofs.Product.{least_product, most_product}
 use Rattle.digit_floats.proofs.Squeeze.{bits_of_value}
 use Rattle.digit_floats.proofs.Tens.{ten_pos}
@@ -29,7 +29,8 @@ units_value : (f : Format) (q k : ℕ) → IsValue f (units f false q k) (q * 2 
 unfolding units
 units_value f q k = go (ltb (q * 2 ^ k) (2 ^ (low f + suc (emax f))))
   where
-    go : (b : Bool) → IsValue f (cond b (odd (suc (prec f)) false q k (low f)) (inf false)) (q * 2 ^ k)
+    go : (b : Bool)
+        → IsValue f (cond b (odd (suc (prec f)) false q k (low f)) (inf false)) (q * 2 ^ k)
     go true = inr (odd_sign (suc (prec f)) false q k (low f))
     go false = inl refl
 
@@ -187,10 +188,7 @@ module _ (f : Format) (num den m more q t z h g : ℕ) (D : 0 < den) (M : 0 < m)
       (rw (x, y) (least_product num den m more q t z D M r b h lower))
       (le_of_lt (rw (y, w) (most_product num den m more q t z D M r b g upper))) same
 
--- ---- the two numbers of a product
-
-pub below_product : (a : ℕ) → a / 2 ^ 64 * 2 ^ 64 ≤ a
-below_product a = omega arith
+-- ---- the upper one of the two numbers of a product
 
 pub above_product : (m more z t : ℕ) → m * 2 ^ z < 2 ^ 64 → t < 2 ^ 64
     → (m + more) * 2 ^ z * (t + 1) ≤ (m * 2 ^ z * t / 2 ^ 64 + 2 + more * 2 ^ z) * 2 ^ 64

@@ -60,9 +60,9 @@ fn shift_digits(digits: u128, shift: u128, more: bool) -> u64
     whole + whole % 2
 }
 
-/// How many units of the least float above 0, times 2 to a scale, are nearest to a number whose whole
-/// part is the digits, in units of 2 to `above` over 2 to `below` of the least floats above 0; `more`
-/// says whether the number is above that.
+/// How many units of the least float above 0, times 2 to a scale, are nearest to a number whose
+/// whole part is the digits, in units of 2 to `above` over 2 to `below` of the least floats above
+/// 0; `more` says whether the number is above that.
 pub fn nearest_binary(
     digits: u128,
     more: bool,

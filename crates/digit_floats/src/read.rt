@@ -35,9 +35,9 @@ fn read_float_apart<F: Float>(
     Ok((x, parts.power.end))
 }
 
-/// [`read_float_apart`], digit by digit, in code of its own: of a word that drops separators between
-/// digits, since a group seldom has eight, and of a text that no digit begins, which is short or no
-/// number.
+/// [`read_float_apart`], digit by digit, in code of its own: of a word that drops separators
+/// between digits, since a group seldom has eight, and of a text that no digit begins, which is
+/// short or no number.
 #[inline(never)]
 #[tactic(auto, using(crate::proofs::Numbers::round_number))]
 fn read_float_by_digits<F: Float>(

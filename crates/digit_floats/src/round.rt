@@ -215,8 +215,8 @@ pub fn round_parts<F: Float>(text: &[u8], negative: bool, mantissa: Mantissa, po
     // 2^53 (of an `f32` 2^24) and 10^22 (10^10). Otherwise one product of 64 bits with a power of
     // ten decides; of random numbers with 16 digits and more it leaves 1 in 400 undecided, and also
     // powers beyond its table. These go the long way: a whole number over at most 16 by itself, if
-    // the first 19 digits are one of 54 binary digits or more, and the others follow the point; then
-    // by the two ends of the product; all else by a text for std.
+    // the first 19 digits are one of 54 binary digits or more, and the others follow the point;
+    // then by the two ends of the product; all else by a text for std.
     let places = mantissa.places as u64;
     let cut = mantissa.dropped as u64;
     let value = mantissa.value;

@@ -60,9 +60,9 @@ fn pass(others: u64, count: usize) -> u64
 }
 
 /// Whether the numbers among so many bytes are rather read one by one: half of the bytes are no
-/// digits, or nearly all numbers have one form of up to three digits, so that the next number begins
-/// as far from this one as this one from the one before. A processor guesses where these end. It is
-/// only for speed.
+/// digits, or nearly all numbers have one form of up to three digits, so that the next number
+/// begins as far from this one as this one from the one before. A processor guesses where these
+/// end. It is only for speed.
 #[inline(always)]
 fn are_short(others: u64, bytes: u32) -> bool
     requires few { bytes ≤ 64 }

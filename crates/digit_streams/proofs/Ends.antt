@@ -53,7 +53,8 @@ module _ {A E : Type 0} (one : List ℕ → ℕ → Result (A × ℕ) E) (none_a
   pub too_long : (position : ℕ) (text : List ℕ) (is_last : Bool) (room : ℕ) (end : PieceEnd E)
       (P : ℕ → Type 0) → ((at : ℕ) → P at → at ≤ length text) → IfAt end P
       → (held_piece one none_at has gap text is_last room).1 ≡ end
-      → 2 ^ 64 ≤ position + reach error_at end → IsTooLong one none_at error_at has gap position text
+      → 2 ^ 64 ≤ position + reach error_at end
+      → IsTooLong one none_at error_at has gap position text
   too_long position text is_last room (pieces.More at) P within here is past =
       let l = within at here in let p : 2 ^ 64 ≤ position + at = past in inl (omega (arith, l, p))
   too_long position text is_last room (pieces.Full at) P within here is past =

@@ -63,8 +63,8 @@ pub fn read_stream<K: Kind, R: Read>(
         (NeedsMore (K.number_at kind) K.none_at (K.has_byte kind) gap (unread window.new)) }
     ensures place { IsPlace result.end window.new.position (length window.new.buffer.now)
         (length (unread window.new)) }
-    ensures reason { HasReason (K.number_at kind) K.none_at K.error_at (K.has_byte kind) gap result.end
-        window.new.position (unread window.new) }
+    ensures reason { HasReason (K.number_at kind) K.none_at K.error_at (K.has_byte kind) gap
+        result.end window.new.position (unread window.new) }
     ensures onward { IfSome (bytes_left window.old (R.remaining reader.old)) (λ text.
         IsApart (K.has_byte kind) gap →
         let list = stream_list (K.number_at kind) K.none_at K.error_later gap in
@@ -121,8 +121,8 @@ pub fn read_next<K: Kind, R: Read>(
         (NeedsMore (K.number_at kind) K.none_at (K.has_byte kind) gap (unread window.new)) }
     ensures place { IsPlace result.1 window.new.position (length window.new.buffer.now)
         (length (unread window.new)) }
-    ensures reason { HasReason (K.number_at kind) K.none_at K.error_at (K.has_byte kind) gap result.1
-        window.new.position (unread window.new) }
+    ensures reason { HasReason (K.number_at kind) K.none_at K.error_at (K.has_byte kind) gap
+        result.1 window.new.position (unread window.new) }
     ensures onward { IfEndsFault result.1
         (IfSome (bytes_left window.old (R.remaining reader.old)) (λ text.
         IsApart (K.has_byte kind) gap →

@@ -114,8 +114,9 @@ impl<'b, K: Kind, R: Read> NumberReader<'b, K, R> {
             self.old.gap self.new.held)) }
         ensures place { IfNone self.old.ended (IsPlace result.end self.new.position
             self.new.capacity (length self.new.held)) }
-        ensures reason { IfNone self.old.ended (HasReason (K.number_at self.old.kind) K.none_at K.error_at
-            (K.has_byte self.old.kind) self.old.gap result.end self.new.position self.new.held) }
+        ensures reason { IfNone self.old.ended (HasReason (K.number_at self.old.kind) K.none_at
+            K.error_at (K.has_byte self.old.kind) self.old.gap result.end self.new.position
+            self.new.held) }
         ensures onward { IfNone self.old.ended (IfSome self.old.bytes (λ bytes.
             IsApart (K.has_byte self.old.kind) self.old.gap →
             let list = stream_list (K.number_at self.old.kind) K.none_at K.error_later
@@ -168,8 +169,8 @@ impl<'b, K: Kind, R: Read> NumberReader<'b, K, R> {
             self.old.gap self.new.held)) }
         ensures place { IfNone self.old.ended (IsPlaceOfNext result self.new.position
             self.new.capacity (length self.new.held)) }
-        ensures reason { IfNone self.old.ended (HasReason (K.number_at self.old.kind) K.none_at K.error_at
-            (K.has_byte self.old.kind) self.old.gap
+        ensures reason { IfNone self.old.ended (HasReason (K.number_at self.old.kind) K.none_at
+            K.error_at (K.has_byte self.old.kind) self.old.gap
             (end_of_next result self.new.position self.new.ended) self.new.position
             self.new.held) }
         ensures list { IfNone self.old.ended (IfSome self.old.bytes (λ bytes.
@@ -253,8 +254,9 @@ impl<'b, K: Kind, R: Read> NumberReader<'b, K, R> {
             self.old.gap self.new.held)) }
         ensures place { IfNone self.old.ended (IsPlace result.1 self.new.position
             self.new.capacity (length self.new.held)) }
-        ensures reason { IfNone self.old.ended (HasReason (K.number_at self.old.kind) K.none_at K.error_at
-            (K.has_byte self.old.kind) self.old.gap result.1 self.new.position self.new.held) }
+        ensures reason { IfNone self.old.ended (HasReason (K.number_at self.old.kind) K.none_at
+            K.error_at (K.has_byte self.old.kind) self.old.gap result.1 self.new.position
+            self.new.held) }
         ensures onward { IfNone self.old.ended (IfEndsFault result.1
             (IfSome self.old.bytes (λ bytes.
             IsApart (K.has_byte self.old.kind) self.old.gap →

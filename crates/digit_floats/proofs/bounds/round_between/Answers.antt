@@ -3,7 +3,6 @@ use lib.Pow.{pow_mono}
 use lib.Ieee.{low, units, round}
 use Rattle.digit_floats.specs.Near.{power_scale}
 use Rattle.digit_floats.proofs.Within.{top, bottom, bottom_pos, part_of, as_both, above_product}
-use Rattle.digit_floats.proofs.Product.{top_bit}
 use Rattle.digit_floats.proofs.bounds.round_between.Goals as goal
 
 pub returns-then-are_one : goal.returns-then-are_one
@@ -31,13 +30,14 @@ returns-then-are_one g c num den D is =
     let down : below ≡ 1200 + z = omega arith in
     let first : units f false c.nearest_binary-count.result.0 c.nearest_binary-count.result.1
     ≡ round f false (top q h) (bottom z) =
-    c.nearest_binary-count.ensures.is f (sym c.precision-precision.ensures.value) (top q h) (bottom z)
-    (bottom_pos z) (part_of f q z h above below up down) in
+    c.nearest_binary-count.ensures.is f (sym c.precision-precision.ensures.value) (top q h)
+    (bottom z) (bottom_pos z) (part_of f q z h above below up down) in
     let last : units f false c.nearest_binary-last_count.result.0
     c.nearest_binary-last_count.result.1 ≡ round f false (top q v) (bottom z) =
-    c.nearest_binary-last_count.ensures.is f (sym c.precision-precision.ensures.value) (top q v) (bottom z)
-    (bottom_pos z) (part_of f q z v above below up down) in
+    c.nearest_binary-last_count.ensures.is f (sym c.precision-precision.ensures.value) (top q v)
+    (bottom z) (bottom_pos z) (part_of f q z v above below up down) in
     let same : round f false (top q h) (bottom z) ≡ round f false (top q v) (bottom z) =
-    sym first ∙ c.are_one.ensures c.if-are_one.true f (sym c.precision-precision.ensures.value) ∙ last in
+    sym first ∙ c.are_one.ensures c.if-are_one.true f (sym c.precision-precision.ensures.value)
+    ∙ last in
     c.of_units.ensures ∙ first
     ∙ as_both f num den m more q t z h v D c.requires.digits c.row.ensures is lower upper same

@@ -104,8 +104,8 @@ returns-in-Err-clause-reason g c =
     let step = c.read_held_one-number in
     reason_failed one k.none_at k.error_at has c.args.gap c.in-Err.error c.fill.new.window.position
     (unread c.fill.new.window) c.in-Err.ensures.failure
-    (left_of one k.none_at k.error_at has c.args.gap (unread c.loop-turn.window) (unread c.fill.new.window)
-    c.loop-turn.is_over _ _ _ (step.ensures.asks c.in-More.is)
+    (left_of one k.none_at k.error_at has c.args.gap (unread c.loop-turn.window)
+    (unread c.fill.new.window) c.loop-turn.is_over _ _ _ (step.ensures.asks c.in-More.is)
     (c.in-Err.ensures.same ∙ step.ensures.uses.rest))
 
 pub returns-clause-reason : goal.returns-clause-reason

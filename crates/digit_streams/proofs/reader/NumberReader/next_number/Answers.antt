@@ -43,8 +43,8 @@ returns-clause-reason g c =
     let read = c.read_one-number in
     let new = read.new.self in
     rw c.next_of.ensures
-    (none_then reader.ended (λ end. HasReason (k.number_at kind) k.none_at k.error_at (k.has_byte kind)
-    reader.gap end new.position new.held)
+    (none_then reader.ended (λ end. HasReason (k.number_at kind) k.none_at k.error_at
+    (k.has_byte kind) reader.gap end new.position new.held)
     (end_of_next (next_of read.result.0 read.result.1) new.position new.ended) read.result.1
     (next_end reader.ended read.result.0 read.result.1 new.position new.capacity (length new.held)
     new.ended read.ensures.full read.ensures.fault read.ensures.place read.ensures.ended)
