@@ -72,7 +72,8 @@ module _ {A E : Type 0} where
   -- a number that is given is the list's only one
   pub gives_next : {V : Type 0} (meaning : V → A) (one : List ℕ → ℕ → Result (A × ℕ) E)
       (none_at : ℕ → E → Bool) (later : ℕ → E → E) (gap : Gap) (position : ℕ)
-      (ended : Option (Ended E)) (text : Option (List ℕ)) (Apart : Type 0) (number : Option V) (end : StreamEnd E)
+      (ended : Option (Ended E)) (text : Option (List ℕ)) (Apart : Type 0) (number : Option V)
+      (end : StreamEnd E)
       → ((at : ℕ) → end ≡ Full at → IsSome number)
       → IfSome text (λ bytes. Apart → Gives (after_end ended
       (stream_list one none_at later gap position bytes 1)) (list_of_option meaning number) end)
