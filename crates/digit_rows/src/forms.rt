@@ -4,7 +4,7 @@ ghost use Rattle.std.specs.Prelude.{◌≤◌, length};
 ghost use Rattle.digit_numbers.specs.Forms.{IsForm};
 
 use super::work::{Step, Told, Work, none, run};
-use digits::{Form, Number, form_of, forms, read_number_of};
+use digit_numbers::{Form, Number, form_of, forms, read_number_of};
 use std::num::f64_to_bits_with_nan;
 
 /// A number as a value of a [`Step`].

@@ -1,6 +1,6 @@
 //! The calls that `bench/rows` times, as a C library. Each reads a text of numbers from its start
 //! to its end, with one byte or more between two of them.
-#![tactic(auto, unfolding(digits::proofs::Literals::lexical_on_literals))]
+#![tactic(auto, unfolding(lexical_format::proofs::OnLiterals::lexical_on_literals))]
 
 mod forms;
 mod lists;

@@ -2,10 +2,10 @@
 
 use super::numbers::Bits;
 use super::work::{Step, Told, Work, none, run};
-use digits::words::PYTHON_LITERAL;
-use digits::{
-    COMMAS, ListEnd, ListRead, LiteralError, STANDARD, WHITESPACE, read_float_list, read_list,
-};
+use digit_floats::read_float_list;
+use digit_literals::{COMMAS, ListEnd, ListRead, LiteralError, WHITESPACE, read_list};
+use lexical_format::STANDARD;
+use lexical_format::words::PYTHON_LITERAL;
 use std::num::f64_to_bits_with_nan;
 
 /// Where the next list begins: after this one, or after the byte that is in no number.

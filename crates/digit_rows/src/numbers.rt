@@ -3,14 +3,15 @@
 ghost use Rattle.std.specs.Prelude.{◌≤◌, length};
 
 use super::work::{Step, Told, Work, none, run};
-use digit_literals::read_first_digits_from;
-use digits::languages::RUST;
-use digits::words::PYTHON_LITERAL;
-use digits::{
-    Integer, STANDARD, read_decimal_from, read_exponent, read_float_from, read_literal,
-    read_mantissa, read_number_from, read_scaled_from,
+use digit_floats::{
+    read_decimal_from, read_exponent, read_float_from, read_mantissa, read_scaled_from,
 };
+use digit_languages::languages::RUST;
+use digit_languages::read_literal;
+use digit_literals::{Integer, read_first_digits_from, read_number_from};
 use lexical_digits::skip::Component;
+use lexical_format::STANDARD;
+use lexical_format::words::PYTHON_LITERAL;
 use std::num::f64_to_bits_with_nan;
 
 /// Radix 16, and no separator.

@@ -3,8 +3,11 @@
 use super::forms::value_of;
 use super::numbers::{Bits, past_field};
 use super::work::{Step, Told, Work, none, run};
-use digits::words::PYTHON_LITERAL;
-use digits::{STANDARD, forms, parse_float, parse_number, parse_number_of, parse_scaled};
+use digit_floats::{parse_float, parse_scaled};
+use digit_literals::parse_number;
+use digit_numbers::{forms, parse_number_of};
+use lexical_format::STANDARD;
+use lexical_format::words::PYTHON_LITERAL;
 use std::num::f64_to_bits_with_nan;
 
 /// An integer of a type without separators.

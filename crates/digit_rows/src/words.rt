@@ -5,7 +5,7 @@ ghost use Rattle.lexical_format.specs.Word.{is_supported};
 
 use super::numbers::past_field;
 use super::work::{Step, Told, Work, none, run};
-use digits::{COMMAS, Gap, ListEnd, WHITESPACE, parse_number, read_list, read_number_from};
+use digit_literals::{COMMAS, Gap, ListEnd, WHITESPACE, parse_number, read_list, read_number_from};
 use lexical_format::is_supported;
 
 /// A word that is supported.
