@@ -221,7 +221,8 @@ impl Work for RustLiteral {
 /// The first comma from a position on, or the end of the text.
 #[inline(always)]
 pub fn past_field(text: &[u8], start: usize) -> usize
-    ensures { result ≤ length text.now }
+    ensures onward { start ≤ length text.now → start ≤ result }
+    ensures within { result ≤ length text.now }
 {
     for at in start..text.len() {
         if text[at] == b',' {
