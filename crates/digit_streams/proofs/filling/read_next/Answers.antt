@@ -60,8 +60,8 @@ loop-turn-preserved g c =
     (unread c.loop-turn.window) (unread step.new.window) c.loop-turn.is_over text
     (g.R.Read.remaining c.loop-turn.reader) c.loop-turn.invariant.uses step.ensures.uses
     c.loop-turn.invariant.last step.ensures.list c.loop-turn.invariant.goes_on in
-    let on = goes_on (k.number_at kind) k.none_at (k.has_byte kind) gap (unread c.loop-turn.window)
-    c.loop-turn.is_over _ _ _ (step.ensures.asks c.in-More.is) in
+    let on = goes_on (k.number_at kind) k.none_at k.error_at (k.has_byte kind) gap
+    (unread c.loop-turn.window) c.loop-turn.is_over _ _ _ (step.ensures.asks c.in-More.is) in
     record {
       turns = rw c.fill.ensures.position
           (turn_on c.loop-turn.turn c.loop-turn.window.position step.new.window.position
