@@ -1,11 +1,11 @@
 //! The number that a line has.
 
-ghost use Rattle.std.specs.Prelude.{◌≡◌, ◌≤◌, length, IsTrue, IfErr, Ok, Err};
+ghost use Rattle.std.specs.Prelude.{◌≡◌, ◌+◌, ◌^◌, ◌<◌, ◌≤◌, length, IsTrue, IfErr, Ok, Err};
 ghost use Rattle.lexical_format.specs.Word.{is_supported};
 ghost use Rattle.digit_literals.specs.Errors as integers;
 ghost use Rattle.digit_floats.specs.Float.{IsDecimal};
 ghost use Rattle.digit_floats.specs.Scaled as decimals;
-ghost use Rattle.digit_totals.specs.Errors.{position};
+ghost use Rattle.digit_totals.specs.Errors.{of_field_at};
 ghost use Rattle.digit_totals.specs.Value as Value;
 ghost use Rattle.digit_totals.specs.Value.{HasFewPlaces};
 
@@ -65,44 +65,30 @@ fn parse_decimal(text: &[u8], word: u128, places: usize) -> Result<i128, ScaledE
     }
 }
 
-/// The number that a text is, with any blanks around it.
+/// The number of a field that begins at `start` in its line, with any blanks around it.
 #[inline]
-fn parse_number(text: &[u8], word: u128, kind: Kind) -> Result<i128, NumberError>
+fn parse_number(field: &[u8], word: u128, start: usize, kind: Kind) -> Result<i128, NumberError>
     requires supported { IsTrue (is_supported word) }
     requires decimal { IsDecimal word }
+    requires within { start + length field.now < 2 ^ 64 }
     requires few { HasFewPlaces kind }
-    ensures is { result ≡ Value.number_in word text.now kind }
-    ensures within { IfErr result (λ error. position error ≤ length text.now) }
+    ensures { result ≡ of_field_at start (Value.number_in word field.now kind) }
 {
     match kind {
-        Kind::Integers => match parse_integer(text, word) {
+        Kind::Integers => match parse_integer(field, word) {
             Ok(value) => Ok(value),
-            Err(error) => Err(NumberError::Integer(error)),
+            Err(error) => Err(NumberError::Integer(error).later(start)),
         },
-        Kind::Places(places) => match parse_decimal(text, word, places) {
+        Kind::Places(places) => match parse_decimal(field, word, places) {
             Ok(value) => Ok(value),
-            Err(error) => Err(NumberError::Decimal(error)),
+            Err(error) => Err(NumberError::Decimal(error).later(start)),
         },
-    }
-}
-
-/// The number that a field is, with any blanks around it.
-#[inline]
-#[tactic(auto, unfolding(lexical_format::proofs::OnLiterals::lexical_on_literals))]
-fn parse_field(options: Options, field: &[u8]) -> Result<i128, NumberError>
-    requires { HasFewPlaces options.kind }
-    ensures is { result ≡ Value.number_in (Value.word_of options) field.now options.kind }
-    ensures within { IfErr result (λ error. position error ≤ length field.now) }
-{
-    if options.underscores {
-        parse_number(field, PYTHON_LITERAL, options.kind)
-    } else {
-        parse_number(field, STANDARD, options.kind)
     }
 }
 
 /// The number in the column of a line, or why there is none. What is beside the field makes no
 /// difference.
+#[tactic(auto, unfolding(lexical_format::proofs::OnLiterals::lexical_on_literals))]
 pub fn value_of(options: Options, line: &[u8]) -> Result<i128, NumberError>
     requires { HasFewPlaces options.kind }
     ensures { result ≡ Value.value_of options line.now }
@@ -110,8 +96,10 @@ pub fn value_of(options: Options, line: &[u8]) -> Result<i128, NumberError>
     let Some((start, end)) = find_span(options.column, line) else {
         return Err(NumberError::Missing);
     };
-    match parse_field(options, &line[start..end]) {
-        Ok(value) => Ok(value),
-        Err(error) => Err(error.later(start)),
+    let field = &line[start..end];
+    if options.underscores {
+        parse_number(field, PYTHON_LITERAL, start, options.kind)
+    } else {
+        parse_number(field, STANDARD, start, options.kind)
     }
 }
