@@ -5,7 +5,7 @@ ghost use Rattle.lexical_format.specs.Word.{is_supported};
 ghost use Rattle.digit_literals.specs.Numbers.{digits_from};
 ghost use Rattle.digit_floats.specs.Float.{IsDecimal};
 ghost use Rattle.digit_lists.specs.Groups.{groups_at, AreGroups};
-ghost use Rattle.digit_lists.specs.Prices.{places_at, exact_at, grouped_at, price_at, price_position, price_message};
+ghost use Rattle.digit_lists.specs.Prices.{places_at, exact_at, grouped_at, price_at, price_none_at, price_position, price_message};
 
 use super::groups::wrong_group;
 use digit_floats::{ScaledError, read_mantissa, read_scaled_from};
