@@ -96,8 +96,8 @@ fn is_shared(rule: Rule, gap: Gap) -> bool
 
 /// Whether the numbers of a list are read by their ends from its first one on: the radix is 10, no
 /// digit is a blank, no separator of the word is between two numbers, and the text is long enough.
-/// Its first 16 bytes say whether it is worth it: the list doesn't end at the first byte above `9`,
-/// as at a bracket; none is a separator of the word, and the numbers aren't short.
+/// Its first 16 bytes say whether it is worth it: none is above `9`, as a bracket that ends a short
+/// list, or a separator of the word, and the numbers aren't short.
 #[inline(always)]
 pub(super) fn is_by_ends(text: &[u8], word: u128, gap: Gap, at: usize) -> bool
     requires { at ≤ length text.now }
@@ -111,8 +111,7 @@ pub(super) fn is_by_ends(text: &[u8], word: u128, gap: Gap, at: usize) -> bool
         return false;
     }
     let bytes = u8x16::from_slice(&text[at..]);
-    let above = bytes.simd_ge(u8x16::splat(b'9' + 1)).to_bitmask();
-    if above != 0 && !gap.has_separator(text, at + above.trailing_zeros() as usize) {
+    if bytes.simd_ge(u8x16::splat(b'9' + 1)).to_bitmask() != 0 {
         return false;
     }
     let separators = bytes.simd_eq(u8x16::splat(rule.separator)).to_bitmask();
