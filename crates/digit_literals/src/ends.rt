@@ -59,16 +59,13 @@ fn pass(others: u64, count: usize) -> u64
     if count < BLOCK { others >> count } else { 0 }
 }
 
-/// Whether the numbers among so many bytes are rather read one by one: half of the bytes are no
-/// digits, or nearly all numbers have one form of up to three digits, so that the next number
-/// begins as far from this one as this one from the one before. A processor guesses where these
-/// end. It is only for speed.
+/// Whether the numbers of a block are rather read one by one: half of the bytes are no digits, or
+/// nearly all numbers have one form of up to three digits, so that the next number begins as far
+/// from this one as this one from the one before. A processor guesses where these end. It is only
+/// for speed.
 #[inline(always)]
-fn are_short(others: u64, bytes: u32) -> bool
-    requires few { bytes ≤ 64 }
-    requires some { 16 ≤ bytes }
-{
-    if others.count_ones() >= bytes / 2 {
+fn are_short(others: u64) -> bool {
+    if others.count_ones() >= 32 {
         return true;
     }
     let first = others >> (others % 2);
@@ -80,8 +77,8 @@ fn are_short(others: u64, bytes: u32) -> bool
     if form > 8 {
         return false;
     }
-    let differ = (first ^ (first >> form)) << (64 - bytes + form);
-    differ.count_ones() <= bytes / 16
+    let differ = (first ^ (first >> form)) << form;
+    differ.count_ones() <= 4
 }
 
 /// Whether the separator of a rule also separates two numbers.
@@ -94,10 +91,23 @@ fn is_shared(rule: Rule, gap: Gap) -> bool
     rule.separator != 0 && accepts(gap.separators, rule.separator)
 }
 
+/// Which of 16 bytes are no digits, the first by the lowest bit, in lists that are rather read one
+/// by one: numbers of two digits each.
+const TWO: u64 = 0b0100_1001_0010_0100;
+
+/// The same of three digits each.
+const THREE: u64 = 0b1000_1000_1000_1000;
+
+/// The same of three digits, and then two other bytes, as a comma and a blank.
+const THREE_APART: u64 = 0b0110_0011_0001_1000;
+
+/// The same after a blank, where the list goes on.
+const BLANK_AND_THREE: u64 = 0b1100_0110_0011_0001;
+
 /// Whether the numbers of a list are read by their ends from its first one on: the radix is 10, no
-/// digit is a blank, no separator of the word is between two numbers, and the text is long enough.
-/// Its first 16 bytes say whether it is worth it: none is above `9`, as a bracket that ends a short
-/// list, or a separator of the word, and the numbers aren't short.
+/// digit is a blank, no separator of the word is between two numbers, the text is long enough, and
+/// 16 bytes have no separator of the word, are no digits in less than half, and have none of the
+/// forms above.
 #[inline(always)]
 pub(super) fn is_by_ends(text: &[u8], word: u128, gap: Gap, at: usize) -> bool
     requires { at ≤ length text.now }
@@ -111,9 +121,6 @@ pub(super) fn is_by_ends(text: &[u8], word: u128, gap: Gap, at: usize) -> bool
         return false;
     }
     let bytes = u8x16::from_slice(&text[at..]);
-    if bytes.simd_ge(u8x16::splat(b'9' + 1)).to_bitmask() != 0 {
-        return false;
-    }
     let separators = bytes.simd_eq(u8x16::splat(rule.separator)).to_bitmask();
     if rule.separator != 0 && separators != 0 {
         return false;
@@ -121,7 +128,11 @@ pub(super) fn is_by_ends(text: &[u8], word: u128, gap: Gap, at: usize) -> bool
     let others = (bytes - u8x16::splat(b'0'))
         .simd_ge(u8x16::splat(10))
         .to_bitmask();
-    !are_short(others, 16)
+    let is_short = others == TWO
+        || others == THREE
+        || others == THREE_APART
+        || others == BLANK_AND_THREE;
+    others.count_ones() < 8 && !is_short
 }
 
 /// What is known before the digits of a number are read.
@@ -206,7 +217,7 @@ fn any_head<T: Integer>(text: &[u8], gap: Gap, at: usize, rest: u64) -> Option<H
         return pass_sign::<T>(text, place, others);
     }
     let others = others_from(text, place);
-    if others <= 1 || are_short(others, 64) {
+    if others <= 1 || are_short(others) {
         return None;
     }
     pass_sign::<T>(text, place, others)
