@@ -111,37 +111,31 @@ pub(super) fn read_integer_known(
     }
 }
 
-/// Whether a value is at most `most`. The usual bound, which is at most that, is tried first.
+/// Whether a value of at most seven digits is at most `most`. A compiler leaves the test out for a
+/// type of more than 24 bits.
 #[inline(always)]
-fn is_up_to(value: u64, usual: u128, most: u128) -> bool
-    requires { usual ≤ most }
+fn may_be(value: u64, most: u128) -> bool
+    requires { value < 10 ^ 7 }
     ensures { result ≡ true → value ≤ most }
 {
-    u128::from(value) <= usual || u128::from(value) <= most
+    most >= 9_999_999 || u128::from(value) <= most
 }
 
 /// The value of the integer that a text is from `start` on to its end, where the radix is 10 and at
-/// most seven bytes are left, if all of them are digits and their value is at most `usual` or
-/// `most`. No digit is tested for being too large, and no value of a type of more than 24 bits.
+/// most seven bytes are left, if all of them are digits and their value is at most `most`. No digit
+/// is tested for being too large.
 #[inline(always)]
-pub(super) fn read_few_integer(
-    text: &[u8],
-    word: u128,
-    start: usize,
-    usual: u128,
-    most: u128,
-) -> Option<u64>
+pub(super) fn read_few_integer(text: &[u8], word: u128, start: usize, most: u128) -> Option<u64>
     requires supported { IsTrue (is_supported word) }
     requires ten { (rule_of word Integer).radix ≡ 10 }
     requires within { start ≤ length text.now }
     requires few { length text.now < start + 8 }
-    requires usual { usual ≤ most }
     ensures is { IfSome result (λ value. (bound : ℕ) → value ≤ bound →
         integer_at (rule_of word Integer) text.now start bound ≡ Ok (value, length text.now)) }
     ensures fits { IfSome result (λ value. value ≤ most) }
 {
     let value = read_few(&text[start..])?;
-    if usual >= 9_999_999 || is_up_to(value, usual, most) {
+    if may_be(value, most) {
         Some(value)
     } else {
         None
@@ -202,26 +196,19 @@ fn read_long(text: &[u8], word: u128, start: usize) -> Whole
 }
 
 /// The value of the integer that a text is from `start` on to its end, where the radix is 10, if
-/// [`read_long`] reads it, and it is at most `usual` or `most`.
+/// [`read_long`] reads it, and it is at most `most`.
 #[inline(always)]
-pub(super) fn read_long_integer(
-    text: &[u8],
-    word: u128,
-    start: usize,
-    usual: u128,
-    most: u128,
-) -> Option<u64>
+pub(super) fn read_long_integer(text: &[u8], word: u128, start: usize, most: u128) -> Option<u64>
     requires supported { IsTrue (is_supported word) }
     requires ten { (rule_of word Integer).radix ≡ 10 }
     requires five { start + 5 ≤ length text.now }
     requires eight { (rule_of word Integer).internal ≡ false → start + 8 ≤ length text.now }
-    requires usual { usual ≤ most }
     ensures is { IfSome result (λ value. (bound : ℕ) → value ≤ bound →
         integer_at (rule_of word Integer) text.now start bound ≡ Ok (value, length text.now)) }
     ensures fits { IfSome result (λ value. value ≤ most) }
 {
     let whole = read_long(text, word, start);
-    if whole.is_whole && is_up_to(whole.value, usual, most) {
+    if whole.is_whole && u128::from(whole.value) <= most {
         Some(whole.value)
     } else {
         None

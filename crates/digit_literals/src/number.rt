@@ -153,15 +153,14 @@ fn is_by_words<T: Integer>(word: u128, bytes: usize) -> bool
 }
 
 /// The value of the integer that a text is from `start` on to its end, where the radix is 10, if it
-/// is at most `usual` or `most`, and nothing else is there than digits, or digits in groups if lone
-/// separators between them are dropped. Few bytes are read one by one, and none is tested for being
-/// too large; more are read in code of their own.
+/// is at most `most` and nothing else is there than digits, or digits in groups if lone separators
+/// between them are dropped. Few bytes are read one by one, and none is tested for being too large;
+/// more are read in code of their own.
 #[inline(always)]
-fn read_to_end(text: &[u8], word: u128, start: usize, usual: u128, most: u128) -> Option<u64>
+fn read_to_end(text: &[u8], word: u128, start: usize, most: u128) -> Option<u64>
     requires supported { IsTrue (is_supported word) }
     requires ten { (rule_of word Integer).radix ≡ 10 }
     requires within { start ≤ length text.now }
-    requires usual { usual ≤ most }
     ensures is { IfSome result (λ value. (bound : ℕ) → value ≤ bound →
         integer_at (rule_of word Integer) text.now start bound ≡ Ok (value, length text.now)) }
     ensures fits { IfSome result (λ value. value ≤ most) }
@@ -173,9 +172,9 @@ fn read_to_end(text: &[u8], word: u128, start: usize, usual: u128, most: u128) -
         7
     };
     if text.len() - start > few {
-        read_long_integer(text, word, start, usual, most)
+        read_long_integer(text, word, start, most)
     } else {
-        read_few_integer(text, word, start, usual, most)
+        read_few_integer(text, word, start, most)
     }
 }
 
@@ -223,9 +222,8 @@ fn parse_the_rest<T: Integer>(text: &[u8], word: u128, start: usize) -> Result<T
     parse_again::<T>(text, word, start)
 }
 
-/// [`parse_number_from`], where it is by words. What isn't read to the end is read again. The bound
-/// of both signs is tried first, so that a branch depends on the sign for a type's least number
-/// alone.
+/// [`parse_number_from`], where it is by words. What isn't read to the end is read again. So is a
+/// type's least number: the bound is that of both signs, and no branch depends on the sign.
 #[inline(always)]
 fn parse_by_words<T: Integer>(text: &[u8], word: u128, start: usize) -> Result<T, ParseError>
     requires supported { IsTrue (is_supported word) }
@@ -238,8 +236,7 @@ fn parse_by_words<T: Integer>(text: &[u8], word: u128, start: usize) -> Result<T
         IfErr result (λ error. (start ≤ position error) × (position error ≤ n)) }
 {
     let (is_negative, begin) = pass_sign::<T>(text, start);
-    let most = greatest::<T>(is_negative);
-    if let Some(value) = read_to_end(text, word, begin, greatest_of_both::<T>(), most) {
+    if let Some(value) = read_to_end(text, word, begin, greatest_of_both::<T>()) {
         return Ok(T::of_magnitude(is_negative, u128::from(value)));
     }
     parse_the_rest::<T>(text, word, start)
