@@ -1,10 +1,9 @@
 //! Digits that are read off a slice. Where another separator than a lone one between two digits is
 //! met, a `Bytes` reads them.
 
-ghost use Rattle.std.specs.Prelude.{◌≡◌, ◌*◌, ◌+◌, ◌-◌, ◌%◌, ◌^◌, ◌<◌, ◌≤◌, length, slice_get, slice_index, true, false, Some, None, option_and_then, IfSome, IfNone, MatchOption};
+ghost use Rattle.std.specs.Prelude.{◌≡◌, ◌*◌, ◌+◌, ◌-◌, ◌%◌, ◌^◌, ◌<◌, ◌≤◌, length, slice_index, true, false, Some, None, option_and_then, IfSome, IfNone, MatchOption};
 ghost use Rattle.lexical_format.specs.Digits.{digit_of_radix};
-ghost use Rattle.lexical_digits.specs.Separators.{class, is_digit, IsSupported};
-ghost use Rattle.lexical_digits.specs.declared.skip.rule.Class.TheVariants.{Other};
+ghost use Rattle.lexical_digits.specs.Separators.{is_digit, IsSupported};
 ghost use Rattle.lexical_digits.specs.CallTable.{byte_at_place, settled};
 ghost use Rattle.lexical_digits.specs.Looks.{Costs};
 ghost use Rattle.digit_literals.specs.Numbers.{has_byte};
@@ -80,23 +79,6 @@ pub(super) fn is_inner(text: &[u8], rule: Rule, radix: u32, at: usize) -> bool
     ensures digit { result ≡ true → is_digit rule (slice_index text.now (at + 1)) ≡ true }
 {
     rule.internal && at + 1 < text.len() && char_is_digit_const(text[at + 1], radix)
-}
-
-/// Whether a separator ends the digits before it: separators after digits are dropped, and neither
-/// a digit nor a separator is next.
-#[inline]
-#[tactic(auto, using(std::proofs::lemmas::Option::gets), unfolding(lexical_digits::specs::Separators::is_digit))]
-fn is_last(text: &[u8], rule: Rule, radix: u32, at: usize) -> bool
-    requires within { at < length text.now }
-    requires radix { radix ≡ rule.radix }
-    ensures trailing { result ≡ true → rule.trailing ≡ true }
-    ensures other { result ≡ true → class rule (slice_get text.now (at + 1)) ≡ Other }
-{
-    rule.trailing
-        && match text.get(at + 1) {
-            Some(byte) => !char_is_digit_const(*byte, radix) && !rule.is_separator(*byte),
-            None => true,
-        }
 }
 
 /// The digit at a position, if one is there, it is at most `most`, and no value is before it.
@@ -286,15 +268,6 @@ pub(super) fn read_on(
             });
         }
         if at == start || !is_inner(text, rule, radix, at) {
-            // as in `0xff_u8`
-            if at > start && is_last(text, rule, radix, at) {
-                return Some(ReadTo {
-                    value,
-                    count: at - start - separators,
-                    end: at + 1,
-                    is_too_large: false,
-                });
-            }
             return None;
         }
         separators += 1;
