@@ -79,7 +79,8 @@ fn has_groups(word: u128) -> bool {
     Rule::of(word, Component::Integer).internal || Rule::of(word, Component::Fraction).internal
 }
 
-/// [`read_float_apart`] or [`read_float_by_digits`], by the word. Their answer in memory belongs to this function, so it is set only where they are called.
+/// [`read_float_apart`] or [`read_float_by_digits`], by the word. Their answer in memory belongs to
+/// this function, so it is set only where they are called.
 #[inline(always)]
 fn read_float_rest<F: Float>(
     text: &[u8],

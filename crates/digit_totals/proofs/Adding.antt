@@ -4,7 +4,7 @@ use Rattle.std.proofs.lemmas.Bool.Decides.{nat_tests}
 use Rattle.digit_literals.proofs.ForCallers.{all_is}
 use Rattle.digit_totals.specs.declared.options.Options.{Options}
 use Rattle.digit_totals.specs.declared.totals.Totals.{Totals}
-use Rattle.digit_totals.specs.declared.fault.Fault.{Fault}
+use Rattle.digit_totals.specs.declared.fault.LineFault.{LineFault}
 use Rattle.digit_totals.specs.Lines.{lines_of, IsFirstLine, EndsWith}
 use Rattle.digit_totals.specs.Quick.{BeginsWith}
 use Rattle.digit_totals.proofs.FirstLine.{one_line}
@@ -21,7 +21,7 @@ module _ (options : Options) (t : Totals) (text line rest : List ℕ)
   one_added u is = λ more.
       let e = first more in rw (e, same_line, is) refl
 
-  pub one_fails : (fault : Fault) → with_value t (value_of options line) ≡ Err fault
+  pub one_fails : (fault : LineFault) → with_value t (value_of options line) ≡ Err fault
       → EndsIn options t text fault
   one_fails fault is = λ more.
       let e = first more in rw (e, same_line, is) refl
@@ -32,12 +32,12 @@ module _ (options : Options) (t u : Totals) (text rest : List ℕ)
       → LeavesRest options t text v left
   more_added v left then = λ more. leaves more ∙ then more
 
-  pub then_fails : (fault : Fault) → EndsIn options u rest fault → EndsIn options t text fault
+  pub then_fails : (fault : LineFault) → EndsIn options u rest fault → EndsIn options t text fault
   then_fails fault then = λ more. leaves more ∙ then more
 
 -- ---- the last line
 
-continue_last : (options : Options) (report : Result Totals Fault)
+continue_last : (options : Options) (report : Result Totals LineFault)
     → continue options (λ u. Ok u) report ≡ report
 continue_last options (Ok t) = refl
 continue_last options (Err fault) = refl
@@ -70,7 +70,7 @@ module _ (options : Options) (word : ℕ) (none : options.column ≡ None)
       one_added options t text begins.0 rest begins.2 (omega (arith, short, begins.3)) u
       (ap (with_value t) value_is ∙ is)
 
-  pub quick_fails : (fault : Fault) → with_value t (Ok value) ≡ Err fault
+  pub quick_fails : (fault : LineFault) → with_value t (Ok value) ≡ Err fault
       → EndsIn options t text fault
   quick_fails fault is =
       one_fails options t text begins.0 rest begins.2 (omega (arith, short, begins.3)) fault

@@ -3,7 +3,7 @@ use Rattle.std.proofs.Common.{◌≡◌, ◌≢◌, ℕ, All, Result, List, leng
 use Rattle.std.proofs.lemmas.Bool.Decides.{nat_tests}
 use Rattle.digit_totals.specs.declared.options.FloatOptions.{FloatOptions}
 use Rattle.digit_totals.specs.declared.floats.totals.FloatTotals.{FloatTotals}
-use Rattle.digit_totals.specs.declared.fault.Fault.{Fault}
+use Rattle.digit_totals.specs.declared.fault.LineFault.{LineFault}
 use Rattle.digit_totals.specs.Lines.{lines_of, IsFirstLine}
 use Rattle.digit_totals.proofs.FirstLine.{one_line}
 use Rattle.digit_totals.specs.Floats.{value_of, with_value, with_line, with_lines, continue, LeavesRest, EndsIn}
@@ -18,7 +18,7 @@ module _ (options : FloatOptions) (t : FloatTotals) (text line rest : List ℕ)
   one_added u is = λ more.
       let e = first more in rw (e, same_line, is) refl
 
-  pub one_fails : (fault : Fault) → with_value t (value_of options line) ≡ Err fault
+  pub one_fails : (fault : LineFault) → with_value t (value_of options line) ≡ Err fault
       → EndsIn options t text fault
   one_fails fault is = λ more.
       let e = first more in rw (e, same_line, is) refl
@@ -29,12 +29,12 @@ module _ (options : FloatOptions) (t u : FloatTotals) (text rest : List ℕ)
       → LeavesRest options t text v left
   more_added v left then = λ more. leaves more ∙ then more
 
-  pub then_fails : (fault : Fault) → EndsIn options u rest fault → EndsIn options t text fault
+  pub then_fails : (fault : LineFault) → EndsIn options u rest fault → EndsIn options t text fault
   then_fails fault then = λ more. leaves more ∙ then more
 
 -- ---- the last line
 
-continue_last : (options : FloatOptions) (report : Result FloatTotals Fault)
+continue_last : (options : FloatOptions) (report : Result FloatTotals LineFault)
     → continue options (λ u. Ok u) report ≡ report
 continue_last options (Ok t) = refl
 continue_last options (Err fault) = refl

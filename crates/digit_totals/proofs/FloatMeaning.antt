@@ -7,8 +7,8 @@ use Rattle.std.proofs.lemmas.Bool.Decides.{nat_tests}
 use Rattle.std.proofs.lemmas.List.Elements.{All-cons, All-nil}
 use Rattle.digit_totals.specs.declared.options.FloatOptions.{FloatOptions}
 use Rattle.digit_totals.specs.declared.floats.totals.FloatTotals.{FloatTotals}
-use Rattle.digit_totals.specs.declared.fault.Fault.{Fault}
-use Rattle.digit_totals.specs.declared.fault.Fault.TheVariants.{Number, LongLine}
+use Rattle.digit_totals.specs.declared.fault.LineFault.{LineFault}
+use Rattle.digit_totals.specs.declared.fault.LineFault.TheVariants.{Number, LongLine}
 use Rattle.digit_totals.specs.declared.fault.NumberError.{NumberError}
 use Rattle.digit_totals.specs.Lines.{lines_of}
 use Rattle.digit_totals.specs.FloatMeaning.{AreTotalsOf, HaveValues, IsFirstAt, IsNumberFault, IsLongLine, AreTotals}
@@ -45,7 +45,7 @@ module _ (options : FloatOptions) where
 
   through_one : (t u : FloatTotals) (line : List ℕ) (lines : List (List ℕ))
       → ((v : FloatTotals) → with_lines options v lines ≡ Ok u → GoThrough v lines u)
-      → (report : Result FloatTotals Fault) → with_line options t line ≡ report
+      → (report : Result FloatTotals LineFault) → with_line options t line ≡ report
       → continue options (λ v. with_lines options v lines) report ≡ Ok u
       → GoThrough t (line ∷ lines) u
   through_one t u line lines others (Ok v) is e =
@@ -75,7 +75,7 @@ module _ (options : FloatOptions) where
 
   -- ---- the first line with a fault
 
-  record StopsAt (t : FloatTotals) (lines : List (List ℕ)) (fault : Fault) : Type 0 where
+  record StopsAt (t : FloatTotals) (lines : List (List ℕ)) (fault : LineFault) : Type 0 where
     before : List (List ℕ)
     line : List ℕ
     after : List (List ℕ)
@@ -84,9 +84,9 @@ module _ (options : FloatOptions) where
     are : HaveValues options before values
     here : with_line options (fold plus t values) line ≡ Err fault
 
-  stops_one : (t : FloatTotals) (fault : Fault) (line : List ℕ) (lines : List (List ℕ))
+  stops_one : (t : FloatTotals) (fault : LineFault) (line : List ℕ) (lines : List (List ℕ))
       → ((v : FloatTotals) → with_lines options v lines ≡ Err fault → StopsAt v lines fault)
-      → (report : Result FloatTotals Fault) → with_line options t line ≡ report
+      → (report : Result FloatTotals LineFault) → with_line options t line ≡ report
       → continue options (λ v. with_lines options v lines) report ≡ Err fault
       → StopsAt t (line ∷ lines) fault
   stops_one t fault line lines others (Ok v) is e =
@@ -117,7 +117,7 @@ module _ (options : FloatOptions) where
     here = is ∙ e;
   }
 
-  stops_at : (lines : List (List ℕ)) (t : FloatTotals) (fault : Fault)
+  stops_at : (lines : List (List ℕ)) (t : FloatTotals) (fault : LineFault)
       → with_lines options t lines ≡ Err fault → StopsAt t lines fault
   stops_at [] t fault e = absurd (grind (arith, e))
   stops_at (line ∷ lines) t fault e =
@@ -125,7 +125,7 @@ module _ (options : FloatOptions) where
 
   -- ---- its number
 
-  module _ (text : List ℕ) (fault : Fault)
+  module _ (text : List ℕ) (fault : LineFault)
       (s : StopsAt no_floats (lines_of text) fault) where
     abbrev totals : FloatTotals
     totals = fold plus no_floats s.values

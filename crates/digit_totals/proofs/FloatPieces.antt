@@ -7,11 +7,13 @@ use Rattle.std.proofs.lemmas.Bool.Decides.{nat_tests}
 use Rattle.digit_totals.proofs.Pieces.{starts_line}
 use Rattle.digit_totals.specs.declared.options.FloatOptions.{FloatOptions}
 use Rattle.digit_totals.specs.declared.floats.totals.FloatTotals.{FloatTotals}
-use Rattle.digit_totals.specs.declared.fault.Fault.{Fault}
-use Rattle.digit_totals.specs.declared.fault.Fault.TheVariants.{Number, Sum, LongLine, Read, Write, Memory, Text}
+use Rattle.digit_totals.specs.declared.fault.LineFault.{LineFault}
+use Rattle.digit_totals.specs.declared.fault.LineFault.TheVariants.{Number, Sum, LongLine}
+use Rattle.digit_totals.specs.declared.fault.Fault.TheVariants.{Line}
 use Rattle.digit_totals.specs.declared.fault.NumberError.{NumberError}
 use Rattle.digit_totals.specs.Lines.{lines_of}
 use Rattle.digit_totals.specs.FloatOutcome.{Continues, Reports, Sums}
+use Rattle.digit_totals.specs.Outcome.{of_lines}
 use Rattle.digit_totals.specs.Floats.{value_of, with_value, with_line, continue, with_lines, LeavesRest, EndsIn}
 
 too_long : (options : FloatOptions) (t : FloatTotals) (front rest : List ℕ) → 65535 < length front
@@ -26,20 +28,16 @@ too_long options t front rest long whole =
 -- ---- the faults of lines
 
 -- whether a line has such a fault
-abbrev IsOfLine : Fault → Type 0
+abbrev IsOfLine : LineFault → Type 0
 IsOfLine (Number n error) = ⊤
 IsOfLine (Sum n) = ⊥
 IsOfLine (LongLine n) = ⊤
-IsOfLine (Read kind) = ⊥
-IsOfLine (Write kind) = ⊥
-IsOfLine Memory = ⊥
-IsOfLine Text = ⊥
 
-abbrev IsOfLineResult : Result FloatTotals Fault → Type 0
+abbrev IsOfLineResult : Result FloatTotals LineFault → Type 0
 IsOfLineResult (Ok t) = ⊤
 IsOfLineResult (Err fault) = IsOfLine fault
 
-cond_is : (b : Bool) (x y : Result FloatTotals Fault) → IsOfLineResult x → IsOfLineResult y
+cond_is : (b : Bool) (x y : Result FloatTotals LineFault) → IsOfLineResult x → IsOfLineResult y
     → IsOfLineResult (cond b x y)
 cond_is true x y p q = p
 cond_is false x y p q = q
@@ -55,8 +53,9 @@ module _ (options : FloatOptions) where
       cond_is (nat_lt 65535 (length line)) (Err (LongLine (t.count + 1)))
       (with_value t (value_of options line)) tt (value_is t (value_of options line))
 
-  continue_is : (rest : FloatTotals → Result FloatTotals Fault) (report : Result FloatTotals Fault)
-      → IsOfLineResult report → ((u : FloatTotals) → IsOfLineResult (rest u))
+  continue_is : (rest : FloatTotals → Result FloatTotals LineFault)
+      (report : Result FloatTotals LineFault) → IsOfLineResult report
+      → ((u : FloatTotals) → IsOfLineResult (rest u))
       → IsOfLineResult (continue options rest report)
   continue_is rest (Ok u) p q = q u
   continue_is rest (Err fault) p q = p
@@ -68,19 +67,15 @@ module _ (options : FloatOptions) where
       continue_is (λ u. with_lines options u lines) (with_line options t line) (line_is t line)
       (λ u. lines_are u lines)
 
-  of_line : (fault : Fault) → IsOfLine fault → (a : Option (List ℕ))
-      → Reports options a (Err fault) → Sums options a (Err fault)
+  of_line : (fault : LineFault) → IsOfLine fault → (a : Option (List ℕ))
+      → Reports options a (Err fault) → Sums options a (Err (Line fault))
   of_line (Number n error) p a r = r
   of_line (Sum n) p a r = absurd p
   of_line (LongLine n) p a r = r
-  of_line (Read kind) p a r = absurd p
-  of_line (Write kind) p a r = absurd p
-  of_line Memory p a r = absurd p
-  of_line Text p a r = absurd p
 
-  lines_fault : (t : FloatTotals) (lines : List (List ℕ)) (fault : Fault)
+  lines_fault : (t : FloatTotals) (lines : List (List ℕ)) (fault : LineFault)
       → with_lines options t lines ≡ Err fault → (a : Option (List ℕ))
-      → Reports options a (Err fault) → Sums options a (Err fault)
+      → Reports options a (Err fault) → Sums options a (Err (Line fault))
   lines_fault t lines fault e = of_line fault (subst IsOfLineResult e (lines_are t lines))
 
 -- ---- pieces
@@ -104,16 +99,16 @@ module _ (options : FloatOptions) where
   add_on (Some text) None pending rest t u p leaves = absurd p
   add_on (Some text) (Some left) pending rest t u p leaves = p ∙ leaves left
 
-  faults : (a b : Option (List ℕ)) (pending : List ℕ) (t : FloatTotals) (fault : Fault)
+  faults : (a b : Option (List ℕ)) (pending : List ℕ) (t : FloatTotals) (fault : LineFault)
       → Continues options a b pending t → EndsIn options t pending fault
       → Reports options a (Err fault)
   faults None b pending t fault p ends = tt
   faults (Some text) None pending t fault p ends = absurd p
   faults (Some text) (Some left) pending t fault p ends = p ∙ ends left
 
-  pub line_fault : (a b : Option (List ℕ)) (pending : List ℕ) (t : FloatTotals) (fault : Fault)
+  pub line_fault : (a b : Option (List ℕ)) (pending : List ℕ) (t : FloatTotals) (fault : LineFault)
       → Continues options a b pending t → EndsIn options t pending fault
-      → Sums options a (Err fault)
+      → Sums options a (Err (Line fault))
   line_fault a b pending t fault p ends =
       lines_fault options t (lines_of (pending ++ [])) fault (ends []) a
       (faults a b pending t fault p ends)
@@ -127,7 +122,7 @@ module _ (options : FloatOptions) where
       p ∙ too_long options t pending left long whole
 
   pub at_end : (a b c : Option (List ℕ)) (pending : List ℕ) (t : FloatTotals)
-      (report : Result FloatTotals Fault) → Continues options a b pending t → Consumes b c []
+      (report : Result FloatTotals LineFault) → Continues options a b pending t → Consumes b c []
       → IsAtEnd c → report ≡ with_lines options t (lines_of pending) → Reports options a report
   at_end None b c pending t report p q end is = tt
   at_end (Some text) None c pending t report p q end is = absurd p
@@ -138,8 +133,9 @@ module _ (options : FloatOptions) where
       ∙ sym is
 
   pub sums_end : (a b c : Option (List ℕ)) (pending : List ℕ) (t : FloatTotals)
-      (report : Result FloatTotals Fault) → Continues options a b pending t → Consumes b c []
-      → IsAtEnd c → report ≡ with_lines options t (lines_of pending) → Sums options a report
+      (report : Result FloatTotals LineFault) → Continues options a b pending t → Consumes b c []
+      → IsAtEnd c → report ≡ with_lines options t (lines_of pending)
+      → Sums options a (of_lines report)
   sums_end a b c pending t (Ok u) p q end is = at_end a b c pending t (Ok u) p q end is
   sums_end a b c pending t (Err fault) p q end is =
       lines_fault options t (lines_of pending) fault (sym is) a

@@ -8,8 +8,8 @@ use Rattle.std.proofs.lemmas.Int.{ints, fold-int_min_bounds, fold-int_min_reache
 use Rattle.std.proofs.lemmas.List.Elements.{All-cons, All-head, All-nil}
 use Rattle.digit_totals.specs.declared.options.Options.{Options}
 use Rattle.digit_totals.specs.declared.totals.Totals.{Totals}
-use Rattle.digit_totals.specs.declared.fault.Fault.{Fault}
-use Rattle.digit_totals.specs.declared.fault.Fault.TheVariants.{Number, Sum, LongLine}
+use Rattle.digit_totals.specs.declared.fault.LineFault.{LineFault}
+use Rattle.digit_totals.specs.declared.fault.LineFault.TheVariants.{Number, Sum, LongLine}
 use Rattle.digit_totals.specs.declared.fault.NumberError.{NumberError}
 use Rattle.digit_totals.specs.Lines.{lines_of}
 use Rattle.digit_totals.specs.Meaning.{AreTotalsOf, HaveValues, IsFirstAt, IsNumberFault, IsSumFault, IsLongLine, AreTotals}
@@ -133,7 +133,7 @@ module _ (options : Options) where
 
   through_one : (t u : Totals) (line : List ℕ) (lines : List (List ℕ))
       → ((v : Totals) → with_lines options v lines ≡ Ok u → GoThrough v lines u)
-      → (report : Result Totals Fault) → with_line options t line ≡ report
+      → (report : Result Totals LineFault) → with_line options t line ≡ report
       → continue options (λ v. with_lines options v lines) report ≡ Ok u
       → GoThrough t (line ∷ lines) u
   through_one t u line lines others (Ok v) is e =
@@ -166,7 +166,7 @@ module _ (options : Options) where
 
   -- ---- the first line with a fault
 
-  record StopsAt (t : Totals) (lines : List (List ℕ)) (fault : Fault) : Type 0 where
+  record StopsAt (t : Totals) (lines : List (List ℕ)) (fault : LineFault) : Type 0 where
     before : List (List ℕ)
     line : List ℕ
     after : List (List ℕ)
@@ -175,9 +175,9 @@ module _ (options : Options) where
     are : HaveValues options before values
     here : with_line options (fold plus t values) line ≡ Err fault
 
-  stops_one : (t : Totals) (fault : Fault) (line : List ℕ) (lines : List (List ℕ))
+  stops_one : (t : Totals) (fault : LineFault) (line : List ℕ) (lines : List (List ℕ))
       → ((v : Totals) → with_lines options v lines ≡ Err fault → StopsAt v lines fault)
-      → (report : Result Totals Fault) → with_line options t line ≡ report
+      → (report : Result Totals LineFault) → with_line options t line ≡ report
       → continue options (λ v. with_lines options v lines) report ≡ Err fault
       → StopsAt t (line ∷ lines) fault
   stops_one t fault line lines others (Ok v) is e =
@@ -208,7 +208,7 @@ module _ (options : Options) where
     here = is ∙ e;
   }
 
-  stops_at : (lines : List (List ℕ)) (t : Totals) (fault : Fault)
+  stops_at : (lines : List (List ℕ)) (t : Totals) (fault : LineFault)
       → with_lines options t lines ≡ Err fault → StopsAt t lines fault
   stops_at [] t fault e = absurd (grind (arith, e))
   stops_at (line ∷ lines) t fault e =
@@ -216,7 +216,7 @@ module _ (options : Options) where
 
   -- ---- its number
 
-  module _ (text : List ℕ) (fault : Fault)
+  module _ (text : List ℕ) (fault : LineFault)
       (s : StopsAt no_numbers (lines_of text) fault) where
     abbrev totals : Totals
     totals = fold plus no_numbers s.values

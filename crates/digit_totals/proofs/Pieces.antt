@@ -1,8 +1,8 @@
 -- An input that is read piece by piece.
-use Rattle.std.proofs.Common.{◌≡◌, ◌≢◌, ℕ, ◌+◌, ◌-◌, ◌<◌, ◌≤◌, ◌==◌, List, [], ◌∷◌, ◌++◌, All, length, take, drop, Some, None, Ok, Err, Result, refl, sym, ◌∙◌, ap, arith, append_assoc, append-nil, length-append, slice_range, subst, ℤ, Bool, true, false, cond}
+use Rattle.std.proofs.Common.{◌≡◌, ◌≢◌, ℕ, ◌+◌, ◌-◌, ◌<◌, ◌≤◌, ◌==◌, List, [], ◌∷◌, ◌++◌, All, length, take, drop, Some, None, Ok, Err, Result, refl, sym, ◌∙◌, ap, arith, append_assoc, append-nil, length-append, slice_range}
 use Rattle.std.proofs.Math.Seq.{take-add, drop-append_seam}
 use Rattle.std.proofs.lemmas.List.{length-take-le, drop-take}
-use Rattle.std.specs.Prelude.{Option, ⊤, nat_lt, ◌+ℤ◌}
+use Rattle.std.specs.Prelude.{Option}
 use Rattle.std.specs.Io.KnownBytes.{Consumes, IsAtEnd}
 use Rattle.std.specs.List.{onto_first, position}
 use Rattle.std.proofs.lemmas.Bool.Decides.{nat_tests}
@@ -10,13 +10,11 @@ use Rattle.std.proofs.lemmas.List.Elements.{All-head, All-tail, All-append}
 use Rattle.digit_totals.proofs.FirstMark.{position_none}
 use Rattle.digit_totals.specs.declared.options.Options.{Options}
 use Rattle.digit_totals.specs.declared.totals.Totals.{Totals}
-use Rattle.digit_totals.specs.declared.fault.Fault.{Fault}
-use Rattle.digit_totals.specs.declared.fault.Fault.TheVariants.{Number, Sum, LongLine, Read, Write, Memory, Text}
-use Rattle.digit_totals.specs.declared.fault.NumberError.{NumberError}
+use Rattle.digit_totals.specs.declared.fault.LineFault.{LineFault}
+use Rattle.digit_totals.specs.declared.fault.LineFault.TheVariants.{LongLine}
 use Rattle.digit_totals.specs.Lines.{lines_of}
-use Rattle.digit_totals.specs.Outcome.{Continues, Reports, Sums}
-use Rattle.digit_totals.specs.Value.{value_of}
-use Rattle.digit_totals.specs.Totals.{has_128_bits, plus, with_value, with_line, continue, with_lines, LeavesRest, EndsIn}
+use Rattle.digit_totals.specs.Outcome.{Continues, Reports, Sums, of_lines}
+use Rattle.digit_totals.specs.Totals.{with_line, with_lines, LeavesRest, EndsIn}
 
 -- ---- a line that is too long
 
@@ -57,65 +55,6 @@ too_long options t front rest long whole =
     grind (arith, nat_tests, length-append front s.more, long) in
     rw (s.lines, fault) refl
 
--- ---- the faults of lines
-
--- whether a line has such a fault
-abbrev IsOfLine : Fault → Type 0
-IsOfLine (Number n error) = ⊤
-IsOfLine (Sum n) = ⊤
-IsOfLine (LongLine n) = ⊤
-IsOfLine (Read kind) = ⊥
-IsOfLine (Write kind) = ⊥
-IsOfLine Memory = ⊥
-IsOfLine Text = ⊥
-
-abbrev IsOfLineResult : Result Totals Fault → Type 0
-IsOfLineResult (Ok t) = ⊤
-IsOfLineResult (Err fault) = IsOfLine fault
-
-cond_is : (b : Bool) (x y : Result Totals Fault) → IsOfLineResult x → IsOfLineResult y
-    → IsOfLineResult (cond b x y)
-cond_is true x y p q = p
-cond_is false x y p q = q
-
-module _ (options : Options) where
-  value_is : (t : Totals) (value : Result ℤ NumberError) → IsOfLineResult (with_value t value)
-  value_is t (Ok value) =
-      cond_is (has_128_bits (t.sum +ℤ value)) (Ok (plus t value)) (Err (Sum (t.count + 1))) tt tt
-  value_is t (Err error) = tt
-
-  line_is : (t : Totals) (line : List ℕ) → IsOfLineResult (with_line options t line)
-  line_is t line =
-      cond_is (nat_lt 65535 (length line)) (Err (LongLine (t.count + 1)))
-      (with_value t (value_of options line)) tt (value_is t (value_of options line))
-
-  continue_is : (rest : Totals → Result Totals Fault) (report : Result Totals Fault)
-      → IsOfLineResult report → ((u : Totals) → IsOfLineResult (rest u))
-      → IsOfLineResult (continue options rest report)
-  continue_is rest (Ok u) p q = q u
-  continue_is rest (Err fault) p q = p
-
-  lines_are : (t : Totals) (lines : List (List ℕ)) → IsOfLineResult (with_lines options t lines)
-  lines_are t [] = tt
-  lines_are t (line ∷ lines) =
-      continue_is (λ u. with_lines options u lines) (with_line options t line) (line_is t line)
-      (λ u. lines_are u lines)
-
-  of_line : (fault : Fault) → IsOfLine fault → (a : Option (List ℕ))
-      → Reports options a (Err fault) → Sums options a (Err fault)
-  of_line (Number n error) p a r = r
-  of_line (Sum n) p a r = r
-  of_line (LongLine n) p a r = r
-  of_line (Read kind) p a r = absurd p
-  of_line (Write kind) p a r = absurd p
-  of_line Memory p a r = absurd p
-  of_line Text p a r = absurd p
-
-  lines_fault : (t : Totals) (lines : List (List ℕ)) (fault : Fault)
-      → with_lines options t lines ≡ Err fault → (a : Option (List ℕ))
-      → Reports options a (Err fault) → Sums options a (Err fault)
-  lines_fault t lines fault e = of_line fault (subst IsOfLineResult e (lines_are t lines))
-
 -- ---- pieces
 
 module _ (options : Options) where
@@ -137,19 +76,12 @@ module _ (options : Options) where
   add_on (Some text) None pending rest t u p leaves = absurd p
   add_on (Some text) (Some left) pending rest t u p leaves = p ∙ leaves left
 
-  faults : (a b : Option (List ℕ)) (pending : List ℕ) (t : Totals) (fault : Fault)
+  pub faults : (a b : Option (List ℕ)) (pending : List ℕ) (t : Totals) (fault : LineFault)
       → Continues options a b pending t → EndsIn options t pending fault
       → Reports options a (Err fault)
   faults None b pending t fault p ends = tt
   faults (Some text) None pending t fault p ends = absurd p
   faults (Some text) (Some left) pending t fault p ends = p ∙ ends left
-
-  pub line_fault : (a b : Option (List ℕ)) (pending : List ℕ) (t : Totals) (fault : Fault)
-      → Continues options a b pending t → EndsIn options t pending fault
-      → Sums options a (Err fault)
-  line_fault a b pending t fault p ends =
-      lines_fault options t (lines_of (pending ++ [])) fault (ends []) a
-      (faults a b pending t fault p ends)
 
   pub long_line : (a b : Option (List ℕ)) (pending : List ℕ) (t : Totals)
       → Continues options a b pending t → 65535 < length pending
@@ -160,7 +92,7 @@ module _ (options : Options) where
       p ∙ too_long options t pending left long whole
 
   pub at_end : (a b c : Option (List ℕ)) (pending : List ℕ) (t : Totals)
-      (report : Result Totals Fault) → Continues options a b pending t → Consumes b c []
+      (report : Result Totals LineFault) → Continues options a b pending t → Consumes b c []
       → IsAtEnd c → report ≡ with_lines options t (lines_of pending) → Reports options a report
   at_end None b c pending t report p q end is = tt
   at_end (Some text) None c pending t report p q end is = absurd p
@@ -171,12 +103,12 @@ module _ (options : Options) where
       ∙ sym is
 
   pub sums_end : (a b c : Option (List ℕ)) (pending : List ℕ) (t : Totals)
-      (report : Result Totals Fault) → Continues options a b pending t → Consumes b c []
-      → IsAtEnd c → report ≡ with_lines options t (lines_of pending) → Sums options a report
+      (report : Result Totals LineFault) → Continues options a b pending t → Consumes b c []
+      → IsAtEnd c → report ≡ with_lines options t (lines_of pending)
+      → Sums options a (of_lines report)
   sums_end a b c pending t (Ok u) p q end is = at_end a b c pending t (Ok u) p q end is
   sums_end a b c pending t (Err fault) p q end is =
-      lines_fault options t (lines_of pending) fault (sym is) a
-      (at_end a b c pending t (Err fault) p q end is)
+      at_end a b c pending t (Err fault) p q end is
 
 -- ---- the buffer
 

@@ -3,7 +3,9 @@ use Rattle.std.specs.Prelude.{◌≡◌, ◌≢◌, ⊤, ℕ, List, ◌++◌, Op
 use Rattle.std.specs.Io.KnownBytes.{Appends, Keeps, IsAtEnd}
 use Rattle.std.specs.declared.io.ErrorKind.TheVariants.{Interrupted}
 use Rattle.digit_totals.specs.declared.fault.Fault.{Fault}
-use Rattle.digit_totals.specs.declared.fault.Fault.TheVariants.{Number, Sum, LongLine, Read, Write, Memory, Text}
+use Rattle.digit_totals.specs.declared.fault.Fault.TheVariants.{Line, Read, Write, Memory, Text}
+use Rattle.digit_totals.specs.declared.fault.LineFault.{LineFault}
+use Rattle.digit_totals.specs.declared.fault.LineFault.TheVariants.{Sum}
 use Rattle.digit_totals.specs.declared.options.FloatOptions.{FloatOptions}
 use Rattle.digit_totals.specs.declared.floats.totals.FloatTotals.{FloatTotals}
 use Rattle.digit_totals.specs.FloatText.{IsLineOf}
@@ -13,14 +15,14 @@ use Rattle.digit_totals.specs.Outcome.{AppendsPart, Streams, EndsAtRead, EndsWit
 
 module _ (options : FloatOptions) where
   -- the report of the known bytes is this
-  abbrev pub Reports : Option (List ℕ) → Result FloatTotals Fault → Type 0
+  abbrev pub Reports : Option (List ℕ) → Result FloatTotals LineFault → Type 0
   Reports input report = IfSome input (λ text. report_of options text ≡ report)
 
   -- what adding up answers: the report of the input; or a read failed, and was not interrupted
   abbrev pub Sums : Option (List ℕ) → Result FloatTotals Fault → Type 0
   Sums input (Ok totals) = Reports input (Ok totals)
-  Sums input (Err (Number line error)) = Reports input (Err (Number line error))
-  Sums input (Err (LongLine line)) = Reports input (Err (LongLine line))
+  Sums input (Err (Line (Sum line))) = ⊥
+  Sums input (Err (Line fault)) = Reports input (Err fault)
   Sums input (Err (Read kind)) = kind ≢ Interrupted
   Sums input (Err fault) = ⊥
 
@@ -53,15 +55,14 @@ module _ (options : FloatOptions) (s : Streams) where
     pub written : AppendsPart s.had s.has line
 
   -- A line of the input has a fault, and nothing was written.
-  abbrev pub EndsAtLine : Fault → Type 0
+  abbrev pub EndsAtLine : LineFault → Type 0
   EndsAtLine fault = Reports options s.input (Err fault) × Keeps s.had s.has
 
   -- what a run does, by its answer
   abbrev pub RunsFloats : Result (Unit {0}) Fault → Type 0
   RunsFloats (Ok done) = WritesTotals
-  RunsFloats (Err (Number line error)) = EndsAtLine (Number line error)
-  RunsFloats (Err (Sum line)) = ⊥
-  RunsFloats (Err (LongLine line)) = EndsAtLine (LongLine line)
+  RunsFloats (Err (Line (Sum line))) = ⊥
+  RunsFloats (Err (Line fault)) = EndsAtLine fault
   RunsFloats (Err (Read kind)) = EndsAtRead s kind
   RunsFloats (Err (Write kind)) = WritesPart
   RunsFloats (Err Memory) = Keeps s.had s.has

@@ -12,8 +12,8 @@ use Rattle.digit_totals.specs.declared.options.FloatOptions.{FloatOptions}
 use Rattle.digit_totals.specs.declared.floats.totals.FloatTotals.{FloatTotals}
 use Rattle.digit_totals.specs.declared.fault.NumberError.{NumberError}
 use Rattle.digit_totals.specs.declared.fault.NumberError.TheVariants as errors
-use Rattle.digit_totals.specs.declared.fault.Fault.{Fault}
-use Rattle.digit_totals.specs.declared.fault.Fault.TheVariants.{Number, LongLine}
+use Rattle.digit_totals.specs.declared.fault.LineFault.{LineFault}
+use Rattle.digit_totals.specs.declared.fault.LineFault.TheVariants.{Number, LongLine}
 use Rattle.digit_totals.specs.Errors.{of_field_at}
 use Rattle.digit_totals.specs.Field.{span_of}
 use Rattle.digit_totals.specs.Lines.{lines_of}
@@ -68,31 +68,31 @@ plus t value = record {
 }
 
 -- with the number of the next line; or that line's fault
-abbrev pub with_value : FloatTotals → Result Float NumberError → Result FloatTotals Fault
+abbrev pub with_value : FloatTotals → Result Float NumberError → Result FloatTotals LineFault
 with_value t (Ok value) = Ok (plus t value)
 with_value t (Err error) = Err (Number (t.count + 1) error)
 
 module _ (options : FloatOptions) where
   -- with the number of the next line, which has at most 65,535 bytes
-  abbrev pub with_line : FloatTotals → List ℕ → Result FloatTotals Fault
+  abbrev pub with_line : FloatTotals → List ℕ → Result FloatTotals LineFault
   with_line t line =
       if nat_lt most_bytes (length line)
       then Err (LongLine (t.count + 1))
       else with_value t (value_of options line)
 
   -- with the lines after these; or what ends them
-  abbrev pub continue : (FloatTotals → Result FloatTotals Fault) → Result FloatTotals Fault
-      → Result FloatTotals Fault
+  abbrev pub continue : (FloatTotals → Result FloatTotals LineFault) → Result FloatTotals LineFault
+      → Result FloatTotals LineFault
   continue rest (Ok t) = rest t
   continue rest (Err fault) = Err fault
 
   -- with the numbers of these lines
-  abbrev pub with_lines : FloatTotals → List (List ℕ) → Result FloatTotals Fault
+  abbrev pub with_lines : FloatTotals → List (List ℕ) → Result FloatTotals LineFault
   with_lines t [] = Ok t
   with_lines t (line ∷ lines) =
       continue (λ u. with_lines u lines) (with_line t line)
 
-  abbrev pub report_of : List ℕ → Result FloatTotals Fault
+  abbrev pub report_of : List ℕ → Result FloatTotals LineFault
   report_of text = with_lines no_floats (lines_of text)
 
   -- Whatever follows a text: the totals after its lines are those after the lines of the rest.
@@ -101,5 +101,5 @@ module _ (options : FloatOptions) where
       → with_lines t (lines_of (text ++ more)) ≡ with_lines u (lines_of (rest ++ more))
 
   -- Whatever follows a text, a line of it ends the lines.
-  abbrev pub EndsIn : FloatTotals → List ℕ → Fault → Type 0
+  abbrev pub EndsIn : FloatTotals → List ℕ → LineFault → Type 0
   EndsIn t text fault = (more : List ℕ) → with_lines t (lines_of (text ++ more)) ≡ Err fault

@@ -5,7 +5,8 @@ use Rattle.std.specs.Io.KnownBytes.{Appends, Keeps, IsAtEnd}
 use Rattle.std.specs.declared.io.ErrorKind.{ErrorKind}
 use Rattle.std.specs.declared.io.ErrorKind.TheVariants.{Interrupted}
 use Rattle.digit_totals.specs.declared.fault.Fault.{Fault}
-use Rattle.digit_totals.specs.declared.fault.Fault.TheVariants.{Number, Sum, LongLine, Read, Write, Memory, Text}
+use Rattle.digit_totals.specs.declared.fault.Fault.TheVariants.{Line, Read, Write, Memory, Text}
+use Rattle.digit_totals.specs.declared.fault.LineFault.{LineFault}
 use Rattle.digit_totals.specs.declared.options.Column.{Column}
 use Rattle.digit_totals.specs.declared.options.Options.{Options}
 use Rattle.digit_totals.specs.declared.totals.Totals.{Totals}
@@ -13,19 +14,22 @@ use Rattle.digit_totals.specs.Lines.{lines_of}
 use Rattle.digit_totals.specs.Text.{line_of, error_line, status_of}
 use Rattle.digit_totals.specs.Totals.{with_lines, report_of}
 
+-- the answer of lines as that of a run
+abbrev pub of_lines : {A : Type 0} → Result A LineFault → Result A Fault
+of_lines (Ok totals) = Ok totals
+of_lines (Err fault) = Err (Line fault)
+
 module _ (options : Options) where
   -- the report of the known bytes is this
-  abbrev pub Reports : Option (List ℕ) → Result Totals Fault → Type 0
+  abbrev pub Reports : Option (List ℕ) → Result Totals LineFault → Type 0
   Reports input report = IfSome input (λ text. report_of options text ≡ report)
 
   -- what adding up answers: the report of the input; or a read failed, and was not interrupted
   abbrev pub Sums : Option (List ℕ) → Result Totals Fault → Type 0
   Sums input (Ok totals) = Reports input (Ok totals)
+  Sums input (Err (Line fault)) = Reports input (Err fault)
   Sums input (Err (Read kind)) = kind ≢ Interrupted
-  Sums input (Err (Write kind)) = ⊥
-  Sums input (Err Memory) = ⊥
-  Sums input (Err Text) = ⊥
-  Sums input (Err fault) = Reports input (Err fault)
+  Sums input (Err fault) = ⊥
 
   -- The totals so far, with the lines of what was read and is not among them, and of what is left,
   -- are those of all.
@@ -70,15 +74,13 @@ module _ (options : Options) (s : Streams) where
     pub written : AppendsPart s.had s.has (line_of options.kind totals)
 
   -- A line of the input has a fault, and nothing was written.
-  abbrev pub EndsAtLine : Fault → Type 0
+  abbrev pub EndsAtLine : LineFault → Type 0
   EndsAtLine fault = Reports options s.input (Err fault) × Keeps s.had s.has
 
   -- what a run does, by its answer
   abbrev pub Runs : Result (Unit {0}) Fault → Type 0
   Runs (Ok done) = WritesTotals
-  Runs (Err (Number line error)) = EndsAtLine (Number line error)
-  Runs (Err (Sum line)) = EndsAtLine (Sum line)
-  Runs (Err (LongLine line)) = EndsAtLine (LongLine line)
+  Runs (Err (Line fault)) = EndsAtLine fault
   Runs (Err (Read kind)) = EndsAtRead s kind
   Runs (Err (Write kind)) = WritesPart
   Runs (Err Memory) = Keeps s.had s.has

@@ -8,7 +8,9 @@ use Rattle.digit_floats.specs.Errors as floats
 use Rattle.std.specs.declared.io.ErrorKind.{ErrorKind}
 use Rattle.digit_totals.specs.ErrorKinds.{words_of}
 use Rattle.digit_totals.specs.declared.fault.Fault.{Fault}
-use Rattle.digit_totals.specs.declared.fault.Fault.TheVariants.{Number, Sum, LongLine, Read, Write, Memory, Text}
+use Rattle.digit_totals.specs.declared.fault.Fault.TheVariants.{Line, Read, Write, Memory, Text}
+use Rattle.digit_totals.specs.declared.fault.LineFault.{LineFault}
+use Rattle.digit_totals.specs.declared.fault.LineFault.TheVariants.{Number, Sum, LongLine}
 use Rattle.digit_totals.specs.declared.fault.NumberError.{NumberError}
 use Rattle.digit_totals.specs.declared.fault.NumberError.TheVariants.{Missing, Integer, Decimal, Float}
 use Rattle.digit_totals.specs.declared.options.Column.{Column}
@@ -73,20 +75,24 @@ told column line what = place column line ++ what ++ codes "\n"
 abbrev pub failed : List ℕ → ErrorKind → List ℕ
 failed call kind = codes "error: " ++ call ++ codes " failed: " ++ words_of kind ++ codes "\n"
 
--- the line that is written for a fault
+-- the line that is written for the fault of a line
+abbrev pub line_fault : Option Column → LineFault → List ℕ
+line_fault column (Number line error) = told column line (message error)
+line_fault column (Sum line) = told column line (codes "the sum leaves 128 bits")
+line_fault column (LongLine line) = told column line (codes "the line is too long")
+
+-- for a fault
 abbrev pub error_line : Option Column → Fault → List ℕ
-error_line column (Number line error) = told column line (message error)
-error_line column (Sum line) = told column line (codes "the sum leaves 128 bits")
-error_line column (LongLine line) = told column line (codes "the line is too long")
+error_line column (Line fault) = line_fault column fault
 error_line column (Read kind) = failed (codes "read") kind
 error_line column (Write kind) = failed (codes "write") kind
 error_line column Memory = codes "error: out of memory\n"
 error_line column Text = codes "error: a float is not read from its text\n"
 
 abbrev pub status_of : Fault → ℕ
-status_of (Number line error) = 3
-status_of (Sum line) = 4
-status_of (LongLine line) = 5
+status_of (Line (Number line error)) = 3
+status_of (Line (Sum line)) = 4
+status_of (Line (LongLine line)) = 5
 status_of (Read kind) = 6
 status_of (Write kind) = 7
 status_of Memory = 8

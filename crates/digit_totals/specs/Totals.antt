@@ -4,8 +4,8 @@ use Rattle.std.specs.Int.{int_min, int_max}
 use Rattle.digit_totals.specs.declared.options.Options.{Options}
 use Rattle.digit_totals.specs.declared.totals.Totals.{Totals}
 use Rattle.digit_totals.specs.declared.fault.NumberError.{NumberError}
-use Rattle.digit_totals.specs.declared.fault.Fault.{Fault}
-use Rattle.digit_totals.specs.declared.fault.Fault.TheVariants.{Number, Sum, LongLine}
+use Rattle.digit_totals.specs.declared.fault.LineFault.{LineFault}
+use Rattle.digit_totals.specs.declared.fault.LineFault.TheVariants.{Number, Sum, LongLine}
 use Rattle.digit_totals.specs.Lines.{lines_of}
 use Rattle.digit_totals.specs.Value.{value_of}
 
@@ -37,31 +37,32 @@ plus t value = record {
 }
 
 -- with the number of the next line; or that line's fault
-abbrev pub with_value : Totals → Result ℤ NumberError → Result Totals Fault
+abbrev pub with_value : Totals → Result ℤ NumberError → Result Totals LineFault
 with_value t (Ok value) =
     if has_128_bits (t.sum +ℤ value) then Ok (plus t value) else Err (Sum (t.count + 1))
 with_value t (Err error) = Err (Number (t.count + 1) error)
 
 module _ (options : Options) where
   -- with the number of the next line, which has at most 65,535 bytes
-  abbrev pub with_line : Totals → List ℕ → Result Totals Fault
+  abbrev pub with_line : Totals → List ℕ → Result Totals LineFault
   with_line t line =
       if nat_lt most_bytes (length line)
       then Err (LongLine (t.count + 1))
       else with_value t (value_of options line)
 
   -- with the lines after these; or what ends them
-  abbrev pub continue : (Totals → Result Totals Fault) → Result Totals Fault → Result Totals Fault
+  abbrev pub continue : (Totals → Result Totals LineFault) → Result Totals LineFault
+      → Result Totals LineFault
   continue rest (Ok t) = rest t
   continue rest (Err fault) = Err fault
 
   -- with the numbers of these lines
-  abbrev pub with_lines : Totals → List (List ℕ) → Result Totals Fault
+  abbrev pub with_lines : Totals → List (List ℕ) → Result Totals LineFault
   with_lines t [] = Ok t
   with_lines t (line ∷ lines) =
       continue (λ u. with_lines u lines) (with_line t line)
 
-  abbrev pub report_of : List ℕ → Result Totals Fault
+  abbrev pub report_of : List ℕ → Result Totals LineFault
   report_of text = with_lines no_numbers (lines_of text)
 
   -- Whatever follows a text: the totals after its lines are those after the lines of the rest.
@@ -70,5 +71,5 @@ module _ (options : Options) where
       → with_lines t (lines_of (text ++ more)) ≡ with_lines u (lines_of (rest ++ more))
 
   -- Whatever follows a text, a line of it ends the lines.
-  abbrev pub EndsIn : Totals → List ℕ → Fault → Type 0
+  abbrev pub EndsIn : Totals → List ℕ → LineFault → Type 0
   EndsIn t text fault = (more : List ℕ) → with_lines t (lines_of (text ++ more)) ≡ Err fault

@@ -51,15 +51,23 @@ impl NumberError {
     }
 }
 
-/// Why a run ended early. Lines count from 1.
+/// Why a line ended a run. Lines count from 1.
 #[derive(Clone, Copy, Debug, PartialEq, Eq)]
-pub enum Fault {
+pub enum LineFault {
     /// This line has no number.
     Number(u128, NumberError),
     /// With the number of this line the sum leaves 128 bits.
     Sum(u128),
     /// This line is longer than 65,535 bytes.
     LongLine(u128),
+}
+
+/// Why a run ended early. The fault of a line is of a type of its own, which has no [`ErrorKind`]:
+/// the loops over lines are quicker by it.
+#[derive(Clone, Copy, Debug, PartialEq, Eq)]
+pub enum Fault {
+    /// A line ended it.
+    Line(LineFault),
     /// A read failed with an error of this kind. An interrupted one is tried again.
     Read(ErrorKind),
     /// A write failed with an error of this kind. [`ErrorKind::WriteZero`]: it wrote nothing, and
@@ -79,9 +87,9 @@ impl Fault {
         ensures { result ≡ status_of self.now }
     {
         match self {
-            Fault::Number(_, _) => 3,
-            Fault::Sum(_) => 4,
-            Fault::LongLine(_) => 5,
+            Fault::Line(LineFault::Number(_, _)) => 3,
+            Fault::Line(LineFault::Sum(_)) => 4,
+            Fault::Line(LineFault::LongLine(_)) => 5,
             Fault::Read(_) => 6,
             Fault::Write(_) => 7,
             Fault::Memory => 8,

@@ -5,10 +5,10 @@ ghost use Rattle.std.specs.Io.KnownBytes.{Consumes, IsAtEnd};
 ghost use Rattle.std.specs.declared.io.ErrorKind.TheVariants.{Interrupted};
 ghost use Rattle.digit_totals.specs.Lines.{lines_of};
 ghost use Rattle.digit_totals.specs.Totals.{most_bytes, with_lines, LeavesRest, EndsIn};
-ghost use Rattle.digit_totals.specs.Outcome.{Sums};
+ghost use Rattle.digit_totals.specs.Outcome.{Sums, of_lines};
 ghost use Rattle.digit_totals.specs.Value.{HasFewPlaces};
 
-use super::fault::Fault;
+use super::fault::{Fault, LineFault};
 use super::field::find;
 use super::lines::{add_line, add_lines};
 use super::options::Options;
@@ -54,7 +54,7 @@ pub fn keep(buffer: &mut [u8], start: usize, end: usize)
 }
 
 /// Adds the last line, which has no line feed, if there is one.
-fn add_last(options: Options, totals: Totals, text: &[u8]) -> Result<Totals, Fault>
+fn add_last(options: Options, totals: Totals, text: &[u8]) -> Result<Totals, LineFault>
     requires few { HasFewPlaces options.kind }
     requires short { length text.now ≤ most_bytes }
     requires whole { All (λ byte. byte ≢ 10) text.now }
@@ -84,7 +84,7 @@ fn add_piece(
     buffer: &mut [u8],
     filled: usize,
     end: usize,
-) -> Result<Kept, Fault>
+) -> Result<Kept, LineFault>
     requires few { HasFewPlaces options.kind }
     requires order { filled ≤ end }
     requires within { end ≤ length buffer.old }
@@ -118,6 +118,16 @@ fn add_piece(
     Ok(kept)
 }
 
+/// The answer of lines as that of a run.
+fn of_lines(added: Result<Totals, LineFault>) -> Result<Totals, Fault>
+    ensures { result ≡ of_lines added }
+{
+    match added {
+        Ok(totals) => Ok(totals),
+        Err(fault) => Err(Fault::Line(fault)),
+    }
+}
+
 /// The totals of the numbers of an input, a piece at a time.
 pub fn sum_input<R: Read>(options: Options, reader: &mut R) -> Result<Totals, Fault>
     requires { HasFewPlaces options.kind }
@@ -133,17 +143,17 @@ pub fn sum_input<R: Read>(options: Options, reader: &mut R) -> Result<Totals, Fa
             Err(kind) => return Err(Fault::Read(kind)),
         };
         if count == 0 {
-            return add_last(options, totals, &buffer[..filled]);
+            return of_lines(add_last(options, totals, &buffer[..filled]));
         }
         match add_piece(options, totals, &mut buffer, filled, filled + count) {
             Ok(kept) => {
                 totals = kept.totals;
                 filled = kept.filled;
             }
-            Err(fault) => return Err(fault),
+            Err(fault) => return Err(Fault::Line(fault)),
         }
         if filled == SIZE {
-            return Err(Fault::LongLine(totals.count + 1));
+            return Err(Fault::Line(LineFault::LongLine(totals.count + 1)));
         }
     }
     Err(Fault::Read(ErrorKind::TimedOut))

@@ -1,7 +1,7 @@
 //! What the report of a text says.
 
 ghost use Rattle.std.specs.Prelude.{◌≡◌, ℕ, List, Ok, Err};
-ghost use Rattle.digit_totals.specs.declared.fault.Fault.TheVariants.{Number, Sum, LongLine};
+ghost use Rattle.digit_totals.specs.declared.fault.LineFault.TheVariants.{Number, Sum, LongLine};
 ghost use Rattle.digit_totals.specs.declared.fault.NumberError.{NumberError};
 ghost use Rattle.digit_totals.specs.declared.floats.totals.FloatTotals.{FloatTotals};
 ghost use Rattle.digit_totals.specs.declared.options.FloatOptions.{FloatOptions};

@@ -13,7 +13,7 @@ ghost use Rattle.digit_totals.specs.Totals.{most_bytes, with_value, LeavesRest, 
 ghost use Rattle.digit_totals.specs.Value.{HasFewPlaces, word_of};
 ghost use Rattle.digit_totals.specs.Value as Value;
 
-use super::fault::Fault;
+use super::fault::LineFault;
 use super::field::find;
 use super::options::{Kind, Options};
 use super::totals::Totals;
@@ -114,7 +114,7 @@ fn add_quick_lines<'a>(
     totals: Totals,
     text: &'a [u8],
     word: u128,
-) -> Result<Added<'a>, Fault>
+) -> Result<Added<'a>, LineFault>
     requires supported { IsTrue (is_supported word) }
     requires decimal { IsDecimal word }
     requires low { (k : Component) → HasNoLowByte (rule_of word k) }
@@ -146,7 +146,7 @@ fn add_quick_lines<'a>(
 /// Adds the lines at the front of a text that are only numbers, if a run adds up whole lines.
 #[inline(always)]
 #[tactic(auto, using(crate::proofs::Quick::no_low_bytes), unfolding(crate::proofs::OnWords::words))]
-fn add_quick<'a>(options: Options, totals: Totals, text: &'a [u8]) -> Result<Added<'a>, Fault>
+fn add_quick<'a>(options: Options, totals: Totals, text: &'a [u8]) -> Result<Added<'a>, LineFault>
     requires few { HasFewPlaces options.kind }
     requires short { length text.now ≤ most_bytes + 1 }
     requires room { totals.count + length text.now ≤ 2 ^ 127 }
@@ -169,7 +169,7 @@ fn add_quick<'a>(options: Options, totals: Totals, text: &'a [u8]) -> Result<Add
 }
 
 /// Adds the number of a line.
-pub fn add_line(options: Options, totals: Totals, line: &[u8]) -> Result<Totals, Fault>
+pub fn add_line(options: Options, totals: Totals, line: &[u8]) -> Result<Totals, LineFault>
     requires few { HasFewPlaces options.kind }
     requires room { totals.count < 2 ^ 127 }
     ensures is { result ≡ with_value totals (Value.value_of options line.now) }
@@ -177,12 +177,16 @@ pub fn add_line(options: Options, totals: Totals, line: &[u8]) -> Result<Totals,
 {
     match value_of(options, line) {
         Ok(value) => totals.plus(value),
-        Err(error) => Err(Fault::Number(totals.count + 1, error)),
+        Err(error) => Err(LineFault::Number(totals.count + 1, error)),
     }
 }
 
 /// Adds the numbers of the whole lines at the front of a text. What is left has no line feed.
-pub fn add_lines<'a>(options: Options, totals: Totals, text: &'a [u8]) -> Result<Added<'a>, Fault>
+pub fn add_lines<'a>(
+    options: Options,
+    totals: Totals,
+    text: &'a [u8],
+) -> Result<Added<'a>, LineFault>
     requires few { HasFewPlaces options.kind }
     requires short { length text.now ≤ most_bytes + 1 }
     requires room { totals.count + length text.now ≤ 2 ^ 127 }

@@ -5,7 +5,7 @@ ghost use Rattle.digit_totals.specs.Text as Text;
 ghost use Rattle.digit_totals.specs.Value.{HasFewPlaces};
 
 use super::error_kind::words_of;
-use super::fault::{Fault, NumberError};
+use super::fault::{Fault, LineFault, NumberError};
 use super::options::{Column, Kind};
 use super::totals::Totals;
 use std::alloc::{AllocError, Allocator};
@@ -206,6 +206,21 @@ fn failed<'a, A: Allocator>(
     format!(in alloc; "error: {call} failed: {words}\n")
 }
 
+/// The line that is written for the fault of a line.
+fn line_fault<A: Allocator>(
+    alloc: &A,
+    column: Option<Column>,
+    fault: LineFault,
+) -> Result<String<&A>, AllocError>
+    ensures { IfOk result (λ text. string_bytes text ≡ Text.line_fault column fault) }
+{
+    match fault {
+        LineFault::Number(line, error) => number_line(alloc, column, line, error),
+        LineFault::Sum(line) => told(alloc, column, line, "the sum leaves 128 bits"),
+        LineFault::LongLine(line) => told(alloc, column, line, "the line is too long"),
+    }
+}
+
 /// The line that is written for a fault.
 pub fn error_line<A: Allocator>(
     alloc: &A,
@@ -215,9 +230,7 @@ pub fn error_line<A: Allocator>(
     ensures { IfOk result (λ text. string_bytes text ≡ Text.error_line column fault) }
 {
     match fault {
-        Fault::Number(line, error) => number_line(alloc, column, line, error),
-        Fault::Sum(line) => told(alloc, column, line, "the sum leaves 128 bits"),
-        Fault::LongLine(line) => told(alloc, column, line, "the line is too long"),
+        Fault::Line(fault) => line_fault(alloc, column, fault),
         Fault::Read(kind) => failed(alloc, "read", kind),
         Fault::Write(kind) => failed(alloc, "write", kind),
         Fault::Memory => String::from_str(alloc, "error: out of memory\n"),

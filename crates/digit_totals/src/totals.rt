@@ -3,7 +3,7 @@
 ghost use Rattle.std.specs.Prelude.{◌≡◌, ◌^◌, ◌<◌, ◌+◌, IfOk, Ok};
 ghost use Rattle.digit_totals.specs.Totals.{no_numbers, with_value};
 
-use super::fault::Fault;
+use super::fault::LineFault;
 
 /// How many numbers there are, their sum, and the least and the greatest of them.
 #[derive(Clone, Copy, Debug, PartialEq, Eq)]
@@ -32,14 +32,14 @@ impl Totals {
     /// With the number of the next line. It fails if the sum leaves 128 bits.
     #[inline(always)]
     #[tactic(auto, using(crate::proofs::Bits::bits))]
-    pub fn plus(self, value: i128) -> Result<Totals, Fault>
+    pub fn plus(self, value: i128) -> Result<Totals, LineFault>
         requires { self.count < 2 ^ 127 }
         ensures is { result ≡ with_value self (Ok value) }
         ensures count { IfOk result (λ t. t.count ≡ self.count + 1) }
     {
         let count = self.count + 1;
         let Some(sum) = self.sum.checked_add(value) else {
-            return Err(Fault::Sum(count));
+            return Err(LineFault::Sum(count));
         };
         Ok(Totals {
             count,

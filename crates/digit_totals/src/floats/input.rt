@@ -4,19 +4,24 @@ ghost use Rattle.std.specs.Prelude.{◌≡◌, ◌≢◌, ◌<◌, ◌≤◌, �
 ghost use Rattle.std.specs.Io.KnownBytes.{IsAtEnd};
 ghost use Rattle.digit_totals.specs.Lines.{lines_of};
 ghost use Rattle.digit_totals.specs.FloatOutcome.{Sums};
+ghost use Rattle.digit_totals.specs.Outcome.{of_lines};
 ghost use Rattle.digit_totals.specs.Floats.{with_lines, LeavesRest, EndsIn};
 ghost use Rattle.digit_totals.specs.Totals.{most_bytes};
 
 use super::lines::{add_float, add_floats};
 use super::totals::FloatTotals;
-use crate::fault::Fault;
+use crate::fault::{Fault, LineFault};
 use crate::field::find;
 use crate::input::{SIZE, fill, keep};
 use crate::options::FloatOptions;
 use std::io::{ErrorKind, Read};
 
 /// Adds the last line, which has no line feed, if there is one.
-fn add_last(options: FloatOptions, totals: FloatTotals, text: &[u8]) -> Result<FloatTotals, Fault>
+fn add_last(
+    options: FloatOptions,
+    totals: FloatTotals,
+    text: &[u8],
+) -> Result<FloatTotals, LineFault>
     requires short { length text.now ≤ most_bytes }
     requires whole { All (λ byte. byte ≢ 10) text.now }
     requires room { totals.count < 2 ^ 127 }
@@ -45,7 +50,7 @@ fn add_piece(
     buffer: &mut [u8],
     filled: usize,
     end: usize,
-) -> Result<Kept, Fault>
+) -> Result<Kept, LineFault>
     requires order { filled ≤ end }
     requires within { end ≤ length buffer.old }
     requires short { length buffer.old ≤ most_bytes + 1 }
@@ -78,6 +83,16 @@ fn add_piece(
     Ok(kept)
 }
 
+/// The answer of lines as that of a run.
+fn of_lines(added: Result<FloatTotals, LineFault>) -> Result<FloatTotals, Fault>
+    ensures { result ≡ of_lines added }
+{
+    match added {
+        Ok(totals) => Ok(totals),
+        Err(fault) => Err(Fault::Line(fault)),
+    }
+}
+
 /// The totals of the floats of an input, a piece at a time.
 pub fn sum_floats<R: Read>(options: FloatOptions, reader: &mut R) -> Result<FloatTotals, Fault>
     ensures is { Sums options (R.remaining reader.old) result }
@@ -92,17 +107,17 @@ pub fn sum_floats<R: Read>(options: FloatOptions, reader: &mut R) -> Result<Floa
             Err(kind) => return Err(Fault::Read(kind)),
         };
         if count == 0 {
-            return add_last(options, totals, &buffer[..filled]);
+            return of_lines(add_last(options, totals, &buffer[..filled]));
         }
         match add_piece(options, totals, &mut buffer, filled, filled + count) {
             Ok(kept) => {
                 totals = kept.totals;
                 filled = kept.filled;
             }
-            Err(fault) => return Err(fault),
+            Err(fault) => return Err(Fault::Line(fault)),
         }
         if filled == SIZE {
-            return Err(Fault::LongLine(totals.count + 1));
+            return Err(Fault::Line(LineFault::LongLine(totals.count + 1)));
         }
     }
     Err(Fault::Read(ErrorKind::TimedOut))

@@ -8,7 +8,7 @@ ghost use Rattle.digit_totals.specs.Totals.{most_bytes};
 
 use super::totals::FloatTotals;
 use super::value::value_of;
-use crate::fault::Fault;
+use crate::fault::LineFault;
 use crate::lines::first_line;
 use crate::options::FloatOptions;
 
@@ -24,14 +24,14 @@ pub fn add_float(
     options: FloatOptions,
     totals: FloatTotals,
     line: &[u8],
-) -> Result<FloatTotals, Fault>
+) -> Result<FloatTotals, LineFault>
     requires { totals.count < 2 ^ 127 }
     ensures is { result ≡ with_value totals (Floats.value_of options line.now) }
     ensures count { IfOk result (λ t. t.count ≡ totals.count + 1) }
 {
     match value_of(options, line) {
         Ok(value) => Ok(totals.plus(value)),
-        Err(error) => Err(Fault::Number(totals.count + 1, error)),
+        Err(error) => Err(LineFault::Number(totals.count + 1, error)),
     }
 }
 
@@ -40,7 +40,7 @@ pub fn add_floats<'a>(
     options: FloatOptions,
     totals: FloatTotals,
     text: &'a [u8],
-) -> Result<Added<'a>, Fault>
+) -> Result<Added<'a>, LineFault>
     requires short { length text.now ≤ most_bytes + 1 }
     requires room { totals.count + length text.now ≤ 2 ^ 127 }
     ensures rest { IfOk result (λ added.

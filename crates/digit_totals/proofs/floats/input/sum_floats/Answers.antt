@@ -1,6 +1,7 @@
-use Rattle.std.proofs.Common.{◌≡◌, ◌<◌, ◌∙◌, length, take, drop, Ok, arith, ap, subst}
+use Rattle.std.proofs.Common.{◌≡◌, ◌<◌, ◌∙◌, length, take, drop, Ok, arith, ap, subst, sym}
 use Rattle.std.proofs.lemmas.List.{length-take-le}
 use Rattle.std.specs.Io.KnownBytes.{Consumes}
+use Rattle.digit_totals.specs.FloatOutcome.{Sums}
 use Rattle.digit_totals.specs.Lines.{lines_of}
 use Rattle.digit_totals.specs.Floats.{with_lines}
 use Rattle.digit_totals.proofs.FloatPieces.{read_on, add_on, sums_end, line_fault, long_line}
@@ -87,10 +88,11 @@ returns-then-count-eq0-clause-is g c =
     let buffer = c.fill.new.buffer in
     let pending = take c.loop.filled c.loop.buffer in
     let same : take c.loop.filled buffer ≡ pending = c.in-Ok.ensures.kept in
-    sums_end o (remaining c.args.reader.now) (remaining c.loop.reader)
+    subst (Sums o (remaining c.args.reader.now)) (sym c.of_lines.ensures)
+    (sums_end o (remaining c.args.reader.now) (remaining c.loop.reader)
     (remaining c.fill.new.reader) pending c.loop.totals c.add_last.result
     c.loop.invariant.continues
     (subst (λ n. Consumes (remaining c.loop.reader) (remaining c.fill.new.reader)
     (take n (drop c.loop.filled buffer))) none c.in-Ok.ensures.read)
     (c.in-Ok.ensures.end (ap Ok none))
-    (c.add_last.ensures ∙ ap (λ xs. with_lines o c.loop.totals (lines_of xs)) same)
+    (c.add_last.ensures ∙ ap (λ xs. with_lines o c.loop.totals (lines_of xs)) same))
