@@ -55,7 +55,8 @@ module _ (options : FloatOptions) where
 
   continue_is : (rest : FloatTotals → Result FloatTotals LineFault)
       (report : Result FloatTotals LineFault) → IsOfLineResult report
-      → ((u : FloatTotals) → IsOfLineResult (rest u)) → IsOfLineResult (continue options rest report)
+      → ((u : FloatTotals) → IsOfLineResult (rest u))
+      → IsOfLineResult (continue options rest report)
   continue_is rest (Ok u) p q = q u
   continue_is rest (Err fault) p q = p
 
