@@ -1,10 +1,9 @@
 //! The float that a line has.
 
-ghost use Rattle.std.specs.Prelude.{◌≡◌, ◌+◌, ◌^◌, ◌<◌, ◌≤◌, length, IsTrue, IfErr};
+ghost use Rattle.std.specs.Prelude.{◌≡◌, ◌≤◌, length, IsTrue, IfErr};
 ghost use Rattle.lexical_format.specs.Word.{is_supported};
 ghost use Rattle.digit_floats.specs.Errors.{position};
 ghost use Rattle.digit_floats.specs.Float.{IsDecimal};
-ghost use Rattle.digit_totals.specs.Errors.{of_field_at};
 ghost use Rattle.digit_totals.specs.Floats as Floats;
 
 use crate::fault::NumberError;
@@ -36,33 +35,30 @@ fn parse_float(text: &[u8], word: u128) -> Result<f64, FloatError>
     }
 }
 
-/// The float of a field that begins at `start` in its line, with any blanks around it.
+/// The float that a field is, with any blanks around it.
 #[inline]
-fn parse_field(field: &[u8], word: u128, start: usize) -> Result<f64, NumberError>
-    requires supported { IsTrue (is_supported word) }
-    requires decimal { IsDecimal word }
-    requires within { start + length field.now < 2 ^ 64 }
-    ensures { result ≡ of_field_at start (Floats.as_float (Floats.float_in word field.now)) }
+#[tactic(auto, unfolding(lexical_format::proofs::OnLiterals::lexical_on_literals))]
+fn parse_field(options: FloatOptions, field: &[u8]) -> Result<f64, FloatError>
+    ensures is { result ≡ Floats.float_in (Floats.word_of options) field.now }
+    ensures within { IfErr result (λ error. position error ≤ length field.now) }
 {
-    match parse_float(field, word) {
-        Ok(value) => Ok(value),
-        Err(error) => Err(NumberError::Float(error).later(start)),
+    if options.underscores {
+        parse_float(field, PYTHON_LITERAL)
+    } else {
+        parse_float(field, STANDARD)
     }
 }
 
 /// The float in the column of a line, or why there is none. What is beside the field makes no
 /// difference.
-#[tactic(auto, unfolding(lexical_format::proofs::OnLiterals::lexical_on_literals))]
 pub fn value_of(options: FloatOptions, line: &[u8]) -> Result<f64, NumberError>
     ensures { result ≡ Floats.value_of options line.now }
 {
     let Some((start, end)) = find_span(options.column, line) else {
         return Err(NumberError::Missing);
     };
-    let field = &line[start..end];
-    if options.underscores {
-        parse_field(field, PYTHON_LITERAL, start)
-    } else {
-        parse_field(field, STANDARD, start)
+    match parse_field(options, &line[start..end]) {
+        Ok(value) => Ok(value),
+        Err(error) => Err(NumberError::Float(error).later(start)),
     }
 }
