@@ -64,9 +64,6 @@ fn read_float_apart<F: Float>(
     ensures onward { IfOk result (λ r. start < r.1) }
     ensures within { IfOk result (λ r. r.1 ≤ length text.now) }
 {
-    if !has_digit(text, read_sign(text, start).1) {
-        return read_float_by_digits::<F>(text, word, start);
-    }
     let parts = read_parts(text, word, Marks::PLAIN, start, true)?;
     let x = round_parts::<F>(text, parts.negative, parts.mantissa, parts.power);
     Ok((x, parts.power.end))
@@ -79,8 +76,8 @@ fn has_groups(word: u128) -> bool {
     Rule::of(word, Component::Integer).internal || Rule::of(word, Component::Fraction).internal
 }
 
-/// [`read_float_apart`] or [`read_float_by_digits`], by the word. Their answer in memory belongs to
-/// this function, so it is set only where they are called.
+/// [`read_float_apart`] or [`read_float_by_digits`], by the word and by the byte after the sign.
+/// Their answer in memory belongs to this function, so it is set only where they are called.
 #[inline(always)]
 fn read_float_rest<F: Float>(
     text: &[u8],
@@ -97,7 +94,7 @@ fn read_float_rest<F: Float>(
     ensures onward { IfOk result (λ r. start < r.1) }
     ensures within { IfOk result (λ r. r.1 ≤ length text.now) }
 {
-    let read = if has_groups(word) {
+    let read = if has_groups(word) || !has_digit(text, read_sign(text, start).1) {
         read_float_by_digits::<F>(text, word, start)
     } else {
         read_float_apart::<F>(text, word, start)
