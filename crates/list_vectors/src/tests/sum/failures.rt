@@ -91,7 +91,7 @@ fn kinds_are_told_in_the_words_of_std(rt: HostRuntime) {
     for kind in &KINDS {
         let mut reader = two_lines(&[], Turn::Fail(*kind));
         let ended = run_over(rt.alloc(), &[], &mut reader);
-        let told = format!(in rt.alloc(); "error: read failed: {kind}\n").unwrap();
+        let told = format!(in rt.alloc(); "error: read failed: {kind}\n").expect(&rt, "memory");
         assert!(rt; ended.is(b"", told.as_bytes(), 6));
     }
 }
