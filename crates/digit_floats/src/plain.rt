@@ -41,9 +41,9 @@ pub fn begins_long(text: &[u8], word: u128, component: Component, at: usize) -> 
     requires within { at ≤ length text.now }
     ensures { result ≡ true → AreDigits (rule_of word component) text.now at (at + 8) }
 {
-    // where fewer do, the last byte mostly tells
+    // where none begins it, the first byte tells
     text.len() - at >= 8
-        && text[at + 7].is_ascii_digit()
+        && text[at].is_ascii_digit()
         && are_eight_digits(text, Rule::of(word, component), at)
 }
 

@@ -11,42 +11,8 @@ use super::parts::{Marks, Parts, pass_sign, read_parts, read_short_parts, read_s
 use super::round::{round_parts, round_short, round_unsigned};
 use lexical_digits::skip::{Component, Rule};
 
-/// Whether a digit is at a position.
-#[inline(always)]
-fn has_digit(text: &[u8], at: usize) -> bool {
-    match text.get(at) {
-        Some(byte) => byte.is_ascii_digit(),
-        None => false,
-    }
-}
-
-/// [`read_float_from`], whatever the number is, digit by digit, in code of its own: of a word that
-/// drops separators between digits, since a group seldom has eight, and of a text that no digit
-/// begins, which is short or no number.
-#[inline(never)]
-#[tactic(auto, using(crate::proofs::Numbers::round_number))]
-fn read_float_by_digits<F: Float>(
-    text: &[u8],
-    word: u128,
-    start: usize,
-) -> Result<(F, usize), FloatError>
-    requires supported { IsTrue (is_supported word) }
-    requires decimal { IsDecimal word }
-    requires within { start ≤ length text.now }
-    ensures reads { MatchResult result
-        (λ r. read_at word text.now plain_marks F.format start ≡ Ok (F.value r.0, r.1))
-        (λ error. read_at word text.now plain_marks F.format start ≡ Err error) }
-    ensures no_nan { IfOk result (λ r. NotNan (F.value r.0)) }
-    ensures onward { IfOk result (λ r. start < r.1) }
-    ensures within { IfOk result (λ r. r.1 ≤ length text.now) }
-{
-    let parts = read_parts(text, word, Marks::PLAIN, start, false)?;
-    let x = round_parts::<F>(text, parts.negative, parts.mantissa, parts.power);
-    Ok((x, parts.power.end))
-}
-
 /// [`read_float_from`], whatever the number is. In code of its own, so that the one of a short
-/// number has all registers.
+/// number has all registers (the rows `x: f64`).
 #[inline(never)]
 #[tactic(auto, using(crate::proofs::Numbers::round_number))]
 fn read_float_apart<F: Float>(
@@ -69,6 +35,30 @@ fn read_float_apart<F: Float>(
     Ok((x, parts.power.end))
 }
 
+/// [`read_float_apart`] by a word that drops separators between digits, in code of its own: a group
+/// seldom has eight digits.
+#[inline(never)]
+#[tactic(auto, using(crate::proofs::Numbers::round_number))]
+fn read_float_in_groups<F: Float>(
+    text: &[u8],
+    word: u128,
+    start: usize,
+) -> Result<(F, usize), FloatError>
+    requires supported { IsTrue (is_supported word) }
+    requires decimal { IsDecimal word }
+    requires within { start ≤ length text.now }
+    ensures reads { MatchResult result
+        (λ r. read_at word text.now plain_marks F.format start ≡ Ok (F.value r.0, r.1))
+        (λ error. read_at word text.now plain_marks F.format start ≡ Err error) }
+    ensures no_nan { IfOk result (λ r. NotNan (F.value r.0)) }
+    ensures onward { IfOk result (λ r. start < r.1) }
+    ensures within { IfOk result (λ r. r.1 ≤ length text.now) }
+{
+    let parts = read_parts(text, word, Marks::PLAIN, start, false)?;
+    let x = round_parts::<F>(text, parts.negative, parts.mantissa, parts.power);
+    Ok((x, parts.power.end))
+}
+
 /// Whether a word drops separators between digits of an integer or a fraction. Of a constant word a
 /// compiler knows it.
 #[inline(always)]
@@ -76,8 +66,8 @@ fn has_groups(word: u128) -> bool {
     Rule::of(word, Component::Integer).internal || Rule::of(word, Component::Fraction).internal
 }
 
-/// [`read_float_apart`] or [`read_float_by_digits`], by the word and by the byte after the sign.
-/// Their answer in memory belongs to this function, so it is set only where they are called.
+/// [`read_float_apart`] or [`read_float_in_groups`], by the word. Their answer in memory belongs to
+/// this function, so it is set only where they are called.
 #[inline(always)]
 fn read_float_rest<F: Float>(
     text: &[u8],
@@ -94,8 +84,8 @@ fn read_float_rest<F: Float>(
     ensures onward { IfOk result (λ r. start < r.1) }
     ensures within { IfOk result (λ r. r.1 ≤ length text.now) }
 {
-    let read = if has_groups(word) || !has_digit(text, read_sign(text, start).1) {
-        read_float_by_digits::<F>(text, word, start)
+    let read = if has_groups(word) {
+        read_float_in_groups::<F>(text, word, start)
     } else {
         read_float_apart::<F>(text, word, start)
     };
