@@ -1,5 +1,5 @@
 """The numbers of the pages that a script can find again: what they count, what the benchmark's last
-run measured, the kit, the version, and how many words the pages have."""
+run measured, the kit and the version."""
 import os
 import re
 import sys
@@ -10,7 +10,7 @@ from sources import DOOR, TOP, crates, difference, files_below, libraries, read
 sys.path.append(os.path.join(TOP, "bench"))
 import pages as speed  # noqa: E402
 
-MOST_WORDS = {"CALLING.md": 2200}
+HOUSE = "docs/HOUSE.md"
 NAMES = "zero one two three four five six seven eight nine ten eleven twelve".split()
 
 
@@ -38,10 +38,6 @@ class Numbers:
         return found
 
 
-def pages():
-    return [path for path in files_below(".", ".md") if not path.startswith("docs/reference/")]
-
-
 def counted(it):
     """How many programs the gate sees refused, and which crates there are, in which order."""
     there = NAMES[len(files_below("crates/digit_vectors/refused", ".txt"))]
@@ -49,14 +45,14 @@ def counted(it):
                           ("docs/DECISIONS.md", r"the gate checks (\w+) texts \(`refused`\)")):
         for line, m in it.find(page, pattern):
             it.compare(page, line, "the number of refused programs", m[1], there)
-    listed = re.search(r"## Use it\n(.*?)\n## ", read("README.md"), re.S)
-    first = read("README.md").count("\n", 0, listed.start()) + 1 if listed else 1
+    listed = re.search(r"## The layers\n(.*?)\n## ", read(HOUSE), re.S)
+    first = read(HOUSE).count("\n", 0, listed.start()) + 1 if listed else 1
     names = re.findall(rf"`([a-z]+_[a-z]+|{DOOR})`", listed[1]) if listed else []
     order = list(crates())
     for crate, below in crates().items():
         late = [name for name in below if name not in order[:order.index(crate)]]
         it.compare("crates.txt", 1, f"what {crate} needs and doesn't follow", [], late)
-    it.compare("README.md", first, "the list of crates.txt", sorted(set(names)), sorted(crates()))
+    it.compare(HOUSE, first, "the list of crates.txt", sorted(set(names)), sorted(crates()))
 
 
 def read_by(it):
@@ -126,7 +122,7 @@ def names(it):
     line, text = next(((n, text) for n, text in it.lines("CHANGELOG.md")
                        if "`lexical_plain`" in text and "`digit_script`" in text), (1, ""))
     listed = {"CHANGELOG.md": (line, re.findall(rf"`([a-z]+_[a-z]+|{DOOR})`", text)),
-              "README.md": (1, re.findall(r"docs/reference/(\w+)\.md", read("README.md")))}
+              HOUSE: (1, re.findall(r"reference/(\w+)\.md", read(HOUSE)))}
     for page, (line, names) in listed.items():
         it.compare(page, line, "the list of libraries", sorted(set(names)),
                    sorted(libraries() + [DOOR]))
@@ -155,22 +151,8 @@ def by_hand(it):
             it.compare(path, line, "the number of lines by hand", m[1], str(len(lines) or "none"))
 
 
-def words_of(page):
-    text = re.sub(r"^```.*?^```", "", read(page), flags=re.S | re.M)
-    return sum(len(re.sub(r"`[^`]*`", "`", line).split()) for line in text.split("\n"))
-
-
-def words(it):
-    for page, most in MOST_WORDS.items():
-        count = words_of(page)
-        if count > most:
-            it.faults.append(f"{page}:1: {count} words, of at most {most}")
-    return sum(map(words_of, pages()))
-
-
 def check():
     it = Numbers()
     for part in (counted, read_by, bound, calls, measured, names, by_hand):
         part(it)
-    total = words(it)
-    return f"{it.count} numbers and names; {total:,} words without the reference", it.faults
+    return f"{it.count} numbers and names", it.faults

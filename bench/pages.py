@@ -137,35 +137,25 @@ def most_of(cases, form, side, other=None):
 
 
 def summary(cases):
-    """What README.md has between its comments."""
-    def std(form):
-        return span(cases, form, "Constant", "Filter")
+    """What README.md has between its comments: what you gain, when you lose, and the times."""
+    def most_to_std(form):
+        return most_of(cases, form, "Constant", "Filter")
 
-    def original(form):
-        return span(cases, form, "Constant")
+    def most_to_original(form):
+        return most_of(cases, form, "Constant")
 
     return f"""\
-In instructions, with a constant format word, beside std, which gets the digits without \
-separators, and a loop over lexical-util's iterator:
+**You gain** most with integers: beside the best other reader that does the same work, a `u64` \
+takes {to_peers("u64")} times its instructions (`from_chars`), in groups as `1_234_567` \
+{to_peers("grouped")} (lexical-core), an `i32` with signs {to_peers("i32")} (std), a float \
+{to_peers("f64")} (fast_float, simdjson), a number of JSON {to_peers("JSON")} (simdjson).
 
-- **Integers** take {std("u: no flags")} times std's, and {original("u: no flags")} times \
-lexical-util's.
-- **Grouped integers**, such as `1_234_567`, take {std("u: I, grouped")} times std's, and \
-{original("u: I, grouped")} times lexical-util's.
-- **Hexadecimal integers** take {std("y: radix 16, no flags")} times std's, and \
-{original("y: radix 16")} times lexical-util's; literals of Rust {std("w: ")} times std's.
-- **Floats** take {std("x: no flags")} times std's, and {std("x: I, grouped")} with separators.
-- **Beside the best other reader** that does the same work: a `u64` {to_peers("u64")} times \
-(`from_chars`), grouped {to_peers("grouped")} (lexical-core), an `i32` {to_peers("i32")} (std), an \
-`f64` {to_peers("f64")} (fast_float, simdjson), a number of JSON {to_peers("JSON")} (simdjson).
-
-Slow are grouped floats (up to {most_of(cases, "x:", "Constant", "Filter")} times std), numbers of \
-JSON ({most_of(cases, "z:", "Constant", "Filter")}), runs of dropped separators \
-({most_of(cases, "e:", "Constant")} times lexical-util), letters \
-({most_of(cases, "k:", "Constant")}), and a word that only run time knows (up to \
+**You lose** with floats in groups, which take up to {most_to_std("x:")} times std's instructions, \
+runs of dropped separators (up to {most_to_original("e:")} times lexical-util's), letters between \
+digits ({most_to_original("k:")}), and a word that only run time knows (up to \
 {most_of(cases, "", "Library")}).
 
-{times()} ([SPEED](docs/SPEED.md#beside-other-readers))."""
+**{times()}; [SPEED](docs/SPEED.md) has each row, and how to call it so that it is fast."""
 
 
 # ---- all of them

@@ -124,10 +124,9 @@ def times():
               ((row, slower_run(row, sides)) for row, sides in rows.items())}
     slower = sorted((it for it in ratios.items() if it[1] > 1), key=lambda it: -it[1])
     names = " and ".join(f'{it:.2f} in "{row}"' for row, it in slower)
-    return (f"By time, in the slower of two runs on a quiet machine, the library takes "
-            f"{min(ratios.values()):.2f} to 1.00 times the fastest other reader that does the same "
-            f"work in {len(ratios) - len(slower)} of {len(ratios)} rows"
-            + (f", and {names}" if slower else ""))
+    return (f"By time** it takes {min(ratios.values()):.2f} to 1.00 times the fastest other reader "
+            f"that does the same work in {len(ratios) - len(slower)} of {len(ratios)} rows"
+            + (f", and {names}" if slower else "") + ", in the slower of two runs on a quiet machine")
 
 
 # ---- from C
