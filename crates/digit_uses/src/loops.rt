@@ -1,4 +1,4 @@
-//! Loops over a `Bytes` and over an iterator (docs/LOOPS.md).
+//! Loops over a `Bytes` and over an iterator (docs/IMPLEMENTING.md).
 //!
 //! Proof by hand: 19 lines, an invariant and a measure each.
 #![tactic(auto)]
