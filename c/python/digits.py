@@ -295,11 +295,17 @@ MESSAGES = {
 
 def _library():
     here = os.path.dirname(os.path.abspath(__file__))
-    folders = (os.path.join(here, "../out"), os.path.join(here, "../../lib"))
-    for folder in [os.environ["DIGITS_LIB"]] if "DIGITS_LIB" in os.environ else folders:
+    folders = [os.path.normpath(os.path.join(here, folder)) for folder in ("../out", "../../lib")]
+    if "DIGITS_LIB" in os.environ:
+        folders = [os.environ["DIGITS_LIB"]]
+    for folder in folders:
         if os.path.exists(os.path.join(folder, "libdigits.so")):
             return ctypes.CDLL(os.path.join(folder, "libdigits.so"))
-    return ctypes.CDLL("libdigits.so.0")
+    try:
+        return ctypes.CDLL("libdigits.so.0")
+    except OSError as error:
+        raise OSError(f"no libdigits.so in {' or '.join(folders)}, and none of the system: `make -C c` "
+                      "makes it, and DIGITS_LIB may name its folder") from error
 
 
 _LIBRARY = _library()
@@ -587,6 +593,8 @@ def _block(file, size):
     else:
         # before the end a file that doesn't wait gives b"" here, and None there
         block = file.read1(size) or file.read(1)
+    if isinstance(block, str):
+        raise TypeError("the file gives text, not bytes: open it with mode 'rb', or take its buffer")
     if block is None:
         raise BlockingIOError(errno.EAGAIN, "the file has no bytes yet, and doesn't wait for them")
     return block

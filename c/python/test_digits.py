@@ -6,6 +6,9 @@ import io
 import mmap
 import os
 import signal
+import subprocess
+import sys
+import tempfile
 import unittest
 
 import digits
@@ -143,6 +146,18 @@ class Calls(unittest.TestCase):
                 self.assertEqual(next(numbers), 1.0)
                 with self.assertRaisesRegex(BlockingIOError, "the file has no bytes yet"):
                     next(numbers)
+
+    def test_a_file_of_text(self):
+        with self.assertRaisesRegex(TypeError, "open it with mode 'rb'"):
+            next(digits.numbers_of(io.StringIO("1 2")))
+
+    def test_no_library(self):
+        with tempfile.TemporaryDirectory() as folder:
+            ran = subprocess.run([sys.executable, "-c", "import digits"], capture_output=True,
+                                 cwd=os.path.dirname(digits.__file__), encoding="utf8", check=False,
+                                 env={**os.environ, "DIGITS_LIB": folder})
+        if ran.returncode:  # the system may have one
+            self.assertIn(f"no libdigits.so in {folder}, and none of the system", ran.stderr)
 
     def test_texts(self):
         text = b"  1234;"
