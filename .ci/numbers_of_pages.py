@@ -115,26 +115,24 @@ def measured(it):
 
 
 def names(it):
-    """README names a kit, and each crate says the version of CHANGELOG."""
+    """README names a kit, and each crate with a page says the version of CHANGELOG."""
     it.find("README.md", r"rattle-kit-\w+ logic [0-9a-f]+")
     versions = it.find("CHANGELOG.md", r"^## (\d+\.\d+\.\d+)")
     version = versions[0][1][1] if versions else ""
     line, text = next(((n, text) for n, text in it.lines("CHANGELOG.md")
                        if "`lexical_plain`" in text and "`digit_script`" in text), (1, ""))
     listed = {"CHANGELOG.md": (line, re.findall(rf"`([a-z]+_[a-z]+|{DOOR})`", text)),
-              HOUSE: (1, re.findall(r"reference/(\w+)\.md", read(HOUSE)))}
+              HOUSE: (1, re.findall(r"`\]\(reference/(\w+)\.md\)", read(HOUSE)))}
     for page, (line, names) in listed.items():
         it.compare(page, line, "the list of libraries", sorted(set(names)),
                    sorted(libraries() + [DOOR]))
     for line, text in it.lines("HANDLES"):
         if text:
             it.compare("HANDLES", line, "the promise of no handle", text, "Handles allowed: none.")
+    there = files_below("crates", "README.md")
     for crate in crates():
         page = f"crates/{crate}/README.md"
-        if not os.path.exists(os.path.join(TOP, page)):
-            it.faults.append(f"{page}:1: no such page; crates.txt has the crate")
-            continue
-        for line, m in it.find(page, r"[Vv]ersion (\d+\.\d+\.\d+)"):
+        for line, m in it.find(page, r"[Vv]ersion (\d+\.\d+\.\d+)") if page in there else ():
             it.compare(page, line, "the version of CHANGELOG.md", m[1], version)
 
 
