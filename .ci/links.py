@@ -16,7 +16,7 @@ NAMES = r"(?!X_)[A-Za-z](?:\w*_\w*[A-Za-z\d]|\w*(?:::\w+)+)(?:\(\))?"
 QUOTED = r"`[\w:]+(?:\(\))?`"
 OF_FILE = re.compile(rf"((?:{QUOTED}(?:, | and | or ))*{QUOTED}) of `([\w/]+\.(?:rt|antt))`")
 # what pages say of other libraries
-OTHERS = {"parse_partial", "parse_with_options", "from_str_radix", "fast_float"}
+OTHERS = {"parse_partial", "parse_with_options", "from_str_radix", "fast_float", "is_infinite"}
 FOREIGN = {"docs/DIFFERENCES.md": NAMES, "docs/RULES.md": r"[A-Z]\w*_(LITERAL|STRING)"}
 HOSTS = r"\b(crates\.io|docs\.rs|lib\.rs/crates|pypi\.org|npmjs\.com|proxy\.golang\.org)\b"
 

@@ -60,8 +60,8 @@ def read_by(it):
     constants = re.findall(r"pub const (\w+): Language", read("crates/digit_languages/src/languages.rt"))
     others = {"TOML", "JSON_NUMBER", "DIGITS", "HEX_DIGITS"}
     there = [len({*constants} - others), *map(len, list(forms().values())[:2])]
-    for line, m in it.find("README.md", r"literals of (\d+) languages, and numbers by the grammar of "
-                           r"(\d+) languages and (\d+) data formats"):
+    for line, m in it.find("README.md", r"literals of (\d+) languages, and numbers by (\d+) grammars "
+                           r"of source code and (\d+) of data"):
         it.compare("README.md", line, "the number of languages and formats", list(map(int, m.groups())),
                    there)
 

@@ -17,10 +17,10 @@ from picture import svg  # noqa: E402
 ROWS = {
     "Digits, no separators allowed": "a: no flags, digits, number",
     "Digits, separators allowed": "b: I, digits, number",
-    "Numbers of 1 to 4 digits": "f: I, 1 to 4 digits",
+    "Numbers of 1 to 4 digits, each by a `Bytes` of its own": "f: I, 1 to 4 digits",
     "Runs of 16 separators, all dropped": "e: ILTC, runs of 16, number",
     "Letters by `peek` and `next`": "k: I, other bytes, peeked",
-    "`u64`, 1 to 4 digits": "u: no flags, 1 to 4 digits, u64",
+    "`u64`, 1 to 4 digits, by `parse_number`": "u: no flags, 1 to 4 digits, u64",
     "`u64`, 8 to 20 digits, grouped": "u: I, grouped, u64",
     "Hexadecimal `u64`, 1 to 4 digits": "y: radix 16, no flags, 1 to 4 digits, parse_number, u64",
     "Binary `u64`, 8 to 60 digits": "y: radix 2, no flags, parse_number, u64",
@@ -150,12 +150,13 @@ takes {to_peers("u64")} times its instructions (`from_chars`), in groups as `1_2
 {to_peers("grouped")} (lexical-core), an `i32` with signs {to_peers("i32")} (std), a float \
 {to_peers("f64")} (fast_float, simdjson), a number of JSON {to_peers("JSON")} (simdjson).
 
-**You lose** with floats in groups, which take up to {most_to_std("x:")} times std's instructions, \
-runs of dropped separators (up to {most_to_original("e:")} times lexical-util's), letters between \
-digits ({most_to_original("k:")}), and a word that only run time knows (up to \
-{most_of(cases, "", "Library")}).
+**You lose** in four cases. Floats in groups take up to {most_to_std("x:")} times the instructions \
+that std takes for the same text without separators. Runs of dropped separators take up to \
+{most_to_original("e:")} times lexical-util's, and letters between digits {most_to_original("k:")} \
+times. Numbers through a `Bytes`, by a word that only run time knows, take up to \
+{most_of(cases, "", "Library")} times lexical-util's with a constant word.
 
-**{times()}; [SPEED](docs/SPEED.md) has each row, and how to call it so that it is fast."""
+{times()} [SPEED](docs/SPEED.md) has each row, and how to call it so that it is fast."""
 
 
 # ---- all of them

@@ -102,8 +102,11 @@ def peers():
     told = "; ".join(f"{side} ({it})" for (_, side), it in LESS.items()
                      if any(peer and peer[1] == side for peer in shown))
     text = [f"{counts.head}.\n", *table(f"{words}:", head, body),
-            f"Those that do less: {told}; of grouped numbers they get {PLAIN}. The best simdjson "
-            "reads an array."]
+            f"Some readers do less than this library, and have a column of their own: {told}. Of "
+            f"grouped numbers these readers get {PLAIN}. Where simdjson does the same work, it reads a "
+            "JSON array. serde_json counts as one that does less in floats and JSON, since Debian's "
+            "build has wrong last bits. fast_float is the library for C++, lexical-core the crate of "
+            "Rust. [counts.txt](../bench/peers/counts.txt) has every reader."]
     return "\n".join(text)
 
 
@@ -123,10 +126,13 @@ def times():
     ratios = {row: mine / peer[0] for row, (mine, peer) in
               ((row, slower_run(row, sides)) for row, sides in rows.items())}
     slower = sorted((it for it in ratios.items() if it[1] > 1), key=lambda it: -it[1])
-    names = " and ".join(f'{it:.2f} in "{row}"' for row, it in slower)
-    return (f"By time** it takes {min(ratios.values()):.2f} to 1.00 times the fastest other reader "
-            f"that does the same work in {len(ratios) - len(slower)} of {len(ratios)} rows"
-            + (f", and {names}" if slower else "") + ", in the slower of two runs on a quiet machine")
+    names = " and ".join(f'{it:.2f} times as long ("{row}")' for row, it in slower)
+    least, most = (f(it for it in ratios.values() if it <= 1) for f in (min, max))
+    return (f"**By time** it is the fastest of those that do the same work in "
+            f"{len(ratios) - len(slower)} of {len(ratios)} rows: it takes {least:.2f} to {most:.2f} "
+            "times as long as the next one. "
+            + (f"In the other rows it takes {names}. " if slower else "")
+            + "Of two runs on a quiet machine the slower one counts.")
 
 
 # ---- from C
