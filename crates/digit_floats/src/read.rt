@@ -99,6 +99,10 @@ fn read_float_rest<F: Float>(
 /// point before, among or after them, and an exponent after `e` or `E`. Requires that the word is
 /// supported, and that its mantissa and exponent are decimal. `inf` and `nan` are no digits, so
 /// they are refused as `Empty`: a word says nothing about them.
+///
+/// ```text
+/// by `STANDARD`: `x=1.5e3,` from 2: Ok((1500.0, 7)); `1.5.2` from 0: Ok((1.5, 3))
+/// ```
 #[inline(always)]
 #[tactic(auto, using(crate::proofs::Numbers::round_number))]
 pub fn read_float_from<F: Float>(
@@ -195,7 +199,15 @@ pub fn parse_float_from<F: Float>(text: &[u8], word: u128, start: usize) -> Resu
     Ok(x)
 }
 
-/// The float that a text is, as by [`read_float_from`].
+/// The float nearest to the number that a text is: a sign, digits with a point before, among or
+/// after them, and an exponent after `e` or `E`. Sign, point and exponent may be missing. No value
+/// is too large: it is infinite, and one too small is 0. `inf` and `nan` are refused. Requires that
+/// the word is supported, and that its mantissa and exponent are decimal.
+///
+/// ```text
+/// by `STANDARD`: `-1.5e3`: Ok(-1500.0); `.5`: Ok(0.5); `1e999`: Ok(inf)
+/// `1.5x`: Err(Invalid(3)); `1e`: Err(EmptyExponent(2)); `.`: Err(Empty(1)); `inf`: Err(Empty(0))
+/// ```
 #[inline(always)]
 pub fn parse_float<F: Float>(text: &[u8], word: u128) -> Result<F, FloatError>
     requires supported { IsTrue (is_supported word) }

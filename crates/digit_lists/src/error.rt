@@ -9,7 +9,8 @@ use digit_literals::LiteralError;
 use digit_numbers::NumberError;
 use digit_pieces::BothError;
 
-/// Why there is no number. The errors of all kinds of numbers here are of this trait.
+/// What errors of one number can say: where the fault is, and whether a number is missing. The
+/// errors of all kinds of numbers here are of this trait.
 pub trait NoNumber: Copy {
     ghost use Rattle.std.specs.Prelude.{◌≡◌, ℕ, Bool};
 

@@ -78,8 +78,7 @@ pub fn read_first_digits(
 /// Reads the first digits of a component that begins at `start` by [`read_first_digits`], and
 /// answers where its digits end. Positions count from the start of the text: the byte before
 /// `start` is the left side of a separator there. Requires that `start` is within the text, the
-/// word is supported, and `before` is at most `most`. The call counts no looks on a `Bytes` of its
-/// caller.
+/// word is supported, and `before` is at most `most`.
 ///
 /// ```text
 /// `1.98_76e` with internal `_`, the fraction from 2, up to 99: 98 of 4 digits, of which 2 are

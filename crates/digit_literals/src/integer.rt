@@ -26,7 +26,7 @@ use lexical_digits::skip::{Bytes, Component, Rule};
 /// The answer is that of [`read_digits`](super::read_digits) on the integer iterator of a fresh
 /// `Bytes`, and on `Ok` the cursor. [`Empty`](LiteralError::Empty) holds the stop if no digit is
 /// before it; [`Overflow`](LiteralError::Overflow) the first digit with which the value is above
-/// `u64::MAX`. The call counts no looks on a `Bytes` of its caller.
+/// `u64::MAX`.
 ///
 /// ```text
 /// `1_000` with internal separators: Ok((1000, 5))      `_1`: Err(Empty(0))
@@ -258,7 +258,7 @@ pub fn count_digits(text: &[u8], word: u128) -> Result<usize, usize>
 /// Where the digits of a component end that begin at `start`: the first position from there on that
 /// the component keeps and that holds no digit, or else the end of the text. The byte before
 /// `start` is the left side of a separator there. Requires that `start` is within the text and the
-/// word is supported. The call counts no looks on a `Bytes` of its caller.
+/// word is supported.
 ///
 /// ```text
 /// `1.5_0e7` with internal `_` in the fraction: the fraction from 2 ends at 5

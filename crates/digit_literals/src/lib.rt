@@ -1,8 +1,10 @@
-//! Integer literals, and the digits of a number's components, read by any digit iterator: with
-//! separators that are dropped, or without. Each call reads what the iterator yields. So it works
-//! on the four iterators of `lexical_digits`, on that of `lexical_plain`, and on any other
-//! [`DigitsIter`](lexical_digits::iterator::DigitsIter). lexical-util leaves these loops to its
-//! callers.
+//! Integers of every type, read from a text: `parse_number::<i32>(b"-1_000", PYTHON_LITERAL)` is
+//! `Ok(-1000)`. Also lists of integers, and tests of the bytes between numbers.
+//!
+//! Below these calls are those that read the digits of a number's components by an iterator: by the
+//! four of `lexical_digits`, by that of `lexical_plain`, and by any other
+//! [`DigitsIter`](lexical_digits::iterator::DigitsIter), with separators that are dropped or
+//! without. lexical-util leaves these loops to its callers.
 //!
 //! The digits that lead are those before the first item that is no digit. For the iterators over
 //! `lexical_digits::skip::Bytes`, [`digits_end`](lexical_digits::stop::digits_end) says which these
@@ -55,7 +57,8 @@ use lexical_digits::iterator::DigitsIter;
 use std::error::Error;
 use std::fmt;
 
-/// Why there is no value. A position counts bytes from the start of the buffer, from 0.
+/// Why there is no integer. Literals of a language have an error of their own, `LanguageError`. A
+/// position counts bytes from the start of the buffer, from 0.
 #[derive(Clone, Copy, Debug, PartialEq, Eq)]
 pub enum LiteralError {
     /// The first kept byte, which is at this position, is no digit; or there is none, and this

@@ -94,7 +94,7 @@ fn read_head<T: Integer>(text: &[u8], word: u128, start: usize) -> Head
 ///
 /// [`Empty`](LiteralError::Empty) holds the first kept byte after the sign, which is no digit, or
 /// the end of the text; [`Overflow`](LiteralError::Overflow) the first digit with which the type
-/// has no such number. The call counts no looks on a `Bytes` of its caller.
+/// has no such number.
 ///
 /// ```text
 /// `8080:65536`, `read_number_from::<u16>` from 5: Err(Overflow(9))
@@ -315,7 +315,7 @@ fn to_the_end<T: Integer>(
 
 /// The number of a type that a text is from `start` on to its end. Otherwise the first fault; its
 /// position is that in the text. Requires that `start` is within the text and the word is
-/// supported. The call counts no looks on a `Bytes` of its caller.
+/// supported.
 ///
 /// ```text
 /// `x=-1_29` with internal `_`, `parse_number_from::<i8>` from 2: Err(Overflow(6))
@@ -347,7 +347,7 @@ pub fn parse_number_from<T: Integer>(text: &[u8], word: u128, start: usize) -> R
 
 /// The number of a type that a text is: `u8` to `u128`, `i8` to `i128`, `usize`, `isize`. Otherwise
 /// the first fault. Only a type with a sign takes a `+` or a `-`. Requires that the word is
-/// supported. The call counts no looks on a `Bytes` of its caller.
+/// supported.
 ///
 /// ```text
 /// with internal `_`, `parse_number::<i8>`: `-1_28` is Ok(-128), `128` is Err(Overflow(2))

@@ -20,7 +20,7 @@ use digit_literals::Integer;
 use std::error::Error;
 use std::fmt;
 
-/// A number.
+/// A number of a form: an integer, with its sign and its magnitude, or a float.
 #[derive(Clone, Copy, Debug, PartialEq)]
 pub enum Number<F> {
     Integer {
@@ -81,7 +81,7 @@ impl<F: Float> Number<F> {
     }
 }
 
-/// Why there is no number. A position counts bytes from the start of the text, from 0.
+/// Why there is no number of a form. A position counts bytes from the start of the text, from 0.
 #[derive(Clone, Copy, Debug, PartialEq, Eq)]
 pub enum NumberError {
     /// No number begins at the start: after its sign, if it has one, this position has neither a
@@ -194,12 +194,12 @@ fn read_rest<F: Float>(
 
 /// The number of a form that begins at `start`, and the position after it. After any sign it is
 /// the form's special value there, if there is one, or a hexadecimal float. Otherwise it is the
-/// longest prefix of the rest of the text that is an integer or a decimal float. Only where more
-/// digits follow a first `0` that may not be there, it is that `0`, although more zeros may be a
-/// number: `001` of Python is `0`, and ends at 1. A point or an exponent that is no part of a
-/// number ends it: `1.` and `1e` of JSON are `1`. A number never begins with a separator: of `0_7`
-/// of Python none begins at 1. Requires that `start` is within the text, and that the form is one
-/// ([`is_form`](crate::is_form)).
+/// longest prefix of the rest of the text that is an integer or a decimal float. A form may forbid
+/// more digits after a first `0`. Where they follow, the number is that `0` alone: of `01` JSON
+/// reads `0`, and ends at 1. Python does so with `001`, although `00` is a number there. A point or
+/// an exponent that is no part of a number ends it: `1.` and `1e` of JSON are `1`. A number never
+/// begins with a separator: of `0_7` of Python none begins at 1. Requires that `start` is within
+/// the text, and that the form is one ([`is_form`](crate::is_form)).
 ///
 /// ```text
 /// of JSON, `-1.5e3,`: Float(-1500.0), 6      `01`: Integer 0, 1      `.5`: Err(Empty(0))

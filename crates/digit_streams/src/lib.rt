@@ -1,4 +1,4 @@
-//! Numbers of a reader.
+//! The numbers of any `Read`, such as a file or a socket.
 #![tactic(auto)]
 
 mod filling;

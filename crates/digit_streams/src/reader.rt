@@ -9,10 +9,18 @@ use digit_pieces::Kind;
 use std::io::Read;
 use std::marker::Model;
 
-/// Reads the numbers of a stream of any length, of one kind, with what a gap says between two of
-/// them. Its bytes come from a reader, through a buffer that is lent. Takes no memory. Give it
-/// `&mut reader` to read on from the reader later: it has given the bytes before the position and
-/// those of [`unread`](NumberReader::unread).
+/// Reads the numbers of any `Read`, such as a file or a socket, through a buffer that you lend:
+/// numbers of one kind, with what a gap says between two of them. Call
+/// [`next_number`](NumberReader::next_number) until it answers `None`; then
+/// [`finish`](NumberReader::finish) says whether anything follows. Takes no memory.
+///
+/// ```text
+/// `1.5\n-2e3\n` by `Floats` and `LINES`: Some(Ok(1.5)), Some(Ok(-2000.0)), None; Ok(())
+/// `1\nx` by `Integers` and `LINES`: Some(Ok(1)), None; Err(Trailing(2))
+/// ```
+///
+/// Give it `&mut reader` to read on from the reader later: it has given the bytes before the
+/// position and those of [`unread`](NumberReader::unread).
 ///
 /// The numbers are those of the whole stream, however the reader cuts it into pieces. The premise
 /// is that no byte that may be between two numbers may be in one.

@@ -8,7 +8,7 @@ use std::error::Error;
 use std::fmt;
 use std::io::ErrorKind;
 
-/// Why there is no number.
+/// Why a `NumberReader` gives no number.
 #[derive(Clone, Copy, Debug, PartialEq, Eq)]
 pub enum StreamError<E> {
     /// There is no number where one has to be. The error's position counts bytes of the stream.
