@@ -10,9 +10,9 @@ use std::fmt;
 /// The first fault of a text that is no number of its type. A position counts bytes from 0.
 #[derive(Clone, Copy, Debug, PartialEq, Eq)]
 pub enum ParseError {
-    /// Where a digit has to be, the text ends, as of the empty text or of a sign alone. The position
-    /// is that end. One that was a [`LiteralError`] may also hold the first kept byte, which is no
-    /// digit.
+    /// Where a digit has to be, the text ends, as of the empty text or of a sign alone. The
+    /// position is that end. One that was a [`LiteralError`] may also hold the first kept byte,
+    /// which is no digit.
     Empty(usize),
     /// The byte at this position is kept, and is no digit.
     Invalid(usize),
