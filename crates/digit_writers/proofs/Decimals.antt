@@ -1,5 +1,5 @@
 -- The decimal digits of a number, as parts that are written one after another.
-use Rattle.std.proofs.Common.{◌≡◌, ℕ, zero, suc, ◌+◌, ◌-◌, ◌*◌, ◌/◌, ◌%◌, ◌^◌, ◌<◌, ◌≤◌, Bool, true, false, ◌&&◌, eqb, List, [], ◌∷◌, ◌++◌, length, take, drop, set, get_or, refl, sym, ap, subst, ◌∙◌, inl, inr, arith, append_assoc, append-nil, length-append}
+use Rattle.std.proofs.Common.{◌≡◌, ℕ, zero, suc, ◌+◌, ◌*◌, ◌/◌, ◌%◌, ◌^◌, ◌<◌, ◌≤◌, Bool, true, false, ◌&&◌, eqb, List, [], ◌∷◌, ◌++◌, length, set, get_or, refl, sym, ap, subst, ◌∙◌, inl, inr, arith, append_assoc, append-nil, length-append}
 use Rattle.std.specs.Prelude.{decimal}
 use Rattle.std.specs.List.{splice}
 use Rattle.std.specs.Fmt.{digit_glyph}
@@ -10,7 +10,7 @@ use Rattle.std.proofs.lemmas.Bool.Decides.{nat_tests}
 use Rattle.std.proofs.lemmas.Fmt.{decimal_digit, decimal_step_wide}
 use Rattle.std.proofs.lemmas.List.{length-set}
 use Rattle.digit_writers.specs.declared.digits.TheConstants.{PAIRS}
-use Rattle.digit_writers.specs.Digits.{last_digits, last_decimals}
+use Rattle.digit_writers.specs.Digits.{last_decimals}
 use Rattle.digit_writers.proofs.LastDigits.{last_push, last_split, last_of_rest, length_last, no_digits}
 use Rattle.digit_writers.proofs.Splices.{both, one_spliced}
 

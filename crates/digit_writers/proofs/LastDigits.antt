@@ -1,8 +1,8 @@
 -- The digits of a number in a radix.
-use Rattle.std.proofs.Common.{◌≡◌, ℕ, zero, suc, ◌+◌, ◌*◌, ◌/◌, ◌%◌, ◌^◌, ◌<◌, ◌≤◌, Bool, List, [], ◌∷◌, ◌++◌, length, refl, sym, ap, ◌∙◌, arith, append_assoc, append-nil, length-append}
+use Rattle.std.proofs.Common.{◌≡◌, ℕ, zero, suc, ◌+◌, ◌*◌, ◌/◌, ◌%◌, ◌^◌, ◌<◌, Bool, List, [], ◌∷◌, ◌++◌, length, refl, sym, ap, ◌∙◌, arith, append_assoc, append-nil}
 use Rattle.std.specs.Fmt.{digit_glyph}
 use Rattle.std.proofs.Math.Nat.{div-div-eq-div-mul, pow-suc, pow-zero, div-one, one-le-pow}
-use Rattle.std.proofs.lemmas.Nat.{div-add-mod', div-mul-add, mod-mul-add, div_below, mod_below}
+use Rattle.std.proofs.lemmas.Nat.{pow-add, div-add-mod', div-mul-add, mod-mul-add, div_below, mod_below}
 use Rattle.std.proofs.lemmas.List.{length_push}
 use Rattle.digit_writers.specs.Digits.{last_digits}
 
@@ -66,3 +66,28 @@ module _ (radix : ℕ) (upper : Bool) where
     where
       power : {r : ℕ} → 0 < r → (k : ℕ) → 0 < r ^ k
       power {r} some k = one-le-pow k r some
+
+  pub last_one : (n : ℕ) → last 1 n ≡ digit_glyph upper (n % radix) ∷ []
+  last_one n =
+      last_push 0 n
+      ∙ ap (λ (ds : List ℕ). ds ++ (digit_glyph upper (n % radix) ∷ [])) (no_digits (n / radix))
+
+  -- the first of them
+  pub last_front : (k n : ℕ)
+      → last (k + 1) n ≡ digit_glyph upper (n / radix ^ k % radix) ∷ last k n
+  last_front k n =
+      let turned : k + 1 ≡ 1 + k = omega arith in
+      ap (λ (c : ℕ). last c n) turned ∙ last_split k 1 n
+      ∙ ap (λ (ds : List ℕ). ds ++ last k n) (last_one (n / radix ^ k))
+
+-- one power more
+pub quotient_more : (n radix k : ℕ) → n / radix ^ k / radix ≡ n / radix ^ (k + 1)
+quotient_more n radix k =
+    let next : radix ^ (k + 1) ≡ radix ^ k * radix =
+    (let one : k + 1 ≡ suc k = omega arith in ap (λ (x : ℕ). radix ^ x) one ∙ pow-suc radix k) in
+    div-div-eq-div-mul n (radix ^ k) radix ∙ ap (λ (x : ℕ). n / x) (sym next)
+
+-- more powers
+pub quotient_both : (n radix j k : ℕ) → n / radix ^ j / radix ^ k ≡ n / radix ^ (j + k)
+quotient_both n radix j k =
+    div-div-eq-div-mul n (radix ^ j) (radix ^ k) ∙ ap (λ (x : ℕ). n / x) (sym (pow-add radix j k))

@@ -3,3 +3,9 @@ pub mod Splices
 pub mod Decimals
 pub mod Rooms
 pub mod Reading
+pub mod Grouped
+pub mod Counting
+pub mod Laying
+pub mod Laid
+pub mod Lone
+pub mod LaidReading

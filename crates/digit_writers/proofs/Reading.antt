@@ -14,7 +14,7 @@ use Rattle.digit_literals.specs.declared.LiteralError.{LiteralError}
 use Rattle.digit_literals.specs.declared.LiteralError.TheVariants as literal
 use Rattle.digit_literals.specs.After.{digits_between}
 use Rattle.digit_literals.specs.Integers.{integer_at}
-use Rattle.digit_literals.specs.Numbers.{number_at, to_end, signed, with_sign, digits_from, is_negative_from, most_from}
+use Rattle.digit_literals.specs.Numbers.{to_end, signed, with_sign, digits_from, is_negative_from, most_from}
 use Rattle.digit_literals.proofs.ForCallers.{all_digits}
 use Rattle.digit_literals.proofs.Texts.{says_some}
 use Rattle.digit_literals.proofs.Written.{number_read, whole_written}
@@ -55,7 +55,7 @@ magnitude_of negative (Ok read) z end e =
     }
 magnitude_of negative (Err error) z end e = cc
 
-abs_of : (negative : Bool) (n : ℕ) → unsigned_abs (signed negative n) ≡ n
+pub abs_of : (negative : Bool) (n : ℕ) → unsigned_abs (signed negative n) ≡ n
 abs_of false n = refl
 abs_of true zero = refl
 abs_of true (suc n) = refl

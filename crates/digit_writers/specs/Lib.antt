@@ -1,2 +1,4 @@
 pub mod Digits
 pub mod Written
+pub mod Valid
+pub mod Layouts

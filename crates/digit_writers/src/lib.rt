@@ -1,10 +1,15 @@
 //! Writes integers.
 #![tactic(auto)]
 
+mod by;
 mod digits;
+mod groups;
+mod layout;
 mod number;
 mod types;
 mod wide;
 
+pub use self::by::{NoRoom, write_number_by};
+pub use self::layout::Layout;
 pub use self::number::write_number;
 pub use self::types::{MOST_ROOM, Written};

@@ -1,4 +1,4 @@
-use Rattle.std.proofs.Common.{◌≡◌, ◌+◌, ◌^◌, ◌<◌, ◌≤◌, ℕ, refl, arith, rules}
+use Rattle.std.proofs.Common.{refl}
 use Rattle.digit_writers.proofs.Decimals.{digit_fits, digit_ends, digit_written, two_fit, two_end, two_all}
 use Rattle.digit_writers.proofs.digits.put_first_two.Goals as goal
 

@@ -1,4 +1,4 @@
-use Rattle.std.proofs.Common.{◌≡◌, ◌+◌, ◌^◌, ◌<◌, ◌≤◌, ℕ, refl, arith, rules}
+use Rattle.std.proofs.Common.{◌+◌, arith}
 use Rattle.digit_writers.proofs.Decimals.{parts_written}
 use Rattle.digit_writers.proofs.digits.put_sixteen.Goals as goal
 

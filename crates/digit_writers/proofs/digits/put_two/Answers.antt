@@ -1,4 +1,4 @@
-use Rattle.std.proofs.Common.{◌≡◌, ◌+◌, ◌^◌, ◌<◌, ◌≤◌, ℕ, refl, arith, rules}
+use Rattle.std.proofs.Common.{rules}
 use Rattle.digit_writers.proofs.Decimals.{two_written}
 use Rattle.digit_writers.proofs.digits.put_two.Goals as goal
 

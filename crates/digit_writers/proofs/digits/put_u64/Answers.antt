@@ -1,4 +1,4 @@
-use Rattle.std.proofs.Common.{◌≡◌, ◌+◌, ◌^◌, ◌<◌, ◌≤◌, ℕ, refl, arith, rules}
+use Rattle.std.proofs.Common.{arith}
 use Rattle.digit_writers.proofs.Decimals.{room_before, number_written}
 use Rattle.digit_writers.proofs.digits.put_u64.Goals as goal
 

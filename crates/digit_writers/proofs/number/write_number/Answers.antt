@@ -1,5 +1,4 @@
-use Rattle.std.proofs.Common.{◌≡◌, ◌+◌, ◌^◌, ◌<◌, ◌≤◌, ℕ, ap, length, refl, arith, rules}
-use Rattle.std.specs.Prelude.{decimal}
+use Rattle.std.proofs.Common.{◌^◌, ◌<◌, arith}
 use Rattle.digit_writers.proofs.Reading.{front_is_read, front_is_shortest}
 use Rattle.digit_writers.proofs.number.write_number.Goals as goal
 

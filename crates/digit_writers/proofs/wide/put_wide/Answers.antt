@@ -1,4 +1,4 @@
-use Rattle.std.proofs.Common.{◌≡◌, ◌+◌, ◌^◌, ◌<◌, ◌≤◌, ℕ, ap, length, refl, arith, rules}
+use Rattle.std.proofs.Common.{ℕ, ap, length, arith}
 use Rattle.std.specs.Prelude.{decimal}
 use Rattle.digit_writers.proofs.Decimals.{room_before, wide_written}
 use Rattle.digit_writers.proofs.wide.put_wide.Goals as goal

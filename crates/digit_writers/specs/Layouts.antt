@@ -1,0 +1,77 @@
+-- The text of a number in a layout, and which words read it.
+use Rattle.std.specs.Prelude.{◌≡◌, ℕ, zero, suc, ℤ, ◌-◌, ◌/◌, ◌%◌, ◌<◌, ◌==◌, ◌&&◌, max, unsigned_abs, nat_lt, if◌then◌else◌, Bool, true, false, List, [], ◌∷◌, ◌++◌, length}
+use Rattle.std.specs.Int.{is_negative}
+use Rattle.std.specs.Int.Digits.{digits_of}
+use Rattle.lexical_format.specs.Word.{separator, bit}
+use Rattle.digit_writers.specs.declared.layout.Layout.{Layout}
+use Rattle.digit_writers.specs.Digits.{last_digits}
+use Rattle.digit_writers.specs.Written.{IsOfRadix}
+
+-- ---- groups of digits
+
+module _ (separator every : ℕ) where
+  -- what stands before the last so many digits, if others are before them
+  abbrev pub before : ℕ → List ℕ
+  before count =
+      if nat_lt 0 count && nat_lt 0 every && (count % every == 0) then separator ∷ [] else []
+
+  -- digits with a separator after every so many of them, counted from the last; 0 means none
+  unfoldable pub grouped : List ℕ → List ℕ
+  grouped [] = []
+  grouped (digit ∷ digits) = digit ∷ (before (length digits) ++ grouped digits)
+
+-- how many separators are between so many digits
+abbrev pub gaps : ℕ → ℕ → ℕ
+gaps zero count = 0
+gaps (suc every) count = (count - 1) / suc every
+
+-- ---- a number
+
+-- how many digits a number has
+abbrev pub digit_count : ℕ → ℕ → ℕ
+digit_count radix n = max 1 (length (digits_of radix n))
+
+-- a minus, or a plus where one is to be written
+abbrev pub sign_of : Bool → Bool → List ℕ
+sign_of plus negative = if negative then 45 ∷ [] else (if plus then 43 ∷ [] else [])
+
+-- its digits, with zeros before them up to the least number of digits
+abbrev pub digits_in : Layout → ℕ → List ℕ
+digits_in layout n =
+    last_digits layout.radix layout.is_upper
+    (max layout.digits (digit_count layout.radix n)) n
+
+abbrev pub laid_out : Layout → ℤ → List ℕ
+laid_out layout z =
+    sign_of layout.has_plus (is_negative z)
+    ++ grouped layout.separator layout.every (digits_in layout (unsigned_abs z))
+
+-- ---- what a layout says
+
+-- the digits of a radix, in lower case, and nothing else
+pub record IsBare (base : ℕ) (layout : Layout) : Type 0 where
+  pub radix : layout.radix ≡ base
+  pub lower : layout.is_upper ≡ false
+  pub ungrouped : layout.every ≡ 0
+  pub no_zeros : layout.digits ≡ 1
+  pub no_plus : layout.has_plus ≡ false
+
+-- a layout with other groups
+pub record IsGrouped (byte size : ℕ) (layout other : Layout) : Type 0 where
+  pub radix : other.radix ≡ layout.radix
+  pub case : other.is_upper ≡ layout.is_upper
+  pub separator : other.separator ≡ byte
+  pub every : other.every ≡ size
+  pub digits : other.digits ≡ layout.digits
+  pub plus : other.has_plus ≡ layout.has_plus
+
+-- ---- which words read it
+
+-- A word reads what a layout writes, for a type whose least number is `- least`: its radix is that
+-- of the layout, and a separator between two digits of the integer is dropped. A plus is read if the
+-- type has a sign.
+pub record IsReadBy (word : ℕ) (layout : Layout) (least : ℕ) : Type 0 where
+  pub radix : IsOfRadix layout.radix word
+  pub separates : 0 < layout.every
+      → (separator word ≡ layout.separator) × (bit word 32 ≡ true)
+  pub signs : layout.has_plus ≡ true → 0 < least
