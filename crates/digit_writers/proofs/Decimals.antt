@@ -186,3 +186,39 @@ two_end n at low high =
 pub two_all : (out new : List ℕ) (at n : ℕ) → 10 ≤ n → n < 100
     → new ≡ splice out at (at + 2) (last_decimals 2 n) → new ≡ splice out at (at + 2) (decimal n)
 two_all out new at n low high is = is ∙ ap (splice out at (at + 2)) (two_digits n low high)
+
+-- ---- three digits
+
+pub three_is : (n : ℕ) → n < 1000
+    → last_decimals 3 n ≡ (48 + n / 100) ∷ last_decimals 2 (n % 100)
+three_is n l =
+    let rest : last_decimals 2 (n % 10 ^ 2) ≡ last_decimals 2 n =
+    last_of_rest 10 false 2 n (omega arith) in
+    let tens : n / 100 % 10 ≡ n / 100 = omega arith in
+    last_split 10 false 2 1 n
+    ∙ ap (λ (ds : List ℕ). ds ++ last_decimals 2 n) (one_is (n / 100))
+    ∙ (λ i. (48 + tens i) ∷ sym rest i)
+
+pub three_digits : (n : ℕ) → 100 ≤ n → n < 1000 → last_decimals 3 n ≡ decimal n
+three_digits n low high =
+    let first : decimal (n / 100) ≡ (48 + n / 100) ∷ [] = decimal_digit (n / 100) (omega arith) in
+    let tens : n / 100 % 10 ≡ n / 100 = omega arith in
+    last_split 10 false 2 1 n
+    ∙ ap (λ (ds : List ℕ). ds ++ last_decimals 2 n) (one_is (n / 100) ∙ (λ i. (48 + tens i) ∷ []))
+    ∙ ap (λ (ds : List ℕ). ds ++ last_decimals 2 n) (sym first)
+    ∙ sym (decimal_parts 2 n low (omega arith))
+
+-- a digit, and two after it
+pub three_written : (out new : List ℕ) (at n byte : ℕ) → n < 1000 → byte ≡ 48 + n / 100
+    → at + 3 ≤ length out
+    → new ≡ splice (set out at byte) (at + 1) (at + 1 + 2) (last_decimals 2 (n % 100))
+    → new ≡ splice out at (at + 3) (last_decimals 3 n)
+three_written out new at n byte l first room second =
+    let next : at + 1 + 2 ≡ at + 3 = omega arith in
+    let low : List ℕ = last_decimals 2 (n % 100) in
+    second
+    ∙ ap (λ (end : ℕ). splice (set out at byte) (at + 1) end low) next
+    ∙ ap (λ (old : List ℕ). splice old (at + 1) (at + 3) low) (one_spliced out at byte (omega (arith, room)))
+    ∙ both out (byte ∷ []) low at (at + 1) (at + 3) (omega arith)
+    (omega (arith, length_last 10 false 2 (n % 100))) room
+    ∙ ap (splice out at (at + 3)) (ap (λ (d : ℕ). d ∷ low) first ∙ sym (three_is n l))

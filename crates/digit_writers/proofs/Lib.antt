@@ -9,3 +9,4 @@ pub mod Laying
 pub mod Laid
 pub mod Lone
 pub mod LaidReading
+pub mod InThousands

@@ -1,10 +1,10 @@
 -- The text of a number in a layout, and which words read it.
-use Rattle.std.specs.Prelude.{◌≡◌, ℕ, zero, suc, ℤ, ◌-◌, ◌/◌, ◌%◌, ◌<◌, ◌==◌, ◌&&◌, max, unsigned_abs, nat_lt, if◌then◌else◌, Bool, true, false, List, [], ◌∷◌, ◌++◌, length}
+use Rattle.std.specs.Prelude.{◌≡◌, ℕ, zero, suc, ℤ, ◌-◌, ◌/◌, ◌%◌, ◌<◌, ◌==◌, ◌&&◌, max, unsigned_abs, nat_lt, if◌then◌else◌, Bool, true, false, List, [], ◌∷◌, ◌++◌, length, decimal}
 use Rattle.std.specs.Int.{is_negative}
 use Rattle.std.specs.Int.Digits.{digits_of}
 use Rattle.lexical_format.specs.Word.{separator, bit}
 use Rattle.digit_writers.specs.declared.layout.Layout.{Layout}
-use Rattle.digit_writers.specs.Digits.{last_digits}
+use Rattle.digit_writers.specs.Digits.{last_digits, last_decimals}
 use Rattle.digit_writers.specs.Written.{IsOfRadix}
 
 -- ---- groups of digits
@@ -24,6 +24,15 @@ module _ (separator every : ℕ) where
 abbrev pub gaps : ℕ → ℕ → ℕ
 gaps zero count = 0
 gaps (suc every) count = (count - 1) / suc every
+
+-- the decimal digits of a number in groups of three
+abbrev pub thousands : ℕ → ℕ → List ℕ
+thousands separator n = grouped separator 3 (decimal n)
+
+-- so many of the last ones, and the separator before them
+abbrev pub thousands_after : ℕ → ℕ → ℕ → List ℕ
+thousands_after separator count n =
+    before separator 3 count ++ grouped separator 3 (last_decimals count n)
 
 -- ---- a number
 

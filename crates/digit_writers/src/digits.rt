@@ -64,7 +64,7 @@ pub(crate) fn put_sixteen(n: u64, out: &mut [u8], at: usize)
 
 /// Writes a number from a position on, and answers where it ends.
 #[inline(always)]
-fn put_first_two(n: u32, out: &mut [u8], at: usize) -> usize
+pub(crate) fn put_first_two(n: u32, out: &mut [u8], at: usize) -> usize
     requires below { n < 100 }
     requires room { at + length (decimal n) ≤ length out.old }
     ensures end { result ≡ at + length (decimal n) }

@@ -6,6 +6,7 @@ mod digits;
 mod groups;
 mod layout;
 mod number;
+mod thousands;
 mod types;
 mod wide;
 
