@@ -1,0 +1,13 @@
+pub mod LastDigits
+pub mod Splices
+pub mod Decimals
+pub mod Rooms
+pub mod Reading
+pub mod Grouped
+pub mod Counting
+pub mod Laying
+pub mod Laid
+pub mod Lone
+pub mod LaidReading
+pub mod InThousands
+pub mod Plainly

@@ -1,0 +1,19 @@
+use Rattle.std.proofs.Common.{◌≡◌, ℕ, ◌+◌, ◌/◌, ◌%◌, ◌^◌, ap, ◌∙◌, arith}
+use Rattle.std.specs.List.{splice}
+use Rattle.digit_writers.specs.Layouts.{thousands_after}
+use Rattle.digit_writers.proofs.InThousands.{tail_length, tails_written}
+use Rattle.digit_writers.proofs.thousands.put_four_groups.Goals as goal
+
+pub returns : goal.returns
+returns c =
+    let n = c.args.n in
+    let at = c.args.at in
+    let separator = c.args.separator in
+    let first = c.put_two_groups in
+    let second = c.put_two_groups-2 in
+    let last : at + 8 + 8 ≡ at + 16 = omega arith in
+    tails_written separator c.args.out.now first.new.out second.new.out at (at + 8) (at + 16) 6 6 n
+    (omega arith) (omega arith) (omega arith)
+    (omega (arith, tail_length separator 6 (n / 10 ^ 6)))
+    (omega (arith, tail_length separator 6 (n % 10 ^ 6))) c.requires.room first.ensures
+    (second.ensures ∙ ap (λ (e : ℕ). splice first.new.out (at + 8) e (thousands_after separator 6 (n % 10 ^ 6))) last)

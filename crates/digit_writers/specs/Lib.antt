@@ -1,0 +1,5 @@
+pub mod Digits
+pub mod Written
+pub mod Valid
+pub mod Layouts
+pub mod Amounts
