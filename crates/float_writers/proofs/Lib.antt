@@ -1,2 +1,6 @@
 pub mod Apart
 pub mod Exponents
+pub mod Fewest
+pub mod Judge
+pub mod Rounding
+pub mod Rows

@@ -1,5 +1,5 @@
 -- The grid of decimals on which a float is written.
-use Rattle.std.specs.Prelude.{◌≡◌, ℕ, ◌+◌, ◌-◌, ◌*◌, ◌/◌, ◌^◌, ◌<◌, ◌≤◌}
+use Rattle.std.specs.Prelude.{◌≡◌, ℕ, ◌+◌, ◌-◌, ◌*◌, ◌/◌, ◌^◌, ◌<◌, ◌≤◌, nat_lt, Bool, true, false, if◌then◌else◌}
 
 -- the power of ten of the grid's steps, plus 324, by the power of two of the float's gap, plus 1074
 abbrev pub power_of : ℕ → ℕ → ℕ
@@ -15,3 +15,17 @@ gap k p = 10 ^ (324 - p) * 2 ^ k
 
 abbrev pub step : ℕ → ℕ
 step p = 10 ^ (p - 324) * 2 ^ 1074
+
+-- t is the 128 leading bits of 10 ^ (324 - p)
+pub record IsRow (p t : ℕ) : Type 0 where
+  pub from : t * (2 ^ scale_of p * 10 ^ (p - 324)) ≤ 10 ^ (324 - p) * 2 ^ 1200
+  pub below : 10 ^ (324 - p) * 2 ^ 1200 < (t + 1) * (2 ^ scale_of p * 10 ^ (p - 324))
+  pub top : 2 ^ 127 ≤ t
+  pub fits : t < 2 ^ 128
+
+-- whether a distance is less than the reach, where two that are less than 2 ^ 54 apart are one number
+abbrev pub within : ℕ → ℕ → Bool → Bool
+within distance reach closed =
+    if nat_lt (distance + 2 ^ 54) reach then true
+    else if nat_lt (reach + 2 ^ 54) distance then false
+    else closed
