@@ -4,3 +4,4 @@ pub mod Fewest
 pub mod Judge
 pub mod Rounding
 pub mod Rows
+pub mod Shortest

@@ -4,6 +4,15 @@
 mod grid;
 mod powers;
 
+/// A decimal number: the digits times ten to the power.
+#[derive(Clone, Copy, Debug, PartialEq, Eq)]
+pub struct Decimal {
+    /// The digits.
+    pub digits: u64,
+    /// The power of ten.
+    pub power: i32,
+}
+
 /// One.
 pub fn one() -> u64 {
     let row = powers::row(3);
