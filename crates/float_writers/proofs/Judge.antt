@@ -5,8 +5,9 @@ use Rattle.std.specs.Prelude.{nat_lt, if◌then◌else◌}
 use Rattle.std.specs.Int.{abs_diff}
 use Rattle.std.proofs.lemmas.Bool.{cases_lt}
 use Rattle.std.proofs.lemmas.Bool.Decides.{nat_tests}
-use native.Mathlib.Nat.{le_of_mul-le-mul_right, mul-lt-mul_of_pos_right}
-use Rattle.float_writers.specs.Grid.{within}
+use native.Mathlib.Nat.{le_of_mul-le-mul_right, lt_of_mul-lt-mul_right, mul-lt-mul_of_pos_right}
+use lib.Pow.{pow-add, pow_pos}
+use Rattle.float_writers.specs.Grid.{within, gap, step, scale_of, IsRow, IsReach, IsPlaced}
 use Rattle.float_writers.proofs.Apart.{AreApart}
 
 -- ---- a product by halves
@@ -91,27 +92,64 @@ module _ (distance reach D R s : ℕ) (S : 0 < s) (is : IsKnown distance reach D
 
 -- ---- a float of m gaps g on a grid of steps s, by the product of m and the gap in steps
 
-module _ (m g s t f whole rest : ℕ) (S : 0 < s) (few : m < 2 ^ 53) (shift : f ≤ 16)
-    (from : t * f * s ≤ g * 2 ^ 128) (below : g * 2 ^ 128 < (t + 1) * f * s)
-    (product : whole * 2 ^ 128 + rest ≡ m * f * t) (rest_few : rest < 2 ^ 128)
-    (apart : (n i : ℕ) → n ≤ 2 ^ 55 + 2 → AreApart g (2 * s) n i) where
-  place_low : (whole * 2 ^ 128 + rest) * s ≤ m * g * 2 ^ 128
-  place_low =
+module _ (m g s t f : ℕ) (S : 0 < s) (few : m < 2 ^ 53) (shift : f ≤ 16)
+    (from : t * f * s ≤ g * 2 ^ 128) (below : g * 2 ^ 128 < (t + 1) * f * s) where
+  pub placed : (whole rest : ℕ) → whole * 2 ^ 128 + rest ≡ m * f * t → rest < 2 ^ 128 → IsPlaced m g s whole rest
+  placed whole rest product rest_few =
       let a : m * f * t * s ≡ m * (t * f * s) = grind arith in
       let b : m * (g * 2 ^ 128) ≡ m * g * 2 ^ 128 = grind arith in
       let c : m * (t * f * s) ≤ m * (g * 2 ^ 128) = mul-le-mul_left m from in
       let d : (whole * 2 ^ 128 + rest) * s ≡ m * f * t * s = ap (λ z. z * s) product in
-      omega (arith, a, b, c, d)
-
-  place_high : m * g * 2 ^ 128 ≤ (whole * 2 ^ 128 + rest) * s + 2 ^ 57 * s
-  place_high =
-      let a : m * ((t + 1) * f * s) ≡ m * f * t * s + m * f * s = grind arith in
-      let b : m * (g * 2 ^ 128) ≡ m * g * 2 ^ 128 = grind arith in
-      let c : m * (g * 2 ^ 128) ≤ m * ((t + 1) * f * s) = mul-le-mul_left m (omega (arith, below)) in
-      let d : (whole * 2 ^ 128 + rest) * s ≡ m * f * t * s = ap (λ z. z * s) product in
+      let a_ : m * ((t + 1) * f * s) ≡ m * f * t * s + m * f * s = grind arith in
+      let c_ : m * (g * 2 ^ 128) ≤ m * ((t + 1) * f * s) = mul-le-mul_left m (omega (arith, below)) in
       let e : m * f ≤ m * 16 = mul-le-mul_left m shift in
       let h : m * f * s ≤ 2 ^ 57 * s = mul-le-mul_right s (omega (arith, e, few)) in
-      omega (arith, a, b, c, d, h)
+      record {
+        low = omega (arith, a, b, c, d);
+        high = omega (arith, a_, b, c_, d, h);
+        few = rest_few;
+      }
+
+  pub half_reach : (half u : ℕ) → u * f ≡ 32 → half * u ≤ t → t < (half + 1) * u → IsReach 2 g s half
+  half_reach half u is down up =
+      let a : half * u * f * s ≡ half * s * (u * f) = grind arith in
+      let b : half * s * (u * f) ≡ half * s * 32 = ap (λ z. half * s * z) is in
+      let c : half * u * f * s ≤ t * f * s = mul-le-mul_right s (mul-le-mul_right f down) in
+      let d : (t + 1) * f * s ≤ (half + 1) * u * f * s = mul-le-mul_right s (mul-le-mul_right f (omega (arith, up))) in
+      let e : (half + 1) * u * f * s ≡ (half + 1) * s * (u * f) = grind arith in
+      let h : (half + 1) * s * (u * f) ≡ (half + 1) * s * 32 = ap (λ z. (half + 1) * s * z) is in
+      let i : (half + 1) * s ≡ half * s + s = grind arith in
+      let j : half * (4 * s) ≡ 4 * (half * s) = grind arith in
+      let k : (half + 2) * (4 * s) ≡ 4 * (half * s) + 8 * s = grind arith in
+      record {
+        low = omega (arith, a, b, c, from, j);
+        high = omega (arith, d, e, h, i, k, below);
+      }
+
+pub quarter_reach : (g s half quarter : ℕ) → IsReach 2 g s half → 2 * quarter ≤ half → half ≤ 2 * quarter + 1 → IsReach 1 g s quarter
+quarter_reach g s half quarter is down up =
+    let a : 2 * quarter * (4 * s) ≤ half * (4 * s) = mul-le-mul_right (4 * s) down in
+    let b : (half + 1) * (4 * s) ≤ (2 * quarter + 2) * (4 * s) = mul-le-mul_right (4 * s) (omega (arith, up)) in
+    let c : 2 * quarter * (4 * s) ≡ 2 * (quarter * (4 * s)) = grind arith in
+    let d : (half + 1) * (4 * s) ≡ half * (4 * s) + 4 * s = grind arith in
+    let e : (half + 2) * (4 * s) ≡ half * (4 * s) + 8 * s = grind arith in
+    let h : (2 * quarter + 2) * (4 * s) ≡ 2 * (quarter * (4 * s)) + 8 * s = grind arith in
+    let i : (quarter + 2) * (4 * s) ≡ quarter * (4 * s) + 8 * s = grind arith in
+    record {
+      low = omega (arith, a, c, is.low);
+      high = omega (arith, b, d, e, h, i, is.high);
+    }
+
+module _ (m g s whole rest : ℕ) (S : 0 < s) (few : m < 2 ^ 53) (is_placed : IsPlaced m g s whole rest)
+    (apart : (n i : ℕ) → n ≤ 2 ^ 55 + 2 → AreApart g (2 * s) n i) where
+  abbrev place_low : (whole * 2 ^ 128 + rest) * s ≤ m * g * 2 ^ 128
+  place_low = is_placed.low
+
+  abbrev place_high : m * g * 2 ^ 128 ≤ (whole * 2 ^ 128 + rest) * s + 2 ^ 57 * s
+  place_high = is_placed.high
+
+  abbrev rest_few : rest < 2 ^ 128
+  rest_few = is_placed.few
 
   flat : (whole * 2 ^ 128 + rest) * s ≡ whole * s * 2 ^ 128 + rest * s
   flat = grind arith
@@ -137,42 +175,6 @@ module _ (m g s t f whole rest : ℕ) (S : 0 < s) (few : m < 2 ^ 53) (shift : f 
           | inr far ↦ absurd (omega (arith, far, a, b, over, place_high, flat, rest_below, next, S))
         ]
   ]
-
-  -- ---- a reach of c quarters of the gap
-
-  pub record IsReach (c reach : ℕ) : Type 0 where
-    pub low : reach * (4 * s) ≤ c * g * 2 ^ 124
-    pub high : c * g * 2 ^ 124 ≤ (reach + 2) * (4 * s)
-
-  pub half_reach : (half u : ℕ) → u * f ≡ 32 → half * u ≤ t → t < (half + 1) * u → IsReach 2 half
-  half_reach half u is down up =
-      let a : half * u * f * s ≡ half * s * (u * f) = grind arith in
-      let b : half * s * (u * f) ≡ half * s * 32 = ap (λ z. half * s * z) is in
-      let c : half * u * f * s ≤ t * f * s = mul-le-mul_right s (mul-le-mul_right f down) in
-      let d : (t + 1) * f * s ≤ (half + 1) * u * f * s = mul-le-mul_right s (mul-le-mul_right f (omega (arith, up))) in
-      let e : (half + 1) * u * f * s ≡ (half + 1) * s * (u * f) = grind arith in
-      let h : (half + 1) * s * (u * f) ≡ (half + 1) * s * 32 = ap (λ z. (half + 1) * s * z) is in
-      let i : (half + 1) * s ≡ half * s + s = grind arith in
-      let j : half * (4 * s) ≡ 4 * (half * s) = grind arith in
-      let k : (half + 2) * (4 * s) ≡ 4 * (half * s) + 8 * s = grind arith in
-      record {
-        low = omega (arith, a, b, c, from, j);
-        high = omega (arith, d, e, h, i, k, below);
-      }
-
-  pub quarter_reach : (half quarter : ℕ) → IsReach 2 half → 2 * quarter ≤ half → half ≤ 2 * quarter + 1 → IsReach 1 quarter
-  quarter_reach half quarter is down up =
-      let a : 2 * quarter * (4 * s) ≤ half * (4 * s) = mul-le-mul_right (4 * s) down in
-      let b : (half + 1) * (4 * s) ≤ (2 * quarter + 2) * (4 * s) = mul-le-mul_right (4 * s) (omega (arith, up)) in
-      let c : 2 * quarter * (4 * s) ≡ 2 * (quarter * (4 * s)) = grind arith in
-      let d : (half + 1) * (4 * s) ≡ half * (4 * s) + 4 * s = grind arith in
-      let e : (half + 2) * (4 * s) ≡ half * (4 * s) + 8 * s = grind arith in
-      let h : (2 * quarter + 2) * (4 * s) ≡ 2 * (quarter * (4 * s)) + 8 * s = grind arith in
-      let i : (quarter + 2) * (4 * s) ≡ quarter * (4 * s) + 8 * s = grind arith in
-      record {
-        low = omega (arith, a, c, is.low);
-        high = omega (arith, b, d, e, h, i, is.high);
-      }
 
   -- ---- the distance to a step at or below the float, and to one above it
 
@@ -216,7 +218,7 @@ module _ (m g s t f whole rest : ℕ) (S : 0 < s) (few : m < 2 ^ 53) (shift : f 
         omega (arith, place_high, flat, split, in_steps, sixteenth_, a, at_most)
 
     -- against a reach of the gap
-    pub known_gap : (c reach : ℕ) → 0 < m → c ≤ 2 → IsReach c reach → IsKnown distance reach D (c * g) s
+    pub known_gap : (c reach : ℕ) → 0 < m → c ≤ 2 → IsReach c g s reach → IsKnown distance reach D (c * g) s
     known_gap c reach M few_ reaches = record {
       distance_low = omega (arith, down_low);
       distance_high = down_high;
@@ -251,7 +253,7 @@ module _ (m g s t f whole rest : ℕ) (S : 0 < s) (few : m < 2 ^ 53) (shift : f 
 
     -- so many steps above, if that is above the float
     pub known_above : (count up reach : ℕ) → whole < base + count → up + distance ≡ count * 2 ^ 124
-        → IsReach 2 reach → IsKnown up reach (4 * ((base + count) * s - m * g)) (2 * g) s
+        → IsReach 2 g s reach → IsKnown up reach (4 * ((base + count) * s - m * g)) (2 * g) s
     known_above count up reach above_it sum reaches =
         let past : (whole + 1) * s ≤ (base + count) * s = mul-le-mul_right s (omega (arith, above_it)) in
         let parts : (base + count) * s ≡ base * s + count * s = grind arith in
@@ -272,3 +274,38 @@ module _ (m g s t f whole rest : ℕ) (S : 0 < s) (few : m < 2 ^ 53) (shift : f 
             | inr far ↦ inr (omega (arith, far, four, steps, past, most))
           ];
         }
+
+-- ---- the row of a power of ten, and the gap in steps
+
+turned : (t a tens n pow s y z u : ℕ) → 0 < u → a * pow ≡ s * (y * u) → t * (a * tens) ≤ n * (z * u)
+    → t * s * (tens * y) ≤ n * pow * z
+turned t a tens n pow s y z u U same h =
+    let l : t * s * (tens * y) * u ≡ t * tens * (s * (y * u)) = grind arith in
+    let m : t * tens * (a * pow) ≡ t * (a * tens) * pow = grind arith in
+    let r : n * (z * u) * pow ≡ n * pow * z * u = grind arith in
+    let e : t * tens * (a * pow) ≡ t * tens * (s * (y * u)) = ap (λ q. t * tens * q) same in
+    le_of_mul-le-mul_right {k = u} (omega (arith, l, m, r, e, mul-le-mul_right pow h)) U
+
+turned_lt : (t a tens n pow s y z u : ℕ) → 0 < pow → a * pow ≡ s * (y * u) → n * (z * u) < t * (a * tens)
+    → n * pow * z < t * s * (tens * y)
+turned_lt t a tens n pow s y z u P same h =
+    let l : t * s * (tens * y) * u ≡ t * tens * (s * (y * u)) = grind arith in
+    let m : t * tens * (a * pow) ≡ t * (a * tens) * pow = grind arith in
+    let r : n * (z * u) * pow ≡ n * pow * z * u = grind arith in
+    let e : t * tens * (a * pow) ≡ t * tens * (s * (y * u)) = ap (λ q. t * tens * q) same in
+    let g : n * (z * u) * pow < t * (a * tens) * pow = mul-lt-mul_of_pos_right h P in
+    lt_of_mul-lt-mul_right u (omega (arith, l, m, r, e, g))
+
+module _ (k p t shift : ℕ) (row : IsRow p t) (sum : shift + 2146 ≡ k + scale_of p) where
+  powers : 2 ^ scale_of p * 2 ^ k ≡ 2 ^ shift * (2 ^ 1074 * 2 ^ 1072)
+  powers =
+      sym (pow-add 2 (scale_of p) k) ∙ ap (λ z. 2 ^ z) {x = scale_of p + k} {y = shift + 2146} (omega (arith, sum))
+      ∙ pow-add 2 shift 2146
+
+  pub row_from : t * 2 ^ shift * step p ≤ gap k p * 2 ^ 128
+  row_from =
+      turned t (2 ^ scale_of p) (10 ^ (p - 324)) (10 ^ (324 - p)) (2 ^ k) (2 ^ shift) (2 ^ 1074) (2 ^ 128) (2 ^ 1072) (pow_pos 1072) powers row.from
+
+  pub row_below : gap k p * 2 ^ 128 < (t + 1) * 2 ^ shift * step p
+  row_below =
+      turned_lt (t + 1) (2 ^ scale_of p) (10 ^ (p - 324)) (10 ^ (324 - p)) (2 ^ k) (2 ^ shift) (2 ^ 1074) (2 ^ 128) (2 ^ 1072) (pow_pos k) powers row.below

@@ -2,7 +2,7 @@
 use Rattle.std.proofs.Common.{◌≡◌, ℕ, zero, suc, ◌+◌, ◌-◌, ◌*◌, ◌/◌, ◌%◌, ◌^◌, ◌<◌, ◌≤◌, Bool, true, false, refl, sym, ap, subst, ◌∙◌, ◌⊎◌, inl, inr, arith, mul-le-mul_right, mul-le-mul_left, le_trans}
 use Rattle.std.specs.Int.{abs_diff}
 use Rattle.std.proofs.lemmas.Bool.{cases_lt}
-use native.Mathlib.Nat.{mul-pos, mul_assoc, eq-zero-or-pos, eq_of_mul-eq-mul_right, le_of_mul-le-mul_right, lt_of_mul-lt-mul_right, mul-lt-mul_of_pos_right, mul-one, pow-suc, le-mul_of_pos_right}
+use native.Mathlib.Nat.{mul-pos, mul_assoc, eq-zero-or-pos, eq_of_mul-eq-mul_right, le_of_mul-le-mul_right, lt_of_mul-lt-mul_right, mul-lt-mul_of_pos_right, mul-one, pow-suc, le-mul_of_pos_right, zero-mul}
 use lib.Pow.{pow-add, pow_pos}
 use lib.Ieee.{Float, Format, prec, low, units, round}
 use lib.Ieee.Exact.{HasValue, units_val}
@@ -292,10 +292,15 @@ module _ (f : Format) (kf shift k m c : ℕ) (at : kf + shift ≡ k) (scale : lo
       least_here : 10 ^ (up + w) * 2 ^ 1074 ≤ m * (10 ^ j * 2 ^ k)
       least_here = rw (step_here, center_here) (mul-le-mul_right (10 ^ w) least)
 
+    above_zero : (t y : ℕ) → IsInside c m g (t * y) → 0 < t
+    above_zero zero y is = absurd (none_inside c m g some some_gap small (subst (λ z. IsInside c m g z) (zero-mul y) is))
+    above_zero (suc t) y is = omega arith
+
     -- ---- a multiple of ten steps
 
     pub shortest_of_tens : (t : ℕ) → IsInside c m g (t * (10 * s)) → IsShortestAt f x t (p + 1)
     shortest_of_tens t is = record {
+      some = above_zero t (10 * s) is;
       reads = at_scale t (suc up) down (p + 1 - 324) (324 - (p + 1)) (omega arith) here_at;
       none_shorter = λ d z e up_ w n same odd r less.
           fewest_of_one (here w) (convex w) (none w) (suc (up + w)) d z e (up_ + down) n (one w)
@@ -323,6 +328,7 @@ module _ (f : Format) (kf shift k m c : ℕ) (at : kf + shift ≡ k) (scale : lo
     pub shortest_of_step : (t : ℕ) → IsInside c m g (t * s) → ((i : ℕ) → IsInside c m g (i * (10 * s)) → ⊥)
         → ((i : ℕ) → IsInside c m g (i * s) → IsBest (m * g) (t * s) t (i * s) i) → IsShortestAt f x t p
     shortest_of_step t is empty near = record {
+      some = above_zero t s is;
       reads = here_at;
       none_shorter = λ d z e up_ w n same odd r less.
           let all = fewest_of_none (here w) (convex w) (none w) (up + w) t e (up_ + down) n

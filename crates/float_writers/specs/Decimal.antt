@@ -47,6 +47,7 @@ HasAsFewDigits other d = (n : ℕ) → d.digits < 10 ^ n → other.digits < 10 ^
 -- digits * 10 ^ (p - 324) reads as x. Without the zeros at their end they are no more digits than any
 -- that do, and of those with as many none is nearer, nor as near but for others if the last is even.
 pub record IsShortestAt (f : Format) (x : Float) (digits p : ℕ) : Type 0 where
+  pub some : 0 < digits
   pub reads : ReadsAt f x digits (p - 324) (324 - p)
   pub none_shorter : (c z e up down n : ℕ) → digits ≡ c * 10 ^ z → (c % 10 ≡ 0 → ⊥)
       → ReadsAt f x e up down → e < 10 ^ n → c < 10 ^ n

@@ -29,3 +29,24 @@ within distance reach closed =
     if nat_lt (distance + 2 ^ 54) reach then true
     else if nat_lt (reach + 2 ^ 54) distance then false
     else closed
+
+-- ---- a float of m gaps 2 ^ k, of which the numbers read that are so many quarters of a gap below: two,
+-- and one at a power of two
+
+abbrev pub quarters : Bool → ℕ
+quarters edge = if edge then 1 else 2
+
+-- where power_of begins, so that at a power of two a step is at most three quarters of a gap
+abbrev pub offset : Bool → ℕ
+offset edge = if edge then 596500 else 727500
+
+-- reach / 2 ^ 124 steps are c quarters of a gap
+pub record IsReach (c g s reach : ℕ) : Type 0 where
+  pub low : reach * (4 * s) ≤ c * g * 2 ^ 124
+  pub high : c * g * 2 ^ 124 ≤ (reach + 2) * (4 * s)
+
+-- the float is so many whole steps of the grid, and the rest in 2 ^ 128ths, and less than 2 ^ 57 of them
+pub record IsPlaced (m g s whole rest : ℕ) : Type 0 where
+  pub low : (whole * 2 ^ 128 + rest) * s ≤ m * g * 2 ^ 128
+  pub high : m * g * 2 ^ 128 ≤ (whole * 2 ^ 128 + rest) * s + 2 ^ 57 * s
+  pub few : rest < 2 ^ 128

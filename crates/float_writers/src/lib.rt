@@ -2,6 +2,7 @@
 #![tactic(auto)]
 
 mod grid;
+mod parts;
 mod powers;
 
 /// A decimal number: the digits times ten to the power.
@@ -13,9 +14,3 @@ pub struct Decimal {
     pub power: i32,
 }
 
-/// One.
-pub fn one() -> u64 {
-    let row = powers::row(3);
-    let (a, b) = grid::product(3, row);
-    if grid::is_within(b >> 4, 3, true) { a } else { powers::scale(4) }
-}
