@@ -23,7 +23,7 @@ mod Rows
 pub mod Signs
 mod Squeeze
 mod Tens
-mod Units
+pub mod Units
 pub mod WhatFollows
 mod WholePart
 mod Within

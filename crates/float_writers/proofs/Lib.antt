@@ -1,0 +1,9 @@
+pub mod Apart
+pub mod Choice
+pub mod Exponents
+pub mod Fewest
+pub mod Judge
+pub mod Place
+pub mod Rounding
+pub mod Rows
+pub mod Shortest
