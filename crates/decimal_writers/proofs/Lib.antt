@@ -5,3 +5,5 @@ pub mod Powers
 pub mod Texts
 pub mod Values
 pub mod Reading
+pub mod Bigs
+pub mod Rounding

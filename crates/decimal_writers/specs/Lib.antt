@@ -1,3 +1,4 @@
 pub mod Room
 pub mod Text
 pub mod Value
+pub mod Big

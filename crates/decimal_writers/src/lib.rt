@@ -18,6 +18,7 @@
 //! ([`NoRoom`]).
 #![tactic(auto)]
 
+mod big;
 mod digits;
 mod exponent;
 mod point;
@@ -26,3 +27,4 @@ mod write;
 
 pub use self::room::NoRoom;
 pub use self::write::{write_exponent, write_plain, write_usual};
+pub use self::big::{times, put_carry, multiply, scale, digit_at, put_big, are_zeros, rounds_up, add_one};
