@@ -7,3 +7,5 @@ pub mod Values
 pub mod Reading
 pub mod Bigs
 pub mod Rounding
+pub mod FloatBits
+pub mod ExactDigits

@@ -2,3 +2,4 @@ pub mod Room
 pub mod Text
 pub mod Value
 pub mod Big
+pub mod Fixed

@@ -20,6 +20,7 @@
 
 mod big;
 mod digits;
+mod exact;
 mod exponent;
 mod point;
 mod room;
@@ -28,3 +29,4 @@ mod write;
 pub use self::room::NoRoom;
 pub use self::write::{write_exponent, write_plain, write_usual};
 pub use self::big::{times, put_carry, multiply, scale, digit_at, put_big, are_zeros, rounds_up, add_one};
+pub use self::exact::binary_of;
