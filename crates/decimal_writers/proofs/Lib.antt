@@ -1,0 +1,11 @@
+pub mod Numerals
+pub mod Points
+pub mod Exponents
+pub mod Powers
+pub mod Texts
+pub mod Values
+pub mod Reading
+pub mod Bigs
+pub mod Rounding
+pub mod FloatBits
+pub mod ExactDigits

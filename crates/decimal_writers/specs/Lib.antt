@@ -1,0 +1,5 @@
+pub mod Room
+pub mod Text
+pub mod Value
+pub mod Big
+pub mod Fixed

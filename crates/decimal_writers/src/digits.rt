@@ -1,0 +1,54 @@
+//! The decimal digits of a `u64`, written from the last on.
+
+ghost use Rattle.std.specs.Prelude.{◌≡◌, ◌+◌, ◌-◌, ◌/◌, ◌^◌, ◌≤◌, ◌++◌, length, drop};
+ghost use Rattle.decimal_writers.specs.Text.{number_text, last_digits};
+
+/// How many decimal digits a number has.
+#[tactic(auto, using(crate::proofs::Numerals::counts))]
+pub fn count_digits(n: u64) -> usize
+    ensures is { result ≡ length (number_text n) }
+    ensures few { result ≤ 20 }
+    ensures some { 1 ≤ result }
+{
+    let mut count = 1;
+    let mut left = n;
+    while left >= 10 {
+        left /= 10;
+        count += 1;
+    }
+    count
+}
+
+/// Writes the last `count` digits of a number before `end`, with zeros where it has fewer, and
+/// answers the number without them.
+#[inline(always)]
+#[tactic(auto, using(crate::proofs::Numerals::puts))]
+pub fn put_digits(n: u64, count: usize, out: &mut [u8], end: usize) -> u64
+    requires room { count ≤ end }
+    requires within { end ≤ length out.old }
+    ensures left { result ≡ n / 10 ^ count }
+    ensures written { drop (end - count) out.new ≡ last_digits count n ++ drop end out.old }
+{
+    let mut left = n;
+    let mut at = end;
+    while at > end - count {
+        at -= 1;
+        out[at] = b'0' + (left % 10) as u8;
+        left /= 10;
+    }
+    left
+}
+
+/// Writes all digits of a number before `end`, and answers where they begin.
+#[inline(always)]
+#[tactic(auto, using(crate::proofs::Numerals::put_all))]
+pub fn put_number(n: u64, out: &mut [u8], end: usize) -> usize
+    requires room { length (number_text n) ≤ end }
+    requires within { end ≤ length out.old }
+    ensures start { result + length (number_text n) ≡ end }
+    ensures written { drop result out.new ≡ number_text n ++ drop end out.old }
+{
+    let count = count_digits(n);
+    put_digits(n, count, out, end);
+    end - count
+}
