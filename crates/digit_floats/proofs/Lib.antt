@@ -8,7 +8,6 @@ pub mod Decimals
 mod Faults
 mod First
 mod Firsts
-mod Fronts
 mod HexDigits
 mod Huge
 mod Kept

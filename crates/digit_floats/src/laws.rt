@@ -16,8 +16,6 @@ ghost use Rattle.digit_floats.specs.Follows.{IsSameFloatUpTo};
 ghost use Rattle.digit_floats.specs.Scaled.{read_scaled_at};
 ghost use Rattle.digit_floats.specs.Separators.{HasNoSeparator};
 
-pub mod lists;
-
 /// On a text without separators, all of which is a float, std's `parse` answers the same float.
 #[tactic(auto, using(crate::proofs::AsStd::as_parsed))]
 pub fn std_reads_the_same(text: &[u8], word: u128)

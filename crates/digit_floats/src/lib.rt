@@ -26,7 +26,7 @@ pub use self::decimal::{Decimal, decimal_of, read_decimal_from};
 pub use self::error::FloatError;
 pub use self::float::Float;
 pub use self::hexadecimal::{HexMantissa, read_hex_float_from, read_hex_mantissa, round_hex};
-pub use self::list::read_float_list;
+pub use self::list::{Floats, read_float_list};
 pub use self::parts::{
     Mantissa, Marks, Power, has_mark, read_exponent, read_mantissa, read_short_exponent,
     read_short_exponent_here, read_short_fraction, read_short_whole,

@@ -1,6 +1,6 @@
-//! Lists of floats, which are read into a slice.
+//! Floats as a list has them, and lists of them, which are read into a slice.
 
-ghost use Rattle.std.specs.Prelude.{◌≤◌, length, take, IsTrue};
+ghost use Rattle.std.specs.Prelude.{◌≡◌, ◌≤◌, length, take, IsTrue};
 ghost use Rattle.std.specs.Float.{NotNan};
 ghost use Rattle.std.specs.List.{All};
 ghost use Rattle.lexical_format.specs.Word.{is_supported};
@@ -11,7 +11,62 @@ ghost use Rattle.digit_floats.specs.Float.{IsDecimal, plain_marks, read_at};
 use super::error::FloatError;
 use super::float::Float;
 use super::read::read_float_from;
-use digit_literals::{Gap, ListEnd, ListRead};
+use digit_literals::{Gap, ListRead, ReadsOne, read_list_with};
+use std::marker::PhantomData;
+
+/// The floats of a type by a format word, as [`read_float_from`](crate::read_float_from) reads
+/// them: with the point `.` and the mark `e` or `E`.
+#[derive(Clone, Copy)]
+pub struct Floats<F: Float> {
+    /// The format word.
+    pub word: u128,
+    of: PhantomData<F>,
+}
+
+impl<F: Float> Floats<F> {
+    /// The floats of a type by a word.
+    #[inline(always)]
+    pub const fn new(word: u128) -> Floats<F>
+        ensures { result.word ≡ word }
+    {
+        Floats {
+            word,
+            of: PhantomData,
+        }
+    }
+}
+
+impl<F: Float> ReadsOne for Floats<F> {
+    ghost use Rattle.std.specs.Prelude.{IsTrue};
+    ghost use Rattle.std.specs.Float as Ieee;
+    ghost use Rattle.lexical_format.specs.Word.{is_supported};
+    ghost use Rattle.digit_floats.specs.Errors.{none_at as float_none_at};
+    ghost use Rattle.digit_floats.specs.Float.{IsDecimal, plain_marks, read_at};
+
+    type Number = F;
+
+    type Error = FloatError;
+
+    ghost Meaning = { Ieee.Float };
+
+    ghost meaning = { F.value };
+
+    ghost valid = { λ k. IsTrue (is_supported k.word) × IsDecimal k.word };
+
+    ghost number_at = { λ k text start. read_at k.word text plain_marks F.format start };
+
+    ghost none_at = { float_none_at };
+
+    #[inline(always)]
+    fn read_number(self, text: &[u8], start: usize) -> Result<(F, usize), FloatError> {
+        read_float_from::<F>(text, self.word, start)
+    }
+
+    #[inline(always)]
+    fn is_none_at(error: FloatError, place: usize) -> bool {
+        error.is_none_at(place)
+    }
+}
 
 /// The floats from `start` on, read into a slice: each as by [`read_float_from`], with what `gap`
 /// says between two of them. It is [`read_list`](digit_literals::read_list) of floats, and ends as
@@ -23,7 +78,6 @@ use digit_literals::{Gap, ListEnd, ListRead};
 /// `48.2 16.37\n` with WHITESPACE, into 3 places: count 2, Over(11)
 /// ```
 #[inline(always)]
-#[tactic(auto, using(digit_literals::proofs::Lists::turns))]
 pub fn read_float_list<F: Float>(
     text: &[u8],
     start: usize,
@@ -42,29 +96,5 @@ pub fn read_float_list<F: Float>(
     ensures full { IfFull result.end (λ at. (start ≤ at) × (at ≤ length text.now)) }
     ensures over { IfOver result.end (λ at. (start ≤ at) × (at ≤ length text.now)) }
 {
-    let mut at = start;
-    for count in 0..out.len() {
-        let place = gap.past_blanks(text, at);
-        let (x, end) = match read_float_from::<F>(text, word, place) {
-            Ok(read) => read,
-            Err(error) => {
-                let end = gap.no_number(place, error.is_none_at(place), error);
-                return ListRead { count, end };
-            }
-        };
-        out[count] = x;
-        match gap.next_after(text, end) {
-            Ok(next) => at = next,
-            Err(over) => {
-                return ListRead {
-                    count: count + 1,
-                    end: ListEnd::Over(over),
-                };
-            }
-        }
-    }
-    ListRead {
-        count: out.len(),
-        end: ListEnd::Full(at),
-    }
+    read_list_with(Floats::<F>::new(word), text, start, gap, out)
 }

@@ -30,6 +30,7 @@ pub mod Passing
 pub mod EachByte
 pub mod PassedAll
 pub mod ListEnds
+pub mod EachRead
 pub mod Lists
 pub mod ByEnds
 pub mod Counts

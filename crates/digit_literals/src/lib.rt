@@ -28,6 +28,7 @@ mod integer;
 pub mod laws;
 mod list;
 mod number;
+mod one;
 mod parse;
 mod reading;
 mod slice;
@@ -47,8 +48,10 @@ pub use self::first::{
 pub use self::integer::{count_digits, read_integer, read_integer_from, stop_from};
 pub use self::list::{
     COMMAS, COMMAS_IN_LINE, Gap, LINES, ListEnd, ListRead, SPACES_IN_LINE, WHITESPACE, read_list,
+    read_list_with,
 };
 pub use self::number::{parse_number, parse_number_from, read_number, read_number_from};
+pub use self::one::{Integers, ReadsOne};
 pub use self::parse::ParseError;
 pub use self::reading::{Digits, TooLarge, read_digits, read_digits_after, take_digits};
 pub use self::types::Integer;

@@ -1,13 +1,4 @@
-use Rattle.lexical_digits.specs.declared.skip.component.Component.TheVariants.{Integer}
-use Rattle.lexical_digits.specs.State.{rule_of}
-use Rattle.digit_literals.specs.Errors.{literal_none_at}
-use Rattle.digit_literals.specs.Numbers.{number_at}
-use Rattle.digit_literals.proofs.ListEnds.{end_says}
 use Rattle.digit_literals.proofs.laws.lists.list_ends_say.Goals as goal
 
 pub returns : goal.returns
-returns g c =
-    let t = g.T.Integer in
-    end_says {V = g.row.T.Denot} t.number
-    (number_at t.MIN_MAGNITUDE t.MAX (rule_of c.args.word Integer) c.args.text.now)
-    literal_none_at c.args.gap c.args.text.now
+returns g c = rw c.new.ensures at c.any_list_ends_say.ensures
