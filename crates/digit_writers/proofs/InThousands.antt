@@ -1,13 +1,13 @@
 -- Decimal digits in groups of three, as parts that are written one after another.
-use Rattle.std.proofs.Common.{◌≡◌, ℕ, zero, suc, ◌+◌, ◌-◌, ◌*◌, ◌/◌, ◌%◌, ◌^◌, ◌<◌, ◌≤◌, Bool, true, false, List, [], ◌∷◌, ◌++◌, length, take, drop, set, refl, sym, ap, subst, ◌∙◌, inl, inr, arith, append_assoc, append-nil, length-append}
-use Rattle.std.specs.Prelude.{decimal, if◌then◌else◌, nat_lt, ◌&&◌, ◌==◌}
+use Rattle.std.proofs.Common.{◌≡◌, ℕ, ◌+◌, ◌/◌, ◌%◌, ◌^◌, ◌<◌, ◌≤◌, false, List, [], ◌∷◌, ◌++◌, length, set, sym, ap, ◌∙◌, arith, append_assoc, append-nil, length-append}
+use Rattle.std.specs.Prelude.{decimal}
 use Rattle.std.specs.List.{splice}
 use Rattle.std.proofs.Math.Nat.{div-le_self}
 use Rattle.std.proofs.lemmas.Bool.Decides.{nat_tests}
 use Rattle.std.proofs.lemmas.Fmt.{decimal_is_IsNumeral_wide, length-decimal-le_wide}
-use Rattle.digit_writers.specs.Digits.{last_digits, last_decimals}
+use Rattle.digit_writers.specs.Digits.{last_decimals}
 use Rattle.digit_writers.specs.Layouts.{grouped, before, gaps, thousands, thousands_after}
-use Rattle.digit_writers.proofs.Decimals.{decimal_parts, three_is, three_digits, three_written}
+use Rattle.digit_writers.proofs.Decimals.{decimal_parts, three_digits, three_written}
 use Rattle.digit_writers.proofs.Grouped.{group_none, group_more, group_front, length_group}
 use Rattle.digit_writers.proofs.LastDigits.{last_of_rest, last_split, length_last}
 use Rattle.digit_writers.proofs.Splices.{both, one_spliced}
@@ -128,13 +128,12 @@ module _ (separator : ℕ) where
       → new ≡ splice out at next (text high) → newer ≡ splice new next end (tail k low)
       → (end ≡ at + length (text n)) × (newer ≡ splice out at end (text n))
   text_written out new newer at next end k n high low least few whole room quotient rest after last first second =
-      let long = text_length k n high low least few whole quotient rest in
-      (
+      let long = text_length k n high low least few whole quotient rest in (
         omega (arith, long, after, last),
         second ∙ ap (λ (old : List ℕ). splice old next end (tail k low)) first
-        ∙ both out (text high) (tail k low) at next end after last (omega (arith, room, long, after, last))
-        ∙ ap (splice out at end)
-        ((λ i. text (quotient i) ++ tail k (rest i)) ∙ sym (text_parts k n least few whole)),
+            ∙ both out (text high) (tail k low) at next end after last (omega (arith, room, long, after, last))
+            ∙ ap (splice out at end)
+            ((λ i. text (quotient i) ++ tail k (rest i)) ∙ sym (text_parts k n least few whole)),
       )
 
   -- ---- one group

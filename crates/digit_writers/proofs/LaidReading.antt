@@ -1,9 +1,9 @@
 -- What is written in a layout is read as the number.
-use Rattle.std.proofs.Common.{◌≡◌, ℕ, ℤ, zero, suc, ◌+◌, ◌/◌, ◌%◌, ◌^◌, ◌<◌, ◌≤◌, Bool, true, false, List, [], ◌∷◌, ◌++◌, length, take, get_or, refl, sym, ap, subst, ◌∙◌, inl, inr, arith, filter}
-use Rattle.std.specs.Prelude.{Result, Ok, Err, IfOk, IsTrue, max, if◌then◌else◌}
+use Rattle.std.proofs.Common.{◌≡◌, ℕ, ℤ, zero, suc, ◌+◌, ◌/◌, ◌%◌, ◌^◌, ◌<◌, ◌≤◌, Bool, true, false, List, [], ◌∷◌, ◌++◌, length, take, drop, get_or, refl, sym, ap, subst, ◌∙◌, inl, inr, arith, filter}
+use Rattle.std.specs.Prelude.{pos, Result, Ok, Err, IfOk, IfErr, IsTrue, max, if◌then◌else◌}
 use Rattle.std.specs.Char.{digit_value}
 use Rattle.std.specs.Fmt.{digit_glyph}
-use Rattle.std.specs.List.{splice}
+use Rattle.std.specs.Int.{is_negative}
 use Rattle.std.specs.Str.Parse.{AllDigits, digits_value}
 use Rattle.std.proofs.Math.Nat.{pow-suc, pow-zero, pow-le-pow_right}
 use Rattle.std.proofs.lemmas.Bool.Decides.{nat_tests}
@@ -23,7 +23,7 @@ use Rattle.digit_literals.proofs.Written.{whole_written, later_written}
 use Rattle.digit_writers.specs.declared.by.NoRoom.{NoRoom}
 use Rattle.digit_writers.specs.declared.layout.Layout.{Layout}
 use Rattle.digit_writers.specs.Digits.{last_digits}
-use Rattle.digit_writers.specs.Layouts.{grouped, before, digit_count, digits_in, sign_of, IsReadBy}
+use Rattle.digit_writers.specs.Layouts.{laid_out, text_of, IsLaidOut, HasNoRoom, grouped, before, digit_count, digits_in, sign_of, IsReadBy}
 use Rattle.digit_writers.specs.Valid.{is_layout}
 use Rattle.digit_writers.specs.Written.{Reads}
 use Rattle.digit_writers.proofs.Counting.{count_holds}
@@ -31,7 +31,7 @@ use Rattle.digit_writers.proofs.Grouped.{group_none, group_more}
 use Rattle.digit_writers.proofs.LastDigits.{last_push, length_last, no_digits}
 use Rattle.digit_writers.proofs.Lone.{IsLone, lone_read}
 use Rattle.digit_writers.proofs.Reading.{to_the_end}
-use Rattle.digit_writers.proofs.Splices.{take_spliced}
+use Rattle.digit_writers.proofs.Splices.{take_spliced, drop_spliced}
 
 -- ---- the value of digits
 
@@ -248,17 +248,78 @@ module _ (word least most n : ℕ) (layout : Layout) (negative : Bool) (by : IsR
 pub answer_is_read : (word least most n : ℕ) (layout : Layout) (negative : Bool) (z : ℤ)
     (out new : List ℕ) (answer : Result ℕ NoRoom) → IsReadBy word layout least
     → n ≤ (if negative then least else most) → (negative ≡ true → 0 < n) → signed negative n ≡ z
-    → IfOk answer (λ end. (end ≡ length (sign_of layout.has_plus negative
-    ++ grouped layout.separator layout.every (digits_in layout n))) × (end ≤ length out)
-    × (new ≡ splice out 0 end (sign_of layout.has_plus negative
-    ++ grouped layout.separator layout.every (digits_in layout n))))
+    → IfOk answer (IsLaidOut layout negative n out new)
     → IfOk answer (λ end. Reads word least most z (take end new))
 answer_is_read word least most n layout negative z out new (Err error) by fits some number h = tt
 answer_is_read word least most n layout negative z out new (Ok end) by fits some number h =
-    let text : List ℕ =
-    sign_of layout.has_plus negative ++ grouped layout.separator layout.every (digits_in layout n) in
+    let text : List ℕ = text_of layout negative n in
     let front : text ≡ take end new =
-    sym (ap (take end) h.2 ∙ take_spliced out text 0 end (omega (arith, h.0)) h.1) in
+    sym (ap (take end) h.written
+    ∙ take_spliced out text 0 end (omega (arith, h.end_is)) h.within) in
     let read = laid_is_read word least most n layout negative by fits some layout.has_plus by.signs in
     subst (λ (y : ℤ). Reads word least most y (take end new)) number
     (subst (Reads word least most (signed negative n)) front (to_the_end text _ _ read))
+
+-- its text
+minus_is : (layout : Layout) (n : ℕ) → 0 < n
+    → text_of layout true n ≡ laid_out layout (signed true n)
+minus_is layout zero l = absurd (omega arith)
+minus_is layout (suc n) l = refl
+
+not_negative : (n : ℕ) → is_negative (pos n) ≡ false
+not_negative n = grind (arith, nat_tests)
+
+sign_is : (layout : Layout) (negative : Bool) (n : ℕ) → (negative ≡ true → 0 < n)
+    → text_of layout negative n ≡ laid_out layout (signed negative n)
+sign_is layout false n some = ap (λ (b : Bool). text_of layout b n) (sym (not_negative n))
+sign_is layout true n some = minus_is layout n (some refl)
+
+pub text_is : (layout : Layout) (negative : Bool) (n : ℕ) (z : ℤ) → (negative ≡ true → 0 < n)
+    → signed negative n ≡ z → text_of layout negative n ≡ laid_out layout z
+text_is layout negative n z some number =
+    sign_is layout negative n some ∙ ap (laid_out layout) number
+
+-- ---- each clause of it
+
+module _ (layout : Layout) (negative : Bool) (n : ℕ) (z : ℤ) (out new : List ℕ)
+    (some : negative ≡ true → 0 < n) (number : signed negative n ≡ z) where
+  pub answer_written : (answer : Result ℕ NoRoom) → IfOk answer (IsLaidOut layout negative n out new)
+      → IfOk answer (λ end. take end new ≡ laid_out layout z)
+  answer_written (Err error) h = tt
+  answer_written (Ok end) h =
+      ap (take end) h.written
+      ∙ take_spliced out (text_of layout negative n) 0 end (omega (arith, h.end_is)) h.within
+      ∙ text_is layout negative n z some number
+
+  pub answer_rest : (answer : Result ℕ NoRoom) → IfOk answer (IsLaidOut layout negative n out new)
+      → IfOk answer (λ end. drop end new ≡ drop end out)
+  answer_rest (Err error) h = tt
+  answer_rest (Ok end) h =
+      let none : end + 0 ≡ end = omega arith in
+      let rest = drop_spliced out (text_of layout negative n) 0 end (omega (arith, h.end_is)) h.within 0 in
+      ap (λ (k : ℕ). drop k new) (sym none) ∙ ap (drop (end + 0)) h.written ∙ rest
+      ∙ ap (λ (k : ℕ). drop k out) none
+
+  pub answer_within : (answer : Result ℕ NoRoom) → IfOk answer (IsLaidOut layout negative n out new)
+      → IfOk answer (λ end. end ≤ length out)
+  answer_within (Err error) h = tt
+  answer_within (Ok end) h = h.within
+
+  pub no_room_less : (answer : Result ℕ NoRoom)
+      → IfErr answer (λ error. HasNoRoom layout negative n out error.needed × (new ≡ out))
+      → IfErr answer (λ error. length out < error.needed)
+  no_room_less (Err error) h = h.0.less
+  no_room_less (Ok end) h = tt
+
+  pub no_room_needed : (answer : Result ℕ NoRoom)
+      → IfErr answer (λ error. HasNoRoom layout negative n out error.needed × (new ≡ out))
+      → IfErr answer (λ error. error.needed ≡ length (laid_out layout z))
+  no_room_needed (Err error) h =
+      h.0.needed_is ∙ ap length (text_is layout negative n z some number)
+  no_room_needed (Ok end) h = tt
+
+  pub no_room_unchanged : (answer : Result ℕ NoRoom)
+      → IfErr answer (λ error. HasNoRoom layout negative n out error.needed × (new ≡ out))
+      → IfErr answer (λ error. new ≡ out)
+  no_room_unchanged (Err error) h = h.1
+  no_room_unchanged (Ok end) h = tt

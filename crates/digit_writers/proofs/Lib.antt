@@ -10,3 +10,4 @@ pub mod Laid
 pub mod Lone
 pub mod LaidReading
 pub mod InThousands
+pub mod Plainly

@@ -1,6 +1,7 @@
 -- The text of a number in a layout, and which words read it.
-use Rattle.std.specs.Prelude.{◌≡◌, ℕ, zero, suc, ℤ, ◌-◌, ◌/◌, ◌%◌, ◌<◌, ◌==◌, ◌&&◌, max, unsigned_abs, nat_lt, if◌then◌else◌, Bool, true, false, List, [], ◌∷◌, ◌++◌, length, decimal}
+use Rattle.std.specs.Prelude.{◌≡◌, ℕ, zero, suc, ℤ, ◌-◌, ◌/◌, ◌%◌, ◌<◌, ◌≤◌, ◌==◌, ◌&&◌, max, unsigned_abs, nat_lt, if◌then◌else◌, Bool, true, List, [], ◌∷◌, ◌++◌, length, decimal}
 use Rattle.std.specs.Int.{is_negative}
+use Rattle.std.specs.List.{splice}
 use Rattle.std.specs.Int.Digits.{digits_of}
 use Rattle.lexical_format.specs.Word.{separator, bit}
 use Rattle.digit_writers.specs.declared.layout.Layout.{Layout}
@@ -50,29 +51,40 @@ digits_in layout n =
     last_digits layout.radix layout.is_upper
     (max layout.digits (digit_count layout.radix n)) n
 
+-- a magnitude and whether it is below 0
+abbrev pub text_of : Layout → Bool → ℕ → List ℕ
+text_of layout negative n =
+    sign_of layout.has_plus negative
+    ++ grouped layout.separator layout.every (digits_in layout n)
+
 abbrev pub laid_out : Layout → ℤ → List ℕ
-laid_out layout z =
-    sign_of layout.has_plus (is_negative z)
-    ++ grouped layout.separator layout.every (digits_in layout (unsigned_abs z))
+laid_out layout z = text_of layout (is_negative z) (unsigned_abs z)
+
+-- ---- of functions that no caller sees
+
+-- a magnitude with its sign was written at the front of a list
+pub record IsLaidOut (layout : Layout) (negative : Bool) (n : ℕ) (old new : List ℕ) (end : ℕ)
+    : Type 0 where
+  pub end_is : end ≡ length (text_of layout negative n)
+  pub within : end ≤ length old
+  pub written : new ≡ splice old 0 end (text_of layout negative n)
+
+-- there is no room for it
+pub record HasNoRoom (layout : Layout) (negative : Bool) (n : ℕ) (old : List ℕ) (needed : ℕ)
+    : Type 0 where
+  pub needed_is : needed ≡ length (text_of layout negative n)
+  pub less : length old < needed
 
 -- ---- what a layout says
 
--- the digits of a radix, in lower case, and nothing else
-pub record IsBare (base : ℕ) (layout : Layout) : Type 0 where
+pub record HasParts (base : ℕ) (upper : Bool) (byte size count : ℕ) (plus : Bool) (layout : Layout)
+    : Type 0 where
   pub radix : layout.radix ≡ base
-  pub lower : layout.is_upper ≡ false
-  pub ungrouped : layout.every ≡ 0
-  pub no_zeros : layout.digits ≡ 1
-  pub no_plus : layout.has_plus ≡ false
-
--- a layout with other groups
-pub record IsGrouped (byte size : ℕ) (layout other : Layout) : Type 0 where
-  pub radix : other.radix ≡ layout.radix
-  pub case : other.is_upper ≡ layout.is_upper
-  pub separator : other.separator ≡ byte
-  pub every : other.every ≡ size
-  pub digits : other.digits ≡ layout.digits
-  pub plus : other.has_plus ≡ layout.has_plus
+  pub case : layout.is_upper ≡ upper
+  pub separator : layout.separator ≡ byte
+  pub every : layout.every ≡ size
+  pub digits : layout.digits ≡ count
+  pub sign : layout.has_plus ≡ plus
 
 -- ---- which words read it
 

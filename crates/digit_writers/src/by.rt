@@ -3,11 +3,13 @@
 ghost use Rattle.std.specs.Prelude.{◌≡◌, ℕ, ◌+◌, ◌<◌, ◌≤◌, ◌++◌, true, max, length, take, drop, IfOk, IfErr, codes, decimal, Some};
 ghost use Rattle.std.specs.List.{splice};
 ghost use Rattle.digit_writers.specs.Written.{Reads};
-ghost use Rattle.digit_writers.specs.Layouts.{sign_of, digit_count, digits_in, grouped, laid_out, IsReadBy};
+ghost use Rattle.digit_writers.specs.Layouts.{sign_of, digit_count, digits_in, grouped, thousands, laid_out, text_of, IsLaidOut, HasNoRoom, IsReadBy};
 
 use super::groups::{count_digits, count_gaps, put_groups};
 use super::layout::Layout;
+use super::thousands::put_thousands;
 use super::types::Written;
+use super::wide::put_number;
 use std::error::Error;
 use std::fmt;
 
@@ -31,7 +33,7 @@ impl Error for NoRoom {}
 
 /// How long the sign is.
 #[inline(always)]
-fn count_signs(has_plus: bool, is_negative: bool) -> usize
+pub(crate) fn count_signs(has_plus: bool, is_negative: bool) -> usize
     ensures is { result ≡ length (sign_of has_plus is_negative) }
     ensures few { result ≤ 1 }
 {
@@ -50,7 +52,7 @@ fn count_of(magnitude: u128, layout: Layout) -> usize
 
 /// Writes a sign, if there is one, at the front of a slice, and answers its length.
 #[inline(always)]
-fn put_sign(has_plus: bool, is_negative: bool, out: &mut [u8]) -> usize
+pub(crate) fn put_sign(has_plus: bool, is_negative: bool, out: &mut [u8]) -> usize
     requires room { length (sign_of has_plus is_negative) ≤ length out.old }
     ensures end { result ≡ length (sign_of has_plus is_negative) }
     ensures written { out.new ≡ splice out.old 0 result (sign_of has_plus is_negative) }
@@ -66,22 +68,50 @@ fn put_sign(has_plus: bool, is_negative: bool, out: &mut [u8]) -> usize
     0
 }
 
-/// Writes a magnitude with its sign in a layout at the front of a slice, and answers its length.
+/// Writes a decimal magnitude with its sign at the front of a slice, and answers its length.
 #[inline(always)]
-fn put_laid(
+fn put_decimal(has_plus: bool, is_negative: bool, magnitude: u128, out: &mut [u8]) -> usize
+    requires room { let signs = sign_of has_plus is_negative in
+        length signs + length (decimal magnitude) ≤ length out.old }
+    ensures end { result ≡ length (sign_of has_plus is_negative ++ decimal magnitude) }
+    ensures written { out.new
+        ≡ splice out.old 0 result (sign_of has_plus is_negative ++ decimal magnitude) }
+{
+    let start = put_sign(has_plus, is_negative, out);
+    put_number(magnitude, out, start)
+}
+
+/// Writes a decimal magnitude with its sign, in groups of three digits, at the front of a slice,
+/// and answers its length.
+#[inline(always)]
+fn put_in_thousands(
+    has_plus: bool,
+    is_negative: bool,
+    magnitude: u128,
+    separator: u8,
+    out: &mut [u8],
+) -> usize
+    requires room { let signs = sign_of has_plus is_negative in
+        length signs + length (thousands separator magnitude) ≤ length out.old }
+    ensures end { result ≡ length (sign_of has_plus is_negative ++ thousands separator magnitude) }
+    ensures written { out.new
+        ≡ splice out.old 0 result (sign_of has_plus is_negative ++ thousands separator magnitude) }
+{
+    let start = put_sign(has_plus, is_negative, out);
+    put_thousands(magnitude, separator, out, start)
+}
+
+/// Writes a magnitude with its sign in any layout at the front of a slice, and answers its length.
+#[inline(never)]
+fn put_any(
     is_negative: bool,
     magnitude: u128,
     layout: Layout,
     out: &mut [u8],
 ) -> Result<usize, NoRoom>
-    ensures written { let digits = grouped layout.separator layout.every (digits_in layout magnitude) in
-        let text = sign_of layout.has_plus is_negative ++ digits in
-        IfOk result (λ end. (end ≡ length text) × (end ≤ length out.old)
-        × (out.new ≡ splice out.old 0 end text)) }
-    ensures no_room { let digits = grouped layout.separator layout.every (digits_in layout magnitude) in
-        let text = sign_of layout.has_plus is_negative ++ digits in
-        IfErr result (λ error. (error.needed ≡ length text) × (length out.old < error.needed)
-        × (out.new ≡ out.old)) }
+    ensures written { IfOk result (IsLaidOut layout is_negative magnitude out.old out.new) }
+    ensures no_room { IfErr result (λ error.
+        HasNoRoom layout is_negative magnitude out.old error.needed × (out.new ≡ out.old)) }
 {
     let count = count_of(magnitude, layout);
     let signs = count_signs(layout.has_plus, is_negative);
@@ -92,6 +122,34 @@ fn put_laid(
     let start = put_sign(layout.has_plus, is_negative, out);
     put_groups(magnitude, count, layout, out, start, end);
     Ok(end)
+}
+
+/// Writes a magnitude with its sign in a layout at the front of a slice, and answers its length.
+/// The magnitude has at most `room` decimal digits.
+#[inline(always)]
+fn put_laid(
+    is_negative: bool,
+    magnitude: u128,
+    room: usize,
+    layout: Layout,
+    out: &mut [u8],
+) -> Result<usize, NoRoom>
+    requires room { length (decimal magnitude) ≤ room }
+    requires few { room ≤ 40 }
+    ensures written { IfOk result (IsLaidOut layout is_negative magnitude out.old out.new) }
+    ensures no_room { IfErr result (λ error.
+        HasNoRoom layout is_negative magnitude out.old error.needed × (out.new ≡ out.old)) }
+{
+    if layout.radix == 10 && layout.digits <= 1 && out.len() > room + room / 3 {
+        if layout.every == 0 {
+            return Ok(put_decimal(layout.has_plus, is_negative, magnitude, out));
+        }
+        if layout.every == 3 {
+            let separator = layout.separator;
+            return Ok(put_in_thousands(layout.has_plus, is_negative, magnitude, separator, out));
+        }
+    }
+    put_any(is_negative, magnitude, layout, out)
 }
 
 /// Writes an integer in a layout at the front of a slice, and answers how many bytes it takes.
@@ -120,5 +178,5 @@ pub fn write_number_by<T: Written>(
     ensures unchanged { IfErr result (λ _. out.new ≡ out.old) }
 {
     let (is_negative, magnitude) = value.parts();
-    put_laid(is_negative, magnitude, layout, out)
+    put_laid(is_negative, magnitude, T::ROOM, layout, out)
 }

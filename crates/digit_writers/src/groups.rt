@@ -92,7 +92,7 @@ fn put_last_wide(n: u128, count: usize, layout: Layout, out: &mut [u8], at: usiz
 
 /// Writes the last digits of a number from a position on, and answers the number without them.
 #[inline(always)]
-fn put_last(n: u128, count: usize, layout: Layout, out: &mut [u8], at: usize) -> u128
+pub(crate) fn put_last(n: u128, count: usize, layout: Layout, out: &mut [u8], at: usize) -> u128
     requires room { at + count ≤ length out.old }
     ensures written { let digits = last_digits layout.radix layout.is_upper count n in
         out.new ≡ splice out.old at (at + count) digits }

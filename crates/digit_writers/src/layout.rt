@@ -6,7 +6,7 @@ ghost use Rattle.digit_writers.specs.Valid.{is_layout};
 use lexical_format::char_is_digit_const;
 
 /// How [`write_number_by`](crate::write_number_by) lays a number out. Begin with
-/// [`Layout::decimal`], [`Layout::hexadecimal`] or [`Layout::of_radix`].
+/// [`Layout::decimal`] or [`Layout::of_radix`].
 #[derive(Clone, Copy, Debug, PartialEq, Eq)]
 pub struct Layout {
     /// The radix, 2 to 36.
@@ -39,12 +39,12 @@ fn is_layout(radix: u8, separator: u8, every: u8) -> bool
 impl Layout {
     ghost use Rattle.std.specs.Prelude.{◌≡◌, ◌&&◌, ◌||◌, ◌==◌, true, false, MatchOption};
     ghost use Rattle.digit_writers.specs.Valid.{is_layout};
-    ghost use Rattle.digit_writers.specs.Layouts.{IsBare, IsGrouped};
+    ghost use Rattle.digit_writers.specs.Layouts.{HasParts};
 
     /// Decimal digits, without groups, zeros or plus: what [`write_number`](crate::write_number)
     /// writes.
     pub fn decimal() -> Layout
-        ensures { IsBare 10 result }
+        ensures { HasParts 10 false 0 0 1 false result }
     {
         Layout {
             radix: 10,
@@ -59,7 +59,8 @@ impl Layout {
     /// Digits of a radix, in lower case, without groups, zeros or plus. `None`: the radix isn't 2
     /// to 36.
     pub fn of_radix(radix: u8) -> Option<Layout>
-        ensures { MatchOption result (is_layout radix 0 0 ≡ false) (IsBare radix) }
+        ensures { MatchOption result (is_layout radix 0 0 ≡ false)
+            (HasParts radix false 0 0 1 false) }
     {
         if !is_layout(radix, 0, 0) {
             return None;
@@ -78,7 +79,7 @@ impl Layout {
     /// means that there are none. `None`: the separator is 0 or a digit of the radix.
     pub fn grouped(self, separator: u8, every: u8) -> Option<Layout>
         ensures { MatchOption result (is_layout self.radix separator every ≡ false)
-            (IsGrouped separator every self) }
+            (HasParts self.radix self.is_upper separator every self.digits self.has_plus) }
     {
         if !is_layout(self.radix, separator, every) {
             return None;
@@ -91,5 +92,50 @@ impl Layout {
             digits: self.digits,
             has_plus: self.has_plus,
         })
+    }
+
+    /// The same with zeros before a number that has fewer digits than these.
+    pub fn with_digits(self, digits: u8) -> Layout
+        ensures { HasParts self.radix self.is_upper self.separator self.every digits self.has_plus
+            result }
+    {
+        Layout {
+            radix: self.radix,
+            is_upper: self.is_upper,
+            separator: self.separator,
+            every: self.every,
+            digits,
+            has_plus: self.has_plus,
+        }
+    }
+
+    /// The same with a `+` before a number that is not below 0.
+    pub fn with_plus(self) -> Layout
+        ensures { HasParts self.radix self.is_upper self.separator self.every self.digits true
+            result }
+    {
+        Layout {
+            radix: self.radix,
+            is_upper: self.is_upper,
+            separator: self.separator,
+            every: self.every,
+            digits: self.digits,
+            has_plus: true,
+        }
+    }
+
+    /// The same with `A` to `Z` for the digits from 10 on.
+    pub fn in_upper_case(self) -> Layout
+        ensures { HasParts self.radix true self.separator self.every self.digits self.has_plus
+            result }
+    {
+        Layout {
+            radix: self.radix,
+            is_upper: true,
+            separator: self.separator,
+            every: self.every,
+            digits: self.digits,
+            has_plus: self.has_plus,
+        }
     }
 }

@@ -1,4 +1,4 @@
-use Rattle.std.proofs.Common.{◌≡◌, ℕ, ◌+◌, ◌<◌, ◌≤◌, length, refl, sym, ap, ◌∙◌, arith, length-set}
+use Rattle.std.proofs.Common.{ℕ, length, refl, sym, ap, ◌∙◌, arith, length-set}
 use Rattle.std.specs.List.{splice}
 use Rattle.digit_writers.proofs.InThousands.{small_text, three_end, three_text, few_room}
 use Rattle.digit_writers.proofs.thousands.put_first_three.Goals as goal

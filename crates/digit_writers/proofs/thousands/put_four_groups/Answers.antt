@@ -1,10 +1,7 @@
-use Rattle.std.proofs.Common.{◌≡◌, ℕ, ◌+◌, ◌-◌, ◌/◌, ◌%◌, ◌^◌, ◌<◌, ◌≤◌, List, ◌∷◌, ◌++◌, length, set, refl, sym, ap, ◌∙◌, arith}
+use Rattle.std.proofs.Common.{◌≡◌, ℕ, ◌+◌, ◌/◌, ◌%◌, ◌^◌, ap, ◌∙◌, arith}
 use Rattle.std.specs.List.{splice}
-use Rattle.digit_writers.specs.Digits.{last_decimals}
-use Rattle.digit_writers.specs.Layouts.{thousands, thousands_after}
-use Rattle.digit_writers.proofs.Splices.{both, one_spliced}
-use Rattle.digit_writers.proofs.Decimals.{three_written, three_digits}
-use Rattle.digit_writers.proofs.InThousands.{small_text, small_tail, tail_length, tails_written, text_length, text_written}
+use Rattle.digit_writers.specs.Layouts.{thousands_after}
+use Rattle.digit_writers.proofs.InThousands.{tail_length, tails_written}
 use Rattle.digit_writers.proofs.thousands.put_four_groups.Goals as goal
 
 pub returns : goal.returns

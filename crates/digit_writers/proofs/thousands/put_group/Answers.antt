@@ -1,9 +1,4 @@
-use Rattle.std.proofs.Common.{◌≡◌, ℕ, ◌+◌, ◌-◌, ◌/◌, ◌%◌, ◌^◌, ◌<◌, ◌≤◌, List, ◌∷◌, ◌++◌, length, set, refl, sym, ap, ◌∙◌, arith}
-use Rattle.std.specs.List.{splice}
-use Rattle.digit_writers.specs.Digits.{last_decimals}
-use Rattle.digit_writers.specs.Layouts.{thousands, thousands_after}
-use Rattle.digit_writers.proofs.Splices.{both, one_spliced}
-use Rattle.digit_writers.proofs.Decimals.{three_written, three_digits}
+use Rattle.std.proofs.Common.{refl}
 use Rattle.digit_writers.proofs.InThousands.{group_written}
 use Rattle.digit_writers.proofs.thousands.put_group.Goals as goal
 

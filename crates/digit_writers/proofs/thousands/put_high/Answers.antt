@@ -1,10 +1,5 @@
-use Rattle.std.proofs.Common.{◌≡◌, ℕ, ◌+◌, ◌-◌, ◌/◌, ◌%◌, ◌^◌, ◌<◌, ◌≤◌, List, ◌∷◌, ◌++◌, length, set, refl, sym, ap, ◌∙◌, arith}
-use Rattle.std.specs.List.{splice}
-use Rattle.digit_writers.specs.Digits.{last_decimals}
-use Rattle.digit_writers.specs.Layouts.{thousands, thousands_after}
-use Rattle.digit_writers.proofs.Splices.{both, one_spliced}
-use Rattle.digit_writers.proofs.Decimals.{three_written, three_digits}
-use Rattle.digit_writers.proofs.InThousands.{small_text, small_tail, tail_length, tails_written, text_length, text_written}
+use Rattle.std.proofs.Common.{arith}
+use Rattle.digit_writers.proofs.InThousands.{tail_length, text_length, text_written}
 use Rattle.digit_writers.proofs.thousands.put_high.Goals as goal
 
 pub put_first_three-next-requires-clause-room : goal.put_first_three-next-requires-clause-room
