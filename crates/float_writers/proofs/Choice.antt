@@ -11,7 +11,7 @@ use lib.Ieee.{Float, Format, binary32, binary64, prec, low, emax, units}
 use lib.Ieee.Fits.{two}
 use lib.Ieee.Scale.{overflow}
 use Rattle.std.specs.Prelude.{◌==◌}
-use Rattle.float_writers.specs.Decimal.{IsShortestAt}
+use Rattle.float_writers.specs.Decimals.{IsShortestAt}
 use Rattle.float_writers.specs.Grid.{within, gap, step, power_of, quarters, offset, IsReach, IsPlaced}
 use Rattle.float_writers.specs.Parts.{IsParts}
 use Rattle.float_writers.specs.declared.parts.Parts.{Parts}
@@ -21,7 +21,7 @@ use Rattle.float_writers.proofs.Place.{sound_at}
 use Rattle.float_writers.proofs.Fewest.{IsBest, ten_pos}
 use Rattle.float_writers.proofs.Judge as judge
 use Rattle.float_writers.proofs.Rounding.{IsMode, IsInside}
-use Rattle.float_writers.proofs.Shortest.{shortest_of_tens, shortest_of_step}
+use Rattle.float_writers.proofs.OnGrid.{shortest_of_tens, shortest_of_step}
 
 -- ---- a number x between two steps
 

@@ -2,8 +2,11 @@ pub mod Apart
 pub mod Choice
 pub mod Exponents
 pub mod Fewest
+pub mod Fields
 pub mod Judge
+pub mod OnGrid
 pub mod Place
 pub mod Rounding
 pub mod Rows
-pub mod Shortest
+pub mod Strip
+pub mod Zeros

@@ -1,3 +1,3 @@
-pub mod Decimal
+pub mod Decimals
 pub mod Grid
 pub mod Parts

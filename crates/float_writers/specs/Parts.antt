@@ -1,7 +1,8 @@
 -- The parts of a float above zero.
-use Rattle.std.specs.Prelude.{◌≡◌, ℕ, ◌-◌, ◌*◌, ◌^◌, ◌<◌, ◌≤◌, false, true}
+use Rattle.std.specs.Prelude.{◌≡◌, ℕ, T, ◌-◌, ◌*◌, ◌^◌, ◌<◌, ◌≤◌, false, true}
 use Rattle.std.specs.Float.{Float, Format}
 use Rattle.std.specs.Float.Ieee.{prec, low, emax, units}
+use lib.Ieee.Positive.{positive}
 use Rattle.float_writers.specs.declared.parts.Parts.{Parts}
 
 -- x is significand * 2 ^ exponent / 2 ^ 1074
@@ -13,3 +14,7 @@ pub record IsParts (f : Format) (x : Float) (p : Parts) : Type 0 where
   pub finite : p.exponent - (1074 - low f) < 2 * emax f
   pub edge : p.edge ≡ true → (p.significand ≡ 2 ^ (prec f - 1)) × (0 < p.exponent - (1074 - low f))
   pub regular : p.edge ≡ false → 0 < p.exponent - (1074 - low f) → 2 ^ (prec f - 1) < p.significand
+
+-- a number above zero, and not the infinity
+abbrev pub IsAboveZero : Float → Type 0
+IsAboveZero x = T (positive x)

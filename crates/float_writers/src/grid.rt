@@ -3,7 +3,7 @@
 ghost use Rattle.std.specs.Prelude.{◌≡◌, ℕ, true, false, ◌/◌, ◌+◌, ◌-◌, ◌*◌, ◌^◌, ◌<◌, ◌≤◌};
 ghost use Rattle.std.specs.Float.{Float, Format};
 ghost use Rattle.float_writers.specs.Grid.{within, power_of, scale_of, gap, step, quarters, offset, IsReach, IsPlaced};
-ghost use Rattle.float_writers.specs.Decimal.{IsShortestAt};
+ghost use Rattle.float_writers.specs.Decimals.{IsShortestAt};
 ghost use Rattle.float_writers.specs.Parts.{IsParts};
 
 use super::parts::Parts;
@@ -144,7 +144,7 @@ fn place_of(parts: Parts) -> Place
     ensures reach { IsReach (quarters parts.edge) (gap parts.exponent result.power)
         (step result.power) result.reach }
     ensures few { (result.half < 2 ^ 127) × (result.reach < 2 ^ 127) }
-    ensures whole { result.whole < 2 ^ 58 }
+    ensures whole { (result.whole < 2 ^ 58) × (result.power < 617) }
 {
     let power = power_for(parts.exponent, parts.edge);
     let row = row(power);
@@ -161,8 +161,9 @@ fn place_of(parts: Parts) -> Place
 pub fn digits_of(parts: Parts) -> (u64, u64)
     requires significand { (0 < parts.significand) × (parts.significand < 2 ^ 53) }
     requires exponent { parts.exponent < 2046 }
-    ensures { (f : Format) (x : Float) → IsParts f x parts
+    ensures shortest { (f : Format) (x : Float) → IsParts f x parts
         → IsShortestAt f x result.0 result.1 }
+    ensures power { result.1 ≤ 617 }
 {
     let place = place_of(parts);
     let even = parts.significand % 2 == 0;

@@ -4,7 +4,7 @@ use Rattle.std.specs.Float.{Float, Format}
 use Rattle.std.specs.Float.Ieee.{round}
 use Rattle.std.specs.Int.{abs_diff}
 use lib.Ieee.Positive.{num, den}
-use Rattle.float_writers.specs.declared.Decimal.{Decimal}
+use Rattle.float_writers.specs.declared.decimal.Decimal.{Decimal}
 
 -- digits times ten to a power is units_of / 10 ^ places_of
 abbrev pub units_of : ℕ → ℤ → ℕ
@@ -37,10 +37,9 @@ IsNearer x d other = far x d * 10 ^ places_of other.power < far x other * 10 ^ p
 abbrev pub IsAsNear : Float → Decimal → Decimal → Type 0
 IsAsNear x d other = far x d * 10 ^ places_of other.power ≡ far x other * 10 ^ places_of d.power
 
--- a decimal has no more digits than d, whose digits end in no zero: it is below each power of ten
--- that is above those
-abbrev pub HasAsFewDigits : Decimal → Decimal → Type 0
-HasAsFewDigits other d = (n : ℕ) → d.digits < 10 ^ n → other.digits < 10 ^ n
+-- one decimal has no more digits than another: it is below each power of ten that the other is below
+abbrev pub HasNoMoreDigits : Decimal → Decimal → Type 0
+HasNoMoreDigits d other = (n : ℕ) → other.digits < 10 ^ n → d.digits < 10 ^ n
 
 -- ---- while zeros may stand at the end of the digits, and the power of ten is p - 324
 

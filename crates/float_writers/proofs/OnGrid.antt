@@ -8,7 +8,7 @@ use lib.Ieee.{Float, Format, prec, low, units, round}
 use lib.Ieee.Exact.{HasValue, units_val}
 use lib.Ieee.Positive.{num, den, den_pos, value→cross}
 use lib.Ieee.Scale.{overflow, round_same}
-use Rattle.float_writers.specs.Decimal.{ReadsAt, far_of, IsShortestAt}
+use Rattle.float_writers.specs.Decimals.{ReadsAt, far_of, IsShortestAt}
 use Rattle.float_writers.specs.Grid.{gap, step}
 use Rattle.float_writers.proofs.Fewest.{ten_pos, joined, IsBest, fewest_of_one, fewest_of_none, closest_of_one, closest_of_none}
 use Rattle.float_writers.proofs.Rounding.{IsMode, IsInside, inside_of_reads, reads_of_inside}
@@ -44,7 +44,7 @@ module _ (c m g y z : ℕ) (Z : 0 < z) where
     high_tie = λ h. is.high_tie (number ∙ ap (λ t. t * z) h ∙ sym high_end);
   }
 
-abs_scaled : (a b c : ℕ) → abs_diff (a * c) (b * c) ≡ abs_diff a b * c
+pub abs_scaled : (a b c : ℕ) → abs_diff (a * c) (b * c) ≡ abs_diff a b * c
 abs_scaled a b c = elim (cases_lt a b) [
   | inl l ↦
       let e : (b - a + a) * c ≡ b * c = ap (λ z. z * c) {x = b - a + a} {y = b} (omega (arith, l)) in
