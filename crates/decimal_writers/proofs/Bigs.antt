@@ -1,13 +1,13 @@
 -- Digits in place.
-use Rattle.std.proofs.Common.{◌≡◌, ◌≢◌, ◌⊎◌, ℕ, zero, suc, ◌+◌, ◌-◌, ◌*◌, ◌/◌, ◌%◌, ◌^◌, ◌<◌, ◌≤◌, List, [], ◌∷◌, ◌++◌, length, take, drop, set, get_or, refl, sym, ap, subst, ◌∙◌, inl, inr, arith, get_or-set_same, get_or-set_other}
+use Rattle.std.proofs.Common.{◌≡◌, ◌⊎◌, ℕ, zero, suc, ◌+◌, ◌-◌, ◌*◌, ◌/◌, ◌%◌, ◌^◌, ◌<◌, ◌≤◌, List, [], ◌∷◌, ◌++◌, length, take, drop, set, get_or, refl, sym, ap, subst, ◌∙◌, inl, inr, arith, get_or-set_same, get_or-set_other}
 use Rattle.std.proofs.Math.Nat.{pow-zero, div-one, zero-div, mul-le-mul_left, mul-le-mul_right, pow-le-pow_right}
 use Rattle.std.proofs.lemmas.Bool.{cases_eq, cases_lt}
 use Rattle.std.proofs.lemmas.List.{take-set, take_all, get_or-drop, drop-set-lt, length-set, get_or_past, set_past, drop-drop, take_at, get_or-take, length-take, drop-set}
-use native.Mathlib.Nat.{pow-suc, pow-le-pow_left, mul-pos, div-div-eq-div-mul, mul_assoc, mul_comm, add-mul, mul-add}
+use native.Mathlib.Nat.{pow-suc, pow-le-pow_left, mul-pos, div-div-eq-div-mul, mul_assoc, mul_comm}
 use lib.Pow.{pow-add}
 use Rattle.decimal_writers.specs.Big.{value_of, IsBig}
 use Rattle.decimal_writers.specs.Text.{last_digits}
-use Rattle.decimal_writers.proofs.Numerals.{last_more, last_none}
+use Rattle.decimal_writers.proofs.Numerals.{last_more}
 
 pub value_nil : value_of [] ≡ 0
 unfolding value_of

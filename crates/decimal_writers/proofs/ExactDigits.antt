@@ -1,5 +1,5 @@
 -- The exact digits of a float are its value.
-use Rattle.std.proofs.Common.{◌≡◌, ℕ, zero, suc, ◌+◌, ◌-◌, ◌*◌, ◌/◌, ◌%◌, ◌^◌, ◌<◌, ◌≤◌, List, length, take, get_or, refl, sym, ap, subst, ◌∙◌, arith}
+use Rattle.std.proofs.Common.{◌≡◌, ℕ, zero, suc, ◌+◌, ◌-◌, ◌*◌, ◌^◌, ◌<◌, ◌≤◌, List, length, take, get_or, refl, sym, ap, ◌∙◌, arith}
 use native.Mathlib.Nat.{pow-suc, mul_assoc, mul-one}
 use lib.Pow.{pow-add}
 use Rattle.decimal_writers.specs.Big.{value_of, IsBig}

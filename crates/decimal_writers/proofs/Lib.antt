@@ -9,3 +9,4 @@ pub mod Bigs
 pub mod Rounding
 pub mod FloatBits
 pub mod ExactDigits
+pub mod Places

@@ -10,7 +10,7 @@ use Rattle.decimal_writers.proofs.Numerals.{ten_pos, length-last, last_none, las
 
 -- ---- a point
 
-shifted : (n places : ℕ) → length (number_text (n / 10 ^ places)) ≡ max (length (number_text n) - places) 1
+pub shifted : (n places : ℕ) → length (number_text (n / 10 ^ places)) ≡ max (length (number_text n) - places) 1
 shifted n zero =
     let same : n / 10 ^ 0 ≡ n = div-one n in
     rw same (omega (arith, some_digits n))

@@ -4,12 +4,9 @@ use Prim.Native.Nat.{compare, Ordering}
 use native.Mathlib.Omega.{compare-eq, compare-gt, compare-lt}
 use Rattle.std.specs.Float.Ieee.{nearest}
 use Rattle.std.proofs.Math.Nat.{div-one, mul-le-mul_right, pow-le-pow_right}
-use Rattle.std.proofs.lemmas.Bool.{cases_lt, cases_eq}
-use Rattle.std.proofs.lemmas.Bool.Decides.{nat_tests}
 use Rattle.std.proofs.lemmas.List.{length-take, length-set, get_or-take, take_all, take-take, get_or-set_same}
-use native.Mathlib.Nat.{mod-eq_of_lt, add-mul-mod_self_right, pow-suc, mul_assoc, mul_comm}
+use native.Mathlib.Nat.{mod-eq_of_lt, add-mul-mod_self_right, pow-suc}
 use lib.Ieee.Nearest.{closest}
-use mir.Val.{bool_byte}
 use Rattle.decimal_writers.specs.Big.{value_of, IsBig}
 use Rattle.decimal_writers.proofs.Numerals.{ten_pos}
 use Rattle.decimal_writers.proofs.Bigs.{value_nil, value_cons, value_more, value_set, digits_set, digits_take, value_below, ten_more}
@@ -62,7 +59,7 @@ value_split [] (suc i) = omega (arith, value_nil, ap (λ (x : ℕ). x * 10 ^ suc
 value_split (d ∷ ds) (suc i) =
     omega (arith, value_cons d ds, value_cons d (take i ds), value_split ds i, ap (λ (x : ℕ). value_of (drop i ds) * x) (pow-suc 10 i))
 
-front_below : (ds : List ℕ) (i : ℕ) → ((k : ℕ) → get_or ds k 0 < 10) → value_of (take i ds) < 10 ^ i
+pub front_below : (ds : List ℕ) (i : ℕ) → ((k : ℕ) → get_or ds k 0 < 10) → value_of (take i ds) < 10 ^ i
 front_below ds i all =
     let below = value_below (take i ds) (digits_take i ds all) in
     let tens : 10 ^ length (take i ds) ≤ 10 ^ i = pow-le-pow_right (omega arith) (omega (arith, length-take i ds)) in
@@ -147,8 +144,14 @@ value_change [] i y (suc len) l within = absurd (omega arith)
 value_change (d ∷ ds) zero y (suc len) l within =
     omega (arith, value_cons y (take len ds), value_cons d (take len ds))
 value_change (d ∷ ds) (suc i) y (suc len) l within =
-    omega (arith, value_cons d (take len (set ds i y)), value_cons d (take len ds), value_change ds i y len (omega arith) (omega arith),
-    ap (λ (x : ℕ). get_or ds i 0 * x) (pow-suc 10 i), ap (λ (x : ℕ). y * x) (pow-suc 10 i))
+    omega (
+      arith,
+      value_cons d (take len (set ds i y)),
+      value_cons d (take len ds),
+      value_change ds i y len (omega arith) (omega arith),
+      ap (λ (x : ℕ). get_or ds i 0 * x) (pow-suc 10 i),
+      ap (λ (x : ℕ). y * x) (pow-suc 10 i),
+    )
 
 pub record IsAdding (old new : List ℕ) (len place at : ℕ) : Type 0 where
   pub value : value_of (take len new) + 10 ^ at ≡ value_of (take len old) + 10 ^ place
@@ -209,4 +212,5 @@ zeros_not ds i l digit =
 pub ruleset tests = (zeros_more, zeros_not, take_all)
 
 pub ruleset rounds = (dropped_is, goes_down, goes_up, goes_over, goes_even, drops_none, drops_all)
+
 pub ruleset adds = (added_none, added_nine, added_here, added_before)

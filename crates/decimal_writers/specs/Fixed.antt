@@ -1,5 +1,5 @@
 -- The text of a float with a fixed number of places.
-use Rattle.std.specs.Prelude.{◌≡◌, ℕ, ◌*◌, ◌^◌, Bool, List, [], ◌++◌}
+use Rattle.std.specs.Prelude.{ℕ, zero, suc, ◌*◌, ◌^◌, List, [], ◌∷◌, ◌++◌}
 use Rattle.std.specs.Float.{Float, nan, inf, fin}
 use Rattle.std.specs.Float.Ieee.{up, down}
 use Rattle.std.specs.Fmt.{sign_text}
@@ -13,3 +13,8 @@ fixed_text (inf negative) places = []
 fixed_text (fin negative significand exponent) places =
     sign_text negative
     ++ with_point places (closest (significand * up exponent * 10 ^ places) (down exponent))
+
+-- a point, if places follow it
+abbrev pub point_of : ℕ → List ℕ
+point_of zero = []
+point_of (suc more) = 46 ∷ []

@@ -31,9 +31,17 @@ pub fn binary_of(x: f64) -> Binary
     let field = bits % (1 << 63) / (1 << 52);
     let rest = bits % (1 << 52);
     if field == 0 {
-        return Binary { negative, significand: rest, shift: 0 };
+        return Binary {
+            negative,
+            significand: rest,
+            shift: 0,
+        };
     }
-    Binary { negative, significand: (1 << 52) + rest, shift: field as usize - 1 }
+    Binary {
+        negative,
+        significand: (1 << 52) + rest,
+        shift: field as usize - 1,
+    }
 }
 
 /// The exact decimal of a float: `len` digits, of which the last `places` follow the point.
@@ -58,7 +66,13 @@ pub fn exact_digits(binary: Binary, digits: &mut [u8]) -> Exact
     let len = put_carry(digits, 0, binary.significand);
     if binary.shift < LEAST {
         let places = LEAST - binary.shift;
-        return Exact { len: scale(digits, len, 5, places), places };
+        return Exact {
+            len: scale(digits, len, 5, places),
+            places,
+        };
     }
-    Exact { len: scale(digits, len, 2, binary.shift - LEAST), places: 0 }
+    Exact {
+        len: scale(digits, len, 2, binary.shift - LEAST),
+        places: 0,
+    }
 }

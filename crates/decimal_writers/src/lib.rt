@@ -22,11 +22,11 @@ mod big;
 mod digits;
 mod exact;
 mod exponent;
+mod fixed;
 mod point;
 mod room;
 mod write;
 
+pub use self::fixed::write_fixed;
 pub use self::room::NoRoom;
 pub use self::write::{write_exponent, write_plain, write_usual};
-pub use self::big::{times, put_carry, multiply, scale, digit_at, put_big, are_zeros, rounds_up, add_one};
-pub use self::exact::binary_of;

@@ -13,7 +13,7 @@ use super::room::NoRoom;
 
 /// Writes a minus to the front, if there is one.
 #[inline(always)]
-fn put_sign(negative: bool, out: &mut [u8])
+pub fn put_sign(negative: bool, out: &mut [u8])
     requires { length (sign_text negative) ≤ length out.old }
     ensures { out.new ≡ sign_text negative ++ drop (length (sign_text negative)) out.old }
 {

@@ -1,4 +1,4 @@
-use Rattle.std.proofs.Common.{◌≡◌, ◌<◌, ◌≤◌, length, take, arith}
+use Rattle.std.proofs.Common.{take, arith}
 use Rattle.decimal_writers.specs.Big.{value_of}
 use Rattle.decimal_writers.proofs.Rounding.{added_nine, added_here, added_before}
 use Rattle.decimal_writers.proofs.big.add_one.Goals as goal

@@ -1,4 +1,4 @@
-use Rattle.std.proofs.Common.{◌≡◌, ◌-◌, ◌/◌, ◌%◌, ◌^◌, ◌<◌, ◌++◌, ℕ, List, ap, sym, ◌∙◌, arith, take, drop}
+use Rattle.std.proofs.Common.{◌≡◌, ◌-◌, ◌/◌, ◌^◌, ◌++◌, ℕ, List, ap, sym, ◌∙◌, arith, take, drop}
 use Rattle.decimal_writers.specs.Big.{value_of}
 use Rattle.decimal_writers.proofs.Bigs.{put_at, further}
 use Rattle.decimal_writers.proofs.Numerals.{last_none}

@@ -1,4 +1,4 @@
-use Rattle.std.proofs.Common.{◌<◌, length, arith}
+use Rattle.std.proofs.Common.{arith}
 use Rattle.decimal_writers.proofs.Bigs.{carried_none, carried_one, carried_room}
 use Rattle.decimal_writers.proofs.big.put_carry.Goals as goal
 

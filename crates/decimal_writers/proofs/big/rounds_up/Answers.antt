@@ -1,4 +1,4 @@
-use Rattle.std.proofs.Common.{◌<◌, ◌≤◌, ◌-◌, length, take, get_or, arith}
+use Rattle.std.proofs.Common.{◌-◌, take, get_or, arith}
 use Rattle.decimal_writers.specs.Big.{value_of}
 use Rattle.decimal_writers.proofs.Rounding.{dropped_is, goes_down, goes_up}
 use Rattle.decimal_writers.proofs.big.rounds_up.Goals as goal

@@ -1,4 +1,4 @@
-use Rattle.std.proofs.Common.{◌≡◌, ◌-◌, ◌*◌, ◌^◌, ◌<◌, ◌≤◌, ℕ, ap, subst, arith, take}
+use Rattle.std.proofs.Common.{◌*◌, ℕ, subst, arith, take}
 use Rattle.decimal_writers.specs.Big.{value_of, IsBig}
 use Rattle.decimal_writers.proofs.Bigs.{scaled_one}
 use Rattle.decimal_writers.proofs.big.scale.Goals as goal

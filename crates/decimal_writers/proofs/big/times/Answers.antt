@@ -1,4 +1,4 @@
-use Rattle.std.proofs.Common.{◌<◌, ◌≡◌, length, arith}
+use Rattle.std.proofs.Common.{arith}
 use Rattle.decimal_writers.proofs.Bigs.{times_none, times_one}
 use Rattle.decimal_writers.proofs.big.times.Goals as goal
 

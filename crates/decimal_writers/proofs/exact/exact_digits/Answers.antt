@@ -1,4 +1,4 @@
-use Rattle.std.proofs.Common.{◌-◌, ◌*◌, ◌+◌, ◌≡◌, ◌^◌, ◌<◌, ◌≤◌, ℕ, ap, ◌∙◌, arith, take}
+use Rattle.std.proofs.Common.{◌-◌, ◌*◌, ◌+◌, ◌≡◌, ◌^◌, ℕ, ap, ◌∙◌, arith, take}
 use Rattle.decimal_writers.specs.Big.{value_of}
 use Rattle.decimal_writers.proofs.ExactDigits.{first_value, down_value, up_value}
 use Rattle.decimal_writers.proofs.exact.exact_digits.Goals as goal
