@@ -11,3 +11,5 @@ pub mod Lone
 pub mod LaidReading
 pub mod InThousands
 pub mod Plainly
+pub mod AmountParts
+pub mod AmountReading

@@ -2,3 +2,4 @@ pub mod Digits
 pub mod Written
 pub mod Valid
 pub mod Layouts
+pub mod Amounts

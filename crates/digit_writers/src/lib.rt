@@ -1,6 +1,7 @@
 //! Writes integers.
 #![tactic(auto)]
 
+mod amounts;
 mod by;
 mod digits;
 mod groups;
@@ -10,6 +11,7 @@ mod thousands;
 mod types;
 mod wide;
 
+pub use self::amounts::write_scaled;
 pub use self::by::{NoRoom, write_number_by};
 pub use self::layout::Layout;
 pub use self::number::write_number;
