@@ -1,7 +1,7 @@
 -- An amount that was written is read.
 use Rattle.std.proofs.Common.{◌≡◌, ℕ, ℤ, zero, suc, ◌+◌, ◌-◌, ◌*◌, ◌/◌, ◌%◌, ◌^◌, ◌<◌, ◌≤◌, Bool, true, false, List, [], ◌∷◌, ◌++◌, length, take, get_or, refl, sym, ap, subst, ◌∙◌, inl, inr, arith, filter, append_assoc, length-append}
 use Rattle.std.specs.Prelude.{Result, Ok, Err, IfOk, IsTrue, Some, None, decimal, slice_get, if◌then◌else◌, ◌==◌}
-use Rattle.std.specs.List.{splice, list_all}
+use Rattle.std.specs.List.{splice, list_all, slice_range}
 use Rattle.std.specs.Str.Parse.{AllDigits, digits_value, digits_value_after}
 use Rattle.std.proofs.Math.Nat.{one-le-pow, div-le_self}
 use Rattle.std.proofs.lemmas.Bool.Decides.{nat_tests}
@@ -91,7 +91,7 @@ get_past xs ys i =
 same_byte : (byte : ℕ) → (byte == byte) ≡ true
 same_byte byte = grind (arith, nat_tests)
 
-quotient_few : (n k : ℕ) → n < 10 ^ 64 → n / k < 10 ^ 64
+pub quotient_few : (n k : ℕ) → n < 10 ^ 64 → n / k < 10 ^ 64
 quotient_few n k few = omega (arith, div-le_self n k)
 
 -- a number of some digits, which is neither too large nor too fine
@@ -251,6 +251,16 @@ module _ (word point places n : ℕ) (front whole : List ℕ) (by : ReadsAmounts
     | inr some ↦ some_fraction some.0 some.1
   ]
 
+  -- what a reader of prices asks: the digits of the integer, and how many places there are
+  pub whole_bytes : slice_range text start (digits_end word text Integer start) ≡ whole
+  whole_bytes = ap (slice_range text start) whole_end ∙ whole_there.same
+
+  pub places_are : length (fraction_digits word text point (digits_end word text Integer start))
+      ≡ places
+  places_are =
+      ap length (ap (fraction_digits word text point) whole_end ∙ has_fraction.digits)
+      ∙ length_last 10 false places n
+
   -- the number
   pub scaled_is : (most : ℕ) → n ≤ most
       → scaled_at word text point places most start ≡ Ok (n, length text)
@@ -272,7 +282,7 @@ module _ (word point places n : ℕ) (front whole : List ℕ) (by : ReadsAmounts
 
 -- ---- a sign before it
 
-digits_of_whole : (word n between every : ℕ) → IsTrue (is_supported word) → mantissa_radix word ≡ 10
+pub digits_of_whole : (word n between every : ℕ) → IsTrue (is_supported word) → mantissa_radix word ≡ 10
     → n < 10 ^ 64 → (0 < every → is_digit (rule_of word Integer) between ≡ false)
     → (0 < every → (is_separator (rule_of word Integer).separator between ≡ true)
     × ((rule_of word Integer).internal ≡ true))
@@ -310,7 +320,7 @@ module _ (word point places least most n : ℕ) (rest : List ℕ) where
       → read_scaled_at word rest point places least most 0 ≡ Ok (signed false n, length rest)
   plain_scaled some none read = grind (arith, nat_tests, gets, none, read)
 
-first_of : (xs ys : List ℕ) → 0 < length xs → get_or (xs ++ ys) 0 0 ≡ get_or xs 0 0
+pub first_of : (xs ys : List ℕ) → 0 < length xs → get_or (xs ++ ys) 0 0 ≡ get_or xs 0 0
 first_of [] ys some = absurd (omega arith)
 first_of (x ∷ xs) ys some = refl
 

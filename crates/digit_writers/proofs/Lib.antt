@@ -13,3 +13,5 @@ pub mod InThousands
 pub mod Plainly
 pub mod AmountParts
 pub mod AmountReading
+pub mod PriceReading
+pub mod ReadBack

@@ -1,5 +1,5 @@
 -- The text of an amount in units of its last place, and which words read it.
-use Rattle.std.specs.Prelude.{◌≡◌, ℕ, zero, suc, ℤ, ◌/◌, ◌^◌, unsigned_abs, Bool, true, false, List, [], ◌∷◌, ◌++◌, decimal, Some, IsTrue}
+use Rattle.std.specs.Prelude.{◌≡◌, ℕ, zero, suc, ℤ, ◌/◌, ◌^◌, ◌<◌, unsigned_abs, Bool, true, false, List, [], ◌∷◌, ◌++◌, decimal, Some, IsTrue}
 use Rattle.std.specs.Int.{is_negative}
 use Rattle.lexical_format.specs.Word.{is_supported, separator, bit}
 use Rattle.lexical_digits.specs.declared.skip.component.Component.TheVariants.{Integer}
@@ -42,5 +42,6 @@ pub record ReadsAmounts (word point : ℕ) : Type 0 where
 -- one that also drops the byte between groups
 pub record ReadsPrices (word point between : ℕ) : Type 0 where
   pub amounts : ReadsAmounts word point
+  pub some : 0 < between
   pub separates : separator word ≡ between
   pub internal : bit word 32 ≡ true
