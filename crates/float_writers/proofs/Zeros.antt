@@ -1,8 +1,8 @@
 -- Zeros at the end of digits.
-use Rattle.std.proofs.Common.{◌≡◌, ℕ, zero, suc, ◌+◌, ◌-◌, ◌*◌, ◌/◌, ◌%◌, ◌^◌, ◌<◌, ◌≤◌, sym, ap, ◌∙◌, inl, inr, arith, mul-le-mul_right}
+use Rattle.std.proofs.Common.{◌≡◌, ℕ, suc, ◌+◌, ◌-◌, ◌*◌, ◌/◌, ◌%◌, ◌^◌, ◌<◌, ◌≤◌, ap, ◌∙◌, inl, inr, arith, mul-le-mul_right}
 use Rattle.std.proofs.lemmas.Bool.{cases_lt}
 use native.Mathlib.Nat.{pow-suc}
-use Rattle.float_writers.proofs.Fewest.{ten_pos, tens_le}
+use Rattle.float_writers.proofs.Fewest.{tens_le}
 
 -- with one zero less
 pub one_less : (left up power digits : ℕ) → left % 10 ≡ 0 → power ≤ up → left * 10 ^ (up - power) ≡ digits
