@@ -4,6 +4,7 @@
 use float_writers::{WrittenFloat, shortest};
 
 /// A float's shortest decimal; no digits where there is none.
+#[derive(Clone, Copy)]
 #[repr(C)]
 pub struct Written {
     pub digits: u64,
