@@ -6,6 +6,5 @@ mod grid;
 mod parts;
 mod powers;
 
-
-pub use self::parts::{Parts, WrittenFloat};
 pub use self::decimal::{Decimal, shortest};
+pub use self::parts::{Parts, WrittenFloat};
