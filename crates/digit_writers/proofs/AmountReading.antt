@@ -32,7 +32,7 @@ use Rattle.digit_writers.proofs.AmountParts.{fraction_cases}
 use Rattle.digit_writers.proofs.Grouped.{group_zero}
 use Rattle.digit_writers.proofs.LaidReading.{last_all, last_value, filter_group, first_group, lone_group, digit_is, no_sign}
 use Rattle.digit_writers.proofs.LastDigits.{last_of_rest, length_last, no_digits}
-use Rattle.digit_writers.specs.declared.by.NoRoom.{NoRoom}
+use Rattle.decimal_writers.specs.declared.room.NoRoom.{NoRoom}
 use Rattle.lexical_format.specs.Word.{is_supported, mantissa_radix}
 use Rattle.digit_writers.proofs.Splices.{take_spliced}
 use Rattle.digit_writers.proofs.Lone.{IsLone, stop_at, lone_digits}

@@ -20,7 +20,7 @@ use Rattle.digit_literals.specs.Integers.{integer_at}
 use Rattle.digit_literals.specs.Numbers.{number_at, signed}
 use Rattle.digit_literals.specs.Written.{IsWrittenAt}
 use Rattle.digit_literals.proofs.Written.{whole_written, later_written}
-use Rattle.digit_writers.specs.declared.by.NoRoom.{NoRoom}
+use Rattle.decimal_writers.specs.declared.room.NoRoom.{NoRoom}
 use Rattle.digit_writers.specs.declared.layout.Layout.{Layout}
 use Rattle.digit_writers.specs.Digits.{last_digits}
 use Rattle.digit_writers.specs.Layouts.{laid_out, text_of, IsLaidOut, HasNoRoom, grouped, before, digit_count, digits_in, sign_of, IsReadBy}

@@ -18,7 +18,7 @@ use Rattle.lexical_digits.proofs.Rule.Supported.{supported_rule}
 use Rattle.digit_literals.specs.Numbers.{signed, digits_from}
 use Rattle.digit_lists.specs.Groups.{is_group, wrong_of, wrong_at}
 use Rattle.digit_lists.specs.Prices.{price_at, any_at, of_number, if_exact, if_grouped, places_at}
-use Rattle.digit_writers.specs.declared.by.NoRoom.{NoRoom}
+use Rattle.decimal_writers.specs.declared.room.NoRoom.{NoRoom}
 use Rattle.digit_writers.specs.Amounts.{fraction_text, magnitude_text, ReadsPrices}
 use Rattle.digit_writers.specs.Layouts.{grouped, before, thousands, sign_of}
 use Rattle.digit_writers.proofs.AmountReading.{AreDigitsOf, digits_of_whole, amount_is_read, whole_bytes, places_are, first_of, quotient_few}

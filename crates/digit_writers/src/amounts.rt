@@ -8,12 +8,13 @@ ghost use Rattle.digit_writers.specs.Digits.{last_decimals};
 ghost use Rattle.digit_writers.specs.Layouts.{sign_of};
 ghost use Rattle.digit_writers.specs.Amounts.{whole_text, fraction_text, magnitude_text, amount_text, ReadsAmounts, ReadsPrices};
 
-use super::by::{NoRoom, count_signs, put_sign};
+use super::by::{count_signs, put_sign};
 use super::groups::{count_digits, count_gaps, put_last};
 use super::layout::Layout;
 use super::thousands::put_thousands;
 use super::types::Written;
 use super::wide::put_number;
+use decimal_writers::NoRoom;
 
 /// Ten to a power.
 fn ten_to(n: usize) -> u128

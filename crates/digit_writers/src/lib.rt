@@ -11,7 +11,7 @@
 //!
 //! [`write_number`] writes the shortest text: `parse_number` reads it back by each word of radix 10,
 //! and no shorter text. It requires room for each number of the type ([`Written::ROOM`]). The others
-//! answer the room that is needed, if there is less ([`NoRoom`]), and then write nothing. What is
+//! answer the room that is needed, if there is less ([`NoRoom`](decimal_writers::NoRoom)), and then write nothing. What is
 //! behind the text isn't touched.
 //!
 //! [`write_number_by`] writes in a [`Layout`]: radix and case, groups, zeros and `+`. A word reads
@@ -34,7 +34,7 @@ mod types;
 mod wide;
 
 pub use self::amounts::{write_price, write_scaled};
-pub use self::by::{NoRoom, write_number_by};
+pub use self::by::write_number_by;
 pub use self::layout::Layout;
 pub use self::number::write_number;
 pub use self::types::{MOST_ROOM, Written};
