@@ -41,7 +41,7 @@ def crates():
 # library for C.
 INNER = ("digit_hello", "digit_uses", "digit_requests", "digit_drain", "digit_totals", "digit_sum",
          "digit_vectors", "number_vectors", "list_vectors", "digit_bench", "digits_c", "digit_jobs",
-         "digit_rows")
+         "digit_rows", "writer_vectors", "writer_rows")
 
 # The crate that only passes on what the others have.
 DOOR = "digits"

@@ -1,12 +1,14 @@
 //! Laws of lists: functions that do nothing. Their contracts are the laws.
 
-ghost use Rattle.std.specs.Prelude.{◌≡◌, ℕ, ◌+◌, true, false, length, Ok, Err};
+ghost use Rattle.std.specs.Prelude.{◌≡◌, ℕ, ◌+◌, true, false, List, length, Ok, Err};
 ghost use Rattle.std.specs.Float.{Format};
 ghost use Rattle.lexical_digits.specs.State.{rule_of};
 ghost use Rattle.lexical_digits.specs.declared.skip.component.Component.TheVariants.{Integer};
-ghost use Rattle.digit_literals.specs.Lists.{past_blanks, list_at, and_then};
+ghost use Rattle.digit_literals.specs.ListEnds.{EndSays};
+ghost use Rattle.digit_literals.specs.Lists.{past_blanks, list_at, and_then, Fills};
 ghost use Rattle.digit_literals.specs.Numbers.{number_at};
 ghost use Rattle.digit_literals.specs.declared.LiteralError.TheVariants as integers;
+ghost use Rattle.digit_literals.specs.declared.list.ListRead.{ListRead};
 ghost use Rattle.digit_floats.specs.Float.{plain_marks, read_at};
 ghost use Rattle.digit_floats.specs.Scaled.{read_scaled_at};
 ghost use Rattle.digit_floats.specs.declared.error.FloatError.TheVariants as floats;
@@ -22,17 +24,31 @@ ghost use Rattle.digit_pieces.specs.declared.kinds.both.BothError.TheVariants as
 ghost use Rattle.digit_lists.specs.Lists.{full_list, parsed};
 ghost use Rattle.digit_lists.specs.declared.list.ListError.TheVariants as lists;
 
+use super::list::OfKind;
 use digit_literals::Gap;
+use digit_literals::laws::lists::{any_list_ends_say, any_list_goes_on};
 use digit_pieces::{Both, Kind};
 
-/// A list of any kind may be read by several calls. With room for `n` numbers, and then, where the
-/// slice was full, with room for `m`, they are the numbers with room for all; and the list ends as
-/// that.
+/// A list of any kind may be read by several calls:
+/// [`any_list_goes_on`](digit_literals::laws::lists::any_list_goes_on) of its numbers.
 pub fn a_list_by_goes_on<K: Kind>(kind: K, text: &[u8], gap: Gap)
     ensures { (n m start : ℕ) →
         let of = list_at (K.number_at kind text.now) K.none_at gap text.now in
         of (n + m) start ≡ and_then (of n start) (of m) }
-{}
+{
+    any_list_goes_on(OfKind { kind }, text, gap)
+}
+
+/// What the end of a list of any kind says:
+/// [`any_list_ends_say`](digit_literals::laws::lists::any_list_ends_say) of its numbers.
+pub fn list_by_ends_say<K: Kind>(kind: K, text: &[u8], gap: Gap)
+    ensures { (start : ℕ) (read : ListRead K.Error) (old new : List K.Number) →
+        let of = list_at (K.number_at kind text.now) K.none_at gap text.now in
+        Fills K.meaning (of (length old) start) read old new →
+        EndSays gap text.now (length old) read }
+{
+    any_list_ends_say(OfKind { kind }, text, gap)
+}
 
 /// A text of blanks, and so an empty one, is a list of no numbers if the gap may trail. Otherwise
 /// it is none, and the error is that of the number at the end of the text. Requires that this

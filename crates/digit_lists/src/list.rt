@@ -6,7 +6,7 @@ ghost use Rattle.digit_lists.specs.Lists.{after_full, full_list, parsed, Holds};
 ghost use Rattle.digit_lists.specs.Errors.{list_position, list_message};
 
 use super::error::NoNumber;
-use digit_literals::{Gap, ListEnd, ListRead};
+use digit_literals::{Gap, ListEnd, ListRead, ReadsOne, read_list_with};
 use digit_pieces::Kind;
 use std::error::Error;
 use std::fmt;
@@ -48,6 +48,38 @@ impl<E: fmt::Display> fmt::Display for ListError<E> {
 
 impl<E: Error> Error for ListError<E> {}
 
+/// The numbers of a kind, as a list has them.
+#[derive(Clone, Copy)]
+pub(super) struct OfKind<K: Kind> {
+    pub(super) kind: K,
+}
+
+impl<K: Kind> ReadsOne for OfKind<K> {
+    type Number = K::Number;
+
+    type Error = K::Error;
+
+    ghost Meaning = { K.Meaning };
+
+    ghost meaning = { K.meaning };
+
+    ghost valid = { λ of. K.valid of.kind };
+
+    ghost number_at = { λ of text start. K.number_at of.kind text start };
+
+    ghost none_at = { K.none_at };
+
+    #[inline(always)]
+    fn read_number(self, text: &[u8], start: usize) -> Result<(K::Number, usize), K::Error> {
+        self.kind.read_number(text, start)
+    }
+
+    #[inline(always)]
+    fn is_none_at(error: K::Error, place: usize) -> bool {
+        K::is_none_at(error, place)
+    }
+}
+
 /// The numbers of a kind from `start` on, read into a slice, with what `gap` says between two of
 /// them: [`read_list`](digit_literals::read_list) of any kind of numbers, which ends as that does.
 /// Requires that the kind is valid and that `start` is within the text.
@@ -56,7 +88,6 @@ impl<E: Error> Error for ListError<E> {}
 /// decimal numbers of 2 places, `1.5, 2 ,3]` with COMMAS, into 3 places: count 3, Over(9)
 /// ```
 #[inline(always)]
-#[tactic(auto, using(digit_literals::proofs::Lists::turns))]
 pub fn read_list_by<K: Kind>(
     kind: K,
     text: &[u8],
@@ -73,31 +104,7 @@ pub fn read_list_by<K: Kind>(
     ensures full { IfFull result.end (λ at. (start ≤ at) × (at ≤ length text.now)) }
     ensures over { IfOver result.end (λ at. (start ≤ at) × (at ≤ length text.now)) }
 {
-    let mut at = start;
-    for count in 0..out.len() {
-        let place = gap.past_blanks(text, at);
-        let (number, end) = match kind.read_number(text, place) {
-            Ok(read) => read,
-            Err(error) => {
-                let end = gap.no_number(place, K::is_none_at(error, place), error);
-                return ListRead { count, end };
-            }
-        };
-        out[count] = number;
-        match gap.next_after(text, end) {
-            Ok(next) => at = next,
-            Err(over) => {
-                return ListRead {
-                    count: count + 1,
-                    end: ListEnd::Over(over),
-                };
-            }
-        }
-    }
-    ListRead {
-        count: out.len(),
-        end: ListEnd::Full(at),
-    }
+    read_list_with(OfKind { kind }, text, start, gap, out)
 }
 
 /// Why a list ends that has filled its slice, where the next number may be.

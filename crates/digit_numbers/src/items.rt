@@ -3,7 +3,8 @@
 ghost use Rattle.std.specs.Prelude.{◌≡◌, ℕ, ◌≤◌, Bool, List, length, take, Result, IfOk};
 ghost use Rattle.digit_literals.specs.Lists.{list_at, Fills, IfFull, IfOver};
 
-use digit_literals::{Gap, ListEnd, ListRead};
+use digit_literals::{Gap, ListRead, ReadsOne, read_list_with};
+use std::marker::PhantomData;
 
 /// A value of your own that is read from a text, such as a point or a row.
 pub trait Item: Copy {
@@ -35,6 +36,46 @@ pub trait Item: Copy {
         ensures { result ≡ none_at place error };
 }
 
+/// The values of a type of your own, as a list has them.
+#[derive(Clone, Copy)]
+pub struct Items<T: Item> {
+    of: PhantomData<T>,
+}
+
+impl<T: Item> Items<T> {
+    /// The values of a type.
+    #[inline(always)]
+    pub const fn new() -> Items<T> {
+        Items { of: PhantomData }
+    }
+}
+
+impl<T: Item> ReadsOne for Items<T> {
+    type Number = T;
+
+    type Error = T::Error;
+
+    ghost Meaning = { T };
+
+    ghost meaning = { λ item. item };
+
+    ghost valid = { λ k. Unit {0} };
+
+    ghost number_at = { λ k text start. T.item_at text start };
+
+    ghost none_at = { T.none_at };
+
+    #[inline(always)]
+    fn read_number(self, text: &[u8], start: usize) -> Result<(T, usize), T::Error> {
+        T::read_item(text, start)
+    }
+
+    #[inline(always)]
+    fn is_none_at(error: T::Error, place: usize) -> bool {
+        T::is_none_at(error, place)
+    }
+}
+
 /// The values of a type of your own from `start` on, read into a slice: each as by its
 /// [`read_item`](Item::read_item), with what `gap` says between two of them. It is
 /// [`read_list`](digit_literals::read_list) of these values, and ends as that does. Requires that
@@ -52,29 +93,5 @@ pub fn read_items<T: Item>(text: &[u8], start: usize, gap: Gap, out: &mut [T]) -
     ensures full { IfFull result.end (λ at. (start ≤ at) × (at ≤ length text.now)) }
     ensures over { IfOver result.end (λ at. (start ≤ at) × (at ≤ length text.now)) }
 {
-    let mut at = start;
-    for count in 0..out.len() {
-        let place = gap.past_blanks(text, at);
-        let (item, end) = match T::read_item(text, place) {
-            Ok(read) => read,
-            Err(error) => {
-                let end = gap.no_number(place, T::is_none_at(error, place), error);
-                return ListRead { count, end };
-            }
-        };
-        out[count] = item;
-        match gap.next_after(text, end) {
-            Ok(next) => at = next,
-            Err(over) => {
-                return ListRead {
-                    count: count + 1,
-                    end: ListEnd::Over(over),
-                };
-            }
-        }
-    }
-    ListRead {
-        count: out.len(),
-        end: ListEnd::Full(at),
-    }
+    read_list_with(Items::<T>::new(), text, start, gap, out)
 }

@@ -15,7 +15,6 @@ ghost use Rattle.digit_numbers.specs.Numbers.{number_of_at, to_end};
 
 pub mod alike;
 pub mod follows;
-pub mod lists;
 pub mod names;
 pub mod texts;
 

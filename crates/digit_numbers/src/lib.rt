@@ -23,8 +23,8 @@ pub use self::form::{
     AfterPoint, Exponents, Form, HexFloats, NameSign, Signs, Special, SpecialValue, Specials,
     Whole, is_form,
 };
-pub use self::items::{Item, read_items};
-pub use self::list::read_list_of;
+pub use self::items::{Item, Items, read_items};
+pub use self::list::{OfForm, read_list_of};
 pub use self::number::{Number, NumberError, parse_number_of, read_number_of};
 pub use self::numbered::form_of;
 pub use digit_literals::{expect_bytes, has_bytes};

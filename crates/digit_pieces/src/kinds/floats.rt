@@ -1,38 +1,15 @@
 //! Floats of a type, by a format word.
 
-ghost use Rattle.std.specs.Prelude.{◌≡◌};
-
 use super::bytes::{is_mark, is_of_component, is_scaled_byte};
 use crate::kind::Kind;
-use digit_floats::{Float, FloatError, read_float_from};
+pub use digit_floats::Floats;
+use digit_floats::{Float, FloatError};
+use digit_literals::ReadsOne;
 use lexical_digits::skip::Component;
-use std::marker::PhantomData;
-
-/// The floats of a type by a format word, as [`read_float_from`](digit_floats::read_float_from)
-/// reads them: with the point `.` and the mark `e` or `E`.
-#[derive(Clone, Copy)]
-pub struct Floats<F: Float> {
-    /// The format word.
-    pub word: u128,
-    of: PhantomData<F>,
-}
-
-impl<F: Float> Floats<F> {
-    /// The floats of a type by a word.
-    #[inline(always)]
-    pub const fn new(word: u128) -> Floats<F>
-        ensures { result.word ≡ word }
-    {
-        Floats {
-            word,
-            of: PhantomData,
-        }
-    }
-}
 
 impl<F: Float> Kind for Floats<F> {
     ghost use Rattle.std.proofs.Props.{props};
-    ghost use Rattle.std.specs.Prelude.{◌≡◌, ◌+◌, ◌<◌, IsTrue};
+    ghost use Rattle.std.specs.Prelude.{◌+◌, ◌<◌, IsTrue};
     ghost use Rattle.std.specs.Float as Ieee;
     ghost use Rattle.lexical_format.specs.Word.{is_supported};
     ghost use Rattle.digit_floats.specs.Errors.{none_at as float_none_at, position};
@@ -65,7 +42,7 @@ impl<F: Float> Kind for Floats<F> {
 
     #[inline(always)]
     fn read_number(self, text: &[u8], start: usize) -> Result<(F, usize), FloatError> {
-        read_float_from::<F>(text, self.word, start)
+        ReadsOne::read_number(self, text, start)
     }
 
     fn has_byte(self, byte: u8) -> bool {

@@ -1,38 +1,14 @@
 //! Integers of a type, by a format word.
 
-ghost use Rattle.std.specs.Prelude.{◌≡◌};
-
 use super::bytes::{is_of_component, is_sign};
 use crate::kind::Kind;
-use digit_literals::{Integer, LiteralError, read_number_from};
+pub use digit_literals::Integers;
+use digit_literals::{Integer, LiteralError, ReadsOne};
 use lexical_digits::skip::Component;
-use std::marker::PhantomData;
-
-/// The integers of a type by a format word, as
-/// [`read_number_from`](digit_literals::read_number_from) reads them.
-#[derive(Clone, Copy)]
-pub struct Integers<T: Integer> {
-    /// The format word.
-    pub word: u128,
-    of: PhantomData<T>,
-}
-
-impl<T: Integer> Integers<T> {
-    /// The integers of a type by a word.
-    #[inline(always)]
-    pub const fn new(word: u128) -> Integers<T>
-        ensures { result.word ≡ word }
-    {
-        Integers {
-            word,
-            of: PhantomData,
-        }
-    }
-}
 
 impl<T: Integer> Kind for Integers<T> {
     ghost use Rattle.std.proofs.Props.{props};
-    ghost use Rattle.std.specs.Prelude.{◌≡◌, ◌+◌, ◌<◌, ℤ, IsTrue};
+    ghost use Rattle.std.specs.Prelude.{◌+◌, ◌<◌, ℤ, IsTrue};
     ghost use Rattle.lexical_format.specs.Word.{is_supported};
     ghost use Rattle.lexical_digits.specs.State.{rule_of};
     ghost use Rattle.lexical_digits.specs.declared.skip.component.Component.TheVariants as components;
@@ -67,7 +43,7 @@ impl<T: Integer> Kind for Integers<T> {
 
     #[inline(always)]
     fn read_number(self, text: &[u8], start: usize) -> Result<(T, usize), LiteralError> {
-        read_number_from::<T>(text, self.word, start)
+        ReadsOne::read_number(self, text, start)
     }
 
     fn has_byte(self, byte: u8) -> bool {

@@ -1,35 +1,11 @@
 //! The kind of numbers by a form.
 
-ghost use Rattle.std.specs.Prelude.{◌≡◌};
-ghost use Rattle.digit_numbers.specs.Forms.{IsForm};
-
 use super::form_bytes::is_number_byte;
 use crate::kind::Kind;
 use digit_floats::Float;
-use digit_numbers::{Form, Number, NumberError, read_number_of};
-use std::marker::PhantomData;
-
-/// The numbers by a form, as [`read_number_of`](digit_numbers::read_number_of) reads them with
-/// floats of a type. [`is_form`](digit_numbers::is_form) says which forms may be read by.
-#[derive(Clone, Copy, Debug)]
-pub struct OfForm<F: Float> {
-    /// The form.
-    pub form: Form,
-    of: PhantomData<F>,
-}
-
-impl<F: Float> OfForm<F> {
-    /// The numbers by a form.
-    #[inline(always)]
-    pub const fn new(form: Form) -> OfForm<F>
-        ensures { result.form ≡ form }
-    {
-        OfForm {
-            form,
-            of: PhantomData,
-        }
-    }
-}
+use digit_literals::ReadsOne;
+pub use digit_numbers::OfForm;
+use digit_numbers::{Number, NumberError};
 
 impl<F: Float> Kind for OfForm<F> {
     ghost use Rattle.std.proofs.Props.{props};
@@ -67,7 +43,7 @@ impl<F: Float> Kind for OfForm<F> {
 
     #[inline(always)]
     fn read_number(self, text: &[u8], start: usize) -> Result<(Number<F>, usize), NumberError> {
-        read_number_of::<F>(text, start, self.form)
+        ReadsOne::read_number(self, text, start)
     }
 
     fn has_byte(self, byte: u8) -> bool {
