@@ -7,3 +7,4 @@ pub use Rattle.lexical_format.specs.declared.builder.TheConstants.{ALL_FLAGS, DE
 pub use Rattle.digit_literals.specs.declared.bytes.TheConstants.{BLANKS}
 pub use Rattle.digit_literals.specs.declared.list.TheConstants.{COMMAS, COMMAS_IN_LINE, LINES}
 pub use Rattle.digit_literals.specs.declared.list.TheConstants.{SPACES_IN_LINE, WHITESPACE}
+pub use Rattle.digit_writers.specs.declared.types.TheConstants.{MOST_ROOM}

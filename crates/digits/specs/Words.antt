@@ -83,3 +83,9 @@ pub use Rattle.digit_lists.specs.Empty.{number_is_empty, scaled_is_empty}
 pub use Rattle.digit_lists.specs.Groups.{AreGroups, groups_at, wrong_at}
 pub use Rattle.digit_lists.specs.Prices.{exact_at, grouped_at, places_at, price_at}
 pub use Rattle.digit_lists.specs.Prices.{price_is_empty, price_none_at, price_position}
+-- numbers that are written
+pub use Rattle.decimal_writers.specs.declared.room.NoRoom.{NoRoom}
+pub use Rattle.decimal_writers.specs.Room.{Writes}
+pub use Rattle.digit_writers.specs.declared.layout.Layout.{Layout}
+pub use Rattle.digit_writers.specs.Layouts.{IsReadBy, laid_out}
+pub use Rattle.digit_writers.specs.Written.{IsOfRadix, IsShortest, Reads}

@@ -1,10 +1,15 @@
 //! The calls that read a number from a text, under one name: integers, floats, decimal numbers,
-//! literals of languages, and numbers by the grammar of a language or a data format. The words of
-//! their contracts are those of `specs/Words.antt`.
+//! literals of languages, and numbers by the grammar of a language or a data format; and the calls
+//! that write one. The words of their contracts are those of `specs/Words.antt`.
 //!
 //! A crate that depends on this one needs none of those below it.
 #![tactic(auto)]
 
+pub use decimal_writers::NoRoom;
+pub use decimal_writers::write_exponent;
+pub use decimal_writers::write_fixed;
+pub use decimal_writers::write_plain;
+pub use decimal_writers::write_usual;
 pub use digit_floats::Decimal;
 pub use digit_floats::Float;
 pub use digit_floats::FloatError;
@@ -126,6 +131,13 @@ pub use digit_streams::NumberReader;
 pub use digit_streams::StreamEnd;
 pub use digit_streams::StreamError;
 pub use digit_streams::StreamRead;
+pub use digit_writers::Layout;
+pub use digit_writers::MOST_ROOM;
+pub use digit_writers::Written;
+pub use digit_writers::write_number;
+pub use digit_writers::write_number_by;
+pub use digit_writers::write_price;
+pub use digit_writers::write_scaled;
 pub use lexical_digits::ops::ByteSet;
 pub use lexical_digits::skip::Component;
 pub use lexical_digits::skip::Rule;
