@@ -32,9 +32,6 @@ module _ (radix : ℕ) (low : 2 ≤ radix) where
       let step = length-digits_of_step radix n low (omega (arith, l, low)) in
       omega (arith, step, some (n / radix) quotient)
 
-  pub count_least : (n : ℕ) → 1 ≤ digit_count radix n
-  count_least n = omega arith
-
   -- so many digits hold it
   pub count_holds : (n : ℕ) → n < radix ^ digit_count radix n
   count_holds n =

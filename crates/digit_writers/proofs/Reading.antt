@@ -1,7 +1,7 @@
 -- The text of a number is read as the number, and no shorter one is.
 use Rattle.std.proofs.Common.{◌≡◌, ℕ, ℤ, zero, suc, ◌+◌, ◌-◌, ◌^◌, ◌<◌, ◌≤◌, Bool, true, false, List, [], ◌∷◌, ◌++◌, length, take, drop, refl, sym, ap, subst, ◌∙◌, arith, filter, unsigned_abs}
 use Rattle.std.specs.Prelude.{Result, Ok, Err, decimal, slice_range, if◌then◌else◌}
-use Rattle.std.specs.Fmt.{sign_text, signed_decimal}
+use Rattle.std.specs.Fmt.{sign_text}
 use Rattle.std.proofs.lemmas.Bool.Decides.{nat_tests}
 use Rattle.std.proofs.lemmas.Fmt.{length-decimal-le_wide, decimal_is_IsNumeral_wide}
 use Rattle.std.proofs.lemmas.Int.Digits.{digits_value-lt}
@@ -137,14 +137,6 @@ module _ (word least most n : ℕ) (of : IsOfRadix 10 word) (few : n < 10 ^ 64) 
       let read = number_read rule text 0 least most n of.1 few negative fits sure
       (whole_written rule text) in
       to_the_end text _ _ (rw none at read)
-
--- ---- what std writes of a number with its sign
-
-pub signed_text : (negative : Bool) (n : ℕ) → (negative ≡ true → 0 < n)
-    → sign_text negative ++ decimal n ≡ signed_decimal (signed negative n)
-signed_text false n some = refl
-signed_text true zero some = absurd (omega (arith, some refl))
-signed_text true (suc n) some = refl
 
 -- ---- what was written at the front of a slice
 
