@@ -23,7 +23,8 @@ pub whole_length : (separator n count : ℕ) → n < 10 ^ 64 → count ≡ digit
 whole_length separator n count few is =
     let long : length (decimal n) ≡ count = decimal_count n few ∙ sym is in (
       sym long,
-      λ gap between. omega (arith, length_group separator 3 (decimal n), long, between, ap (gaps 3) long),
+      λ gap between. omega
+          (arith, length_group separator 3 (decimal n), long, between, ap (gaps 3) long),
     )
 
 -- ---- the fraction
@@ -86,9 +87,11 @@ module _ (grouped : Bool) (separator point places : ℕ) (negative : Bool) (n : 
       → one ≡ splice out 0 start (sign_of false negative)
       → middle ≡ start + length (whole_text grouped separator w)
       → two ≡ splice one start middle (whole_text grouped separator w)
-      → end ≡ middle + length fraction → three ≡ splice two middle end fraction → length text ≤ length out
+      → end ≡ middle + length fraction → three ≡ splice two middle end fraction
+      → length text ≤ length out
       → (end ≡ length text) × (end ≤ length out) × (three ≡ splice out 0 end text)
-  amount_written out one two three start middle end w same first sign second integer third places_there room =
+  amount_written out one two three start middle end w same first sign second integer third
+      places_there room =
       let signs : List ℕ = sign_of false negative in
       let inner = ap (λ (k : ℕ). length (whole_text grouped separator k)) same in
       let long = amount_length in
@@ -99,7 +102,13 @@ module _ (grouped : Bool) (separator point places : ℕ) (negative : Bool) (n : 
       let rest : three ≡ splice one start end (whole ++ fraction) =
       places_there ∙ ap (λ (xs : List ℕ). splice xs middle end fraction) integer_there
       ∙ both one whole fraction start middle end (omega (arith, second, inner)) third
-      (omega (arith, last, room, long_one signs start out one first sign (omega (arith, first, long, room)))) in (
+      (omega (
+        arith,
+        last,
+        room,
+        long_one signs start out one first sign
+            (omega (arith, first, long, room)),
+      )) in (
         last,
         omega (arith, last, room),
         rest ∙ ap (λ (xs : List ℕ). splice xs start end (whole ++ fraction)) sign

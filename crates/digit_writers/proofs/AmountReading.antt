@@ -50,8 +50,10 @@ value_is n places few =
     let power : 0 < 10 ^ places = one-le-pow places 10 (omega arith) in
     let rest : digits_value 10 fr ≡ n % 10 ^ places =
     ap (digits_value 10) (sym (last_of_rest 10 false places n (omega arith)))
-    ∙ last_value 10 false (omega arith) (omega arith) places (n % 10 ^ places) (mod_below n (10 ^ places) power) in
-    let pieces : digits_value_after 10 (n / 10 ^ places) fr ≡ n / 10 ^ places * 10 ^ places + n % 10 ^ places =
+    ∙ last_value 10 false (omega arith) (omega arith) places (n % 10 ^ places)
+    (mod_below n (10 ^ places) power) in
+    let pieces : digits_value_after 10 (n / 10 ^ places) fr ≡ n / 10 ^ places * 10 ^ places + n %
+    10 ^ places =
     value_of_pieces 10 (n / 10 ^ places) fr
     ∙ (λ i. n / 10 ^ places * 10 ^ long i + rest i) in
     rw (all, none) (omega (arith, pieces, div-add-mod' n (10 ^ places)))
@@ -166,7 +168,8 @@ module _ (word point places n : ℕ) (front whole : List ℕ) (by : ReadsAmounts
   no_fraction : places ≡ 0 → fraction ≡ [] → HasFraction
   unfolding fraction_digits fraction_end
   no_fraction zeros e =
-      let none : slice_get text middle ≡ None = after_whole ∙ ap (λ (f : List ℕ). slice_get f 0) e in
+      let none : slice_get text middle ≡ None = after_whole
+      ∙ ap (λ (f : List ℕ). slice_get f 0) e in
       let not_there : stands (is_point point) text middle ≡ false =
       ap (holds_of (is_point point)) none in
       let empty : last_decimals places n ≡ [] =
@@ -175,10 +178,12 @@ module _ (word point places n : ℕ) (front whole : List ℕ) (by : ReadsAmounts
       let inner = length-append whole fraction in
       record {
         digits =
-            ap (λ (b : Bool). if b then digits_from word text Fraction (middle + 1) else []) not_there
+            ap (λ (b : Bool). if b then digits_from word text Fraction (middle + 1) else [])
+            not_there
             ∙ sym empty;
         end =
-            ap (λ (b : Bool). if b then digits_end word text Fraction (middle + 1) else middle) not_there
+            ap (λ (b : Bool). if b then digits_end word text Fraction (middle + 1) else middle)
+            not_there
             ∙ omega (arith, joined, inner, ap length e);
       }
 
@@ -240,9 +245,11 @@ module _ (word point places n : ℕ) (front whole : List ℕ) (by : ReadsAmounts
         ap (holds_of (is_point point)) byte ∙ same_byte point in
         record {
           digits =
-              ap (λ (b : Bool). if b then digits_between rule text (middle + 1) (stop rule text (middle + 1) 0) else []) there
+              ap (λ (b : Bool). if b then digits_between rule text (middle + 1)
+              (stop rule text (middle + 1) 0) else []) there
               ∙ kept;
-          end = ap (λ (b : Bool). if b then stop rule text (middle + 1) 0 else middle) there ∙ stops;
+          end = ap (λ (b : Bool). if b then stop rule text (middle + 1) 0 else middle) there
+              ∙ stops;
         }
 
   has_fraction : HasFraction
@@ -267,22 +274,26 @@ module _ (word point places n : ℕ) (front whole : List ℕ) (by : ReadsAmounts
   unfolding scaled_at
   scaled_is most fits =
       let has = has_fraction in
-      let numeral = decimal_is_IsNumeral_wide (n / 10 ^ places) (quotient_few n (10 ^ places) small) in
+      let numeral = decimal_is_IsNumeral_wide (n / 10 ^ places)
+      (quotient_few n (10 ^ places) small) in
       let fraction_same : fraction_digits word text point (digits_end word text Integer start)
       ≡ places_text = ap (fraction_digits word text point) whole_end ∙ has.digits in
       let end : mantissa_end word text point start ≡ length text =
       ap (fraction_end word text point) whole_end ∙ has.end in
-      let worth : scaled_value (digits_value 10 (decimal (n / 10 ^ places))) places places_text ≡ n =
+      let worth : scaled_value (digits_value 10 (decimal (n / 10 ^ places))) places places_text ≡ n
+      =
       ap (λ (w : ℕ). scaled_value w places places_text) numeral.1 ∙ value_is n places few in
       let exact : is_exact places_text places ≡ true =
-      ap (list_all (λ d. d == 48)) (drop_all places places_text (omega (arith, length_last 10 false places n))) in
+      ap (list_all (λ d. d == 48))
+      (drop_all places places_text (omega (arith, length_last 10 false places n))) in
       (λ i. scaled_to word text point places most start (whole_digits i) (fraction_same i))
       ∙ scaled_to_is word text point places most start n (length text)
       (decimal (n / 10 ^ places)) places_text end numeral.0.0 worth fits exact
 
 -- ---- a sign before it
 
-pub digits_of_whole : (word n between every : ℕ) → IsTrue (is_supported word) → mantissa_radix word ≡ 10
+pub digits_of_whole : (word n between every : ℕ) → IsTrue (is_supported word)
+    → mantissa_radix word ≡ 10
     → n < 10 ^ 64 → (0 < every → is_digit (rule_of word Integer) between ≡ false)
     → (0 < every → (is_separator (rule_of word Integer).separator between ≡ true)
     × ((rule_of word Integer).internal ≡ true))
@@ -305,8 +316,10 @@ digits_of_whole word n between every supported ten few apart separates =
 pub plain_whole : (word n : ℕ) → IsTrue (is_supported word) → mantissa_radix word ≡ 10
     → n < 10 ^ 64 → AreDigitsOf (rule_of word Integer) (decimal n) (decimal n)
 plain_whole word n supported ten few =
-    subst (λ (t : List ℕ). AreDigitsOf (rule_of word Integer) t (decimal n)) (group_zero 0 (decimal n))
-    (digits_of_whole word n 0 0 supported ten few (λ p. absurd (omega arith)) (λ p. absurd (omega arith)))
+    subst (λ (t : List ℕ). AreDigitsOf (rule_of word Integer) t (decimal n))
+    (group_zero 0 (decimal n))
+    (digits_of_whole word n 0 0 supported ten few (λ p. absurd (omega arith))
+    (λ p. absurd (omega arith)))
 
 module _ (word point places least most n : ℕ) (rest : List ℕ) where
   minus_scaled : 0 < least
@@ -349,15 +362,20 @@ pub scaled_is_read : (word point places least most n : ℕ) (negative : Bool) (z
     → n < 10 ^ 64 → n ≤ (if negative then least else most) → (negative ≡ true → 0 < n)
     → signed negative n ≡ z
     → IfOk answer (λ end. (end ≡ length (magnitude_text false 0 point places negative n))
-    × (end ≤ length out) × (new ≡ splice out 0 end (magnitude_text false 0 point places negative n)))
+    × (end ≤ length out)
+    × (new ≡ splice out 0 end (magnitude_text false 0 point places negative n)))
     → IfOk answer
     (λ end. read_scaled_at word (take end new) point places least most 0 ≡ Ok (z, end))
-scaled_is_read word point places least most n negative z out new (Err error) by few small fits some number h = tt
-scaled_is_read word point places least most n negative z out new (Ok end) by few small fits some number h =
+scaled_is_read word point places least most n negative z out new (Err error) by few small fits some
+    number h = tt
+scaled_is_read word point places least most n negative z out new (Ok end) by few small fits some
+    number h =
     let text : List ℕ = magnitude_text false 0 point places negative n in
     let front : text ≡ take end new =
     sym (ap (take end) h.2 ∙ take_spliced out text 0 end (omega (arith, h.0)) h.1) in
-    let are = plain_whole word (n / 10 ^ places) by.supported by.decimal.0 (quotient_few n (10 ^ places) small) in
-    let read = amount_is_read word point places least most n (decimal (n / 10 ^ places)) negative by few are small fits some in
+    let are = plain_whole word (n / 10 ^ places) by.supported by.decimal.0
+    (quotient_few n (10 ^ places) small) in
+    let read = amount_is_read word point places least most n (decimal (n / 10 ^ places)) negative
+    by few are small fits some in
     subst (λ (t : List ℕ). read_scaled_at word t point places least most 0 ≡ Ok (z, end)) front
     (read ∙ (λ i. Ok (number i, sym h.0 i)))

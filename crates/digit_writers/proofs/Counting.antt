@@ -19,7 +19,12 @@ module _ (radix : ℕ) (low : 2 ≤ radix) where
   count_one (suc n) l =
       let one : radix ^ 1 ≡ radix =
       pow-suc radix 0 ∙ ap (λ (x : ℕ). x * radix) (pow-zero radix) ∙ omega arith in
-      omega (arith, some (suc n) (omega arith), length-digits_of-le radix 1 (suc n) low (omega (arith, one, l)))
+      omega (
+        arith,
+        some (suc n) (omega arith),
+        length-digits_of-le radix 1 (suc n) low
+            (omega (arith, one, l)),
+      )
 
   pub count_more : (n : ℕ) → radix ≤ n → digit_count radix n ≡ digit_count radix (n / radix) + 1
   count_more n l =
@@ -27,20 +32,20 @@ module _ (radix : ℕ) (low : 2 ≤ radix) where
       let step = length-digits_of_step radix n low (omega (arith, l, low)) in
       omega (arith, step, some (n / radix) quotient)
 
-  pub count_least : (n : ℕ) → 1 ≤ digit_count radix n
-  count_least n = omega arith
-
   -- so many digits hold it
   pub count_holds : (n : ℕ) → n < radix ^ digit_count radix n
   count_holds n =
       let below : n < radix ^ len n =
-      subst (λ (x : ℕ). x < radix ^ len n) (number_digits_of radix n low) (number_lt radix (digits_of radix n) (all_below_base_digits_of radix n low)) in
-      let up : radix ^ len n ≤ radix ^ digit_count radix n = pow-le-pow_right (omega (arith, low)) (omega arith) in
+      subst (λ (x : ℕ). x < radix ^ len n) (number_digits_of radix n low)
+      (number_lt radix (digits_of radix n) (all_below_base_digits_of radix n low)) in
+      let up : radix ^ len n ≤ radix ^ digit_count radix n =
+      pow-le-pow_right (omega (arith, low)) (omega arith) in
       omega (arith, below, up)
 
   -- dividing makes it less
   pub less : (n : ℕ) → radix ≤ n → n / radix < n
-  less n l = div_below n radix n (omega (arith, low)) (let up : n * 2 ≤ n * radix = mul-le-mul_left n low in omega (arith, up, l, low))
+  less n l = div_below n radix n (omega (arith, low))
+      (let up : n * 2 ≤ n * radix = mul-le-mul_left n low in omega (arith, up, l, low))
 
 -- no number of 128 bits has more than 128
 pub count_most : (radix n : ℕ) → 2 ≤ radix → n < 2 ^ 128 → digit_count radix n ≤ 128

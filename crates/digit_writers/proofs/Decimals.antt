@@ -17,7 +17,8 @@ use Rattle.digit_writers.proofs.Splices.{both, one_spliced}
 -- ---- the table
 
 abbrev test_pair : ℕ → Bool
-test_pair n = eqb (get_or PAIRS (n * 2) 0) (48 + n / 10) && eqb (get_or PAIRS (n * 2 + 1) 0) (48 + n % 10)
+test_pair n = eqb (get_or PAIRS (n * 2) 0) (48 + n / 10) && eqb (get_or PAIRS (n * 2 + 1) 0)
+    (48 + n % 10)
 
 abbrev tests : (ℕ → Bool) → ℕ → Bool
 tests test zero = true
@@ -44,7 +45,9 @@ glyph_is d l = grind (arith, nat_tests)
 
 pub one_is : (n : ℕ) → last_decimals 1 n ≡ (48 + n % 10) ∷ []
 one_is n =
-    last_push 10 false 0 n ∙ ap (λ (ds : List ℕ). ds ++ (digit_glyph false (n % 10) ∷ [])) (no_digits 10 false (n / 10))
+    last_push 10 false 0 n
+    ∙ ap (λ (ds : List ℕ). ds ++ (digit_glyph false (n % 10) ∷ []))
+    (no_digits 10 false (n / 10))
     ∙ ap (λ (d : ℕ). d ∷ []) (glyph_is (n % 10) (omega arith))
 
 pub two_is : (n : ℕ) → n < 100 → last_decimals 2 n ≡ (48 + n / 10) ∷ (48 + n % 10) ∷ []
@@ -83,7 +86,8 @@ parts_written out new newer at end j k n first second last within =
     let rest : low ≡ last_decimals k n = last_of_rest 10 false k n (omega arith) in
     second
     ∙ ap (λ (old : List ℕ). splice old (at + j) (at + j + k) low) first
-    ∙ both out high low at (at + j) (at + j + k) (omega (arith, length_last 10 false j (n / 10 ^ k)))
+    ∙ both out high low at (at + j) (at + j + k)
+    (omega (arith, length_last 10 false j (n / 10 ^ k)))
     (omega (arith, length_last 10 false k (n % 10 ^ k))) (omega arith)
     ∙ ap (splice out at (at + j + k))
     (ap (λ (ds : List ℕ). high ++ ds) rest ∙ sym (last_split 10 false k j n))
@@ -94,7 +98,8 @@ parts_written out new newer at end j k n first second last within =
 -- its first ones, which are those of the quotient, and so many others
 pub decimal_parts : (k n : ℕ) → 10 ^ k ≤ n → n < 10 ^ 64
     → decimal n ≡ decimal (n / 10 ^ k) ++ last_decimals k n
-decimal_parts zero n low few = rw (pow-zero 10, div-one, no_digits 10 false n) (sym (append-nil (decimal n)))
+decimal_parts zero n low few =
+    rw (pow-zero 10, div-one, no_digits 10 false n) (sym (append-nil (decimal n)))
 decimal_parts (suc k) n low few =
     let power : 10 ^ suc k ≡ 10 ^ k * 10 = pow-suc 10 k in
     let some : 1 ≤ 10 ^ k = one-le-pow k 10 (omega arith) in
@@ -103,10 +108,12 @@ decimal_parts (suc k) n low few =
     let before = decimal_parts k (n / 10) less (omega arith) in
     let over : n / 10 / 10 ^ k ≡ n / 10 ^ suc k =
     div-div-eq-div-mul n 10 (10 ^ k) ∙ ap (λ (x : ℕ). n / x) (omega (arith, power)) in
-    step ∙ ap (λ (ds : List ℕ). ds ++ ((48 + n % 10) ∷ [])) (before ∙ ap (λ (q : ℕ). decimal q ++ last_decimals k (n / 10)) over)
+    step ∙ ap (λ (ds : List ℕ). ds ++ ((48 + n % 10) ∷ []))
+    (before ∙ ap (λ (q : ℕ). decimal q ++ last_decimals k (n / 10)) over)
     ∙ append_assoc (decimal (n / 10 ^ suc k)) (last_decimals k (n / 10)) ((48 + n % 10) ∷ [])
     ∙ ap (λ (ds : List ℕ). decimal (n / 10 ^ suc k) ++ ds)
-    (ap (λ (d : ℕ). last_decimals k (n / 10) ++ (d ∷ [])) (sym (glyph_is (n % 10) (omega arith))) ∙ sym (last_push 10 false k n))
+    (ap (λ (d : ℕ). last_decimals k (n / 10) ++ (d ∷ [])) (sym (glyph_is (n % 10) (omega arith)))
+    ∙ sym (last_push 10 false k n))
 
 pub decimal_length : (k n : ℕ) → 10 ^ k ≤ n → n < 10 ^ 64
     → length (decimal n) ≡ length (decimal (n / 10 ^ k)) + k
@@ -218,7 +225,8 @@ three_written out new at n byte l first room second =
     let low : List ℕ = last_decimals 2 (n % 100) in
     second
     ∙ ap (λ (end : ℕ). splice (set out at byte) (at + 1) end low) next
-    ∙ ap (λ (old : List ℕ). splice old (at + 1) (at + 3) low) (one_spliced out at byte (omega (arith, room)))
+    ∙ ap (λ (old : List ℕ). splice old (at + 1) (at + 3) low)
+    (one_spliced out at byte (omega (arith, room)))
     ∙ both out (byte ∷ []) low at (at + 1) (at + 3) (omega arith)
     (omega (arith, length_last 10 false 2 (n % 100))) room
     ∙ ap (splice out at (at + 3)) (ap (λ (d : ℕ). d ∷ low) first ∙ sym (three_is n l))

@@ -30,8 +30,10 @@ module _ (separator : ℕ) where
   pub group_zero : (ds : List ℕ) → group 0 ds ≡ ds
   group_zero [] = group_none 0
   group_zero (d ∷ ds) =
-      let none : before separator 0 (length ds) ≡ [] = none_before 0 (length ds) (λ p _ _. absurd (omega arith)) in
-      group_more 0 d ds ∙ ap (λ (b : List ℕ). d ∷ (b ++ group 0 ds)) none ∙ ap (λ (t : List ℕ). d ∷ t) (group_zero ds)
+      let none : before separator 0 (length ds) ≡ [] =
+      none_before 0 (length ds) (λ p _ _. absurd (omega arith)) in
+      group_more 0 d ds ∙ ap (λ (b : List ℕ). d ∷ (b ++ group 0 ds)) none
+      ∙ ap (λ (t : List ℕ). d ∷ t) (group_zero ds)
 
   -- one group before whole ones
   pub group_front : (every : ℕ) (xs ys : List ℕ) → 0 < length xs → length xs ≤ every
@@ -44,7 +46,10 @@ module _ (separator : ℕ) where
       let long : length rest ≡ length (y ∷ xs) + length ys = length-append (y ∷ xs) ys in
       let n : ℕ = length (y ∷ xs) in
       let none : before separator every (length rest) ≡ [] =
-      none_before every (length rest) (λ p some is. absurd (not_whole n (length ys) every (omega arith) (omega arith) whole (ap (λ (k : ℕ). k % every) (sym long) ∙ is))) in
+      none_before every (length rest)
+      (λ p some is. absurd
+      (not_whole n (length ys) every (omega arith) (omega arith) whole
+      (ap (λ (k : ℕ). k % every) (sym long) ∙ is))) in
       group_more every x rest
       ∙ ap (λ (b : List ℕ). x ∷ (b ++ group every rest)) none
       ∙ ap (λ (t : List ℕ). x ∷ t) (group_front every (y ∷ xs) ys (omega arith) (omega arith) whole)
@@ -54,7 +59,8 @@ module _ (separator : ℕ) where
           let q = k / every in
           let parts : q * every + k % every ≡ k = div-add-mod' k every in
           let sum : n + k ≡ q * every + n = omega (arith, parts, whole) in
-          let rest : (n + k) % every ≡ n = ap (λ (x : ℕ). x % every) sum ∙ mod-mul-add q every n less in
+          let rest : (n + k) % every ≡ n = ap (λ (x : ℕ). x % every) sum
+          ∙ mod-mul-add q every n less in
           omega (arith, rest, is, some)
 
   -- how many bytes they are
@@ -66,8 +72,15 @@ module _ (separator : ℕ) where
       omega (arith, ap length (group_none (suc e)), none)
   length_group (suc e) (d ∷ []) =
       let none : gaps (suc e) 1 ≡ 0 = div-eq_of_lt (omega arith) in
-      let none2 : before separator (suc e) 0 ≡ [] = none_before (suc e) 0 (λ p some _. absurd (omega arith)) in
-      omega (arith, ap length (group_more (suc e) d [] ∙ ap (λ (b : List ℕ). d ∷ (b ++ group (suc e) [])) none2 ∙ ap (λ (t : List ℕ). d ∷ t) (group_none (suc e))), none)
+      let none2 : before separator (suc e) 0 ≡ [] =
+      none_before (suc e) 0 (λ p some _. absurd (omega arith)) in
+      omega (
+        arith,
+        ap length
+            (group_more (suc e) d [] ∙ ap (λ (b : List ℕ). d ∷ (b ++ group (suc e) [])) none2
+            ∙ ap (λ (t : List ℕ). d ∷ t) (group_none (suc e))),
+        none,
+      )
   length_group (suc e) (d ∷ x ∷ ds) =
       let m : ℕ = length (x ∷ ds) in
       let more = length_group (suc e) (x ∷ ds) in
@@ -78,19 +91,29 @@ module _ (separator : ℕ) where
       let quotient : (suc m - 1) / suc e ≡ m / suc e = ap (λ (x : ℕ). x / suc e) back in
       omega (arith, more, joined, whole, gap, quotient)
     where
-      by_rest : (every m q r : ℕ) → 0 < every → 0 < m → q * every + r ≡ m → r < every → m % every ≡ r
+      by_rest : (every m q r : ℕ) → 0 < every → 0 < m → q * every + r ≡ m → r < every
+          → m % every ≡ r
           → m / every ≡ q → m / every ≡ length (before separator every m) + (m - 1) / every
       by_rest every m zero zero E M parts less rest quotient = absurd (omega arith)
       by_rest every m (suc p) zero E M parts less rest quotient =
           let pred : m - 1 ≡ p * every + (every - 1) = omega (arith, parts) in
-          let d : (m - 1) / every ≡ p = ap (λ (x : ℕ). x / every) pred ∙ div-mul-add p every (every - 1) (omega arith) in
+          let d : (m - 1) / every ≡ p = ap (λ (x : ℕ). x / every) pred
+          ∙ div-mul-add p every (every - 1) (omega arith) in
           omega (arith, d, quotient, ap length (some_before every m E M rest))
       by_rest every m q (suc r) E M parts less rest quotient =
           let pred : m - 1 ≡ q * every + r = omega (arith, parts) in
-          let d : (m - 1) / every ≡ q = ap (λ (x : ℕ). x / every) pred ∙ div-mul-add q every r (omega arith) in
-          omega (arith, d, quotient, ap length (none_before every m (λ p some is. absurd (omega (arith, is, rest)))))
+          let d : (m - 1) / every ≡ q = ap (λ (x : ℕ). x / every) pred
+          ∙ div-mul-add q every r (omega arith) in
+          omega (
+            arith,
+            d,
+            quotient,
+            ap length
+                (none_before every m (λ p some is. absurd (omega (arith, is, rest)))),
+          )
 
       one_gap : (every m : ℕ) → 0 < every → 0 < m
           → m / every ≡ length (before separator every m) + (m - 1) / every
       one_gap every m E M =
-          by_rest every m (m / every) (m % every) E M (div-add-mod' m every) (mod_below m every E) refl refl
+          by_rest every m (m / every) (m % every) E M (div-add-mod' m every) (mod_below m every E)
+          refl refl

@@ -42,8 +42,10 @@ module _ (separator : ℕ) where
       let after : List ℕ = before separator 3 (length ys) ++ group ys in
       group_more separator 3 x (ds ++ ys)
       ∙ ap (λ (t : List ℕ). x ∷ (t ++ group (ds ++ ys))) same
-      ∙ ap (λ (t : List ℕ). x ∷ (before separator 3 (length ds) ++ t)) (group_back (y ∷ xs) ys (omega arith) whole)
-      ∙ ap (λ (t : List ℕ). x ∷ t) (sym (append_assoc (before separator 3 (length ds)) (group ds) after))
+      ∙ ap (λ (t : List ℕ). x ∷ (before separator 3 (length ds) ++ t))
+      (group_back (y ∷ xs) ys (omega arith) whole)
+      ∙ ap (λ (t : List ℕ). x ∷ t)
+      (sym (append_assoc (before separator 3 (length ds)) (group ds) after))
       ∙ ap (λ (t : List ℕ). t ++ after) (sym (group_more separator 3 x ds))
 
   whole_of : (k n : ℕ) → k % 3 ≡ 0 → length (last_decimals k n) % 3 ≡ 0
@@ -62,7 +64,8 @@ module _ (separator : ℕ) where
       let wide : length low ≡ k = length_last 10 false k n in
       (λ i. first i ++ group (split i))
       ∙ ap (λ (t : List ℕ). before separator 3 j ++ t)
-      (group_back high low (omega (arith, length_last 10 false j (n / 10 ^ k), some)) (whole_of k n more)
+      (group_back high low (omega (arith, length_last 10 false j (n / 10 ^ k), some))
+      (whole_of k n more)
       ∙ ap (λ (l : ℕ). group high ++ (before separator 3 l ++ group low)) wide
       ∙ ap (λ (ds : List ℕ). group high ++ (before separator 3 k ++ group ds)) (sym rest))
       ∙ sym (append_assoc (before separator 3 j) (group high) (tail k (n % 10 ^ k)))
@@ -127,11 +130,13 @@ module _ (separator : ℕ) where
       → low ≡ n % 10 ^ k → next ≡ at + length (text high) → end ≡ next + length (tail k low)
       → new ≡ splice out at next (text high) → newer ≡ splice new next end (tail k low)
       → (end ≡ at + length (text n)) × (newer ≡ splice out at end (text n))
-  text_written out new newer at next end k n high low least few whole room quotient rest after last first second =
+  text_written out new newer at next end k n high low least few whole room quotient rest after last
+      first second =
       let long = text_length k n high low least few whole quotient rest in (
         omega (arith, long, after, last),
         second ∙ ap (λ (old : List ℕ). splice old next end (tail k low)) first
-            ∙ both out (text high) (tail k low) at next end after last (omega (arith, room, long, after, last))
+            ∙ both out (text high) (tail k low) at next end after last
+            (omega (arith, room, long, after, last))
             ∙ ap (splice out at end)
             ((λ i. text (quotient i) ++ tail k (rest i)) ∙ sym (text_parts k n least few whole)),
       )
@@ -147,7 +152,8 @@ module _ (separator : ℕ) where
       ∙ ap (λ (t : List ℕ). (d ∷ ds) ++ t) (group_none separator 3) ∙ nil
 
   pub small_text : (n : ℕ) → n < 1000 → text n ≡ decimal n
-  small_text n l = few_as_is (decimal n) (length-decimal-le_wide 3 n (omega arith) (omega arith) (omega arith))
+  small_text n l = few_as_is (decimal n)
+      (length-decimal-le_wide 3 n (omega arith) (omega arith) (omega arith))
 
   pub small_tail : (n : ℕ) → tail 3 n ≡ separator ∷ last_decimals 3 n
   small_tail n =
@@ -156,7 +162,8 @@ module _ (separator : ℕ) where
 
   pub group_written : (out new : List ℕ) (at n byte : ℕ) → n < 1000 → byte ≡ 48 + n / 100
       → at + 4 ≤ length out
-      → new ≡ splice (set (set out at separator) (at + 1) byte) (at + 2) (at + 2 + 2) (last_decimals 2 (n % 100))
+      → new ≡ splice (set (set out at separator) (at + 1) byte) (at + 2) (at + 2 + 2)
+      (last_decimals 2 (n % 100))
       → new ≡ splice out at (at + 4) (tail 3 n)
   group_written out new at n byte l first room second =
       let one : List ℕ = set out at separator in
@@ -170,7 +177,8 @@ module _ (separator : ℕ) where
       ∙ ap (λ (to : ℕ). splice (set one (at + 1) byte) (at + 1 + 1) to low) (sym there) in
       three_written one new (at + 1) n byte l first (omega (arith, long, room)) after
       ∙ ap (λ (to : ℕ). splice one (at + 1) to (last_decimals 3 n)) end
-      ∙ ap (λ (old : List ℕ). splice old (at + 1) (at + 4) (last_decimals 3 n)) (one_spliced out at separator (omega (arith, room)))
+      ∙ ap (λ (old : List ℕ). splice old (at + 1) (at + 4) (last_decimals 3 n))
+      (one_spliced out at separator (omega (arith, room)))
       ∙ both out (separator ∷ []) (last_decimals 3 n) at (at + 1) (at + 4) (omega arith)
       (omega (arith, length_last 10 false 3 n)) room
       ∙ ap (splice out at (at + 4)) (sym (small_tail n))
@@ -190,7 +198,8 @@ module _ (separator : ℕ) where
       → new ≡ splice (set out at byte) (at + 1) (at + 1 + 2) (last_decimals 2 (n % 100))
       → new ≡ splice out at (at + 3) (text n)
   three_text out new at n byte low high first room second =
-      three_written out new at n byte high first (omega (arith, room, three_end n at low high)) second
+      three_written out new at n byte high first (omega (arith, room, three_end n at low high))
+      second
       ∙ ap (splice out at (at + 3)) (three_digits n low high ∙ sym (small_text n high))
 
   -- a number of fewer

@@ -14,7 +14,8 @@ module _ (signs : List ℕ) (layout : Layout) (n : ℕ) where
   text = grouped layout.separator layout.every (digits_in layout n)
 
   text_length : length text
-      ≡ max layout.digits (digit_count layout.radix n) + gaps layout.every (max layout.digits (digit_count layout.radix n))
+      ≡ max layout.digits (digit_count layout.radix n) + gaps layout.every
+      (max layout.digits (digit_count layout.radix n))
   text_length =
       let k : ℕ = max layout.digits (digit_count layout.radix n) in
       let long : length (digits_in layout n) ≡ k = length_last layout.radix layout.is_upper k n in
@@ -43,4 +44,5 @@ module _ (signs : List ℕ) (layout : Layout) (n : ℕ) where
       other
       ∙ ap (λ (ds : List ℕ). splice new start end (grouped layout.separator layout.every ds)) same
       ∙ ap (λ (old : List ℕ). splice old start end text) one
-      ∙ both out signs text 0 start end (omega (arith, first)) (omega (arith, last, joined, first)) within
+      ∙ both out signs text 0 start end (omega (arith, first)) (omega (arith, last, joined, first))
+      within

@@ -45,7 +45,8 @@ module _ (radix : ℕ) (upper : Bool) (low : 2 ≤ radix) (high : radix ≤ 36) 
       let rest : n % radix < radix = mod_below n radix (omega (arith, low)) in
       let value = glyph_value upper (n % radix) (omega (arith, rest, high)) in
       subst (AllDigits radix) (sym (last_push radix upper k n))
-      (digits_push radix (last_digits radix upper k (n / radix)) (digit_glyph upper (n % radix)) (last_all k (n / radix)) (omega (arith, value, rest)))
+      (digits_push radix (last_digits radix upper k (n / radix)) (digit_glyph upper (n % radix))
+      (last_all k (n / radix)) (omega (arith, value, rest)))
 
   pub last_value : (k n : ℕ) → n < radix ^ k → digits_value radix (last_digits radix upper k n) ≡ n
   last_value zero n l =
@@ -57,7 +58,8 @@ module _ (radix : ℕ) (upper : Bool) (low : 2 ≤ radix) (high : radix ≤ 36) 
       let less : n / radix < radix ^ k =
       div_below n radix (radix ^ k) (omega (arith, low)) (omega (arith, l, pow-suc radix k)) in
       ap (digits_value radix) (last_push radix upper k n)
-      ∙ digits_value_push radix (last_digits radix upper k (n / radix)) (digit_glyph upper (n % radix))
+      ∙ digits_value_push radix (last_digits radix upper k (n / radix))
+      (digit_glyph upper (n % radix))
       ∙ (rw (last_value k (n / radix) less, value) (div-add-mod' n radix))
 
 -- ---- the digits in groups
@@ -70,24 +72,33 @@ digit_is rule byte high l = grind (arith, nat_tests)
 pub no_sign : (rule : Rule) (byte : ℕ) → is_digit rule byte ≡ true
     → (byte ≡ 45 → ⊥) × (byte ≡ 43 → ⊥)
 unfolding is_digit words.digit_value
-no_sign rule byte digit = (λ minus. grind (arith, nat_tests, digit, minus), λ plus. grind (arith, nat_tests, digit, plus))
+no_sign rule byte digit =
+    (λ minus. grind (arith, nat_tests, digit, minus), λ plus. grind (arith, nat_tests, digit, plus))
 
 module _ (rule : Rule) (separator every : ℕ) (high : rule.radix ≤ 36)
     (apart : 0 < every → is_digit rule separator ≡ false)
-    (separates : 0 < every → (is_separator rule.separator separator ≡ true) × (rule.internal ≡ true))
+    (separates : 0 < every → (is_separator rule.separator separator ≡ true)
+    × (rule.internal ≡ true))
   where
     abbrev group : List ℕ → List ℕ
     group ds = grouped separator every ds
 
     filter_before : (count : ℕ) (rest : List ℕ)
-        → filter (is_digit rule) (before separator every count ++ rest) ≡ filter (is_digit rule) rest
+        → filter (is_digit rule) (before separator every count ++ rest) ≡ filter (is_digit rule)
+        rest
     filter_before count rest = grind (arith, nat_tests, apart)
 
-    pub filter_group : (ds : List ℕ) → AllDigits rule.radix ds → filter (is_digit rule) (group ds) ≡ ds
+    pub filter_group : (ds : List ℕ) → AllDigits rule.radix ds
+        → filter (is_digit rule) (group ds) ≡ ds
     filter_group [] all = ap (filter (is_digit rule)) (group_none separator every)
     filter_group (d ∷ ds) all =
         ap (filter (is_digit rule)) (group_more separator every d ds)
-        ∙ grind (arith, digit_is rule d high all.0, filter_before (length ds) (group ds), filter_group ds all.1)
+        ∙ grind (
+          arith,
+          digit_is rule d high all.0,
+          filter_before (length ds) (group ds),
+          filter_group ds all.1,
+        )
 
     pub first_group : (ds : List ℕ) → AllDigits rule.radix ds → 0 < length ds
         → (0 < length (group ds)) × (is_digit rule (get_or (group ds) 0 0) ≡ true)
@@ -158,7 +169,8 @@ pub is_one : (a b : ℕ) → a ≡ b → 0 < b → is_separator a b ≡ true
 unfolding is_separator
 is_one a b e l = grind (arith, nat_tests)
 
-module _ (word least most n : ℕ) (layout : Layout) (negative : Bool) (by : IsReadBy word layout least)
+module _ (word least most n : ℕ) (layout : Layout) (negative : Bool)
+    (by : IsReadBy word layout least)
     (fits : n ≤ (if negative then least else most)) (some : negative ≡ true → 0 < n) where
   abbrev rule : Rule
   rule = rule_of word Integer
@@ -187,11 +199,15 @@ module _ (word least most n : ℕ) (layout : Layout) (negative : Bool) (by : IsR
 
   separates : 0 < layout.every
       → (is_separator rule.separator layout.separator ≡ true) × (rule.internal ≡ true)
-  separates p = (is_one rule.separator layout.separator (by.separates p).0 (positive p), (by.separates p).1)
+  separates p = (
+    is_one rule.separator layout.separator (by.separates p).0 (positive p),
+    (by.separates p).1,
+  )
 
   all : AllDigits rule.radix (digits_in layout n)
   all = subst (λ (r : ℕ). AllDigits r (digits_in layout n)) (sym radix_is)
-      (last_all layout.radix layout.is_upper (omega (arith, supported.low, radix_is)) (omega (arith, high, radix_is)) (max layout.digits (digit_count layout.radix n)) n)
+      (last_all layout.radix layout.is_upper (omega (arith, supported.low, radix_is))
+      (omega (arith, high, radix_is)) (max layout.digits (digit_count layout.radix n)) n)
 
   worth : digits_value rule.radix (filter (is_digit rule) body) ≡ n
   worth =
@@ -200,14 +216,21 @@ module _ (word least most n : ℕ) (layout : Layout) (negative : Bool) (by : IsR
       let holds = count_holds layout.radix low n in
       let up : layout.radix ^ digit_count layout.radix n ≤ layout.radix ^ k =
       pow-le-pow_right (omega (arith, low)) (omega arith) in
-      let same = filter_group rule layout.separator layout.every high apart separates (digits_in layout n) all in
+      let same = filter_group rule layout.separator layout.every high apart separates
+      (digits_in layout n) all in
       ap (digits_value rule.radix) same
       ∙ ap (λ (r : ℕ). digits_value r (digits_in layout n)) radix_is
-      ∙ last_value layout.radix layout.is_upper low (omega (arith, high, radix_is)) k n (omega (arith, holds, up))
+      ∙ last_value layout.radix layout.is_upper low (omega (arith, high, radix_is)) k n
+      (omega (arith, holds, up))
 
   begins : (0 < length body) × (is_digit rule (get_or body 0 0) ≡ true)
-  begins = first_group rule layout.separator layout.every high apart separates (digits_in layout n) all
-      (omega (arith, length_last layout.radix layout.is_upper (max layout.digits (digit_count layout.radix n)) n))
+  begins = first_group rule layout.separator layout.every high apart separates (digits_in layout n)
+      all
+      (omega (
+        arith,
+        length_last layout.radix layout.is_upper
+            (max layout.digits (digit_count layout.radix n)) n,
+      ))
 
   read_at : (text : List ℕ) (start greatest : ℕ) → IsWrittenAt rule text start body → n ≤ greatest
       → integer_at rule text start greatest ≡ Ok (n, start + length body)
@@ -256,7 +279,8 @@ answer_is_read word least most n layout negative z out new (Ok end) by fits some
     let front : text ≡ take end new =
     sym (ap (take end) h.written
     ∙ take_spliced out text 0 end (omega (arith, h.end_is)) h.within) in
-    let read = laid_is_read word least most n layout negative by fits some layout.has_plus by.signs in
+    let read = laid_is_read word least most n layout negative by fits some layout.has_plus
+    by.signs in
     subst (λ (y : ℤ). Reads word least most y (take end new)) number
     (subst (Reads word least most (signed negative n)) front (to_the_end text _ _ read))
 
@@ -283,7 +307,8 @@ text_is layout negative n z some number =
 
 module _ (layout : Layout) (negative : Bool) (n : ℕ) (z : ℤ) (out new : List ℕ)
     (some : negative ≡ true → 0 < n) (number : signed negative n ≡ z) where
-  pub answer_written : (answer : Result ℕ NoRoom) → IfOk answer (IsLaidOut layout negative n out new)
+  pub answer_written : (answer : Result ℕ NoRoom)
+      → IfOk answer (IsLaidOut layout negative n out new)
       → IfOk answer (λ end. take end new ≡ laid_out layout z)
   answer_written (Err error) h = tt
   answer_written (Ok end) h =
@@ -296,7 +321,8 @@ module _ (layout : Layout) (negative : Bool) (n : ℕ) (z : ℤ) (out new : List
   answer_rest (Err error) h = tt
   answer_rest (Ok end) h =
       let none : end + 0 ≡ end = omega arith in
-      let rest = drop_spliced out (text_of layout negative n) 0 end (omega (arith, h.end_is)) h.within 0 in
+      let rest = drop_spliced out (text_of layout negative n) 0 end (omega (arith, h.end_is))
+      h.within 0 in
       ap (λ (k : ℕ). drop k new) (sym none) ∙ ap (drop (end + 0)) h.written ∙ rest
       ∙ ap (λ (k : ℕ). drop k out) none
 

@@ -20,7 +20,8 @@ rest_of_product n k r some positive =
     let small : b < r = mod_below m r positive in
     let few : a < k = div_below m r k positive (mod_below n (k * r) both) in
     let all : (q * k + a) * r + b ≡ n = grind (arith, whole, parts) in
-    let over : n / r ≡ q * k + a = ap (λ (x : ℕ). x / r) (sym all) ∙ div-mul-add (q * k + a) r b small in (
+    let over : n / r ≡ q * k + a = ap (λ (x : ℕ). x / r) (sym all)
+    ∙ div-mul-add (q * k + a) r b small in (
       sym (ap (λ (x : ℕ). x % k) over ∙ mod-mul-add q k a few),
       sym (ap (λ (x : ℕ). x % r) (sym all) ∙ mod-mul-add (q * k + a) r b small),
     )
@@ -52,9 +53,11 @@ module _ (radix : ℕ) (upper : Bool) where
   last_split (suc k) j n =
       let next : j + suc k ≡ suc (j + k) = omega arith in
       let over : n / radix / radix ^ k ≡ n / radix ^ suc k =
-      div-div-eq-div-mul n radix (radix ^ k) ∙ ap (λ (x : ℕ). n / x) (grind (arith, pow-suc radix k)) in
+      div-div-eq-div-mul n radix (radix ^ k)
+      ∙ ap (λ (x : ℕ). n / x) (grind (arith, pow-suc radix k)) in
       rw (next, last_push (j + k) n, last_push k n, last_split k j (n / radix), over)
-      (append_assoc (last j (n / radix ^ suc k)) (last k (n / radix)) (digit_glyph upper (n % radix) ∷ []))
+      (append_assoc (last j (n / radix ^ suc k)) (last k (n / radix))
+      (digit_glyph upper (n % radix) ∷ []))
 
   -- they are those of the rest after the power
   pub last_of_rest : (k n : ℕ) → 0 < radix → last k (n % radix ^ k) ≡ last k n
@@ -62,7 +65,15 @@ module _ (radix : ℕ) (upper : Bool) where
   last_of_rest (suc k) n some =
       let product : radix ^ suc k ≡ radix ^ k * radix = pow-suc radix k in
       let rest = rest_of_product n (radix ^ k) radix (power some k) some in
-      rw (last_push k (n % radix ^ suc k), last_push k n, product, rest.0, rest.1, last_of_rest k (n / radix) some) refl
+      rw (
+        last_push k (n % radix ^ suc k),
+        last_push k n,
+        product,
+        rest.0,
+        rest.1,
+        last_of_rest k
+            (n / radix) some,
+      ) refl
     where
       power : {r : ℕ} → 0 < r → (k : ℕ) → 0 < r ^ k
       power {r} some k = one-le-pow k r some

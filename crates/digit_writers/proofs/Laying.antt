@@ -92,8 +92,11 @@ module _ (radix : ℕ) (upper : Bool) (n : ℕ) where
       → (out ≡ splice old at (at + count) (last count)) × (left ≡ n / radix ^ count)
   put_all count at done left old out all is =
       let none : at + (count - count) ≡ at = omega arith in
-      let same : IsPut count at count left old out = subst (λ (d : ℕ). IsPut count at d left old out) all is in
-      (same.written ∙ ap (λ (from : ℕ). splice old from (at + count) (last count)) none, same.quotient)
+      let same : IsPut count at count left old out =
+      subst (λ (d : ℕ). IsPut count at d left old out) all is in (
+        same.written ∙ ap (λ (from : ℕ). splice old from (at + count) (last count)) none,
+        same.quotient,
+      )
 
   -- ---- groups, one after another
 
@@ -144,7 +147,8 @@ module _ (radix : ℕ) (upper : Bool) (n : ℕ) where
         last_split radix upper done more n
         ∙ ap (λ (q : ℕ). last_digits radix upper more q ++ last done) (sym quotient) in
         sym (ap group split
-        ∙ group_front separator every high (last done) (omega (arith, wide, some)) (omega (arith, wide, few))
+        ∙ group_front separator every high (last done) (omega (arith, wide, some))
+        (omega (arith, wide, few))
         (ap (λ (k : ℕ). k % every) long ∙ whole)
         ∙ ap (λ (k : ℕ). high ++ (before separator every k ++ group (last done))) long)
 
@@ -155,7 +159,8 @@ module _ (radix : ℕ) (upper : Bool) (n : ℕ) where
         → new ≡ splice out (at - size) (at - size + size) (last_digits radix upper size left)
         → rest ≡ left / radix ^ size → newer ≡ set new (at - size - 1) separator
         → IsLaid count start end (done + size) (more - size) (at - size - 1) rest old newer
-    laid_more count start end done more at left size old out new newer rest is within positive same l first quotient second =
+    laid_more count start end done more at left size old out new newer rest is within positive same
+        l first quotient second =
         let gap = gaps_more every more positive (omega (arith, same, l)) in
         let fewer : gaps every (more - size) ≡ gaps every (more - every) =
         ap (λ (x : ℕ). gaps every (more - x)) same in
@@ -167,20 +172,25 @@ module _ (radix : ℕ) (upper : Bool) (n : ℕ) where
         let back : at - size + size ≡ at = omega (arith, room) in
         let whole : (done + size) % every ≡ 0 = whole_more done size every same is.whole in
         let group_first : high ++ tail done ≡ group (last (size + done)) =
-        front done size left (omega (arith, positive, same)) (omega (arith, same)) is.whole is.quotient in
+        front done size left (omega (arith, positive, same)) (omega (arith, same)) is.whole
+        is.quotient in
         let turned : size + done ≡ done + size = omega arith in
         let tail_more : separator ∷ (high ++ tail done) ≡ tail (done + size) =
         ap (λ (t : List ℕ). separator ∷ t) (group_first ∙ ap (λ (k : ℕ). group (last k)) turned)
-        ∙ ap (λ (b : List ℕ). b ++ group (last (done + size))) (sym (some_before separator every (done + size) positive (omega (arith, positive, same)) whole)) in
+        ∙ ap (λ (b : List ℕ). b ++ group (last (done + size)))
+        (sym (some_before separator every (done + size) positive
+        (omega (arith, positive, same)) whole)) in
         let begun : new ≡ splice old (at - size) end (high ++ tail done) =
         first ∙ ap (λ (e : ℕ). splice out (at - size) e high) back
         ∙ ap (λ (xs : List ℕ). splice xs (at - size) at high) is.written
-        ∙ before_it old high (tail done) (at - size) at end (omega (arith, wide, room)) (sym is.fits) within in
+        ∙ before_it old high (tail done) (at - size) at end (omega (arith, wide, room))
+        (sym is.fits) within in
         let joined = length-append high (tail done) in
         let long : length new ≡ length old =
         ap length begun ∙ length_spliced old (high ++ tail done) (at - size) end
         (omega (arith, joined, wide, is.fits, room)) within in
-        let ended : at - size + length (high ++ tail done) ≡ end = omega (arith, joined, wide, is.fits, room) in
+        let ended : at - size + length (high ++ tail done) ≡ end =
+        omega (arith, joined, wide, is.fits, room) in
         record {
           sum = omega (arith, is.sum, l);
           some = omega (arith, l);
@@ -196,7 +206,8 @@ module _ (radix : ℕ) (upper : Bool) (n : ℕ) where
               ∙ one_spliced new p separator (omega (arith, long, next, within, ended))
               ∙ ap (λ (e : ℕ). splice new p e (separator ∷ [])) next
               ∙ ap (λ (xs : List ℕ). splice xs p (at - size) (separator ∷ [])) begun
-              ∙ before_it old (separator ∷ []) (high ++ tail done) p (at - size) end (omega (arith, next)) (sym ended) within
+              ∙ before_it old (separator ∷ []) (high ++ tail done) p (at - size) end
+              (omega (arith, next)) (sym ended) within
               ∙ ap (splice old p end) tail_more;
         }
 
@@ -215,12 +226,15 @@ module _ (radix : ℕ) (upper : Bool) (n : ℕ) where
         let turned : more + done ≡ count = omega (arith, is.sum) in
         let text : high ++ tail done ≡ group (last (more + done)) =
         elim (cases_lt 0 every) [
-          | inl p ↦ front done more left is.some (omega (arith, few, grouped_size p)) is.whole is.quotient
-          | inr none ↦ ungrouped done more left (omega (arith, none)) (is.whole_zero (omega (arith, none))) is.quotient
+          | inl p ↦ front done more left is.some (omega (arith, few, grouped_size p)) is.whole
+              is.quotient
+          | inr none ↦ ungrouped done more left (omega (arith, none))
+              (is.whole_zero (omega (arith, none))) is.quotient
         ] in
         first ∙ ap (λ (e : ℕ). splice out start e high) here
         ∙ ap (λ (xs : List ℕ). splice xs start at high) is.written
-        ∙ before_it old high (tail done) start at end (omega (arith, wide, here)) (sym is.fits) within
+        ∙ before_it old high (tail done) start at end (omega (arith, wide, here)) (sym is.fits)
+        within
         ∙ ap (splice old start end) (text ∙ ap (λ (k : ℕ). group (last k)) turned)
       where
         ungrouped : (done more left : ℕ) → every ≡ 0 → done ≡ 0 → left ≡ n / radix ^ done

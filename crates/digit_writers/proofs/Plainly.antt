@@ -28,7 +28,8 @@ module _ (upper : Bool) where
       let k : ℕ = digit_count 10 (m / 10) in
       let more : digit_count 10 m ≡ suc k = omega (arith, count_more 10 (omega arith) m l) in
       ap (λ (t : List ℕ). t ++ ((48 + m % 10) ∷ [])) is
-      ∙ ap (λ (d : ℕ). last_digits 10 upper k (m / 10) ++ (d ∷ [])) (sym (glyph_is (m % 10) (omega arith)))
+      ∙ ap (λ (d : ℕ). last_digits 10 upper k (m / 10) ++ (d ∷ []))
+      (sym (glyph_is (m % 10) (omega arith)))
       ∙ sym (ap (λ (c : ℕ). last_digits 10 upper c m) more ∙ last_push 10 upper k m))
       n few)
 
@@ -36,7 +37,8 @@ module _ (layout : Layout) (n : ℕ) (few : n < 10 ^ 64) (ten : layout.radix ≡
     (no_zeros : layout.digits ≤ 1) where
   digits_are : digits_in layout n ≡ decimal n
   digits_are =
-      let count : max layout.digits (digit_count layout.radix n) ≡ digit_count layout.radix n = omega arith in
+      let count : max layout.digits (digit_count layout.radix n) ≡ digit_count layout.radix n =
+      omega arith in
       ap (λ (k : ℕ). last_digits layout.radix layout.is_upper k n) count
       ∙ ap (λ (r : ℕ). last_digits r layout.is_upper (digit_count r n) n) ten
       ∙ decimal_is layout.is_upper n few
@@ -80,6 +82,12 @@ laid_by layout negative n end old new digits is room last written =
     let joined = length-append signs digits in
     record {
       end_is = last ∙ ap (λ (ds : List ℕ). length (signs ++ ds)) (sym is);
-      within = omega (arith, last, joined, signs_fit layout.has_plus negative digits (length old) room);
+      within = omega (
+        arith,
+        last,
+        joined,
+        signs_fit layout.has_plus negative digits (length old)
+            room,
+      );
       written = written ∙ ap (λ (ds : List ℕ). splice old 0 end (signs ++ ds)) (sym is);
     }

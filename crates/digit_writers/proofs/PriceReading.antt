@@ -74,7 +74,8 @@ module _ (p : ℕ → Bool) (between : ℕ) (passes : p between ≡ true) where
             ∙ slice_split_at p xs between (group ys) none_first passes in
             ap (wrong_of is_first at) cut
             ∙ one_group is_first at xs (slice_split p (group ys)) is
-            ∙ groups_right k ys false (at + length xs + 1) (omega (arith, left, few)) more (λ _. rest)
+            ∙ groups_right k ys false (at + length xs + 1) (omega (arith, left, few)) more
+            (λ _. rest)
             (All-drop (λ d. p d ≡ false) f ds none)
         | inr last ↦
             let nil : ys ≡ [] = nil_from_length ys (omega (arith, last)) in
@@ -152,13 +153,17 @@ module _ (word point between places least most n : ℕ) (by : ReadsPrices word p
   right : (front : List ℕ)
       → wrong_at word (front ++ (whole ++ fraction_text point places n)) (length front) ≡ None
   right front =
-      ap (λ (bytes : List ℕ). wrong_of true (length front) (slice_split (is_separator rule.separator) bytes))
+      ap (λ (bytes : List ℕ). wrong_of true (length front)
+      (slice_split (is_separator rule.separator) bytes))
       (whole_bytes word point places n front whole by.amounts few are small)
-      ∙ groups_right (is_separator rule.separator) between separates (length (decimal m)) (decimal m) true (length front)
-      (omega arith) (decimal_is_IsNumeral_wide m m_few).0.0 (λ e. absurd (true≢false e)) (digits_apart rule (decimal m) supported all)
+      ∙ groups_right (is_separator rule.separator) between separates (length (decimal m))
+      (decimal m) true (length front)
+      (omega arith) (decimal_is_IsNumeral_wide m m_few).0.0 (λ e. absurd (true≢false e))
+      (digits_apart rule (decimal m) supported all)
 
   enough : (front : List ℕ)
-      → places_at word (front ++ (whole ++ fraction_text point places n)) point (length front) ≡ places
+      → places_at word (front ++ (whole ++ fraction_text point places n)) point
+      (length front) ≡ places
   enough front = places_are word point places n front whole by.amounts few are small
 
   pub price_is_read : (negative : Bool) → n ≤ (if negative then least else most)
@@ -167,8 +172,10 @@ module _ (word point between places least most n : ℕ) (by : ReadsPrices word p
       price_at word text point places least most 0 ≡ Ok (signed negative n, length text)
   price_is_read true fits some =
       let rest : List ℕ = whole ++ fraction_text point places n in
-      let one : digits_from least (45 ∷ rest) 0 ≡ 1 = past_minus least rest (omega (arith, some refl, fits)) in
-      let read = amount_is_read word point places least most n whole true by.amounts few are small fits some in
+      let one : digits_from least (45 ∷ rest) 0 ≡ 1 =
+      past_minus least rest (omega (arith, some refl, fits)) in
+      let read = amount_is_read word point places least most n whole true by.amounts few are small
+      fits some in
       price_is word point places least most (length (45 ∷ rest)) (45 ∷ rest) (signed true n)
       (ap of_number read)
       (ap (wrong_at word (45 ∷ rest)) one ∙ right (45 ∷ []))
@@ -177,10 +184,12 @@ module _ (word point between places least most n : ℕ) (by : ReadsPrices word p
       let rest : List ℕ = whole ++ fraction_text point places n in
       let same = first_of whole (fraction_text point places n) are.some in
       let none = no_sign rule (get_or whole 0 0) are.first in
-      let begun : 0 < length rest = omega (arith, are.some, length-append whole (fraction_text point places n)) in
+      let begun : 0 < length rest =
+      omega (arith, are.some, length-append whole (fraction_text point places n)) in
       let zero_is : digits_from least rest 0 ≡ 0 =
       no_past least rest begun ((λ e. none.0 (sym same ∙ e)), (λ e. none.1 (sym same ∙ e))) in
-      let read = amount_is_read word point places least most n whole false by.amounts few are small fits some in
+      let read = amount_is_read word point places least most n whole false by.amounts few are small
+      fits some in
       price_is word point places least most (length rest) rest (signed false n)
       (ap of_number read)
       (ap (wrong_at word rest) zero_is ∙ right [])
@@ -195,11 +204,14 @@ pub answer_is_price : (word point between places least most n : ℕ) (negative :
     × (end ≤ length out)
     × (new ≡ splice out 0 end (magnitude_text true between point places negative n)))
     → IfOk answer (λ end. price_at word (take end new) point places least most 0 ≡ Ok (z, end))
-answer_is_price word point between places least most n negative z out new (Err error) by few small fits some number h = tt
-answer_is_price word point between places least most n negative z out new (Ok end) by few small fits some number h =
+answer_is_price word point between places least most n negative z out new (Err error) by few small
+    fits some number h = tt
+answer_is_price word point between places least most n negative z out new (Ok end) by few small
+    fits some number h =
     let text : List ℕ = magnitude_text true between point places negative n in
     let front : text ≡ take end new =
     sym (ap (take end) h.2 ∙ take_spliced out text 0 end (omega (arith, h.0)) h.1) in
-    let read = price_is_read word point between places least most n by few small negative fits some in
+    let read = price_is_read word point between places least most n by few small negative fits
+    some in
     subst (λ (t : List ℕ). price_at word t point places least most 0 ≡ Ok (z, end)) front
     (read ∙ (λ i. Ok (number i, sym h.0 i)))

@@ -20,7 +20,8 @@ pub number_read : (word least most : ℕ) (z : ℤ) → IsOfRadix 10 word → Is
 number_read word least most (pos n) of is =
     written_is_read word least most n of (omega (arith, is.1)) false is.0 (λ e. never e)
 number_read word least most (negsuc n) of is =
-    written_is_read word least most (suc n) of (omega (arith, is.1)) true (omega (arith, is.0)) (λ _. omega arith)
+    written_is_read word least most (suc n) of (omega (arith, is.1)) true (omega (arith, is.0))
+    (λ _. omega arith)
 
 pub number_no_longer : (word least most : ℕ) (z : ℤ) (text : List ℕ) → IsOfRadix 10 word
     → IsOfType least most z → Reads word least most z text → length (signed_decimal z) ≤ length text
@@ -42,19 +43,23 @@ pub layout_read : (word least most : ℕ) (layout : Layout) (z : ℤ) → IsRead
     → IsOfType least most z → Reads word least most z (laid_out layout z)
 layout_read word least most layout (pos n) by is =
     let text : List ℕ = text_of layout false n in
-    let read = laid_is_read word least most n layout false by is.0 (λ e. never e) layout.has_plus by.signs in
+    let read = laid_is_read word least most n layout false by is.0 (λ e. never e) layout.has_plus
+    by.signs in
     subst (Reads word least most (pos n)) (text_is layout false n (pos n) (λ e. never e) refl)
     (to_the_end text _ _ read)
 layout_read word least most layout (negsuc n) by is =
     let text : List ℕ = text_of layout true (suc n) in
-    let read = laid_is_read word least most (suc n) layout true by (omega (arith, is.0)) (λ _. omega arith) layout.has_plus by.signs in
-    subst (Reads word least most (negsuc n)) (text_is layout true (suc n) (negsuc n) (λ _. omega arith) refl)
+    let read = laid_is_read word least most (suc n) layout true by (omega (arith, is.0))
+    (λ _. omega arith) layout.has_plus by.signs in
+    subst (Reads word least most (negsuc n))
+    (text_is layout true (suc n) (negsuc n) (λ _. omega arith) refl)
     (to_the_end text _ _ read)
 
 pub layout_one : (word least most : ℕ) (layout : Layout) (y z : ℤ) → IsReadBy word layout least
     → IsOfType least most y → IsOfType least most z → laid_out layout y ≡ laid_out layout z → y ≡ z
 layout_one word least most layout y z by one other same =
-    one_number word least most y z _ _ same (layout_read word least most layout y by one) (layout_read word least most layout z by other)
+    one_number word least most y z _ _ same (layout_read word least most layout y by one)
+    (layout_read word least most layout z by other)
 
 decimal_one : (m n : ℕ) → m < 10 ^ 64 → n < 10 ^ 64 → decimal m ≡ decimal n → m ≡ n
 decimal_one m n few other same =
@@ -77,7 +82,8 @@ number_one least most (negsuc m) (pos n) one other same =
     absurd (no_minus n (decimal (suc m)) (omega (arith, other.1)) (sym same))
 number_one least most (negsuc m) (negsuc n) one other same =
     let next : suc m ≡ suc n =
-    decimal_one (suc m) (suc n) (omega (arith, one.1)) (omega (arith, other.1)) (ap (drop 1) same) in
+    decimal_one (suc m) (suc n) (omega (arith, one.1)) (omega (arith, other.1))
+    (ap (drop 1) same) in
     let last : m ≡ n = omega (arith, next) in
     ap negsuc last
 

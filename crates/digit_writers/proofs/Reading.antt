@@ -1,7 +1,7 @@
 -- The text of a number is read as the number, and no shorter one is.
 use Rattle.std.proofs.Common.{◌≡◌, ℕ, ℤ, zero, suc, ◌+◌, ◌-◌, ◌^◌, ◌<◌, ◌≤◌, Bool, true, false, List, [], ◌∷◌, ◌++◌, length, take, drop, refl, sym, ap, subst, ◌∙◌, arith, filter, unsigned_abs}
 use Rattle.std.specs.Prelude.{Result, Ok, Err, decimal, slice_range, if◌then◌else◌}
-use Rattle.std.specs.Fmt.{sign_text, signed_decimal}
+use Rattle.std.specs.Fmt.{sign_text}
 use Rattle.std.proofs.lemmas.Bool.Decides.{nat_tests}
 use Rattle.std.proofs.lemmas.Fmt.{length-decimal-le_wide, decimal_is_IsNumeral_wide}
 use Rattle.std.proofs.lemmas.Int.Digits.{digits_value-lt}
@@ -82,9 +82,15 @@ digits_fit rule text start most n end ten few read =
     let is = says_some rule text start most n end read in
     let ds : List ℕ = digits_between rule text start end in
     let below : n < 10 ^ length ds =
-    rw (is.is, ← ten) (digits_value-lt rule.radix ds (all_digits rule (slice_range text start end))) in
+    rw (is.is, ← ten) (digits_value-lt rule.radix ds
+    (all_digits rule (slice_range text start end))) in
     let within : length ds ≤ end - start =
-    omega (arith, fewer_kept (is_digit rule) (slice_range text start end), length-take (end - start) (drop start text)) in
+    omega (
+      arith,
+      fewer_kept (is_digit rule) (slice_range text start end),
+      length-take
+          (end - start) (drop start text),
+    ) in
     omega (arith, within, length-decimal-le_wide (length ds) n is.some below few)
 
 module _ (word least most n : ℕ) (of : IsOfRadix 10 word) (few : n < 10 ^ 64) where
@@ -97,7 +103,8 @@ module _ (word least most n : ℕ) (of : IsOfRadix 10 word) (few : n < 10 ^ 64) 
       let minus = is_negative_from least other 0 in
       let at = digits_from least other 0 in
       let greatest = most_from least most rule other 0 in
-      let read = magnitude_of minus (integer_at rule other at greatest) (signed negative n) (length other) (ended other _ _ reads) in
+      let read = magnitude_of minus (integer_at rule other at greatest) (signed negative n)
+      (length other) (ended other _ _ reads) in
       let same : read.magnitude ≡ n =
       sym (abs_of minus read.magnitude) ∙ ap unsigned_abs read.same ∙ abs_of negative n in
       let is : integer_at rule other at greatest ≡ Ok (n, length other) =
@@ -113,7 +120,8 @@ module _ (word least most n : ℕ) (of : IsOfRadix 10 word) (few : n < 10 ^ 64) 
       by_sign false some signs fit = omega (arith, fit)
       by_sign true some signs fit =
           let one : digits_from least other 0 ≡ 1 =
-          after_minus least other (minus_only (is_negative_from least other 0) n (some refl) signs) in
+          after_minus least other
+          (minus_only (is_negative_from least other 0) n (some refl) signs) in
           let begun : 0 < length (decimal n) = (decimal_is_IsNumeral_wide n few).0.0 in
           let long : length (45 ∷ decimal n) ≡ suc (length (decimal n)) = refl in
           omega (arith, fit, one, long, begun)
@@ -126,16 +134,9 @@ module _ (word least most n : ℕ) (of : IsOfRadix 10 word) (few : n < 10 ^ 64) 
       let sure : negative ≡ true → 0 < least =
       λ e. omega (arith, some e, subst (λ b. n ≤ (if b then least else most)) e fits) in
       let none : 0 + length text ≡ length text = omega arith in
-      let read = number_read rule text 0 least most n of.1 few negative fits sure (whole_written rule text) in
+      let read = number_read rule text 0 least most n of.1 few negative fits sure
+      (whole_written rule text) in
       to_the_end text _ _ (rw none at read)
-
--- ---- what std writes of a number with its sign
-
-pub signed_text : (negative : Bool) (n : ℕ) → (negative ≡ true → 0 < n)
-    → sign_text negative ++ decimal n ≡ signed_decimal (signed negative n)
-signed_text false n some = refl
-signed_text true zero some = absurd (omega (arith, some refl))
-signed_text true (suc n) some = refl
 
 -- ---- what was written at the front of a slice
 

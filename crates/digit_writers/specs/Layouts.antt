@@ -89,8 +89,8 @@ pub record HasParts (base : ℕ) (upper : Bool) (byte size count : ℕ) (plus : 
 -- ---- which words read it
 
 -- A word reads what a layout writes, for a type whose least number is `- least`: its radix is that
--- of the layout, and a separator between two digits of the integer is dropped. A plus is read if the
--- type has a sign.
+-- of the layout, and a separator between two digits of the integer is dropped. A plus is read if
+-- the type has a sign.
 pub record IsReadBy (word : ℕ) (layout : Layout) (least : ℕ) : Type 0 where
   pub radix : IsOfRadix layout.radix word
   pub separates : 0 < layout.every

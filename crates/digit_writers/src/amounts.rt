@@ -1,11 +1,9 @@
 //! Amounts in units of their last place, with a point before the places.
 
-ghost use Rattle.std.specs.Prelude.{◌≡◌, ℕ, ◌+◌, ◌/◌, ◌^◌, ◌<◌, ◌≤◌, ◌++◌, false, true, length, take, drop, decimal, Ok, IfOk, IfErr};
+ghost use Rattle.std.specs.Prelude.{◌≡◌, ℕ, ◌+◌, ◌/◌, ◌^◌, ◌<◌, ◌≤◌, false, true, length, take, drop, decimal, Ok, IfOk, IfErr};
 ghost use Rattle.std.specs.List.{splice};
 ghost use Rattle.digit_floats.specs.Scaled.{read_scaled_at};
 ghost use Rattle.digit_lists.specs.Prices.{price_at};
-ghost use Rattle.digit_writers.specs.Digits.{last_decimals};
-ghost use Rattle.digit_writers.specs.Layouts.{sign_of};
 ghost use Rattle.digit_writers.specs.Amounts.{whole_text, fraction_text, magnitude_text, amount_text, ReadsAmounts, ReadsPrices};
 
 use super::by::{count_signs, put_sign};
@@ -111,10 +109,12 @@ fn put_amount(
     out: &mut [u8],
 ) -> Result<usize, NoRoom>
     requires { places ≤ 38 }
-    ensures written { let text = magnitude_text is_grouped separator point places is_negative magnitude in
+    ensures written { let laid = magnitude_text is_grouped separator point places in
+        let text = laid is_negative magnitude in
         IfOk result (λ end. (end ≡ length text) × (end ≤ length out.old)
         × (out.new ≡ splice out.old 0 end text)) }
-    ensures no_room { let text = magnitude_text is_grouped separator point places is_negative magnitude in
+    ensures no_room { let laid = magnitude_text is_grouped separator point places in
+        let text = laid is_negative magnitude in
         IfErr result (λ error. (error.needed ≡ length text) × (length out.old < error.needed)
         × (out.new ≡ out.old)) }
 {

@@ -1,9 +1,9 @@
 //! The text of an integer in a layout.
 
-ghost use Rattle.std.specs.Prelude.{◌≡◌, ℕ, ◌+◌, ◌<◌, ◌≤◌, ◌++◌, true, max, length, take, drop, IfOk, IfErr};
+ghost use Rattle.std.specs.Prelude.{◌≡◌, ℕ, ◌+◌, ◌<◌, ◌≤◌, ◌++◌, max, length, take, drop, IfOk, IfErr};
 ghost use Rattle.std.specs.List.{splice};
 ghost use Rattle.digit_writers.specs.Written.{Reads};
-ghost use Rattle.digit_writers.specs.Layouts.{sign_of, digit_count, digits_in, grouped, thousands, laid_out, text_of, IsLaidOut, HasNoRoom, IsReadBy};
+ghost use Rattle.digit_writers.specs.Layouts.{sign_of, digit_count, thousands, laid_out, IsLaidOut, HasNoRoom, IsReadBy};
 
 use super::groups::{count_digits, count_gaps, put_groups};
 use super::layout::Layout;

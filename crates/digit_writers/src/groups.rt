@@ -1,6 +1,6 @@
 //! The digits of a number in a layout, from the last one back.
 
-ghost use Rattle.std.specs.Prelude.{◌≡◌, ◌+◌, ◌/◌, ◌^◌, ◌<◌, ◌≤◌, max, length};
+ghost use Rattle.std.specs.Prelude.{◌≡◌, ◌+◌, ◌/◌, ◌^◌, ◌<◌, ◌≤◌, length};
 ghost use Rattle.std.specs.List.{splice};
 ghost use Rattle.std.specs.Fmt.{digit_glyph};
 ghost use Rattle.digit_writers.specs.Digits.{last_digits};

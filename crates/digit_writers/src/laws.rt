@@ -3,7 +3,7 @@
 ghost use Rattle.std.specs.Prelude.{◌≡◌, ℕ, ℤ, ◌≤◌, List, length};
 ghost use Rattle.std.specs.Fmt.{signed_decimal};
 ghost use Rattle.digit_writers.specs.declared.layout.Layout.{Layout};
-ghost use Rattle.digit_writers.specs.Layouts.{laid_out, HasParts, IsReadBy};
+ghost use Rattle.digit_writers.specs.Layouts.{laid_out, IsReadBy};
 ghost use Rattle.digit_writers.specs.Written.{IsOfRadix, IsOfType, Reads};
 
 /// What [`write_number`](crate::write_number) writes of a number of a type, `signed_decimal`, is

@@ -9,10 +9,11 @@
 //! write_price(123450, b'.', 2, b',', ..)                    1,234.50
 //! ```
 //!
-//! [`write_number`] writes the shortest text: `parse_number` reads it back by each word of radix 10,
-//! and no shorter text. It requires room for each number of the type ([`Written::ROOM`]). The others
-//! answer the room that is needed, if there is less ([`NoRoom`](decimal_writers::NoRoom)), and then write nothing. What is
-//! behind the text isn't touched.
+//! [`write_number`] writes the shortest text: `parse_number` reads it back by each word of radix
+//! 10, and no shorter text. It requires room for each number of the type ([`Written::ROOM`]). The
+//! others answer the room that is needed, if there is less
+//! ([`NoRoom`](decimal_writers::NoRoom)), and then write nothing. What is behind the text isn't
+//! touched.
 //!
 //! [`write_number_by`] writes in a [`Layout`]: radix and case, groups, zeros and `+`. A word reads
 //! the layout if it has its radix, and drops its separator between digits of the integer; a `+` is

@@ -1,6 +1,6 @@
 //! The shortest text of an integer.
 
-ghost use Rattle.std.specs.Prelude.{◌≡◌, ℕ, ◌+◌, ◌≤◌, true, ◌<◌, ◌++◌, length, take, drop, decimal};
+ghost use Rattle.std.specs.Prelude.{◌≡◌, ℕ, ◌+◌, ◌≤◌, ◌<◌, ◌++◌, length, take, drop, decimal};
 ghost use Rattle.std.specs.Fmt.{sign_text, signed_decimal};
 ghost use Rattle.std.specs.List.{splice};
 ghost use Rattle.digit_writers.specs.Written.{IsOfRadix, Reads, IsShortest};

@@ -14,10 +14,12 @@ returns-then-n-lt10-clause-written c =
     (digit_fits c.args.n _ _ c.if-n-lt10.true c.requires.room)
 
 pub put_two-requires-clause-room : goal.put_two-requires-clause-room
-put_two-requires-clause-room c = two_fit c.args.n _ _ c.if-n-lt10.false c.requires.below c.requires.room
+put_two-requires-clause-room c =
+    two_fit c.args.n _ _ c.if-n-lt10.false c.requires.below c.requires.room
 
 pub returns-clause-end : goal.returns-clause-end
 returns-clause-end c = two_end c.args.n _ c.if-n-lt10.false c.requires.below
 
 pub returns-clause-written : goal.returns-clause-written
-returns-clause-written c = two_all _ _ _ c.args.n c.if-n-lt10.false c.requires.below c.put_two.ensures
+returns-clause-written c =
+    two_all _ _ _ c.args.n c.if-n-lt10.false c.requires.below c.put_two.ensures

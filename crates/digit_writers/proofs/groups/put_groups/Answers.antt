@@ -41,7 +41,8 @@ loop-more-preserved c =
           (l.at - size.result - 1) put.result c.args.out.now
           (set put.new.out (l.at - size.result - 1) layout.separator)) next
           (laid_more layout.radix layout.is_upper c.args.n layout.separator layout.every count
-          c.args.start c.args.end (count - l.more) l.more l.at l.left size.result c.args.out.now l.out
+          c.args.start c.args.end (count - l.more) l.more l.at l.left size.result c.args.out.now
+          l.out
           put.new.out _ put.result l.invariant.1 c.requires.within positive
           (size.ensures.grouped positive) c.loop-more-test.true put.ensures.written put.ensures.left
           refl),

@@ -5,25 +5,42 @@ use Rattle.digit_writers.proofs.thousands.put_first_six.Goals as goal
 pub put_first_three-next-requires-clause-room : goal.put_first_three-next-requires-clause-room
 put_first_three-next-requires-clause-room c =
     let n = c.args.n in
-    omega (arith, c.requires.room, text_length c.args.separator 3 n _ _ c.if-n-lt1000.false (omega arith) (omega arith) refl refl)
+    omega (
+      arith,
+      c.requires.room,
+      text_length c.args.separator 3 n _ _ c.if-n-lt1000.false
+          (omega arith) (omega arith) refl refl,
+    )
 
 pub put_group-requires-clause-room : goal.put_group-requires-clause-room
 put_group-requires-clause-room c =
     let n = c.args.n in
-    omega (arith, c.requires.room, text_length c.args.separator 3 n _ _ c.if-n-lt1000.false (omega arith) (omega arith) refl refl, tail_length c.args.separator 3 (n % 10 ^ 3))
+    omega (
+      arith,
+      c.requires.room,
+      text_length c.args.separator 3 n _ _ c.if-n-lt1000.false
+          (omega arith) (omega arith) refl refl,
+      tail_length c.args.separator 3 (n % 10 ^ 3),
+    )
 
 pub returns-clause-end : goal.returns-clause-end
 returns-clause-end c =
     let n = c.args.n in
     let head = c.put_first_three-next in
-    (text_written c.args.separator c.args.out.now head.new.out c.put_group.new.out c.args.at head.result _
-    3 n _ _ c.if-n-lt1000.false (omega arith) (omega arith) c.requires.room refl refl head.ensures.end
-    (omega (arith, tail_length c.args.separator 3 (n % 10 ^ 3))) head.ensures.written c.put_group.ensures).0
+    (text_written c.args.separator c.args.out.now head.new.out c.put_group.new.out c.args.at
+    head.result _
+    3 n _ _ c.if-n-lt1000.false (omega arith) (omega arith) c.requires.room refl refl
+    head.ensures.end
+    (omega (arith, tail_length c.args.separator 3 (n % 10 ^ 3))) head.ensures.written
+    c.put_group.ensures).0
 
 pub returns-clause-written : goal.returns-clause-written
 returns-clause-written c =
     let n = c.args.n in
     let head = c.put_first_three-next in
-    (text_written c.args.separator c.args.out.now head.new.out c.put_group.new.out c.args.at head.result _
-    3 n _ _ c.if-n-lt1000.false (omega arith) (omega arith) c.requires.room refl refl head.ensures.end
-    (omega (arith, tail_length c.args.separator 3 (n % 10 ^ 3))) head.ensures.written c.put_group.ensures).1
+    (text_written c.args.separator c.args.out.now head.new.out c.put_group.new.out c.args.at
+    head.result _
+    3 n _ _ c.if-n-lt1000.false (omega arith) (omega arith) c.requires.room refl refl
+    head.ensures.end
+    (omega (arith, tail_length c.args.separator 3 (n % 10 ^ 3))) head.ensures.written
+    c.put_group.ensures).1

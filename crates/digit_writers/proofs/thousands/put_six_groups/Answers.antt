@@ -16,4 +16,6 @@ returns c =
     (omega arith) (omega arith) (omega arith)
     (omega (arith, tail_length separator 6 (n / 10 ^ 12)))
     (omega (arith, tail_length separator 12 (n % 10 ^ 12))) c.requires.room first.ensures
-    (second.ensures ∙ ap (λ (e : ℕ). splice first.new.out (at + 8) e (thousands_after separator 12 (n % 10 ^ 12))) last)
+    (second.ensures ∙ ap
+    (λ (e : ℕ). splice first.new.out (at + 8) e (thousands_after separator 12 (n % 10 ^ 12)))
+    last)

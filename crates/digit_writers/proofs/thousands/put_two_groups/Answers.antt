@@ -16,4 +16,6 @@ returns c =
     (omega arith) (omega arith) (omega arith)
     (omega (arith, tail_length separator 3 (n / 10 ^ 3)))
     (omega (arith, tail_length separator 3 (n % 10 ^ 3))) c.requires.room first.ensures
-    (second.ensures ∙ ap (λ (e : ℕ). splice first.new.out (at + 4) e (thousands_after separator 3 (n % 10 ^ 3))) last)
+    (second.ensures ∙ ap
+    (λ (e : ℕ). splice first.new.out (at + 4) e (thousands_after separator 3 (n % 10 ^ 3)))
+    last)

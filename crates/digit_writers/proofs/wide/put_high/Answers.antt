@@ -25,7 +25,8 @@ pub returns-clause-end : goal.returns-clause-end
 returns-clause-end c =
     let head = c.put_u64-next in
     let parts = c.split_sixteen-high.ensures in
-    (wide_written c.args.out.now head.new.out c.put_sixteen.new.out c.args.at head.result 16 c.args.n
+    (wide_written c.args.out.now head.new.out c.put_sixteen.new.out c.args.at head.result 16
+    c.args.n
     _ _ (omega arith) (omega arith) c.requires.room parts.high parts.low head.ensures.end
     head.ensures.written c.put_sixteen.ensures).0
 
@@ -33,6 +34,7 @@ pub returns-clause-written : goal.returns-clause-written
 returns-clause-written c =
     let head = c.put_u64-next in
     let parts = c.split_sixteen-high.ensures in
-    (wide_written c.args.out.now head.new.out c.put_sixteen.new.out c.args.at head.result 16 c.args.n
+    (wide_written c.args.out.now head.new.out c.put_sixteen.new.out c.args.at head.result 16
+    c.args.n
     _ _ (omega arith) (omega arith) c.requires.room parts.high parts.low head.ensures.end
     head.ensures.written c.put_sixteen.ensures).1

@@ -1,0 +1,4 @@
+//! Tests over the public calls of the crates that write numbers.
+
+mod decimals;
+mod integers;
