@@ -1,10 +1,15 @@
 -- On a text without separators the float is that of std's `parse`.
-use Rattle.std.proofs.Common.{◌≡◌, ℕ, suc, ◌+◌, ◌-◌, ◌<◌, ◌≤◌, Bool, true, false, List, [], ◌∷◌, length, take, drop, get_or, slice_index, refl, sym, ap, subst, ◌∙◌, length-drop, arith}
+use Rattle.std.proofs.Common.{◌≡◌, ℕ, suc, ◌+◌, ◌-◌, ◌<◌, ◌≤◌, Bool, true, false, List, [], ◌∷◌, length, take, drop, get_or, slice_index, refl, sym, ap, subst, ◌∙◌, length-drop, arith, inl, inr, ◌++◌}
 use Rattle.std.specs.Prelude.{not, filter, slice_range, Some, Ok, Result, if◌then◌else◌, ◌==◌, ◌||◌, ◌&&◌}
 use Rattle.std.specs.Char.{is_ascii_digit}
 use Rattle.std.specs.List.{prefix_len}
-use Rattle.std.proofs.lemmas.List.{get_or-drop, drop-drop, length-take}
-use Rattle.std.proofs.lemmas.List.Sums.{prefix_len_is, prefix_len_passes}
+use Rattle.std.proofs.lemmas.List.{get_or-drop, drop-drop, length-take, get_or_past}
+use Rattle.std.proofs.lemmas.Float.Parse.{scan_numeral-text_of, parse_float-text_of}
+use Rattle.std.specs.Fmt.{sign_text}
+use Rattle.std.proofs.lemmas.Bool.{cases_lt}
+use Rattle.std.specs.Str.Parse.{AllDigits}
+use Rattle.std.proofs.lemmas.List.Folds.{length-prefix_len}
+use Rattle.std.proofs.lemmas.List.Sums.{prefix_len_is, prefix_len_passes, prefix_len-drop_yes}
 use Rattle.std.proofs.lemmas.Bool.Decides.{nat_tests}
 use Rattle.lexical_digits.specs.declared.skip.rule.Rule.{Rule}
 use Rattle.lexical_digits.specs.Separators.{is_dropped, is_kept, holds_separator}
@@ -224,7 +229,7 @@ module _ (word : ℕ) (text : List ℕ) (decimal : IsDecimal word) (plain : HasN
 
   -- ---- the whole number
 
-  module _ (within : at ≤ length text) (is : HasFloat word text at) where
+  module _ (within : at ≤ length text) where
     abbrev i : ℕ
     i = std.digits_end r 0
 
@@ -247,44 +252,106 @@ module _ (word : ℕ) (text : List ℕ) (decimal : IsDecimal word) (plain : HasN
     mantissa_is : mantissa_end word text 46 at ≡ at + j
     mantissa_is = rw whole_end_is (fraction_end_by i _ (byte (is_point 46) i refl))
 
-    has_is : std.has_exponent r j ≡ stands (is_mark 101) text (at + j)
-    has_is =
-        has_by j _ refl
-        (subst (λ (y : ℕ). stands (is_mark 101) text y ≡ true
-        → 0 < length (exponent_digits word text 101 y))
-        mantissa_is is.exponent)
+    -- ---- of a text that was written
 
-    exponent_is : exponent_digits word text 101 (mantissa_end word text 46 at)
-        ≡ (std.scan_numeral r).exponent
-    unfolding std.scan_numeral
-    exponent_is = rw mantissa_is (exponent_by j _ (sym has_is))
+    module _ (p : std.Parts) (well : std.IsWellFormed p) (some : 0 < length p.whole)
+        (written : r ≡ std.text_of p) where
+      scanned : std.scan_numeral r ≡ p
+      scanned = ap std.scan_numeral written ∙ scan_numeral-text_of p well
 
-    negative_is : exponent_negative word text 101 (mantissa_end word text 46 at)
-        ≡ (std.scan_numeral r).exponent_negative
-    unfolding std.scan_numeral
-    negative_is = rw mantissa_is (negative_by j _ (sym has_is))
+      counted : 0 < mantissa_count word text 46 at
+      unfolding std.scan_numeral
+      counted =
+          let same : slice_range r 0 (std.digits_end r 0) ≡ p.whole =
+          ap (λ (q : std.Parts). q.whole) scanned in
+          omega (arith, ap length whole_is, ap length same)
 
-    end_is_std : number_end word text plain_marks at ≡ at + (std.scan_numeral r).len
-    unfolding std.scan_numeral
-    end_is_std = rw mantissa_is (exponent_end_by j _ (sym has_is))
+      long : (std.scan_numeral r).len ≡ length r
+      long = ap (λ (q : std.Parts). q.len) scanned ∙ well.len_is ∙ ap length (sym written)
 
-    whole_is_std : digits_from word text Integer at ≡ (std.scan_numeral r).whole
-    unfolding std.scan_numeral
-    whole_is_std = whole_is
+      -- a digit stands where an exponent's begin
+      some_exponent : (c : ℕ) → is_ascii_digit (slice_index r c) ≡ true
+          → 0 < length (slice_range r c (std.digits_end r c))
+      some_exponent c digit =
+          let inside : c < length r = within_of c digit in
+          let n = prefix_len is_ascii_digit (drop c r) in
+          let same : c + n - c ≡ n = omega arith in
+          let many = prefix_len-drop_yes is_ascii_digit r c 0 inside digit in
+          rw same (omega (arith, length-prefix_len is_ascii_digit (drop c r), many))
+        where
+          within_of : (c : ℕ) → is_ascii_digit (slice_index r c) ≡ true → c < length r
+          within_of c digit =
+              elim (cases_lt c (length r)) [
+                | inl l ↦ l
+                | inr past ↦
+                    let z : slice_index r c ≡ 0 = get_or_past r c 0 past in
+                    let no : is_ascii_digit 0 ≡ true = ap is_ascii_digit (sym z) ∙ digit in
+                    cc
+              ]
 
-    fraction_is_std : fraction_digits word text 46 (digits_end word text Integer at)
-        ≡ (std.scan_numeral r).fraction
-    unfolding std.scan_numeral
-    fraction_is_std = rw whole_end_is (fraction_by i _ (byte (is_point 46) i refl))
+      after_mark : (b : Bool) → std.has_exponent r j ≡ b
+          → stands (is_mark 101) text (at + j) ≡ true
+          → 0 < length (exponent_digits word text 101 (at + j))
+      unfolding std.scan_numeral
+      after_mark true h m =
+          let digit : is_ascii_digit (slice_index r (std.exponent_start r j)) ≡ true =
+          grind (arith, nat_tests, h) in
+          rw (exponent_by j true m) (some_exponent (std.exponent_start r j) digit)
+      after_mark false h m =
+          let ends : j ≡ length r =
+          ap (λ (b : Bool). if b then std.digits_end r (std.exponent_start r j) else j) (sym h)
+          ∙ long in
+          absurd
+          (omega
+          (arith, ends, length-drop at text, stands_within (is_mark 101) text (at + j) m, within))
 
-    pub nearest_is : (f : Format) (negative : Bool)
-        → nearest_float f negative (parts_at word text plain_marks at)
-        ≡ nearest_float f negative (std.scan_numeral r)
-    nearest_is f negative =
-        rw (whole_is_std, fraction_is_std, exponent_is, negative_is) refl
+      has_float : HasFloat word text at
+      has_float = record {
+        some = counted;
+        exponent = λ m. rw mantissa_is
+            (after_mark (std.has_exponent r j) refl
+            (subst (λ (y : ℕ). stands (is_mark 101) text y ≡ true) mantissa_is m));
+      }
 
-    pub has_digits_is : std.has_digits (std.scan_numeral r) ≡ true
-    has_digits_is = rw (← whole_is_std, ← fraction_is_std) (grind (arith, nat_tests, is.some))
+    module _ (is : HasFloat word text at) where
+      has_is : std.has_exponent r j ≡ stands (is_mark 101) text (at + j)
+      has_is =
+          has_by j _ refl
+          (subst (λ (y : ℕ). stands (is_mark 101) text y ≡ true
+          → 0 < length (exponent_digits word text 101 y))
+          mantissa_is is.exponent)
+
+      exponent_is : exponent_digits word text 101 (mantissa_end word text 46 at)
+          ≡ (std.scan_numeral r).exponent
+      unfolding std.scan_numeral
+      exponent_is = rw mantissa_is (exponent_by j _ (sym has_is))
+
+      negative_is : exponent_negative word text 101 (mantissa_end word text 46 at)
+          ≡ (std.scan_numeral r).exponent_negative
+      unfolding std.scan_numeral
+      negative_is = rw mantissa_is (negative_by j _ (sym has_is))
+
+      end_is_std : number_end word text plain_marks at ≡ at + (std.scan_numeral r).len
+      unfolding std.scan_numeral
+      end_is_std = rw mantissa_is (exponent_end_by j _ (sym has_is))
+
+      whole_is_std : digits_from word text Integer at ≡ (std.scan_numeral r).whole
+      unfolding std.scan_numeral
+      whole_is_std = whole_is
+
+      fraction_is_std : fraction_digits word text 46 (digits_end word text Integer at)
+          ≡ (std.scan_numeral r).fraction
+      unfolding std.scan_numeral
+      fraction_is_std = rw whole_end_is (fraction_by i _ (byte (is_point 46) i refl))
+
+      pub nearest_is : (f : Format) (negative : Bool)
+          → nearest_float f negative (parts_at word text plain_marks at)
+          ≡ nearest_float f negative (std.scan_numeral r)
+      nearest_is f negative =
+          rw (whole_is_std, fraction_is_std, exponent_is, negative_is) refl
+
+      pub has_digits_is : std.has_digits (std.scan_numeral r) ≡ true
+      has_digits_is = rw (← whole_is_std, ← fraction_is_std) (grind (arith, nat_tests, is.some))
 
 one_value : {A E : Type 0} (r : Result A E) (x y : A) → r ≡ Ok x → r ≡ Ok y → x ≡ y
 one_value r x y e f = cc
@@ -362,3 +429,46 @@ module _ (word : ℕ) (text : List ℕ) (decimal : IsDecimal word) (plain : HasN
           let here : parse_at word text plain_marks f 0 ≡ Ok (float_at word text plain_marks f 0) =
           rw (d, g, h) refl in
           as_std word text decimal plain is ends f ∙ ap Some (one_value _ _ _ here e)
+
+-- ---- a float that was written is read
+
+module _ (word : ℕ) (text : List ℕ) (decimal : IsDecimal word) (plain : HasNoSeparator word text)
+    (negative : Bool) (p : std.Parts) (well : std.IsWellFormed p) (some : 0 < length p.whole)
+    (written : text ≡ sign_text negative ++ std.text_of p) where
+  begun : (past_sign text 0 ≤ length text) × (drop (past_sign text 0) text ≡ std.text_of p)
+  begun = (sign_fits text, by_sign negative text written)
+    where
+      digit_first : (ws rest : List ℕ) → AllDigits 10 ws → 0 < length ws → past_sign (ws ++ rest) 0 ≡ 0
+      digit_first [] rest all some = absurd (omega arith)
+      digit_first (d ∷ ds) rest all some = grind (arith, nat_tests, all.0)
+
+      by_sign : (n : Bool) (t : List ℕ) → t ≡ sign_text n ++ std.text_of p → drop (past_sign t 0) t ≡ std.text_of p
+      by_sign true t e = rw e refl
+      by_sign false t e = rw (e, digit_first p.whole _ well.whole_digits some) refl
+
+  pub as_written : (f : Format) → parse_at word text plain_marks f 0 ≡ Ok (nearest_float f negative p)
+  as_written f =
+      let at = past_sign text 0 in
+      let is = has_float word text decimal plain at begun.0 p well some begun.1 in
+      let len = end_is_std word text decimal plain at begun.0 is in
+      let all = long word text decimal plain at begun.0 p well some begun.1 in
+      let ends : number_end word text plain_marks at ≡ length text =
+      omega (arith, len, all, length-drop at text, begun.0) in
+      let std_reads = as_std word text decimal plain is ends f in
+      let same : Some (float_at word text plain_marks f 0) ≡ Some (nearest_float f negative p) =
+      sym std_reads ∙ ap (parse_float f) written ∙ parse_float-text_of f negative p well some in
+      let mark = mantissa_end word text 46 at in
+      let d : (mantissa_count word text 46 at == 0) ≡ false = grind (arith, nat_tests, is.some) in
+      let g : (stands (is_mark 101) text mark && (length (exponent_digits word text 101 mark) == 0)) ≡ false =
+      no_fault (stands (is_mark 101) text mark) (length (exponent_digits word text 101 mark)) is.exponent in
+      let h : (number_end word text plain_marks at == length text) ≡ true = grind (arith, nat_tests, ends) in
+      let here : parse_at word text plain_marks f 0 ≡ Ok (float_at word text plain_marks f 0) =
+      rw (d, g, h) refl in
+      here ∙ ap Ok (one_of same)
+    where
+      no_fault : (b : Bool) (n : ℕ) → (b ≡ true → 0 < n) → (b && (n == 0)) ≡ false
+      no_fault true n some = grind (arith, nat_tests, some refl)
+      no_fault false n some = refl
+
+      one_of : {x y : Float} → Some x ≡ Some y → x ≡ y
+      one_of e = cc

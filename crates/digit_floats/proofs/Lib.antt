@@ -1,4 +1,4 @@
-mod AsStd
+pub mod AsStd
 mod Between
 mod Bits
 pub mod Bytes

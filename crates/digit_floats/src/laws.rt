@@ -1,11 +1,12 @@
 //! Laws: what an outcome says, std reads the same where there is no separator, and a zero keeps its
 //! sign.
 
-ghost use Rattle.std.specs.Prelude.{◌≡◌, ℕ, ◌≤◌, ◌↔◌, List, Some, Ok, Err, length};
+ghost use Rattle.std.specs.Prelude.{◌≡◌, ℕ, Bool, ◌<◌, ◌≤◌, ◌↔◌, List, ◌++◌, Some, Ok, Err, length};
 ghost use Rattle.std.specs.Float.{Float, Format};
 ghost use Rattle.std.specs.Float.Ieee.{round};
-ghost use Rattle.std.specs.Float.Numeral.{numeral_digits};
+ghost use Rattle.std.specs.Float.Numeral.{Parts, IsWellFormed, numeral_digits, nearest_float, text_of};
 ghost use Rattle.std.specs.Float.Parse.{parse_float as std_float};
+ghost use Rattle.std.specs.Fmt.{sign_text};
 ghost use Rattle.digit_floats.specs.Float.{IsDecimal, plain_marks, past_sign, parts_at, float_at, end_at, read_at, parse_at};
 ghost use Rattle.digit_floats.specs.Bytes.{stands, is_minus};
 ghost use Rattle.digit_floats.specs.declared.error.FloatError.{FloatError};
@@ -69,4 +70,14 @@ pub fn what_follows_changes_no_decimal()
         IsSameFloatUpTo word marks one other at → start ≤ at →
         read_scaled_at word one marks.point places least most start
         ≡ read_scaled_at word other marks.point places least most start }
+{}
+
+/// A float that was written is read: perhaps a minus, digits, perhaps a point and digits, and perhaps
+/// an exponent, without separators, are the float nearest to the number that they write.
+#[tactic(auto, using(crate::proofs::AsStd::as_written))]
+pub fn written_floats_are_read()
+    ensures { (word : ℕ) (text : List ℕ) (f : Format) (negative : Bool) (p : Parts) →
+        IsDecimal word → HasNoSeparator word text → IsWellFormed p → 0 < length p.whole →
+        text ≡ sign_text negative ++ text_of p →
+        parse_at word text plain_marks f 0 ≡ Ok (nearest_float f negative p) }
 {}
