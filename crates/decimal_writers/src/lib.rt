@@ -23,7 +23,9 @@ mod digits;
 mod exact;
 mod exponent;
 mod fixed;
+pub mod laws;
 mod point;
+mod quick;
 mod room;
 mod write;
 
