@@ -10,3 +10,5 @@ pub mod Rounding
 pub mod FloatBits
 pub mod ExactDigits
 pub mod Places
+pub mod Lengths
+pub mod QuickUnits

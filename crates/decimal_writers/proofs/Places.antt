@@ -1,14 +1,14 @@
 -- Numbers with a fixed number of places.
-use Rattle.std.proofs.Common.{◌≡◌, ℕ, zero, suc, ◌+◌, ◌-◌, ◌*◌, ◌/◌, ◌%◌, ◌^◌, ◌<◌, ◌≤◌, Bool, true, List, [], ◌∷◌, ◌++◌, length, take, drop, get_or, refl, sym, ap, subst, ◌∙◌, inl, inr, arith, lit<, replicate, append_assoc, append-nil, length-append}
-use Rattle.std.specs.Prelude.{max, nat_lt, Ok, Err}
+use Rattle.std.proofs.Common.{◌≡◌, ℕ, ℤ, zero, suc, ◌+◌, ◌-◌, ◌*◌, ◌/◌, ◌%◌, ◌^◌, ◌<◌, ◌≤◌, Bool, true, List, [], ◌∷◌, ◌++◌, length, take, drop, get_or, refl, sym, ap, subst, ◌∙◌, inl, inr, arith, lit<, replicate, append_assoc, append-nil, length-append}
+use Rattle.std.specs.Prelude.{pos, neg_ℤ, max, nat_lt, Ok, Err}
 use Rattle.std.specs.Float.{Float, nan, inf, fin}
 use Rattle.std.specs.Float.Ieee.{up, down}
 use Rattle.std.specs.Fmt.{sign_text}
 use Rattle.std.proofs.Math.Nat.{div-one, pow-le-pow_right}
 use Rattle.std.proofs.lemmas.Bool.{cases_lt}
 use Rattle.std.proofs.lemmas.Bool.Decides.{nat_tests}
-use native.Mathlib.Nat.{pow-suc, mul_assoc, mul_comm, mul-one, eq_of_mul-eq-mul_right, add-mul-div_right, mul-div_cancel, div-div-eq-div-mul}
-use lib.Pow.{pow-add}
+use native.Mathlib.Nat.{pow-suc, mul_assoc, mul_comm, mul-one, mul_right_comm, eq_of_mul-eq-mul_right, add-mul-div_right, mul-div_cancel, div-div-eq-div-mul}
+use lib.Pow.{pow-add, pow_pos}
 use lib.Ieee.Exact.{HasValue}
 use lib.Ieee.Fits.{down_pos}
 use lib.Ieee.Nearest.{closest, closest_same}
@@ -16,7 +16,7 @@ use mir.Val.{bool_byte}
 use Rattle.decimal_writers.specs.Big.{value_of, IsBig}
 use Rattle.decimal_writers.specs.Fixed.{fixed_text, point_of}
 use Rattle.decimal_writers.specs.Room.{Writes}
-use Rattle.decimal_writers.specs.Text.{number_text, last_digits, with_point}
+use Rattle.decimal_writers.specs.Text.{number_text, last_digits, with_point, places_of, units_of, plain_text}
 use Rattle.decimal_writers.proofs.Numerals.{ten_pos, counted, few_digits, number_one, length-last, last_none, last_step, last_split}
 use Rattle.decimal_writers.proofs.Points.{shifted}
 use Rattle.decimal_writers.proofs.Rounding.{closest_whole, front_below}
@@ -229,3 +229,38 @@ zeros_are (suc n) (suc k) = zeros_are n k
 
 pub least_some : 0 < 2 ^ 1074
 least_some = lit< tt
+
+-- ---- in units of the last place, by an integer
+
+quick_same : (x : Float) (negative : Bool) (significand shift places : ℕ)
+    → HasValue x negative (significand * 2 ^ shift) (2 ^ 1074) → shift ≤ 1074
+    → fixed_text x places
+    ≡ sign_text negative ++ with_point places (closest (significand * 10 ^ places) (2 ^ (1074 - shift)))
+quick_same nan negative significand shift places has low = absurd has
+quick_same (inf s) negative significand shift places has low = absurd has
+quick_same (fin s m e) negative significand shift places has low =
+    let u = m * up e in
+    let d = down e in
+    let back : 1074 - shift + shift ≡ 1074 = omega (arith, low) in
+    let twos : 2 ^ (1074 - shift) * 2 ^ shift ≡ 2 ^ 1074 = sym (pow-add 2 (1074 - shift) shift) ∙ ap (λ (y : ℕ). 2 ^ y) back in
+    let scaled : u * 2 ^ (1074 - shift) * 2 ^ shift ≡ significand * d * 2 ^ shift =
+    mul_assoc u (2 ^ (1074 - shift)) (2 ^ shift) ∙ ap (λ (y : ℕ). u * y) twos ∙ has.1 ∙ mul_right_comm significand (2 ^ shift) d in
+    let equal : u * 2 ^ (1074 - shift) ≡ significand * d =
+    eq_of_mul-eq-mul_right (2 ^ shift) (pow_pos shift) (u * 2 ^ (1074 - shift)) (significand * d) scaled in
+    let cross : u * 10 ^ places * 2 ^ (1074 - shift) ≡ significand * 10 ^ places * d =
+    mul_right_comm u (10 ^ places) (2 ^ (1074 - shift)) ∙ ap (λ (y : ℕ). y * 10 ^ places) equal ∙ mul_right_comm significand d (10 ^ places) in
+    (λ i. sign_text (has.0 i) ++ with_point places (closest_same (u * 10 ^ places) d (significand * 10 ^ places) (2 ^ (1074 - shift)) (down_pos e) (pow_pos (1074 - shift)) cross i))
+
+minus_places : (places units : ℕ) → with_point places units ≡ with_point (places_of (neg_ℤ (pos places))) (units_of units (neg_ℤ (pos places)))
+minus_places zero units = ap number_text (omega arith)
+minus_places (suc n) units = let next : suc n ≡ n + 1 = omega arith in ap (λ (y : ℕ). with_point y units) next
+
+pub quick_text : (x : Float) (negative : Bool) (significand shift places units : ℕ) (power : ℤ)
+    → HasValue x negative (significand * 2 ^ shift) (2 ^ 1074) → shift ≤ 1074
+    → units ≡ closest (significand * 10 ^ places) (2 ^ (1074 - shift)) → power ≡ neg_ℤ (pos places)
+    → fixed_text x places ≡ plain_text negative units power
+quick_text x negative significand shift places units power has low is down =
+    quick_same x negative significand shift places has low
+    ∙ ap (λ (y : ℕ). sign_text negative ++ with_point places y) (sym is)
+    ∙ ap (λ (ds : List ℕ). sign_text negative ++ ds) (minus_places places units)
+    ∙ ap (λ (z : ℤ). plain_text negative units z) (sym down)

@@ -1,8 +1,10 @@
 -- A text that was written is read.
 use Rattle.std.proofs.Common.{◌≡◌, ℕ, ℤ, suc, ◌+◌, ◌-◌, ◌*◌, ◌/◌, ◌%◌, ◌^◌, ◌<◌, Bool, true, false, List, [], ◌∷◌, ◌++◌, length, refl, sym, ap, subst, ◌∙◌, inl, inr, arith, append_assoc, append-nil, unsigned_abs}
 use Rattle.std.specs.Prelude.{Option, Some, None, Result, Ok, IfOk, FitsSigned, take, drop, decimal, pos, negsuc, ◌+ℤ◌, slice_get, if◌then◌else◌}
-use Rattle.std.specs.Float.{Format}
-use Rattle.std.specs.Float.Ieee.{round}
+use Rattle.std.specs.Float.{Format, fin}
+use Rattle.std.specs.Float.Ieee.{round, up, down}
+use lib.Ieee.Nearest.{closest}
+use Rattle.decimal_writers.specs.Fixed.{fixed_text}
 use Rattle.std.specs.Float.Numeral as std
 use Rattle.std.specs.Fmt.{sign_text, signed_decimal}
 use Rattle.std.specs.Str.Parse.{AllDigits, digits_value}
@@ -79,6 +81,12 @@ pub plain_reads : (f : Format) (negative : Bool) (digits : ℕ) (power : ℤ)
     ≡ Ok (nearest_of f negative digits power)
 plain_reads f negative digits power =
     reads_point f negative (places_of power) (units_of digits power) _ refl
+
+pub fixed_reads : (f : Format) (negative : Bool) (significand : ℕ) (exponent : ℤ) (places : ℕ)
+    → parse_at STANDARD (fixed_text (fin negative significand exponent) places) plain_marks f 0
+    ≡ Ok (round f negative (closest (significand * up exponent * 10 ^ places) (down exponent)) (10 ^ places))
+fixed_reads f negative significand exponent places =
+    reads_point f negative places (closest (significand * up exponent * 10 ^ places) (down exponent)) _ refl
 
 -- ---- a place after a whole number
 

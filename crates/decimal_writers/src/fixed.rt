@@ -1,6 +1,6 @@
 //! Floats with a fixed number of places.
 
-ghost use Rattle.std.specs.Prelude.{◌≡◌, ◌+◌, ◌-◌, ◌*◌, ◌/◌, ◌^◌, ◌<◌, ◌≤◌, ◌++◌, IsTrue, length, take, drop};
+ghost use Rattle.std.specs.Prelude.{◌≡◌, pos, neg_ℤ, ◌+◌, ◌-◌, ◌*◌, ◌/◌, ◌^◌, ◌<◌, ◌≤◌, ◌++◌, IsTrue, length, take, drop};
 ghost use Rattle.std.specs.Float.{float_is_finite};
 ghost use Rattle.std.specs.Fmt.{sign_text};
 ghost use lib.Ieee.Nearest.{closest};
@@ -12,8 +12,9 @@ ghost use Rattle.decimal_writers.specs.Text.{with_point};
 use super::big::{add_one, put_big, rounds_up};
 use super::digits::put_digits;
 use super::exact::{binary_of, exact_digits};
+use super::quick::quick_units;
 use super::room::NoRoom;
-use super::write::put_sign;
+use super::write::{put_sign, write_plain_text};
 
 /// Writes a point before a position, if places follow it, and answers where it is.
 fn put_point(places: usize, out: &mut [u8], end: usize) -> usize
@@ -78,11 +79,9 @@ fn write_places(
     Ok(end)
 }
 
-/// Writes a finite float with a fixed number of places at the front of a slice, as C's `%.2f` does:
-/// rounded once from its exact value, at a tie to the even digit. Answers the length, or the room
-/// that it needs; what follows the text in the slice stays as it was.
-#[tactic(auto)]
-pub fn write_fixed(x: f64, places: u32, out: &mut [u8]) -> Result<usize, NoRoom>
+/// [`write_fixed`] by the exact digits of the float.
+#[inline(never)]
+fn write_exact(x: f64, places: u32, out: &mut [u8]) -> Result<usize, NoRoom>
     requires { IsTrue (float_is_finite x) }
     ensures { Writes (fixed_text x places) out.old out.new result }
 {
@@ -105,4 +104,29 @@ pub fn write_fixed(x: f64, places: u32, out: &mut [u8]) -> Result<usize, NoRoom>
     let dropped = exact.places - wanted;
     let len = round_off(&mut digits, exact.len, dropped);
     write_places(binary.negative, &digits, len, dropped, wanted, 0, out)
+}
+
+/// The power of ten that is minus a number of places.
+#[inline(always)]
+fn power_of(places: u32) -> i32
+    requires { places ≤ 19 }
+    ensures { result ≡ neg_ℤ (pos places) }
+{
+    -(places as i32)
+}
+
+/// Writes a finite float with a fixed number of places at the front of a slice, as C's `%.2f` does:
+/// rounded once from its exact value, at a tie to the even digit. Answers the length, or the room
+/// that it needs; what follows the text in the slice stays as it was.
+#[tactic(auto)]
+#[inline]
+pub fn write_fixed(x: f64, places: u32, out: &mut [u8]) -> Result<usize, NoRoom>
+    requires { IsTrue (float_is_finite x) }
+    ensures { Writes (fixed_text x places) out.old out.new result }
+{
+    let binary = binary_of(x);
+    if let Some(units) = quick_units(binary.significand, binary.shift, places) {
+        return write_plain_text(binary.negative, units, power_of(places), out);
+    }
+    write_exact(x, places, out)
 }

@@ -14,8 +14,12 @@
 //!
 //! A number stands as it is given: 0 with a minus is `-0`, and a last digit that is 0 is written.
 //! If the digits are the shortest of a float, its texts are those of Rust's `{}` and `{:e}` and of
-//! serde_json. A slice that is too short stays as it was, and the call answers the room needed
-//! ([`NoRoom`]).
+//! serde_json.
+//!
+//! [`write_fixed`] writes a float itself with a fixed number of places: 0.125 with two is `0.12`,
+//! rounded once and at a tie to the even digit, as C's `%.2f` does.
+//!
+//! A slice that is too short stays as it was, and the call answers the room needed ([`NoRoom`]).
 #![tactic(auto)]
 
 mod big;
@@ -23,10 +27,12 @@ mod digits;
 mod exact;
 mod exponent;
 mod fixed;
+pub mod laws;
 mod point;
+mod quick;
 mod room;
 mod write;
 
 pub use self::fixed::write_fixed;
-pub use self::room::NoRoom;
+pub use self::room::{FLOAT_ROOM, NoRoom};
 pub use self::write::{write_exponent, write_plain, write_usual};

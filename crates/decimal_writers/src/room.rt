@@ -6,6 +6,10 @@ ghost use Rattle.decimal_writers.specs.Room.{message};
 use std::error::Error;
 use std::fmt;
 
+/// The most bytes that [`write_exponent`](crate::write_exponent) and
+/// [`write_usual`](crate::write_usual) write of the shortest decimal of a float.
+pub const FLOAT_ROOM: usize = 24;
+
 /// The slice is shorter than the text, and nothing was written.
 #[derive(Clone, Copy, Debug, PartialEq, Eq)]
 pub struct NoRoom {

@@ -55,7 +55,7 @@ fn put_plain(digits: u64, power: i32, out: &mut [u8], end: usize) -> usize
 /// [`write_plain`], before it is read.
 #[inline(always)]
 #[tactic(auto, using(crate::proofs::Texts::written))]
-fn write_plain_text(
+pub fn write_plain_text(
     negative: bool,
     digits: u64,
     power: i32,
