@@ -22,7 +22,7 @@ use Rattle.digit_totals.specs.Errors.{of_field_at}
 use Rattle.digit_totals.specs.Field.{span_of}
 use Rattle.digit_totals.specs.Totals.{has_128_bits}
 use Rattle.digit_totals.specs.Value.{with_blanks, as_integer, as_decimal, integer_in, decimal_in, number_in, in_span, value_of, word_of}
-use Rattle.digit_totals.proofs.Quick.{of_sign, of_scaled_sign}
+use Rattle.digit_totals.proofs.NumberLine.{of_sign, of_scaled_sign}
 
 -- a magnitude with its sign
 signed_fits : (negative : Bool) (magnitude : ℕ)

@@ -14,7 +14,7 @@ use Rattle.digit_totals.specs.declared.options.Kind.{Kind}
 use Rattle.digit_totals.specs.declared.options.Kind.TheVariants.{Integers, Places}
 use Rattle.digit_totals.specs.declared.options.Options.{Options}
 use Rattle.digit_totals.specs.declared.options.Request.{Request}
-use Rattle.digit_totals.specs.declared.options.Request.TheVariants.{Exact, Floats}
+use Rattle.digit_totals.specs.declared.options.Request.TheVariants.{Exact, Floats, Help}
 use Rattle.digit_totals.specs.declared.fault.NumberError.{NumberError}
 use Rattle.digit_totals.specs.declared.fault.NumberError.TheVariants as errors
 use Rattle.digit_totals.specs.Errors.{of_field_at}
@@ -34,6 +34,7 @@ HasFewPlaces (Places places) = places ≤ 38
 abbrev pub MayServe : Request → Type 0
 MayServe (Exact options) = HasFewPlaces options.kind
 MayServe (Floats options) = ⊤
+MayServe Help = ⊤
 
 -- ---- a number with blanks around it
 

@@ -2,9 +2,11 @@
 //! does. Start reading at [`engine::serve_arguments`].
 #![tactic(auto)]
 
+pub mod adds;
 pub mod arguments;
 pub mod engine;
 pub mod error_kind;
+pub mod exact;
 pub mod fault;
 pub mod field;
 pub mod floats;
@@ -13,6 +15,7 @@ pub mod laws;
 pub mod lines;
 pub mod options;
 pub mod output;
+pub mod quick;
 pub mod text;
 pub mod totals;
 pub mod value;

@@ -58,7 +58,7 @@ fn totals_are_written(rt: HostRuntime) {
 }
 
 /// The arguments of rows, the text, what is told, and the status.
-static FAULTS: [(&[&[u8]], &[u8], &[u8], u8); 11] = [
+static FAULTS: [(&[&[u8]], &[u8], &[u8], u8); 8] = [
     (
         &[b"--floats"],
         b"1\n2x\n",
@@ -113,24 +113,6 @@ static FAULTS: [(&[&[u8]], &[u8], &[u8], u8); 11] = [
         b"1_5\n",
         b"error: line 1, column 2: there is no digit before 1\n",
         3,
-    ),
-    (
-        &[b"--floats", b"--places", b"2"],
-        b"1\n",
-        b"error: floats with places\n",
-        2,
-    ),
-    (
-        &[b"--places", b"2", b"--floats"],
-        b"1\n",
-        b"error: floats with places\n",
-        2,
-    ),
-    (
-        &[b"--floats", b"--floats"],
-        b"1\n",
-        b"error: argument 2 was given before\n",
-        2,
     ),
 ];
 

@@ -3,9 +3,10 @@
 use super::streams::{ScriptedReader, Turn, Turns};
 use super::{Outcome, run_of, run_over};
 use std::alloc::Global;
+use std::test::Fail;
 
 /// The arguments of rows, the text, and what is written.
-static TOTALS: [(&[&[u8]], &[u8], &[u8]); 17] = [
+static TOTALS: [(&[&[u8]], &[u8], &[u8]); 20] = [
     (&[], b"", b"count=0 sum=0 min=- max=-\n"),
     (&[], b"7", b"count=1 sum=7 min=7 max=7\n"),
     (&[], b"1\n-2\n+3\n", b"count=3 sum=2 min=-2 max=3\n"),
@@ -63,6 +64,21 @@ static TOTALS: [(&[&[u8]], &[u8], &[u8]); 17] = [
         b"count=1 sum=6 min=6 max=6\n",
     ),
     (
+        &[b"--separator", b"\\t", b"--column=3"],
+        b"a\tb\t6\n",
+        b"count=1 sum=6 min=6 max=6\n",
+    ),
+    (
+        &[b"--column=1", b"--separator=="],
+        b"5=x\n",
+        b"count=1 sum=5 min=5 max=5\n",
+    ),
+    (
+        &[b"--places=2"],
+        b" 1.25\r\n\t-2.50 \n",
+        b"count=2 sum=-1.25 min=-2.50 max=1.25\n",
+    ),
+    (
         &[
             b"--column",
             b"2",
@@ -85,7 +101,7 @@ fn totals_are_written(rt: HostRuntime) {
 }
 
 /// The arguments of rows, the text, what is told, and the status.
-static FAULTS: [(&[&[u8]], &[u8], &[u8], u8); 24] = [
+static FAULTS: [(&[&[u8]], &[u8], &[u8], u8); 16] = [
     (
         &[],
         b"1\n\n2\n",
@@ -185,54 +201,6 @@ static FAULTS: [(&[&[u8]], &[u8], &[u8], u8); 24] = [
         b"error: line 1: the digit at 4 is after the last place\n",
         3,
     ),
-    (
-        &[b"--float"],
-        b"1\n",
-        b"error: argument 1 is no option\n",
-        2,
-    ),
-    (
-        &[b"--column"],
-        b"1\n",
-        b"error: argument 1 has no value\n",
-        2,
-    ),
-    (
-        &[b"--column", b"0"],
-        b"1\n",
-        b"error: argument 2 is no such value\n",
-        2,
-    ),
-    (
-        &[b"--places", b"39"],
-        b"1\n",
-        b"error: argument 2 is no such value\n",
-        2,
-    ),
-    (
-        &[b"--separator", b"ab"],
-        b"1\n",
-        b"error: argument 2 is no such value\n",
-        2,
-    ),
-    (
-        &[b"--separator", b"\n"],
-        b"1\n",
-        b"error: argument 2 is no such value\n",
-        2,
-    ),
-    (
-        &[b"--underscores", b"--underscores"],
-        b"1\n",
-        b"error: argument 2 was given before\n",
-        2,
-    ),
-    (
-        &[b"--separator", b";"],
-        b"1\n",
-        b"error: a separator without a column\n",
-        2,
-    ),
 ];
 
 #[test]
@@ -240,6 +208,97 @@ fn faults_are_told(rt: HostRuntime) {
     for (words, input, text, status) in &FAULTS {
         assert!(rt; run_of(rt.alloc(), words, input).is(b"", text, *status));
     }
+}
+
+/// What is allowed, which follows each fault of the arguments.
+const USAGE: &[u8] =
+    b"usage: digit_sum [--column N [--separator C]] [--places N | --floats] [--underscores] [--help]\n";
+
+/// The arguments of rows that ask for nothing, and what is told of them before [`USAGE`].
+static NO_REQUESTS: [(&[&[u8]], &[u8]); 17] = [
+    (
+        &[b"--float"],
+        b"error: argument 1, `--float`, is no option\n",
+    ),
+    (
+        &[b"--floats", b"numbers.txt"],
+        b"error: argument 2, `numbers.txt`, is no option\n",
+    ),
+    (&[b""], b"error: argument 1, ``, is no option\n"),
+    (
+        &[b"--col=1"],
+        b"error: argument 1, `--col=1`, is no option\n",
+    ),
+    (
+        &[b"--column"],
+        b"error: argument 1, `--column`, has no value\n",
+    ),
+    (
+        &[b"--column", b"0"],
+        b"error: argument 2, `0`, is no such value\n",
+    ),
+    (
+        &[b"--column=0"],
+        b"error: argument 1, `--column=0`, is no such value\n",
+    ),
+    (
+        &[b"--floats=1"],
+        b"error: argument 1, `--floats=1`, is no such value\n",
+    ),
+    (
+        &[b"--places", b"39"],
+        b"error: argument 2, `39`, is no such value\n",
+    ),
+    (
+        &[b"--separator", b"ab"],
+        b"error: argument 2, `ab`, is no such value\n",
+    ),
+    (
+        &[b"--separator", b"\n"],
+        b"error: argument 2, `\n`, is no such value\n",
+    ),
+    (
+        &[b"--underscores", b"--underscores"],
+        b"error: argument 2, `--underscores`, was given before\n",
+    ),
+    (
+        &[b"--column=2", b"--column", b"2"],
+        b"error: argument 2, `--column`, was given before\n",
+    ),
+    (
+        &[b"--separator", b";"],
+        b"error: a separator without a column\n",
+    ),
+    (
+        &[b"--floats", b"--places", b"2"],
+        b"error: floats with places\n",
+    ),
+    (
+        &[b"--places", b"2", b"--floats"],
+        b"error: floats with places\n",
+    ),
+    (
+        &[b"--floats", b"--floats"],
+        b"error: argument 2, `--floats`, was given before\n",
+    ),
+];
+
+#[test]
+fn an_unknown_argument_is_quoted(rt: HostRuntime) -> Result<(), Fail> {
+    for (words, text) in &NO_REQUESTS {
+        let mut told = Vec::new(rt.alloc());
+        told.extend_from_slice(text)?;
+        told.extend_from_slice(USAGE)?;
+        assert!(rt; run_of(rt.alloc(), words, b"1\n").is(b"", told.as_slice(), 2));
+    }
+    Ok(())
+}
+
+#[test]
+fn help_is_written(rt: HostRuntime) {
+    let outcome = run_of(rt.alloc(), &[b"--column", b"2", b"--help"], b"x\n");
+    assert!(rt; outcome.written.as_slice().starts_with(USAGE));
+    assert!(rt; outcome.told.is_empty() && outcome.status == 0);
 }
 
 /// Sixty bytes, of which the last line has no line feed.

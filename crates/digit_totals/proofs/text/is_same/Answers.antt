@@ -2,7 +2,7 @@ use Rattle.std.proofs.Common.{◌≡◌, true, sym, ap, ◌∙◌, subst, T, eqb
 use Rattle.std.specs.Float.{binary64}
 use Rattle.std.specs.Float.Ieee.{Float, fits, of_bits}
 use lib.Ieee.Bits.{of_bits-to_bits}
-use Rattle.digit_totals.proofs.floats.text.is_same.Goals as goal
+use Rattle.digit_totals.proofs.text.is_same.Goals as goal
 
 pub returns : goal.returns
 returns c =
