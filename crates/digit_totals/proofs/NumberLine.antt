@@ -1,5 +1,5 @@
 -- A line that is a number alone: it is read without looking for the line feed first.
-use Rattle.std.proofs.Common.{◌≡◌, ℕ, ℤ, ◌+◌, ◌-◌, ◌*◌, ◌^◌, ◌<◌, ◌≤◌, Bool, true, cond, List, ◌++◌, length, take, drop, get_or, refl, sym, ◌∙◌, ap, arith, Some, None, Ok, Err, Result, slice_get, subst}
+use Rattle.std.proofs.Common.{◌≡◌, ℕ, ℤ, ◌+◌, ◌-◌, ◌*◌, ◌^◌, ◌<◌, ◌≤◌, Bool, true, cond, List, ◌++◌, length, take, drop, get_or, refl, sym, ◌∙◌, ap, arith, Some, None, Ok, Err, Result, slice_get, subst, take_while}
 use Rattle.std.proofs.lemmas.Bool.Decides.{nat_tests}
 use Rattle.lexical_format.specs.Digits.{digit_value}
 use Rattle.lexical_format.specs.declared.TheConstants.{STANDARD}
@@ -13,11 +13,16 @@ use Rattle.lexical_digits.specs.declared.skip.component.Component.{Component}
 use Rattle.lexical_digits.specs.declared.skip.component.Component.TheVariants.{Integer, Fraction, Exponent, Special}
 use Rattle.lexical_digits.specs.declared.skip.rule.Rule.{Rule}
 use Rattle.lexical_digits.proofs.Calls.WhatFollows.{same_as_cut, stop_upto}
+use Rattle.lexical_digits.specs.ByteSet.{accepts}
 use Rattle.digit_literals.specs.declared.LiteralError.{LiteralError}
+use Rattle.digit_literals.specs.declared.LiteralError.TheVariants as literal
+use Rattle.digit_literals.specs.declared.bytes.TheConstants.{BLANKS}
+use Rattle.digit_literals.specs.Bytes.{past_bytes}
+use Rattle.digit_literals.proofs.Passing.{none_passed}
 use Rattle.digit_literals.specs.declared.list.TheConstants.{LINES}
 use Rattle.digit_literals.specs.Integers.{integer_at}
 use Rattle.digit_literals.specs.Lists.{past_blanks, next_after}
-use Rattle.digit_literals.specs.Numbers.{signed, with_sign, is_negative_from, digits_from, most_from, number_at}
+use Rattle.digit_literals.specs.Numbers.{signed, with_sign, is_negative_from, digits_from, most_from, number_at, to_end}
 use Rattle.digit_literals.proofs.Between.{none_between}
 use Rattle.digit_literals.proofs.ForCallers.{all_is, stop_from, stop_within, value_of_both}
 use Rattle.digit_literals.proofs.Texts.{says_some, reads_more}
@@ -44,9 +49,9 @@ use Rattle.digit_totals.specs.Lines.{IsFirstLine, EndsWith}
 use Rattle.digit_totals.specs.Quick.{HasNoLowByte, BeginsWith}
 use Rattle.digit_totals.specs.Report.{with_value, Leaves, EndsIn}
 use Rattle.digit_totals.specs.Totals.{adding}
-use Rattle.digit_totals.specs.Value.{word_of, number_in, value_of}
+use Rattle.digit_totals.specs.Value.{word_of, number_in, value_of, integer_in}
 use Rattle.digit_totals.proofs.Adding.{one_leaves, one_fails}
-use Rattle.digit_totals.proofs.InLine.{StandsInLine, stands, ends_line, blanks_before, blanks_after, long, first_line}
+use Rattle.digit_totals.proofs.InLine.{no_high_blank, StandsInLine, stands, ends_line, blanks_before, blanks_after, long, first_line}
 
 -- ---- bytes
 
@@ -145,6 +150,14 @@ module _ (rule : Rule) (low : HasNoLowByte rule) (text : List ℕ) (place : ℕ)
       let from : place ≤ begin = grind (arith, nat_tests) in
       (omega (arith, past, from), omega (arith, stops, high_end))
 
+  -- it is read so too as an integer of 128 bits
+  more_read : number_at (2 ^ 127) (2 ^ 127 - 1) rule text place ≡ Ok (value, end)
+  more_read =
+      let more : ℕ = most_from (2 ^ 127) (2 ^ 127 - 1) rule text place in
+      let fits : most ≤ more = grind (arith, nat_tests) in
+      ap (with_sign negative) (reads_more rule text begin most more digits.0 end fits digits.1)
+      ∙ ap (λ v. Ok (v, end)) (sym digits.2)
+
   module _ (feed : ℕ) (s : StandsInLine text place end feed) where
     abbrev alone : List ℕ
     alone = take feed text
@@ -156,19 +169,36 @@ module _ (rule : Rule) (low : HasNoLowByte rule) (text : List ℕ) (place : ℕ)
     short_line_sign : digits_from (2 ^ 127) alone place ≤ feed
     short_line_sign = grind (arith, nat_tests, s.some, s.order)
 
-    -- the line alone is read so too, as an integer of 128 bits
-    more_read : number_at (2 ^ 127) (2 ^ 127 - 1) rule text place ≡ Ok (value, end)
-    more_read =
-        let more : ℕ = most_from (2 ^ 127) (2 ^ 127 - 1) rule text place in
-        let fits : most ≤ more = grind (arith, nat_tests) in
-        ap (with_sign negative) (reads_more rule text begin most more digits.0 end fits digits.1)
-        ∙ ap (λ v. Ok (v, end)) (sym digits.2)
-
     pub wide : number_at (2 ^ 127) (2 ^ 127 - 1) rule alone place ≡ Ok (value, end)
     wide =
         same_number rule alone text feed upto_feed (2 ^ 127) (2 ^ 127 - 1) place short_line_sign
         (omega (arith, short_sign, s.some, s.order))
         ∙ more_read
+
+of_to_end : (text : List ℕ) (read : Result (ℤ × ℕ) LiteralError) (value : ℤ)
+    → to_end text read ≡ Ok value → read ≡ Ok (value, length text)
+of_to_end text (Ok (other, end)) value e = grind (arith, nat_tests, e)
+of_to_end text (Err (literal.Empty at)) value e = absurd (grind (arith, nat_tests, e))
+of_to_end text (Err (literal.Overflow at)) value e = absurd (grind (arith, nat_tests, e))
+
+-- an integer of 64 bits alone is one of 128 bits, with no blanks around it
+pub whole_integer : (word : ℕ) (text : List ℕ) (value : ℤ) → HasNoLowByte (rule_of word Integer)
+    → to_end text (number_at (2 ^ 63) (2 ^ 63 - 1) (rule_of word Integer) text 0) ≡ Ok value
+    → integer_in word text ≡ Ok value
+unfolding past_bytes
+whole_integer word text value low e =
+    let rule = rule_of word Integer in
+    let end = length text in
+    let is = of_to_end text (number_at (2 ^ 63) (2 ^ 63 - 1) rule text 0) value e in
+    let some = (ends_after rule low text 0 value end is (omega arith)).0 in
+    let first : slice_get text 0 ≡ Some (get_or text 0 0) = grind (arith, gets, some) in
+    let tall = high rule low text 0 value end is (omega arith) 0 (omega arith) some in
+    let none : length (take_while (accepts BLANKS) (drop 0 text)) ≡ 0 =
+    none_passed (accepts BLANKS) text 0 (rw first (no_high_blank (get_or text 0 0) tall)) in
+    let begin : past_bytes text 0 BLANKS ≡ 0 = omega (arith, none) in
+    let after : past_bytes text end BLANKS ≡ end =
+    rw (drop_all {X = ℕ} end text (omega arith)) (omega arith) in
+    rw (begin, more_read rule low text 0 value end is, after) (grind (arith, nat_tests))
 
 -- the number of the first line, with any blanks around it
 pub begins_integer : (word : ℕ) (text : List ℕ) (place : ℕ) (value : ℤ) (end next : ℕ)

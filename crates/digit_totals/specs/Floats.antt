@@ -14,7 +14,7 @@ use Rattle.digit_totals.specs.declared.fault.NumberError.{NumberError}
 use Rattle.digit_totals.specs.declared.fault.NumberError.TheVariants as errors
 use Rattle.digit_totals.specs.declared.fault.LineFault.{LineFault}
 use Rattle.digit_totals.specs.Errors.{of_field_at}
-use Rattle.digit_totals.specs.Field.{span_of}
+use Rattle.digit_totals.specs.Field.{span_in}
 use Rattle.digit_totals.specs.Report.{Adding}
 use Rattle.digit_totals.specs.Report as Report
 use Rattle.digit_totals.specs.Value.{with_blanks}
@@ -37,14 +37,14 @@ abbrev pub word_of : FloatOptions → ℕ
 word_of options = if options.underscores then PYTHON_LITERAL else STANDARD
 
 -- the float of a field, by its bytes alone
-abbrev pub in_span : FloatOptions → List ℕ → Option (ℕ × ℕ) → Result Float NumberError
-in_span options line None = Err errors.Missing
-in_span options line (Some (start, end)) =
+abbrev pub in_span : FloatOptions → List ℕ → Result (ℕ × ℕ) NumberError → Result Float NumberError
+in_span options line (Err error) = Err error
+in_span options line (Ok (start, end)) =
     of_field_at start (as_float (float_in (word_of options) (slice_range line start end)))
 
 -- the float in the column of a line
 abbrev pub value_of : FloatOptions → List ℕ → Result Float NumberError
-value_of options line = in_span options line (span_of options.column line)
+value_of options line = in_span options line (span_in options.column line)
 
 -- ---- totals
 

@@ -91,6 +91,8 @@ IsLack MayDiffer fault = ⊥
 -- what is wrong with a line, by the readers' words
 abbrev pub message : NumberError → List ℕ
 message errors.Missing = codes "there is no such column"
+message (errors.Quoted column) =
+    codes "column " ++ decimal column ++ codes " begins with a quote, and no quotes are read"
 message (errors.Integer error) = integers.message error
 message (errors.Decimal error) = decimals.message error
 message (errors.Float error) = floats.message error

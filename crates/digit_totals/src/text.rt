@@ -192,6 +192,9 @@ fn message<A: Allocator>(alloc: &A, error: NumberError) -> Result<String<&A>, Al
 {
     match error {
         NumberError::Missing => String::from_str(alloc, "there is no such column"),
+        NumberError::Quoted(column) => {
+            format!(in alloc; "column {column} begins with a quote, and no quotes are read")
+        }
         NumberError::Integer(error) => format!(in alloc; "{error}"),
         NumberError::Decimal(error) => format!(in alloc; "{error}"),
         NumberError::Float(error) => format!(in alloc; "{error}"),

@@ -58,7 +58,7 @@ fn totals_are_written(rt: HostRuntime) {
 }
 
 /// The arguments of rows, the text, what is told, and the status.
-static FAULTS: [(&[&[u8]], &[u8], &[u8], u8); 8] = [
+static FAULTS: [(&[&[u8]], &[u8], &[u8], u8); 9] = [
     (
         &[b"--floats"],
         b"1\n2x\n",
@@ -93,6 +93,12 @@ static FAULTS: [(&[&[u8]], &[u8], &[u8], u8); 8] = [
         &[b"--floats", b"--column", b"2"],
         b"1,2\n3\n",
         b"error: line 2, column 2: there is no such column\n",
+        3,
+    ),
+    (
+        &[b"--floats", b"--column", b"2"],
+        b"\"a,1.5\",2\n",
+        b"error: line 1, column 2: column 1 begins with a quote, and no quotes are read\n",
         3,
     ),
     (

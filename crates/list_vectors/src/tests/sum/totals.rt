@@ -6,7 +6,7 @@ use std::alloc::Global;
 use std::test::Fail;
 
 /// The arguments of rows, the text, and what is written.
-static TOTALS: [(&[&[u8]], &[u8], &[u8]); 20] = [
+static TOTALS: [(&[&[u8]], &[u8], &[u8]); 21] = [
     (&[], b"", b"count=0 sum=0 min=- max=-\n"),
     (&[], b"7", b"count=1 sum=7 min=7 max=7\n"),
     (&[], b"1\n-2\n+3\n", b"count=3 sum=2 min=-2 max=3\n"),
@@ -49,8 +49,13 @@ static TOTALS: [(&[&[u8]], &[u8], &[u8]); 20] = [
         b"count=2 sum=-2 min=-5 max=3\n",
     ),
     (
+        &[b"--column", b"1"],
+        b"8,\"x,y\"\n",
+        b"count=1 sum=8 min=8 max=8\n",
+    ),
+    (
         &[b"--column", b"2"],
-        b"\"a,3,b\",1\n",
+        b"5\",3\n",
         b"count=1 sum=3 min=3 max=3\n",
     ),
     (
@@ -101,7 +106,7 @@ fn totals_are_written(rt: HostRuntime) {
 }
 
 /// The arguments of rows, the text, what is told, and the status.
-static FAULTS: [(&[&[u8]], &[u8], &[u8], u8); 16] = [
+static FAULTS: [(&[&[u8]], &[u8], &[u8], u8); 20] = [
     (
         &[],
         b"1\n\n2\n",
@@ -154,7 +159,31 @@ static FAULTS: [(&[&[u8]], &[u8], &[u8], u8); 16] = [
     (
         &[b"--column", b"1"],
         b"\"3\",4\n",
-        b"error: line 1, column 1: the byte at 0 is no part of an integer\n",
+        b"error: line 1, column 1: column 1 begins with a quote, and no quotes are read\n",
+        3,
+    ),
+    (
+        &[b"--column", b"2"],
+        b"\"a,3,b\",1\n",
+        b"error: line 1, column 2: column 1 begins with a quote, and no quotes are read\n",
+        3,
+    ),
+    (
+        &[b"--column", b"3"],
+        b"1,2,3\nx, \"a,3\",4\n",
+        b"error: line 2, column 3: column 2 begins with a quote, and no quotes are read\n",
+        3,
+    ),
+    (
+        &[b"--column", b"2"],
+        b"\"a\n",
+        b"error: line 1, column 2: column 1 begins with a quote, and no quotes are read\n",
+        3,
+    ),
+    (
+        &[],
+        b"\"3\"\n",
+        b"error: line 1: the byte at 0 is no part of an integer\n",
         3,
     ),
     (
