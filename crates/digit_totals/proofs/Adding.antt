@@ -1,6 +1,7 @@
 -- Lines that are added one by one.
 use Rattle.std.proofs.Common.{◌≡◌, ◌≢◌, ℕ, All, Result, List, [], ◌+◌, ◌++◌, length, ◌<◌, ◌≤◌, take, refl, sym, ◌∙◌, ap, arith, None, Ok, Err, take-append-drop, append_assoc, drop}
 use Rattle.std.proofs.lemmas.Bool.Decides.{nat_tests}
+use Rattle.std.proofs.lemmas.List.{length-take-le, length-drop, drop-append-le}
 use Rattle.digit_totals.specs.declared.fault.LineFault.{LineFault}
 use Rattle.digit_totals.specs.Lines.{lines_of, IsFirstLine, EndsWith}
 use Rattle.digit_totals.specs.Report.{Adding, with_value, with_line, with_lines, continue, LeavesRest, EndsIn, Leaves}
@@ -40,6 +41,36 @@ module _ {T V : Type 0} (a : Adding T V) where
     shorter = omega (arith, one.shorter, other.shorter);
     suffix = ends_with_rest text middle rest one.suffix other.suffix;
   }
+
+  -- of a text those of its front
+  pub leaves_front : (t u : T) (text : List ℕ) (n m : ℕ) → n ≤ length text → m ≤ n
+      → Leaves a t (take n text) u (drop m (take n text)) → Leaves a t text u (drop m text)
+  leaves_front t u text n m within order one =
+      let long = length-take-le n text within in
+      let rest : drop m (take n text) ++ drop n text ≡ drop m text =
+      sym (drop-append-le m (take n text) (drop n text) (omega (arith, order, long)))
+      ∙ ap (drop m) (take-append-drop n text) in
+      record {
+        leaves = λ more.
+            ap (λ xs. with_lines a t (lines_of xs))
+            (ap (λ xs. xs ++ more) (sym (take-append-drop n text))
+            ∙ append_assoc (take n text) (drop n text) more)
+            ∙ one.leaves (drop n text ++ more)
+            ∙ ap (λ xs. with_lines a u (lines_of xs))
+            (sym (append_assoc (drop m (take n text)) (drop n text) more)
+            ∙ ap (λ xs. xs ++ more) rest);
+        room = omega (
+          arith,
+          one.room,
+          long,
+          length-drop m (take n text),
+          length-drop m text,
+          order,
+          within,
+        );
+        shorter = omega (arith, length-drop m text);
+        suffix = ends_with_drop text m;
+      }
 
   -- some, and then a fault
   pub then_fails : (t u : T) (text rest : List ℕ) → Leaves a t text u rest → (fault : LineFault)

@@ -17,6 +17,7 @@ use Rattle.digit_literals.specs.declared.list.Gap.{Gap}
 use Rattle.digit_literals.specs.declared.list.TheConstants.{LINES}
 use Rattle.digit_literals.specs.Bytes.{past_bytes}
 use Rattle.digit_literals.specs.Lists.{is_blank, has_separator, past_blanks, next_after}
+use Rattle.digit_literals.proofs.Lists.{no_blank, separator_is_no_blank}
 use Rattle.digit_totals.specs.Lines.{IsFirstLine}
 use Rattle.digit_totals.proofs.FirstLine.{first_joined}
 
@@ -253,3 +254,36 @@ stands text end next some high e =
       high = high;
       after = λ q l m. blanks_passed LINES text end q l m;
     }
+
+-- ---- the usual line, which begins with no blank, and whose number the line feed follows
+
+small_blanks : (byte : ℕ) → 33 ≤ byte → accepts BLANKS byte ≡ false
+small_blanks byte l =
+    let large : 2 ^ 33 ≤ 2 ^ byte = pow-le-pow_right {n = 2} (omega arith) l in
+    let some : 0 < 2 ^ (byte - 128) = one-le-pow (byte - 128) 2 (omega arith) in
+    grind (
+      arith,
+      nat_tests,
+      no_bit BLANKS.low byte (omega (arith, large)),
+      no_bit BLANKS.high (byte - 128) some,
+    )
+
+pub begins_plain : (text : List ℕ) → 0 < length text → 32 < get_or text 0 0
+    → past_blanks LINES text 0 ≡ 0
+begins_plain text some l =
+    let is : slice_get text 0 ≡ Some (get_or text 0 0) = grind (arith, gets, some) in
+    let none : accepts BLANKS (get_or text 0 0) ≡ false =
+    small_blanks (get_or text 0 0) (omega (arith, l)) in
+    no_blank LINES text 0 (grind (arith, nat_tests, is, none))
+
+pub feeds_plain : (text : List ℕ) (end : ℕ) → end < length text → get_or text end 0 ≡ 10
+    → next_after LINES text end ≡ Ok (end + 1)
+feeds_plain text end within mark =
+    let byte : slice_get text end ≡ Some 10 = grind (arith, gets, within, mark) in
+    let here : has_separator LINES text end ≡ true = grind (arith, nat_tests, byte) in
+    let same = separator_is_no_blank LINES text end here in
+    rw same (grind (arith, nat_tests, here))
+
+pub ruleset begins = (begins_plain, blanks_within)
+
+pub ruleset feeds = (feeds_plain)

@@ -7,6 +7,7 @@ pub mod FirstMark
 pub mod Fits
 pub mod FloatOrder
 pub mod InLine
+pub mod ListedLines
 pub mod Meaning
 pub mod NumberLine
 pub mod OnWords

@@ -60,7 +60,14 @@ pub trait Adds: Copy {
         ensures count { IfOk result (λ more.
             (adding self).count_of more ≡ (adding self).count_of totals + 1) };
 
-    /// With the numbers of usual lines at the front of a text, as many as this reads at once.
+    /// With the numbers of many usual lines at the front of a long text, as far as these go.
+    fn add_many<'a>(self, totals: Self::Totals, text: &'a [u8]) -> Added<'a, Self::Totals>
+        requires valid { valid self }
+        requires short { length text.now ≤ most_bytes + 1 }
+        requires room { (adding self).count_of totals + length text.now ≤ 2 ^ 127 }
+        ensures { Leaves (adding self) totals text.now result.totals result.rest.now };
+
+    /// With the numbers of usual lines at the front of a text, one after the other.
     fn add_quick<'a>(
         self,
         totals: Self::Totals,

@@ -2,6 +2,7 @@
 
 use super::adds::{Added, Adds};
 use super::fault::{Fault, LineFault};
+use super::many::add_many;
 use super::options::{Column, Options};
 use super::quick::add_quick;
 use super::text::line_of;
@@ -46,6 +47,11 @@ impl Adds for Options {
             Ok(value) => totals.plus(value),
             Err(error) => Err(LineFault::Number(totals.count + 1, error)),
         }
+    }
+
+    #[inline(always)]
+    fn add_many<'a>(self, totals: Totals, text: &'a [u8]) -> Added<'a, Totals> {
+        add_many(self, totals, text)
     }
 
     #[inline(always)]

@@ -49,6 +49,12 @@ impl Adds for FloatOptions {
 
     /// None is read so.
     #[inline(always)]
+    fn add_many<'a>(self, totals: FloatTotals, text: &'a [u8]) -> Added<'a, FloatTotals> {
+        Added { totals, rest: text }
+    }
+
+    /// None is read so.
+    #[inline(always)]
     fn add_quick<'a>(
         self,
         totals: FloatTotals,

@@ -13,6 +13,7 @@ pub mod floats;
 pub mod input;
 pub mod laws;
 pub mod lines;
+pub mod many;
 pub mod options;
 pub mod output;
 pub mod quick;

@@ -36,7 +36,8 @@ pub fn add_lines<'a, K: Adds>(
     ensures whole { IfOk result (λ added. All (λ byte. byte ≢ 10) added.rest.now) }
     ensures fault { IfErr result (EndsIn (K.adding options) totals text.now) }
 {
-    let mut added = match options.add_quick(totals, text) {
+    let many = options.add_many(totals, text);
+    let mut added = match options.add_quick(many.totals, many.rest) {
         Ok(added) => added,
         Err(fault) => return Err(fault),
     };

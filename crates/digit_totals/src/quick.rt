@@ -5,6 +5,7 @@ ghost use Rattle.lexical_format.specs.Word.{is_supported};
 ghost use Rattle.lexical_digits.specs.declared.skip.component.Component.{Component};
 ghost use Rattle.lexical_digits.specs.declared.skip.component.Component.TheVariants.{Integer};
 ghost use Rattle.lexical_digits.specs.State.{rule_of};
+ghost use Rattle.digit_literals.specs.Lists.{past_blanks, next_after};
 ghost use Rattle.digit_literals.specs.Numbers.{is_negative_from, digits_from, signed};
 ghost use Rattle.digit_floats.specs.Float.{IsDecimal};
 ghost use Rattle.digit_floats.specs.Scaled.{scaled_at, read_scaled_at};
@@ -24,6 +25,38 @@ use digit_literals::{LINES, read_number_from};
 use lexical_format::STANDARD;
 use lexical_format::words::PYTHON_LITERAL;
 
+/// Where the first line's number begins: after any blanks. Most lines begin with none.
+#[inline(always)]
+#[tactic(auto, using(crate::proofs::InLine::begins))]
+fn begin_of(text: &[u8]) -> usize
+    ensures is { result ≡ past_blanks LINES text.now 0 }
+    ensures within { result ≤ length text.now }
+{
+    if !text.is_empty() && text[0] > b' ' {
+        return 0;
+    }
+    LINES.past_blanks(text, 0)
+}
+
+/// What follows the line feed after a number that ends at a position, with any blanks between them.
+/// Most lines have none.
+#[inline(always)]
+#[tactic(auto, using(crate::proofs::InLine::feeds))]
+fn after_feed(text: &[u8], end: usize) -> Option<usize>
+    requires { end ≤ length text.now }
+    ensures is { IfSome result (λ next. next_after LINES text.now end ≡ Ok next) }
+    ensures onward { IfSome result (λ next. end < next) }
+    ensures within { IfSome result (λ next. next ≤ length text.now) }
+{
+    if end < text.len() && text[end] == b'\n' {
+        return Some(end + 1);
+    }
+    match LINES.next_after(text, end) {
+        Ok(next) => Some(next),
+        Err(_) => None,
+    }
+}
+
 /// The integer that is the first line of a text, with any blanks around it, and what follows its
 /// line feed: in the usual case, in which the number has 64 bits. The line feed is not looked for
 /// before.
@@ -35,11 +68,11 @@ fn quick_integer(text: &[u8], word: u128) -> Option<(i128, &[u8])>
     ensures shorter { IfSome result (λ read. length read.1.now < length text.now) }
     ensures suffix { IfSome result (λ read. EndsWith text.now read.1.now) }
 {
-    let place = LINES.past_blanks(text, 0);
+    let place = begin_of(text);
     match read_number_from::<i64>(text, word, place) {
-        Ok((value, end)) => match LINES.next_after(text, end) {
-            Ok(next) => Some((i128::from(value), &text[next..])),
-            Err(_) => None,
+        Ok((value, end)) => match after_feed(text, end) {
+            Some(next) => Some((i128::from(value), &text[next..])),
+            None => None,
         },
         Err(_) => None,
     }
@@ -129,11 +162,11 @@ fn quick_decimal(text: &[u8], word: u128, places: usize) -> Option<(i128, &[u8])
     ensures shorter { IfSome result (λ read. length read.1.now < length text.now) }
     ensures suffix { IfSome result (λ read. EndsWith text.now read.1.now) }
 {
-    let place = LINES.past_blanks(text, 0);
+    let place = begin_of(text);
     match short_decimal(text, word, place, places) {
-        Some((value, end)) => match LINES.next_after(text, end) {
-            Ok(next) => Some((i128::from(value), &text[next..])),
-            Err(_) => None,
+        Some((value, end)) => match after_feed(text, end) {
+            Some(next) => Some((i128::from(value), &text[next..])),
+            None => None,
         },
         None => None,
     }
@@ -187,6 +220,52 @@ fn add_quick_lines<'a>(
     Ok(Added { totals: now, rest })
 }
 
+/// Adds lines of integers, in code of its own.
+#[inline(never)]
+#[tactic(auto, using(crate::proofs::NumberLine::no_low_bytes), unfolding(crate::proofs::OnWords::words))]
+fn add_integers<'a>(
+    options: Options,
+    totals: Totals,
+    text: &'a [u8],
+) -> Result<Added<'a, Totals>, LineFault>
+    requires few { HasFewPlaces options.kind }
+    requires column { options.column ≡ None }
+    requires short { length text.now ≤ most_bytes + 1 }
+    requires room { totals.count + length text.now ≤ 2 ^ 127 }
+    ensures rest { IfOk result (λ added.
+        Leaves (adding options) totals text.now added.totals added.rest.now) }
+    ensures fault { IfErr result (EndsIn (adding options) totals text.now) }
+{
+    if options.underscores {
+        add_quick_lines(options, totals, text, PYTHON_LITERAL)
+    } else {
+        add_quick_lines(options, totals, text, STANDARD)
+    }
+}
+
+/// Adds lines of decimal numbers, in code of its own.
+#[inline(never)]
+#[tactic(auto, using(crate::proofs::NumberLine::no_low_bytes), unfolding(crate::proofs::OnWords::words))]
+fn add_decimals<'a>(
+    options: Options,
+    totals: Totals,
+    text: &'a [u8],
+) -> Result<Added<'a, Totals>, LineFault>
+    requires few { HasFewPlaces options.kind }
+    requires column { options.column ≡ None }
+    requires short { length text.now ≤ most_bytes + 1 }
+    requires room { totals.count + length text.now ≤ 2 ^ 127 }
+    ensures rest { IfOk result (λ added.
+        Leaves (adding options) totals text.now added.totals added.rest.now) }
+    ensures fault { IfErr result (EndsIn (adding options) totals text.now) }
+{
+    if options.underscores {
+        add_quick_lines(options, totals, text, PYTHON_LITERAL)
+    } else {
+        add_quick_lines(options, totals, text, STANDARD)
+    }
+}
+
 /// Adds the lines at the front of a text that are only numbers, if a run adds up whole lines.
 #[inline(always)]
 #[tactic(auto, using(crate::proofs::NumberLine::no_low_bytes), unfolding(crate::proofs::OnWords::words))]
@@ -205,9 +284,8 @@ pub fn add_quick<'a>(
     if options.column.is_some() {
         return Ok(Added { totals, rest: text });
     }
-    if options.underscores {
-        add_quick_lines(options, totals, text, PYTHON_LITERAL)
-    } else {
-        add_quick_lines(options, totals, text, STANDARD)
+    match options.kind {
+        Kind::Integers => add_integers(options, totals, text),
+        Kind::Places(_) => add_decimals(options, totals, text),
     }
 }

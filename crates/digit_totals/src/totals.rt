@@ -1,7 +1,8 @@
 //! The totals of the numbers so far.
 
-ghost use Rattle.std.specs.Prelude.{◌≡◌, ◌^◌, ◌<◌, ◌+◌, IfOk};
+ghost use Rattle.std.specs.Prelude.{◌≡◌, ◌^◌, ◌<◌, ◌+◌, length, IfOk, IfSome};
 ghost use Rattle.digit_totals.specs.Floats as floats;
+ghost use Rattle.digit_totals.specs.Quick.{AddsUp};
 ghost use Rattle.digit_totals.specs.Totals.{no_numbers, with_number};
 
 use super::fault::LineFault;
@@ -47,6 +48,41 @@ impl Totals {
             sum,
             least: self.least.min(value),
             greatest: self.greatest.max(value),
+        })
+    }
+}
+
+/// So far from the ends of 128 bits is a sum before which no sums of a list are looked at.
+const FAR: i128 = 1 << 126;
+
+/// The most numbers of a list.
+pub const MOST: usize = 65536;
+
+impl Totals {
+    /// With the numbers of lines one after the other, if there are at most [`MOST`], and the sum
+    /// before them is far from the ends of 128 bits: then each sum has 128 bits.
+    #[inline(always)]
+    pub fn plus_all(self, values: &[i64]) -> Option<Totals>
+        requires { self.count < 2 ^ 127 }
+        ensures { IfSome result (AddsUp self values.now) }
+    {
+        if values.len() > MOST || self.sum < -FAR || self.sum > FAR {
+            return None;
+        }
+        let mut sum = self.sum;
+        let mut least = self.least;
+        let mut greatest = self.greatest;
+        for number in values {
+            let value = i128::from(*number);
+            sum += value;
+            least = least.min(value);
+            greatest = greatest.max(value);
+        }
+        Some(Totals {
+            count: self.count + values.len() as u128,
+            sum,
+            least,
+            greatest,
         })
     }
 }

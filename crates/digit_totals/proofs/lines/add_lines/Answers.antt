@@ -3,6 +3,12 @@ use Rattle.digit_totals.specs.Report.{Leaves}
 use Rattle.digit_totals.proofs.Adding.{one_leaves, one_fails, leaves_more, then_fails}
 use Rattle.digit_totals.proofs.lines.add_lines.Goals as goal
 
+pub loop-line-init : goal.loop-line-init
+loop-line-init g c =
+    leaves_more (g.K.Adds.adding c.args.options) c.args.totals c.add_many-many.result.totals
+    c.in-Ok.added.totals c.args.text.now c.add_many-many.result.rest.now c.in-Ok.added.rest.now
+    c.add_many-many.ensures c.in-Ok.ensures.rest
+
 pub loop-line-preserved : goal.loop-line-preserved
 loop-line-preserved g c =
     let a = g.K.Adds.adding c.args.options in

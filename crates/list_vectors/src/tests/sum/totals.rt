@@ -2,7 +2,7 @@
 
 use super::streams::{ScriptedReader, Turn, Turns};
 use super::{Outcome, run_of, run_over};
-use std::alloc::Global;
+use std::alloc::{AllocError, Global};
 use std::test::Fail;
 
 /// The arguments of rows, the text, and what is written.
@@ -328,6 +328,95 @@ fn help_is_written(rt: HostRuntime) {
     let outcome = run_of(rt.alloc(), &[b"--column", b"2", b"--help"], b"x\n");
     assert!(rt; outcome.written.as_slice().starts_with(USAGE));
     assert!(rt; outcome.told.is_empty() && outcome.status == 0);
+}
+
+/// So many times a line, a line in the middle, and those again.
+fn many_lines(alloc: Global, line: &[u8], middle: &[u8]) -> Result<Vec<u8>, AllocError> {
+    let mut text = Vec::new(alloc);
+    for _ in 0..3000 {
+        text.extend_from_slice(line)?;
+    }
+    text.extend_from_slice(middle)?;
+    for _ in 0..3000 {
+        text.extend_from_slice(line)?;
+    }
+    Ok(text)
+}
+
+/// A line of many, the one in their middle, what is written or told, and the status.
+static MANY: [(&[u8], &[u8], &[u8], &[u8], u8); 9] = [
+    (
+        b"1234567\n",
+        b"",
+        b"count=6000 sum=7407402000 min=1234567 max=1234567\n",
+        b"",
+        0,
+    ),
+    (
+        b" -1234567\r\n",
+        b"+5\n",
+        b"count=6001 sum=-7407401995 min=-1234567 max=5\n",
+        b"",
+        0,
+    ),
+    (
+        b"1\n",
+        b"10000000000000000000\n",
+        b"count=6001 sum=10000000000000006000 min=1 max=10000000000000000000\n",
+        b"",
+        0,
+    ),
+    (
+        b"-9223372036854775808\n",
+        b"9223372036854775807\n",
+        b"count=6001 sum=-55331008849091800072193 min=-9223372036854775808 max=9223372036854775807\n",
+        b"",
+        0,
+    ),
+    (
+        b"12\n",
+        b"1x\n",
+        b"",
+        b"error: line 3001: the byte at 1 is no part of an integer\n",
+        3,
+    ),
+    (
+        b"12\n",
+        b"\n",
+        b"",
+        b"error: line 3001: there is no digit at 0\n",
+        3,
+    ),
+    (
+        b"12\n",
+        b"12",
+        b"count=6000 sum=73200 min=12 max=1212\n",
+        b"",
+        0,
+    ),
+    (
+        b"3\n",
+        b"170141183460469231731687303715884096000\n",
+        b"",
+        b"error: line 3244: the sum leaves 128 bits\n",
+        4,
+    ),
+    (
+        b"1\r",
+        b"",
+        b"",
+        b"error: line 1: the byte at 2 is no part of an integer\n",
+        3,
+    ),
+];
+
+#[test]
+fn many_lines_are_added(rt: HostRuntime) -> Result<(), Fail> {
+    for (line, middle, written, told, status) in &MANY {
+        let text = many_lines(rt.alloc(), line, middle)?;
+        assert!(rt; run_of(rt.alloc(), &[], text.as_slice()).is(written, told, *status));
+    }
+    Ok(())
 }
 
 /// Sixty bytes, of which the last line has no line feed.
