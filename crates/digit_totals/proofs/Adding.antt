@@ -1,82 +1,16 @@
 -- Lines that are added one by one.
-use Rattle.std.proofs.Common.{◌≡◌, ◌≢◌, ℕ, ℤ, All, Result, List, ◌++◌, length, ◌<◌, ◌≤◌, take, refl, sym, ◌∙◌, ap, arith, None, Ok, Err, take-append-drop, append_assoc, drop}
+use Rattle.std.proofs.Common.{◌≡◌, ◌≢◌, ℕ, All, Result, List, [], ◌+◌, ◌++◌, length, ◌<◌, ◌≤◌, take, refl, sym, ◌∙◌, ap, arith, None, Ok, Err, take-append-drop, append_assoc, drop}
 use Rattle.std.proofs.lemmas.Bool.Decides.{nat_tests}
-use Rattle.digit_literals.proofs.ForCallers.{all_is}
-use Rattle.digit_totals.specs.declared.options.Options.{Options}
-use Rattle.digit_totals.specs.declared.totals.Totals.{Totals}
+use Rattle.std.proofs.lemmas.List.{length-take-le, length-drop, drop-append-le}
 use Rattle.digit_totals.specs.declared.fault.LineFault.{LineFault}
 use Rattle.digit_totals.specs.Lines.{lines_of, IsFirstLine, EndsWith}
-use Rattle.digit_totals.specs.Quick.{BeginsWith}
+use Rattle.digit_totals.specs.Report.{Adding, with_value, with_line, with_lines, continue, LeavesRest, EndsIn, Leaves}
 use Rattle.digit_totals.proofs.FirstLine.{one_line}
-use Rattle.digit_totals.specs.Totals.{with_value, with_line, with_lines, continue, LeavesRest, EndsIn}
-use Rattle.digit_totals.specs.Value.{word_of, number_in, value_of}
-
-module _ (options : Options) (t : Totals) (text line rest : List ℕ)
-    (first : IsFirstLine text line rest) (short : length line ≤ 65535) where
-  same_line : with_line options t line ≡ with_value t (value_of options line)
-  same_line = grind (arith, nat_tests, short)
-
-  pub one_added : (u : Totals) → with_value t (value_of options line) ≡ Ok u
-      → LeavesRest options t text u rest
-  one_added u is = λ more.
-      let e = first more in rw (e, same_line, is) refl
-
-  pub one_fails : (fault : LineFault) → with_value t (value_of options line) ≡ Err fault
-      → EndsIn options t text fault
-  one_fails fault is = λ more.
-      let e = first more in rw (e, same_line, is) refl
-
-module _ (options : Options) (t u : Totals) (text rest : List ℕ)
-    (leaves : LeavesRest options t text u rest) where
-  pub more_added : (v : Totals) (left : List ℕ) → LeavesRest options u rest v left
-      → LeavesRest options t text v left
-  more_added v left then = λ more. leaves more ∙ then more
-
-  pub then_fails : (fault : LineFault) → EndsIn options u rest fault → EndsIn options t text fault
-  then_fails fault then = λ more. leaves more ∙ then more
-
--- ---- the last line
-
-continue_last : (options : Options) (report : Result Totals LineFault)
-    → continue options (λ u. Ok u) report ≡ report
-continue_last options (Ok t) = refl
-continue_last options (Err fault) = refl
-
-pub last_added : (options : Options) (t : Totals) (text : List ℕ) → 0 < length text
-    → length text ≤ 65535 → All (λ byte. byte ≢ 10) text
-    → with_lines options t (lines_of text) ≡ with_value t (value_of options text)
-last_added options t text some short whole =
-    let same : with_line options t text ≡ with_value t (value_of options text) =
-    grind (arith, nat_tests, short) in
-    ap (with_lines options t) (one_line text some whole)
-    ∙ continue_last options (with_line options t text) ∙ same
-
--- ---- numbers alone
-
-pub plain_value : (options : Options) (word : ℕ) (line : List ℕ) (value : ℤ)
-    → options.column ≡ None → word_of options ≡ word
-    → number_in word line options.kind ≡ Ok value → value_of options line ≡ Ok value
-plain_value options word line value none same is =
-    rw (none, same, all_is line, is) refl
-
-module _ (options : Options) (word : ℕ) (none : options.column ≡ None)
-    (same : word_of options ≡ word) (t : Totals) (text rest : List ℕ) (value : ℤ)
-    (begins : BeginsWith word options.kind text value rest) (short : length text ≤ 65536) where
-  abbrev pub value_is : value_of options begins.0 ≡ Ok value
-  value_is = plain_value options word begins.0 value none same begins.1
-
-  pub quick_added : (u : Totals) → with_value t (Ok value) ≡ Ok u → LeavesRest options t text u rest
-  quick_added u is =
-      one_added options t text begins.0 rest begins.2 (omega (arith, short, begins.3)) u
-      (ap (with_value t) value_is ∙ is)
-
-  pub quick_fails : (fault : LineFault) → with_value t (Ok value) ≡ Err fault
-      → EndsIn options t text fault
-  quick_fails fault is =
-      one_fails options t text begins.0 rest begins.2 (omega (arith, short, begins.3)) fault
-      (ap (with_value t) value_is ∙ is)
 
 -- ---- the end of a text
+
+pub ends_with_all : (text : List ℕ) → EndsWith text text
+ends_with_all text = ([], refl)
 
 pub ends_with_drop : (text : List ℕ) (n : ℕ) → EndsWith text (drop n text)
 ends_with_drop text n = (take n text, sym (take-append-drop n text))
@@ -85,3 +19,101 @@ pub ends_with_rest : (text middle rest : List ℕ) → EndsWith text middle → 
     → EndsWith text rest
 ends_with_rest text middle rest (front, e) (more, f) =
     (front ++ more, e ∙ ap (λ bytes. front ++ bytes) f ∙ sym (append_assoc front more rest))
+
+-- ---- lines
+
+module _ {T V : Type 0} (a : Adding T V) where
+  -- none of them
+  pub leaves_all : (t : T) (text : List ℕ) → Leaves a t text t text
+  leaves_all t text = record {
+    leaves = λ more. refl;
+    room = omega arith;
+    shorter = omega arith;
+    suffix = ends_with_all text;
+  }
+
+  -- some, and then others
+  pub leaves_more : (t u v : T) (text middle rest : List ℕ) → Leaves a t text u middle
+      → Leaves a u middle v rest → Leaves a t text v rest
+  leaves_more t u v text middle rest one other = record {
+    leaves = λ more. one.leaves more ∙ other.leaves more;
+    room = omega (arith, one.room, other.room);
+    shorter = omega (arith, one.shorter, other.shorter);
+    suffix = ends_with_rest text middle rest one.suffix other.suffix;
+  }
+
+  -- of a text those of its front
+  pub leaves_front : (t u : T) (text : List ℕ) (n m : ℕ) → n ≤ length text → m ≤ n
+      → Leaves a t (take n text) u (drop m (take n text)) → Leaves a t text u (drop m text)
+  leaves_front t u text n m within order one =
+      let long = length-take-le n text within in
+      let rest : drop m (take n text) ++ drop n text ≡ drop m text =
+      sym (drop-append-le m (take n text) (drop n text) (omega (arith, order, long)))
+      ∙ ap (drop m) (take-append-drop n text) in
+      record {
+        leaves = λ more.
+            ap (λ xs. with_lines a t (lines_of xs))
+            (ap (λ xs. xs ++ more) (sym (take-append-drop n text))
+            ∙ append_assoc (take n text) (drop n text) more)
+            ∙ one.leaves (drop n text ++ more)
+            ∙ ap (λ xs. with_lines a u (lines_of xs))
+            (sym (append_assoc (drop m (take n text)) (drop n text) more)
+            ∙ ap (λ xs. xs ++ more) rest);
+        room = omega (
+          arith,
+          one.room,
+          long,
+          length-drop m (take n text),
+          length-drop m text,
+          order,
+          within,
+        );
+        shorter = omega (arith, length-drop m text);
+        suffix = ends_with_drop text m;
+      }
+
+  -- some, and then a fault
+  pub then_fails : (t u : T) (text rest : List ℕ) → Leaves a t text u rest → (fault : LineFault)
+      → EndsIn a u rest fault → EndsIn a t text fault
+  then_fails t u text rest one fault then = λ more. one.leaves more ∙ then more
+
+  module _ (t : T) (text line rest : List ℕ) (first : IsFirstLine text line rest)
+      (short : length line ≤ 65535) where
+    same_line : with_line a t line ≡ with_value a t (a.value_of line)
+    same_line = grind (arith, nat_tests, short)
+
+    -- the first
+    pub one_added : (u : T) → with_value a t (a.value_of line) ≡ Ok u
+        → LeavesRest a t text u rest
+    one_added u is = λ more.
+        let e = first more in rw (e, same_line, is) refl
+
+    pub one_fails : (fault : LineFault) → with_value a t (a.value_of line) ≡ Err fault
+        → EndsIn a t text fault
+    one_fails fault is = λ more.
+        let e = first more in rw (e, same_line, is) refl
+
+    pub one_leaves : (u : T) → with_value a t (a.value_of line) ≡ Ok u
+        → a.count_of u ≡ a.count_of t + 1 → length rest < length text → EndsWith text rest
+        → Leaves a t text u rest
+    one_leaves u is count shorter suffix = record {
+      leaves = one_added u is;
+      room = omega (arith, count, shorter);
+      shorter = omega (arith, shorter);
+      suffix = suffix;
+    }
+
+  -- ---- the last line
+
+  continue_last : (report : Result T LineFault) → continue a (λ u. Ok u) report ≡ report
+  continue_last (Ok t) = refl
+  continue_last (Err fault) = refl
+
+  pub last_added : (t : T) (text : List ℕ) → 0 < length text
+      → length text ≤ 65535 → All (λ byte. byte ≢ 10) text
+      → with_lines a t (lines_of text) ≡ with_value a t (a.value_of text)
+  last_added t text some short whole =
+      let same : with_line a t text ≡ with_value a t (a.value_of text) =
+      grind (arith, nat_tests, short) in
+      ap (with_lines a t) (one_line text some whole)
+      ∙ continue_last (with_line a t text) ∙ same

@@ -19,10 +19,10 @@ use Rattle.digit_totals.specs.declared.options.Kind.TheVariants.{Integers, Place
 use Rattle.digit_totals.specs.declared.options.Options.{Options}
 use Rattle.digit_totals.specs.declared.fault.NumberError.{NumberError}
 use Rattle.digit_totals.specs.Errors.{of_field_at}
-use Rattle.digit_totals.specs.Field.{span_of}
+use Rattle.digit_totals.specs.Field.{span_in}
 use Rattle.digit_totals.specs.Totals.{has_128_bits}
 use Rattle.digit_totals.specs.Value.{with_blanks, as_integer, as_decimal, integer_in, decimal_in, number_in, in_span, value_of, word_of}
-use Rattle.digit_totals.proofs.Quick.{of_sign, of_scaled_sign}
+use Rattle.digit_totals.proofs.NumberLine.{of_sign, of_scaled_sign}
 
 -- a magnitude with its sign
 signed_fits : (negative : Bool) (magnitude : ℕ)
@@ -102,14 +102,14 @@ of_field : (start : ℕ) (read : Result ℤ NumberError) (value : ℤ)
 of_field start (Ok other) value e = e
 of_field start (Err error) value e = absurd (grind (arith, e))
 
-span_fits : (options : Options) (line : List ℕ) (span : Option (ℕ × ℕ)) (value : ℤ)
+span_fits : (options : Options) (line : List ℕ) (span : Result (ℕ × ℕ) NumberError) (value : ℤ)
     → in_span options line span ≡ Ok value → has_128_bits value ≡ true
-span_fits options line None value e = absurd (grind (arith, e))
-span_fits options line (Some (start, end)) value e =
+span_fits options line (Err error) value e = absurd (grind (arith, e))
+span_fits options line (Ok (start, end)) value e =
     let field : List ℕ = slice_range line start end in
     number_fits (word_of options) field options.kind value
     (of_field start (number_in (word_of options) field options.kind) value e)
 
 pub value_fits : (options : Options) (line : List ℕ) (value : ℤ)
     → value_of options line ≡ Ok value → has_128_bits value ≡ true
-value_fits options line value e = span_fits options line (span_of options.column line) value e
+value_fits options line value e = span_fits options line (span_in options.column line) value e

@@ -8,9 +8,11 @@ use Rattle.std.proofs.lemmas.Float.{lt_irrefl, lt_trans}
 use Rattle.std.proofs.lemmas.List.Elements.{All-cons, All-nil, All-append, All-weaker, Contains-push, Contains-append_left}
 use Rattle.std.proofs.lemmas.List.Sums.{fold_push}
 use mathlib.Core.Bool.{true≢false}
-use Rattle.digit_totals.specs.declared.floats.totals.FloatTotals.{FloatTotals}
-use Rattle.digit_totals.specs.FloatMeaning.{AreTotalsOf, sum_of}
-use Rattle.digit_totals.specs.Floats.{no_floats, plus}
+use Rattle.digit_totals.specs.declared.totals.FloatTotals.{FloatTotals}
+use Rattle.digit_totals.specs.declared.options.FloatOptions.{FloatOptions}
+use Rattle.digit_totals.specs.Floats.{no_floats, plus, adding}
+use Rattle.digit_totals.specs.Meaning.{AreFloatTotalsOf, float_sum_of}
+use Rattle.digit_totals.proofs.Meaning.{Counts}
 
 -- ---- the first of some values by an order
 
@@ -89,7 +91,7 @@ above x y z e f = below z y x f e
 
 record Have (seen : List Float) (t : FloatTotals) : Type 0 where
   count : t.count ≡ length seen
-  sum : t.sum ≡ sum_of seen
+  sum : t.sum ≡ float_sum_of seen
   least : IsBest lt not_below_itself below seen t.least
   greatest : IsBest after not_below_itself above seen t.greatest
 
@@ -126,7 +128,7 @@ at_first = record {
   };
 }
 
-pub totals_of : (values : List Float) → AreTotalsOf values (fold plus no_floats values)
+pub totals_of : (values : List Float) → AreFloatTotalsOf values (fold plus no_floats values)
 totals_of values =
     let h = all_more values [] no_floats at_first in
     record {
@@ -138,7 +140,5 @@ totals_of values =
       greatest_of = h.greatest.one;
     }
 
-pub counted : (t : FloatTotals) (values : List Float)
-    → (fold plus t values).count ≡ t.count + length values
-counted t [] = omega arith
-counted t (value ∷ values) = omega (arith, counted (plus t value) values)
+pub counts : (options : FloatOptions) → Counts (adding options)
+counts options = record { none = refl; more = λ t value. refl }

@@ -5,12 +5,12 @@ pub mod Fields
 pub mod FirstLine
 pub mod FirstMark
 pub mod Fits
-pub mod FloatAdding
-pub mod FloatMeaning
 pub mod FloatOrder
-pub mod FloatPieces
+pub mod InLine
+pub mod ListedLines
 pub mod Meaning
+pub mod NumberLine
 pub mod OnWords
+pub mod Order
 pub mod Pieces
-pub mod Quick
 pub mod Words

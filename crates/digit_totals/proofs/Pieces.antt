@@ -1,20 +1,20 @@
 -- An input that is read piece by piece.
-use Rattle.std.proofs.Common.{◌≡◌, ◌≢◌, ℕ, ◌+◌, ◌-◌, ◌<◌, ◌≤◌, ◌==◌, List, [], ◌∷◌, ◌++◌, All, length, take, drop, Some, None, Ok, Err, Result, refl, sym, ◌∙◌, ap, arith, append_assoc, append-nil, length-append, slice_range}
+use Rattle.std.proofs.Common.{◌≡◌, ◌≢◌, ℕ, ◌+◌, ◌-◌, ◌<◌, ◌≤◌, ◌==◌, List, [], ◌∷◌, ◌++◌, All, length, take, drop, Some, None, Ok, Err, Result, refl, sym, ◌∙◌, ap, arith, append_assoc, append-nil, length-append, slice_range, subst, Bool, true, false, cond}
 use Rattle.std.proofs.Math.Seq.{take-add, drop-append_seam}
 use Rattle.std.proofs.lemmas.List.{length-take-le, drop-take}
-use Rattle.std.specs.Prelude.{Option}
+use Rattle.std.specs.Prelude.{Option, ⊤, nat_lt}
 use Rattle.std.specs.Io.KnownBytes.{Consumes, IsAtEnd}
 use Rattle.std.specs.List.{onto_first, position}
 use Rattle.std.proofs.lemmas.Bool.Decides.{nat_tests}
 use Rattle.std.proofs.lemmas.List.Elements.{All-head, All-tail, All-append}
 use Rattle.digit_totals.proofs.FirstMark.{position_none}
-use Rattle.digit_totals.specs.declared.options.Options.{Options}
-use Rattle.digit_totals.specs.declared.totals.Totals.{Totals}
+use Rattle.digit_totals.specs.declared.fault.Fault.TheVariants.{Line}
 use Rattle.digit_totals.specs.declared.fault.LineFault.{LineFault}
-use Rattle.digit_totals.specs.declared.fault.LineFault.TheVariants.{LongLine}
+use Rattle.digit_totals.specs.declared.fault.LineFault.TheVariants.{Sum, LongLine}
+use Rattle.digit_totals.specs.declared.fault.NumberError.{NumberError}
 use Rattle.digit_totals.specs.Lines.{lines_of}
 use Rattle.digit_totals.specs.Outcome.{Continues, Reports, Sums, of_lines}
-use Rattle.digit_totals.specs.Totals.{with_line, with_lines, LeavesRest, EndsIn}
+use Rattle.digit_totals.specs.Report.{Adding, with_value, with_line, with_lines, continue, LeavesRest, EndsIn, MayEndIn}
 
 -- ---- a line that is too long
 
@@ -46,69 +46,116 @@ starts_line (byte ∷ next ∷ front) rest some whole =
       lines = grind (arith, nat_tests, other, s.lines);
     }
 
-too_long : (options : Options) (t : Totals) (front rest : List ℕ) → 65535 < length front
-    → All (λ byte. byte ≢ 10) front
-    → with_lines options t (lines_of (front ++ rest)) ≡ Err (LongLine (t.count + 1))
-too_long options t front rest long whole =
-    let s = starts_line front rest (omega (arith, long)) whole in
-    let fault : with_line options t (front ++ s.more) ≡ Err (LongLine (t.count + 1)) =
-    grind (arith, nat_tests, length-append front s.more, long) in
-    rw (s.lines, fault) refl
+module _ {T V : Type 0} (a : Adding T V) where
+  too_long : (t : T) (front rest : List ℕ) → 65535 < length front
+      → All (λ byte. byte ≢ 10) front
+      → with_lines a t (lines_of (front ++ rest)) ≡ Err (LongLine (a.count_of t + 1))
+  too_long t front rest long whole =
+      let s = starts_line front rest (omega (arith, long)) whole in
+      let fault : with_line a t (front ++ s.more) ≡ Err (LongLine (a.count_of t + 1)) =
+      grind (arith, nat_tests, length-append front s.more, long) in
+      rw (s.lines, fault) refl
 
--- ---- pieces
+  -- ---- how lines may end
 
-module _ (options : Options) where
-  pub read_on : (a b c : Option (List ℕ)) (pending bytes more : List ℕ) (t : Totals)
-      → Continues options a b pending t → Consumes b c bytes → more ≡ pending ++ bytes
-      → Continues options a c more t
-  read_on None b c pending bytes more t p q e = tt
-  read_on (Some text) None c pending bytes more t p q e = absurd p
+  abbrev MayEndInResult : Result T LineFault → Type 0
+  MayEndInResult (Ok t) = ⊤
+  MayEndInResult (Err fault) = MayEndIn a fault
+
+  cond_may : (b : Bool) (x y : Result T LineFault) → (b ≡ true → MayEndInResult x)
+      → (b ≡ false → MayEndInResult y) → MayEndInResult (cond b x y)
+  cond_may true x y p q = p refl
+  cond_may false x y p q = q refl
+
+  value_may : (t : T) (value : Result V NumberError) → MayEndInResult (with_value a t value)
+  value_may t (Ok value) =
+      cond_may (a.fits t value) (Ok (a.plus t value)) (Err (Sum (a.count_of t + 1))) (λ _. tt)
+      (λ none. (t, value, none))
+  value_may t (Err error) = tt
+
+  line_may : (t : T) (line : List ℕ) → MayEndInResult (with_line a t line)
+  line_may t line =
+      cond_may (nat_lt 65535 (length line)) (Err (LongLine (a.count_of t + 1)))
+      (with_value a t (a.value_of line)) (λ _. tt) (λ _. value_may t (a.value_of line))
+
+  continue_may : (rest : T → Result T LineFault) (report : Result T LineFault)
+      → MayEndInResult report → ((u : T) → MayEndInResult (rest u))
+      → MayEndInResult (continue a rest report)
+  continue_may rest (Ok u) p q = q u
+  continue_may rest (Err fault) p q = p
+
+  lines_may : (t : T) (lines : List (List ℕ)) → MayEndInResult (with_lines a t lines)
+  lines_may t [] = tt
+  lines_may t (line ∷ lines) =
+      continue_may (λ u. with_lines a u lines) (with_line a t line) (line_may t line)
+      (λ u. lines_may u lines)
+
+  may_end : (t : T) (lines : List (List ℕ)) (fault : LineFault)
+      → with_lines a t lines ≡ Err fault → MayEndIn a fault
+  may_end t lines fault e = subst MayEndInResult e (lines_may t lines)
+
+  -- ---- pieces
+
+  pub at_start : (x : Option (List ℕ)) (t : T) → t ≡ a.none → Continues a x x [] t
+  at_start None t e = tt
+  at_start (Some text) t e = rw e refl
+
+  pub read_on : (x y z : Option (List ℕ)) (pending bytes more : List ℕ) (t : T)
+      → Continues a x y pending t → Consumes y z bytes → more ≡ pending ++ bytes
+      → Continues a x z more t
+  read_on None y z pending bytes more t p q e = tt
+  read_on (Some text) None z pending bytes more t p q e = absurd p
   read_on (Some text) (Some rest) None pending bytes more t p q e = absurd q
   read_on (Some text) (Some rest) (Some left) pending bytes more t p q e =
-      p ∙ ap (λ xs. with_lines options t (lines_of xs))
+      p ∙ ap (λ xs. with_lines a t (lines_of xs))
       (ap (λ xs. pending ++ xs) q ∙ sym (append_assoc pending bytes left)
       ∙ ap (λ xs. xs ++ left) (sym e))
 
-  pub add_on : (a b : Option (List ℕ)) (pending rest : List ℕ) (t u : Totals)
-      → Continues options a b pending t → LeavesRest options t pending u rest
-      → Continues options a b rest u
-  add_on None b pending rest t u p leaves = tt
+  pub add_on : (x y : Option (List ℕ)) (pending rest : List ℕ) (t u : T)
+      → Continues a x y pending t → LeavesRest a t pending u rest
+      → Continues a x y rest u
+  add_on None y pending rest t u p leaves = tt
   add_on (Some text) None pending rest t u p leaves = absurd p
   add_on (Some text) (Some left) pending rest t u p leaves = p ∙ leaves left
 
-  pub faults : (a b : Option (List ℕ)) (pending : List ℕ) (t : Totals) (fault : LineFault)
-      → Continues options a b pending t → EndsIn options t pending fault
-      → Reports options a (Err fault)
-  faults None b pending t fault p ends = tt
-  faults (Some text) None pending t fault p ends = absurd p
-  faults (Some text) (Some left) pending t fault p ends = p ∙ ends left
+  faults_at : (x y : Option (List ℕ)) (pending : List ℕ) (t : T) (fault : LineFault)
+      → Continues a x y pending t → EndsIn a t pending fault
+      → Reports a x (Err fault)
+  faults_at None y pending t fault p ends = tt
+  faults_at (Some text) None pending t fault p ends = absurd p
+  faults_at (Some text) (Some left) pending t fault p ends = p ∙ ends left
 
-  pub long_line : (a b : Option (List ℕ)) (pending : List ℕ) (t : Totals)
-      → Continues options a b pending t → 65535 < length pending
-      → All (λ byte. byte ≢ 10) pending → Reports options a (Err (LongLine (t.count + 1)))
-  long_line None b pending t p long whole = tt
-  long_line (Some text) None pending t p long whole = absurd p
-  long_line (Some text) (Some left) pending t p long whole =
-      p ∙ too_long options t pending left long whole
+  pub faults : (x y : Option (List ℕ)) (pending : List ℕ) (t : T) (fault : LineFault)
+      → Continues a x y pending t → EndsIn a t pending fault
+      → Sums a x (Err (Line fault))
+  faults x y pending t fault p ends =
+      (may_end t (lines_of (pending ++ [])) fault (ends []), faults_at x y pending t fault p ends)
 
-  pub at_end : (a b c : Option (List ℕ)) (pending : List ℕ) (t : Totals)
-      (report : Result Totals LineFault) → Continues options a b pending t → Consumes b c []
-      → IsAtEnd c → report ≡ with_lines options t (lines_of pending) → Reports options a report
-  at_end None b c pending t report p q end is = tt
-  at_end (Some text) None c pending t report p q end is = absurd p
+  pub long_line : (x y : Option (List ℕ)) (pending : List ℕ) (t : T)
+      → Continues a x y pending t → 65535 < length pending
+      → All (λ byte. byte ≢ 10) pending → Sums a x (Err (Line (LongLine (a.count_of t + 1))))
+  long_line x y pending t p long whole =
+      faults x y pending t (LongLine (a.count_of t + 1)) p
+      (λ more. too_long t pending more long whole)
+
+  at_end : (x y z : Option (List ℕ)) (pending : List ℕ) (t : T)
+      (report : Result T LineFault) → Continues a x y pending t → Consumes y z []
+      → IsAtEnd z → report ≡ with_lines a t (lines_of pending) → Reports a x report
+  at_end None y z pending t report p q end is = tt
+  at_end (Some text) None z pending t report p q end is = absurd p
   at_end (Some text) (Some rest) None pending t report p q end is = absurd q
   at_end (Some text) (Some rest) (Some left) pending t report p q end is =
-      p ∙ ap (λ xs. with_lines options t (lines_of xs))
+      p ∙ ap (λ xs. with_lines a t (lines_of xs))
       (ap (λ xs. pending ++ xs) (q ∙ end) ∙ append-nil pending)
       ∙ sym is
 
-  pub sums_end : (a b c : Option (List ℕ)) (pending : List ℕ) (t : Totals)
-      (report : Result Totals LineFault) → Continues options a b pending t → Consumes b c []
-      → IsAtEnd c → report ≡ with_lines options t (lines_of pending)
-      → Sums options a (of_lines report)
-  sums_end a b c pending t (Ok u) p q end is = at_end a b c pending t (Ok u) p q end is
-  sums_end a b c pending t (Err fault) p q end is =
-      at_end a b c pending t (Err fault) p q end is
+  pub sums_end : (x y z : Option (List ℕ)) (pending : List ℕ) (t : T)
+      (report : Result T LineFault) → Continues a x y pending t → Consumes y z []
+      → IsAtEnd z → report ≡ with_lines a t (lines_of pending)
+      → Sums a x (of_lines report)
+  sums_end x y z pending t (Ok u) p q end is = at_end x y z pending t (Ok u) p q end is
+  sums_end x y z pending t (Err fault) p q end is =
+      (may_end t (lines_of pending) fault (sym is), at_end x y z pending t (Err fault) p q end is)
 
 -- ---- the buffer
 

@@ -1,5 +1,5 @@
 -- What the arguments of the program ask for.
-use Rattle.std.specs.Prelude.{ℕ, ℤ, pos, negsuc, ◌+◌, ◌-◌, ◌^◌, nat_le, ◌&&◌, ◌==◌, Bool, false, true, if◌then◌else◌, List, [], ◌∷◌, ◌++◌, Option, None, Some, Result, Ok, Err, codes, decimal, bytes_eq, is_some}
+use Rattle.std.specs.Prelude.{ℕ, ℤ, pos, negsuc, ◌+◌, ◌-◌, ◌^◌, nat_le, ◌&&◌, ◌==◌, Bool, false, true, if◌then◌else◌, List, [], ◌∷◌, ◌++◌, take, drop, position, slice_get, unwrap_or, Option, None, Some, Result, Ok, Err, codes, decimal, bytes_eq, is_some}
 use Rattle.lexical_format.specs.declared.TheConstants.{STANDARD}
 use Rattle.lexical_digits.specs.declared.skip.component.Component.TheVariants.{Integer}
 use Rattle.lexical_digits.specs.State.{rule_of}
@@ -10,7 +10,7 @@ use Rattle.digit_totals.specs.declared.options.Kind.{Kind}
 use Rattle.digit_totals.specs.declared.options.Kind.TheVariants.{Integers, Places}
 use Rattle.digit_totals.specs.declared.options.Options.{Options}
 use Rattle.digit_totals.specs.declared.options.Request.{Request}
-use Rattle.digit_totals.specs.declared.options.Request.TheVariants.{Exact, Floats}
+use Rattle.digit_totals.specs.declared.options.Request.TheVariants.{Exact, Floats, Help}
 use Rattle.digit_totals.specs.declared.arguments.Name.{Name}
 use Rattle.digit_totals.specs.declared.arguments.Name.TheVariants as names
 use Rattle.digit_totals.specs.declared.arguments.Settings.{Settings}
@@ -27,6 +27,7 @@ name_of word =
     if bytes_eq word (codes "--places") then Some names.Places else
     if bytes_eq word (codes "--underscores") then Some names.Underscores else
     if bytes_eq word (codes "--floats") then Some names.Floats else
+    if bytes_eq word (codes "--help") then Some names.Help else
     None
 
 -- a number from `least` to `most`
@@ -40,11 +41,12 @@ unfoldable pub number_of : ℕ → ℕ → List ℕ → Option ℕ
 number_of least most word =
     in_range least most (to_end word (number_at 0 (2 ^ 64 - 1) (rule_of STANDARD Integer) word 0))
 
--- the byte that a word is, other than a line feed
+-- the byte that a word is, other than a line feed; `\t` is a tab
 abbrev pub byte_of : List ℕ → Option ℕ
 byte_of [] = None
 byte_of (byte ∷ []) = if byte == 10 then None else Some byte
-byte_of (byte ∷ next ∷ bytes) = None
+byte_of (byte ∷ next ∷ []) = if byte == 92 && (next == 116) then Some 9 else None
+byte_of (byte ∷ next ∷ more ∷ bytes) = None
 
 -- ---- what they set
 
@@ -56,6 +58,7 @@ no_settings = record {
   places = None;
   underscores = false;
   floats = false;
+  help = false;
   awaits = None;
 }
 
@@ -79,6 +82,7 @@ with_value s names.Separator n word = with_separator s n (byte_of word)
 with_value s names.Places n word = with_places s n (number_of 0 38 word)
 with_value s names.Underscores n word = Err (BadValue n)
 with_value s names.Floats n word = Err (BadValue n)
+with_value s names.Help n word = Err (BadValue n)
 
 -- whether an option was given before
 abbrev pub is_set : Settings → Name → Bool
@@ -87,6 +91,7 @@ is_set s names.Separator = is_some s.separator
 is_set s names.Places = is_some s.places
 is_set s names.Underscores = s.underscores
 is_set s names.Floats = s.floats
+is_set s names.Help = s.help
 
 -- with an option: one without a value is set, another waits for its value
 abbrev pub with_option : Settings → Name → Settings
@@ -95,14 +100,27 @@ with_option s names.Separator = record s { awaits = Some names.Separator }
 with_option s names.Places = record s { awaits = Some names.Places }
 with_option s names.Underscores = record s { underscores = true }
 with_option s names.Floats = record s { floats = true }
+with_option s names.Help = record s { help = true }
 
 -- word n, where an option may be
 abbrev pub with_name : Settings → ℕ → Option Name → Result Settings UsageError
 with_name s n None = Err (Unknown n)
 with_name s n (Some name) = if is_set s name then Err (Twice n) else Ok (with_option s name)
 
+-- word n, which is an option and after a `=` its value
+abbrev pub with_both : Settings → ℕ → Option Name → List ℕ → Result Settings UsageError
+with_both s n None value = Err (Unknown n)
+with_both s n (Some name) value =
+    if is_set s name then Err (Twice n) else with_value s name n value
+
+-- word n, with its first `=`
+abbrev pub by_equals : Settings → ℕ → List ℕ → Option ℕ → Result Settings UsageError
+by_equals s n word None = with_name s n (name_of word)
+by_equals s n word (Some at) =
+    with_both s n (name_of (take at word)) (drop (at + 1) word)
+
 abbrev pub by_awaits : Option Name → Settings → ℕ → List ℕ → Result Settings UsageError
-by_awaits None s n word = with_name s n (name_of word)
+by_awaits None s n word = by_equals s n word (position (λ byte. byte == 61) word)
 by_awaits (Some name) s n word = with_value s name n word
 
 -- with word n
@@ -143,7 +161,8 @@ with_kind s (Ok column) = request_of s column
 with_kind s (Err error) = Err error
 
 abbrev pub asked_by : Option Name → Settings → ℕ → Result Request UsageError
-asked_by None s n = with_kind s (column_of s.column s.separator)
+asked_by None s n =
+    if s.help then Ok Help else with_kind s (column_of s.column s.separator)
 asked_by (Some name) s n = Err (NoValue n)
 
 -- what the settings of n words ask for
@@ -166,10 +185,32 @@ asked words = read_from no_settings 0 words
 
 -- ---- what is written where they ask for nothing
 
-abbrev pub usage_line : UsageError → List ℕ
-usage_line (Unknown n) = codes "error: argument " ++ decimal n ++ codes " is no option\n"
-usage_line (Twice n) = codes "error: argument " ++ decimal n ++ codes " was given before\n"
-usage_line (NoValue n) = codes "error: argument " ++ decimal n ++ codes " has no value\n"
-usage_line (BadValue n) = codes "error: argument " ++ decimal n ++ codes " is no such value\n"
-usage_line NoColumn = codes "error: a separator without a column\n"
-usage_line FloatPlaces = codes "error: floats with places\n"
+-- what is allowed
+unfoldable pub usage : List ℕ
+usage = codes "usage: digit_sum [--column N [--separator C]] [--places N | --floats] [--underscores] [--help]\n"
+
+-- word n
+abbrev pub word_at : List (List ℕ) → ℕ → List ℕ
+word_at words n = unwrap_or (slice_get words (n - 1)) []
+
+-- what is wrong with it
+abbrev pub wrong_word : List (List ℕ) → ℕ → List ℕ → List ℕ
+wrong_word words n what =
+    (codes "error: argument " ++ decimal n ++ codes ", `") ++ word_at words n
+    ++ (codes "`, " ++ what ++ codes "\n")
+
+abbrev pub usage_error : List (List ℕ) → UsageError → List ℕ
+usage_error words (Unknown n) = wrong_word words n (codes "is no option")
+usage_error words (Twice n) = wrong_word words n (codes "was given before")
+usage_error words (NoValue n) = wrong_word words n (codes "has no value")
+usage_error words (BadValue n) = wrong_word words n (codes "is no such value")
+usage_error words NoColumn = codes "error: a separator without a column\n"
+usage_error words FloatPlaces = codes "error: floats with places\n"
+
+abbrev pub usage_line : List (List ℕ) → UsageError → List ℕ
+usage_line words error = usage_error words error ++ usage
+
+-- ---- what is written for `--help`
+
+unfoldable pub help : List ℕ
+help = codes "usage: digit_sum [--column N [--separator C]] [--places N | --floats] [--underscores] [--help]\nAdds up the numbers of its input, one a line.\n  --column N     the number is in column N, from 1, and not the whole line\n  --separator C  the byte between two columns, \\t for a tab; otherwise a comma\n  --places N     decimal numbers of at most N places, 0 to 38; otherwise integers\n  --floats       floats: each number and each sum is the nearest one\n  --underscores  one _ may be between two digits\n  --help         this text, and no sum\n"

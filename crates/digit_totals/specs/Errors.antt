@@ -10,11 +10,12 @@ use Rattle.digit_floats.specs.Errors as floats
 use Rattle.digit_floats.specs.declared.error.FloatError.{FloatError}
 use Rattle.digit_floats.specs.declared.error.FloatError.TheVariants as float
 use Rattle.digit_totals.specs.declared.fault.NumberError.{NumberError}
-use Rattle.digit_totals.specs.declared.fault.NumberError.TheVariants.{Missing, Integer, Decimal, Float}
+use Rattle.digit_totals.specs.declared.fault.NumberError.TheVariants.{Missing, Quoted, Integer, Decimal, Float}
 
--- the position that an error holds; that of a missing column has none
+-- the position that an error holds; that of a column has none
 abbrev pub position : NumberError → ℕ
 position Missing = 0
+position (Quoted column) = 0
 position (Integer error) = integers.position error
 position (Decimal error) = decimals.position error
 position (Float error) = floats.position error
@@ -39,6 +40,7 @@ float_later by (float.Invalid at) = float.Invalid (by + at)
 
 abbrev pub later : ℕ → NumberError → NumberError
 later by Missing = Missing
+later by (Quoted column) = Quoted column
 later by (Integer error) = Integer (integer_later by error)
 later by (Decimal error) = Decimal (decimal_later by error)
 later by (Float error) = Float (float_later by error)

@@ -1,5 +1,5 @@
 -- The float that a line has, and what some floats are together.
-use Rattle.std.specs.Prelude.{◌≡◌, ℕ, ◌+◌, ◌==◌, nat_lt, ◌||◌, if◌then◌else◌, List, [], ◌∷◌, ◌++◌, length, slice_range, Option, None, Some, Result, Ok, Err}
+use Rattle.std.specs.Prelude.{ℕ, ◌+◌, ◌==◌, ◌||◌, true, if◌then◌else◌, List, slice_range, Option, None, Some, Result, Ok, Err}
 use Rattle.std.specs.Float.{float_zero, binary64}
 use Rattle.std.specs.Float.Ieee.{Float, add, lt}
 use Rattle.lexical_format.specs.declared.words.TheConstants.{PYTHON_LITERAL}
@@ -9,15 +9,14 @@ use Rattle.digit_literals.specs.Bytes.{past_bytes}
 use Rattle.digit_floats.specs.declared.error.FloatError.{FloatError}
 use Rattle.digit_floats.specs.Float.{read_at, whole_of, plain_marks}
 use Rattle.digit_totals.specs.declared.options.FloatOptions.{FloatOptions}
-use Rattle.digit_totals.specs.declared.floats.totals.FloatTotals.{FloatTotals}
+use Rattle.digit_totals.specs.declared.totals.FloatTotals.{FloatTotals}
 use Rattle.digit_totals.specs.declared.fault.NumberError.{NumberError}
 use Rattle.digit_totals.specs.declared.fault.NumberError.TheVariants as errors
 use Rattle.digit_totals.specs.declared.fault.LineFault.{LineFault}
-use Rattle.digit_totals.specs.declared.fault.LineFault.TheVariants.{Number, LongLine}
 use Rattle.digit_totals.specs.Errors.{of_field_at}
-use Rattle.digit_totals.specs.Field.{span_of}
-use Rattle.digit_totals.specs.Lines.{lines_of}
-use Rattle.digit_totals.specs.Totals.{most_bytes}
+use Rattle.digit_totals.specs.Field.{span_in}
+use Rattle.digit_totals.specs.Report.{Adding}
+use Rattle.digit_totals.specs.Report as Report
 use Rattle.digit_totals.specs.Value.{with_blanks}
 
 -- ---- the float of a line
@@ -38,14 +37,14 @@ abbrev pub word_of : FloatOptions → ℕ
 word_of options = if options.underscores then PYTHON_LITERAL else STANDARD
 
 -- the float of a field, by its bytes alone
-abbrev pub in_span : FloatOptions → List ℕ → Option (ℕ × ℕ) → Result Float NumberError
-in_span options line None = Err errors.Missing
-in_span options line (Some (start, end)) =
+abbrev pub in_span : FloatOptions → List ℕ → Result (ℕ × ℕ) NumberError → Result Float NumberError
+in_span options line (Err error) = Err error
+in_span options line (Ok (start, end)) =
     of_field_at start (as_float (float_in (word_of options) (slice_range line start end)))
 
 -- the float in the column of a line
 abbrev pub value_of : FloatOptions → List ℕ → Result Float NumberError
-value_of options line = in_span options line (span_of options.column line)
+value_of options line = in_span options line (span_in options.column line)
 
 -- ---- totals
 
@@ -67,39 +66,15 @@ plus t value = record {
   greatest = if (t.count == 0) || lt t.greatest value then value else t.greatest;
 }
 
--- with the number of the next line; or that line's fault
-abbrev pub with_value : FloatTotals → Result Float NumberError → Result FloatTotals LineFault
-with_value t (Ok value) = Ok (plus t value)
-with_value t (Err error) = Err (Number (t.count + 1) error)
+-- the floats of lines, and their sum, which always fits
+abbrev pub adding : FloatOptions → Adding FloatTotals Float
+adding options = record {
+  value_of = value_of options;
+  none = no_floats;
+  count_of = λ t. t.count;
+  plus = plus;
+  fits = λ t value. true;
+}
 
-module _ (options : FloatOptions) where
-  -- with the number of the next line, which has at most 65,535 bytes
-  abbrev pub with_line : FloatTotals → List ℕ → Result FloatTotals LineFault
-  with_line t line =
-      if nat_lt most_bytes (length line)
-      then Err (LongLine (t.count + 1))
-      else with_value t (value_of options line)
-
-  -- with the lines after these; or what ends them
-  abbrev pub continue : (FloatTotals → Result FloatTotals LineFault) → Result FloatTotals LineFault
-      → Result FloatTotals LineFault
-  continue rest (Ok t) = rest t
-  continue rest (Err fault) = Err fault
-
-  -- with the numbers of these lines
-  abbrev pub with_lines : FloatTotals → List (List ℕ) → Result FloatTotals LineFault
-  with_lines t [] = Ok t
-  with_lines t (line ∷ lines) =
-      continue (λ u. with_lines u lines) (with_line t line)
-
-  abbrev pub report_of : List ℕ → Result FloatTotals LineFault
-  report_of text = with_lines no_floats (lines_of text)
-
-  -- Whatever follows a text: the totals after its lines are those after the lines of the rest.
-  abbrev pub LeavesRest : FloatTotals → List ℕ → FloatTotals → List ℕ → Type 0
-  LeavesRest t text u rest = (more : List ℕ)
-      → with_lines t (lines_of (text ++ more)) ≡ with_lines u (lines_of (rest ++ more))
-
-  -- Whatever follows a text, a line of it ends the lines.
-  abbrev pub EndsIn : FloatTotals → List ℕ → LineFault → Type 0
-  EndsIn t text fault = (more : List ℕ) → with_lines t (lines_of (text ++ more)) ≡ Err fault
+abbrev pub report_of : FloatOptions → List ℕ → Result FloatTotals LineFault
+report_of options = Report.report_of (adding options)

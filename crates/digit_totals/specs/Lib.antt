@@ -2,15 +2,13 @@ pub mod Arguments
 pub mod ErrorKinds
 pub mod Errors
 pub mod Field
-pub mod FloatMeaning
-pub mod FloatOutcome
-pub mod FloatText
 pub mod Floats
 pub mod Lines
 pub mod Meaning
 pub mod Outcome
 pub mod Program
 pub mod Quick
+pub mod Report
 pub mod Text
 pub mod Totals
 pub mod Value

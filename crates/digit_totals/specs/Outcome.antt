@@ -8,36 +8,42 @@ use Rattle.digit_totals.specs.declared.fault.Fault.{Fault}
 use Rattle.digit_totals.specs.declared.fault.Fault.TheVariants.{Line, Read, Write, Memory, Text}
 use Rattle.digit_totals.specs.declared.fault.LineFault.{LineFault}
 use Rattle.digit_totals.specs.declared.options.Column.{Column}
+use Rattle.digit_totals.specs.declared.options.FloatOptions.{FloatOptions}
 use Rattle.digit_totals.specs.declared.options.Options.{Options}
-use Rattle.digit_totals.specs.declared.totals.Totals.{Totals}
+use Rattle.digit_totals.specs.Floats as Floats
 use Rattle.digit_totals.specs.Lines.{lines_of}
-use Rattle.digit_totals.specs.Text.{line_of, error_line, status_of}
-use Rattle.digit_totals.specs.Totals.{with_lines, report_of}
+use Rattle.digit_totals.specs.Report.{Adding, with_lines, report_of, MayEndIn}
+use Rattle.digit_totals.specs.Text.{IsLineOf, IsFloatLineOf, error_line, status_of}
+use Rattle.digit_totals.specs.Totals as Totals
 
 -- the answer of lines as that of a run
 abbrev pub of_lines : {A : Type 0} → Result A LineFault → Result A Fault
 of_lines (Ok totals) = Ok totals
 of_lines (Err fault) = Err (Line fault)
 
-module _ (options : Options) where
+module _ {T V : Type 0} (a : Adding T V) where
   -- the report of the known bytes is this
-  abbrev pub Reports : Option (List ℕ) → Result Totals LineFault → Type 0
-  Reports input report = IfSome input (λ text. report_of options text ≡ report)
+  abbrev pub Reports : Option (List ℕ) → Result T LineFault → Type 0
+  Reports input report = IfSome input (λ text. report_of a text ≡ report)
+
+  -- the report of the known bytes is a fault
+  abbrev pub EndsWithFault : Option (List ℕ) → LineFault → Type 0
+  EndsWithFault input fault = MayEndIn a fault × Reports input (Err fault)
 
   -- what adding up answers: the report of the input; or a read failed, and was not interrupted
-  abbrev pub Sums : Option (List ℕ) → Result Totals Fault → Type 0
+  abbrev pub Sums : Option (List ℕ) → Result T Fault → Type 0
   Sums input (Ok totals) = Reports input (Ok totals)
-  Sums input (Err (Line fault)) = Reports input (Err fault)
+  Sums input (Err (Line fault)) = EndsWithFault input fault
   Sums input (Err (Read kind)) = kind ≢ Interrupted
   Sums input (Err fault) = ⊥
 
   -- The totals so far, with the lines of what was read and is not among them, and of what is left,
   -- are those of all.
-  abbrev pub Continues : (old new : Option (List ℕ)) → List ℕ → Totals → Type 0
+  abbrev pub Continues : (old new : Option (List ℕ)) → List ℕ → T → Type 0
   Continues None new pending t = ⊤
   Continues (Some text) None pending t = ⊥
   Continues (Some text) (Some rest) pending t =
-      report_of options text ≡ with_lines options t (lines_of (pending ++ rest))
+      report_of a text ≡ with_lines a t (lines_of (pending ++ rest))
 
 -- the known bytes grow by a prefix of `bytes`, and not by the whole
 pub record AppendsPart (old new : Option (List ℕ)) (bytes : List ℕ) : Type 0 where
@@ -58,33 +64,41 @@ pub record Streams : Type 0 where
 abbrev pub EndsAtRead : Streams → ErrorKind → Type 0
 EndsAtRead s kind = (kind ≢ Interrupted) × Keeps s.had s.has
 
-module _ (options : Options) (s : Streams) where
-  -- The input was read to its end, and all of its totals' line was written.
+-- `IsLine` says which line is written of totals, and `MayDiffer` whether a number's text may not be
+-- read as that number.
+module _ {T V : Type 0} (a : Adding T V) (IsLine : T → List ℕ → Type 0)
+    (MayDiffer : Type 0) (s : Streams) where
+  -- The input was read to its end, and all of a line of its totals was written.
   pub record WritesTotals : Type 0 where
-    pub totals : Totals
+    pub totals : T
+    pub line : List ℕ
+    pub is_line : IsLine totals line
     pub ended : IsAtEnd s.rest
-    pub reports : Reports options s.input (Ok totals)
-    pub written : Appends s.had s.has (line_of options.kind totals)
+    pub reports : Reports a s.input (Ok totals)
+    pub written : Appends s.had s.has line
 
-  -- The input was read to its end, and a prefix of its totals' line was written, never the whole.
+  -- The input was read to its end, and a prefix of a line of its totals was written, never the
+  -- whole.
   pub record WritesPart : Type 0 where
-    pub totals : Totals
+    pub totals : T
+    pub line : List ℕ
+    pub is_line : IsLine totals line
     pub ended : IsAtEnd s.rest
-    pub reports : Reports options s.input (Ok totals)
-    pub written : AppendsPart s.had s.has (line_of options.kind totals)
+    pub reports : Reports a s.input (Ok totals)
+    pub written : AppendsPart s.had s.has line
 
   -- A line of the input has a fault, and nothing was written.
   abbrev pub EndsAtLine : LineFault → Type 0
-  EndsAtLine fault = Reports options s.input (Err fault) × Keeps s.had s.has
+  EndsAtLine fault = EndsWithFault a s.input fault × Keeps s.had s.has
 
   -- what a run does, by its answer
-  abbrev pub Runs : Result (Unit {0}) Fault → Type 0
-  Runs (Ok done) = WritesTotals
-  Runs (Err (Line fault)) = EndsAtLine fault
-  Runs (Err (Read kind)) = EndsAtRead s kind
-  Runs (Err (Write kind)) = WritesPart
-  Runs (Err Memory) = Keeps s.had s.has
-  Runs (Err Text) = ⊥
+  abbrev pub RunsBy : Result (Unit {0}) Fault → Type 0
+  RunsBy (Ok done) = WritesTotals
+  RunsBy (Err (Line fault)) = EndsAtLine fault
+  RunsBy (Err (Read kind)) = EndsAtRead s kind
+  RunsBy (Err (Write kind)) = WritesPart
+  RunsBy (Err Memory) = Keeps s.had s.has
+  RunsBy (Err Text) = MayDiffer × Keeps s.had s.has
 
 -- a write failed
 abbrev pub IsWriteFault : Fault → Type 0
@@ -108,8 +122,33 @@ EndsWith column had has (Err fault) status =
     × Tells had has (error_line column fault) answer
 
 -- A run, and what is written to the standard error after it.
-pub record Serves (options : Options) (s : Streams) (had has : Option (List ℕ)) (status : ℕ)
+pub record ServesBy {T V : Type 0} (a : Adding T V) (IsLine : T → List ℕ → Type 0)
+    (MayDiffer : Type 0) (column : Option Column) (s : Streams)
+    (had has : Option (List ℕ)) (status : ℕ) : Type 0 where
+  pub answer : Result (Unit {0}) Fault
+  pub runs : RunsBy a IsLine MayDiffer s answer
+  pub ends : EndsWith column had has answer status
+
+-- A text is written, and nothing is read; and what is written to the standard error after it.
+pub record ServesHelp (text : List ℕ) (s : Streams) (had has : Option (List ℕ)) (status : ℕ)
     : Type 0 where
   pub answer : Result (Unit {0}) Fault
-  pub runs : Runs options s answer
-  pub ends : EndsWith options.column had has answer status
+  pub unread : s.rest ≡ s.input
+  pub written : Tells s.had s.has text answer
+  pub ends : EndsWith None had has answer status
+
+-- ---- an exact sum, and a sum of floats
+
+abbrev pub Runs : Options → Streams → Result (Unit {0}) Fault → Type 0
+Runs options = RunsBy (Totals.adding options) (IsLineOf options.kind) ⊥
+
+abbrev pub RunsFloats : FloatOptions → Streams → Result (Unit {0}) Fault → Type 0
+RunsFloats options = RunsBy (Floats.adding options) IsFloatLineOf ⊤
+
+abbrev pub Serves : Options → Streams → (had has : Option (List ℕ)) → ℕ → Type 0
+Serves options =
+    ServesBy (Totals.adding options) (IsLineOf options.kind) ⊥ options.column
+
+abbrev pub ServesFloats : FloatOptions → Streams → (had has : Option (List ℕ)) → ℕ → Type 0
+ServesFloats options =
+    ServesBy (Floats.adding options) IsFloatLineOf ⊤ options.column

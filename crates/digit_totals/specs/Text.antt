@@ -1,5 +1,8 @@
 -- What is written: the totals, or why there are none.
-use Rattle.std.specs.Prelude.{ℕ, ℤ, ◌-◌, ◌/◌, ◌%◌, ◌^◌, ◌==◌, if◌then◌else◌, List, ◌++◌, length, replicate, Option, None, Some, codes, decimal, unsigned_abs}
+use Rattle.std.specs.Prelude.{◌≡◌, ⊤, ℕ, zero, suc, ℤ, ◌-◌, ◌/◌, ◌%◌, ◌^◌, ◌==◌, if◌then◌else◌, List, ◌++◌, length, replicate, Option, None, Some, codes, decimal, unsigned_abs}
+use Rattle.std.specs.Float.{binary64}
+use Rattle.std.specs.Float.Ieee.{Float}
+use Rattle.std.specs.Float.Parse.{parse_float}
 use Rattle.std.specs.Fmt.{sign_text, signed_decimal}
 use Rattle.std.specs.Int.{is_negative}
 use Rattle.digit_literals.specs.Errors as integers
@@ -12,10 +15,11 @@ use Rattle.digit_totals.specs.declared.fault.Fault.TheVariants.{Line, Read, Writ
 use Rattle.digit_totals.specs.declared.fault.LineFault.{LineFault}
 use Rattle.digit_totals.specs.declared.fault.LineFault.TheVariants.{Number, Sum, LongLine}
 use Rattle.digit_totals.specs.declared.fault.NumberError.{NumberError}
-use Rattle.digit_totals.specs.declared.fault.NumberError.TheVariants.{Missing, Integer, Decimal, Float}
+use Rattle.digit_totals.specs.declared.fault.NumberError.TheVariants as errors
 use Rattle.digit_totals.specs.declared.options.Column.{Column}
 use Rattle.digit_totals.specs.declared.options.Kind.{Kind}
 use Rattle.digit_totals.specs.declared.options.Kind.TheVariants.{Integers, Places}
+use Rattle.digit_totals.specs.declared.totals.FloatTotals.{FloatTotals}
 use Rattle.digit_totals.specs.declared.totals.Totals.{Totals}
 
 -- ---- the totals
@@ -51,14 +55,47 @@ line_of kind t =
     count_and_sum t.count (amount kind t.sum)
     ++ extremes (amount_of_some t.count kind t.least) (amount_of_some t.count kind t.greatest)
 
+-- that line is the one that is written
+abbrev pub IsLineOf : Kind → Totals → List ℕ → Type 0
+IsLineOf kind t line = line ≡ line_of kind t
+
+-- ---- the totals of floats
+
+-- std's `parse` reads a text as this float
+abbrev pub IsTextOf : Float → List ℕ → Type 0
+IsTextOf x text = parse_float binary64 text ≡ Some x
+
+-- a text of one of so many floats; of none a `-`
+abbrev pub IsTextOfSome : ℕ → Float → List ℕ → Type 0
+IsTextOfSome zero x text = text ≡ codes "-"
+IsTextOfSome (suc n) x text = IsTextOf x text
+
+-- the line of the totals
+pub record IsFloatLineOf (t : FloatTotals) (line : List ℕ) : Type 0 where
+  pub sum : List ℕ
+  pub least : List ℕ
+  pub greatest : List ℕ
+  pub sum_is : IsTextOf t.sum sum
+  pub least_is : IsTextOfSome t.count t.least least
+  pub greatest_is : IsTextOfSome t.count t.greatest greatest
+  pub line_is : line ≡ count_and_sum t.count sum ++ extremes least greatest
+
+-- why no line is made; `MayDiffer` says whether a number's text may not be read as that number
+abbrev pub IsLack : Type 0 → Fault → Type 0
+IsLack MayDiffer Memory = ⊤
+IsLack MayDiffer Text = MayDiffer
+IsLack MayDiffer fault = ⊥
+
 -- ---- faults
 
 -- what is wrong with a line, by the readers' words
 abbrev pub message : NumberError → List ℕ
-message Missing = codes "there is no such column"
-message (Integer error) = integers.message error
-message (Decimal error) = decimals.message error
-message (Float error) = floats.message error
+message errors.Missing = codes "there is no such column"
+message (errors.Quoted column) =
+    codes "column " ++ decimal column ++ codes " begins with a quote, and no quotes are read"
+message (errors.Integer error) = integers.message error
+message (errors.Decimal error) = decimals.message error
+message (errors.Float error) = floats.message error
 
 -- where it is
 abbrev pub place : Option Column → ℕ → List ℕ

@@ -14,11 +14,11 @@ use Rattle.digit_totals.specs.declared.options.Kind.{Kind}
 use Rattle.digit_totals.specs.declared.options.Kind.TheVariants.{Integers, Places}
 use Rattle.digit_totals.specs.declared.options.Options.{Options}
 use Rattle.digit_totals.specs.declared.options.Request.{Request}
-use Rattle.digit_totals.specs.declared.options.Request.TheVariants.{Exact, Floats}
+use Rattle.digit_totals.specs.declared.options.Request.TheVariants.{Exact, Floats, Help}
 use Rattle.digit_totals.specs.declared.fault.NumberError.{NumberError}
 use Rattle.digit_totals.specs.declared.fault.NumberError.TheVariants as errors
 use Rattle.digit_totals.specs.Errors.{of_field_at}
-use Rattle.digit_totals.specs.Field.{span_of}
+use Rattle.digit_totals.specs.Field.{span_in}
 
 -- ---- options
 
@@ -34,6 +34,7 @@ HasFewPlaces (Places places) = places ≤ 38
 abbrev pub MayServe : Request → Type 0
 MayServe (Exact options) = HasFewPlaces options.kind
 MayServe (Floats options) = ⊤
+MayServe Help = ⊤
 
 -- ---- a number with blanks around it
 
@@ -73,11 +74,11 @@ module _ (word : ℕ) (text : List ℕ) where
 -- ---- of a line
 
 -- the number of a field, by its bytes alone
-abbrev pub in_span : Options → List ℕ → Option (ℕ × ℕ) → Result ℤ NumberError
-in_span options line None = Err errors.Missing
-in_span options line (Some (start, end)) =
+abbrev pub in_span : Options → List ℕ → Result (ℕ × ℕ) NumberError → Result ℤ NumberError
+in_span options line (Err error) = Err error
+in_span options line (Ok (start, end)) =
     of_field_at start (number_in (word_of options) (slice_range line start end) options.kind)
 
 -- the number in the column of a line
 abbrev pub value_of : Options → List ℕ → Result ℤ NumberError
-value_of options line = in_span options line (span_of options.column line)
+value_of options line = in_span options line (span_in options.column line)

@@ -1,9 +1,10 @@
 //! What the arguments of the program ask for.
 
-ghost use Rattle.std.specs.Prelude.{◌≡◌, ◌+◌, ◌≤◌, ◌<◌, map, IfOk, IfSome, string_bytes};
+ghost use Rattle.std.specs.Prelude.{◌≡◌, ◌==◌, ◌+◌, ◌≤◌, ◌<◌, map, position, IfOk, IfSome};
 ghost use Rattle.digit_totals.specs.Arguments as Arguments;
 ghost use Rattle.digit_totals.specs.Value.{HasFewPlaces, MayServe};
 
+use super::field::find;
 use super::options::{Column, FloatOptions, Kind, Options, Request};
 use digit_literals::parse_number;
 use lexical_format::STANDARD;
@@ -17,6 +18,7 @@ pub enum Name {
     Places,
     Underscores,
     Floats,
+    Help,
 }
 
 /// Why the arguments ask for nothing. Arguments count from 1.
@@ -44,6 +46,7 @@ pub struct Settings {
     pub places: Option<usize>,
     pub underscores: bool,
     pub floats: bool,
+    pub help: bool,
     /// The option whose value is the next argument.
     pub awaits: Option<Name>,
 }
@@ -62,6 +65,8 @@ fn name_of(word: &[u8]) -> Option<Name>
         Some(Name::Underscores)
     } else if word == b"--floats".as_slice() {
         Some(Name::Floats)
+    } else if word == b"--help".as_slice() {
+        Some(Name::Help)
     } else {
         None
     }
@@ -85,14 +90,14 @@ fn number_of(least: usize, most: usize, word: &[u8]) -> Option<usize>
     }
 }
 
-/// The byte that a word is, other than a line feed.
+/// The byte that a word is, other than a line feed; `\t` is a tab.
 fn byte_of(word: &[u8]) -> Option<u8>
     ensures { result ≡ Arguments.byte_of word.now }
 {
-    if word.len() == 1 && word[0] != b'\n' {
-        Some(word[0])
-    } else {
-        None
+    match word {
+        [byte] if *byte != b'\n' => Some(*byte),
+        [b'\\', b't'] => Some(b'\t'),
+        _ => None,
     }
 }
 
@@ -107,6 +112,7 @@ impl Settings {
             places: None,
             underscores: false,
             floats: false,
+            help: false,
             awaits: None,
         }
     }
@@ -132,7 +138,7 @@ impl Settings {
                 Some(places) => settings.places = Some(places),
                 None => return Err(UsageError::BadValue(n)),
             },
-            Name::Underscores | Name::Floats => return Err(UsageError::BadValue(n)),
+            Name::Underscores | Name::Floats | Name::Help => return Err(UsageError::BadValue(n)),
         }
         Ok(settings)
     }
@@ -147,6 +153,7 @@ impl Settings {
             Name::Places => self.places.is_some(),
             Name::Underscores => self.underscores,
             Name::Floats => self.floats,
+            Name::Help => self.help,
         }
     }
 
@@ -159,6 +166,7 @@ impl Settings {
         match name {
             Name::Underscores => settings.underscores = true,
             Name::Floats => settings.floats = true,
+            Name::Help => settings.help = true,
             _ => settings.awaits = Some(name),
         }
         settings
@@ -181,6 +189,38 @@ impl Settings {
         }
     }
 
+    /// With argument `n`, which is an option and after a `=` its value.
+    fn with_both(self, n: usize, name: &[u8], value: &[u8]) -> Result<Settings, UsageError>
+        requires { IfSome self.places (λ places. places ≤ 38) }
+        ensures is { result
+            ≡ Arguments.with_both self n (Arguments.name_of name.now) value.now }
+        ensures few { IfOk result (λ s. IfSome s.places (λ places. places ≤ 38)) }
+    {
+        match name_of(name) {
+            None => Err(UsageError::Unknown(n)),
+            Some(name) => {
+                if self.is_set(name) {
+                    Err(UsageError::Twice(n))
+                } else {
+                    self.with_value(name, n, value)
+                }
+            }
+        }
+    }
+
+    /// With argument `n`, where an option may be.
+    fn by_equals(self, n: usize, word: &[u8]) -> Result<Settings, UsageError>
+        requires { IfSome self.places (λ places. places ≤ 38) }
+        ensures is { result ≡ Arguments.by_equals self n word.now
+            (position (λ byte. byte == 61) word.now) }
+        ensures few { IfOk result (λ s. IfSome s.places (λ places. places ≤ 38)) }
+    {
+        match find(word, b'=') {
+            None => self.with_name(n, word),
+            Some(at) => self.with_both(n, &word[..at], &word[at + 1..]),
+        }
+    }
+
     /// With argument `n`.
     #[tactic(auto, unfolding(crate::specs::Arguments::with_word))]
     fn with_word(self, n: usize, word: &[u8]) -> Result<Settings, UsageError>
@@ -189,7 +229,7 @@ impl Settings {
         ensures few { IfOk result (λ s. IfSome s.places (λ places. places ≤ 38)) }
     {
         match self.awaits {
-            None => self.with_name(n, word),
+            None => self.by_equals(n, word),
             Some(name) => self.with_value(name, n, word),
         }
     }
@@ -254,6 +294,9 @@ impl Settings {
         if self.awaits.is_some() {
             return Err(UsageError::NoValue(n));
         }
+        if self.help {
+            return Ok(Request::Help);
+        }
         match self.column() {
             Ok(column) => self.request(column),
             Err(error) => Err(error),
@@ -276,16 +319,89 @@ pub fn read_arguments(words: &[&[u8]]) -> Result<Request, UsageError>
     settings.asks(words.len())
 }
 
-/// The line of a fault of the arguments.
-pub fn usage_line<A: Allocator>(alloc: &A, error: UsageError) -> Result<String<&A>, AllocError>
-    ensures { IfOk result (λ text. string_bytes text ≡ Arguments.usage_line error) }
+/// What is wrong with argument `n`, which is quoted.
+fn wrong_word<'a, A: Allocator>(
+    alloc: &'a A,
+    words: &[&[u8]],
+    n: usize,
+    what: &str,
+) -> Result<Vec<u8, &'a A>, AllocError>
+    ensures { IfOk result (λ text. text.items
+        ≡ Arguments.wrong_word (map (λ word. word.now) words.now) n what.now) }
+{
+    let front = format!(in alloc; "error: argument {n}, `")?;
+    let end = format!(in alloc; "`, {what}\n")?;
+    let mut text = Vec::new(alloc);
+    text.extend_from_slice(front.as_bytes())?;
+    text.extend_from_slice(word_at(words, n))?;
+    text.extend_from_slice(end.as_bytes())?;
+    Ok(text)
+}
+
+/// Argument `n`.
+fn word_at<'a>(words: &[&'a [u8]], n: usize) -> &'a [u8]
+    ensures { result.now ≡ Arguments.word_at (map (λ word. word.now) words.now) n }
+{
+    match words.get(n.saturating_sub(1)) {
+        Some(word) => word,
+        None => &[],
+    }
+}
+
+/// A text as bytes.
+fn bytes_of<'a, A: Allocator>(alloc: &'a A, text: &str) -> Result<Vec<u8, &'a A>, AllocError>
+    ensures { IfOk result (λ bytes. bytes.items ≡ text.now) }
+{
+    let mut bytes = Vec::new(alloc);
+    bytes.extend_from_slice(text.as_bytes())?;
+    Ok(bytes)
+}
+
+/// What is wrong with the arguments.
+fn usage_error<'a, A: Allocator>(
+    alloc: &'a A,
+    words: &[&[u8]],
+    error: UsageError,
+) -> Result<Vec<u8, &'a A>, AllocError>
+    ensures { IfOk result (λ text. text.items
+        ≡ Arguments.usage_error (map (λ word. word.now) words.now) error) }
 {
     match error {
-        UsageError::Unknown(n) => format!(in alloc; "error: argument {n} is no option\n"),
-        UsageError::Twice(n) => format!(in alloc; "error: argument {n} was given before\n"),
-        UsageError::NoValue(n) => format!(in alloc; "error: argument {n} has no value\n"),
-        UsageError::BadValue(n) => format!(in alloc; "error: argument {n} is no such value\n"),
-        UsageError::NoColumn => String::from_str(alloc, "error: a separator without a column\n"),
-        UsageError::FloatPlaces => String::from_str(alloc, "error: floats with places\n"),
+        UsageError::Unknown(n) => wrong_word(alloc, words, n, "is no option"),
+        UsageError::Twice(n) => wrong_word(alloc, words, n, "was given before"),
+        UsageError::NoValue(n) => wrong_word(alloc, words, n, "has no value"),
+        UsageError::BadValue(n) => wrong_word(alloc, words, n, "is no such value"),
+        UsageError::NoColumn => bytes_of(alloc, "error: a separator without a column\n"),
+        UsageError::FloatPlaces => bytes_of(alloc, "error: floats with places\n"),
     }
+}
+
+/// What is allowed.
+#[tactic(auto, unfolding(crate::specs::Arguments::usage))]
+fn usage() -> &'static str
+    ensures { result.now ≡ Arguments.usage }
+{
+    "usage: digit_sum [--column N [--separator C]] [--places N | --floats] [--underscores] [--help]\n"
+}
+
+/// What is written for `--help`.
+#[tactic(auto, unfolding(crate::specs::Arguments::help))]
+pub fn help() -> &'static str
+    ensures { result.now ≡ Arguments.help }
+{
+    "usage: digit_sum [--column N [--separator C]] [--places N | --floats] [--underscores] [--help]\nAdds up the numbers of its input, one a line.\n  --column N     the number is in column N, from 1, and not the whole line\n  --separator C  the byte between two columns, \\t for a tab; otherwise a comma\n  --places N     decimal numbers of at most N places, 0 to 38; otherwise integers\n  --floats       floats: each number and each sum is the nearest one\n  --underscores  one _ may be between two digits\n  --help         this text, and no sum\n"
+}
+
+/// The lines of a fault of the arguments: what is wrong, and what is allowed.
+pub fn usage_line<'a, A: Allocator>(
+    alloc: &'a A,
+    words: &[&[u8]],
+    error: UsageError,
+) -> Result<Vec<u8, &'a A>, AllocError>
+    ensures { IfOk result (λ text. text.items
+        ≡ Arguments.usage_line (map (λ word. word.now) words.now) error) }
+{
+    let mut text = usage_error(alloc, words, error)?;
+    text.extend_from_slice(usage().as_bytes())?;
+    Ok(text)
 }

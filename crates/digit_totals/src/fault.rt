@@ -14,6 +14,8 @@ use std::io::ErrorKind;
 pub enum NumberError {
     /// The line has no such column.
     Missing,
+    /// This column, or one before it, begins with a quote: a separator may be in quotes.
+    Quoted(usize),
     /// It is no integer of 128 bits.
     Integer(ParseError),
     /// It is no decimal number of 128 bits with the places of the run.
@@ -30,7 +32,7 @@ impl NumberError {
         ensures { result ≡ Errors.later by self }
     {
         match self {
-            NumberError::Missing => self,
+            NumberError::Missing | NumberError::Quoted(_) => self,
             NumberError::Integer(error) => NumberError::Integer(match error {
                 ParseError::Empty(at) => ParseError::Empty(by + at),
                 ParseError::Invalid(at) => ParseError::Invalid(by + at),

@@ -4,15 +4,13 @@ ghost use Rattle.std.specs.Prelude.{◌≡◌, ◌≢◌, ◌<◌, ◌≤◌, �
 ghost use Rattle.std.specs.Io.KnownBytes.{Consumes, IsAtEnd};
 ghost use Rattle.std.specs.declared.io.ErrorKind.TheVariants.{Interrupted};
 ghost use Rattle.digit_totals.specs.Lines.{lines_of};
-ghost use Rattle.digit_totals.specs.Totals.{most_bytes, with_lines, LeavesRest, EndsIn};
 ghost use Rattle.digit_totals.specs.Outcome.{Sums, of_lines};
-ghost use Rattle.digit_totals.specs.Value.{HasFewPlaces};
+ghost use Rattle.digit_totals.specs.Report.{most_bytes, with_lines, LeavesRest, EndsIn};
 
+use super::adds::Adds;
 use super::fault::{Fault, LineFault};
 use super::field::find;
-use super::lines::{add_line, add_lines};
-use super::options::Options;
-use super::totals::Totals;
+use super::lines::add_lines;
 use std::io::{ErrorKind, Read};
 
 /// The length of the buffer: a line has fewer bytes.
@@ -54,51 +52,52 @@ pub fn keep(buffer: &mut [u8], start: usize, end: usize)
 }
 
 /// Adds the last line, which has no line feed, if there is one.
-fn add_last(options: Options, totals: Totals, text: &[u8]) -> Result<Totals, LineFault>
-    requires few { HasFewPlaces options.kind }
+fn add_last<K: Adds>(options: K, totals: K::Totals, text: &[u8]) -> Result<K::Totals, LineFault>
+    requires valid { K.valid options }
     requires short { length text.now ≤ most_bytes }
     requires whole { All (λ byte. byte ≢ 10) text.now }
-    requires room { totals.count < 2 ^ 127 }
-    ensures { result ≡ with_lines options totals (lines_of text.now) }
+    requires room { (K.adding options).count_of totals < 2 ^ 127 }
+    ensures { result ≡ with_lines (K.adding options) totals (lines_of text.now) }
 {
     if text.is_empty() {
         Ok(totals)
     } else {
-        add_line(options, totals, text)
+        options.add_line(totals, text)
     }
 }
 
 /// Totals, and how many bytes at the front of the buffer are of no line among them.
 #[derive(Clone, Copy)]
-struct Kept {
-    totals: Totals,
+struct Kept<T: Copy> {
+    totals: T,
     filled: usize,
 }
 
 /// Adds the whole lines of the first `end` bytes of the buffer, of which the first `filled` have no
 /// line feed, and moves the others to its front. A line that comes in many pieces is not read again
 /// at each of them.
-fn add_piece(
-    options: Options,
-    totals: Totals,
+fn add_piece<K: Adds>(
+    options: K,
+    totals: K::Totals,
     buffer: &mut [u8],
     filled: usize,
     end: usize,
-) -> Result<Kept, LineFault>
-    requires few { HasFewPlaces options.kind }
+) -> Result<Kept<K::Totals>, LineFault>
+    requires valid { K.valid options }
     requires order { filled ≤ end }
     requires within { end ≤ length buffer.old }
     requires short { length buffer.old ≤ most_bytes + 1 }
-    requires room { totals.count + end ≤ 2 ^ 127 }
+    requires room { (K.adding options).count_of totals + end ≤ 2 ^ 127 }
     requires whole { All (λ byte. byte ≢ 10) (take filled buffer.old) }
-    ensures rest { IfOk result (λ kept. LeavesRest options totals (take end buffer.old)
-        kept.totals (take kept.filled buffer.new)) }
+    ensures rest { IfOk result (λ kept. LeavesRest (K.adding options) totals
+        (take end buffer.old) kept.totals (take kept.filled buffer.new)) }
     ensures whole { IfOk result (λ kept.
         All (λ byte. byte ≢ 10) (take kept.filled buffer.new)) }
     ensures within { IfOk result (λ kept. kept.filled ≤ end) }
-    ensures room { IfOk result (λ kept. kept.totals.count + kept.filled ≤ totals.count + end) }
+    ensures room { IfOk result (λ kept. (K.adding options).count_of kept.totals + kept.filled
+        ≤ (K.adding options).count_of totals + end) }
     ensures length { length buffer.new ≡ length buffer.old }
-    ensures fault { IfErr result (λ fault. EndsIn options totals (take end buffer.old) fault) }
+    ensures fault { IfErr result (EndsIn (K.adding options) totals (take end buffer.old)) }
 {
     if find(&buffer[filled..end], b'\n').is_none() {
         return Ok(Kept {
@@ -119,7 +118,7 @@ fn add_piece(
 }
 
 /// The answer of lines as that of a run.
-fn of_lines(added: Result<Totals, LineFault>) -> Result<Totals, Fault>
+fn of_lines<T: Copy>(added: Result<T, LineFault>) -> Result<T, Fault>
     ensures { result ≡ of_lines added }
 {
     match added {
@@ -129,13 +128,13 @@ fn of_lines(added: Result<Totals, LineFault>) -> Result<Totals, Fault>
 }
 
 /// The totals of the numbers of an input, a piece at a time.
-pub fn sum_input<R: Read>(options: Options, reader: &mut R) -> Result<Totals, Fault>
-    requires { HasFewPlaces options.kind }
-    ensures is { Sums options (R.remaining reader.old) result }
+pub fn sum_input<K: Adds, R: Read>(options: K, reader: &mut R) -> Result<K::Totals, Fault>
+    requires { K.valid options }
+    ensures is { Sums (K.adding options) (R.remaining reader.old) result }
     ensures end { OnOk result (IsAtEnd (R.remaining reader.new)) }
 {
     let mut buffer = [0; SIZE];
-    let mut totals = Totals::new();
+    let mut totals = options.none();
     let mut filled = 0;
     for _ in 0..u64::MAX {
         let count = match fill(reader, &mut buffer, filled) {
@@ -153,7 +152,7 @@ pub fn sum_input<R: Read>(options: Options, reader: &mut R) -> Result<Totals, Fa
             Err(fault) => return Err(Fault::Line(fault)),
         }
         if filled == SIZE {
-            return Err(Fault::Line(LineFault::LongLine(totals.count + 1)));
+            return Err(Fault::Line(LineFault::LongLine(options.count_of(totals) + 1)));
         }
     }
     Err(Fault::Read(ErrorKind::TimedOut))

@@ -43,4 +43,6 @@ pub enum Request {
     Exact(Options),
     /// A sum of floats.
     Floats(FloatOptions),
+    /// No sum, but what may be asked for.
+    Help,
 }

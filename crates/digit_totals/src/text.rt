@@ -1,15 +1,17 @@
 //! What is written: the totals, or why there are none.
 
-ghost use Rattle.std.specs.Prelude.{◌≡◌, ◌<◌, ◌≤◌, ◌^◌, ◌++◌, ◌-◌, replicate, IfOk, OnOk, string_bytes};
+ghost use Rattle.std.specs.Prelude.{◌≡◌, ◌<◌, ◌≤◌, ◌^◌, ◌++◌, ◌-◌, replicate, ⊤, IfOk, IfErr, IsTrue, OnOk, string_bytes};
 ghost use Rattle.digit_totals.specs.Text as Text;
 ghost use Rattle.digit_totals.specs.Value.{HasFewPlaces};
 
 use super::error_kind::words_of;
 use super::fault::{Fault, LineFault, NumberError};
 use super::options::{Column, Kind};
-use super::totals::Totals;
+use super::totals::{FloatTotals, Totals};
+use digit_floats::Float;
 use std::alloc::{AllocError, Allocator};
 use std::io::ErrorKind;
+use std::num::f64_to_bits_with_nan;
 
 /// Adds `count` zeros to a text.
 fn push_zeros<A: Allocator>(text: &mut String<A>, count: usize) -> Result<(), AllocError>
@@ -139,12 +141,60 @@ pub fn line_of<A: Allocator>(
     Ok(line)
 }
 
+/// Whether two floats are the same, with their signs.
+fn is_same(x: f64, y: f64) -> bool
+    ensures { IsTrue result → x ≡ y }
+{
+    f64_to_bits_with_nan(x) == f64_to_bits_with_nan(y)
+}
+
+/// The text of a float. It is tested that its float is read from it: std states no more of it.
+fn float_text<A: Allocator>(alloc: &A, value: f64) -> Result<String<&A>, Fault>
+    ensures is { IfOk result (λ text. Text.IsTextOf value (string_bytes text)) }
+    ensures fault { IfErr result (Text.IsLack ⊤) }
+{
+    let text = format!(in alloc; "{value}")?;
+    match f64::of_text(text.as_str()) {
+        Some(read) if is_same(read, value) => Ok(text),
+        _ => Err(Fault::Text),
+    }
+}
+
+/// The least or the greatest of some floats; of none a `-`.
+fn text_of_some<A: Allocator>(alloc: &A, count: u128, value: f64) -> Result<String<&A>, Fault>
+    ensures is { IfOk result (λ text. Text.IsTextOfSome count value (string_bytes text)) }
+    ensures fault { IfErr result (Text.IsLack ⊤) }
+{
+    if count == 0 {
+        Ok(String::from_str(alloc, "-")?)
+    } else {
+        float_text(alloc, value)
+    }
+}
+
+/// The line of the totals.
+pub fn float_line<A: Allocator>(alloc: &A, totals: FloatTotals) -> Result<String<&A>, Fault>
+    ensures is { IfOk result (λ line. Text.IsFloatLineOf totals (string_bytes line)) }
+    ensures fault { IfErr result (Text.IsLack ⊤) }
+{
+    let sum = float_text(alloc, totals.sum)?;
+    let least = text_of_some(alloc, totals.count, totals.least)?;
+    let greatest = text_of_some(alloc, totals.count, totals.greatest)?;
+    let mut line = count_and_sum(alloc, totals.count, sum.as_str())?;
+    let end = extremes(alloc, least.as_str(), greatest.as_str())?;
+    line.push_str(end.as_str())?;
+    Ok(line)
+}
+
 /// What is wrong with a line.
 fn message<A: Allocator>(alloc: &A, error: NumberError) -> Result<String<&A>, AllocError>
     ensures { IfOk result (λ text. string_bytes text ≡ Text.message error) }
 {
     match error {
         NumberError::Missing => String::from_str(alloc, "there is no such column"),
+        NumberError::Quoted(column) => {
+            format!(in alloc; "column {column} begins with a quote, and no quotes are read")
+        }
         NumberError::Integer(error) => format!(in alloc; "{error}"),
         NumberError::Decimal(error) => format!(in alloc; "{error}"),
         NumberError::Float(error) => format!(in alloc; "{error}"),

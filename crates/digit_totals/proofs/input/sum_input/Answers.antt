@@ -1,15 +1,25 @@
-use Rattle.std.proofs.Common.{◌≡◌, ◌<◌, ◌∙◌, length, take, drop, Ok, arith, ap, subst, sym}
+use Rattle.std.proofs.Common.{◌≡◌, ◌≢◌, All, replicate, [], ◌<◌, ◌∙◌, length, take, drop, Ok, arith, ap, subst, sym, rules}
 use Rattle.std.proofs.lemmas.List.{length-take-le}
 use Rattle.std.specs.Io.KnownBytes.{Consumes}
 use Rattle.digit_totals.specs.Outcome.{Sums}
 use Rattle.digit_totals.specs.Lines.{lines_of}
-use Rattle.digit_totals.specs.Totals.{with_lines}
-use Rattle.digit_totals.proofs.Pieces.{read_on, add_on, sums_end, faults, long_line, joined}
+use Rattle.digit_totals.specs.Report.{with_lines}
+use Rattle.digit_totals.proofs.Pieces.{at_start, read_on, add_on, sums_end, faults, long_line, joined}
 use Rattle.digit_totals.proofs.input.sum_input.Goals as goal
+
+pub loop-init : goal.loop-init
+loop-init g c = record {
+  continues = at_start (g.K.Adds.adding c.args.options) (g.R.Read.remaining c.args.reader.now)
+      c.none-totals.result c.none-totals.ensures.is;
+  whole = search rules;
+  room = omega arith;
+  same_length = search rules;
+  count = omega (arith, c.none-totals.ensures.count);
+}
 
 pub returns-in-Err-add_piece-clause-is : goal.returns-in-Err-add_piece-clause-is
 returns-in-Err-add_piece-clause-is g c =
-    let o = c.args.options in
+    let o = g.K.Adds.adding c.args.options in
     let remaining = g.R.Read.remaining in
     let more = read_on o (remaining c.args.reader.now) (remaining c.loop.reader)
     (remaining c.fill.new.reader) (take c.loop.filled c.loop.buffer) _ _ c.loop.totals
@@ -20,7 +30,7 @@ returns-in-Err-add_piece-clause-is g c =
 
 pub returns-then-filled-eq-SIZE-clause-is : goal.returns-then-filled-eq-SIZE-clause-is
 returns-then-filled-eq-SIZE-clause-is g c =
-    let o = c.args.options in
+    let o = g.K.Adds.adding c.args.options in
     let remaining = g.R.Read.remaining in
     let kept = c.in-Ok-add_piece.kept in
     let buffer = c.add_piece.new.buffer in
@@ -42,12 +52,12 @@ returns-then-filled-eq-SIZE-clause-is g c =
       )),
       c.if-filled-eq-SIZE.true,
     ) in
-    long_line o (remaining c.args.reader.now) (remaining c.fill.new.reader)
-    (take kept.filled buffer) kept.totals after long c.in-Ok-add_piece.ensures.whole
+    rw c.count_of.ensures (long_line o (remaining c.args.reader.now) (remaining c.fill.new.reader)
+    (take kept.filled buffer) kept.totals after long c.in-Ok-add_piece.ensures.whole)
 
 pub loop-preserved : goal.loop-preserved
 loop-preserved g c =
-    let o = c.args.options in
+    let o = g.K.Adds.adding c.args.options in
     let remaining = g.R.Read.remaining in
     let kept = c.in-Ok-add_piece.kept in
     let buffer = c.add_piece.new.buffer in
@@ -81,7 +91,7 @@ loop-preserved g c =
 
 pub returns-then-count-eq0-clause-is : goal.returns-then-count-eq0-clause-is
 returns-then-count-eq0-clause-is g c =
-    let o = c.args.options in
+    let o = g.K.Adds.adding c.args.options in
     let remaining = g.R.Read.remaining in
     let none = c.if-count-eq0.true in
     let buffer = c.fill.new.buffer in

@@ -5,10 +5,10 @@ use Rattle.digit_totals.proofs.input.sum_input.Given as goal
 
 abbrev pub invariant-loop : goal.invariant-loop
 invariant-loop g l = record {
-  continues : Continues l.options (g.R.Read.remaining l.initial.reader)
+  continues : Continues (g.K.Adds.adding l.options) (g.R.Read.remaining l.initial.reader)
       (g.R.Read.remaining l.reader) (take l.filled l.buffer) l.totals;
   whole : All (λ byte. byte ≢ 10) (take l.filled l.buffer);
   room : l.filled < 65536;
   same_length : length l.buffer ≡ 65536;
-  count : l.totals.count + l.filled ≤ l.counter * 65536;
+  count : (g.K.Adds.adding l.options).count_of l.totals + l.filled ≤ l.counter * 65536;
 }

@@ -58,7 +58,7 @@ fn totals_are_written(rt: HostRuntime) {
 }
 
 /// The arguments of rows, the text, what is told, and the status.
-static FAULTS: [(&[&[u8]], &[u8], &[u8], u8); 11] = [
+static FAULTS: [(&[&[u8]], &[u8], &[u8], u8); 9] = [
     (
         &[b"--floats"],
         b"1\n2x\n",
@@ -97,6 +97,12 @@ static FAULTS: [(&[&[u8]], &[u8], &[u8], u8); 11] = [
     ),
     (
         &[b"--floats", b"--column", b"2"],
+        b"\"a,1.5\",2\n",
+        b"error: line 1, column 2: column 1 begins with a quote, and no quotes are read\n",
+        3,
+    ),
+    (
+        &[b"--floats", b"--column", b"2"],
         b"a,1e\n",
         b"error: line 1, column 2: the exponent has no digit at 4\n",
         3,
@@ -113,24 +119,6 @@ static FAULTS: [(&[&[u8]], &[u8], &[u8], u8); 11] = [
         b"1_5\n",
         b"error: line 1, column 2: there is no digit before 1\n",
         3,
-    ),
-    (
-        &[b"--floats", b"--places", b"2"],
-        b"1\n",
-        b"error: floats with places\n",
-        2,
-    ),
-    (
-        &[b"--places", b"2", b"--floats"],
-        b"1\n",
-        b"error: floats with places\n",
-        2,
-    ),
-    (
-        &[b"--floats", b"--floats"],
-        b"1\n",
-        b"error: argument 2 was given before\n",
-        2,
     ),
 ];
 

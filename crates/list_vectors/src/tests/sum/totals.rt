@@ -2,10 +2,11 @@
 
 use super::streams::{ScriptedReader, Turn, Turns};
 use super::{Outcome, run_of, run_over};
-use std::alloc::Global;
+use std::alloc::{AllocError, Global};
+use std::test::Fail;
 
 /// The arguments of rows, the text, and what is written.
-static TOTALS: [(&[&[u8]], &[u8], &[u8]); 17] = [
+static TOTALS: [(&[&[u8]], &[u8], &[u8]); 21] = [
     (&[], b"", b"count=0 sum=0 min=- max=-\n"),
     (&[], b"7", b"count=1 sum=7 min=7 max=7\n"),
     (&[], b"1\n-2\n+3\n", b"count=3 sum=2 min=-2 max=3\n"),
@@ -48,8 +49,13 @@ static TOTALS: [(&[&[u8]], &[u8], &[u8]); 17] = [
         b"count=2 sum=-2 min=-5 max=3\n",
     ),
     (
+        &[b"--column", b"1"],
+        b"8,\"x,y\"\n",
+        b"count=1 sum=8 min=8 max=8\n",
+    ),
+    (
         &[b"--column", b"2"],
-        b"\"a,3,b\",1\n",
+        b"5\",3\n",
         b"count=1 sum=3 min=3 max=3\n",
     ),
     (
@@ -61,6 +67,21 @@ static TOTALS: [(&[&[u8]], &[u8], &[u8]); 17] = [
         &[b"--separator", b"\t", b"--column", b"3"],
         b"a\tb\t6\n",
         b"count=1 sum=6 min=6 max=6\n",
+    ),
+    (
+        &[b"--separator", b"\\t", b"--column=3"],
+        b"a\tb\t6\n",
+        b"count=1 sum=6 min=6 max=6\n",
+    ),
+    (
+        &[b"--column=1", b"--separator=="],
+        b"5=x\n",
+        b"count=1 sum=5 min=5 max=5\n",
+    ),
+    (
+        &[b"--places=2"],
+        b" 1.25\r\n\t-2.50 \n",
+        b"count=2 sum=-1.25 min=-2.50 max=1.25\n",
     ),
     (
         &[
@@ -85,7 +106,7 @@ fn totals_are_written(rt: HostRuntime) {
 }
 
 /// The arguments of rows, the text, what is told, and the status.
-static FAULTS: [(&[&[u8]], &[u8], &[u8], u8); 24] = [
+static FAULTS: [(&[&[u8]], &[u8], &[u8], u8); 20] = [
     (
         &[],
         b"1\n\n2\n",
@@ -138,7 +159,31 @@ static FAULTS: [(&[&[u8]], &[u8], &[u8], u8); 24] = [
     (
         &[b"--column", b"1"],
         b"\"3\",4\n",
-        b"error: line 1, column 1: the byte at 0 is no part of an integer\n",
+        b"error: line 1, column 1: column 1 begins with a quote, and no quotes are read\n",
+        3,
+    ),
+    (
+        &[b"--column", b"2"],
+        b"\"a,3,b\",1\n",
+        b"error: line 1, column 2: column 1 begins with a quote, and no quotes are read\n",
+        3,
+    ),
+    (
+        &[b"--column", b"3"],
+        b"1,2,3\nx, \"a,3\",4\n",
+        b"error: line 2, column 3: column 2 begins with a quote, and no quotes are read\n",
+        3,
+    ),
+    (
+        &[b"--column", b"2"],
+        b"\"a\n",
+        b"error: line 1, column 2: column 1 begins with a quote, and no quotes are read\n",
+        3,
+    ),
+    (
+        &[],
+        b"\"3\"\n",
+        b"error: line 1: the byte at 0 is no part of an integer\n",
         3,
     ),
     (
@@ -185,54 +230,6 @@ static FAULTS: [(&[&[u8]], &[u8], &[u8], u8); 24] = [
         b"error: line 1: the digit at 4 is after the last place\n",
         3,
     ),
-    (
-        &[b"--float"],
-        b"1\n",
-        b"error: argument 1 is no option\n",
-        2,
-    ),
-    (
-        &[b"--column"],
-        b"1\n",
-        b"error: argument 1 has no value\n",
-        2,
-    ),
-    (
-        &[b"--column", b"0"],
-        b"1\n",
-        b"error: argument 2 is no such value\n",
-        2,
-    ),
-    (
-        &[b"--places", b"39"],
-        b"1\n",
-        b"error: argument 2 is no such value\n",
-        2,
-    ),
-    (
-        &[b"--separator", b"ab"],
-        b"1\n",
-        b"error: argument 2 is no such value\n",
-        2,
-    ),
-    (
-        &[b"--separator", b"\n"],
-        b"1\n",
-        b"error: argument 2 is no such value\n",
-        2,
-    ),
-    (
-        &[b"--underscores", b"--underscores"],
-        b"1\n",
-        b"error: argument 2 was given before\n",
-        2,
-    ),
-    (
-        &[b"--separator", b";"],
-        b"1\n",
-        b"error: a separator without a column\n",
-        2,
-    ),
 ];
 
 #[test]
@@ -240,6 +237,186 @@ fn faults_are_told(rt: HostRuntime) {
     for (words, input, text, status) in &FAULTS {
         assert!(rt; run_of(rt.alloc(), words, input).is(b"", text, *status));
     }
+}
+
+/// What is allowed, which follows each fault of the arguments.
+const USAGE: &[u8] =
+    b"usage: digit_sum [--column N [--separator C]] [--places N | --floats] [--underscores] [--help]\n";
+
+/// The arguments of rows that ask for nothing, and what is told of them before [`USAGE`].
+static NO_REQUESTS: [(&[&[u8]], &[u8]); 17] = [
+    (
+        &[b"--float"],
+        b"error: argument 1, `--float`, is no option\n",
+    ),
+    (
+        &[b"--floats", b"numbers.txt"],
+        b"error: argument 2, `numbers.txt`, is no option\n",
+    ),
+    (&[b""], b"error: argument 1, ``, is no option\n"),
+    (
+        &[b"--col=1"],
+        b"error: argument 1, `--col=1`, is no option\n",
+    ),
+    (
+        &[b"--column"],
+        b"error: argument 1, `--column`, has no value\n",
+    ),
+    (
+        &[b"--column", b"0"],
+        b"error: argument 2, `0`, is no such value\n",
+    ),
+    (
+        &[b"--column=0"],
+        b"error: argument 1, `--column=0`, is no such value\n",
+    ),
+    (
+        &[b"--floats=1"],
+        b"error: argument 1, `--floats=1`, is no such value\n",
+    ),
+    (
+        &[b"--places", b"39"],
+        b"error: argument 2, `39`, is no such value\n",
+    ),
+    (
+        &[b"--separator", b"ab"],
+        b"error: argument 2, `ab`, is no such value\n",
+    ),
+    (
+        &[b"--separator", b"\n"],
+        b"error: argument 2, `\n`, is no such value\n",
+    ),
+    (
+        &[b"--underscores", b"--underscores"],
+        b"error: argument 2, `--underscores`, was given before\n",
+    ),
+    (
+        &[b"--column=2", b"--column", b"2"],
+        b"error: argument 2, `--column`, was given before\n",
+    ),
+    (
+        &[b"--separator", b";"],
+        b"error: a separator without a column\n",
+    ),
+    (
+        &[b"--floats", b"--places", b"2"],
+        b"error: floats with places\n",
+    ),
+    (
+        &[b"--places", b"2", b"--floats"],
+        b"error: floats with places\n",
+    ),
+    (
+        &[b"--floats", b"--floats"],
+        b"error: argument 2, `--floats`, was given before\n",
+    ),
+];
+
+#[test]
+fn an_unknown_argument_is_quoted(rt: HostRuntime) -> Result<(), Fail> {
+    for (words, text) in &NO_REQUESTS {
+        let mut told = Vec::new(rt.alloc());
+        told.extend_from_slice(text)?;
+        told.extend_from_slice(USAGE)?;
+        assert!(rt; run_of(rt.alloc(), words, b"1\n").is(b"", told.as_slice(), 2));
+    }
+    Ok(())
+}
+
+#[test]
+fn help_is_written(rt: HostRuntime) {
+    let outcome = run_of(rt.alloc(), &[b"--column", b"2", b"--help"], b"x\n");
+    assert!(rt; outcome.written.as_slice().starts_with(USAGE));
+    assert!(rt; outcome.told.is_empty() && outcome.status == 0);
+}
+
+/// So many times a line, a line in the middle, and those again.
+fn many_lines(alloc: Global, line: &[u8], middle: &[u8]) -> Result<Vec<u8>, AllocError> {
+    let mut text = Vec::new(alloc);
+    for _ in 0..3000 {
+        text.extend_from_slice(line)?;
+    }
+    text.extend_from_slice(middle)?;
+    for _ in 0..3000 {
+        text.extend_from_slice(line)?;
+    }
+    Ok(text)
+}
+
+/// A line of many, the one in their middle, what is written or told, and the status.
+static MANY: [(&[u8], &[u8], &[u8], &[u8], u8); 9] = [
+    (
+        b"1234567\n",
+        b"",
+        b"count=6000 sum=7407402000 min=1234567 max=1234567\n",
+        b"",
+        0,
+    ),
+    (
+        b" -1234567\r\n",
+        b"+5\n",
+        b"count=6001 sum=-7407401995 min=-1234567 max=5\n",
+        b"",
+        0,
+    ),
+    (
+        b"1\n",
+        b"10000000000000000000\n",
+        b"count=6001 sum=10000000000000006000 min=1 max=10000000000000000000\n",
+        b"",
+        0,
+    ),
+    (
+        b"-9223372036854775808\n",
+        b"9223372036854775807\n",
+        b"count=6001 sum=-55331008849091800072193 min=-9223372036854775808 max=9223372036854775807\n",
+        b"",
+        0,
+    ),
+    (
+        b"12\n",
+        b"1x\n",
+        b"",
+        b"error: line 3001: the byte at 1 is no part of an integer\n",
+        3,
+    ),
+    (
+        b"12\n",
+        b"\n",
+        b"",
+        b"error: line 3001: there is no digit at 0\n",
+        3,
+    ),
+    (
+        b"12\n",
+        b"12",
+        b"count=6000 sum=73200 min=12 max=1212\n",
+        b"",
+        0,
+    ),
+    (
+        b"3\n",
+        b"170141183460469231731687303715884096000\n",
+        b"",
+        b"error: line 3244: the sum leaves 128 bits\n",
+        4,
+    ),
+    (
+        b"1\r",
+        b"",
+        b"",
+        b"error: line 1: the byte at 2 is no part of an integer\n",
+        3,
+    ),
+];
+
+#[test]
+fn many_lines_are_added(rt: HostRuntime) -> Result<(), Fail> {
+    for (line, middle, written, told, status) in &MANY {
+        let text = many_lines(rt.alloc(), line, middle)?;
+        assert!(rt; run_of(rt.alloc(), &[], text.as_slice()).is(written, told, *status));
+    }
+    Ok(())
 }
 
 /// Sixty bytes, of which the last line has no line feed.

@@ -1,9 +1,0 @@
-use Rattle.std.proofs.Common.{◌∙◌, sym, arith}
-use Rattle.digit_totals.proofs.FloatAdding.{last_added}
-use Rattle.digit_totals.proofs.floats.input.add_last.Goals as goal
-
-pub returns-else-is_empty : goal.returns-else-is_empty
-returns-else-is_empty c =
-    c.add_float.ensures.is
-    ∙ sym (last_added c.args.options c.args.totals c.args.text.now
-    (grind (arith, c.if-is_empty.ensures, c.if-is_empty.false)) c.requires.short c.requires.whole)
