@@ -12,8 +12,8 @@ ghost use Rattle.digit_literals.specs.Numbers.{number_at};
 use super::LiteralError;
 use super::bytes::{BLANKS, accepts};
 use super::ends::{is_by_ends, read_by_ends};
-use super::number::Integer;
-use super::one::{Integers, ReadsOne};
+use super::number::{Integer, read_number_from};
+use super::one::ReadsOne;
 use lexical_digits::ops::ByteSet;
 
 /// What is between two numbers of a list: one separator, with any blanks around it.
@@ -237,24 +237,26 @@ impl Gap {
 /// don't pay for.
 const MANY: usize = 64;
 
-/// Reads the numbers of a list from `begin` on one by one. `from` are in the slice.
+/// Reads the integers of a list from `begin` on one by one. `from` are in the slice. It has the
+/// loop of [`read_list_with`] once more, only for speed: over [`Integers`](crate::Integers) that
+/// takes some 5 instructions more a number, and 88 a call.
 #[inline(always)]
 #[tactic(auto, using(crate::proofs::Lists::turns))]
-fn read_rest<R: ReadsOne>(
-    reads: R,
+fn read_rest<T: Integer>(
     text: &[u8],
     begin: usize,
+    word: u128,
     gap: Gap,
-    out: &mut [R::Number],
+    out: &mut [T],
     from: usize,
-) -> ListRead<R::Error>
-    requires valid { R.valid reads }
+) -> ListRead<LiteralError>
+    requires supported { IsTrue (is_supported word) }
     requires within { begin ≤ length text.now }
     requires room { from ≤ length out.old }
-    ensures fills { let one = R.number_at reads text.now in
-        (start : ℕ) (old : List R.Number)
-        → SoFar R.meaning one R.none_at gap text.now start from begin old out.old
-        → Fills R.meaning (list_at one R.none_at gap text.now (length old) start) result old
+    ensures fills { let one = number_at T.MIN_MAGNITUDE T.MAX (rule_of word Integer) text.now in
+        (start : ℕ) (old : List T)
+        → SoFar T.number one literal_none_at gap text.now start from begin old out.old
+        → Fills T.number (list_at one literal_none_at gap text.now (length old) start) result old
         out.new }
     ensures count { result.count ≤ length out.old }
     ensures full { IfFull result.end (λ at. (begin ≤ at) × (at ≤ length text.now)) }
@@ -263,6 +265,55 @@ fn read_rest<R: ReadsOne>(
 {
     let mut at = begin;
     for count in from..out.len() {
+        let place = gap.past_blanks(text, at);
+        let (value, end) = match read_number_from::<T>(text, word, place) {
+            Ok(read) => read,
+            Err(error) => {
+                let end = gap.no_number(place, error.is_none_at(place), error);
+                return ListRead { count, end };
+            }
+        };
+        out[count] = value;
+        match gap.next_after(text, end) {
+            Ok(next) => at = next,
+            Err(over) => {
+                return ListRead {
+                    count: count + 1,
+                    end: ListEnd::Over(over),
+                };
+            }
+        }
+    }
+    ListRead {
+        count: out.len(),
+        end: ListEnd::Full(at),
+    }
+}
+
+/// The numbers from `start` on, read into a slice: each as `reads` reads it, with what `gap` says
+/// between two of them. Every list over a slice but [`read_list`] is a call of it, and ends as that
+/// does. It is for the crates above this one. Requires that `reads` is valid and `start` is within
+/// the text.
+#[inline(always)]
+#[tactic(auto, using(crate::proofs::Lists::turns))]
+pub fn read_list_with<R: ReadsOne>(
+    reads: R,
+    text: &[u8],
+    start: usize,
+    gap: Gap,
+    out: &mut [R::Number],
+) -> ListRead<R::Error>
+    requires valid { R.valid reads }
+    requires within { start ≤ length text.now }
+    ensures is { let list = list_at (R.number_at reads text.now) R.none_at gap text.now
+        (length out.old) start in
+        Fills R.meaning list result out.old out.new }
+    ensures count { result.count ≤ length out.old }
+    ensures full { IfFull result.end (λ at. (start ≤ at) × (at ≤ length text.now)) }
+    ensures over { IfOver result.end (λ at. (start ≤ at) × (at ≤ length text.now)) }
+{
+    let mut at = start;
+    for count in 0..out.len() {
         let place = gap.past_blanks(text, at);
         let (number, end) = match reads.read_number(text, place) {
             Ok(read) => read,
@@ -286,29 +337,6 @@ fn read_rest<R: ReadsOne>(
         count: out.len(),
         end: ListEnd::Full(at),
     }
-}
-
-/// The numbers from `start` on, read into a slice: each as `reads` reads it, with what `gap` says
-/// between two of them. Every list over a slice is a call of it, and ends as [`read_list`] says. It
-/// is for the crates above this one. Requires that `reads` is valid and `start` is within the text.
-#[inline(always)]
-pub fn read_list_with<R: ReadsOne>(
-    reads: R,
-    text: &[u8],
-    start: usize,
-    gap: Gap,
-    out: &mut [R::Number],
-) -> ListRead<R::Error>
-    requires valid { R.valid reads }
-    requires within { start ≤ length text.now }
-    ensures is { let list = list_at (R.number_at reads text.now) R.none_at gap text.now
-        (length out.old) start in
-        Fills R.meaning list result out.old out.new }
-    ensures count { result.count ≤ length out.old }
-    ensures full { IfFull result.end (λ at. (start ≤ at) × (at ≤ length text.now)) }
-    ensures over { IfOver result.end (λ at. (start ≤ at) × (at ≤ length text.now)) }
-{
-    read_rest(reads, text, start, gap, out, 0)
 }
 
 /// The numbers of a type from `start` on, read into a slice: each as by [`read_number_from`], with
@@ -359,5 +387,5 @@ pub fn read_list<T: Integer>(
             Err(read) => return read,
         }
     }
-    read_rest(Integers::<T>::new(word), text, at, gap, out, from)
+    read_rest(text, at, word, gap, out, from)
 }

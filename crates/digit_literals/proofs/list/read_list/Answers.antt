@@ -22,4 +22,4 @@ returns-clause-is g c =
           (turns_begin t.number one literal_none_at c.args.gap c.args.text.now c.args.start
           c.args.out.now)
     ] in
-    (rw c.new.ensures at c.read_rest.ensures.fills) c.args.start c.args.out.now so
+    c.read_rest.ensures.fills c.args.start c.args.out.now so
