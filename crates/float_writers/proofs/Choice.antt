@@ -1,9 +1,9 @@
 -- The decimal that is chosen on the grid.
-use Rattle.std.proofs.Common.{◌≡◌, ℕ, suc, ◌+◌, ◌-◌, ◌*◌, ◌/◌, ◌%◌, ◌^◌, ◌<◌, ◌≤◌, Bool, true, false, refl, true≢false, sym, ap, subst, ◌∙◌, ◌⊎◌, inl, inr, arith, mul-le-mul_right}
+use Rattle.std.proofs.Common.{◌≡◌, ℕ, suc, ◌+◌, ◌-◌, ◌*◌, ◌/◌, ◌%◌, ◌^◌, ◌<◌, ◌≤◌, Bool, true, false, refl, true≢false, sym, ap, subst, ◌∙◌, ◌⊎◌, inl, inr, arith, mul-le-mul_right, mul-le-mul_left}
 use Rattle.std.specs.Int.{abs_diff}
 use Rattle.std.proofs.lemmas.Bool.{cases_lt}
 use Rattle.std.proofs.lemmas.Bool.Decides.{nat_tests}
-use native.Mathlib.Nat.{mul-pos, eq_of_mul-eq-mul_right}
+use native.Mathlib.Nat.{le_of_mul-le-mul_right, mul-pos, eq_of_mul-eq-mul_right}
 use lib.Dec.{ltb→lt}
 use lib.Pow.{pow-add, pow_pos, pow_mono}
 use lib.Ieee.{Float, Format, binary32, binary64, prec, low, emax}
@@ -279,6 +279,30 @@ module _ (f : Format) (x : Float) (parts : Parts) (is : IsParts f x parts) (p : 
 
     is_odd : even ≡ false → m % 2 ≡ 0 → ⊥
     is_odd h z = let e : even ≡ true = grind (arith, nat_tests, even_is, z) in true≢false (sym e ∙ h)
+
+    -- at most seventeen digits
+    pub few_digits : whole + 1 < 10 ^ 17
+    few_digits =
+        let a : (c + 2) * (whole * s) ≤ (c + 2) * (m * g) = mul-le-mul_left (c + 2) at_low in
+        let b : (c + 2) * (m * g) ≡ m * ((c + 2) * g) = grind arith in
+        let d : m * ((c + 2) * g) ≤ m * (40 * s) =
+        mul-le-mul_left m (omega (arith, sound.narrow)) in
+        let e : m * (40 * s) ≡ m * 40 * s = grind arith in
+        let h : (c + 2) * (whole * s) ≡ (c + 2) * whole * s = grind arith in
+        let most : (c + 2) * whole ≤ m * 40 =
+        le_of_mul-le-mul_right {k = s} (omega (arith, a, b, d, e, h)) some_step in
+        elim mode [
+          | inl r ↦
+              let four : (c + 2) * whole ≡ 4 * whole =
+              ap (λ z. (z + 2) * whole) r.0 in
+              omega (arith, most, four, few)
+          | inr e ↦
+              let three : (c + 2) * whole ≡ 3 * whole =
+              ap (λ z. (z + 2) * whole) e.0.0 in
+              let hidden : 2 ^ (prec f - 1) ≤ 2 ^ 52 =
+              pow_mono {i = prec f - 1} {j = 52} (omega (arith, digits_few f)) in
+              omega (arith, most, three, e.1.0, hidden)
+        ]
 
     -- ten steps
     ten_low : tens * (10 * s) ≤ m * g

@@ -2,8 +2,9 @@
 use Rattle.std.proofs.Common.{◌≡◌, ℕ, zero, suc, ◌+◌, ◌-◌, ◌*◌, ◌%◌, ◌^◌, ◌<◌, ◌≤◌, Bool, true, false, cond, T, ltb, refl, sym, ap, subst, ◌∙◌, ◌⊎◌, inl, inr, arith}
 use Rattle.std.specs.Int.{abs_diff}
 use mathlib.Core.Bool.{not}
-use lib.Dec.{ltb→lt, nltb→le}
-use Rattle.std.specs.Prelude.{ℤ, pos, negsuc, ◌-ℤ◌}
+use lib.Signed.{le_z_yes}
+use lib.Dec.{le→leb, ltb→lt, nltb→le}
+use Rattle.std.specs.Prelude.{ℤ, pos, negsuc, ◌-ℤ◌, ◌≤ℤ◌}
 use native.Mathlib.Nat.{mul-one, eq_of_mul-eq-mul_right, lt_of_mul-lt-mul_right, mul-lt-mul_of_pos_right, pow-suc}
 use Rattle.std.proofs.lemmas.Bool.{cases_lt}
 use lib.Ieee.{Float, Format, round}
@@ -156,3 +157,15 @@ places_at up z is = ap places_of is ∙ by (ltb up 324) (ltb→lt up 324) (nltb�
         → places_of (cond b (negsuc (324 - suc up)) (pos (up - 324))) ≡ 324 - up
     by true under over = omega (arith, under tt)
     by false under over = omega (arith, over tt)
+
+pub range_at : (up : ℕ) (z : ℤ) → z ≡ pos up -ℤ pos 324 → up < 634
+    → (negsuc 323 ≤ℤ z) × (z ≤ℤ pos 309)
+range_at up z is few =
+    subst (λ y. (negsuc 323 ≤ℤ y) × (y ≤ℤ pos 309)) (sym is)
+    (by (ltb up 324) (ltb→lt up 324))
+  where
+    by : (b : Bool) → (T b → up < 324)
+        → (negsuc 323 ≤ℤ cond b (negsuc (324 - suc up)) (pos (up - 324)))
+        × (cond b (negsuc (324 - suc up)) (pos (up - 324)) ≤ℤ pos 309)
+    by true under = (le_z_yes (le→leb _ _ (omega (arith, under tt))), le_z_yes tt)
+    by false under = (le_z_yes tt, le_z_yes (le→leb _ _ (omega (arith, few))))

@@ -1,8 +1,8 @@
 -- Zeros at the end of digits.
 use Rattle.std.proofs.Common.{◌≡◌, ℕ, suc, ◌+◌, ◌-◌, ◌*◌, ◌/◌, ◌%◌, ◌^◌, ◌<◌, ◌≤◌, sym, ap, ◌∙◌, inl, inr, arith, mul-le-mul_right}
 use Rattle.std.proofs.lemmas.Bool.{cases_lt}
-use native.Mathlib.Nat.{pow-suc, div-add-mod'}
-use Rattle.float_writers.proofs.Fewest.{tens_le, joined}
+use native.Mathlib.Nat.{pow-suc, div-add-mod', le-mul_of_pos_right}
+use Rattle.float_writers.proofs.Fewest.{ten_pos, tens_le, joined}
 
 -- with one zero less
 pub one_less : (left up power digits : ℕ) → left % 10 ≡ 0 → power ≤ up → left * 10 ^ (up - power) ≡ digits
@@ -16,14 +16,14 @@ one_less left up power digits ends onward value =
     turn : (a b : ℕ) → a * (b * 10) ≡ a * 10 * b
     turn a b = grind arith
 
--- a number of 64 binary digits has at most 19
-pub few_zeros : (left up power digits : ℕ) → 0 < left → power ≤ up → left * 10 ^ (up - power) ≡ digits → digits < 2 ^ 64
-    → up < power + 20
+-- a number of at most seventeen digits has at most sixteen
+pub few_zeros : (left up power digits : ℕ) → 0 < left → power ≤ up → left * 10 ^ (up - power) ≡ digits → digits < 10 ^ 17
+    → up < power + 17
 few_zeros left up power digits some onward value few =
-    elim (cases_lt up (power + 20)) [
+    elim (cases_lt up (power + 17)) [
       | inl l ↦ l
       | inr more ↦
-          let a : 10 ^ 20 ≤ 10 ^ (up - power) = tens_le 20 (up - power) (omega (arith, more)) in
+          let a : 10 ^ 17 ≤ 10 ^ (up - power) = tens_le 17 (up - power) (omega (arith, more)) in
           let b : 1 * 10 ^ (up - power) ≤ left * 10 ^ (up - power) = mul-le-mul_right (10 ^ (up - power)) some in
           absurd (omega (arith, a, b, value, few))
     ]
@@ -44,3 +44,7 @@ pub chained : (first second third a b c : ℕ) → a ≤ b → b ≤ c → secon
 chained first second third a b c l h p q =
     ap (λ z. third * 10 ^ z) {x = c - a} {y = c - b + (b - a)} (omega (arith, l, h)) ∙ sym (joined third (c - b) (b - a))
     ∙ ap (λ z. z * 10 ^ (b - a)) q ∙ p
+
+-- no more digits are left
+pub few_left : (left j digits : ℕ) → left * 10 ^ j ≡ digits → digits < 10 ^ 17 → left < 10 ^ 17
+few_left left j digits value few = omega (arith, value, few, le-mul_of_pos_right left (ten_pos j))

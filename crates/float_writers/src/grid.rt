@@ -169,6 +169,7 @@ pub fn digits_of(parts: Parts) -> (u64, u64)
     requires exponent { parts.exponent < 2046 }
     ensures shortest { (f : Format) (x : Float) → IsParts f x parts
         → IsShortestAt f x result.0 result.1 }
+    ensures few { (f : Format) (x : Float) → IsParts f x parts → result.0 < 10 ^ 17 }
     ensures power { result.1 ≤ 617 }
 {
     let place = place_of(parts);
