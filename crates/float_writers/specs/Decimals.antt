@@ -52,6 +52,8 @@ pub record IsShortestAt (f : Format) (x : Float) (digits p : ℕ) : Type 0 where
       → ReadsAt f x e up down → e < 10 ^ n → c < 10 ^ n
   pub none_better : (c z e up down n : ℕ) → digits ≡ c * 10 ^ z → (c % 10 ≡ 0 → ⊥)
       → ReadsAt f x e up down → e < 10 ^ n → 10 ^ n ≤ c * 10
-      → (far_of x (digits * 10 ^ (p - 324)) (324 - p) * 10 ^ down < far_of x (e * 10 ^ up) down * 10 ^ (324 - p))
-      ⊎ ((far_of x (digits * 10 ^ (p - 324)) (324 - p) * 10 ^ down ≡ far_of x (e * 10 ^ up) down * 10 ^ (324 - p))
+      → (far_of x (digits * 10 ^ (p - 324)) (324 - p) * 10 ^ down < far_of x (e * 10 ^ up)
+      down * 10 ^ (324 - p))
+      ⊎ ((far_of x (digits * 10 ^ (p - 324)) (324 - p) * 10 ^ down ≡ far_of x (e * 10 ^ up)
+      down * 10 ^ (324 - p))
       × ((e ≡ c) ⊎ (c % 2 ≡ 0)))

@@ -6,8 +6,10 @@ use Rattle.float_writers.proofs.decimal.shortest.Goals as goal
 pub without_zeros-left-requires-clause-digits : goal.without_zeros-left-requires-clause-digits
 without_zeros-left-requires-clause-digits g c =
     let f = g.F.Float.format in
-    let x = g.F.Float.value c.args.x in
-    ((c.digits_of-digits.ensures.shortest f x c.parts-parts.ensures).some, c.digits_of-digits.ensures.few f x c.parts-parts.ensures)
+    let x = g.F.Float.value c.args.x in (
+      (c.digits_of-digits.ensures.shortest f x c.parts-parts.ensures).some,
+      c.digits_of-digits.ensures.few f x c.parts-parts.ensures,
+    )
 
 pub returns-clause-reads : goal.returns-clause-reads
 returns-clause-reads g c =
