@@ -1,4 +1,5 @@
--- Of the numbers of a convex set: those with the fewest digits, and of these the closest to a number.
+-- Of the numbers of a convex set: those with the fewest digits, and of these the closest to a
+-- number.
 use Rattle.std.proofs.Common.{◌≡◌, ℕ, zero, suc, ◌+◌, ◌-◌, ◌*◌, ◌%◌, ◌^◌, ◌<◌, ◌≤◌, sym, ap, subst, ◌∙◌, ◌⊎◌, inl, inr, arith, mul-le-mul_right, mul-le-mul_left, le_trans}
 use Rattle.std.specs.Int.{abs_diff}
 use Rattle.std.proofs.Math.Nat.{pow-le-pow_right, one-le-pow, mul-mod_left, eq_of_mul-eq-mul_right, le-mul_of_pos_right}
@@ -56,7 +57,8 @@ same_digits d z e c n odd same few as_many =
           absurd (omega (arith, is, few, as_many, mul-le-mul_left d ten))
     ]
 
--- the number a is nearer to x than b, or as near and either the same digits or with an even last one
+-- the number a is nearer to x than b, or as near and either the same digits or with an even last
+-- one
 abbrev pub IsBest : ℕ → ℕ → ℕ → ℕ → ℕ → Type 0
 IsBest x a d b e =
     (abs_diff a x < abs_diff b x) ⊎ ((abs_diff a x ≡ abs_diff b x) × ((e ≡ d) ⊎ (d % 2 ≡ 0)))
@@ -107,8 +109,8 @@ module _ (R : ℕ → Type 0) (convex : (a b c : ℕ) → a ≤ b → b ≤ c �
           | inl l ↦ l
           | inr many ↦ elim (cases_lt b q) [
             | inl fine ↦
-                let T = power_between q d z e b n D E (below_power q e b n few (omega (arith, fine)))
-                many in
+                let less = below_power q e b n few (omega (arith, fine)) in
+                let T = power_between q d z e b n D E less many in
                 let same : d * 10 ^ z ≡ 1 * 10 ^ n = one _ _ D T ∙ sym (one-mul (10 ^ n)) in
                 let small : d ≤ 1 = coarse d z 1 n odd same in
                 absurd (omega (arith, some e b E, small, many, few))
@@ -122,7 +124,8 @@ module _ (R : ℕ → Type 0) (convex : (a b c : ℕ) → a ≤ b → b ≤ c �
     pub closest_of_one : (x l q d z e b n : ℕ) → 0 < l
         → ((s t : ℕ) → R (s * 10 ^ suc q) → R (t * 10 ^ suc q) → s ≡ t)
         → (R (1 * 10 ^ suc q) → 19 * (10 ^ q * l) < 2 * x)
-        → R (d * 10 ^ z * 10 ^ suc q) → ¬ (d % 10 ≡ 0) → R (e * 10 ^ b) → e < 10 ^ n → 10 ^ n ≤ d * 10
+        → R (d * 10 ^ z * 10 ^ suc q) → ¬ (d % 10 ≡ 0) → R (e * 10 ^ b) → e < 10 ^ n
+        → 10 ^ n ≤ d * 10
         → IsBest x (d * 10 ^ z * 10 ^ suc q * l) d (e * 10 ^ b * l) e
     closest_of_one x l q d z e b zero L one first D odd E few as_many =
         absurd (omega (arith, some e b E, few))
@@ -140,7 +143,8 @@ module _ (R : ℕ → Type 0) (convex : (a b c : ℕ) → a ≤ b → b ≤ c �
           | inl fine ↦
               let ten : 10 ^ suc n ≡ 10 ^ n * 10 = pow-suc 10 n in
               let many : 10 ^ n ≤ d = omega (arith, ten, as_many) in
-              let T = power_between (suc q) d z e b n D E (below_finer (suc q) e b n few fine) many in
+              let under = below_finer (suc q) e b n few fine in
+              let T = power_between (suc q) d z e b n D E under many in
               let same : d * 10 ^ z ≡ 10 ^ n = one _ _ D T in
               let small : d ≤ 1 = coarse d z 1 n odd (same ∙ sym (one-mul (10 ^ n))) in
               let unit : d ≡ 1 = omega (arith, small, many, ten_pos n) in
@@ -164,7 +168,8 @@ module _ (R : ℕ → Type 0) (convex : (a b c : ℕ) → a ≤ b → b ≤ c �
         turn : (y l : ℕ) → 1 * (10 * y) * l ≡ 10 * (y * l)
         turn y l = grind arith
 
-        nearer : (y b x : ℕ) → 0 < y → b ≤ 9 * y → 19 * y < 2 * x → abs_diff (10 * y) x < abs_diff b x
+        nearer : (y b x : ℕ) → 0 < y → b ≤ 9 * y → 19 * y < 2 * x
+            → abs_diff (10 * y) x < abs_diff b x
         nearer y b x Y few near = omega (arith, Y, few, near)
 
     -- ---- none is, but a multiple of a tenth of it
@@ -230,7 +235,8 @@ module _ (R : ℕ → Type 0) (convex : (a b c : ℕ) → a ≤ b → b ≤ c �
                       mul-lt-mul_of_pos_right (omega (arith, less, flat)) L in
                       let of_one = subst (λ y. IsBest x (d * 10 ^ p * l) d (y * l) 1)
                       (one-mul (10 ^ p)) (near 1 one) in
-                      inl (farther (d * 10 ^ p * l) (10 ^ p * l) (e * 10 ^ b * l) of_one under least)
+                      inl
+                      (farther (d * 10 ^ p * l) (10 ^ p * l) (e * 10 ^ b * l) of_one under least)
                 ]
           ]
         ]

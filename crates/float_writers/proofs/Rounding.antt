@@ -109,14 +109,14 @@ one_near a b u n U p q = omega (arith, near_below a b u n U p q, near_below b a 
 
 -- ---- which numbers read as a float
 
--- of m times the gap 2 ^ k the numbers read that are c quarters of it below: two, but one at a power
--- of two, below which the gap is half as wide
+-- of m times the gap 2 ^ k the numbers read that are c quarters of it below: two, but one at a
+-- power of two, below which the gap is half as wide
 abbrev pub IsMode : ℕ → ℕ → ℕ → ℕ → Type 0
 IsMode c hidden m k =
     ((c ≡ 2) × (0 < k → hidden < m)) ⊎ (((c ≡ 1) × (m % 2 ≡ 0)) × ((m ≡ hidden) × (0 < k)))
 
--- the number y is at most c quarters of the gap g below m * g, or two above it, and at just that m is
--- even
+-- the number y is at most c quarters of the gap g below m * g, or two above it, and at just that m
+-- is even
 pub record IsInside (c m g y : ℕ) : Type 0 where
   pub low : 4 * (m * g) ≤ 4 * y + c * g
   pub high : 4 * y ≤ 4 * (m * g) + 2 * g

@@ -56,3 +56,6 @@ chained first second third a b c l h p q =
 -- no more digits are left
 pub few_left : (left j digits : ℕ) → left * 10 ^ j ≡ digits → digits < 10 ^ 17 → left < 10 ^ 17
 few_left left j digits value few = omega (arith, value, few, le-mul_of_pos_right left (ten_pos j))
+
+-- what `without_zeros` promises
+pub ruleset zeros = (one_less, few_zeros, few_left)

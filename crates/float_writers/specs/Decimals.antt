@@ -37,14 +37,16 @@ IsNearer x d other = far x d * 10 ^ places_of other.power < far x other * 10 ^ p
 abbrev pub IsAsNear : Float → Decimal → Decimal → Type 0
 IsAsNear x d other = far x d * 10 ^ places_of other.power ≡ far x other * 10 ^ places_of d.power
 
--- one decimal has no more digits than another: it is below each power of ten that the other is below
+-- one decimal has no more digits than another: it is below each power of ten that the other is
+-- below
 abbrev pub HasNoMoreDigits : Decimal → Decimal → Type 0
 HasNoMoreDigits d other = (n : ℕ) → other.digits < 10 ^ n → d.digits < 10 ^ n
 
 -- ---- while zeros may stand at the end of the digits, and the power of ten is p - 324
 
--- digits * 10 ^ (p - 324) reads as x. Without the zeros at their end they are no more digits than any
--- that do, and of those with as many none is nearer, nor as near but for others if the last is even.
+-- digits * 10 ^ (p - 324) reads as x. Without the zeros at their end they are no more digits than
+-- any that do, and of those with as many none is nearer, nor as near but for others if the last is
+-- even.
 pub record IsShortestAt (f : Format) (x : Float) (digits p : ℕ) : Type 0 where
   pub some : 0 < digits
   pub reads : ReadsAt f x digits (p - 324) (324 - p)

@@ -16,7 +16,8 @@ pub struct Decimal {
     pub power: i32,
 }
 
-/// The digits without so many zeros at their end, if they have them, and the power of ten with them.
+/// The digits without so many zeros at their end, if they have them, and the power of ten with
+/// them.
 #[inline(always)]
 #[tactic(auto, using(crate::proofs::Zeros::some_less))]
 fn strip(digits: u64, power: u64, tens: u64, zeros: u64) -> (u64, u64)
@@ -36,7 +37,6 @@ fn strip(digits: u64, power: u64, tens: u64, zeros: u64) -> (u64, u64)
 
 /// The digits without up to fourteen zeros at their end.
 #[inline(always)]
-#[tactic(auto, using(crate::proofs::Zeros::chained))]
 fn without_most_zeros(digits: u64, power: u64) -> (u64, u64)
     requires digits { 0 < digits }
     requires power { power ≤ 617 }
@@ -51,7 +51,7 @@ fn without_most_zeros(digits: u64, power: u64) -> (u64, u64)
 
 /// The digits without the zeros at their end, and the power of ten with them.
 #[inline(always)]
-#[tactic(auto, using(crate::proofs::Zeros::one_less, crate::proofs::Zeros::few_zeros, crate::proofs::Zeros::few_left))]
+#[tactic(auto, using(crate::proofs::Zeros::zeros))]
 fn without_zeros(digits: u64, power: u64) -> (u64, u64)
     requires digits { (0 < digits) × (digits < 10 ^ 17) }
     requires power { power ≤ 617 }

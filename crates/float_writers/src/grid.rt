@@ -69,8 +69,8 @@ struct Place {
     /// The whole steps, and the rest in 2 ^ 128ths of a step.
     whole: u64,
     rest: u128,
-    /// Half the gap to the next float, and how far a number below the float may be that reads as it,
-    /// both in 2 ^ 124ths of a step.
+    /// Half the gap to the next float, and how far a number below the float may be that reads as
+    /// it, both in 2 ^ 124ths of a step.
     half: u128,
     reach: u128,
 }
@@ -96,8 +96,8 @@ fn reach_of(half: u128, edge: bool) -> u128
     if edge { half / 2 } else { half }
 }
 
-/// The power of ten of the steps, plus 324: a step is a tenth of the gap up to all of it, at a power of
-/// two up to three quarters.
+/// The power of ten of the steps, plus 324: a step is a tenth of the gap up to all of it, at a
+/// power of two up to three quarters.
 #[inline(always)]
 fn power_for(exponent: u64, edge: bool) -> u64
     requires { exponent < 2046 }
