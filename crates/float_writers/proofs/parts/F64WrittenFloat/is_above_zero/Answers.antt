@@ -1,4 +1,4 @@
-use Rattle.std.proofs.Common.{◌≡◌, true, false, true≢false, sym, ap, ◌∙◌}
+use Rattle.std.proofs.Common.{true≢false, sym, ap, ◌∙◌}
 use lib.Ieee.{lt, binary64}
 use Rattle.float_writers.proofs.Fields.{above_yes, above_no, zero_bits}
 use Rattle.float_writers.proofs.parts.F64WrittenFloat.is_above_zero.Goals as goal
