@@ -14,7 +14,8 @@ AreApart g s m n = (m * g ≡ n * s) ⊎ (s ≤ abs_diff (m * g) (n * s) * 2 ^ 6
 -- ---- distances
 
 -- x is above y by r / q
-apart_by : (q x y r s : ℕ) → 0 < q → q ≤ 2 ^ 64 → x * q ≡ y * q + r → s ≤ r → s ≤ abs_diff x y * 2 ^ 64
+apart_by : (q x y r s : ℕ) → 0 < q → q ≤ 2 ^ 64 → x * q ≡ y * q + r → s ≤ r
+    → s ≤ abs_diff x y * 2 ^ 64
 apart_by q x y r s Q few is enough =
     let below : y ≤ x = le_of_mul-le-mul_right {k = q} (omega (arith, is)) Q in
     let d = x - y in
@@ -23,12 +24,14 @@ apart_by q x y r s Q few is enough =
     let most : d * q ≤ d * 2 ^ 64 = mul-le-mul_left d few in
     omega (arith, is, enough, sum, parts, most)
 
-swapped : (x y s : ℕ) → (x ≡ y) ⊎ (s ≤ abs_diff x y * 2 ^ 64) → (y ≡ x) ⊎ (s ≤ abs_diff y x * 2 ^ 64)
+swapped : (x y s : ℕ) → (x ≡ y) ⊎ (s ≤ abs_diff x y * 2 ^ 64) → (y ≡ x)
+    ⊎ (s ≤ abs_diff y x * 2 ^ 64)
 swapped x y s (inl e) = inl (sym e)
 swapped x y s (inr l) = inr (omega (arith, l))
 
 -- x is above y by a multiple of e
-of_multiple : (c e x y s : ℕ) → (e ≡ 0) ⊎ (s ≤ e * 2 ^ 64) → x ≡ y + c * e → (x ≡ y) ⊎ (s ≤ abs_diff x y * 2 ^ 64)
+of_multiple : (c e x y s : ℕ) → (e ≡ 0) ⊎ (s ≤ e * 2 ^ 64) → x ≡ y + c * e → (x ≡ y)
+    ⊎ (s ≤ abs_diff x y * 2 ^ 64)
 of_multiple zero e x y s far is = inl (omega (arith, is))
 of_multiple (suc c) e x y s (inl none) is = inl (rw (is, none) (omega arith))
 of_multiple (suc c) e x y s (inr far) is =
@@ -39,7 +42,8 @@ of_multiple (suc c) e x y s (inr far) is =
 
 module _ (g s p q t u e h : ℕ) (Q : 0 < q) (U : 0 < u) (neighbours : t * q ≡ p * u + 1)
     (low : p * s + e ≡ q * g) (high : u * g + h ≡ t * s)
-    (few : q ≤ 2 ^ 64) (few_ : u ≤ 2 ^ 64) (far : (e ≡ 0) ⊎ (s ≤ e * 2 ^ 64)) (far_ : (h ≡ 0) ⊎ (s ≤ h * 2 ^ 64)) where
+    (few : q ≤ 2 ^ 64) (few_ : u ≤ 2 ^ 64) (far : (e ≡ 0) ⊎ (s ≤ e * 2 ^ 64))
+    (far_ : (h ≡ 0) ⊎ (s ≤ h * 2 ^ 64)) where
   scaled : (m : ℕ) → t * m * q ≡ p * m * u + m
   scaled m =
       let i : t * m * q ≡ t * q * m = grind arith in
@@ -61,12 +65,15 @@ module _ (g s p q t u e h : ℕ) (Q : 0 < q) (U : 0 < u) (neighbours : t * q ≡
       let i : n * u * q ≡ p * m * u = swap n u q ∙ ap (λ z. z * u) flat in
       let up : n * u ≤ t * m = le_of_mul-le-mul_right {k = q} (omega (arith, i, scaled m)) Q in
       let c = t * m - n * u in
-      let sum : (c + n * u) * q ≡ t * m * q = ap (λ z. z * q) {x = c + n * u} {y = t * m} (omega (arith, up)) in
+      let sum : (c + n * u) * q ≡ t * m * q =
+      ap (λ z. z * q) {x = c + n * u} {y = t * m} (omega (arith, up)) in
       let parts : (c + n * u) * q ≡ c * q + n * u * q = grind arith in
       let whole : m ≡ c * q = omega (arith, sum, parts, i, scaled m) in
-      let count : n ≡ p * c = eq_of_mul-eq-mul_right q Q _ _ (flat ∙ ap (λ z. p * z) whole ∙ turn p c q) in
+      let count : n ≡ p * c =
+      eq_of_mul-eq-mul_right q Q _ _ (flat ∙ ap (λ z. p * z) whole ∙ turn p c q) in
       of_multiple c e (m * g) (n * s) s far
-      (ap (λ z. z * g) whole ∙ out c q g ∙ ap (λ z. c * z) (sym low) ∙ into c p s e ∙ ap (λ z. z * s + c * e) (sym count))
+      (ap (λ z. z * g) whole ∙ out c q g ∙ ap (λ z. c * z) (sym low) ∙ into c p s e
+      ∙ ap (λ z. z * s + c * e) (sym count))
     where
       swap : (n u q : ℕ) → n * u * q ≡ n * q * u
       swap n u q = grind arith
@@ -86,7 +93,8 @@ module _ (g s p q t u e h : ℕ) (Q : 0 < q) (U : 0 < u) (neighbours : t * q ≡
       let l : p * m * s ≡ (n * q + suc a) * s = ap (λ z. z * s) (sym is) in
       let o : m * (q * g) ≡ m * (p * s + e) = ap (λ z. m * z) (sym low) in
       let r : suc a * s ≡ a * s + s = grind arith in
-      inr (apart_by q (m * g) (n * s) (suc a * s + m * e) s Q few (omega (arith, i, j, k, l, o)) (omega (arith, r)))
+      inr (apart_by q (m * g) (n * s) (suc a * s + m * e) s Q few (omega (arith, i, j, k, l, o))
+      (omega (arith, r)))
 
   -- at the upper one, or above it
   above : (m n a : ℕ) → t * m + a ≡ n * u → AreApart g s m n
@@ -95,13 +103,16 @@ module _ (g s p q t u e h : ℕ) (Q : 0 < q) (U : 0 < u) (neighbours : t * q ≡
       let i : n * q * u ≡ t * m * q = swap n q u ∙ ap (λ z. z * q) flat in
       let up : p * m ≤ n * q = le_of_mul-le-mul_right {k = u} (omega (arith, i, scaled m)) U in
       let c = n * q - p * m in
-      let sum : (c + p * m) * u ≡ n * q * u = ap (λ z. z * u) {x = c + p * m} {y = n * q} (omega (arith, up)) in
+      let sum : (c + p * m) * u ≡ n * q * u =
+      ap (λ z. z * u) {x = c + p * m} {y = n * q} (omega (arith, up)) in
       let parts : (c + p * m) * u ≡ c * u + p * m * u = grind arith in
       let whole : m ≡ c * u = omega (arith, sum, parts, i, scaled m) in
-      let count : n ≡ t * c = eq_of_mul-eq-mul_right u U _ _ (flat ∙ ap (λ z. t * z) whole ∙ turn t c u) in
+      let count : n ≡ t * c =
+      eq_of_mul-eq-mul_right u U _ _ (flat ∙ ap (λ z. t * z) whole ∙ turn t c u) in
       swapped (n * s) (m * g) s
       (of_multiple c h (n * s) (m * g) s far_
-      (ap (λ z. z * s) count ∙ out t c s ∙ ap (λ z. c * z) (sym high) ∙ into c u g h ∙ ap (λ z. z * g + c * h) (sym whole)))
+      (ap (λ z. z * s) count ∙ out t c s ∙ ap (λ z. c * z) (sym high) ∙ into c u g h
+      ∙ ap (λ z. z * g + c * h) (sym whole)))
     where
       swap : (n u q : ℕ) → n * u * q ≡ n * q * u
       swap n u q = grind arith
@@ -122,7 +133,8 @@ module _ (g s p q t u e h : ℕ) (Q : 0 < q) (U : 0 < u) (neighbours : t * q ≡
       let j : m * (u * g + h) ≡ m * g * u + m * h = grind arith in
       let r : suc a * s ≡ a * s + s = grind arith in
       swapped (n * s) (m * g) s
-      (inr (apart_by u (n * s) (m * g) (suc a * s + m * h) s U few_ (omega (arith, i, j, k, l, o)) (omega (arith, r))))
+      (inr (apart_by u (n * s) (m * g) (suc a * s + m * h) s U few_ (omega (arith, i, j, k, l, o))
+      (omega (arith, r))))
 
   pub apart : (m n : ℕ) → m < q + u → AreApart g s m n
   apart m n less =
@@ -174,11 +186,13 @@ module _ (limit g s : ℕ) where
   of_far : (e : ℕ) → T (is_far s e) → (e ≡ 0) ⊎ (s ≤ e * 2 ^ 64)
   of_far e h = go (eqb e 0) (eqb→eq e 0) h
     where
-      go : (b : Bool) → (T b → e ≡ 0) → T (if b then true else leb s (e * 2 ^ 64)) → (e ≡ 0) ⊎ (s ≤ e * 2 ^ 64)
+      go : (b : Bool) → (T b → e ≡ 0) → T (if b then true else leb s (e * 2 ^ 64)) → (e ≡ 0)
+          ⊎ (s ≤ e * 2 ^ 64)
       go true is h = inl (is tt)
       go false is h = inr (leb→le s (e * 2 ^ 64) h)
 
-  of_test : (p q t u e h m n : ℕ) → T (are_apart limit g s p q t u e h) → m ≤ limit → AreApart g s m n
+  of_test : (p q t u e h m n : ℕ) → T (are_apart limit g s p q t u e h) → m ≤ limit
+      → AreApart g s m n
   of_test p q t u e h m n test few =
       let front = and_l _ _ test in
       let far = and_r _ _ test in
@@ -189,12 +203,14 @@ module _ (limit g s : ℕ) where
       let some = and_l _ _ shape in
       let both = and_l _ _ sizes in
       let wide : limit < q + u = ltb→lt _ _ (and_r _ _ sizes) in
-      apart g s p q t u e h (ltb→lt _ _ (and_l _ _ some)) (ltb→lt _ _ (and_r _ _ some)) (eqb→eq _ _ (and_r _ _ shape))
+      apart g s p q t u e h (ltb→lt _ _ (and_l _ _ some)) (ltb→lt _ _ (and_r _ _ some))
+      (eqb→eq _ _ (and_r _ _ shape))
       (eqb→eq _ _ (and_l _ _ sums)) (eqb→eq _ _ (and_r _ _ sums))
       (leb→le _ _ (and_l _ _ both)) (leb→le _ _ (and_r _ _ both))
       (of_far e (and_l _ _ far)) (of_far h (and_r _ _ far)) m n (omega (arith, few, wide))
 
-  of_search : (fuel : ℕ) (done : Bool) (p q t u e h m n : ℕ) → T (search fuel done limit g s p q t u e h) → m ≤ limit → AreApart g s m n
+  of_search : (fuel : ℕ) (done : Bool) (p q t u e h m n : ℕ)
+      → T (search fuel done limit g s p q t u e h) → m ≤ limit → AreApart g s m n
   of_search zero done p q t u e h m n test few = of_test p q t u e h m n test few
   of_search (suc fuel) true p q t u e h m n test few = of_test p q t u e h m n test few
   of_search (suc fuel) false p q t u e h m n test few = of_search fuel _ _ _ _ _ _ _ m n test few

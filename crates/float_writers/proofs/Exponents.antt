@@ -31,7 +31,8 @@ each_below : (quarters offset n k : ℕ) → T (are_sound quarters offset n) →
 each_below quarters offset zero k h l = absurd (omega arith)
 each_below quarters offset (suc n) k h l =
     elim (cases_lt k n) [
-      | inl a ↦ each_below quarters offset n k (and_r (is_sound quarters offset n (power_of n offset)) _ h) a
+      | inl a ↦ each_below quarters offset n k
+          (and_r (is_sound quarters offset n (power_of n offset)) _ h) a
       | inr a ↦
           let e : n ≡ k = omega arith in
           subst (λ x. T (is_sound quarters offset x (power_of x offset))) e (and_l _ _ h)

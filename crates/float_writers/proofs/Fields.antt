@@ -29,7 +29,8 @@ unfolding of_fields
 of_sign f zero t h = odd_sign (prec f) t 0 (low f) h
 of_sign f (suc x) t h = by (eqb (suc x) (ones f)) (eqb t 0) h
   where
-    by : (a b : Bool) → T (positive (cond a (cond b (inf true) nan) (odd (prec f) true (hid f + t) x (low f)))) → ⊥
+    by : (a b : Bool) → T
+        (positive (cond a (cond b (inf true) nan) (odd (prec f) true (hid f + t) x (low f)))) → ⊥
     by true true h = absurd h
     by true false h = absurd h
     by false b h = odd_sign (prec f) (hid f + t) x (low f) h
@@ -37,9 +38,12 @@ of_sign f (suc x) t h = by (eqb (suc x) (ones f)) (eqb t 0) h
 of_ones : (f : Format) (x t : ℕ) → T (positive (of_fields f false x t)) → x ≡ ones f → ⊥
 unfolding of_fields
 of_ones f zero t h e = absurd (omega arith)
-of_ones f (suc x) t h e = by (eqb (suc x) (ones f)) (eqb t 0) (subst (λ y. T (eqb (suc x) y)) e (eqb_refl (suc x))) h
+of_ones f (suc x) t h e =
+    by (eqb (suc x) (ones f)) (eqb t 0) (subst (λ y. T (eqb (suc x) y)) e (eqb_refl (suc x))) h
   where
-    by : (a b : Bool) → T a → T (positive (cond a (cond b (inf false) nan) (odd (prec f) false (hid f + t) x (low f)))) → ⊥
+    by : (a b : Bool) → T a
+        → T (positive (cond a (cond b (inf false) nan) (odd (prec f) false (hid f + t) x (low f))))
+        → ⊥
     by true true s h = absurd h
     by true false s h = absurd h
     by false b s h = absurd s
@@ -54,7 +58,8 @@ module _ (f : Format) (bits : ℕ) (above : IsAboveZero (of_bits f bits)) where
   unfolding of_bits
   few_bits = by (leb (top f) bits) (nleb→lt (top f) bits) above
     where
-      by : (s : Bool) → (T (not s) → bits < top f) → T (positive (of_fields f s (bits % top f / hid f) (bits % hid f))) → bits < top f
+      by : (s : Bool) → (T (not s) → bits < top f)
+          → T (positive (of_fields f s (bits % top f / hid f) (bits % hid f))) → bits < top f
       by true n h = absurd (of_sign f _ _ h)
       by false n h = n tt
 
@@ -75,9 +80,12 @@ module _ (f : Format) (bits : ℕ) (above : IsAboveZero (of_bits f bits)) where
   few_fields : field < ones f
   few_fields =
       let same : bits % top f ≡ bits = mod-eq_of_lt few_bits in
-      let less : field < suc (ones f) = (div-lt_iff_lt-mul (pow_pos (prec f - 1))).1 (omega (arith, few_bits, mul_comm (hid f) (suc (ones f)))) in
+      let less : field < suc (ones f) =
+      (div-lt_iff_lt-mul (pow_pos (prec f - 1))).1
+      (omega (arith, few_bits, mul_comm (hid f) (suc (ones f)))) in
       let other : field ≡ ones f → ⊥ = differs same in
-      elim (cases_lt field (ones f)) [ inl l ↦ l | inr more ↦ absurd (other (omega (arith, less, more))) ]
+      elim (cases_lt field (ones f))
+      [ inl l ↦ l | inr more ↦ absurd (other (omega (arith, less, more))) ]
 
   sum : field * hid f + digits ≡ bits
   sum = div-add-mod' bits (hid f)
@@ -87,7 +95,8 @@ module _ (f : Format) (bits : ℕ) (above : IsAboveZero (of_bits f bits)) where
 
   twice : 2 ^ prec f ≡ hid f * 2
   twice =
-      let e : prec f ≡ prec f - 1 + 1 = omega (arith, two f) in ap (λ z. 2 ^ z) e ∙ pow-add 2 (prec f - 1) 1
+      let e : prec f ≡ prec f - 1 + 1 = omega (arith, two f) in ap (λ z. 2 ^ z) e
+      ∙ pow-add 2 (prec f - 1) 1
 
   some_exponents : (f : Format) → 0 < 2 * emax f
   some_exponents binary32 = omega arith
@@ -99,7 +108,8 @@ module _ (f : Format) (bits : ℕ) (above : IsAboveZero (of_bits f bits)) where
       let start : first - (1074 - low f) ≡ 0 = omega (arith, at) in
       let e : 0 * hid f + digits ≡ bits = omega (arith, sum, ap (λ z. z * hid f) none) in
       let value : of_bits f bits ≡ units f false digits (first - (1074 - low f)) =
-      ap (of_bits f) (sym e) ∙ of_bits_is f digits 0 (omega (arith, small, twice)) (λ K. absurd (omega (arith, K))) (some_exponents f)
+      ap (of_bits f) (sym e) ∙ of_bits_is f digits 0 (omega (arith, small, twice))
+      (λ K. absurd (omega (arith, K))) (some_exponents f)
       ∙ ap (λ z. units f false digits z) (sym start) in
       record {
         is = value;
@@ -109,7 +119,8 @@ module _ (f : Format) (bits : ℕ) (above : IsAboveZero (of_bits f bits)) where
           | inr z ↦
               let d : digits ≡ 0 = omega (arith, z) in
               absurd (zero_units f (subst (λ y. T (positive (units f false y 0))) d
-              (subst (λ y. T (positive (units f false digits y))) start (subst (λ y. T (positive y)) value above))))
+              (subst (λ y. T (positive (units f false digits y))) start
+              (subst (λ y. T (positive y)) value above))))
         ];
         few = omega (arith, small, twice);
         finite = omega (arith, start, some_exponents f);
@@ -119,15 +130,18 @@ module _ (f : Format) (bits : ℕ) (above : IsAboveZero (of_bits f bits)) where
 
   pub of_some : (first : ℕ) (b : Bool) → 1074 - low f ≡ first → 0 < field
       → (b ≡ true → (digits ≡ 0) × (1 < field)) → (b ≡ false → 1 < field → 0 < digits)
-      → IsParts f (of_bits f bits) (record { significand = hid f + digits; exponent = first + (field - 1); edge = b })
+      → IsParts f (of_bits f bits)
+      (record { significand = hid f + digits; exponent = first + (field - 1); edge = b })
   of_some first b at more then_ else_ =
       let start : first + (field - 1) - (1074 - low f) ≡ field - 1 = omega (arith, at) in
       let parts : (field - 1 + 1) * hid f ≡ (field - 1) * hid f + hid f = grind arith in
-      let whole : (field - 1 + 1) * hid f ≡ field * hid f = ap (λ z. z * hid f) {x = field - 1 + 1} {y = field} (omega (arith, more)) in
+      let whole : (field - 1 + 1) * hid f ≡ field * hid f =
+      ap (λ z. z * hid f) {x = field - 1 + 1} {y = field} (omega (arith, more)) in
       let e : (field - 1) * hid f + (hid f + digits) ≡ bits = omega (arith, sum, parts, whole) in
       record {
         is =
-            ap (of_bits f) (sym e) ∙ of_bits_is f (hid f + digits) (field - 1) (omega (arith, small, twice)) (λ _. omega arith) (omega (arith, few_fields, more))
+            ap (of_bits f) (sym e) ∙ of_bits_is f (hid f + digits) (field - 1)
+            (omega (arith, small, twice)) (λ _. omega arith) (omega (arith, few_fields, more))
             ∙ ap (λ z. units f false (hid f + digits) z) (sym start);
         scale = omega (arith, at);
         some = omega (arith, pow_pos (prec f - 1));
@@ -160,8 +174,10 @@ above_no nan h = absurd h
 above_no (inf s) h = absurd h
 above_no (fin true m e) h = absurd h
 above_no (fin false m e) h =
-    let some : 0 < m * up e = mul-pos (ltb→lt 0 m h) (up_pos e) in
-    (is_true _ (lt→ltb (0 * down e) (m * up e * 1) (omega (arith, some, zero-mul (down e)))), λ i. true)
+    let some : 0 < m * up e = mul-pos (ltb→lt 0 m h) (up_pos e) in (
+      is_true _ (lt→ltb (0 * down e) (m * up e * 1) (omega (arith, some, zero-mul (down e)))),
+      λ i. true,
+    )
 
 pub zero_bits : (f : Format) → of_bits f 0 ≡ float_zero
 unfolding of_bits of_fields odd

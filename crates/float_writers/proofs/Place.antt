@@ -16,12 +16,14 @@ sound_at false k h = regular k h
 sixteen : (shift : ℕ) → shift ≤ 4 → 2 ^ shift ≤ 16
 sixteen shift few = pow_mono few
 
-pub factor : (m shift : ℕ) → m < 2 ^ 53 → shift ≤ 4 → (m * 2 ^ shift % 2 ^ 64 ≡ m * 2 ^ shift) × (m * 2 ^ shift < 2 ^ 57)
+pub factor : (m shift : ℕ) → m < 2 ^ 53 → shift ≤ 4 → (m * 2 ^ shift % 2 ^ 64 ≡ m * 2 ^ shift)
+    × (m * 2 ^ shift < 2 ^ 57)
 factor m shift few h =
     let a : m * 2 ^ shift ≤ m * 16 = mul-le-mul_left m (sixteen shift h) in
     (mod-eq_of_lt (omega (arith, a, few)), omega (arith, a, few))
 
-pub shifts : (b : Bool) (k p : ℕ) → k < 2046 → p ≡ power_of k (offset b) → (2146 < k + scale_of p) × (k + scale_of p ≤ 2150)
+pub shifts : (b : Bool) (k p : ℕ) → k < 2046 → p ≡ power_of k (offset b) → (2146 < k + scale_of p)
+    × (k + scale_of p ≤ 2150)
 shifts b k p h is =
     let s = sound_at b k h in
     subst (λ z. (2146 < k + scale_of z) × (k + scale_of z ≤ 2150)) (sym is) (s.shift, s.few_shifts)
@@ -29,7 +31,8 @@ shifts b k p h is =
 some_step : (p : ℕ) → 0 < step p
 some_step p = mul-pos (ten_pos (p - 324)) (pow_pos 1074)
 
-module _ (m k p t shift : ℕ) (few : m < 2 ^ 53) (row : IsRow p t) (sum : shift + 2146 ≡ k + scale_of p) (some : 0 < shift) (most : shift ≤ 4) where
+module _ (m k p t shift : ℕ) (few : m < 2 ^ 53) (row : IsRow p t)
+    (sum : shift + 2146 ≡ k + scale_of p) (some : 0 < shift) (most : shift ≤ 4) where
   pub is_placed : (whole rest : ℕ) → whole * 2 ^ 128 + rest ≡ m * 2 ^ shift * t → rest < 2 ^ 128
       → IsPlaced m (gap k p) (step p) whole rest
   is_placed whole rest product small =
@@ -41,9 +44,11 @@ module _ (m k p t shift : ℕ) (few : m < 2 ^ 53) (row : IsRow p t) (sum : shift
   is_half half low high =
       half_reach m (gap k p) (step p) t (2 ^ shift) (some_step p) few (sixteen shift most)
       (row_from k p t shift row sum) (row_below k p t shift row sum) half (2 ^ (5 - shift))
-      (sym (pow-add 2 (5 - shift) shift) ∙ ap (λ z. 2 ^ z) {x = 5 - shift + shift} {y = 5} (omega (arith, most))) low high
+      (sym (pow-add 2 (5 - shift) shift) ∙ ap (λ z. 2 ^ z) {x = 5 - shift + shift} {y = 5}
+      (omega (arith, most))) low high
 
-pub is_reach : (b : Bool) (g s half reach : ℕ) → IsReach 2 g s half → (b ≡ false → reach ≡ half) → (b ≡ true → reach ≡ half / 2)
+pub is_reach : (b : Bool) (g s half reach : ℕ) → IsReach 2 g s half → (b ≡ false → reach ≡ half)
+    → (b ≡ true → reach ≡ half / 2)
     → IsReach (quarters b) g s reach
 is_reach false g s half reach is same less = subst (λ z. IsReach 2 g s z) (sym (same refl)) is
 is_reach true g s half reach is same less =
@@ -52,6 +57,7 @@ is_reach true g s half reach is same less =
 pub half_few : (t shift : ℕ) → t < 2 ^ 128 → shift ≤ 4 → t / 2 ^ (5 - shift) < 2 ^ 127
 half_few t shift few most =
     let two_ : 2 ^ 1 ≤ 2 ^ (5 - shift) = pow_mono {i = 1} {j = 5 - shift} (omega (arith, most)) in
-    let a : t / 2 ^ (5 - shift) * 2 ^ 1 ≤ t / 2 ^ (5 - shift) * 2 ^ (5 - shift) = mul-le-mul_left (t / 2 ^ (5 - shift)) two_ in
+    let a : t / 2 ^ (5 - shift) * 2 ^ 1 ≤ t / 2 ^ (5 - shift) * 2 ^ (5 - shift) =
+    mul-le-mul_left (t / 2 ^ (5 - shift)) two_ in
     let b : t / 2 ^ (5 - shift) * 2 ^ (5 - shift) ≤ t = div-mul-le_self t (2 ^ (5 - shift)) in
     omega (arith, a, b, few)

@@ -96,7 +96,12 @@ near_below a b u n U p q =
           let parts : (b + 1) * u ≡ b * u + u = grind arith in
           let same : a * u ≡ (b + 1) * u = omega (arith, next, parts, p.most, q.least) in
           let up : a ≡ b + 1 = eq_of_mul-eq-mul_right u U a (b + 1) same in
-          absurd (omega (arith, up, p.tie_above (omega (arith, same, parts, q.least, next, p.most)), q.tie_below (omega (arith, same, parts, p.most, next, q.least))))
+          absurd (omega (
+            arith,
+            up,
+            p.tie_above (omega (arith, same, parts, q.least, next, p.most)),
+            q.tie_below (omega (arith, same, parts, p.most, next, q.least)),
+          ))
     ]
 
 one_near : (a b u n : ℕ) → 0 < u → IsNear a u n → IsNear b u n → a ≡ b
@@ -104,14 +109,14 @@ one_near a b u n U p q = omega (arith, near_below a b u n U p q, near_below b a 
 
 -- ---- which numbers read as a float
 
--- of m times the gap 2 ^ k the numbers read that are c quarters of it below: two, but one at a power
--- of two, below which the gap is half as wide
+-- of m times the gap 2 ^ k the numbers read that are c quarters of it below: two, but one at a
+-- power of two, below which the gap is half as wide
 abbrev pub IsMode : ℕ → ℕ → ℕ → ℕ → Type 0
 IsMode c hidden m k =
     ((c ≡ 2) × (0 < k → hidden < m)) ⊎ (((c ≡ 1) × (m % 2 ≡ 0)) × ((m ≡ hidden) × (0 < k)))
 
--- the number y is at most c quarters of the gap g below m * g, or two above it, and at just that m is
--- even
+-- the number y is at most c quarters of the gap g below m * g, or two above it, and at just that m
+-- is even
 pub record IsInside (c m g y : ℕ) : Type 0 where
   pub low : 4 * (m * g) ≤ 4 * y + c * g
   pub high : 4 * y ≤ 4 * (m * g) + 2 * g
@@ -124,10 +129,13 @@ kept-ge p n d P K =
     let k = drop p n d in
     let u = d * 2 ^ k in
     let w = n / d in
-    let a : 2 ^ (p - 1) * 2 ^ k ≤ w = le_trans (le_of_eq (sym (pow-add 2 (p - 1) k))) (size_reaches w (p - 1 + k) (omega arith)) in
-    le_trans (subst (λ (x : ℕ). 2 ^ (p - 1) ≤ x) (div-div-eq-div-mul n d (2 ^ k)) ((le-div_iff_mul-le (pow_pos k)).1 a)) (nearest-ge (n / u) (compare (n % u * 2) u))
+    let a : 2 ^ (p - 1) * 2 ^ k ≤ w =
+    le_trans (le_of_eq (sym (pow-add 2 (p - 1) k))) (size_reaches w (p - 1 + k) (omega arith)) in
+    le_trans (subst (λ (x : ℕ). 2 ^ (p - 1) ≤ x) (div-div-eq-div-mul n d (2 ^ k))
+    ((le-div_iff_mul-le (pow_pos k)).1 a)) (nearest-ge (n / u) (compare (n % u * 2) u))
 
-module _ (f : Format) (n d m k : ℕ) (D : 0 < d) (some : 0 < m) (few : m < 2 ^ prec f) (fine : m * 2 ^ k < overflow f) where
+module _ (f : Format) (n d m k : ℕ) (D : 0 < d) (some : 0 < m) (few : m < 2 ^ prec f)
+    (fine : m * 2 ^ k < overflow f) where
   abbrev g : ℕ
   g = d * 2 ^ k
 
@@ -142,12 +150,16 @@ module _ (f : Format) (n d m k : ℕ) (D : 0 < d) (some : 0 < m) (few : m < 2 ^ 
     value = units_val f false m k fine
 
     under : grid f n d < overflow f
-    under = round_under f n d (subst (λ y. T (finite y)) (sym reads) (positive-finite x (positive_of_value x _ _ value (mul-pos some (pow_pos k)))))
+    under = round_under f n d
+        (subst (λ y. T (finite y)) (sym reads)
+        (positive-finite x (positive_of_value x _ _ value (mul-pos some (pow_pos k)))))
 
     same : grid f n d ≡ m * 2 ^ k
     same =
-        let v : HasValue x false (grid f n d) (2 ^ low f) = subst (λ y. HasValue y false (grid f n d) (2 ^ low f)) reads (round_val f n d under) in
-        eq_of_mul-eq-mul_right _ (den_pos x) _ _ (sym (value→cross x _ _ v) ∙ value→cross x _ _ value)
+        let v : HasValue x false (grid f n d) (2 ^ low f) =
+        subst (λ y. HasValue y false (grid f n d) (2 ^ low f)) reads (round_val f n d under) in
+        eq_of_mul-eq-mul_right _ (den_pos x) _ _
+        (sym (value→cross x _ _ v) ∙ value→cross x _ _ value)
 
     abbrev j : ℕ
     j = drop (prec f) w d
@@ -162,9 +174,11 @@ module _ (f : Format) (n d m k : ℕ) (D : 0 < d) (some : 0 < m) (few : m < 2 ^ 
       | inl more ↦
           let P : 0 < prec f = two-le_pos (prec f) (two f) in
           let least : 2 ^ (prec f - 1) ≤ q = kept-ge (prec f) w d P (omega arith) in
-          let a : 2 ^ (prec f - 1) * 2 ^ j ≤ m * 2 ^ k = subst (λ y. 2 ^ (prec f - 1) * 2 ^ j ≤ y) same (mul-le-mul_right (2 ^ j) least) in
+          let a : 2 ^ (prec f - 1) * 2 ^ j ≤ m * 2 ^ k =
+          subst (λ y. 2 ^ (prec f - 1) * 2 ^ j ≤ y) same (mul-le-mul_right (2 ^ j) least) in
           let b : 2 ^ (prec f + k) ≤ 2 ^ (prec f - 1 + j) = pow_mono (omega arith) in
-          let c : 2 ^ (prec f) * 2 ^ k ≤ m * 2 ^ k = omega (arith, a, b, pow-add 2 (prec f) k, pow-add 2 (prec f - 1) j) in
+          let c : 2 ^ (prec f) * 2 ^ k ≤ m * 2 ^ k =
+          omega (arith, a, b, pow-add 2 (prec f) k, pow-add 2 (prec f - 1) j) in
           let e : (m + 1) * 2 ^ k ≤ 2 ^ prec f * 2 ^ k = mul-le-mul_right (2 ^ k) (omega arith) in
           absurd (omega (arith, c, e, pow_pos k))
     ]
@@ -206,26 +220,38 @@ module _ (f : Format) (n d m k : ℕ) (D : 0 < d) (some : 0 < m) (few : m < 2 ^ 
           | inr over ↦ omega arith
           | inl less ↦
               let P : 0 < prec f = two-le_pos (prec f) (two f) in
-              let power : m * g ≡ 2 ^ (prec f - 1 + k) * d = ap (λ (x : ℕ). x * g) edge ∙ swap (2 ^ (prec f - 1)) d (2 ^ k) ∙ ap (λ (x : ℕ). x * d) (sym (pow-add 2 (prec f - 1) k)) in
-              let few_ : w / d < 2 ^ (prec f - 1 + k) = (div-lt_iff_lt-mul D).1 (omega (arith, less, power)) in
+              let power : m * g ≡ 2 ^ (prec f - 1 + k) * d =
+              ap (λ (x : ℕ). x * g) edge ∙ swap (2 ^ (prec f - 1)) d (2 ^ k)
+              ∙ ap (λ (x : ℕ). x * d) (sym (pow-add 2 (prec f - 1) k)) in
+              let few_ : w / d < 2 ^ (prec f - 1 + k) =
+              (div-lt_iff_lt-mul D).1 (omega (arith, less, power)) in
               let most : size (w / d) ≤ prec f - 1 + k = size-le (w / d) (prec f - 1 + k) few_ in
               let less_ : j + 1 ≤ k = omega (arith, most, K, P) in
-              let half : 2 * u ≤ g = omega (arith, mul-le-mul_left d (pow_mono less_), ap (λ (x : ℕ). d * x) (pow-add 2 j 1)) in
+              let half : 2 * u ≤ g =
+              omega (
+                arith,
+                mul-le-mul_left d (pow_mono less_),
+                ap (λ (x : ℕ). d * x)
+                    (pow-add 2 j 1),
+              ) in
               omega (arith, near.most, place, half)
         ]
       where
         swap : (a b c : ℕ) → a * (b * c) ≡ a * c * b
         swap a b c = grind arith
 
-    pub inside_of_reads : (c : ℕ) → IsMode c (2 ^ (prec f - 1)) m k → IsInside c m (d * 2 ^ k) (n * 2 ^ low f)
+    pub inside_of_reads : (c : ℕ) → IsMode c (2 ^ (prec f - 1)) m k
+        → IsInside c m (d * 2 ^ k) (n * 2 ^ low f)
     inside_of_reads c (inl mode) =
         let two_gaps : c * g ≡ 2 * g = ap (λ z. z * g) mode.0 in
         record {
           low = omega (arith, near.most, place, narrower, two_gaps);
           high = omega (arith, near.least, place, narrower);
           low_tie = λ h.
-              even_of (omega (arith, h, near.most, place, two_gaps)) (near.tie_above (omega (arith, h, near.most, place, narrower, two_gaps)));
-          high_tie = λ h. even_of (omega (arith, h, near.least, place)) (near.tie_below (omega (arith, h, near.least, place, narrower)));
+              even_of (omega (arith, h, near.most, place, two_gaps))
+              (near.tie_above (omega (arith, h, near.most, place, narrower, two_gaps)));
+          high_tie = λ h. even_of (omega (arith, h, near.least, place))
+              (near.tie_below (omega (arith, h, near.least, place, narrower)));
         }
     inside_of_reads c (inr mode) =
         let one_gap : c * g ≡ 1 * g = ap (λ z. z * g) mode.0.0 in
@@ -251,7 +277,8 @@ module _ (f : Format) (n d m : ℕ) (D : 0 < d) where
       omega (arith, high)
   dropped (suc k) most least =
       let high = size-le (w_ / d) (prec f + suc k) ((div-lt_iff_lt-mul D).1 most) in
-      let long = size_gt (w_ / d) (prec f - 1 + suc k) ((le-div_iff_mul-le D).1 (least (omega arith))) in
+      let long = size_gt (w_ / d) (prec f - 1 + suc k)
+      ((le-div_iff_mul-le D).1 (least (omega arith))) in
       omega (arith, high, long)
 
   rounds_to : (k : ℕ) → w_ < 2 ^ (prec f + k) * d → (0 < k → 2 ^ (prec f - 1 + k) * d ≤ w_)
@@ -260,9 +287,12 @@ module _ (f : Format) (n d m : ℕ) (D : 0 < d) where
       let U : 0 < d * 2 ^ k = mul-pos D (pow_pos k) in
       round_is f false n d
       ∙ ap (λ z. units f false (closest w_ (d * 2 ^ z)) z) (dropped k most least)
-      ∙ ap (λ z. units f false z k) (one_near (closest w_ (d * 2 ^ k)) m (d * 2 ^ k) w_ U (closest_near w_ (d * 2 ^ k) U) near)
+      ∙ ap (λ z. units f false z k)
+      (one_near (closest w_ (d * 2 ^ k)) m (d * 2 ^ k) w_ U (closest_near w_ (d * 2 ^ k) U)
+      near)
 
-module _ (f : Format) (n d m k c : ℕ) (D : 0 < d) (few : m < 2 ^ prec f) (mode : IsMode c (2 ^ (prec f - 1)) m k)
+module _ (f : Format) (n d m k c : ℕ) (D : 0 < d) (few : m < 2 ^ prec f)
+    (mode : IsMode c (2 ^ (prec f - 1)) m k)
     (is : IsInside c m (d * 2 ^ k) (n * 2 ^ low f)) where
   abbrev gap : ℕ
   gap = d * 2 ^ k
@@ -285,7 +315,8 @@ module _ (f : Format) (n d m k c : ℕ) (D : 0 < d) (few : m < 2 ^ prec f) (mode
       let low_ : 4 * (m * gap) ≤ 4 * number + 2 * gap = omega (arith, is.low, gaps) in
       rounds_to f n d m D k few_digits
       (λ K.
-      let a : (2 ^ (prec f - 1) + 1) * gap ≤ m * gap = mul-le-mul_right gap (omega (arith, more K)) in
+      let a : (2 ^ (prec f - 1) + 1) * gap ≤ m * gap =
+      mul-le-mul_right gap (omega (arith, more K)) in
       let b : (2 ^ (prec f - 1) + 1) * gap ≡ 2 ^ (prec f - 1) * gap + gap = grind arith in
       omega (arith, a, b, low_, moved (prec f - 1) k))
       (record {
@@ -324,15 +355,28 @@ module _ (f : Format) (n d m k c : ℕ) (D : 0 < d) (few : m < 2 ^ prec f) (mode
 
     below_it : number < m * gap → round f false n d ≡ units f false m k
     below_it less =
-        let low_ : 4 * (m * gap) ≤ 4 * number + gap = omega (arith, is.low, ap (λ z. z * gap) one) in
+        let low_ : 4 * (m * gap) ≤ 4 * number + gap =
+        omega (arith, is.low, ap (λ z. z * gap) one) in
         let P : 2 ≤ prec f = two f in
         let H : 0 < half = mul-pos D (pow_pos (k - 1)) in
-        let one_half : 1 * half ≤ m * half = mul-le-mul_right half (subst (λ z. 1 ≤ z) (sym edge) (pow_pos (prec f - 1))) in
+        let one_half : 1 * half ≤ m * half =
+        mul-le-mul_right half (subst (λ z. 1 ≤ z) (sym edge) (pow_pos (prec f - 1))) in
         let both : 2 * m * half ≡ 2 * (m * half) = grind arith in
         rounds_to f n d (2 * m) D (k - 1)
         (let a : prec f - 1 + k ≡ prec f + (k - 1) = omega (arith, P, K) in
-        subst (λ z. number < 2 ^ z * d) a (omega (arith, less, moved (prec f - 1) k, ap (λ z. z * gap) edge)))
-        (λ _. omega (arith, low_, twice, there, both, one_half, moved (prec f - 1) (k - 1), ap (λ z. z * half) edge))
+        subst (λ z. number < 2 ^ z * d) a
+        (omega (arith, less, moved (prec f - 1) k, ap (λ z. z * gap) edge)))
+        (λ _. omega (
+          arith,
+          low_,
+          twice,
+          there,
+          both,
+          one_half,
+          moved (prec f - 1) (k - 1),
+          ap
+              (λ z. z * half) edge,
+        ))
         (record {
           least = omega (arith, less, there, H);
           most = omega (arith, low_, twice, there);

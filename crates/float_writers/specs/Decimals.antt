@@ -37,14 +37,16 @@ IsNearer x d other = far x d * 10 ^ places_of other.power < far x other * 10 ^ p
 abbrev pub IsAsNear : Float → Decimal → Decimal → Type 0
 IsAsNear x d other = far x d * 10 ^ places_of other.power ≡ far x other * 10 ^ places_of d.power
 
--- one decimal has no more digits than another: it is below each power of ten that the other is below
+-- one decimal has no more digits than another: it is below each power of ten that the other is
+-- below
 abbrev pub HasNoMoreDigits : Decimal → Decimal → Type 0
 HasNoMoreDigits d other = (n : ℕ) → other.digits < 10 ^ n → d.digits < 10 ^ n
 
 -- ---- while zeros may stand at the end of the digits, and the power of ten is p - 324
 
--- digits * 10 ^ (p - 324) reads as x. Without the zeros at their end they are no more digits than any
--- that do, and of those with as many none is nearer, nor as near but for others if the last is even.
+-- digits * 10 ^ (p - 324) reads as x. Without the zeros at their end they are no more digits than
+-- any that do, and of those with as many none is nearer, nor as near but for others if the last is
+-- even.
 pub record IsShortestAt (f : Format) (x : Float) (digits p : ℕ) : Type 0 where
   pub some : 0 < digits
   pub reads : ReadsAt f x digits (p - 324) (324 - p)
@@ -52,6 +54,8 @@ pub record IsShortestAt (f : Format) (x : Float) (digits p : ℕ) : Type 0 where
       → ReadsAt f x e up down → e < 10 ^ n → c < 10 ^ n
   pub none_better : (c z e up down n : ℕ) → digits ≡ c * 10 ^ z → (c % 10 ≡ 0 → ⊥)
       → ReadsAt f x e up down → e < 10 ^ n → 10 ^ n ≤ c * 10
-      → (far_of x (digits * 10 ^ (p - 324)) (324 - p) * 10 ^ down < far_of x (e * 10 ^ up) down * 10 ^ (324 - p))
-      ⊎ ((far_of x (digits * 10 ^ (p - 324)) (324 - p) * 10 ^ down ≡ far_of x (e * 10 ^ up) down * 10 ^ (324 - p))
+      → (far_of x (digits * 10 ^ (p - 324)) (324 - p) * 10 ^ down < far_of x (e * 10 ^ up)
+      down * 10 ^ (324 - p))
+      ⊎ ((far_of x (digits * 10 ^ (p - 324)) (324 - p) * 10 ^ down ≡ far_of x (e * 10 ^ up)
+      down * 10 ^ (324 - p))
       × ((e ≡ c) ⊎ (c % 2 ≡ 0)))

@@ -23,16 +23,17 @@ pub record IsRow (p t : ℕ) : Type 0 where
   pub top : 2 ^ 127 ≤ t
   pub fits : t < 2 ^ 128
 
--- whether a distance is less than the reach, where two that are less than 2 ^ 54 apart are one number
+-- whether a distance is less than the reach, where two that are less than 2 ^ 54 apart are one
+-- number
 abbrev pub within : ℕ → ℕ → Bool → Bool
 within distance reach closed =
     if nat_lt (distance + 2 ^ 54) reach then true
     else if nat_lt (reach + 2 ^ 54) distance then false
     else closed
 
--- ---- a float of m gaps 2 ^ k, of which the numbers read that are so many quarters of a gap below: two,
--- and one at a power of two
+-- ---- a float of m gaps
 
+-- how many quarters of a gap a number that reads as a float may be below it: at a power of two one
 abbrev pub quarters : Bool → ℕ
 quarters edge = if edge then 1 else 2
 
@@ -45,7 +46,8 @@ pub record IsReach (c g s reach : ℕ) : Type 0 where
   pub low : reach * (4 * s) ≤ c * g * 2 ^ 124
   pub high : c * g * 2 ^ 124 ≤ (reach + 2) * (4 * s)
 
--- the float is so many whole steps of the grid, and the rest in 2 ^ 128ths, and less than 2 ^ 57 of them
+-- the float is so many whole steps of the grid, and the rest in 2 ^ 128ths, and less than 2 ^ 57 of
+-- them
 pub record IsPlaced (m g s whole rest : ℕ) : Type 0 where
   pub low : (whole * 2 ^ 128 + rest) * s ≤ m * g * 2 ^ 128
   pub high : m * g * 2 ^ 128 ≤ (whole * 2 ^ 128 + rest) * s + 2 ^ 57 * s

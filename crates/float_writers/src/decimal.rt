@@ -1,6 +1,6 @@
 //! The shortest decimal that reads as a float.
 
-ghost use Rattle.std.specs.Prelude.{◌≡◌, ◌⊎◌, true, pos, ◌-ℤ◌, ◌+◌, ◌-◌, ◌*◌, ◌%◌, ◌^◌, ◌<◌, ◌≤◌};
+ghost use Rattle.std.specs.Prelude.{◌≡◌, ◌⊎◌, true, pos, negsuc, ◌-ℤ◌, ◌≤ℤ◌, ◌+◌, ◌-◌, ◌*◌, ◌%◌, ◌^◌, ◌<◌, ◌≤◌};
 ghost use Rattle.float_writers.specs.Decimals.{units_of, places_of, Reads, HasNoMoreDigits, IsNearer, IsAsNear};
 ghost use Rattle.float_writers.specs.Parts.{IsAboveZero};
 
@@ -16,7 +16,8 @@ pub struct Decimal {
     pub power: i32,
 }
 
-/// The digits without so many zeros at their end, if they have them, and the power of ten with them.
+/// The digits without so many zeros at their end, if they have them, and the power of ten with
+/// them.
 #[inline(always)]
 #[tactic(auto, using(crate::proofs::Zeros::some_less))]
 fn strip(digits: u64, power: u64, tens: u64, zeros: u64) -> (u64, u64)
@@ -36,7 +37,6 @@ fn strip(digits: u64, power: u64, tens: u64, zeros: u64) -> (u64, u64)
 
 /// The digits without up to fourteen zeros at their end.
 #[inline(always)]
-#[tactic(auto, using(crate::proofs::Zeros::chained))]
 fn without_most_zeros(digits: u64, power: u64) -> (u64, u64)
     requires digits { 0 < digits }
     requires power { power ≤ 617 }
@@ -51,13 +51,14 @@ fn without_most_zeros(digits: u64, power: u64) -> (u64, u64)
 
 /// The digits without the zeros at their end, and the power of ten with them.
 #[inline(always)]
-#[tactic(auto, using(crate::proofs::Zeros::one_less, crate::proofs::Zeros::few_zeros))]
+#[tactic(auto, using(crate::proofs::Zeros::zeros))]
 fn without_zeros(digits: u64, power: u64) -> (u64, u64)
-    requires digits { 0 < digits }
+    requires digits { (0 < digits) × (digits < 10 ^ 17) }
     requires power { power ≤ 617 }
     ensures value { result.0 * 10 ^ (result.1 - power) ≡ digits }
     ensures onward { power ≤ result.1 }
-    ensures few { (result.1 < power + 20) × (result.0 < 10 ^ 20) }
+    ensures few { (0 < result.0) × (result.0 < 10 ^ 17) }
+    ensures zeros { result.1 < power + 17 }
     ensures last { result.0 % 10 ≡ 0 → ⊥ }
 {
     if digits % 10 != 0 {
@@ -83,7 +84,9 @@ fn signed_power(up: u64) -> i32
 /// The decimal of these digits, by the power of ten plus 324.
 #[inline(always)]
 fn decimal_of(digits: u64, up: u64) -> Decimal
-    requires { up < 2 ^ 16 }
+    requires { up < 634 }
+    ensures least { negsuc 323 ≤ℤ result.power }
+    ensures most { result.power ≤ℤ pos 309 }
     ensures digits { result.digits ≡ digits }
     ensures units { units_of digits result.power ≡ digits * 10 ^ (up - 324) }
     ensures places { places_of result.power ≡ 324 - up }
@@ -107,6 +110,9 @@ pub fn shortest<F: WrittenFloat>(x: F) -> Decimal
         → HasNoMoreDigits other result → IsAsNear (F.value x) result other
         → (other.digits ≡ result.digits) ⊎ (result.digits % 2 ≡ 0) }
     ensures last { result.digits % 10 ≡ 0 → ⊥ }
+    ensures few { (0 < result.digits) × (result.digits < 10 ^ 17) }
+    ensures least { negsuc 323 ≤ℤ result.power }
+    ensures most { result.power ≤ℤ pos 309 }
 {
     let parts = x.parts();
     let (digits, power) = digits_of(parts);

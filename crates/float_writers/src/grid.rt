@@ -69,8 +69,8 @@ struct Place {
     /// The whole steps, and the rest in 2 ^ 128ths of a step.
     whole: u64,
     rest: u128,
-    /// Half the gap to the next float, and how far a number below the float may be that reads as it,
-    /// both in 2 ^ 124ths of a step.
+    /// Half the gap to the next float, and how far a number below the float may be that reads as
+    /// it, both in 2 ^ 124ths of a step.
     half: u128,
     reach: u128,
 }
@@ -96,8 +96,8 @@ fn reach_of(half: u128, edge: bool) -> u128
     if edge { half / 2 } else { half }
 }
 
-/// The power of ten of the steps, plus 324: a step is a tenth of the gap up to all of it, at a power of
-/// two up to three quarters.
+/// The power of ten of the steps, plus 324: a step is a tenth of the gap up to all of it, at a
+/// power of two up to three quarters.
 #[inline(always)]
 fn power_for(exponent: u64, edge: bool) -> u64
     requires { exponent < 2046 }
@@ -169,6 +169,7 @@ pub fn digits_of(parts: Parts) -> (u64, u64)
     requires exponent { parts.exponent < 2046 }
     ensures shortest { (f : Format) (x : Float) → IsParts f x parts
         → IsShortestAt f x result.0 result.1 }
+    ensures few { (f : Format) (x : Float) → IsParts f x parts → result.0 < 10 ^ 17 }
     ensures power { result.1 ≤ 617 }
 {
     let place = place_of(parts);

@@ -5,7 +5,11 @@ use Rattle.float_writers.proofs.decimal.shortest.Goals as goal
 
 pub without_zeros-left-requires-clause-digits : goal.without_zeros-left-requires-clause-digits
 without_zeros-left-requires-clause-digits g c =
-    (c.digits_of-digits.ensures.shortest g.F.Float.format (g.F.Float.value c.args.x) c.parts-parts.ensures).some
+    let f = g.F.Float.format in
+    let x = g.F.Float.value c.args.x in (
+      (c.digits_of-digits.ensures.shortest f x c.parts-parts.ensures).some,
+      c.digits_of-digits.ensures.few f x c.parts-parts.ensures,
+    )
 
 pub returns-clause-reads : goal.returns-clause-reads
 returns-clause-reads g c =
@@ -18,7 +22,7 @@ returns-clause-reads g c =
     let d = c.decimal_of.result in
     let is = c.decimal_of.ensures in
     let sum : p + (up - p) ≡ up = omega (arith, zeros.onward) in
-    reads_it f x d left up is.digits is.units is.places zeros.few.1 zeros.last
+    reads_it f x d left up is.digits is.units is.places (omega (arith, zeros.few.1)) zeros.last
     (subst (λ q. IsShortestAt f x left q) sum
     (strip f x _ p left (up - p) zeros.value
     (c.digits_of-digits.ensures.shortest f x c.parts-parts.ensures)))
@@ -34,7 +38,7 @@ returns-clause-shortest g c =
     let d = c.decimal_of.result in
     let is = c.decimal_of.ensures in
     let sum : p + (up - p) ≡ up = omega (arith, zeros.onward) in
-    shortest_it f x d left up is.digits is.units is.places zeros.few.1 zeros.last
+    shortest_it f x d left up is.digits is.units is.places (omega (arith, zeros.few.1)) zeros.last
     (subst (λ q. IsShortestAt f x left q) sum
     (strip f x _ p left (up - p) zeros.value
     (c.digits_of-digits.ensures.shortest f x c.parts-parts.ensures)))
@@ -50,7 +54,7 @@ returns-clause-closest g c =
     let d = c.decimal_of.result in
     let is = c.decimal_of.ensures in
     let sum : p + (up - p) ≡ up = omega (arith, zeros.onward) in
-    closest_it f x d left up is.digits is.units is.places zeros.few.1 zeros.last
+    closest_it f x d left up is.digits is.units is.places (omega (arith, zeros.few.1)) zeros.last
     (subst (λ q. IsShortestAt f x left q) sum
     (strip f x _ p left (up - p) zeros.value
     (c.digits_of-digits.ensures.shortest f x c.parts-parts.ensures)))
@@ -66,7 +70,7 @@ returns-clause-even g c =
     let d = c.decimal_of.result in
     let is = c.decimal_of.ensures in
     let sum : p + (up - p) ≡ up = omega (arith, zeros.onward) in
-    even_it f x d left up is.digits is.units is.places zeros.few.1 zeros.last
+    even_it f x d left up is.digits is.units is.places (omega (arith, zeros.few.1)) zeros.last
     (subst (λ q. IsShortestAt f x left q) sum
     (strip f x _ p left (up - p) zeros.value
     (c.digits_of-digits.ensures.shortest f x c.parts-parts.ensures)))

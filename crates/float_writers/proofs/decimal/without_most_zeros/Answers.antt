@@ -1,4 +1,4 @@
-use Rattle.std.proofs.Common.{◌≡◌, ◌+◌, ◌-◌, ◌*◌, ◌^◌, ◌<◌, ◌≤◌, arith}
+use Rattle.std.proofs.Common.{arith}
 use Rattle.float_writers.proofs.Zeros.{chained}
 use Rattle.float_writers.proofs.decimal.without_most_zeros.Goals as goal
 

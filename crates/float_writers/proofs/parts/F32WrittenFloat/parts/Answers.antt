@@ -11,6 +11,7 @@ float_to_bits-self c = number c.args.self c.requires
 
 pub returns : goal.returns
 returns c =
-    let back = ap (of_bits binary32) c.from.ensures ∙ of_bits-to_bits binary32 c.args.self (subst T (sym c.well_formed.0.1) tt) in
+    let back = ap (of_bits binary32) c.from.ensures ∙ of_bits-to_bits binary32 c.args.self
+    (subst T (sym c.well_formed.0.1) tt) in
     subst (λ x. IsParts binary32 x c.parts_of.result) back
     (c.parts_of.ensures binary32 refl refl (subst (λ x. IsAboveZero x) (sym back) c.requires))
