@@ -12,4 +12,4 @@ pub record Writes (text old new : List ℕ) (result : Result ℕ NoRoom) : Type 
 
 -- what is printed of an error
 abbrev pub message : NoRoom → List ℕ
-message e = codes "the text has " ++ decimal e.needed ++ codes " bytes"
+message e = codes "the text needs " ++ decimal e.needed ++ codes " bytes"

@@ -9,7 +9,7 @@ use std::fmt;
 /// The slice is shorter than the text, and nothing was written.
 #[derive(Clone, Copy, Debug, PartialEq, Eq)]
 pub struct NoRoom {
-    /// How many bytes the text has.
+    /// How many bytes the text needs.
     pub needed: usize,
 }
 
@@ -17,7 +17,7 @@ impl fmt::Display for NoRoom {
     ghost output = { λ e. Some (message e) };
 
     fn fmt<W: fmt::Write>(&self, f: &mut fmt::Formatter<W>) -> fmt::Result {
-        write!(f, "the text has {} bytes", self.needed)
+        write!(f, "the text needs {} bytes", self.needed)
     }
 }
 

@@ -138,7 +138,7 @@ module _ (separator : ℕ) where
 
   -- ---- one group
 
-  few_as_is : (ds : List ℕ) → length ds ≤ 3 → group ds ≡ ds
+  pub few_as_is : (ds : List ℕ) → length ds ≤ 3 → group ds ≡ ds
   few_as_is [] few = group_none separator 3
   few_as_is (d ∷ ds) few =
       let nil : (d ∷ ds) ++ [] ≡ d ∷ ds = append-nil (d ∷ ds) in

@@ -20,7 +20,7 @@ use Rattle.digit_literals.specs.Integers.{integer_at}
 use Rattle.digit_literals.specs.Numbers.{number_at, signed}
 use Rattle.digit_literals.specs.Written.{IsWrittenAt}
 use Rattle.digit_literals.proofs.Written.{whole_written, later_written}
-use Rattle.digit_writers.specs.declared.by.NoRoom.{NoRoom}
+use Rattle.decimal_writers.specs.declared.room.NoRoom.{NoRoom}
 use Rattle.digit_writers.specs.declared.layout.Layout.{Layout}
 use Rattle.digit_writers.specs.Digits.{last_digits}
 use Rattle.digit_writers.specs.Layouts.{laid_out, text_of, IsLaidOut, HasNoRoom, grouped, before, digit_count, digits_in, sign_of, IsReadBy}
@@ -39,7 +39,7 @@ glyph_value : (upper : Bool) (d : ℕ) → d < 36 → digit_value (digit_glyph u
 glyph_value upper d l = grind (arith, nat_tests)
 
 module _ (radix : ℕ) (upper : Bool) (low : 2 ≤ radix) (high : radix ≤ 36) where
-  last_all : (k n : ℕ) → AllDigits radix (last_digits radix upper k n)
+  pub last_all : (k n : ℕ) → AllDigits radix (last_digits radix upper k n)
   last_all zero n = subst (AllDigits radix) (sym (no_digits radix upper n)) tt
   last_all (suc k) n =
       let rest : n % radix < radix = mod_below n radix (omega (arith, low)) in
@@ -47,7 +47,7 @@ module _ (radix : ℕ) (upper : Bool) (low : 2 ≤ radix) (high : radix ≤ 36) 
       subst (AllDigits radix) (sym (last_push radix upper k n))
       (digits_push radix (last_digits radix upper k (n / radix)) (digit_glyph upper (n % radix)) (last_all k (n / radix)) (omega (arith, value, rest)))
 
-  last_value : (k n : ℕ) → n < radix ^ k → digits_value radix (last_digits radix upper k n) ≡ n
+  pub last_value : (k n : ℕ) → n < radix ^ k → digits_value radix (last_digits radix upper k n) ≡ n
   last_value zero n l =
       let none : n ≡ 0 = omega (arith, l, pow-zero radix) in
       ap (digits_value radix) (no_digits radix upper n) ∙ sym none
@@ -62,12 +62,12 @@ module _ (radix : ℕ) (upper : Bool) (low : 2 ≤ radix) (high : radix ≤ 36) 
 
 -- ---- the digits in groups
 
-digit_is : (rule : Rule) (byte : ℕ) → rule.radix ≤ 36 → digit_value byte < rule.radix
+pub digit_is : (rule : Rule) (byte : ℕ) → rule.radix ≤ 36 → digit_value byte < rule.radix
     → is_digit rule byte ≡ true
 unfolding is_digit words.digit_value
 digit_is rule byte high l = grind (arith, nat_tests)
 
-no_sign : (rule : Rule) (byte : ℕ) → is_digit rule byte ≡ true
+pub no_sign : (rule : Rule) (byte : ℕ) → is_digit rule byte ≡ true
     → (byte ≡ 45 → ⊥) × (byte ≡ 43 → ⊥)
 unfolding is_digit words.digit_value
 no_sign rule byte digit = (λ minus. grind (arith, nat_tests, digit, minus), λ plus. grind (arith, nat_tests, digit, plus))
@@ -83,13 +83,13 @@ module _ (rule : Rule) (separator every : ℕ) (high : rule.radix ≤ 36)
         → filter (is_digit rule) (before separator every count ++ rest) ≡ filter (is_digit rule) rest
     filter_before count rest = grind (arith, nat_tests, apart)
 
-    filter_group : (ds : List ℕ) → AllDigits rule.radix ds → filter (is_digit rule) (group ds) ≡ ds
+    pub filter_group : (ds : List ℕ) → AllDigits rule.radix ds → filter (is_digit rule) (group ds) ≡ ds
     filter_group [] all = ap (filter (is_digit rule)) (group_none separator every)
     filter_group (d ∷ ds) all =
         ap (filter (is_digit rule)) (group_more separator every d ds)
         ∙ grind (arith, digit_is rule d high all.0, filter_before (length ds) (group ds), filter_group ds all.1)
 
-    first_group : (ds : List ℕ) → AllDigits rule.radix ds → 0 < length ds
+    pub first_group : (ds : List ℕ) → AllDigits rule.radix ds → 0 < length ds
         → (0 < length (group ds)) × (is_digit rule (get_or (group ds) 0 0) ≡ true)
     first_group [] all some = absurd (omega arith)
     first_group (d ∷ ds) all some =
@@ -123,7 +123,7 @@ module _ (rule : Rule) (separator every : ℕ) (high : rule.radix ≤ 36)
     lone_after d rest true first lone (suc q) l =
         shift d (separator ∷ rest) (suc q) (shift separator rest q (lone q (omega arith)))
 
-    lone_group : (ds : List ℕ) → AllDigits rule.radix ds → (q : ℕ) → q < length (group ds)
+    pub lone_group : (ds : List ℕ) → AllDigits rule.radix ds → (q : ℕ) → q < length (group ds)
         → IsLone rule (group ds) q
     unfolding grouped
     lone_group [] all q l = absurd (omega arith)
@@ -154,7 +154,7 @@ module _ (least most n end : ℕ) (rule : Rule) (body : List ℕ) where
 
 -- ---- the text of a number
 
-is_one : (a b : ℕ) → a ≡ b → 0 < b → is_separator a b ≡ true
+pub is_one : (a b : ℕ) → a ≡ b → 0 < b → is_separator a b ≡ true
 unfolding is_separator
 is_one a b e l = grind (arith, nat_tests)
 
@@ -266,7 +266,7 @@ minus_is : (layout : Layout) (n : ℕ) → 0 < n
 minus_is layout zero l = absurd (omega arith)
 minus_is layout (suc n) l = refl
 
-not_negative : (n : ℕ) → is_negative (pos n) ≡ false
+pub not_negative : (n : ℕ) → is_negative (pos n) ≡ false
 not_negative n = grind (arith, nat_tests)
 
 sign_is : (layout : Layout) (negative : Bool) (n : ℕ) → (negative ≡ true → 0 < n)

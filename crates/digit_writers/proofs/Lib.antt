@@ -11,3 +11,7 @@ pub mod Lone
 pub mod LaidReading
 pub mod InThousands
 pub mod Plainly
+pub mod AmountParts
+pub mod AmountReading
+pub mod PriceReading
+pub mod ReadBack

@@ -76,7 +76,7 @@ module _ (rule : Rule) (text : List ℕ) (start : ℕ) (supported : IsSupported 
     all_passed : HasPassed rule text start end
     all_passed = passed_to (length bytes) (omega arith)
 
-    stop_at : stop rule text start 0 ≡ end
+    pub stop_at : stop rule text start 0 ≡ end
     stop_at =
         let room = inside in
         let first = stop_is_first rule text start 0 (omega arith) in
@@ -103,3 +103,7 @@ module _ (rule : Rule) (text : List ℕ) (start : ℕ) (supported : IsSupported 
         let some : 0 < length (digits_between rule text start (stop rule text start 0)) =
         rw stop_at (omega (arith, all_passed.dense, begun)) in
         some_at rule text start most some (omega (arith, value, fits)) ∙ rw (value, stop_at) refl
+
+    pub lone_digits : digits_between rule text start (stop rule text start 0)
+        ≡ filter (is_digit rule) bytes
+    lone_digits = rw (stop_at, at.same) refl

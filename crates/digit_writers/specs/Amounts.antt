@@ -1,5 +1,5 @@
 -- The text of an amount in units of its last place, and which words read it.
-use Rattle.std.specs.Prelude.{◌≡◌, ℕ, ℤ, ◌/◌, ◌^◌, ◌==◌, unsigned_abs, if◌then◌else◌, Bool, true, false, List, [], ◌∷◌, ◌++◌, decimal, Some, IsTrue}
+use Rattle.std.specs.Prelude.{◌≡◌, ℕ, zero, suc, ℤ, ◌/◌, ◌^◌, ◌<◌, unsigned_abs, Bool, true, false, List, [], ◌∷◌, ◌++◌, decimal, Some, IsTrue}
 use Rattle.std.specs.Int.{is_negative}
 use Rattle.lexical_format.specs.Word.{is_supported, separator, bit}
 use Rattle.lexical_digits.specs.declared.skip.component.Component.TheVariants.{Integer}
@@ -17,7 +17,8 @@ whole_text false between n = decimal n
 
 -- a point and so many places, if there are any
 abbrev pub fraction_text : ℕ → ℕ → ℕ → List ℕ
-fraction_text point places n = if places == 0 then [] else point ∷ last_decimals places n
+fraction_text point zero n = []
+fraction_text point (suc places) n = point ∷ last_decimals (suc places) n
 
 -- a magnitude and whether it is below 0
 abbrev pub magnitude_text : Bool → ℕ → ℕ → ℕ → Bool → ℕ → List ℕ
@@ -41,5 +42,6 @@ pub record ReadsAmounts (word point : ℕ) : Type 0 where
 -- one that also drops the byte between groups
 pub record ReadsPrices (word point between : ℕ) : Type 0 where
   pub amounts : ReadsAmounts word point
+  pub some : 0 < between
   pub separates : separator word ≡ between
   pub internal : bit word 32 ≡ true

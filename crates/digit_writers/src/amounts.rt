@@ -3,16 +3,36 @@
 ghost use Rattle.std.specs.Prelude.{◌≡◌, ℕ, ◌+◌, ◌/◌, ◌^◌, ◌<◌, ◌≤◌, ◌++◌, false, true, length, take, drop, decimal, Ok, IfOk, IfErr};
 ghost use Rattle.std.specs.List.{splice};
 ghost use Rattle.digit_floats.specs.Scaled.{read_scaled_at};
+ghost use Rattle.digit_lists.specs.Prices.{price_at};
 ghost use Rattle.digit_writers.specs.Digits.{last_decimals};
 ghost use Rattle.digit_writers.specs.Layouts.{sign_of};
-ghost use Rattle.digit_writers.specs.Amounts.{whole_text, fraction_text, magnitude_text, amount_text, ReadsAmounts};
+ghost use Rattle.digit_writers.specs.Amounts.{whole_text, fraction_text, magnitude_text, amount_text, ReadsAmounts, ReadsPrices};
 
-use super::by::{NoRoom, count_signs, put_sign};
+use super::by::{count_signs, put_sign};
 use super::groups::{count_digits, count_gaps, put_last};
 use super::layout::Layout;
 use super::thousands::put_thousands;
 use super::types::Written;
 use super::wide::put_number;
+use decimal_writers::NoRoom;
+
+/// Ten to a power.
+fn ten_to(n: usize) -> u128
+    requires { n ≤ 38 }
+    ensures is { result ≡ 10 ^ n }
+    ensures some { 0 < result }
+{
+    10u128.pow(n as u32)
+}
+
+/// Ten to a power of 64 bits.
+fn ten_to_narrow(n: usize) -> u64
+    requires { n ≤ 19 }
+    ensures is { result ≡ 10 ^ n }
+    ensures some { 0 < result }
+{
+    10u64.pow(n as u32)
+}
 
 /// A number without so many of its last digits.
 #[inline(always)]
@@ -20,10 +40,10 @@ fn without_places(n: u128, places: usize) -> u128
     requires { places ≤ 38 }
     ensures { result ≡ n / 10 ^ places }
 {
-    if n <= u64::MAX as u128 && places <= 19 {
-        return (n as u64 / 10u64.pow(places as u32)) as u128;
+    if places <= 19 && n <= u64::MAX as u128 {
+        return (n as u64 / ten_to_narrow(places)) as u128;
     }
-    n / 10u128.pow(places as u32)
+    n / ten_to(places)
 }
 
 /// How long an integer is, in groups of three digits or not.
@@ -141,4 +161,37 @@ pub fn write_scaled<T: Written>(
 {
     let (is_negative, magnitude) = value.parts();
     put_amount(is_negative, magnitude, false, 0, point, places, out)
+}
+
+/// Writes an amount in units of its last place at the front of a slice, as [`write_scaled`], with a
+/// byte between groups of three digits of its integer. `read_price_from` reads the text back as the
+/// same number by each word that reads such prices (`ReadsPrices`). Requires that there are at most
+/// 38 places.
+///
+/// ```text
+/// `write_price(123450i64, b'.', 2, b',', &mut out)`: Ok(8), and `out` begins with `1,234.50`
+/// ```
+#[inline]
+pub fn write_price<T: Written>(
+    value: T,
+    point: u8,
+    places: usize,
+    separator: u8,
+    out: &mut [u8],
+) -> Result<usize, NoRoom>
+    requires { places ≤ 38 }
+    ensures written { let text = amount_text true separator point places (T.number value) in
+        IfOk result (λ end. take end out.new ≡ text) }
+    ensures rest { IfOk result (λ end. drop end out.new ≡ drop end out.old) }
+    ensures within { IfOk result (λ end. end ≤ length out.old) }
+    ensures reads { (word : ℕ) → ReadsPrices word point separator → IfOk result (λ end.
+        price_at word (take end out.new) point places T.MIN_MAGNITUDE T.MAX 0
+        ≡ Ok (T.number value, end)) }
+    ensures no_room { IfErr result (λ error. length out.old < error.needed) }
+    ensures needed { let text = amount_text true separator point places (T.number value) in
+        IfErr result (λ error. error.needed ≡ length text) }
+    ensures unchanged { IfErr result (λ _. out.new ≡ out.old) }
+{
+    let (is_negative, magnitude) = value.parts();
+    put_amount(is_negative, magnitude, true, separator, point, places, out)
 }

@@ -1,6 +1,6 @@
 //! The text of an integer in a layout.
 
-ghost use Rattle.std.specs.Prelude.{◌≡◌, ℕ, ◌+◌, ◌<◌, ◌≤◌, ◌++◌, true, max, length, take, drop, IfOk, IfErr, codes, decimal, Some};
+ghost use Rattle.std.specs.Prelude.{◌≡◌, ℕ, ◌+◌, ◌<◌, ◌≤◌, ◌++◌, true, max, length, take, drop, IfOk, IfErr};
 ghost use Rattle.std.specs.List.{splice};
 ghost use Rattle.digit_writers.specs.Written.{Reads};
 ghost use Rattle.digit_writers.specs.Layouts.{sign_of, digit_count, digits_in, grouped, thousands, laid_out, text_of, IsLaidOut, HasNoRoom, IsReadBy};
@@ -10,26 +10,7 @@ use super::layout::Layout;
 use super::thousands::put_thousands;
 use super::types::Written;
 use super::wide::put_number;
-use std::error::Error;
-use std::fmt;
-
-/// There is no room for a text.
-#[derive(Clone, Copy, Debug, PartialEq, Eq)]
-pub struct NoRoom {
-    /// How many bytes the text has.
-    pub needed: usize,
-}
-
-impl fmt::Display for NoRoom {
-    ghost output = { λ e. Some (codes "the text needs " ++ decimal e.needed ++ codes " bytes") };
-
-    fn fmt<W: fmt::Write>(&self, f: &mut fmt::Formatter<W>) -> fmt::Result {
-        let needed = self.needed;
-        write!(f, "the text needs {needed} bytes")
-    }
-}
-
-impl Error for NoRoom {}
+use decimal_writers::NoRoom;
 
 /// How long the sign is.
 #[inline(always)]

@@ -1,18 +1,40 @@
-//! Writes integers.
+//! Numbers are written as text that is read back as the same number: integers, in decimal or in a
+//! layout, and amounts, in a slice of the caller.
+//!
+//! ```text
+//! write_number(-128i8, &mut out)                            -128
+//! write_number_by(1234567, decimal grouped by `,`, ..)      1,234,567
+//! write_number_by(255, radix 16 with at least 4 digits, ..) 00ff
+//! write_scaled(-1250, b'.', 2, ..)                          -12.50
+//! write_price(123450, b'.', 2, b',', ..)                    1,234.50
+//! ```
+//!
+//! [`write_number`] writes the shortest text: `parse_number` reads it back by each word of radix 10,
+//! and no shorter text. It requires room for each number of the type ([`Written::ROOM`]). The others
+//! answer the room that is needed, if there is less ([`NoRoom`](decimal_writers::NoRoom)), and then write nothing. What is
+//! behind the text isn't touched.
+//!
+//! [`write_number_by`] writes in a [`Layout`]: radix and case, groups, zeros and `+`. A word reads
+//! the layout if it has its radix, and drops its separator between digits of the integer; a `+` is
+//! read as a number of a type with a sign. Amounts are read back by `read_scaled_from` of
+//! `digit_floats`, prices by `read_price_from` of `digit_lists`.
+//!
+//! The laws for callers are in [`laws`].
 #![tactic(auto)]
 
 mod amounts;
 mod by;
 mod digits;
 mod groups;
+pub mod laws;
 mod layout;
 mod number;
 mod thousands;
 mod types;
 mod wide;
 
-pub use self::amounts::write_scaled;
-pub use self::by::{NoRoom, write_number_by};
+pub use self::amounts::{write_price, write_scaled};
+pub use self::by::write_number_by;
 pub use self::layout::Layout;
 pub use self::number::write_number;
 pub use self::types::{MOST_ROOM, Written};

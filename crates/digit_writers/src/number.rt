@@ -13,7 +13,8 @@ use super::wide::put_number;
 fn put_signed(is_negative: bool, magnitude: u128, out: &mut [u8]) -> usize
     requires room { length (sign_text is_negative ++ decimal magnitude) ≤ length out.old }
     ensures end { result ≡ length (sign_text is_negative ++ decimal magnitude) }
-    ensures written { out.new ≡ splice out.old 0 result (sign_text is_negative ++ decimal magnitude) }
+    ensures written { let text = sign_text is_negative ++ decimal magnitude in
+        out.new ≡ splice out.old 0 result text }
 {
     if is_negative {
         out[0] = b'-';

@@ -1,9 +1,9 @@
 -- No fraction with a small denominator is close to the ratio of two numbers, but equal to it.
-use Rattle.std.proofs.Common.{◌≡◌, ℕ, zero, suc, ◌+◌, ◌-◌, ◌*◌, ◌/◌, ◌^◌, ◌<◌, ◌≤◌, Bool, true, false, ◌&&◌, T, leb, ltb, sym, ap, subst, ◌∙◌, ◌⊎◌, inl, inr, arith, mul-le-mul_right, mul-le-mul_left}
+use Rattle.std.proofs.Common.{◌≡◌, ℕ, zero, suc, ◌+◌, ◌-◌, ◌*◌, ◌/◌, ◌^◌, ◌<◌, ◌≤◌, Bool, true, false, ◌&&◌, T, leb, ltb, sym, ap, ◌∙◌, ◌⊎◌, inl, inr, arith, mul-le-mul_right, mul-le-mul_left}
 use Rattle.std.specs.Prelude.{min, if◌then◌else◌}
 use Rattle.std.specs.Int.{abs_diff}
 use Rattle.std.proofs.lemmas.Bool.{cases_lt}
-use native.Mathlib.Nat.{eq-zero-or-pos, eq_of_mul-eq-mul_right, le_of_mul-le-mul_right, mul_assoc}
+use native.Mathlib.Nat.{eq_of_mul-eq-mul_right, le_of_mul-le-mul_right}
 use lib.Dec.{eqb, eqb→eq, leb→le, ltb→lt}
 use lib.Ieee.Fits.{and_l, and_r}
 
@@ -70,10 +70,13 @@ module _ (g s p q t u e h : ℕ) (Q : 0 < q) (U : 0 < u) (neighbours : t * q ≡
     where
       swap : (n u q : ℕ) → n * u * q ≡ n * q * u
       swap n u q = grind arith
+
       turn : (p c q : ℕ) → p * (c * q) ≡ p * c * q
       turn p c q = grind arith
+
       out : (c q g : ℕ) → c * q * g ≡ c * (q * g)
       out c q g = grind arith
+
       into : (c p s e : ℕ) → c * (p * s + e) ≡ p * c * s + c * e
       into c p s e = grind arith
   below m n (suc a) is =
@@ -102,10 +105,13 @@ module _ (g s p q t u e h : ℕ) (Q : 0 < q) (U : 0 < u) (neighbours : t * q ≡
     where
       swap : (n u q : ℕ) → n * u * q ≡ n * q * u
       swap n u q = grind arith
+
       turn : (p c q : ℕ) → p * (c * q) ≡ p * c * q
       turn p c q = grind arith
+
       out : (t c s : ℕ) → t * c * s ≡ c * (t * s)
       out t c s = grind arith
+
       into : (c u g h : ℕ) → c * (u * g + h) ≡ c * u * g + c * h
       into c u g h = grind arith
   above m n (suc a) is =

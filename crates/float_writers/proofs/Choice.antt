@@ -1,21 +1,18 @@
 -- The decimal that is chosen on the grid.
-use Rattle.std.proofs.Common.{◌≡◌, ℕ, zero, suc, ◌+◌, ◌-◌, ◌*◌, ◌/◌, ◌%◌, ◌^◌, ◌<◌, ◌≤◌, Bool, true, false, T, refl, true≢false, sym, ap, subst, ◌∙◌, ◌⊎◌, inl, inr, arith, mul-le-mul_right, mul-le-mul_left, le_trans}
+use Rattle.std.proofs.Common.{◌≡◌, ℕ, suc, ◌+◌, ◌-◌, ◌*◌, ◌/◌, ◌%◌, ◌^◌, ◌<◌, ◌≤◌, Bool, true, false, refl, true≢false, sym, ap, subst, ◌∙◌, ◌⊎◌, inl, inr, arith, mul-le-mul_right}
 use Rattle.std.specs.Int.{abs_diff}
 use Rattle.std.proofs.lemmas.Bool.{cases_lt}
 use Rattle.std.proofs.lemmas.Bool.Decides.{nat_tests}
-use native.Mathlib.Nat.{mul-pos, mul_assoc, eq_of_mul-eq-mul_right}
-use mathlib.Core.Bool.{not}
-use lib.Dec.{leb, ltb, leb→le, ltb→lt}
+use native.Mathlib.Nat.{mul-pos, eq_of_mul-eq-mul_right}
+use lib.Dec.{ltb→lt}
 use lib.Pow.{pow-add, pow_pos, pow_mono}
-use lib.Ieee.{Float, Format, binary32, binary64, prec, low, emax, units}
-use lib.Ieee.Fits.{two}
+use lib.Ieee.{Float, Format, binary32, binary64, prec, low, emax}
 use lib.Ieee.Scale.{overflow}
 use Rattle.std.specs.Prelude.{◌==◌}
 use Rattle.float_writers.specs.Decimals.{IsShortestAt}
 use Rattle.float_writers.specs.Grid.{within, gap, step, power_of, quarters, offset, IsReach, IsPlaced}
 use Rattle.float_writers.specs.Parts.{IsParts}
 use Rattle.float_writers.specs.declared.parts.Parts.{Parts}
-use Rattle.float_writers.proofs.Apart.{AreApart}
 use Rattle.float_writers.proofs.Exponents.{IsSound}
 use Rattle.float_writers.proofs.Place.{sound_at}
 use Rattle.float_writers.proofs.Fewest.{IsBest, ten_pos}

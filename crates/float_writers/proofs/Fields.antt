@@ -1,12 +1,18 @@
 -- The parts of a float above zero, by the fields of its bits.
-use Rattle.std.proofs.Common.{◌≡◌, ℕ, zero, suc, ◌+◌, ◌-◌, ◌*◌, ◌/◌, ◌%◌, ◌^◌, ◌<◌, ◌≤◌, Bool, true, false, cond, T, ltb, leb, refl, true≢false, sym, ap, subst, ◌∙◌, inl, inr, arith}
+use Rattle.std.proofs.Common.{◌≡◌, ℕ, zero, suc, ◌+◌, ◌-◌, ◌*◌, ◌/◌, ◌%◌, ◌^◌, ◌<◌, Bool, true, false, cond, T, leb, true≢false, sym, ap, subst, ◌∙◌, inl, inr, arith}
 use Rattle.std.proofs.lemmas.Bool.{cases_lt}
 use mathlib.Core.Bool.{not}
 use native.Mathlib.Nat.{mod-lt, div-add-mod', div-lt_iff_lt-mul, mul_comm}
 use Rattle.std.proofs.Math.Nat.{mod-eq_of_lt}
-use lib.Dec.{eqb, eqb→eq, eqb_refl, leb→le, nleb→lt}
+use lib.Dec.{eqb, eqb_refl, nleb→lt}
 use lib.Pow.{pow-add, pow_pos}
-use lib.Ieee.{Float, Format, nan, inf, fin, binary32, binary64, prec, low, emax, hid, ones, top, odd, units, of_bits, of_fields, is_nan}
+use Rattle.std.specs.Float.{float_zero, float_is_finite}
+use lib.Ieee.Positive.{first_pos}
+use lib.Ieee.Fits.{up_pos}
+use lib.Ieee.Bits.{is_true}
+use native.Mathlib.Nat.{mul-pos, zero-mul}
+use lib.Dec.{lt→ltb, ltb→lt}
+use lib.Ieee.{up, down, lt, Float, Format, nan, inf, fin, binary32, binary64, prec, low, emax, hid, ones, top, odd, units, of_bits, of_fields, is_nan}
 use lib.Ieee.Fits.{two}
 use lib.Ieee.Positive.{positive}
 use Rattle.digit_floats.proofs.Units.{of_bits_is}
@@ -136,3 +142,28 @@ unfolding is_nan
 number nan h = absurd h
 number (inf s) h = absurd h
 number (fin s m e) h = tt
+
+-- by two tests
+pub above_yes : (x : Float) → lt float_zero x ≡ true → float_is_finite x ≡ true → IsAboveZero x
+unfolding lt float_is_finite
+above_yes nan l f = absurd (true≢false (sym l))
+above_yes (inf true) l f = absurd (true≢false (sym f))
+above_yes (inf false) l f = absurd (true≢false (sym f))
+above_yes (fin true m e) l f = absurd (true≢false (sym l))
+above_yes (fin false m e) l f =
+    let some = ltb→lt (0 * down e) (m * up e * 1) (subst T (sym l) tt) in
+    lt→ltb 0 m (first_pos m (up e) (omega (arith, some, zero-mul (down e))))
+
+pub above_no : (x : Float) → IsAboveZero x → (lt float_zero x ≡ true) × (float_is_finite x ≡ true)
+unfolding lt float_is_finite
+above_no nan h = absurd h
+above_no (inf s) h = absurd h
+above_no (fin true m e) h = absurd h
+above_no (fin false m e) h =
+    let some : 0 < m * up e = mul-pos (ltb→lt 0 m h) (up_pos e) in
+    (is_true _ (lt→ltb (0 * down e) (m * up e * 1) (omega (arith, some, zero-mul (down e)))), λ i. true)
+
+pub zero_bits : (f : Format) → of_bits f 0 ≡ float_zero
+unfolding of_bits of_fields odd
+zero_bits binary32 = λ i. float_zero
+zero_bits binary64 = λ i. float_zero

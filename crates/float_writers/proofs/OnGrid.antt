@@ -1,11 +1,11 @@
 -- A decimal of the grid is the shortest that reads as a float, and the closest.
-use Rattle.std.proofs.Common.{◌≡◌, ℕ, zero, suc, ◌+◌, ◌-◌, ◌*◌, ◌/◌, ◌%◌, ◌^◌, ◌<◌, ◌≤◌, Bool, true, false, refl, sym, ap, subst, ◌∙◌, ◌⊎◌, inl, inr, arith, mul-le-mul_right, mul-le-mul_left, le_trans}
+use Rattle.std.proofs.Common.{◌≡◌, ℕ, zero, suc, ◌+◌, ◌-◌, ◌*◌, ◌%◌, ◌^◌, ◌<◌, ◌≤◌, false, sym, ap, subst, ◌∙◌, ◌⊎◌, inl, inr, arith, mul-le-mul_right}
 use Rattle.std.specs.Int.{abs_diff}
 use Rattle.std.proofs.lemmas.Bool.{cases_lt}
-use native.Mathlib.Nat.{mul-pos, mul_assoc, eq-zero-or-pos, eq_of_mul-eq-mul_right, le_of_mul-le-mul_right, lt_of_mul-lt-mul_right, mul-lt-mul_of_pos_right, mul-one, pow-suc, le-mul_of_pos_right, zero-mul}
+use native.Mathlib.Nat.{mul-pos, mul_assoc, eq_of_mul-eq-mul_right, le_of_mul-le-mul_right, lt_of_mul-lt-mul_right, mul-lt-mul_of_pos_right, mul-one, pow-suc, le-mul_of_pos_right, zero-mul}
 use lib.Pow.{pow-add, pow_pos}
 use lib.Ieee.{Float, Format, prec, low, units, round}
-use lib.Ieee.Exact.{HasValue, units_val}
+use lib.Ieee.Exact.{units_val}
 use lib.Ieee.Positive.{num, den, den_pos, value→cross}
 use lib.Ieee.Scale.{overflow, round_same}
 use Rattle.float_writers.specs.Decimals.{ReadsAt, far_of, IsShortestAt}
@@ -186,8 +186,10 @@ module _ (f : Format) (kf shift k m c : ℕ) (at : kf + shift ≡ k) (scale : lo
         where
           one : (a n v w : ℕ) → a * (n * (v * w)) ≡ a * (n * v) * w
           one a n v w = grind arith
+
           other : (a n v w : ℕ) → a * (n * (v * w)) ≡ a * (n * w) * v
           other a n v w = grind arith
+
           turn : (g l w : ℕ) → g * l * w ≡ g * w * l
           turn g l w = grind arith
 
@@ -234,6 +236,7 @@ module _ (f : Format) (kf shift k m c : ℕ) (at : kf + shift ≡ k) (scale : lo
       where
         turn : (t a b : ℕ) → t * (a * 10) * b ≡ t * 10 * a * b
         turn t a b = grind arith
+
         turn_ : (t s b : ℕ) → t * 10 * s * b ≡ t * (10 * s) * b
         turn_ t s b = grind arith
 

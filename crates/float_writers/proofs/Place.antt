@@ -1,5 +1,5 @@
 -- The place of a float on the grid, by the product.
-use Rattle.std.proofs.Common.{◌≡◌, ℕ, ◌+◌, ◌-◌, ◌*◌, ◌/◌, ◌%◌, ◌^◌, ◌<◌, ◌≤◌, Bool, true, false, refl, sym, ap, subst, ◌∙◌, arith, mul-le-mul_right, mul-le-mul_left}
+use Rattle.std.proofs.Common.{◌≡◌, ℕ, ◌+◌, ◌-◌, ◌*◌, ◌/◌, ◌%◌, ◌^◌, ◌<◌, ◌≤◌, Bool, true, false, refl, sym, ap, subst, ◌∙◌, arith, mul-le-mul_left}
 use Rattle.std.proofs.Math.Nat.{mod-eq_of_lt}
 use native.Mathlib.Nat.{mul-pos}
 use Rattle.std.proofs.Math.Nat.{div-mul-le_self}

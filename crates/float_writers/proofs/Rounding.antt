@@ -1,20 +1,20 @@
 -- Which numbers read as a float: those at most half a gap away, and at just half a gap if its
 -- significand is even. Below a power of two the gap is half as wide.
-use Rattle.std.proofs.Common.{◌≡◌, ℕ, zero, suc, ◌+◌, ◌-◌, ◌*◌, ◌/◌, ◌%◌, ◌^◌, ◌<◌, ◌≤◌, Bool, true, false, refl, sym, ap, subst, ◌∙◌, ◌⊎◌, inl, inr, arith, mul-le-mul_right, mul-le-mul_left, le_trans}
+use Rattle.std.proofs.Common.{◌≡◌, ℕ, zero, suc, ◌+◌, ◌-◌, ◌*◌, ◌/◌, ◌%◌, ◌^◌, ◌<◌, ◌≤◌, false, refl, sym, ap, subst, ◌∙◌, ◌⊎◌, inl, inr, arith, mul-le-mul_right, mul-le-mul_left, le_trans}
 use Rattle.std.proofs.lemmas.Bool.{cases_lt}
 use Prim.Native.Nat.{compare, Ordering}
 use mathlib.Core.Bool.{not}
-use native.Mathlib.Nat.{le_of_eq, div-div-eq-div-mul, le-div_iff_mul-le, div-lt_iff_lt-mul, mul-pos, div-add-mod', mod-lt, eq_of_mul-eq-mul_right, lt_of_mul-lt-mul_right, lt_of_not-le, not-le_of_lt, lt_of_lt_of_le}
+use native.Mathlib.Nat.{le_of_eq, div-div-eq-div-mul, le-div_iff_mul-le, div-lt_iff_lt-mul, mul-pos, div-add-mod', mod-lt, eq_of_mul-eq-mul_right, lt_of_not-le, not-le_of_lt, lt_of_lt_of_le}
 use lib.Arith.{lt_of_le-ne}
 use lib.Dec.{T, is_le, compare_is_eq, eqb, leb→le, nleb→lt, eqb→eq, eqb_refl}
 use lib.Pow.{pow-add, pow_pos, pow_mono}
-use lib.Ieee.{Float, Format, prec, emax, low, size, nearest, units, round}
+use lib.Ieee.{Float, Format, prec, low, size, nearest, units, round}
 use lib.Ieee.Exact.{HasValue, units_val}
 use lib.Ieee.Fits.{round_is, two, two-le_pos}
 use lib.Ieee.Nearest.{closest, nearest-ge}
 use lib.Ieee.Digits.{size_reaches, size-le, size-lt}
 use lib.Ieee.Order.{drop, kept}
-use lib.Ieee.Positive.{positive_of_value, positive-finite, num, den, den_pos, value→cross}
+use lib.Ieee.Positive.{positive_of_value, positive-finite, den_pos, value→cross}
 use Rattle.digit_floats.proofs.Units.{carried}
 use lib.Ieee.Scale.{grid, overflow, round_val, round_under, finite}
 
@@ -221,20 +221,20 @@ module _ (f : Format) (n d m k : ℕ) (D : 0 < d) (some : 0 < m) (few : m < 2 ^ 
     inside_of_reads c (inl mode) =
         let two_gaps : c * g ≡ 2 * g = ap (λ z. z * g) mode.0 in
         record {
-      low = omega (arith, near.most, place, narrower, two_gaps);
-      high = omega (arith, near.least, place, narrower);
-      low_tie = λ h.
-          even_of (omega (arith, h, near.most, place, two_gaps)) (near.tie_above (omega (arith, h, near.most, place, narrower, two_gaps)));
-      high_tie = λ h. even_of (omega (arith, h, near.least, place)) (near.tie_below (omega (arith, h, near.least, place, narrower)));
-    }
+          low = omega (arith, near.most, place, narrower, two_gaps);
+          high = omega (arith, near.least, place, narrower);
+          low_tie = λ h.
+              even_of (omega (arith, h, near.most, place, two_gaps)) (near.tie_above (omega (arith, h, near.most, place, narrower, two_gaps)));
+          high_tie = λ h. even_of (omega (arith, h, near.least, place)) (near.tie_below (omega (arith, h, near.least, place, narrower)));
+        }
     inside_of_reads c (inr mode) =
         let one_gap : c * g ≡ 1 * g = ap (λ z. z * g) mode.0.0 in
         record {
-      low = omega (arith, least_edge mode.1.0 mode.1.1, one_gap);
-      high = omega (arith, near.least, place, narrower);
-      low_tie = λ _. mode.0.1;
-      high_tie = λ _. mode.0.1;
-    }
+          low = omega (arith, least_edge mode.1.0 mode.1.1, one_gap);
+          high = omega (arith, near.least, place, narrower);
+          low_tie = λ _. mode.0.1;
+          high_tie = λ _. mode.0.1;
+        }
 
 size_gt : (n j : ℕ) → 2 ^ j ≤ n → j < size n
 size_gt n j h = lt_of_not-le (λ g. not-le_of_lt (lt_of_lt_of_le (size-lt n) (pow_mono g)) h)

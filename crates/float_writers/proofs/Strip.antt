@@ -1,15 +1,15 @@
 -- The same decimal without the zeros at its end, and in the words of callers.
-use Rattle.std.proofs.Common.{◌≡◌, ℕ, zero, suc, ◌+◌, ◌-◌, ◌*◌, ◌/◌, ◌%◌, ◌^◌, ◌<◌, ◌≤◌, Bool, true, false, cond, T, ltb, refl, sym, ap, subst, ◌∙◌, ◌⊎◌, inl, inr, arith}
+use Rattle.std.proofs.Common.{◌≡◌, ℕ, zero, suc, ◌+◌, ◌-◌, ◌*◌, ◌%◌, ◌^◌, ◌<◌, ◌≤◌, Bool, true, false, cond, T, ltb, refl, sym, ap, subst, ◌∙◌, ◌⊎◌, inl, inr, arith}
 use Rattle.std.specs.Int.{abs_diff}
 use mathlib.Core.Bool.{not}
 use lib.Dec.{ltb→lt, nltb→le}
 use Rattle.std.specs.Prelude.{ℤ, pos, negsuc, ◌-ℤ◌}
-use native.Mathlib.Nat.{mul_assoc, mul-one, eq_of_mul-eq-mul_right, lt_of_mul-lt-mul_right, mul-lt-mul_of_pos_right, pow-suc}
+use native.Mathlib.Nat.{mul-one, eq_of_mul-eq-mul_right, lt_of_mul-lt-mul_right, mul-lt-mul_of_pos_right, pow-suc}
 use Rattle.std.proofs.lemmas.Bool.{cases_lt}
 use lib.Ieee.{Float, Format, round}
 use lib.Ieee.Positive.{num, den}
 use lib.Ieee.Scale.{round_same}
-use Rattle.float_writers.specs.Decimals.{ReadsAt, Reads, far_of, far, units_of, places_of, IsShortestAt, IsNearer, IsAsNear, HasNoMoreDigits}
+use Rattle.float_writers.specs.Decimals.{ReadsAt, Reads, far_of, units_of, places_of, IsShortestAt, IsNearer, IsAsNear, HasNoMoreDigits}
 use Rattle.float_writers.specs.declared.decimal.Decimal.{Decimal}
 use Rattle.float_writers.proofs.Fewest.{ten_pos, joined}
 use Rattle.float_writers.proofs.OnGrid.{abs_scaled}

@@ -1,8 +1,8 @@
 -- Zeros at the end of digits.
-use Rattle.std.proofs.Common.{◌≡◌, ℕ, zero, suc, ◌+◌, ◌-◌, ◌*◌, ◌/◌, ◌%◌, ◌^◌, ◌<◌, ◌≤◌, sym, ap, ◌∙◌, inl, inr, arith, mul-le-mul_right}
+use Rattle.std.proofs.Common.{◌≡◌, ℕ, suc, ◌+◌, ◌-◌, ◌*◌, ◌/◌, ◌%◌, ◌^◌, ◌<◌, ◌≤◌, sym, ap, ◌∙◌, inl, inr, arith, mul-le-mul_right}
 use Rattle.std.proofs.lemmas.Bool.{cases_lt}
-use native.Mathlib.Nat.{pow-suc}
-use Rattle.float_writers.proofs.Fewest.{ten_pos, tens_le}
+use native.Mathlib.Nat.{pow-suc, div-add-mod'}
+use Rattle.float_writers.proofs.Fewest.{tens_le, joined}
 
 -- with one zero less
 pub one_less : (left up power digits : ℕ) → left % 10 ≡ 0 → power ≤ up → left * 10 ^ (up - power) ≡ digits
@@ -27,3 +27,20 @@ few_zeros left up power digits some onward value few =
           let b : 1 * 10 ^ (up - power) ≤ left * 10 ^ (up - power) = mul-le-mul_right (10 ^ (up - power)) some in
           absurd (omega (arith, a, b, value, few))
     ]
+
+-- with some zeros less
+pub some_less : (digits power tens zeros : ℕ) → tens ≡ 10 ^ zeros → digits % tens ≡ 0
+    → digits / tens * 10 ^ (power + zeros - power) ≡ digits
+some_less digits power tens zeros is ends =
+    ap (λ z. digits / tens * z) (ap (λ z. 10 ^ z) {x = power + zeros - power} {y = zeros} (omega arith) ∙ sym is)
+    ∙ whole (digits / tens * tens) (digits % tens) digits (div-add-mod' digits tens) ends
+  where
+    whole : (a b c : ℕ) → a + b ≡ c → b ≡ 0 → a ≡ c
+    whole a b c e z = omega (arith, e, z)
+
+-- twice
+pub chained : (first second third a b c : ℕ) → a ≤ b → b ≤ c → second * 10 ^ (b - a) ≡ first → third * 10 ^ (c - b) ≡ second
+    → third * 10 ^ (c - a) ≡ first
+chained first second third a b c l h p q =
+    ap (λ z. third * 10 ^ z) {x = c - a} {y = c - b + (b - a)} (omega (arith, l, h)) ∙ sym (joined third (c - b) (b - a))
+    ∙ ap (λ z. z * 10 ^ (b - a)) q ∙ p

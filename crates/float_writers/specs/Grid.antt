@@ -1,5 +1,5 @@
 -- The grid of decimals on which a float is written.
-use Rattle.std.specs.Prelude.{◌≡◌, ℕ, ◌+◌, ◌-◌, ◌*◌, ◌/◌, ◌^◌, ◌<◌, ◌≤◌, nat_lt, Bool, true, false, if◌then◌else◌}
+use Rattle.std.specs.Prelude.{ℕ, ◌+◌, ◌-◌, ◌*◌, ◌/◌, ◌^◌, ◌<◌, ◌≤◌, nat_lt, Bool, true, false, if◌then◌else◌}
 
 -- the power of ten of the grid's steps, plus 324, by the power of two of the float's gap, plus 1074
 abbrev pub power_of : ℕ → ℕ → ℕ

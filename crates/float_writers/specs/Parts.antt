@@ -1,5 +1,5 @@
 -- The parts of a float above zero.
-use Rattle.std.specs.Prelude.{◌≡◌, ℕ, T, ◌-◌, ◌*◌, ◌^◌, ◌<◌, ◌≤◌, false, true}
+use Rattle.std.specs.Prelude.{◌≡◌, T, ◌-◌, ◌*◌, ◌^◌, ◌<◌, ◌≤◌, false, true}
 use Rattle.std.specs.Float.{Float, Format}
 use Rattle.std.specs.Float.Ieee.{prec, low, emax, units}
 use lib.Ieee.Positive.{positive}

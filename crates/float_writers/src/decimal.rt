@@ -16,6 +16,39 @@ pub struct Decimal {
     pub power: i32,
 }
 
+/// The digits without so many zeros at their end, if they have them, and the power of ten with them.
+#[inline(always)]
+#[tactic(auto, using(crate::proofs::Zeros::some_less))]
+fn strip(digits: u64, power: u64, tens: u64, zeros: u64) -> (u64, u64)
+    requires digits { 0 < digits }
+    requires power { power < 2 ^ 32 }
+    requires tens { (tens ≡ 10 ^ zeros) × (0 < tens) }
+    requires few { (0 < zeros) × (zeros ≤ 8) }
+    ensures value { result.0 * 10 ^ (result.1 - power) ≡ digits }
+    ensures some { 0 < result.0 }
+    ensures onward { (power ≤ result.1) × (result.1 ≤ power + zeros) }
+{
+    if digits % tens == 0 {
+        return (digits / tens, power + zeros);
+    }
+    (digits, power)
+}
+
+/// The digits without up to fourteen zeros at their end.
+#[inline(always)]
+#[tactic(auto, using(crate::proofs::Zeros::chained))]
+fn without_most_zeros(digits: u64, power: u64) -> (u64, u64)
+    requires digits { 0 < digits }
+    requires power { power ≤ 617 }
+    ensures value { result.0 * 10 ^ (result.1 - power) ≡ digits }
+    ensures some { 0 < result.0 }
+    ensures onward { (power ≤ result.1) × (result.1 ≤ power + 14) }
+{
+    let (eight, above) = strip(digits, power, 100_000_000, 8);
+    let (four, higher) = strip(eight, above, 10_000, 4);
+    strip(four, higher, 100, 2)
+}
+
 /// The digits without the zeros at their end, and the power of ten with them.
 #[inline(always)]
 #[tactic(auto, using(crate::proofs::Zeros::one_less, crate::proofs::Zeros::few_zeros))]
@@ -27,8 +60,10 @@ fn without_zeros(digits: u64, power: u64) -> (u64, u64)
     ensures few { (result.1 < power + 20) × (result.0 < 10 ^ 20) }
     ensures last { result.0 % 10 ≡ 0 → ⊥ }
 {
-    let mut left = digits;
-    let mut up = power;
+    if digits % 10 != 0 {
+        return (digits, power);
+    }
+    let (mut left, mut up) = without_most_zeros(digits, power);
     while left % 10 == 0 {
         left /= 10;
         up += 1;

@@ -152,7 +152,13 @@ fn place_of(parts: Parts) -> Place
     let (whole, rest) = product(shifted(parts.significand, shift), row);
     let half = half_of(row, shift);
     let reach = reach_of(half, parts.edge);
-    Place { power, whole, rest, half, reach }
+    Place {
+        power,
+        whole,
+        rest,
+        half,
+        reach,
+    }
 }
 
 /// The shortest decimal that reads as a float, perhaps with zeros at its end, and its power of ten

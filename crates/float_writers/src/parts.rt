@@ -53,6 +53,11 @@ fn parts_of(bits: u64, hidden: u64, first: u64) -> Parts
 
 /// `f64` and `f32`.
 pub trait WrittenFloat: Float {
+    /// Whether a float is above zero, and not the infinity.
+    fn is_above_zero(self) -> bool
+        ensures yes { result ≡ true → IsAboveZero (Self.value self) }
+        ensures no { result ≡ false → IsAboveZero (Self.value self) → ⊥ };
+
     /// The parts of a float above zero.
     fn parts(self) -> Parts
         requires { IsAboveZero (Self.value self) }
@@ -61,12 +66,30 @@ pub trait WrittenFloat: Float {
 
 impl WrittenFloat for f64 {
     #[inline(always)]
+    #[tactic(auto, using(crate::proofs::Fields::above_yes, crate::proofs::Fields::above_no))]
+    fn is_above_zero(self) -> bool {
+        if self > 0.0 {
+            return self.is_finite();
+        }
+        false
+    }
+
+    #[inline(always)]
     fn parts(self) -> Parts {
         parts_of(self.to_bits(), 1 << 52, 0)
     }
 }
 
 impl WrittenFloat for f32 {
+    #[inline(always)]
+    #[tactic(auto, using(crate::proofs::Fields::above_yes, crate::proofs::Fields::above_no))]
+    fn is_above_zero(self) -> bool {
+        if self > 0.0 {
+            return self.is_finite();
+        }
+        false
+    }
+
     #[inline(always)]
     fn parts(self) -> Parts {
         parts_of(u64::from(self.to_bits()), 1 << 23, 925)

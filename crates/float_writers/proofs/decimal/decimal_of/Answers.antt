@@ -1,9 +1,8 @@
-use Rattle.std.proofs.Common.{◌≡◌, ap, ◌∙◌}
+use Rattle.std.proofs.Common.{◌∙◌}
 use mir.Syntax.{w32}
 use lib.Dec.{lt→ltb}
 use Rattle.std.proofs.Math.Facts.{sfits_lit}
 use Rattle.std.proofs.lemmas.Int.{to_z-of_z}
-use Rattle.float_writers.specs.Decimals.{units_of, places_of}
 use Rattle.float_writers.proofs.Strip.{units_at, places_at}
 use Rattle.float_writers.proofs.decimal.decimal_of.Goals as goal
 

@@ -1,4 +1,4 @@
-use Rattle.std.proofs.Common.{◌≡◌, ℕ, ◌+◌, ◌-◌, ◌*◌, ◌/◌, ◌%◌, ◌^◌, ◌<◌, ◌≤◌, pos, ◌-ℤ◌, sym, ap, subst, ◌∙◌, arith}
+use Rattle.std.proofs.Common.{◌≡◌, ◌+◌, ◌-◌, subst, arith}
 use Rattle.float_writers.specs.Decimals.{IsShortestAt}
 use Rattle.float_writers.proofs.Strip.{strip, reads_it, shortest_it, closest_it, even_it}
 use Rattle.float_writers.proofs.decimal.shortest.Goals as goal

@@ -1,6 +1,4 @@
-use Rattle.std.proofs.Common.{◌≡◌, ℕ, true, false, ◌+◌, ◌*◌, ◌/◌, ◌%◌, ◌^◌, refl, sym, ap, subst, ◌∙◌, arith}
-use Rattle.std.specs.Prelude.{◌==◌}
-use Rattle.float_writers.specs.Grid.{within}
+use Rattle.std.proofs.Common.{refl, sym, ◌∙◌, arith}
 use Rattle.float_writers.proofs.Choice.{ten_below, ten_above, lower_step, upper_step, other_step}
 use Rattle.float_writers.proofs.grid.digits_of.Goals as goal
 

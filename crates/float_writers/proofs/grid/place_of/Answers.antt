@@ -1,4 +1,4 @@
-use Rattle.std.proofs.Common.{◌≡◌, ◌+◌, ◌*◌, ◌^◌, ap, ◌∙◌}
+use Rattle.std.proofs.Common.{◌*◌, ap, ◌∙◌}
 use Rattle.float_writers.proofs.Place.{is_placed, is_half, is_reach}
 use Rattle.float_writers.proofs.grid.place_of.Goals as goal
 

@@ -1,6 +1,5 @@
-use Rattle.std.proofs.Common.{◌≡◌, ℕ, true, false, ◌-◌, ◌^◌, ◌<◌, ◌≤◌, ◌+◌, ◌*◌, ◌/◌, ◌%◌, sym, ap, subst, ◌∙◌, arith}
+use Rattle.std.proofs.Common.{◌≡◌, false, ◌-◌, ◌<◌, ◌+◌, ◌/◌, ◌%◌, sym, ap, subst, ◌∙◌, arith}
 use Rattle.std.specs.Prelude.{from_bits}
-use Rattle.std.specs.Float.Ieee.{hid}
 use Rattle.float_writers.specs.Parts.{IsParts}
 use Rattle.float_writers.proofs.Fields.{of_zero, of_some}
 use Rattle.float_writers.proofs.parts.parts_of.Goals as goal

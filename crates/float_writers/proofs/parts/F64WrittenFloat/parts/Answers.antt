@@ -1,6 +1,6 @@
-use Rattle.std.proofs.Common.{◌≡◌, ℕ, refl, sym, ap, subst, ◌∙◌, arith}
+use Rattle.std.proofs.Common.{refl, sym, subst}
 use lib.Dec.{T}
-use lib.Ieee.{binary64, to_bits}
+use lib.Ieee.{binary64}
 use lib.Ieee.Bits.{of_bits-to_bits}
 use Rattle.float_writers.proofs.Fields.{number}
 use Rattle.float_writers.specs.Parts.{IsParts, IsAboveZero}

@@ -1,0 +1,49 @@
+//! The calls that `bench/writers` makes, as a C library.
+#![tactic(auto)]
+
+use float_writers::{WrittenFloat, shortest};
+
+/// A float's shortest decimal; no digits where there is none.
+#[derive(Clone, Copy)]
+#[repr(C)]
+pub struct Written {
+    pub digits: u64,
+    pub power: i64,
+}
+
+/// The shortest decimal of a float above zero.
+fn write<F: WrittenFloat>(x: F) -> Written {
+    if !x.is_above_zero() {
+        return Written { digits: 0, power: 0 };
+    }
+    let decimal = shortest::<F>(x);
+    Written {
+        digits: decimal.digits,
+        power: i64::from(decimal.power),
+    }
+}
+
+/// The shortest decimal of an `f64`.
+#[unsafe(no_mangle)]
+pub extern "C" fn writer_f64(x: f64, out: &mut Written) {
+    *out = write(x);
+}
+
+/// The shortest decimal of an `f32`.
+#[unsafe(no_mangle)]
+pub extern "C" fn writer_f32(x: f32, out: &mut Written) {
+    *out = write(x);
+}
+
+/// A sum over the decimals of floats, to time them.
+#[unsafe(no_mangle)]
+pub extern "C" fn writer_all(xs: &[f64], out: &mut Written) {
+    let mut digits = 0u64;
+    let mut power = 0i64;
+    for x in xs {
+        let one = write(*x);
+        digits = digits.wrapping_add(one.digits);
+        power = power.wrapping_add(one.power);
+    }
+    *out = Written { digits, power };
+}
