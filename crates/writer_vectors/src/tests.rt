@@ -1,0 +1,3 @@
+//! Tests over the public calls of the crates that write numbers.
+
+mod decimals;
