@@ -140,7 +140,7 @@ module _ (f : Format) (x : Float) (layout : Layout) (b : Bool) (d : Decimal) (fi
     (
       record {
         finite = finite;
-        decimal = d;
+        written = d;
         is = ap (λ (b : Bool). text_of layout b d) sign;
         shortest = shortest;
       },

@@ -1,5 +1,5 @@
 -- The shortest decimal of any float, and its text.
-use Rattle.std.specs.Prelude.{◌≡◌, ◌⊎◌, ℕ, pos, ◌%◌, ◌<◌, Bool, false, IsTrue, List, length, is_nan}
+use Rattle.std.specs.Prelude.{◌≡◌, ◌⊎◌, ℕ, pos, ◌%◌, ◌<◌, Bool, false, IsTrue, List, ◌++◌, length, is_nan, codes, decimal}
 use Rattle.std.specs.Float.{Float, Format, float_is_finite, float_is_infinite, float_with_sign, is_sign_negative}
 use Rattle.decimal_writers.specs.Text.{plain_text, exponent_text, usual_text}
 use Rattle.float_writers.specs.Decimals.{Reads, HasNoMoreDigits, IsNearer, IsAsNear}
@@ -30,9 +30,9 @@ text_of Usual negative d = usual_text negative d.digits d.power
 -- a text is that of a float: its sign, and the shortest decimal of its size
 pub record IsTextOf (f : Format) (x : Float) (layout : Layout) (text : List ℕ) : Type 0 where
   pub finite : IsTrue (float_is_finite x)
-  pub decimal : Decimal
-  pub is : text ≡ text_of layout (is_sign_negative x) decimal
-  pub shortest : IsShortest f (float_with_sign false x) decimal
+  pub written : Decimal
+  pub is : text ≡ text_of layout (is_sign_negative x) written
+  pub shortest : IsShortest f (float_with_sign false x) written
 
 -- why a slice of so many bytes has no text of a float
 abbrev pub IsReason : Format → Float → Layout → ℕ → FloatTextError → Type 0
@@ -40,3 +40,9 @@ IsReason f x layout room (NoRoom needed) =
     (text : List ℕ) × (IsTextOf f x layout text × ((length text ≡ needed) × (room < needed)))
 IsReason f x layout room Infinite = IsTrue (float_is_infinite x)
 IsReason f x layout room NaN = IsTrue (is_nan x)
+
+-- what is printed of an error
+abbrev pub message : FloatTextError → List ℕ
+message (NoRoom needed) = codes "the text needs " ++ decimal needed ++ codes " bytes"
+message Infinite = codes "an infinity has no text"
+message NaN = codes "what is not a number has no text"

@@ -1,4 +1,5 @@
-//! The shortest decimal of a float.
+//! The shortest decimal of a float, and its text: the fewest digits that are read as the float, of
+//! these the closest to it, and of two as close the one whose last digit is even.
 #![tactic(auto)]
 
 mod decimal;

@@ -1,17 +1,19 @@
 //! The shortest text of any float.
 
-ghost use Rattle.std.specs.Prelude.{◌≡◌, ◌≤◌, List, ℕ, true, false, length, take, drop, IsTrue, IfOk, IfErr, is_nan};
+ghost use Rattle.std.specs.Prelude.{◌≡◌, ◌≤◌, List, ℕ, Some, true, false, length, take, drop, IsTrue, IfOk, IfErr, is_nan};
 ghost use Rattle.std.specs.Float.{NotNan, float_is_finite, float_is_infinite, is_sign_negative, float_with_sign, float_zero};
 ghost use Rattle.lexical_format.specs.declared.TheConstants.{STANDARD};
 ghost use Rattle.digit_floats.specs.Float.{plain_marks, parse_at};
 ghost use Rattle.decimal_writers.specs.Room.{Writes};
 ghost use Rattle.decimal_writers.specs.Value.{Reads};
 ghost use Rattle.float_writers.specs.Parts.{IsAboveZero};
-ghost use Rattle.float_writers.specs.Write.{IsShortest, IsTextOf, IsReason, text_of};
+ghost use Rattle.float_writers.specs.Write.{IsShortest, IsTextOf, IsReason, text_of, message};
 
 use super::decimal::{Decimal, shortest};
 use super::parts::WrittenFloat;
 use decimal_writers::{NoRoom, write_exponent, write_plain, write_usual};
+use std::error::Error;
+use std::fmt;
 
 /// How a decimal is laid out.
 #[derive(Clone, Copy, Debug, PartialEq, Eq)]
@@ -35,6 +37,20 @@ pub enum FloatTextError {
     /// The float is not a number.
     NaN,
 }
+
+impl fmt::Display for FloatTextError {
+    ghost output = { λ e. Some (message e) };
+
+    fn fmt<W: fmt::Write>(&self, f: &mut fmt::Formatter<W>) -> fmt::Result {
+        match *self {
+            FloatTextError::NoRoom(needed) => write!(f, "the text needs {needed} bytes"),
+            FloatTextError::Infinite => write!(f, "an infinity has no text"),
+            FloatTextError::NaN => write!(f, "what is not a number has no text"),
+        }
+    }
+}
+
+impl Error for FloatTextError {}
 
 /// `f64` and `f32`: what kind of float one is.
 pub trait AnyFloat: WrittenFloat {
