@@ -10,3 +10,4 @@ pub mod Rounding
 pub mod Rows
 pub mod Strip
 pub mod Zeros
+pub mod Written

@@ -1,3 +1,4 @@
 pub mod Decimals
 pub mod Grid
 pub mod Parts
+pub mod Write

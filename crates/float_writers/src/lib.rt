@@ -1,10 +1,13 @@
-//! The shortest decimal of a float.
+//! The shortest decimal of a float, and its text: the fewest digits that are read as the float, of
+//! these the closest to it, and of two as close the one whose last digit is even.
 #![tactic(auto)]
 
 mod decimal;
 mod grid;
 mod parts;
 mod powers;
+mod write;
 
 pub use self::decimal::{Decimal, shortest};
 pub use self::parts::{Parts, WrittenFloat};
+pub use self::write::{AnyFloat, FloatTextError, Layout, write_float};

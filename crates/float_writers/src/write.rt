@@ -1,0 +1,208 @@
+//! The shortest text of any float.
+
+ghost use Rattle.std.specs.Prelude.{◌≡◌, ◌≤◌, List, ℕ, Some, true, false, length, take, drop, IsTrue, IfOk, IfErr, is_nan};
+ghost use Rattle.std.specs.Float.{NotNan, float_is_finite, float_is_infinite, is_sign_negative, float_with_sign, float_zero};
+ghost use Rattle.lexical_format.specs.declared.TheConstants.{STANDARD};
+ghost use Rattle.digit_floats.specs.Float.{plain_marks, parse_at};
+ghost use Rattle.decimal_writers.specs.Room.{Writes};
+ghost use Rattle.decimal_writers.specs.Value.{Reads};
+ghost use Rattle.float_writers.specs.Parts.{IsAboveZero};
+ghost use Rattle.float_writers.specs.Write.{IsShortest, IsTextOf, IsReason, text_of, message};
+
+use super::decimal::{Decimal, shortest};
+use super::parts::WrittenFloat;
+use decimal_writers::{NoRoom, write_exponent, write_plain, write_usual};
+use std::error::Error;
+use std::fmt;
+
+/// How a decimal is laid out.
+#[derive(Clone, Copy, Debug, PartialEq, Eq)]
+pub enum Layout {
+    /// Without an exponent, as Rust's `{}`: `0.00012`, `1.5`, `12000`, `0`.
+    Plain,
+    /// With one digit before the point and an exponent, as Rust's `{:e}`: `1.2e-4`, `1.5e0`.
+    Exponent,
+    /// As serde_json: with an exponent below 1e-5 and from 1e16 on, and else without, but with one
+    /// place at least: `0.00012`, `12000.0`, `1e-7`, `1e16`.
+    Usual,
+}
+
+/// Why a float has no text.
+#[derive(Clone, Copy, Debug, PartialEq, Eq)]
+pub enum FloatTextError {
+    /// The slice is shorter than the text, which has so many bytes.
+    NoRoom(usize),
+    /// The float is an infinity.
+    Infinite,
+    /// The float is not a number.
+    NaN,
+}
+
+impl fmt::Display for FloatTextError {
+    ghost output = { λ e. Some (message e) };
+
+    fn fmt<W: fmt::Write>(&self, f: &mut fmt::Formatter<W>) -> fmt::Result {
+        match *self {
+            FloatTextError::NoRoom(needed) => write!(f, "the text needs {needed} bytes"),
+            FloatTextError::Infinite => write!(f, "an infinity has no text"),
+            FloatTextError::NaN => write!(f, "what is not a number has no text"),
+        }
+    }
+}
+
+impl Error for FloatTextError {}
+
+/// `f64` and `f32`: what kind of float one is.
+pub trait AnyFloat: WrittenFloat {
+    /// Whether it is not a number.
+    fn is_not_a_number(self) -> bool
+        ensures { result ≡ is_nan (Self.value self) };
+
+    /// Whether it is an infinity.
+    fn is_without_end(self) -> bool
+        ensures { result ≡ float_is_infinite (Self.value self) };
+
+    /// Whether it has a minus, as -0.0 has.
+    fn has_minus(self) -> bool
+        requires { NotNan (Self.value self) }
+        ensures { result ≡ is_sign_negative (Self.value self) };
+
+    /// Whether it is 0.0 or -0.0.
+    fn is_zero(self) -> bool
+        requires { IsTrue (float_is_finite (Self.value self)) }
+        ensures zero { result ≡ true → float_with_sign false (Self.value self) ≡ float_zero }
+        ensures above { result ≡ false → IsAboveZero (float_with_sign false (Self.value self)) };
+}
+
+impl AnyFloat for f64 {
+    #[inline(always)]
+    fn is_not_a_number(self) -> bool {
+        self.is_nan()
+    }
+
+    #[inline(always)]
+    fn is_without_end(self) -> bool {
+        self.is_infinite()
+    }
+
+    #[inline(always)]
+    fn has_minus(self) -> bool {
+        self.is_sign_negative()
+    }
+
+    #[inline(always)]
+    fn is_zero(self) -> bool {
+        self == 0.0
+    }
+}
+
+impl AnyFloat for f32 {
+    #[inline(always)]
+    fn is_not_a_number(self) -> bool {
+        self.is_nan()
+    }
+
+    #[inline(always)]
+    fn is_without_end(self) -> bool {
+        self.is_infinite()
+    }
+
+    #[inline(always)]
+    fn has_minus(self) -> bool {
+        self.is_sign_negative()
+    }
+
+    #[inline(always)]
+    fn is_zero(self) -> bool {
+        self == 0.0
+    }
+}
+
+/// The shortest decimal of a float's size, whatever its sign.
+#[inline(always)]
+fn shortest_size<F: AnyFloat>(x: F, negative: bool) -> Decimal
+    requires finite { IsTrue (float_is_finite (F.value x)) }
+    requires sign { negative ≡ is_sign_negative (F.value x) }
+    ensures { IsShortest F.format (float_with_sign false (F.value x)) result }
+{
+    if x.is_zero() {
+        return Decimal {
+            digits: 0,
+            power: 0,
+        };
+    }
+    shortest(x.negated_if(negative))
+}
+
+/// Writes a decimal in a layout.
+#[inline(always)]
+fn write_decimal(
+    layout: Layout,
+    negative: bool,
+    decimal: Decimal,
+    out: &mut [u8],
+) -> Result<usize, NoRoom>
+    ensures writes { Writes (text_of layout negative decimal) out.old out.new result }
+    ensures reads { IfOk result (λ n.
+        Reads negative decimal.digits decimal.power (take n out.new)) }
+{
+    match layout {
+        Layout::Plain => write_plain(negative, decimal.digits, decimal.power, out),
+        Layout::Exponent => write_exponent(negative, decimal.digits, decimal.power, out),
+        Layout::Usual => write_usual(negative, decimal.digits, decimal.power, out),
+    }
+}
+
+/// [`write_float`] of a number that is finite.
+#[inline(always)]
+fn write_finite<F: AnyFloat>(x: F, layout: Layout, out: &mut [u8]) -> Result<usize, NoRoom>
+    requires { IsTrue (float_is_finite (F.value x)) }
+    ensures writes { (text : List ℕ) × (IsTextOf F.format (F.value x) layout text
+        × Writes text out.old out.new result) }
+    ensures reads { IfOk result (λ n.
+        parse_at STANDARD (take n out.new) plain_marks F.format 0 ≡ Ok (F.value x)) }
+{
+    let negative = x.has_minus();
+    let decimal = shortest_size(x, negative);
+    write_decimal(layout, negative, decimal, out)
+}
+
+/// Writes the shortest text of a float to the front of a slice, and answers its length: the fewest
+/// digits that are read as the float, of these the closest to it, and of two as close the one whose
+/// last digit is even. A zero keeps its sign. What follows the text in the slice stays as it was. If
+/// there is no text, the slice stays as it was.
+///
+/// ```text
+/// x         Plain                       Exponent    Usual
+/// 0.1       0.1                         1e-1        0.1
+/// -12000.0  -12000                      -1.2e4      -12000.0
+/// 1e23      100000000000000000000000    1e23        1e23
+/// -0.0      -0                          -0e0        -0.0
+/// ```
+#[inline]
+pub fn write_float<F: AnyFloat>(
+    x: F,
+    layout: Layout,
+    out: &mut [u8],
+) -> Result<usize, FloatTextError>
+    ensures written { IfOk result (λ n.
+        IsTextOf F.format (F.value x) layout (take n out.new)) }
+    ensures reads { IfOk result (λ n.
+        parse_at STANDARD (take n out.new) plain_marks F.format 0 ≡ Ok (F.value x)) }
+    ensures within { IfOk result (λ n. n ≤ length out.old) }
+    ensures rest { IfOk result (λ n. drop n out.new ≡ drop n out.old) }
+    ensures none { IfErr result (λ error.
+        IsReason F.format (F.value x) layout (length out.old) error) }
+    ensures unchanged { IfErr result (λ error. out.new ≡ out.old) }
+{
+    if x.is_not_a_number() {
+        return Err(FloatTextError::NaN);
+    }
+    if x.is_without_end() {
+        return Err(FloatTextError::Infinite);
+    }
+    match write_finite(x, layout, out) {
+        Ok(len) => Ok(len),
+        Err(NoRoom { needed }) => Err(FloatTextError::NoRoom(needed)),
+    }
+}
