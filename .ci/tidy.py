@@ -15,7 +15,7 @@ MOST = 100
 # an import up to its end: `use`, with `ghost` before it in a .rt file; no `pub use`
 IMPORT = re.compile(r"^[ ]*(?:ghost )?use [^;{]*?(?:\{[^}]*\})?(?:;|$)", re.M)
 # lists of names, and literals, which no layout breaks
-UNBROKEN = re.compile(r"\s*(?:(?:unfoldable )?(?:pub )?(?:ghost )?use |#!?\[tactic|b?\"[^\"]*\",?$)")
+UNBROKEN = re.compile(r"\s*(?:(?:unfoldable )?(?:pub )?(?:ghost )?use |#!?\[tactic|(?:\w+ = codes )?b?\"[^\"]*\"[,;]?$)")
 # traits of std that files import for their methods
 STD_TRAITS = {"BufRead", "Display", "Error", "FromStr", "Iterator", "Read", "Write"}
 

@@ -6,9 +6,11 @@ use Rattle.decimal_writers.specs.Big.{value_of, IsBig}
 use Rattle.decimal_writers.proofs.Bigs.{value_nil}
 
 -- a number that was written at the front
-pub first_big : (old new : List ℕ) (len number : ℕ) → value_of (take len new) ≡ value_of (take 0 old) + number * 10 ^ 0
+pub first_big : (old new : List ℕ) (len number : ℕ)
+    → value_of (take len new) ≡ value_of (take 0 old) + number * 10 ^ 0
     → ((k : ℕ) → get_or new k 0 < 10) → len ≤ length new → (number ≡ 0 → len ≡ 0)
-    → (0 < number → 10 ^ (len - 1) ≤ value_of (take len new)) → IsBig new len (value_of (take len new))
+    → (0 < number → 10 ^ (len - 1) ≤ value_of (take len new))
+    → IsBig new len (value_of (take len new))
 first_big old new len number value digits within none least = record {
   digits = digits;
   within = within;
@@ -20,7 +22,8 @@ first_big old new len number value digits within none least = record {
     not_none zero len none some = absurd (omega (arith, none refl))
     not_none (suc n) len none some = omega arith
 
-pub first_value : (old new : List ℕ) (len number : ℕ) → value_of (take len new) ≡ value_of (take 0 old) + number * 10 ^ 0
+pub first_value : (old new : List ℕ) (len number : ℕ)
+    → value_of (take len new) ≡ value_of (take 0 old) + number * 10 ^ 0
     → value_of (take len new) ≡ number
 first_value old new len number value = value ∙ omega (arith, value_nil)
 
@@ -33,10 +36,12 @@ tens_are (suc k) =
     product : (a b : ℕ) → a * b * 10 ≡ a * 5 * (b * 2)
     product a b = omega arith
 
-pub down_value : (number shift value places : ℕ) → places + shift ≡ 1074 → value ≡ number * 5 ^ places
+pub down_value : (number shift value places : ℕ) → places + shift ≡ 1074
+    → value ≡ number * 5 ^ places
     → number * 2 ^ shift * 10 ^ places ≡ value * 2 ^ 1074
 down_value number shift value places sum is =
-    let twos : 2 ^ 1074 ≡ 2 ^ places * 2 ^ shift = ap (λ (x : ℕ). 2 ^ x) (sym sum) ∙ pow-add 2 places shift in
+    let twos : 2 ^ 1074 ≡ 2 ^ places * 2 ^ shift = ap (λ (x : ℕ). 2 ^ x) (sym sum)
+    ∙ pow-add 2 places shift in
     ap (λ (x : ℕ). number * 2 ^ shift * x) (tens_are places)
     ∙ moved number (2 ^ shift) (5 ^ places) (2 ^ places)
     ∙ (λ i. sym is i * sym twos i)

@@ -18,15 +18,23 @@ byte_few : (b : Bool) → bool_byte b ≤ 1
 byte_few true = omega arith
 byte_few false = omega arith
 
-mantissa_few : (digits places : ℕ) → length (number_text digits) ≡ places + 1 → length (with_point places digits) ≤ places + 2
+mantissa_few : (digits places : ℕ) → length (number_text digits) ≡ places + 1
+    → length (with_point places digits) ≤ places + 2
 mantissa_few digits zero long = omega (arith, long)
-mantissa_few digits (suc more) long = omega (arith, long, long_with_point digits (suc more) (omega arith))
+mantissa_few digits (suc more) long =
+    omega (arith, long, long_with_point digits (suc more) (omega arith))
 
 power_few : (z : ℤ) → unsigned_abs z < 1000 → length (signed_decimal z) ≤ 4
 power_few z few =
-    omega (arith, long_signed z (omega (arith, few)), few_digits (unsigned_abs z) 3 (omega arith) (omega (arith, few)), byte_few (int_lt z (pos 0)))
+    omega (
+      arith,
+      long_signed z (omega (arith, few)),
+      few_digits (unsigned_abs z) 3 (omega arith) (omega (arith, few)),
+      byte_few (int_lt z (pos 0)),
+    )
 
-sum_few : (power : ℤ) (n : ℕ) → unsigned_abs power ≤ 400 → n < 17 → unsigned_abs (power +ℤ pos n) < 1000
+sum_few : (power : ℤ) (n : ℕ) → unsigned_abs power ≤ 400 → n < 17
+    → unsigned_abs (power +ℤ pos n) < 1000
 sum_few (pos a) n few small = omega (arith, few, small)
 sum_few (negsuc a) n few small = go (negsuc a +ℤ pos n) refl
   where
@@ -34,7 +42,8 @@ sum_few (negsuc a) n few small = go (negsuc a +ℤ pos n) refl
     go (pos k) e = omega (arith, ints, e, small)
     go (negsuc k) e = omega (arith, ints, e, few)
 
-module _ (negative : Bool) (digits : ℕ) (power : ℤ) (few : digits < 10 ^ 17) (near : unsigned_abs power ≤ 400) where
+module _ (negative : Bool) (digits : ℕ) (power : ℤ) (few : digits < 10 ^ 17)
+    (near : unsigned_abs power ≤ 400) where
   abbrev count : ℕ
   count = length (number_text digits)
 
@@ -43,13 +52,17 @@ module _ (negative : Bool) (digits : ℕ) (power : ℤ) (few : digits < 10 ^ 17)
 
   pub exponent_fits : length (exponent_text negative digits power) ≤ 24
   exponent_fits =
-      let a = length-append (sign_text negative) (mantissa_text digits ++ 101 ∷ signed_decimal (first_power digits power)) in
-      let b = length-append (mantissa_text digits) (101 ∷ signed_decimal (first_power digits power)) in
+      let a = length-append (sign_text negative)
+      (mantissa_text digits ++ 101 ∷ signed_decimal (first_power digits power)) in
+      let b = length-append (mantissa_text digits)
+      (101 ∷ signed_decimal (first_power digits power)) in
       let c = mantissa_few digits (count - 1) (omega (arith, some_digits digits)) in
-      let d = power_few (first_power digits power) (sum_few power (count - 1) near (omega (arith, most, some_digits digits))) in
+      let d = power_few (first_power digits power)
+      (sum_few power (count - 1) near (omega (arith, most, some_digits digits))) in
       omega (arith, a, b, c, d, most, some_digits digits, sign_few negative)
 
-tens_few : (digits n : ℕ) → length (number_text digits) + n ≤ 16 → length (number_text (digits * 10 ^ n)) ≤ 16
+tens_few : (digits n : ℕ) → length (number_text digits) + n ≤ 16
+    → length (number_text (digits * 10 ^ n)) ≤ 16
 tens_few zero n l = omega (arith, ap length (no_tens n), number_one 0 (omega arith))
 tens_few (suc d) n l = omega (arith, long_tens (suc d) n (omega arith), l)
 
@@ -60,11 +73,13 @@ plain_below : (k : ℕ) → (int_le (negsuc 4) (negsuc k) && int_lt (negsuc k) (
 plain_below k e = grind (arith, nat_tests, e)
 
 places_few : (n count : ℕ) → 1 ≤ count
-    → (int_le (negsuc 4) (negsuc n +ℤ pos (count - 1)) && int_lt (negsuc n +ℤ pos (count - 1)) (pos 16)) ≡ true
+    → (int_le (negsuc 4) (negsuc n +ℤ pos (count - 1)) && int_lt (negsuc n +ℤ pos (count - 1))
+    (pos 16)) ≡ true
     → n ≤ count + 3
 places_few n count some e = go (negsuc n +ℤ pos (count - 1)) refl e
   where
-    go : (z : ℤ) → negsuc n +ℤ pos (count - 1) ≡ z → (int_le (negsuc 4) z && int_lt z (pos 16)) ≡ true → n ≤ count + 3
+    go : (z : ℤ) → negsuc n +ℤ pos (count - 1) ≡ z
+        → (int_le (negsuc 4) z && int_lt z (pos 16)) ≡ true → n ≤ count + 3
     go (pos k) sum test = omega (arith, ints, sum)
     go (negsuc k) sum test = omega (arith, ints, sum, plain_below k test, some)
 
@@ -74,21 +89,29 @@ module _ (negative : Bool) (digits : ℕ) (few : length (number_text digits) ≤
   pointed_fits (pos n) plain =
       let a = length-append (plain_text negative digits (pos n)) (46 ∷ 48 ∷ []) in
       let b = length-append (sign_text negative) (number_text (digits * 10 ^ n)) in
-      let l : length (number_text digits) + n ≤ 16 = omega (arith, plain_above (n + (length (number_text digits) - 1)) plain, some_digits digits) in
+      let l : length (number_text digits) + n ≤ 16 =
+      omega (
+        arith,
+        plain_above (n + (length (number_text digits) - 1)) plain,
+        some_digits digits,
+      ) in
       omega (arith, a, b, tens_few digits n l, sign_few negative)
   pointed_fits (negsuc n) plain =
       let a = length-append (plain_text negative digits (negsuc n)) [] in
       let b = length-append (sign_text negative) (with_point (n + 1) digits) in
       let c = long_with_point digits (n + 1) (omega arith) in
-      let l : n ≤ length (number_text digits) + 3 = places_few n (length (number_text digits)) (some_digits digits) plain in
+      let l : n ≤ length (number_text digits) + 3 =
+      places_few n (length (number_text digits)) (some_digits digits) plain in
       omega (arith, a, b, c, l, few, sign_few negative)
 
-pub usual_fits : (negative : Bool) (digits : ℕ) (power : ℤ) → digits < 10 ^ 17 → unsigned_abs power ≤ 400
+pub usual_fits : (negative : Bool) (digits : ℕ) (power : ℤ) → digits < 10 ^ 17
+    → unsigned_abs power ≤ 400
     → length (usual_text negative digits power) ≤ 24
 usual_fits negative digits power few near = go (is_plain digits power) refl
   where
     go : (b : Bool) → is_plain digits power ≡ b
-        → length (if b then plain_text negative digits power ++ zero_place power else exponent_text negative digits power) ≤ 24
+        → length (if b then plain_text negative digits power
+        ++ zero_place power else exponent_text negative digits power) ≤ 24
     go true e = pointed_fits negative digits (few_digits digits 17 (omega arith) few) power e
     go false e = exponent_fits negative digits power few near
 

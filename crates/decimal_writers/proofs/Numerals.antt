@@ -43,7 +43,8 @@ last_split before (suc count) n =
     ap (λ (x : ℕ). last_digits x n) next ∙ last_step (before + count) n
     ∙ ap (λ (ds : List ℕ). ds ++ (48 + n % 10) ∷ []) (last_split before count (n / 10))
     ∙ append_assoc (last_digits before (n / 10 / 10 ^ count)) (last_digits count (n / 10)) _
-    ∙ ap (λ (x : ℕ). last_digits before x ++ (last_digits count (n / 10) ++ (48 + n % 10) ∷ [])) rest
+    ∙ ap (λ (x : ℕ). last_digits before x ++ (last_digits count
+    (n / 10) ++ (48 + n % 10) ∷ [])) rest
     ∙ ap (λ (ds : List ℕ). last_digits before (n / 10 ^ suc count) ++ ds) (sym (last_step count n))
 
 pub last_more : (count n : ℕ)
@@ -52,7 +53,9 @@ last_more count n =
     let next : 1 + count ≡ suc count = omega arith in
     ap (λ (x : ℕ). last_digits x n) (sym next) ∙ last_split 1 count n
     ∙ ap (λ (ds : List ℕ). ds ++ last_digits count n)
-    (last_step 0 (n / 10 ^ count) ∙ ap (λ (ds : List ℕ). ds ++ (48 + n / 10 ^ count % 10) ∷ []) (last_none (n / 10 ^ count / 10)))
+    (last_step 0 (n / 10 ^ count)
+    ∙ ap (λ (ds : List ℕ). ds ++ (48 + n / 10 ^ count % 10) ∷ [])
+    (last_none (n / 10 ^ count / 10)))
 
 -- ---- powers of ten
 
@@ -100,7 +103,9 @@ one_digit n few =
     let small : n % 10 ≡ n = omega arith in
     subst (IsCounted n) (sym long)
     record {
-      same = text ∙ ap (λ (x : ℕ). (48 + x) ∷ []) (sym small) ∙ sym (last_step 0 n ∙ ap (λ (ds : List ℕ). ds ++ (48 + n % 10) ∷ []) (last_none (n / 10)));
+      same = text ∙ ap (λ (x : ℕ). (48 + x) ∷ []) (sym small)
+          ∙ sym (last_step 0 n
+          ∙ ap (λ (ds : List ℕ). ds ++ (48 + n % 10) ∷ []) (last_none (n / 10)));
       some = omega arith;
       below = omega arith;
       least = λ more. absurd (omega arith);
@@ -129,7 +134,8 @@ more_digits n front count e many is counts =
     elim (cases_lt 1 count) [
       | inl l ↦
           let last : count - 1 + 1 ≡ count = omega arith in
-          let tens : 10 ^ count ≡ 10 ^ (count - 1) * 10 = ap (λ (x : ℕ). 10 ^ x) (sym last) ∙ tens_more (count - 1) in
+          let tens : 10 ^ count ≡ 10 ^ (count - 1) * 10 = ap (λ (x : ℕ). 10 ^ x) (sym last)
+          ∙ tens_more (count - 1) in
           omega (arith, is.least l, tens, e)
       | inr l ↦
           let one : count ≡ 1 = omega (arith, is.some) in
@@ -150,7 +156,8 @@ counted n = go n n (omega arith)
     go zero n l = one_digit n (omega arith)
     go (suc fuel) n l = elim (cases_lt n 10) [
       | inl few ↦ one_digit n few
-      | inr many ↦ more_digits n (n / 10) (length (number_text (n / 10))) refl many (go fuel (n / 10) (omega arith)) refl
+      | inr many ↦ more_digits n (n / 10) (length (number_text (n / 10))) refl many
+          (go fuel (n / 10) (omega arith)) refl
     ]
 
 -- what is below a power of ten has no more digits
@@ -195,14 +202,17 @@ put_none n end old =
       written = rw (none, last_none) refl;
     }
 
-pub put_one : (n end at left : ℕ) (old new : List ℕ) → end ≤ length old → length new ≡ length old → 0 < at
-    → IsPut n end at left old new → IsPut n end (at - 1) (left / 10) old (set new (at - 1) (48 + left % 10))
+pub put_one : (n end at left : ℕ) (old new : List ℕ) → end ≤ length old → length new ≡ length old
+    → 0 < at
+    → IsPut n end at left old new
+    → IsPut n end (at - 1) (left / 10) old (set new (at - 1) (48 + left % 10))
 put_one n end at left old new fits same some is =
     let next : end - (at - 1) ≡ suc (end - at) = omega (arith, is.within) in
     let tens : 10 ^ suc (end - at) ≡ 10 ^ (end - at) * 10 = omega (arith, pow-suc 10 (end - at)) in
     let back : at - 1 + 1 ≡ at = omega arith in
     let first : drop (at - 1) (set new (at - 1) (48 + left % 10)) ≡ (48 + left % 10) ∷ drop at new =
-    drop-set new (at - 1) (48 + left % 10) (omega (arith, is.within)) ∙ ap (λ (x : ℕ). (48 + left % 10) ∷ drop x new) back in
+    drop-set new (at - 1) (48 + left % 10) (omega (arith, is.within))
+    ∙ ap (λ (x : ℕ). (48 + left % 10) ∷ drop x new) back in
     record {
       within = omega (arith, is.within);
       rest =

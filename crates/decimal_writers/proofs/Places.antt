@@ -41,7 +41,8 @@ big_count bytes len is =
             elim (cases_lt count len) [
               | inr all ↦ omega (arith, most, all)
               | inl fewer ↦
-                  let tens : 10 ^ count ≤ 10 ^ (len - 1) = pow-le-pow_right (omega arith) (omega (arith, fewer)) in
+                  let tens : 10 ^ count ≤ 10 ^ (len - 1) =
+                  pow-le-pow_right (omega arith) (omega (arith, fewer)) in
                   absurd (omega (arith, tens, c.below, is.least more))
             ]
       ],
@@ -91,10 +92,12 @@ module _ (n dropped fraction zeros : ℕ) where
       ∙ div-div-eq-div-mul n (10 ^ dropped) (10 ^ fraction)
       ∙ ap (λ (x : ℕ). n / x) (sym (pow-add 10 dropped fraction))
 
-  last_is : last_digits (fraction + zeros) (rest * 10 ^ zeros) ≡ last_digits fraction rest ++ last_digits zeros 0
+  last_is : last_digits (fraction + zeros) (rest * 10 ^ zeros)
+      ≡ last_digits fraction rest ++ last_digits zeros 0
   last_is =
       last_split fraction zeros (rest * 10 ^ zeros)
-      ∙ (λ i. last_digits fraction (mul-div_cancel rest (ten_pos zeros) i) ++ tens_last zeros rest i)
+      ∙ (λ i. last_digits fraction
+      (mul-div_cancel rest (ten_pos zeros) i) ++ tens_last zeros rest i)
 
   abbrev pub body : List ℕ
   body =
@@ -106,10 +109,13 @@ module _ (n dropped fraction zeros : ℕ) where
     where
       go : (places : ℕ) → fraction + zeros ≡ places
           → with_point places (rest * 10 ^ zeros)
-          ≡ number_text (n / 10 ^ (dropped + fraction)) ++ (point_of places ++ (last_digits fraction rest ++ last_digits zeros 0))
+          ≡ number_text
+          (n / 10 ^ (dropped + fraction))
+          ++ (point_of places ++ (last_digits fraction rest ++ last_digits zeros 0))
       go zero e =
           let number : rest * 10 ^ zeros ≡ n / 10 ^ (dropped + fraction) =
-          sym (ap (λ (x : ℕ). rest * 10 ^ zeros / 10 ^ x) e ∙ div-one (rest * 10 ^ zeros)) ∙ whole_is in
+          sym (ap (λ (x : ℕ). rest * 10 ^ zeros / 10 ^ x) e ∙ div-one (rest * 10 ^ zeros))
+          ∙ whole_is in
           let no_fraction : fraction ≡ 0 = omega arith in
           let no_zeros : zeros ≡ 0 = omega arith in
           let nothing : last_digits fraction rest ++ last_digits zeros 0 ≡ [] =
@@ -118,31 +124,47 @@ module _ (n dropped fraction zeros : ℕ) where
           ap number_text number ∙ sym (append-nil (number_text (n / 10 ^ (dropped + fraction))))
           ∙ ap (λ (ds : List ℕ). number_text (n / 10 ^ (dropped + fraction)) ++ ds) (sym nothing)
       go (suc more) e =
-          (λ i. number_text (ap (λ (x : ℕ). rest * 10 ^ zeros / 10 ^ x) (sym e) i) ++ 46 ∷ ap (λ (x : ℕ). last_digits x (rest * 10 ^ zeros)) (sym e) i)
+          (λ i. number_text (ap (λ (x : ℕ). rest * 10 ^ zeros / 10 ^ x) (sym e) i) ++ 46 ∷ ap
+          (λ (x : ℕ). last_digits x (rest * 10 ^ zeros)) (sym e) i)
           ∙ (λ i. number_text (whole_is i) ++ 46 ∷ last_is i)
 
   point_long : (places : ℕ) → length (point_of places) ≡ bool_byte (nat_lt 0 places)
   point_long zero = refl
-  point_long (suc more) = let yes : nat_lt 0 (suc more) ≡ true = grind (arith, nat_tests) in ap bool_byte (sym yes)
+  point_long (suc more) = let yes : nat_lt 0 (suc more) ≡ true = grind (arith, nat_tests) in
+      ap bool_byte (sym yes)
 
   pub body_long : (whole : ℕ) → length (number_text (n / 10 ^ (dropped + fraction))) ≡ whole
       → length body ≡ whole + bool_byte (nat_lt 0 (fraction + zeros)) + (fraction + zeros)
   body_long whole is =
-      let a = length-append (number_text (n / 10 ^ (dropped + fraction))) (point_of (fraction + zeros) ++ (last_digits fraction rest ++ last_digits zeros 0)) in
-      let b = length-append (point_of (fraction + zeros)) (last_digits fraction rest ++ last_digits zeros 0) in
+      let a = length-append (number_text (n / 10 ^ (dropped + fraction)))
+      (point_of (fraction + zeros) ++ (last_digits fraction rest ++ last_digits zeros 0)) in
+      let b = length-append (point_of (fraction + zeros))
+      (last_digits fraction rest ++ last_digits zeros 0) in
       let c = length-append (last_digits fraction rest) (last_digits zeros 0) in
-      omega (arith, a, b, c, is, point_long (fraction + zeros), length-last fraction rest, length-last zeros 0)
+      omega (
+        arith,
+        a,
+        b,
+        c,
+        is,
+        point_long (fraction + zeros),
+        length-last fraction rest,
+        length-last zeros 0,
+      )
 
   module _ (negative : Bool) (old : List ℕ) (whole end : ℕ)
       (count : length (number_text (n / 10 ^ (dropped + fraction))) ≡ whole)
-      (long : end ≡ bool_byte negative + whole + bool_byte (nat_lt 0 (fraction + zeros)) + (fraction + zeros)) where
+      (long : end ≡ bool_byte negative + whole + bool_byte
+      (nat_lt 0 (fraction + zeros)) + (fraction + zeros)) where
     all : end ≡ bool_byte negative + length body
     all = omega (arith, long, body_long whole count)
 
     pub places_none : length old < end
-        → Writes (sign_text negative ++ with_point (fraction + zeros) (rest * 10 ^ zeros)) old old (Err (record { needed = end }))
+        → Writes (sign_text negative ++ with_point (fraction + zeros) (rest * 10 ^ zeros)) old old
+        (Err (record { needed = end }))
     places_none few =
-        subst (λ (ds : List ℕ). Writes (sign_text negative ++ ds) old old (Err (record { needed = end }))) (sym body_is)
+        subst (λ (ds : List ℕ). Writes (sign_text negative ++ ds) old old
+        (Err (record { needed = end }))) (sym body_is)
         (writes_none negative body old end all few)
 
     pub places_text : (point : ℕ) (one two three four new : List ℕ) → end ≤ length old
@@ -150,22 +172,32 @@ module _ (n dropped fraction zeros : ℕ) where
         → drop (end - zeros) one ≡ last_digits zeros 0 ++ drop end old
         → drop (end - zeros - fraction) two ≡ last_digits fraction rest ++ drop (end - zeros) one
         → drop point three ≡ point_of (fraction + zeros) ++ drop (end - (fraction + zeros)) two
-        → drop (point - whole) four ≡ last_digits whole (n / 10 ^ (dropped + fraction)) ++ drop point three
+        → drop (point - whole) four ≡ last_digits whole
+        (n / 10 ^ (dropped + fraction)) ++ drop point three
         → new ≡ sign_text negative ++ drop (length (sign_text negative)) four
-        → Writes (sign_text negative ++ with_point (fraction + zeros) (rest * 10 ^ zeros)) old new (Ok end)
+        → Writes (sign_text negative ++ with_point (fraction + zeros) (rest * 10 ^ zeros)) old new
+        (Ok end)
     places_text point one two three four new fits at is_zeros is_fraction is_point is_whole front =
         let place : end - (fraction + zeros) ≡ end - zeros - fraction = omega arith in
-        let numerals : last_digits whole (n / 10 ^ (dropped + fraction)) ≡ number_text (n / 10 ^ (dropped + fraction)) =
-        ap (λ (x : ℕ). last_digits x (n / 10 ^ (dropped + fraction))) (sym count) ∙ sym (counted (n / 10 ^ (dropped + fraction))).same in
+        let numerals : last_digits whole (n / 10 ^ (dropped + fraction)) ≡ number_text
+        (n / 10 ^ (dropped + fraction)) =
+        ap (λ (x : ℕ). last_digits x (n / 10 ^ (dropped + fraction))) (sym count)
+        ∙ sym (counted (n / 10 ^ (dropped + fraction))).same in
         let joined : drop (point - whole) four ≡ body ++ drop end old =
         is_whole
         ∙ (λ i. numerals i ++ is_point i)
-        ∙ ap (λ (x : ℕ). number_text (n / 10 ^ (dropped + fraction)) ++ (point_of (fraction + zeros) ++ drop x two)) place
-        ∙ ap (λ (ds : List ℕ). number_text (n / 10 ^ (dropped + fraction)) ++ (point_of (fraction + zeros) ++ ds))
-        (is_fraction ∙ ap (λ (ds : List ℕ). last_digits fraction rest ++ ds) is_zeros ∙ sym (append_assoc (last_digits fraction rest) (last_digits zeros 0) (drop end old)))
+        ∙ ap (λ (x : ℕ). number_text
+        (n / 10 ^ (dropped + fraction)) ++ (point_of (fraction + zeros) ++ drop x two)) place
+        ∙ ap (λ (ds : List ℕ). number_text
+        (n / 10 ^ (dropped + fraction)) ++ (point_of (fraction + zeros) ++ ds))
+        (is_fraction ∙ ap (λ (ds : List ℕ). last_digits fraction rest ++ ds) is_zeros
+        ∙ sym (append_assoc (last_digits fraction rest) (last_digits zeros 0) (drop end old)))
         ∙ ap (λ (ds : List ℕ). number_text (n / 10 ^ (dropped + fraction)) ++ ds)
-        (sym (append_assoc (point_of (fraction + zeros)) (last_digits fraction rest ++ last_digits zeros 0) (drop end old)))
-        ∙ sym (append_assoc (number_text (n / 10 ^ (dropped + fraction))) (point_of (fraction + zeros) ++ (last_digits fraction rest ++ last_digits zeros 0)) (drop end old)) in
+        (sym (append_assoc (point_of (fraction + zeros))
+        (last_digits fraction rest ++ last_digits zeros 0) (drop end old)))
+        ∙ sym (append_assoc (number_text (n / 10 ^ (dropped + fraction)))
+        (point_of (fraction + zeros) ++ (last_digits fraction rest ++ last_digits zeros 0))
+        (drop end old)) in
         let start : point - whole + length body ≡ end =
         omega (arith, at, long, body_long whole count, point_long (fraction + zeros)) in
         subst (λ (ds : List ℕ). Writes (sign_text negative ++ ds) old new (Ok end)) (sym body_is)
@@ -173,7 +205,8 @@ module _ (n dropped fraction zeros : ℕ) where
 
 -- ---- rounded off
 
-pub carried_up : (number dropped : ℕ) → (number + 10 ^ dropped) / 10 ^ dropped ≡ number / 10 ^ dropped + 1
+pub carried_up : (number dropped : ℕ)
+    → (number + 10 ^ dropped) / 10 ^ dropped ≡ number / 10 ^ dropped + 1
 carried_up number dropped =
     let one : 10 ^ dropped ≡ 1 * 10 ^ dropped = omega arith in
     ap (λ (x : ℕ). (number + x) / 10 ^ dropped) one ∙ add-mul-div_right number 1 (ten_pos dropped)
@@ -182,7 +215,8 @@ carried_up number dropped =
 
 module _ (q value places wanted t : ℕ) (same : q * 10 ^ places ≡ value * t) (some : 0 < t) where
   pub fixed_is : (x : Float) (negative : Bool) → HasValue x negative q t
-      → fixed_text x wanted ≡ sign_text negative ++ with_point wanted (closest (value * 10 ^ wanted) (10 ^ places))
+      → fixed_text x wanted ≡ sign_text negative ++ with_point wanted
+      (closest (value * 10 ^ wanted) (10 ^ places))
   fixed_is nan negative has = absurd has
   fixed_is (inf s) negative has = absurd has
   fixed_is (fin s m e) negative has =
@@ -191,10 +225,14 @@ module _ (q value places wanted t : ℕ) (same : q * 10 ^ places ≡ value * t) 
       let scaled : u * 10 ^ places * t ≡ value * d * t =
       swap u (10 ^ places) t ∙ ap (λ (y : ℕ). y * 10 ^ places) has.1 ∙ swap q d (10 ^ places)
       ∙ ap (λ (y : ℕ). y * d) same ∙ swap value t d in
-      let equal : u * 10 ^ places ≡ value * d = eq_of_mul-eq-mul_right t some (u * 10 ^ places) (value * d) scaled in
+      let equal : u * 10 ^ places ≡ value * d =
+      eq_of_mul-eq-mul_right t some (u * 10 ^ places) (value * d) scaled in
       let cross : u * 10 ^ wanted * 10 ^ places ≡ value * 10 ^ wanted * d =
-      swap u (10 ^ wanted) (10 ^ places) ∙ ap (λ (y : ℕ). y * 10 ^ wanted) equal ∙ swap value d (10 ^ wanted) in
-      (λ i. sign_text (has.0 i) ++ with_point wanted (closest_same (u * 10 ^ wanted) d (value * 10 ^ wanted) (10 ^ places) (down_pos e) (ten_pos places) cross i))
+      swap u (10 ^ wanted) (10 ^ places) ∙ ap (λ (y : ℕ). y * 10 ^ wanted) equal
+      ∙ swap value d (10 ^ wanted) in
+      (λ i. sign_text (has.0 i) ++ with_point wanted
+      (closest_same (u * 10 ^ wanted) d (value * 10 ^ wanted) (10 ^ places) (down_pos e)
+      (ten_pos places) cross i))
     where
       swap : (a b c : ℕ) → a * b * c ≡ a * c * b
       swap a b c = omega arith
@@ -205,10 +243,13 @@ pub fixed_more : (value places wanted : ℕ) → places ≤ wanted
 fixed_more value places wanted l =
     let sum : places + (wanted - places) ≡ wanted = omega (arith, l) in
     let tens : 10 ^ wanted ≡ 10 ^ (wanted - places) * 10 ^ places =
-    ap (λ (x : ℕ). 10 ^ x) (sym sum) ∙ pow-add 10 places (wanted - places) ∙ mul_comm (10 ^ places) (10 ^ (wanted - places)) in
+    ap (λ (x : ℕ). 10 ^ x) (sym sum) ∙ pow-add 10 places (wanted - places)
+    ∙ mul_comm (10 ^ places) (10 ^ (wanted - places)) in
     let cross : value * 10 ^ wanted * 1 ≡ value * 10 ^ (wanted - places) * 10 ^ places =
-    mul-one (value * 10 ^ wanted) ∙ ap (λ (x : ℕ). value * x) tens ∙ sym (mul_assoc value (10 ^ (wanted - places)) (10 ^ places)) in
-    closest_same (value * 10 ^ wanted) (10 ^ places) (value * 10 ^ (wanted - places)) 1 (ten_pos places) (omega arith) cross
+    mul-one (value * 10 ^ wanted) ∙ ap (λ (x : ℕ). value * x) tens
+    ∙ sym (mul_assoc value (10 ^ (wanted - places)) (10 ^ places)) in
+    closest_same (value * 10 ^ wanted) (10 ^ places) (value * 10 ^ (wanted - places)) 1
+    (ten_pos places) (omega arith) cross
     ∙ closest_whole (value * 10 ^ (wanted - places))
     ∙ ap (λ (x : ℕ). x * 10 ^ (wanted - places)) (sym (div-one value))
 
@@ -219,7 +260,8 @@ fixed_fewer value places wanted l =
     let sum : wanted + (places - wanted) ≡ places = omega (arith, l) in
     let tens : 10 ^ wanted * 10 ^ (places - wanted) ≡ 10 ^ places =
     sym (pow-add 10 wanted (places - wanted)) ∙ ap (λ (x : ℕ). 10 ^ x) sum in
-    closest_same (value * 10 ^ wanted) (10 ^ places) value (10 ^ (places - wanted)) (ten_pos places) (ten_pos (places - wanted))
+    closest_same (value * 10 ^ wanted) (10 ^ places) value (10 ^ (places - wanted)) (ten_pos places)
+    (ten_pos (places - wanted))
     (mul_assoc value (10 ^ wanted) (10 ^ (places - wanted)) ∙ ap (λ (x : ℕ). value * x) tens)
 
 pub zeros_are : (n k : ℕ) → get_or (replicate n 0) k 0 < 10
@@ -235,25 +277,35 @@ least_some = lit< tt
 quick_same : (x : Float) (negative : Bool) (significand shift places : ℕ)
     → HasValue x negative (significand * 2 ^ shift) (2 ^ 1074) → shift ≤ 1074
     → fixed_text x places
-    ≡ sign_text negative ++ with_point places (closest (significand * 10 ^ places) (2 ^ (1074 - shift)))
+    ≡ sign_text negative ++ with_point places
+    (closest (significand * 10 ^ places) (2 ^ (1074 - shift)))
 quick_same nan negative significand shift places has low = absurd has
 quick_same (inf s) negative significand shift places has low = absurd has
 quick_same (fin s m e) negative significand shift places has low =
     let u = m * up e in
     let d = down e in
     let back : 1074 - shift + shift ≡ 1074 = omega (arith, low) in
-    let twos : 2 ^ (1074 - shift) * 2 ^ shift ≡ 2 ^ 1074 = sym (pow-add 2 (1074 - shift) shift) ∙ ap (λ (y : ℕ). 2 ^ y) back in
+    let twos : 2 ^ (1074 - shift) * 2 ^ shift ≡ 2 ^ 1074 = sym (pow-add 2 (1074 - shift) shift)
+    ∙ ap (λ (y : ℕ). 2 ^ y) back in
     let scaled : u * 2 ^ (1074 - shift) * 2 ^ shift ≡ significand * d * 2 ^ shift =
-    mul_assoc u (2 ^ (1074 - shift)) (2 ^ shift) ∙ ap (λ (y : ℕ). u * y) twos ∙ has.1 ∙ mul_right_comm significand (2 ^ shift) d in
+    mul_assoc u (2 ^ (1074 - shift)) (2 ^ shift) ∙ ap (λ (y : ℕ). u * y) twos ∙ has.1
+    ∙ mul_right_comm significand (2 ^ shift) d in
     let equal : u * 2 ^ (1074 - shift) ≡ significand * d =
-    eq_of_mul-eq-mul_right (2 ^ shift) (pow_pos shift) (u * 2 ^ (1074 - shift)) (significand * d) scaled in
+    eq_of_mul-eq-mul_right (2 ^ shift) (pow_pos shift) (u * 2 ^ (1074 - shift))
+    (significand * d) scaled in
     let cross : u * 10 ^ places * 2 ^ (1074 - shift) ≡ significand * 10 ^ places * d =
-    mul_right_comm u (10 ^ places) (2 ^ (1074 - shift)) ∙ ap (λ (y : ℕ). y * 10 ^ places) equal ∙ mul_right_comm significand d (10 ^ places) in
-    (λ i. sign_text (has.0 i) ++ with_point places (closest_same (u * 10 ^ places) d (significand * 10 ^ places) (2 ^ (1074 - shift)) (down_pos e) (pow_pos (1074 - shift)) cross i))
+    mul_right_comm u (10 ^ places) (2 ^ (1074 - shift)) ∙ ap (λ (y : ℕ). y * 10 ^ places) equal
+    ∙ mul_right_comm significand d (10 ^ places) in
+    (λ i. sign_text (has.0 i) ++ with_point places
+    (closest_same (u * 10 ^ places) d (significand * 10 ^ places) (2 ^ (1074 - shift))
+    (down_pos e) (pow_pos (1074 - shift)) cross i))
 
-minus_places : (places units : ℕ) → with_point places units ≡ with_point (places_of (neg_ℤ (pos places))) (units_of units (neg_ℤ (pos places)))
+minus_places : (places units : ℕ)
+    → with_point places units ≡ with_point (places_of (neg_ℤ (pos places)))
+    (units_of units (neg_ℤ (pos places)))
 minus_places zero units = ap number_text (omega arith)
-minus_places (suc n) units = let next : suc n ≡ n + 1 = omega arith in ap (λ (y : ℕ). with_point y units) next
+minus_places (suc n) units = let next : suc n ≡ n + 1 = omega arith in
+    ap (λ (y : ℕ). with_point y units) next
 
 pub quick_text : (x : Float) (negative : Bool) (significand shift places units : ℕ) (power : ℤ)
     → HasValue x negative (significand * 2 ^ shift) (2 ^ 1074) → shift ≤ 1074

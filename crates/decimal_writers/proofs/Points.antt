@@ -10,7 +10,8 @@ use Rattle.decimal_writers.proofs.Numerals.{ten_pos, length-last, last_none, las
 
 -- ---- a point
 
-pub shifted : (n places : ℕ) → length (number_text (n / 10 ^ places)) ≡ max (length (number_text n) - places) 1
+pub shifted : (n places : ℕ)
+    → length (number_text (n / 10 ^ places)) ≡ max (length (number_text n) - places) 1
 shifted n zero =
     let same : n / 10 ^ 0 ≡ n = div-one n in
     rw same (omega (arith, some_digits n))
@@ -27,7 +28,8 @@ shifted n (suc places) =
       | inl few ↦
           let none : front / 10 ≡ 0 = omega arith in
           let here = number_one front few in
-          let there : length (number_text (front / 10)) ≡ 1 = rw none (number_one 0 (omega arith)) in
+          let there : length (number_text (front / 10)) ≡ 1 =
+          rw none (number_one 0 (omega arith)) in
           omega (arith, is, here, there)
       | inr many ↦
           let here = number_more front many in
@@ -57,9 +59,11 @@ pub pointed : (n places end start whole : ℕ) (old one new : List ℕ) → 0 < 
     → drop start new ≡ with_point places n ++ drop end old
 pointed n places end start whole old one new some room within same is last front =
     let next : end - places - 1 + 1 ≡ end - places = omega arith in
-    let point : drop (end - places - 1) (set one (end - places - 1) 46) ≡ 46 ∷ drop (end - places) one =
+    let point : drop (end - places - 1) (set one (end - places - 1) 46) ≡ 46 ∷ drop
+    (end - places) one =
     drop-set one (end - places - 1) 46 (omega arith) ∙ ap (λ (x : ℕ). 46 ∷ drop x one) next in
-    front ∙ ap (λ (ds : List ℕ). number_text whole ++ ds) (point ∙ ap (λ (ds : List ℕ). 46 ∷ ds) last)
+    front ∙ ap (λ (ds : List ℕ). number_text whole ++ ds)
+    (point ∙ ap (λ (ds : List ℕ). 46 ∷ ds) last)
     ∙ sym (append_assoc (number_text whole) (46 ∷ last_digits places n) (drop end old))
     ∙ ap (λ (x : ℕ). (number_text x ++ 46 ∷ last_digits places n) ++ drop end old) is
     ∙ ap (λ (ds : List ℕ). ds ++ drop end old) (sym (with_some_point n places some))
@@ -80,10 +84,12 @@ tens_of n zero some =
     rw (same, last_none) (sym (append-nil (number_text n)))
 tens_of n (suc zeros) some =
     let tens : 10 ^ suc zeros ≡ 10 ^ zeros * 10 = omega (arith, pow-suc 10 zeros) in
-    more (n * 10 ^ zeros) (n * 10 ^ suc zeros) (ap (λ (x : ℕ). n * x) tens ∙ sym (mul_assoc n (10 ^ zeros) 10))
+    more (n * 10 ^ zeros) (n * 10 ^ suc zeros)
+    (ap (λ (x : ℕ). n * x) tens ∙ sym (mul_assoc n (10 ^ zeros) 10))
     (mul-pos some (ten_pos zeros)) (tens_of n zeros some)
   where
-    more : (front all : ℕ) → all ≡ front * 10 → 0 < front → number_text front ≡ number_text n ++ last_digits zeros 0
+    more : (front all : ℕ) → all ≡ front * 10 → 0 < front
+        → number_text front ≡ number_text n ++ last_digits zeros 0
         → number_text all ≡ number_text n ++ last_digits (suc zeros) 0
     more front all e some is =
         let low : all / 10 ≡ front = omega arith in
@@ -97,7 +103,8 @@ tens_of n (suc zeros) some =
 pub no_tens : (zeros : ℕ) → number_text (0 * 10 ^ zeros) ≡ number_text 0
 no_tens zeros = let none : 0 * 10 ^ zeros ≡ 0 = omega arith in ap number_text none
 
-pub long_tens : (n zeros : ℕ) → 0 < n → length (number_text (n * 10 ^ zeros)) ≡ length (number_text n) + zeros
+pub long_tens : (n zeros : ℕ) → 0 < n
+    → length (number_text (n * 10 ^ zeros)) ≡ length (number_text n) + zeros
 long_tens n zeros some =
     ap length (tens_of n zeros some) ∙ length-append (number_text n) (last_digits zeros 0)
     ∙ ap (λ (x : ℕ). length (number_text n) + x) (length-last zeros 0)

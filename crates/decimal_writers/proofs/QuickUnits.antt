@@ -5,7 +5,8 @@ use native.Mathlib.Nat.{div-add-mod', mod-lt, mod-eq_of_lt}
 use lib.Pow.{pow_pos}
 use Rattle.decimal_writers.proofs.Rounding.{closest_down, closest_up, closest_even}
 
-pub rest_is : (number one whole : ℕ) → whole ≡ number / one → (whole * one ≤ number) × (number - whole * one ≡ number % one)
+pub rest_is : (number one whole : ℕ) → whole ≡ number / one → (whole * one ≤ number)
+    × (number - whole * one ≡ number % one)
 rest_is number one whole is =
     let parts = div-add-mod' number one in
     let same : whole * one ≡ number / one * one = ap (λ (x : ℕ). x * one) is in

@@ -34,11 +34,13 @@ use Rattle.decimal_writers.proofs.Values.{text_is, parts, well, nearest_is}
 
 -- ---- no separator
 
-by_digit : (d : Bool) → is_separator_class (if d then Digit else (if false then Separator else Other)) ≡ false
+by_digit : (d : Bool)
+    → is_separator_class (if d then Digit else (if false then Separator else Other)) ≡ false
 by_digit true = refl
 by_digit false = refl
 
-none : (rule : Rule) (byte : Option ℕ) → rule.separator ≡ 0 → is_separator_class (class rule byte) ≡ false
+none : (rule : Rule) (byte : Option ℕ) → rule.separator ≡ 0
+    → is_separator_class (class rule byte) ≡ false
 unfolding is_separator is_digit
 none rule None e = refl
 none rule (Some byte) e = rw e (by_digit (is_digit rule byte))
@@ -62,7 +64,8 @@ reads_parts f negative places n down exponent text digits some is =
     let p = parts places n down exponent digits some in
     let same : text ≡ sign_text negative ++ std.text_of p =
     is ∙ ap (λ (ds : List ℕ). sign_text negative ++ ds) (text_is places n down exponent p.len) in
-    as_written STANDARD text (refl, refl) (plain text) negative p (well places n down exponent digits some)
+    as_written STANDARD text (refl, refl) (plain text) negative p
+    (well places n down exponent digits some)
     (some_digits (n / 10 ^ places)) same f
     ∙ ap Ok (nearest_is places n down exponent digits some f negative)
 
@@ -84,9 +87,11 @@ plain_reads f negative digits power =
 
 pub fixed_reads : (f : Format) (negative : Bool) (significand : ℕ) (exponent : ℤ) (places : ℕ)
     → parse_at STANDARD (fixed_text (fin negative significand exponent) places) plain_marks f 0
-    ≡ Ok (round f negative (closest (significand * up exponent * 10 ^ places) (down exponent)) (10 ^ places))
+    ≡ Ok (round f negative (closest (significand * up exponent * 10 ^ places) (down exponent))
+    (10 ^ places))
 fixed_reads f negative significand exponent places =
-    reads_point f negative places (closest (significand * up exponent * 10 ^ places) (down exponent)) _ refl
+    reads_point f negative places
+    (closest (significand * up exponent * 10 ^ places) (down exponent)) _ refl
 
 -- ---- a place after a whole number
 
@@ -94,7 +99,9 @@ tenfold : (n : ℕ) → with_point 1 (n * 10) ≡ number_text n ++ 46 ∷ 48 ∷
 tenfold n =
     let front : n * 10 / 10 ^ 1 ≡ n = omega arith in
     let last : n * 10 % 10 ≡ 0 = omega arith in
-    (λ i. number_text (front i) ++ 46 ∷ (last_step 0 (n * 10) ∙ ap (λ (ds : List ℕ). ds ++ (48 + n * 10 % 10) ∷ []) (last_none (n * 10 / 10))) i)
+    (λ i. number_text
+    (front i) ++ 46 ∷ (last_step 0 (n * 10)
+    ∙ ap (λ (ds : List ℕ). ds ++ (48 + n * 10 % 10) ∷ []) (last_none (n * 10 / 10))) i)
     ∙ ap (λ (x : ℕ). number_text n ++ 46 ∷ (48 + x) ∷ []) last
 
 pointed_reads : (f : Format) (negative : Bool) (digits : ℕ) (power : ℤ)
@@ -102,17 +109,22 @@ pointed_reads : (f : Format) (negative : Bool) (digits : ℕ) (power : ℤ)
     ≡ Ok (nearest_of f negative digits power)
 pointed_reads f negative digits (pos n) =
     let u = digits * 10 ^ n in
-    let same : plain_text negative digits (pos n) ++ 46 ∷ 48 ∷ [] ≡ sign_text negative ++ with_point 1 (u * 10) =
-    append_assoc (sign_text negative) (number_text u) (46 ∷ 48 ∷ []) ∙ ap (λ (ds : List ℕ). sign_text negative ++ ds) (sym (tenfold u)) in
+    let same : plain_text negative digits (pos n) ++ 46 ∷ 48 ∷ []
+    ≡ sign_text negative ++ with_point 1 (u * 10) =
+    append_assoc (sign_text negative) (number_text u) (46 ∷ 48 ∷ [])
+    ∙ ap (λ (ds : List ℕ). sign_text negative ++ ds) (sym (tenfold u)) in
     reads_point f negative 1 (u * 10) _ same
-    ∙ ap Ok (round_same f negative (u * 10) (10 ^ 1) u (10 ^ 0) (omega arith) (omega arith) (omega arith))
+    ∙ ap Ok (round_same f negative (u * 10) (10 ^ 1) u (10 ^ 0) (omega arith) (omega arith)
+    (omega arith))
 pointed_reads f negative digits (negsuc n) =
-    ap (λ (ds : List ℕ). parse_at STANDARD ds plain_marks f 0) (append-nil (plain_text negative digits (negsuc n)))
+    ap (λ (ds : List ℕ). parse_at STANDARD ds plain_marks f 0)
+    (append-nil (plain_text negative digits (negsuc n)))
     ∙ plain_reads f negative digits (negsuc n)
 
 -- ---- an exponent
 
-marked : (down : Bool) (k : ℕ) → k < 10 ^ 64 → std.exponent_text down (decimal k) ≡ 101 ∷ (sign_text down ++ decimal k)
+marked : (down : Bool) (k : ℕ) → k < 10 ^ 64
+    → std.exponent_text down (decimal k) ≡ 101 ∷ (sign_text down ++ decimal k)
 marked down k few = go (decimal k) (decimal_is_IsNumeral_wide k few).0.0
   where
     go : (ds : List ℕ) → 0 < length ds → std.exponent_text down ds ≡ 101 ∷ (sign_text down ++ ds)
@@ -124,22 +136,26 @@ module _ (f : Format) (negative : Bool) (digits places : ℕ) where
   text z = sign_text negative ++ (with_point places digits ++ 101 ∷ signed_decimal z)
 
   reads_up : (k : ℕ) → k < 10 ^ 64
-      → parse_at STANDARD (text (pos k)) plain_marks f 0 ≡ Ok (round f negative (digits * 10 ^ k) (10 ^ places))
+      → parse_at STANDARD (text (pos k)) plain_marks f 0 ≡ Ok
+      (round f negative (digits * 10 ^ k) (10 ^ places))
   reads_up k few =
       let is = decimal_is_IsNumeral_wide k few in
       let last : places + 0 ≡ places = omega arith in
       reads_parts f negative places digits false (decimal k) (text (pos k)) is.0.1 (λ _. refl)
-      (ap (λ (ds : List ℕ). sign_text negative ++ (with_point places digits ++ ds)) (sym (marked false k few)))
+      (ap (λ (ds : List ℕ). sign_text negative ++ (with_point places digits ++ ds))
+      (sym (marked false k few)))
       ∙ (λ i. Ok (round f negative (digits * 10 ^ is.1 i) (10 ^ last i)))
 
   reads_down : (k : ℕ) → suc k < 10 ^ 64
-      → parse_at STANDARD (text (negsuc k)) plain_marks f 0 ≡ Ok (round f negative digits (10 ^ (places + suc k)))
+      → parse_at STANDARD (text (negsuc k)) plain_marks f 0 ≡ Ok
+      (round f negative digits (10 ^ (places + suc k)))
   reads_down k few =
       let is = decimal_is_IsNumeral_wide (suc k) few in
       let one : digits * 10 ^ 0 ≡ digits = omega arith in
       reads_parts f negative places digits true (decimal (suc k)) (text (negsuc k)) is.0.1
       (λ e. absurd (omega (arith, is.0.0, ap length e)))
-      (ap (λ (ds : List ℕ). sign_text negative ++ (with_point places digits ++ ds)) (sym (marked true (suc k) few)))
+      (ap (λ (ds : List ℕ). sign_text negative ++ (with_point places digits ++ ds))
+      (sym (marked true (suc k) few)))
       ∙ (λ i. Ok (round f negative (one i) (10 ^ (places + is.1 i))))
 
   -- the number is the same as without the places
@@ -151,15 +167,18 @@ module _ (f : Format) (negative : Bool) (digits places : ℕ) where
       let cross : digits * 10 ^ k * 10 ^ 0 ≡ digits * 10 ^ a * 10 ^ places =
       omega (arith, ap (λ (x : ℕ). digits * x) tens, mul_assoc digits (10 ^ a) (10 ^ places)) in
       reads_up k few
-      ∙ ap Ok (round_same f negative (digits * 10 ^ k) (10 ^ places) (digits * 10 ^ a) (10 ^ 0) (ten_pos places) (omega arith) cross)
+      ∙ ap Ok (round_same f negative (digits * 10 ^ k) (10 ^ places) (digits * 10 ^ a) (10 ^ 0)
+      (ten_pos places) (omega arith) cross)
   reads_power (pos a) (negsuc k) e few = absurd (omega (arith, ints, e))
   reads_power (negsuc a) (pos k) e few =
       let sum : k + (a + 1) ≡ places = omega (arith, ints, e) in
-      let tens : 10 ^ places ≡ 10 ^ k * 10 ^ (a + 1) = ap (λ (x : ℕ). 10 ^ x) (sym sum) ∙ pow-add 10 k (a + 1) in
+      let tens : 10 ^ places ≡ 10 ^ k * 10 ^ (a + 1) = ap (λ (x : ℕ). 10 ^ x) (sym sum)
+      ∙ pow-add 10 k (a + 1) in
       let cross : digits * 10 ^ k * 10 ^ (a + 1) ≡ digits * 10 ^ places =
       mul_assoc digits (10 ^ k) (10 ^ (a + 1)) ∙ ap (λ (x : ℕ). digits * x) (sym tens) in
       reads_up k few
-      ∙ ap Ok (round_same f negative (digits * 10 ^ k) (10 ^ places) digits (10 ^ (a + 1)) (ten_pos places) (ten_pos (a + 1)) cross)
+      ∙ ap Ok (round_same f negative (digits * 10 ^ k) (10 ^ places) digits (10 ^ (a + 1))
+      (ten_pos places) (ten_pos (a + 1)) cross)
   reads_power (negsuc a) (negsuc k) e few =
       let sum : places + suc k ≡ a + 1 = omega (arith, ints, e) in
       reads_down k few ∙ ap (λ (x : ℕ). Ok (round f negative digits (10 ^ x))) sum
@@ -169,7 +188,8 @@ pub exponent_reads : (f : Format) (negative : Bool) (digits : ℕ) (power : ℤ)
     → parse_at STANDARD (exponent_text negative digits power) plain_marks f 0
     ≡ Ok (nearest_of f negative digits power)
 exponent_reads f negative digits power few =
-    reads_power f negative digits (length (number_text digits) - 1) power (first_power digits power) refl few
+    reads_power f negative digits (length (number_text digits) - 1) power
+    (first_power digits power) refl few
 
 pub usual_reads : (f : Format) (negative : Bool) (digits : ℕ) (power : ℤ)
     → unsigned_abs (first_power digits power) < 10 ^ 64
@@ -178,7 +198,9 @@ pub usual_reads : (f : Format) (negative : Bool) (digits : ℕ) (power : ℤ)
 usual_reads f negative digits power few = by (is_plain digits power)
   where
     by : (b : Bool)
-        → parse_at STANDARD (if b then plain_text negative digits power ++ zero_place power else exponent_text negative digits power) plain_marks f 0
+        → parse_at STANDARD
+        (if b then plain_text negative digits power
+        ++ zero_place power else exponent_text negative digits power) plain_marks f 0
         ≡ Ok (nearest_of f negative digits power)
     by true = pointed_reads f negative digits power
     by false = exponent_reads f negative digits power few
@@ -194,16 +216,20 @@ first_few digits (negsuc a) few fits = by (first_power digits (negsuc a)) refl
     by (pos k) e = omega (arith, ints, e, word_digits digits few)
     by (negsuc k) e = omega (arith, ints, e, fits.sfits)
 
-module _ (negative : Bool) (digits : ℕ) (power : ℤ) (old new : List ℕ) (result : Result ℕ NoRoom) where
+module _ (negative : Bool) (digits : ℕ) (power : ℤ) (old new : List ℕ)
+    (result : Result ℕ NoRoom) where
   reads_text : (text : List ℕ) → Reads negative digits power text → Writes text old new result
       → IfOk result (λ n. Reads negative digits power (take n new))
   reads_text text reads is = elim (cases_lt (length old) (length text)) [
     | inl none ↦
-        subst (λ (r : Result ℕ NoRoom). IfOk r (λ n. Reads negative digits power (take n new))) (sym (is.no_room none)) tt
+        subst (λ (r : Result ℕ NoRoom). IfOk r (λ n. Reads negative digits power (take n new)))
+        (sym (is.no_room none)) tt
     | inr room ↦
         let same : take (length text) new ≡ text =
-        ap (take (length text)) (is.written room) ∙ take-append_seam text (drop (length text) old) in
-        subst (λ (r : Result ℕ NoRoom). IfOk r (λ n. Reads negative digits power (take n new))) (sym (is.ok room))
+        ap (take (length text)) (is.written room)
+        ∙ take-append_seam text (drop (length text) old) in
+        subst (λ (r : Result ℕ NoRoom). IfOk r (λ n. Reads negative digits power (take n new)))
+        (sym (is.ok room))
         (subst (Reads negative digits power) (sym same) reads)
   ]
 
@@ -215,11 +241,17 @@ module _ (negative : Bool) (digits : ℕ) (power : ℤ) (old new : List ℕ) (re
     pub exponent_read : Writes (exponent_text negative digits power) old new result
         → IfOk result (λ n. Reads negative digits power (take n new))
     exponent_read =
-        reads_text _ (record { is = λ f. exponent_reads f negative digits power (first_few digits power few fits) })
+        reads_text _ (record {
+          is =
+              λ f. exponent_reads f negative digits power (first_few digits power few fits);
+        })
 
     pub usual_read : Writes (usual_text negative digits power) old new result
         → IfOk result (λ n. Reads negative digits power (take n new))
     usual_read =
-        reads_text _ (record { is = λ f. usual_reads f negative digits power (first_few digits power few fits) })
+        reads_text _ (record {
+          is =
+              λ f. usual_reads f negative digits power (first_few digits power few fits);
+        })
 
 pub ruleset reads = (plain_read, exponent_read, usual_read)

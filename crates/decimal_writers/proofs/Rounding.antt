@@ -1,10 +1,10 @@
 -- Digits that are rounded off.
-use Rattle.std.proofs.Common.{◌≡◌, ◌≢◌, ◌⊎◌, ℕ, zero, suc, ◌+◌, ◌-◌, ◌*◌, ◌/◌, ◌%◌, ◌^◌, ◌<◌, ◌≤◌, Bool, true, false, List, [], ◌∷◌, ◌++◌, length, take, drop, set, get_or, refl, sym, ap, subst, ◌∙◌, inl, inr, arith}
+use Rattle.std.proofs.Common.{◌≡◌, ◌≢◌, ℕ, zero, suc, ◌+◌, ◌-◌, ◌*◌, ◌/◌, ◌%◌, ◌^◌, ◌<◌, ◌≤◌, List, [], ◌∷◌, length, take, drop, set, get_or, refl, sym, ap, subst, ◌∙◌, arith}
 use Prim.Native.Nat.{compare, Ordering}
 use native.Mathlib.Omega.{compare-eq, compare-gt, compare-lt}
 use Rattle.std.specs.Float.Ieee.{nearest}
 use Rattle.std.proofs.Math.Nat.{div-one, mul-le-mul_right, pow-le-pow_right}
-use Rattle.std.proofs.lemmas.List.{length-take, length-set, get_or-take, take_all, take-take, get_or-set_same}
+use Rattle.std.proofs.lemmas.List.{length-take, length-set, get_or-take, take_all, take-take}
 use native.Mathlib.Nat.{mod-eq_of_lt, add-mul-mod_self_right, pow-suc}
 use lib.Ieee.Nearest.{closest}
 use Rattle.decimal_writers.specs.Big.{value_of, IsBig}
@@ -53,16 +53,25 @@ closest_whole a =
 
 -- ---- the digits that are left and the others
 
-value_split : (ds : List ℕ) (i : ℕ) → value_of ds ≡ value_of (take i ds) + value_of (drop i ds) * 10 ^ i
+value_split : (ds : List ℕ) (i : ℕ)
+    → value_of ds ≡ value_of (take i ds) + value_of (drop i ds) * 10 ^ i
 value_split ds zero = omega (arith, value_nil)
 value_split [] (suc i) = omega (arith, value_nil, ap (λ (x : ℕ). x * 10 ^ suc i) value_nil)
 value_split (d ∷ ds) (suc i) =
-    omega (arith, value_cons d ds, value_cons d (take i ds), value_split ds i, ap (λ (x : ℕ). value_of (drop i ds) * x) (pow-suc 10 i))
+    omega (
+      arith,
+      value_cons d ds,
+      value_cons d (take i ds),
+      value_split ds i,
+      ap (λ (x : ℕ). value_of (drop i ds) * x) (pow-suc 10 i),
+    )
 
-pub front_below : (ds : List ℕ) (i : ℕ) → ((k : ℕ) → get_or ds k 0 < 10) → value_of (take i ds) < 10 ^ i
+pub front_below : (ds : List ℕ) (i : ℕ) → ((k : ℕ) → get_or ds k 0 < 10)
+    → value_of (take i ds) < 10 ^ i
 front_below ds i all =
     let below = value_below (take i ds) (digits_take i ds all) in
-    let tens : 10 ^ length (take i ds) ≤ 10 ^ i = pow-le-pow_right (omega arith) (omega (arith, length-take i ds)) in
+    let tens : 10 ^ length (take i ds) ≤ 10 ^ i =
+    pow-le-pow_right (omega arith) (omega (arith, length-take i ds)) in
     omega (arith, below, tens)
 
 rest_of : (ds : List ℕ) (i : ℕ) → ((k : ℕ) → get_or ds k 0 < 10)
@@ -78,9 +87,11 @@ pub record IsDropped (number dropped first low : ℕ) : Type 0 where
   pub tens : 10 ^ dropped ≡ 10 ^ (dropped - 1) * 10
   pub small : low < 10 ^ (dropped - 1)
 
-pub dropped_is : (bytes : List ℕ) (len dropped : ℕ) → ((k : ℕ) → get_or bytes k 0 < 10) → len ≤ length bytes
+pub dropped_is : (bytes : List ℕ) (len dropped : ℕ) → ((k : ℕ) → get_or bytes k 0 < 10)
+    → len ≤ length bytes
     → 0 < dropped → dropped ≤ len
-    → IsDropped (value_of (take len bytes)) dropped (get_or bytes (dropped - 1) 0) (value_of (take (dropped - 1) bytes))
+    → IsDropped (value_of (take len bytes)) dropped (get_or bytes (dropped - 1) 0)
+    (value_of (take (dropped - 1) bytes))
 dropped_is bytes len zero all within some few = absurd (omega arith)
 dropped_is bytes len (suc d) all within some few =
     let ds = take len bytes in
@@ -88,13 +99,15 @@ dropped_is bytes len (suc d) all within some few =
     let back : suc d - 1 ≡ d = omega arith in
     let front : take d ds ≡ take d bytes = take-take d len bytes (omega arith) in
     let first : get_or ds d 0 ≡ get_or bytes d 0 = get_or-take len bytes d 0 (omega arith) in
-    subst (λ (x : ℕ). IsDropped (value_of ds) (suc d) (get_or bytes x 0) (value_of (take x bytes))) (sym back)
+    subst (λ (x : ℕ). IsDropped (value_of ds) (suc d) (get_or bytes x 0) (value_of (take x bytes)))
+    (sym back)
     record {
       rest =
           rest_of ds (suc d) (digits_take len bytes all) ∙ value_more ds d (omega (arith, long))
           ∙ (λ i. value_of (front i) + first i * 10 ^ back_of d i);
       tens = omega (arith, pow-suc 10 d, ap (λ (x : ℕ). 10 ^ x) back);
-      small = subst (λ (x : ℕ). value_of (take d bytes) < 10 ^ x) (sym back) (front_below bytes d all);
+      small = subst (λ (x : ℕ). value_of (take d bytes) < 10 ^ x) (sym back)
+          (front_below bytes d all);
     }
   where
     back_of : (d : ℕ) → d ≡ suc d - 1
@@ -103,20 +116,24 @@ dropped_is bytes len (suc d) all within some few =
 module _ (number dropped first low : ℕ) (is : IsDropped number dropped first low) where
   pub goes_down : first < 5 → closest number (10 ^ dropped) ≡ number / 10 ^ dropped + 0
   goes_down few =
-      let most : first * 10 ^ (dropped - 1) ≤ 4 * 10 ^ (dropped - 1) = mul-le-mul_right (10 ^ (dropped - 1)) (omega arith) in
+      let most : first * 10 ^ (dropped - 1) ≤ 4 * 10 ^ (dropped - 1) =
+      mul-le-mul_right (10 ^ (dropped - 1)) (omega arith) in
       closest_down number (10 ^ dropped) (omega (arith, is.rest, is.tens, is.small, most))
 
   pub goes_up : 5 < first → closest number (10 ^ dropped) ≡ number / 10 ^ dropped + 1
   goes_up many =
-      let least : 6 * 10 ^ (dropped - 1) ≤ first * 10 ^ (dropped - 1) = mul-le-mul_right (10 ^ (dropped - 1)) many in
-      closest_up number (10 ^ dropped) (omega (arith, is.rest, is.tens, least, ten_pos (dropped - 1)))
+      let least : 6 * 10 ^ (dropped - 1) ≤ first * 10 ^ (dropped - 1) =
+      mul-le-mul_right (10 ^ (dropped - 1)) many in
+      closest_up number (10 ^ dropped)
+      (omega (arith, is.rest, is.tens, least, ten_pos (dropped - 1)))
 
   pub goes_over : first ≡ 5 → 0 < low → closest number (10 ^ dropped) ≡ number / 10 ^ dropped + 1
   goes_over five some =
       let half = ap (λ (x : ℕ). x * 10 ^ (dropped - 1)) five in
       closest_up number (10 ^ dropped) (omega (arith, is.rest, is.tens, half, some))
 
-  pub goes_even : first ≡ 5 → low ≡ 0 → closest number (10 ^ dropped) ≡ number / 10 ^ dropped + number / 10 ^ dropped % 2
+  pub goes_even : first ≡ 5 → low ≡ 0
+      → closest number (10 ^ dropped) ≡ number / 10 ^ dropped + number / 10 ^ dropped % 2
   goes_even five none =
       let half = ap (λ (x : ℕ). x * 10 ^ (dropped - 1)) five in
       closest_even number (10 ^ dropped) (omega (arith, is.rest, is.tens, half, none))
@@ -124,8 +141,10 @@ module _ (number dropped first low : ℕ) (is : IsDropped number dropped first l
 pub drops_none : (number : ℕ) → closest number (10 ^ 0) ≡ number / 10 ^ 0 + 0
 drops_none number = closest_whole number ∙ omega (arith, div-one number)
 
-pub drops_all : (bytes : List ℕ) (len dropped : ℕ) → ((k : ℕ) → get_or bytes k 0 < 10) → len < dropped
-    → closest (value_of (take len bytes)) (10 ^ dropped) ≡ value_of (take len bytes) / 10 ^ dropped + 0
+pub drops_all : (bytes : List ℕ) (len dropped : ℕ) → ((k : ℕ) → get_or bytes k 0 < 10)
+    → len < dropped
+    → closest (value_of (take len bytes)) (10 ^ dropped) ≡ value_of
+    (take len bytes) / 10 ^ dropped + 0
 drops_all bytes len zero all few = absurd (omega arith)
 drops_all bytes len (suc d) all few =
     let number = value_of (take len bytes) in
@@ -138,7 +157,8 @@ drops_all bytes len (suc d) all few =
 -- ---- one more
 
 value_change : (ds : List ℕ) (i y len : ℕ) → i < len → len ≤ length ds
-    → value_of (take len (set ds i y)) + get_or ds i 0 * 10 ^ i ≡ value_of (take len ds) + y * 10 ^ i
+    → value_of (take len (set ds i y)) + get_or ds i 0 * 10 ^ i ≡ value_of
+    (take len ds) + y * 10 ^ i
 value_change ds i y zero l within = absurd (omega arith)
 value_change [] i y (suc len) l within = absurd (omega arith)
 value_change (d ∷ ds) zero y (suc len) l within =
@@ -159,26 +179,42 @@ pub record IsAdding (old new : List ℕ) (len place at : ℕ) : Type 0 where
   pub after : place ≤ at
   pub within : at ≤ len
 
-pub added_none : (old : List ℕ) (len place : ℕ) → ((k : ℕ) → get_or old k 0 < 10) → place ≤ len → IsAdding old old len place place
-added_none old len place digits l = record { value = refl; digits = digits; after = omega arith; within = l }
+pub added_none : (old : List ℕ) (len place : ℕ) → ((k : ℕ) → get_or old k 0 < 10) → place ≤ len
+    → IsAdding old old len place place
+added_none old len place digits l =
+    record { value = refl; digits = digits; after = omega arith; within = l }
 
-pub added_nine : (old new : List ℕ) (len place at : ℕ) → at < len → len ≤ length new → get_or new at 0 ≡ 9
+pub added_nine : (old new : List ℕ) (len place at : ℕ) → at < len → len ≤ length new
+    → get_or new at 0 ≡ 9
     → IsAdding old new len place at → IsAdding old (set new at 0) len place (at + 1)
 added_nine old new len place at l within nine is = record {
-  value = omega (arith, value_change new at 0 len l within, ap (λ (x : ℕ). x * 10 ^ at) nine, ten_more at, is.value);
+  value = omega (
+    arith,
+    value_change new at 0 len l within,
+    ap (λ (x : ℕ). x * 10 ^ at) nine,
+    ten_more at,
+    is.value,
+  );
   digits = digits_set new at 0 is.digits (omega arith);
   after = omega (arith, is.after);
   within = omega arith;
 }
 
-pub added_here : (old new : List ℕ) (len place at number : ℕ) → at < len → len ≤ length new → get_or new at 0 ≢ 9
+pub added_here : (old new : List ℕ) (len place at number : ℕ) → at < len → len ≤ length new
+    → get_or new at 0 ≢ 9
     → IsAdding old new len place at → IsBig old len number
     → IsBig (set new at (get_or new at 0 + 1)) len (number + 10 ^ place)
 added_here old new len place at number l within other is big =
     record {
-      digits = digits_set new at (get_or new at 0 + 1) is.digits (omega (arith, is.digits at, other));
+      digits = digits_set new at (get_or new at 0 + 1) is.digits
+          (omega (arith, is.digits at, other));
       within = omega (arith, length-set new at (get_or new at 0 + 1), within);
-      value = omega (arith, value_change new at (get_or new at 0 + 1) len l within, is.value, big.value);
+      value = omega (
+        arith,
+        value_change new at (get_or new at 0 + 1) len l within,
+        is.value,
+        big.value,
+      );
       least = λ some. omega (arith, big.least some);
     }
 
@@ -194,19 +230,23 @@ added_before old new len place at number past room is big =
       digits = digits_set new len 1 is.digits (omega arith);
       within = omega (arith, length-set new len 1, room);
       value = value;
-      least = λ _. subst (λ (x : ℕ). 10 ^ x ≤ number + 10 ^ place) (sym back) (omega (arith, value, value_set new len 1 room));
+      least = λ _. subst (λ (x : ℕ). 10 ^ x ≤ number + 10 ^ place) (sym back)
+          (omega (arith, value, value_set new len 1 room));
     }
 
 -- ---- zeros
 
-pub zeros_more : (ds : List ℕ) (i : ℕ) → i < length ds → get_or ds i 0 ≡ 0 → value_of (take i ds) ≡ 0 → value_of (take (i + 1) ds) ≡ 0
+pub zeros_more : (ds : List ℕ) (i : ℕ) → i < length ds → get_or ds i 0 ≡ 0
+    → value_of (take i ds) ≡ 0 → value_of (take (i + 1) ds) ≡ 0
 zeros_more ds i l digit none =
     let next : i + 1 ≡ suc i = omega arith in
-    ap (λ (x : ℕ). value_of (take x ds)) next ∙ omega (arith, value_more ds i l, ap (λ (x : ℕ). x * 10 ^ i) digit, none)
+    ap (λ (x : ℕ). value_of (take x ds)) next
+    ∙ omega (arith, value_more ds i l, ap (λ (x : ℕ). x * 10 ^ i) digit, none)
 
 pub zeros_not : (ds : List ℕ) (i : ℕ) → i < length ds → get_or ds i 0 ≢ 0 → 0 < value_of ds
 zeros_not ds i l digit =
-    let least : 1 * 10 ^ i ≤ get_or ds i 0 * 10 ^ i = mul-le-mul_right (10 ^ i) (omega (arith, digit)) in
+    let least : 1 * 10 ^ i ≤ get_or ds i 0 * 10 ^ i =
+    mul-le-mul_right (10 ^ i) (omega (arith, digit)) in
     omega (arith, value_split ds (suc i), value_more ds i l, least, ten_pos i)
 
 pub ruleset tests = (zeros_more, zeros_not, take_all)

@@ -10,7 +10,8 @@ pub sign_long : (negative : Bool) → length (sign_text negative) ≡ bool_byte 
 sign_long true = refl
 sign_long false = refl
 
-module _ (negative : Bool) (body old : List ℕ) (len : ℕ) (long : len ≡ bool_byte negative + length body) where
+module _ (negative : Bool) (body old : List ℕ) (len : ℕ)
+    (long : len ≡ bool_byte negative + length body) where
   whole : length (sign_text negative ++ body) ≡ len
   whole = length-append (sign_text negative) body ∙ omega (arith, sign_long negative, long)
 
@@ -28,7 +29,8 @@ module _ (negative : Bool) (body old : List ℕ) (len : ℕ) (long : len ≡ boo
       → new ≡ sign_text negative ++ drop (length (sign_text negative)) mid
       → Writes (sign_text negative ++ body) old new (Ok len)
   writes_text start mid new fits starts is front =
-      let at : length (sign_text negative) ≡ start = omega (arith, sign_long negative, starts, long) in
+      let at : length (sign_text negative) ≡ start =
+      omega (arith, sign_long negative, starts, long) in
       record {
         written = λ _.
             front
@@ -59,11 +61,13 @@ module _ (negative : Bool) (first second old : List ℕ) (len : ℕ)
   writes_parts start middle one mid new fits ends starts is_second is_first front =
       writes_text negative (first ++ second) old len both start mid new fits
       (omega (arith, ends, starts, length-append first second))
-      (is_first ∙ ap (λ (ds : List ℕ). first ++ ds) is_second ∙ sym (append_assoc first second (drop len old)))
+      (is_first ∙ ap (λ (ds : List ℕ). first ++ ds) is_second
+      ∙ sym (append_assoc first second (drop len old)))
       front
 
 pub regroup : {old new : List ℕ} {result : Result ℕ NoRoom} (sign first second : List ℕ)
-    → Writes (sign ++ (first ++ second)) old new result → Writes (sign ++ first ++ second) old new result
+    → Writes (sign ++ (first ++ second)) old new result
+    → Writes (sign ++ first ++ second) old new result
 regroup {old} {new} {result} sign first second is =
     subst (λ (ds : List ℕ). Writes ds old new result) (sym (append_assoc sign first second)) is
 

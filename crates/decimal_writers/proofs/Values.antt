@@ -46,8 +46,10 @@ value_of_both places n =
     let is = counted front in
     let all : number_text front ++ last_digits places n ≡ last_digits (count + places) n =
     ap (λ (ds : List ℕ). ds ++ last_digits places n) is.same ∙ sym (last_split count places n) in
-    let most : suc front * 10 ^ places ≤ 10 ^ count * 10 ^ places = mul-le-mul_right (10 ^ places) is.below in
-    let few : n < 10 ^ (count + places) = omega (arith, most, pow-add 10 count places, ten_pos places) in
+    let most : suc front * 10 ^ places ≤ 10 ^ count * 10 ^ places =
+    mul-le-mul_right (10 ^ places) is.below in
+    let few : n < 10 ^ (count + places) =
+    omega (arith, most, pow-add 10 count places, ten_pos places) in
     ap (digits_value 10) all ∙ last_value (count + places) n few
 
 -- ---- the parts of a text, in std's words
@@ -67,17 +69,20 @@ parts_of places n down exponent len = record {
 }
 
 pub text_is : (places n : ℕ) (down : Bool) (exponent : List ℕ) (len : ℕ)
-    → with_point places n ++ std.exponent_text down exponent ≡ std.text_of (parts_of places n down exponent len)
+    → with_point places n ++ std.exponent_text down exponent ≡ std.text_of
+    (parts_of places n down exponent len)
 text_is zero n down exponent len =
     let same : n ≡ n / 10 ^ 0 = sym (div-one n) in
     ap (λ (x : ℕ). number_text x ++ std.exponent_text down exponent) same
 text_is (suc more) n down exponent len =
-    append_assoc (number_text (n / 10 ^ suc more)) (46 ∷ last_digits (suc more) n) (std.exponent_text down exponent)
+    append_assoc (number_text (n / 10 ^ suc more)) (46 ∷ last_digits (suc more) n)
+    (std.exponent_text down exponent)
 
 module _ (places n : ℕ) (down : Bool) (exponent : List ℕ) (digits : AllDigits 10 exponent)
     (some : exponent ≡ [] → down ≡ false) where
   abbrev pub parts : std.Parts
-  parts = parts_of places n down exponent (length (with_point places n ++ std.exponent_text down exponent))
+  parts = parts_of places n down exponent
+      (length (with_point places n ++ std.exponent_text down exponent))
 
   pub well : std.IsWellFormed parts
   well = record {
@@ -86,7 +91,9 @@ module _ (places n : ℕ) (down : Bool) (exponent : List ℕ) (digits : AllDigit
     exponent_digits = digits;
     no_point = none places;
     no_exponent = some;
-    len_is = ap length (text_is places n down exponent (length (with_point places n ++ std.exponent_text down exponent)));
+    len_is = ap length
+        (text_is places n down exponent
+        (length (with_point places n ++ std.exponent_text down exponent)));
   }
     where
       none : (places : ℕ) → has_point places ≡ false → last_digits places n ≡ []
@@ -101,4 +108,5 @@ module _ (places n : ℕ) (down : Bool) (exponent : List ℕ) (digits : AllDigit
   nearest_is f negative =
       let value = value_of_both places n in
       let long = length-last places n in
-      (λ i. round f negative (value i * 10 ^ (if down then 0 else digits_value 10 exponent)) (10 ^ (long i + (if down then digits_value 10 exponent else 0))))
+      (λ i. round f negative (value i * 10 ^ (if down then 0 else digits_value 10 exponent))
+      (10 ^ (long i + (if down then digits_value 10 exponent else 0))))

@@ -11,7 +11,8 @@ ghost use Rattle.decimal_writers.specs.Text.{exponent_text, usual_text};
 
 use super::room::FLOAT_ROOM;
 
-/// Of at most 17 digits and a power of ten from -400 to 400 the texts with an exponent and the usual
+/// Of at most 17 digits and a power of ten from -400 to 400 the texts with an exponent and the
+/// usual
 /// ones have at most [`FLOAT_ROOM`](crate::FLOAT_ROOM) bytes.
 #[tactic(auto, using(crate::proofs::Lengths::fits))]
 pub fn float_texts_fit()
@@ -23,7 +24,8 @@ pub fn float_texts_fit()
         length (usual_text negative digits power) ≤ FLOAT_ROOM }
 {}
 
-/// What [`write_fixed`](crate::write_fixed) writes is read as the float nearest to the number in units
+/// What [`write_fixed`](crate::write_fixed) writes is read as the float nearest to the number in
+/// units
 /// of the last place that stands there.
 #[tactic(auto, using(crate::proofs::Reading::fixed_reads))]
 pub fn fixed_texts_are_read()

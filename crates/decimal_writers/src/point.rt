@@ -1,7 +1,7 @@
 //! Digits with a point, and whole numbers of tens, written before the end of a text.
 
 ghost use Rattle.std.specs.Prelude.{◌≡◌, ◌+◌, ◌*◌, ◌^◌, ◌≤◌, ◌++◌, length, drop};
-ghost use Rattle.decimal_writers.specs.Text.{number_text, with_point, places_of, units_of};
+ghost use Rattle.decimal_writers.specs.Text.{number_text, with_point};
 
 use super::digits::{count_digits, put_digits, put_number};
 

@@ -20,7 +20,8 @@ fn rounds_over(number: u128, one: u128, whole: u128) -> bool
     rest * 2 > one
 }
 
-/// A number of units of the least float above 0, in units of the last place, rounded at a tie to the
+/// A number of units of the least float above 0, in units of the last place, rounded at a tie to
+/// the
 /// even one; none if it doesn't fit, or isn't computed here.
 #[inline(always)]
 #[tactic(auto, using(crate::proofs::QuickUnits::quick))]

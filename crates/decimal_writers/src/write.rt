@@ -1,8 +1,8 @@
 //! The three layouts.
 
-ghost use Rattle.std.specs.Prelude.{◌≡◌, ◌&&◌, int_le, int_lt, pos, negsuc, ◌+◌, ◌^◌, ◌≤◌, ◌∷◌, ◌++◌, length, take, drop, IfOk};
-ghost use Rattle.std.specs.Fmt.{sign_text, signed_decimal};
-ghost use Rattle.decimal_writers.specs.Text.{number_text, with_point, places_of, units_of, first_power, plain_text, exponent_text, zero_place, usual_text};
+ghost use Rattle.std.specs.Prelude.{◌≡◌, ◌&&◌, int_le, int_lt, pos, negsuc, ◌+◌, ◌^◌, ◌≤◌, ◌++◌, length, take, drop, IfOk};
+ghost use Rattle.std.specs.Fmt.{sign_text};
+ghost use Rattle.decimal_writers.specs.Text.{with_point, places_of, units_of, first_power, plain_text, exponent_text, zero_place, usual_text};
 ghost use Rattle.decimal_writers.specs.Room.{Writes};
 ghost use Rattle.decimal_writers.specs.Value.{Reads};
 
@@ -168,7 +168,8 @@ fn write_usual_text(
 }
 
 /// Writes a decimal without an exponent at the front of a slice, and answers its length, or the
-/// room that it needs: `-0.00012`, `1.5`, `12000`, `0`. So Rust's `{}` writes a float, if the digits
+/// room that it needs: `-0.00012`, `1.5`, `12000`, `0`. So Rust's `{}` writes a float, if the
+/// digits
 /// are its shortest. Digits of 0 are written too: 120 with the power -2 is `1.20`. What follows the
 /// text in the slice stays as it was.
 #[inline]

@@ -438,15 +438,18 @@ module _ (word : ℕ) (text : List ℕ) (decimal : IsDecimal word) (plain : HasN
   begun : (past_sign text 0 ≤ length text) × (drop (past_sign text 0) text ≡ std.text_of p)
   begun = (sign_fits text, by_sign negative text written)
     where
-      digit_first : (ws rest : List ℕ) → AllDigits 10 ws → 0 < length ws → past_sign (ws ++ rest) 0 ≡ 0
+      digit_first : (ws rest : List ℕ) → AllDigits 10 ws → 0 < length ws
+          → past_sign (ws ++ rest) 0 ≡ 0
       digit_first [] rest all some = absurd (omega arith)
       digit_first (d ∷ ds) rest all some = grind (arith, nat_tests, all.0)
 
-      by_sign : (n : Bool) (t : List ℕ) → t ≡ sign_text n ++ std.text_of p → drop (past_sign t 0) t ≡ std.text_of p
+      by_sign : (n : Bool) (t : List ℕ) → t ≡ sign_text n ++ std.text_of p
+          → drop (past_sign t 0) t ≡ std.text_of p
       by_sign true t e = rw e refl
       by_sign false t e = rw (e, digit_first p.whole _ well.whole_digits some) refl
 
-  pub as_written : (f : Format) → parse_at word text plain_marks f 0 ≡ Ok (nearest_float f negative p)
+  pub as_written : (f : Format)
+      → parse_at word text plain_marks f 0 ≡ Ok (nearest_float f negative p)
   as_written f =
       let at = past_sign text 0 in
       let is = has_float word text decimal plain at begun.0 p well some begun.1 in
@@ -459,9 +462,12 @@ module _ (word : ℕ) (text : List ℕ) (decimal : IsDecimal word) (plain : HasN
       sym std_reads ∙ ap (parse_float f) written ∙ parse_float-text_of f negative p well some in
       let mark = mantissa_end word text 46 at in
       let d : (mantissa_count word text 46 at == 0) ≡ false = grind (arith, nat_tests, is.some) in
-      let g : (stands (is_mark 101) text mark && (length (exponent_digits word text 101 mark) == 0)) ≡ false =
-      no_fault (stands (is_mark 101) text mark) (length (exponent_digits word text 101 mark)) is.exponent in
-      let h : (number_end word text plain_marks at == length text) ≡ true = grind (arith, nat_tests, ends) in
+      let g : (stands (is_mark 101) text mark && (length (exponent_digits word text 101 mark) == 0))
+      ≡ false =
+      no_fault (stands (is_mark 101) text mark)
+      (length (exponent_digits word text 101 mark)) is.exponent in
+      let h : (number_end word text plain_marks at == length text) ≡ true =
+      grind (arith, nat_tests, ends) in
       let here : parse_at word text plain_marks f 0 ≡ Ok (float_at word text plain_marks f 0) =
       rw (d, g, h) refl in
       here ∙ ap Ok (one_of same)

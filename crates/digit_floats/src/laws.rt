@@ -70,7 +70,8 @@ pub fn what_follows_changes_no_decimal()
         ≡ read_scaled_at word other marks.point places least most start }
 {}
 
-/// A float that was written is read: perhaps a minus, digits, perhaps a point and digits, and perhaps
+/// A float that was written is read: perhaps a minus, digits, perhaps a point and digits, and
+/// perhaps
 /// an exponent, without separators, are the float nearest to the number that they write.
 #[tactic(auto, using(crate::proofs::AsStd::as_written))]
 pub fn written_floats_are_read()

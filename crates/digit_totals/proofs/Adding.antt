@@ -1,5 +1,5 @@
 -- Lines that are added one by one.
-use Rattle.std.proofs.Common.{◌≡◌, ◌≢◌, ℕ, All, Result, List, [], ◌+◌, ◌++◌, length, ◌<◌, ◌≤◌, take, refl, sym, ◌∙◌, ap, arith, None, Ok, Err, take-append-drop, append_assoc, drop}
+use Rattle.std.proofs.Common.{◌≡◌, ◌≢◌, ℕ, All, Result, List, [], ◌+◌, ◌++◌, length, ◌<◌, ◌≤◌, take, refl, sym, ◌∙◌, ap, arith, Ok, Err, take-append-drop, append_assoc, drop}
 use Rattle.std.proofs.lemmas.Bool.Decides.{nat_tests}
 use Rattle.std.proofs.lemmas.List.{length-take-le, length-drop, drop-append-le}
 use Rattle.digit_totals.specs.declared.fault.LineFault.{LineFault}

@@ -1,6 +1,5 @@
 -- The numbers of a list, each of which is followed by a line feed, are those of lines.
-use Rattle.std.proofs.Common.{◌≡◌, ◌≢◌, ℕ, ℤ, zero, suc, ◌+◌, ◌-◌, ◌^◌, ◌<◌, ◌≤◌, ◌+ℤ◌, Bool, true, false, cond, List, [], ◌∷◌, ◌++◌, length, take, drop, get_or, refl, sym, ◌∙◌, ap, arith, Some, None, Ok, Err, Result, slice_get, subst, take_while, add-one, inl, inr, negsuc, neg_ℤ, ◌≤ℤ◌, ◌*◌, FitsSigned, pos}
-use Rattle.std.specs.Prelude.{Option}
+use Rattle.std.proofs.Common.{◌≡◌, ℕ, ℤ, zero, suc, ◌+◌, ◌-◌, ◌^◌, ◌<◌, ◌≤◌, ◌+ℤ◌, Bool, true, false, cond, List, [], ◌∷◌, ◌++◌, length, drop, get_or, refl, sym, ◌∙◌, ap, arith, Some, None, Ok, Err, Result, slice_get, subst, add-one, inl, inr, negsuc, neg_ℤ, ◌≤ℤ◌, ◌*◌, FitsSigned, pos}
 use Rattle.std.proofs.lemmas.Bool.{cases_lt}
 use Rattle.std.proofs.lemmas.Int.{ints}
 use mir.Syntax.{w64}
@@ -11,14 +10,13 @@ use Rattle.lexical_digits.specs.Separators.{class}
 use Rattle.lexical_digits.specs.State.{rule_of}
 use Rattle.lexical_digits.specs.declared.skip.component.Component.TheVariants.{Integer}
 use Rattle.lexical_digits.specs.declared.skip.rule.Class.TheVariants.{Other}
-use Rattle.lexical_digits.specs.declared.skip.rule.Rule.{Rule}
 use Rattle.digit_literals.specs.declared.LiteralError.{LiteralError}
 use Rattle.digit_literals.specs.declared.LiteralError.TheVariants.{Empty, Overflow}
 use Rattle.digit_literals.specs.declared.list.ListEnd.{ListEnd}
-use Rattle.digit_literals.specs.declared.list.ListEnd.TheVariants.{Full, Over, Fault}
+use Rattle.digit_literals.specs.declared.list.ListEnd.TheVariants.{Over, Fault}
 use Rattle.digit_literals.specs.declared.list.TheConstants.{LINES}
 use Rattle.digit_literals.specs.Errors.{literal_none_at}
-use Rattle.digit_literals.specs.Lists.{is_blank, has_separator, past_blanks, next_after, list_at}
+use Rattle.digit_literals.specs.Lists.{past_blanks, next_after, list_at}
 use Rattle.digit_literals.specs.Numbers.{number_at}
 use Rattle.digit_pieces.specs.Moves.{byte_before, outcome_later, literal_later}
 use Rattle.digit_pieces.specs.Laws.MovedIntegers.{moved_number}
@@ -28,7 +26,7 @@ use Rattle.digit_totals.specs.declared.options.Options.{Options}
 use Rattle.digit_totals.specs.declared.totals.Totals.{Totals}
 use Rattle.digit_totals.specs.Lines.{EndsWith}
 use Rattle.digit_totals.specs.Quick.{HasNoLowByte, BeginsWith}
-use Rattle.digit_totals.specs.Report.{with_value, Leaves}
+use Rattle.digit_totals.specs.Report.{Leaves}
 use Rattle.digit_totals.specs.Quick.{AddsUp, IsCleanAt}
 use Rattle.digit_totals.specs.Totals.{adding, plus, has_128_bits}
 use Rattle.digit_totals.specs.Value.{word_of}
@@ -43,10 +41,6 @@ module _ (text : List ℕ) (start : ℕ) where
       → past_blanks LINES text (start + at) ≡ start + past_blanks LINES (drop start text) at
   unfolding past_blanks
   moved_blanks at = rw (drop-drop at start text) (omega arith)
-
-  moved_separator : (at : ℕ)
-      → has_separator LINES text (start + at) ≡ has_separator LINES (drop start text) at
-  moved_separator at = rw (moved_get text start at) refl
 
   moved_after : (end next : ℕ) → next_after LINES text (start + end) ≡ Ok next
       → next_after LINES (drop start text) end ≡ Ok (next - start)
@@ -118,7 +112,8 @@ module _ (options : Options) (word : ℕ) (low : HasNoLowByte (rule_of word Inte
   fresh_line : (at next : ℕ) → next ≡ at + 1 → at < length text → get_or text at 0 ≡ 10
       → Begins next
   fresh_line at next e within mark =
-      let byte : byte_before text next ≡ Some 10 = rw (e, add-one) (grind (arith, gets, within, mark)) in
+      let byte : byte_before text next ≡ Some 10 =
+      rw (e, add-one) (grind (arith, gets, within, mark)) in
       rw byte (low 10 (omega arith))
 
   -- the list is over where no number begins, or after a number without a line feed
@@ -158,8 +153,8 @@ module _ (options : Options) (word : ℕ) (low : HasNoLowByte (rule_of word Inte
   module _ (room start at : ℕ) (t u : Totals) (short : length text ≤ 65536)
       (within : start ≤ length text) (fresh : Begins start)
       (others : (next : ℕ) (v : Totals) → next ≤ length text → Begins next
-        → IsCleanAt text (of room next).1 at → AddsUp v (of room next).0 u
-        → Leaves (adding options) v (drop next text) u (drop at text))
+      → IsCleanAt text (of room next).1 at → AddsUp v (of room next).0 u
+      → Leaves (adding options) v (drop next text) u (drop at text))
       (clean : IsCleanAt text (of (suc room) start).1 at)
       (adds : AddsUp t (of (suc room) start).0 u) where
     by_after : (x : ℤ) (end : ℕ) → one (past_blanks LINES text start) ≡ Ok (x, end)
@@ -196,7 +191,8 @@ module _ (options : Options) (word : ℕ) (low : HasNoLowByte (rule_of word Inte
         (fresh_line (past_blanks LINES text end) next line.next_is line.within line.mark)
         clean_rest both.1)
     by_after x end is (Err over) after =
-        let over_clean : IsCleanAt {E = LiteralError} text (Over over) at = rw (is, after) at clean in
+        let over_clean : IsCleanAt {E = LiteralError} text (Over over) at =
+        rw (is, after) at clean in
         let over_is : over ≡ past_blanks LINES text end = grind (arith, nat_tests, after) in
         absurd (list_over start end over x within is over_is over_clean.1 over_clean.2)
 

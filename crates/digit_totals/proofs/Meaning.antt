@@ -1,5 +1,5 @@
 -- What a report says, by the lines one after the other.
-use Rattle.std.proofs.Common.{◌≡◌, ℕ, ◌+◌, ◌<◌, ◌≤◌, true, false, List, [], ◌∷◌, ◌++◌, All, length, map, Ok, Err, Result, refl, sym, ◌∙◌, ap, arith, subst}
+use Rattle.std.proofs.Common.{◌≡◌, ℕ, ◌+◌, ◌<◌, ◌≤◌, false, List, [], ◌∷◌, ◌++◌, length, map, Ok, Err, Result, refl, sym, ◌∙◌, ap, arith, subst}
 use Rattle.std.proofs.lemmas.List.{length-map}
 use Rattle.std.specs.Prelude.{fold}
 use Rattle.std.proofs.lemmas.Bool.Decides.{nat_tests}
@@ -9,7 +9,7 @@ use Rattle.digit_totals.specs.declared.fault.LineFault.TheVariants.{Number, Sum,
 use Rattle.digit_totals.specs.declared.fault.NumberError.{NumberError}
 use Rattle.digit_totals.specs.Lines.{lines_of}
 use Rattle.digit_totals.specs.Meaning.{HaveValues, IsFirstAt, IsNumberFault, IsSumFault, IsLongLine, AreTotals}
-use Rattle.digit_totals.specs.Report.{Adding, with_value, with_line, continue, with_lines, report_of}
+use Rattle.digit_totals.specs.Report.{Adding, with_line, continue, with_lines, report_of}
 
 -- a number more is one more
 pub record Counts {T V : Type 0} (a : Adding T V) : Type 0 where

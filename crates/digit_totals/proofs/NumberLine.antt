@@ -213,7 +213,8 @@ begins_integer word text place value end next low at is some within after =
     let stand : StandsInLine text place end feed =
     subst (λ p. StandsInLine text p end feed) there
     (stands text end next (omega (arith, at, some))
-    (λ q from l. high rule low text place value end is within q (omega (arith, at, from)) l) after) in
+    (λ q from l. high rule low text place value end is within q
+    (omega (arith, at, from)) l) after) in
     let line = ends_line text end next after in (
       take feed text,
       rw (

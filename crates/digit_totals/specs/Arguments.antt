@@ -187,7 +187,8 @@ asked words = read_from no_settings 0 words
 
 -- what is allowed
 unfoldable pub usage : List ℕ
-usage = codes "usage: digit_sum [--column N [--separator C]] [--places N | --floats] [--underscores] [--help]\n"
+usage = codes
+    "usage: digit_sum [--column N [--separator C]] [--places N | --floats] [--underscores] [--help]\n"
 
 -- word n
 abbrev pub word_at : List (List ℕ) → ℕ → List ℕ

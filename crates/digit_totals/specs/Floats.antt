@@ -1,5 +1,5 @@
 -- The float that a line has, and what some floats are together.
-use Rattle.std.specs.Prelude.{ℕ, ◌+◌, ◌==◌, ◌||◌, true, if◌then◌else◌, List, slice_range, Option, None, Some, Result, Ok, Err}
+use Rattle.std.specs.Prelude.{ℕ, ◌+◌, ◌==◌, ◌||◌, true, if◌then◌else◌, List, slice_range, Result, Ok, Err}
 use Rattle.std.specs.Float.{float_zero, binary64}
 use Rattle.std.specs.Float.Ieee.{Float, add, lt}
 use Rattle.lexical_format.specs.declared.words.TheConstants.{PYTHON_LITERAL}

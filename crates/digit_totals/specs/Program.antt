@@ -8,9 +8,11 @@ use Rattle.digit_totals.specs.Arguments.{asked, usage_line, help}
 use Rattle.digit_totals.specs.Outcome.{Streams, Serves, ServesFloats, ServesHelp, Tells}
 
 -- What a run by arguments does: what a run by their options does; for `--help` that is written, and
--- nothing is read. Or they ask for nothing: then nothing is read, nothing is written but what `tell`
+-- nothing is read. Or they ask for nothing: then nothing is read, nothing is written but what
+-- `tell`
 -- writes, and the status is 2.
-abbrev pub ServesAsked : List (List ℕ) → Result Request UsageError → Streams → (had has : Option (List ℕ)) → ℕ
+abbrev pub ServesAsked : List (List ℕ) → Result Request UsageError → Streams
+    → (had has : Option (List ℕ)) → ℕ
     → Type 0
 ServesAsked words (Ok (Exact options)) s had has status = Serves options s had has status
 ServesAsked words (Ok (Floats options)) s had has status = ServesFloats options s had has status

@@ -1,5 +1,5 @@
 -- The number that a line has, or why there is none.
-use Rattle.std.specs.Prelude.{ℕ, ℤ, ◌-◌, ◌^◌, ◌≤◌, ⊤, if◌then◌else◌, List, slice_range, Option, None, Some, Result, Ok, Err}
+use Rattle.std.specs.Prelude.{ℕ, ℤ, ◌-◌, ◌^◌, ◌≤◌, ⊤, if◌then◌else◌, List, slice_range, Result, Ok, Err}
 use Rattle.lexical_format.specs.declared.words.TheConstants.{PYTHON_LITERAL}
 use Rattle.lexical_format.specs.declared.TheConstants.{STANDARD}
 use Rattle.lexical_digits.specs.declared.skip.component.Component.TheVariants.{Integer}

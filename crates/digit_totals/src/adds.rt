@@ -34,7 +34,8 @@ pub trait Adds: Copy {
     // The column that has the number.
     ghost column_of: { Self → Option Column };
 
-    // The line that is written of totals, and whether a number's text may not be read as that number.
+    // The line that is written of totals, and whether a number's text may not be read as that
+    // number.
     ghost IsLine: { Self → Self.Totals → List ℕ → Type 0 };
 
     ghost MayDiffer: { Type 0 };

@@ -160,7 +160,8 @@ pub fn serve_floats<R: Read, W: Write, E: Write>(
     serve(alloc, options, reader, writer, errors)
 }
 
-/// The whole program, by its arguments: [`serve`] or [`serve_floats`], what may be asked for, or the
+/// The whole program, by its arguments: [`serve`] or [`serve_floats`], what may be asked for, or
+/// the
 /// lines of a fault of the arguments and the status 2.
 pub fn serve_arguments<R: Read, W: Write, E: Write>(
     alloc: Global,

@@ -19,7 +19,8 @@ pub fn reports_say()
     ensures totals { (options : Options) (text : List ℕ) (t : Totals) →
         report_of options text ≡ Ok t → AreTotals (value_of options) AreTotalsOf text t }
     ensures number { (options : Options) (text : List ℕ) (n : ℕ) (error : NumberError) →
-        report_of options text ≡ Err (Number n error) → IsNumberFault (value_of options) text n error }
+        report_of options text ≡ Err (Number n error)
+        → IsNumberFault (value_of options) text n error }
     ensures sum { (options : Options) (text : List ℕ) (n : ℕ) →
         report_of options text ≡ Err (Sum n) → IsSumFault (value_of options) sum_fits text n }
     ensures long { (options : Options) (text : List ℕ) (n : ℕ) →
@@ -30,10 +31,12 @@ pub fn reports_say()
 /// that are added one after the other, each sum rounded, and it never ends a run.
 pub fn float_reports_say()
     ensures totals { (options : FloatOptions) (text : List ℕ) (t : FloatTotals) →
-        Floats.report_of options text ≡ Ok t → AreTotals (Floats.value_of options) AreFloatTotalsOf text t }
+        Floats.report_of options text ≡ Ok t
+        → AreTotals (Floats.value_of options) AreFloatTotalsOf text t }
     ensures number { (options : FloatOptions) (text : List ℕ) (n : ℕ) (error : NumberError) →
         Floats.report_of options text ≡ Err (Number n error)
         → IsNumberFault (Floats.value_of options) text n error }
     ensures long { (options : FloatOptions) (text : List ℕ) (n : ℕ) →
-        Floats.report_of options text ≡ Err (LongLine n) → IsLongLine (Floats.value_of options) text n }
+        Floats.report_of options text ≡ Err (LongLine n)
+        → IsLongLine (Floats.value_of options) text n }
 {}

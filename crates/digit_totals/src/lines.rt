@@ -1,6 +1,6 @@
 //! The numbers of whole lines.
 
-ghost use Rattle.std.specs.Prelude.{◌≡◌, ◌^◌, ◌<◌, ◌+◌, ◌≤◌, All, ◌≢◌, length, MatchOption, IfSome, IfErr, IfOk};
+ghost use Rattle.std.specs.Prelude.{◌^◌, ◌<◌, ◌+◌, ◌≤◌, All, ◌≢◌, length, MatchOption, IfSome, IfErr, IfOk};
 ghost use Rattle.digit_totals.specs.Lines.{IsFirstLine, EndsWith};
 ghost use Rattle.digit_totals.specs.Report.{most_bytes, Leaves, EndsIn};
 

@@ -1,4 +1,5 @@
-//! Lines that are only a number, as most are: these are read without looking for the line feed first.
+//! Lines that are only a number, as most are: these are read without looking for the line feed
+//! first.
 
 ghost use Rattle.std.specs.Prelude.{◌≡◌, ℕ, ◌^◌, ◌<◌, ◌+◌, ◌≤◌, ◌-◌, length, IfSome, IfErr, IfOk, IsTrue, None, Ok};
 ghost use Rattle.lexical_format.specs.Word.{is_supported};

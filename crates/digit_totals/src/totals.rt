@@ -1,6 +1,6 @@
 //! The totals of the numbers so far.
 
-ghost use Rattle.std.specs.Prelude.{◌≡◌, ◌^◌, ◌<◌, ◌+◌, length, IfOk, IfSome};
+ghost use Rattle.std.specs.Prelude.{◌≡◌, ◌^◌, ◌<◌, ◌+◌, IfOk, IfSome};
 ghost use Rattle.digit_totals.specs.Floats as floats;
 ghost use Rattle.digit_totals.specs.Quick.{AddsUp};
 ghost use Rattle.digit_totals.specs.Totals.{no_numbers, with_number};

@@ -89,3 +89,6 @@ pub use Rattle.decimal_writers.specs.Room.{Writes}
 pub use Rattle.digit_writers.specs.declared.layout.Layout.{Layout}
 pub use Rattle.digit_writers.specs.Layouts.{IsReadBy, laid_out}
 pub use Rattle.digit_writers.specs.Written.{IsOfRadix, IsShortest, Reads}
+pub use Rattle.float_writers.specs.declared.write.FloatLayout.{FloatLayout}
+pub use Rattle.float_writers.specs.declared.write.FloatTextError.{FloatTextError}
+pub use Rattle.float_writers.specs.Write.{IsReason, IsTextOf, text_of}

@@ -173,9 +173,6 @@ module _ (f : Format) (kf shift k m c : ℕ) (at : kf + shift ≡ k) (scale : lo
           let q : u * l * (w * v) ≡ u * v * (w * l) = grind arith in
           p ∙ ap (λ z. z * (w * v)) (sym e) ∙ q
 
-  some_den : (down : ℕ) → 0 < den x * 10 ^ down
-  some_den down = mul-pos (den_pos x) (ten_pos down)
-
   -- the nearer of two at one scale
   better : (d last e e_ up down up_ down_ i b j : ℕ) → up + j ≡ i + down → up_ + j ≡ b + down_
       → IsBest (m * (10 ^ j * 2 ^ k)) (d * 10 ^ i * 2 ^ 1074) last (e * 10 ^ b * 2 ^ 1074) e_

@@ -3,7 +3,7 @@ use Rattle.std.proofs.Common.{◌≡◌, ℕ, ℤ, pos, negsuc, zero, suc, ◌*�
 use Rattle.std.specs.Prelude.{Result, Ok, Err, IsTrue, IfOk}
 use Rattle.std.specs.Float.{Float, Format, nan, inf, fin, binary32, binary64, float_is_finite, float_is_infinite, is_sign_negative, float_with_sign, float_zero}
 use Rattle.std.proofs.lemmas.Bool.{cases_lt}
-use Rattle.std.proofs.Math.Seq.{take-append_seam, drop-append_seam}
+use Rattle.std.proofs.Math.Seq.{take-append_seam}
 use native.Mathlib.Nat.{zero-mul, mul-pos}
 use mathlib.Core.Bool.{beq, ◌&&◌, ◌||◌}
 use lib.Dec.{eqb, eqb→eq, lt→ltb}
@@ -20,15 +20,16 @@ use Rattle.decimal_writers.specs.Value as value
 use Rattle.decimal_writers.specs.Value.{nearest_of}
 use Rattle.decimal_writers.specs.declared.room.NoRoom as room
 use Rattle.float_writers.specs.Decimals.{Reads, HasNoMoreDigits, IsAsNear, units_of, places_of, far_of}
-use Rattle.float_writers.specs.Write.{IsShortest, IsTextOf, IsReason, text_of}
+use Rattle.float_writers.specs.Write.{IsShortest, IsTextOf}
 use Rattle.float_writers.specs.declared.decimal.Decimal.{Decimal}
-use Rattle.float_writers.specs.declared.write.Layout.{Layout}
+use Rattle.float_writers.specs.declared.write.FloatLayout.{FloatLayout}
 use Rattle.float_writers.specs.declared.write.FloatTextError.TheVariants.{NoRoom}
 use Rattle.float_writers.proofs.Fewest.{ten_pos}
 
 -- ---- the sign
 
-pub size_is : (b : Bool) (x y : Float) → b ≡ is_sign_negative x → y ≡ cond b (neg x) x → y ≡ float_with_sign false x
+pub size_is : (b : Bool) (x y : Float) → b ≡ is_sign_negative x → y ≡ cond b (neg x) x
+    → y ≡ float_with_sign false x
 unfolding is_sign_negative float_with_sign neg
 size_is b x y s e = e ∙ ap (λ (b : Bool). cond b (neg x) x) s ∙ by x
   where
@@ -39,7 +40,8 @@ size_is b x y s e = e ∙ ap (λ (b : Bool). cond b (neg x) x) s ∙ by x
     by (fin true m e) = refl
     by (fin false m e) = refl
 
-signed : (f : Format) (x : Float) (a b : ℕ) → round f false a b ≡ float_with_sign false x → round f (is_sign_negative x) a b ≡ x
+signed : (f : Format) (x : Float) (a b : ℕ) → round f false a b ≡ float_with_sign false x
+    → round f (is_sign_negative x) a b ≡ x
 unfolding is_sign_negative float_with_sign neg
 signed f nan a b e = e
 signed f (inf true) a b e = sym (round_neg f a b) ∙ ap neg e
@@ -90,9 +92,13 @@ zero_shortest f = record {
     level : (other : Decimal) → HasNoMoreDigits other nothing → IsAsNear float_zero nothing other
     level other few =
         let none : other.digits ≡ 0 = omega (arith, few 0 (omega arith)) in
-        let theirs : units_of other.digits other.power ≡ 0 = ap (λ (e : ℕ). units_of e other.power) none ∙ no_units other.power in
-        ap (λ (z : ℕ). z * 10 ^ places_of other.power) (far_none 0 0 refl) ∙ zero-mul (10 ^ places_of other.power)
-        ∙ sym (ap (λ (z : ℕ). z * 10 ^ 0) (far_none (units_of other.digits other.power) (places_of other.power) theirs) ∙ zero-mul (10 ^ 0))
+        let theirs : units_of other.digits other.power ≡ 0 =
+        ap (λ (e : ℕ). units_of e other.power) none ∙ no_units other.power in
+        ap (λ (z : ℕ). z * 10 ^ places_of other.power) (far_none 0 0 refl)
+        ∙ zero-mul (10 ^ places_of other.power)
+        ∙ sym (ap (λ (z : ℕ). z * 10 ^ 0)
+        (far_none (units_of other.digits other.power) (places_of other.power) theirs)
+        ∙ zero-mul (10 ^ 0))
 
 level_same : (s : Bool) (a b : ℕ) → level s a false b ≡ true → a ≡ b
 level_same s a b e = go (eqb a b) (eqb→eq a b) e
@@ -101,17 +107,25 @@ level_same s a b e = go (eqb a b) (eqb→eq a b) e
     go true f e = f tt
     go false f e = cc
 
-pub zero_size : (f : Format) (x z : Float) → T (fits f x) → z ≡ float_zero → eq x z ≡ true → float_with_sign false x ≡ float_zero
+pub zero_size : (f : Format) (x z : Float) → T (fits f x) → z ≡ float_zero → eq x z ≡ true
+    → float_with_sign false x ≡ float_zero
 unfolding eq float_with_sign fits
 zero_size f x z fit is e = by x fit (sym (ap (eq x) is) ∙ e)
   where
     by : (x : Float) → T (fits f x) → eq x float_zero ≡ true → float_with_sign false x ≡ float_zero
     by nan fit e = cc
     by (inf s) fit e = cc
-    by (fin s zero k) fit e = whole_unique f (fin false zero k) float_zero false 0 fit tt (refl, omega (arith, zero-mul (up k), zero-mul (down k))) (refl, refl)
+    by (fin s zero k) fit e =
+        whole_unique f (fin false zero k) float_zero false 0 fit tt
+        (refl, omega (arith, zero-mul (up k), zero-mul (down k))) (refl, refl)
     by (fin s (suc m) k) fit e =
         let size : 0 < suc m * up k = mul-pos (omega arith) (up_pos k) in
-        absurd (omega (arith, size, level_same s (suc m * up k * 1) (0 * down k) e, zero-mul (down k)))
+        absurd (omega (
+          arith,
+          size,
+          level_same s (suc m * up k * 1) (0 * down k) e,
+          zero-mul (down k),
+        ))
 
 level_zero : (s : Bool) (a b : ℕ) → a ≡ 0 → b ≡ 0 → level s a false b ≡ true
 level_zero s a b i j = (λ t. level s (i t) false (j t)) ∙ by s
@@ -120,34 +134,27 @@ level_zero s a b i j = (λ t. level s (i t) false (j t)) ∙ by s
     by true = refl
     by false = refl
 
-pub above_size : (x z : Float) → IsTrue (float_is_finite x) → z ≡ float_zero → eq x z ≡ false → T (positive (float_with_sign false x))
+pub above_size : (x z : Float) → IsTrue (float_is_finite x) → z ≡ float_zero → eq x z ≡ false
+    → T (positive (float_with_sign false x))
 unfolding eq float_with_sign float_is_finite
 above_size x z finite is e = by x finite (sym (ap (eq x) is) ∙ e)
   where
-    by : (x : Float) → IsTrue (float_is_finite x) → eq x float_zero ≡ false → T (positive (float_with_sign false x))
+    by : (x : Float) → IsTrue (float_is_finite x) → eq x float_zero ≡ false
+        → T (positive (float_with_sign false x))
     by nan h e = cc
     by (inf s) h e = cc
-    by (fin s zero k) h e = absurd (true≢false (sym (level_zero s (0 * up k * 1) (0 * down k) (omega (arith, zero-mul (up k))) (zero-mul (down k))) ∙ e))
+    by (fin s zero k) h e =
+        absurd (true≢false
+        (sym (level_zero s (0 * up k * 1) (0 * down k) (omega (arith, zero-mul (up k)))
+        (zero-mul (down k))) ∙ e))
     by (fin s (suc m) k) h e = lt→ltb 0 (suc m) (omega arith)
 
 -- ---- a finite float
 
-module _ (f : Format) (x : Float) (layout : Layout) (b : Bool) (d : Decimal) (finite : IsTrue (float_is_finite x)) (sign : b ≡ is_sign_negative x)
-    (shortest : IsShortest f (float_with_sign false x) d) (old new : List ℕ) (result : Result ℕ room.NoRoom) where
-  pub texts : Writes (text_of layout b d) old new result → (text : List ℕ) × (IsTextOf f x layout text × Writes text old new result)
-  texts is = (
-    text_of layout b d,
-    (
-      record {
-        finite = finite;
-        written = d;
-        is = ap (λ (b : Bool). text_of layout b d) sign;
-        shortest = shortest;
-      },
-      is,
-    ),
-  )
-
+module _ (f : Format) (x : Float) (layout : FloatLayout) (b : Bool) (d : Decimal)
+    (finite : IsTrue (float_is_finite x)) (sign : b ≡ is_sign_negative x)
+    (shortest : IsShortest f (float_with_sign false x) d) (old new : List ℕ)
+    (result : Result ℕ room.NoRoom) where
   pub read_back : IfOk result (λ n. value.Reads b d.digits d.power (take n new))
       → IfOk result (λ n. parse_at STANDARD (take n new) plain_marks f 0 ≡ Ok x)
   read_back is = by result is
@@ -155,7 +162,8 @@ module _ (f : Format) (x : Float) (layout : Layout) (b : Bool) (d : Decimal) (fi
       by : (r : Result ℕ room.NoRoom) → IfOk r (λ n. value.Reads b d.digits d.power (take n new))
           → IfOk r (λ n. parse_at STANDARD (take n new) plain_marks f 0 ≡ Ok x)
       by (Ok n) is =
-          is.is f ∙ ap (λ (b : Bool). Ok (nearest_of f b d.digits d.power)) sign ∙ ap Ok (back f x d shortest.reads)
+          is.is f ∙ ap (λ (b : Bool). Ok (nearest_of f b d.digits d.power)) sign
+          ∙ ap Ok (back f x d shortest.reads)
       by (Err e) is = tt
 
 -- ---- in the words of callers
@@ -164,11 +172,10 @@ count : Result ℕ room.NoRoom → ℕ
 count (Ok n) = n
 count (Err e) = e.needed
 
-same_count : {a b : Result ℕ room.NoRoom} → a ≡ b → count a ≡ count b
-same_count e = ap count e
-
-module _ (text old new : List ℕ) (result : Result ℕ room.NoRoom) (is : Writes text old new result) where
-  wrote : (n : ℕ) → result ≡ Ok n → (length text ≡ n) × ((length text ≤ length old) × (new ≡ text ++ drop (length text) old))
+module _ (text old new : List ℕ) (result : Result ℕ room.NoRoom)
+    (is : Writes text old new result) where
+  wrote : (n : ℕ) → result ≡ Ok n → (length text ≡ n)
+      × ((length text ≤ length old) × (new ≡ text ++ drop (length text) old))
   unfolding count
   wrote n e = elim (cases_lt (length old) (length text)) [
     | inl none ↦ absurd (by (sym e ∙ is.no_room none))
@@ -178,41 +185,16 @@ module _ (text old new : List ℕ) (result : Result ℕ room.NoRoom) (is : Write
       by : {e : room.NoRoom} → Ok n ≡ Err e → ⊥
       by h = cc
 
-  refused : (n : ℕ) → result ≡ Err (record { needed = n }) → (length text ≡ n) × ((length old < length text) × (new ≡ old))
-  unfolding count
-  refused n e = elim (cases_lt (length old) (length text)) [
-    | inl none ↦ (ap count (sym (is.no_room none) ∙ e), (none, is.unchanged none))
-    | inr room ↦ absurd (by (sym (is.ok room) ∙ e))
-  ]
-    where
-      by : {e : room.NoRoom} {k : ℕ} → Ok k ≡ Err e → ⊥
-      by h = cc
-
-module _ (f : Format) (x : Float) (layout : Layout) (old new : List ℕ) (result : Result ℕ room.NoRoom)
+module _ (f : Format) (x : Float) (layout : FloatLayout) (old new : List ℕ)
+    (result : Result ℕ room.NoRoom)
     (is : (text : List ℕ) × (IsTextOf f x layout text × Writes text old new result)) where
   pub text_there : (n : ℕ) → result ≡ Ok n → IsTextOf f x layout (take n new)
   text_there n e =
       let w = wrote is.0 old new result is.1.1 n e in
       let same : is.0 ≡ take n new =
-      sym (ap (λ (k : ℕ). take k new) (sym w.0) ∙ ap (take (length is.0)) w.1.1 ∙ take-append_seam is.0 (drop (length is.0) old)) in
+      sym (ap (λ (k : ℕ). take k new) (sym w.0) ∙ ap (take (length is.0)) w.1.1
+      ∙ take-append_seam is.0 (drop (length is.0) old)) in
       subst (IsTextOf f x layout) same is.1.0
-
-  pub fits_there : (n : ℕ) → result ≡ Ok n → n ≤ length old
-  fits_there n e = let w = wrote is.0 old new result is.1.1 n e in omega (arith, w.0, w.1.0)
-
-  pub rest_there : (n : ℕ) → result ≡ Ok n → drop n new ≡ drop n old
-  rest_there n e =
-      let w = wrote is.0 old new result is.1.1 n e in
-      ap (λ (k : ℕ). drop k new) (sym w.0) ∙ ap (drop (length is.0)) w.1.1 ∙ drop-append_seam is.0 (drop (length is.0) old)
-      ∙ ap (λ (k : ℕ). drop k old) w.0
-
-  pub no_room_there : (n : ℕ) → result ≡ Err (record { needed = n }) → IsReason f x layout (length old) (NoRoom n)
-  no_room_there n e =
-      let w = refused is.0 old new result is.1.1 n e in
-      (is.0, (is.1.0, (w.0, omega (arith, w.0, w.1.0))))
-
-  pub unchanged_there : (n : ℕ) → result ≡ Err (record { needed = n }) → new ≡ old
-  unchanged_there n e = (refused is.0 old new result is.1.1 n e).1.1
 
 -- ---- the kinds of floats
 
@@ -222,7 +204,8 @@ number nan e = cc
 number (inf s) e = cc
 number (fin s m k) e = tt
 
-pub finite_else : (x : Float) (a b : Bool) → a ≡ is_nan x → a ≡ false → b ≡ float_is_infinite x → b ≡ false
+pub finite_else : (x : Float) (a b : Bool) → a ≡ is_nan x → a ≡ false → b ≡ float_is_infinite x
+    → b ≡ false
     → IsTrue (float_is_finite x)
 unfolding float_is_finite float_is_infinite is_nan
 finite_else nan a b i j k l = cc

@@ -4,8 +4,8 @@ use Rattle.std.specs.Float.{Float, Format, float_is_finite, float_is_infinite, f
 use Rattle.decimal_writers.specs.Text.{plain_text, exponent_text, usual_text}
 use Rattle.float_writers.specs.Decimals.{Reads, HasNoMoreDigits, IsNearer, IsAsNear}
 use Rattle.float_writers.specs.declared.decimal.Decimal.{Decimal}
-use Rattle.float_writers.specs.declared.write.Layout.{Layout}
-use Rattle.float_writers.specs.declared.write.Layout.TheVariants.{Plain, Exponent, Usual}
+use Rattle.float_writers.specs.declared.write.FloatLayout.{FloatLayout}
+use Rattle.float_writers.specs.declared.write.FloatLayout.TheVariants.{Plain, Exponent, Usual}
 use Rattle.float_writers.specs.declared.write.FloatTextError.{FloatTextError}
 use Rattle.float_writers.specs.declared.write.FloatTextError.TheVariants.{NoRoom, Infinite, NaN}
 
@@ -22,20 +22,20 @@ pub record IsShortest (f : Format) (x : Float) (d : Decimal) : Type 0 where
   pub last : d.digits % 10 ≡ 0 → (d.digits ≡ 0) × (d.power ≡ pos 0)
 
 -- the text of a decimal
-abbrev pub text_of : Layout → Bool → Decimal → List ℕ
+abbrev pub text_of : FloatLayout → Bool → Decimal → List ℕ
 text_of Plain negative d = plain_text negative d.digits d.power
 text_of Exponent negative d = exponent_text negative d.digits d.power
 text_of Usual negative d = usual_text negative d.digits d.power
 
 -- a text is that of a float: its sign, and the shortest decimal of its size
-pub record IsTextOf (f : Format) (x : Float) (layout : Layout) (text : List ℕ) : Type 0 where
+pub record IsTextOf (f : Format) (x : Float) (layout : FloatLayout) (text : List ℕ) : Type 0 where
   pub finite : IsTrue (float_is_finite x)
   pub written : Decimal
   pub is : text ≡ text_of layout (is_sign_negative x) written
   pub shortest : IsShortest f (float_with_sign false x) written
 
 -- why a slice of so many bytes has no text of a float
-abbrev pub IsReason : Format → Float → Layout → ℕ → FloatTextError → Type 0
+abbrev pub IsReason : Format → Float → FloatLayout → ℕ → FloatTextError → Type 0
 IsReason f x layout room (NoRoom needed) =
     (text : List ℕ) × (IsTextOf f x layout text × ((length text ≡ needed) × (room < needed)))
 IsReason f x layout room Infinite = IsTrue (float_is_infinite x)

@@ -1,6 +1,6 @@
 //! The shortest decimal that reads as a float.
 
-ghost use Rattle.std.specs.Prelude.{◌≡◌, ◌⊎◌, true, pos, negsuc, ◌-ℤ◌, ◌≤ℤ◌, ◌+◌, ◌-◌, ◌*◌, ◌%◌, ◌^◌, ◌<◌, ◌≤◌};
+ghost use Rattle.std.specs.Prelude.{◌≡◌, ◌⊎◌, pos, negsuc, ◌-ℤ◌, ◌≤ℤ◌, ◌+◌, ◌-◌, ◌*◌, ◌%◌, ◌^◌, ◌<◌, ◌≤◌};
 ghost use Rattle.float_writers.specs.Decimals.{units_of, places_of, Reads, HasNoMoreDigits, IsNearer, IsAsNear};
 ghost use Rattle.float_writers.specs.Parts.{IsAboveZero};
 

@@ -1,6 +1,6 @@
 //! A float on a grid of decimals: between which two of them it is, and which read as it.
 
-ghost use Rattle.std.specs.Prelude.{◌≡◌, ℕ, true, false, ◌/◌, ◌+◌, ◌-◌, ◌*◌, ◌^◌, ◌<◌, ◌≤◌};
+ghost use Rattle.std.specs.Prelude.{◌≡◌, true, false, ◌/◌, ◌+◌, ◌-◌, ◌*◌, ◌^◌, ◌<◌, ◌≤◌};
 ghost use Rattle.std.specs.Float.{Float, Format};
 ghost use Rattle.float_writers.specs.Grid.{within, power_of, scale_of, gap, step, quarters, offset, IsReach, IsPlaced};
 ghost use Rattle.float_writers.specs.Decimals.{IsShortestAt};

@@ -10,4 +10,4 @@ mod write;
 
 pub use self::decimal::{Decimal, shortest};
 pub use self::parts::{Parts, WrittenFloat};
-pub use self::write::{AnyFloat, FloatTextError, Layout, write_float};
+pub use self::write::{AnyFloat, FloatLayout, FloatTextError, write_float};

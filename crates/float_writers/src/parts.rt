@@ -1,6 +1,6 @@
 //! `f64` and `f32`: what writing asks of a type of floats.
 
-ghost use Rattle.std.specs.Prelude.{◌≡◌, ℕ, true, false, ◌-◌, ◌^◌, ◌<◌, ◌≤◌, from_bits};
+ghost use Rattle.std.specs.Prelude.{◌≡◌, true, false, ◌-◌, ◌^◌, ◌<◌, ◌≤◌, from_bits};
 ghost use Rattle.std.specs.Float.{Format};
 ghost use Rattle.std.specs.Float.Ieee.{hid, low};
 ghost use Rattle.float_writers.specs.Parts.{IsParts, IsAboveZero};

@@ -1,6 +1,6 @@
 //! The powers of ten from 10 ^ 324 down to 10 ^ -292, each cut to its 128 leading bits.
 
-ghost use Rattle.std.specs.Prelude.{◌≡◌, ◌<◌, ◌≤◌};
+ghost use Rattle.std.specs.Prelude.{◌≡◌, ◌<◌};
 ghost use Rattle.float_writers.specs.Grid.{IsRow, scale_of};
 
 /// The 128 leading bits of 10 ^ (324 - power).

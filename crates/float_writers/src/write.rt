@@ -17,7 +17,7 @@ use std::fmt;
 
 /// How a decimal is laid out.
 #[derive(Clone, Copy, Debug, PartialEq, Eq)]
-pub enum Layout {
+pub enum FloatLayout {
     /// Without an exponent, as Rust's `{}`: `0.00012`, `1.5`, `12000`, `0`.
     Plain,
     /// With one digit before the point and an exponent, as Rust's `{:e}`: `1.2e-4`, `1.5e0`.
@@ -137,7 +137,7 @@ fn shortest_size<F: AnyFloat>(x: F, negative: bool) -> Decimal
 /// Writes a decimal in a layout.
 #[inline(always)]
 fn write_decimal(
-    layout: Layout,
+    layout: FloatLayout,
     negative: bool,
     decimal: Decimal,
     out: &mut [u8],
@@ -147,15 +147,15 @@ fn write_decimal(
         Reads negative decimal.digits decimal.power (take n out.new)) }
 {
     match layout {
-        Layout::Plain => write_plain(negative, decimal.digits, decimal.power, out),
-        Layout::Exponent => write_exponent(negative, decimal.digits, decimal.power, out),
-        Layout::Usual => write_usual(negative, decimal.digits, decimal.power, out),
+        FloatLayout::Plain => write_plain(negative, decimal.digits, decimal.power, out),
+        FloatLayout::Exponent => write_exponent(negative, decimal.digits, decimal.power, out),
+        FloatLayout::Usual => write_usual(negative, decimal.digits, decimal.power, out),
     }
 }
 
 /// [`write_float`] of a number that is finite.
 #[inline(always)]
-fn write_finite<F: AnyFloat>(x: F, layout: Layout, out: &mut [u8]) -> Result<usize, NoRoom>
+fn write_finite<F: AnyFloat>(x: F, layout: FloatLayout, out: &mut [u8]) -> Result<usize, NoRoom>
     requires { IsTrue (float_is_finite (F.value x)) }
     ensures writes { (text : List ℕ) × (IsTextOf F.format (F.value x) layout text
         × Writes text out.old out.new result) }
@@ -169,7 +169,8 @@ fn write_finite<F: AnyFloat>(x: F, layout: Layout, out: &mut [u8]) -> Result<usi
 
 /// Writes the shortest text of a float to the front of a slice, and answers its length: the fewest
 /// digits that are read as the float, of these the closest to it, and of two as close the one whose
-/// last digit is even. A zero keeps its sign. What follows the text in the slice stays as it was. If
+/// last digit is even. A zero keeps its sign. What follows the text in the slice stays as it was.
+/// If
 /// there is no text, the slice stays as it was.
 ///
 /// ```text
@@ -182,7 +183,7 @@ fn write_finite<F: AnyFloat>(x: F, layout: Layout, out: &mut [u8]) -> Result<usi
 #[inline]
 pub fn write_float<F: AnyFloat>(
     x: F,
-    layout: Layout,
+    layout: FloatLayout,
     out: &mut [u8],
 ) -> Result<usize, FloatTextError>
     ensures written { IfOk result (λ n.

@@ -14,7 +14,10 @@ pub struct Written {
 /// The shortest decimal of a float above zero.
 fn write<F: WrittenFloat>(x: F) -> Written {
     if !x.is_above_zero() {
-        return Written { digits: 0, power: 0 };
+        return Written {
+            digits: 0,
+            power: 0,
+        };
     }
     let decimal = shortest::<F>(x);
     Written {

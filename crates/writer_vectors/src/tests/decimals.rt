@@ -3,7 +3,6 @@
 
 use float_writers::{WrittenFloat, shortest};
 use std::num::{f32_from_bits_with_nan, f64_from_bits_with_nan};
-use std::process::Abort;
 use std::rt::HostRuntime;
 
 /// The bits of a float, and the digits and the power of ten of its shortest decimal.

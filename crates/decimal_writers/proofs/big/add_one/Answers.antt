@@ -15,13 +15,19 @@ returns-then-at-len-clause-big c =
     let l = c.loop-at in
     elim c.loop-at-test.branch [
       | then-loop-at-test+else-digits-at-eq9 w ↦
-          added_here c.args.digits.now l.digits c.args.len c.args.place l.at (value_of (take c.args.len c.args.digits.now)) c.if-at-len.true
-          (omega (arith, c.requires.room, l.auto.digits)) w.if-digits-at-eq9.false l.invariant c.requires.big
+          added_here c.args.digits.now l.digits c.args.len c.args.place l.at
+          (value_of (take c.args.len c.args.digits.now)) c.if-at-len.true
+          (omega (
+            arith,
+            c.requires.room,
+            l.auto.digits,
+          )) w.if-digits-at-eq9.false l.invariant c.requires.big
       | else-loop-at-test w ↦ absurd (omega (arith, w.loop-at-test.false, c.if-at-len.true))
     ]
 
 pub returns-clause-big : goal.returns-clause-big
 returns-clause-big c =
     let l = c.loop-at in
-    added_before c.args.digits.now l.digits c.args.len c.args.place l.at (value_of (take c.args.len c.args.digits.now)) c.if-at-len.false
+    added_before c.args.digits.now l.digits c.args.len c.args.place l.at
+    (value_of (take c.args.len c.args.digits.now)) c.if-at-len.false
     (omega (arith, c.requires.room, l.auto.digits)) l.invariant c.requires.big

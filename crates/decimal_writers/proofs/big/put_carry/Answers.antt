@@ -10,5 +10,9 @@ pub loop-left-preserved : goal.loop-left-preserved
 loop-left-preserved c =
     let l = c.loop-left in
     carried_one c.args.digits.now l.digits c.args.start c.args.carry l.at l.left
-    (omega (arith, carried_room c.args.digits.now l.digits c.args.start c.args.carry l.at l.left (omega arith) l.invariant))
+    (omega (
+      arith,
+      carried_room c.args.digits.now l.digits c.args.start c.args.carry l.at l.left
+          (omega arith) l.invariant,
+    ))
     (omega arith) l.invariant

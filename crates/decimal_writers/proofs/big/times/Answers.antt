@@ -8,4 +8,5 @@ loop-i-init c = times_none c.args.digits.now c.args.factor c.requires.factor.0 c
 pub loop-i-preserved : goal.loop-i-preserved
 loop-i-preserved c =
     let l = c.loop-i in
-    times_one c.args.digits.now l.digits c.args.factor l.i l.carry (omega arith) l.auto.digits l.invariant
+    times_one c.args.digits.now l.digits c.args.factor l.i l.carry
+    (omega arith) l.auto.digits l.invariant

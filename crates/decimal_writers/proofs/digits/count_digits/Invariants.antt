@@ -4,7 +4,8 @@ use Rattle.decimal_writers.proofs.digits.count_digits.Given as goal
 
 abbrev pub invariant-loop-left : goal.invariant-loop-left
 invariant-loop-left l =
-    (l.left < 2 ^ 64) × (1 ≤ l.count) × (l.count + length (number_text l.left) ≡ length (number_text l.n) + 1)
+    (l.left < 2 ^ 64) × (1 ≤ l.count)
+    × (l.count + length (number_text l.left) ≡ length (number_text l.n) + 1)
 
 abbrev pub decreases-loop-left : goal.decreases-loop-left
 decreases-loop-left l = l.left

@@ -7,9 +7,11 @@ pub returns-then-binary-lt-LEAST-clause-value : goal.returns-then-binary-lt-LEAS
 returns-then-binary-lt-LEAST-clause-value c =
     let b = c.args.binary in
     let put = c.put_carry-len in
-    let first = first_value c.args.digits.now put.new.digits put.result b.significand put.ensures.value in
+    let first = first_value c.args.digits.now put.new.digits put.result b.significand
+    put.ensures.value in
     let sum : 1074 - b.shift + b.shift ≡ 1074 = omega (arith, c.if-binary-lt-LEAST.true) in
-    down_value b.significand b.shift (value_of (take c.scale.result c.scale.new.digits)) (1074 - b.shift) sum
+    down_value b.significand b.shift (value_of (take c.scale.result c.scale.new.digits))
+    (1074 - b.shift) sum
     (c.scale.ensures.big.value ∙ ap (λ (x : ℕ). x * 5 ^ (1074 - b.shift)) first)
 
 pub returns-clause-value : goal.returns-clause-value
@@ -17,6 +19,8 @@ returns-clause-value c =
     let b = c.args.binary in
     let put = c.put_carry-len in
     let s = c.scale-2 in
-    let first = first_value c.args.digits.now put.new.digits put.result b.significand put.ensures.value in
-    up_value b.significand b.shift (value_of (take s.result s.new.digits)) c.if-binary-lt-LEAST.false
+    let first = first_value c.args.digits.now put.new.digits put.result b.significand
+    put.ensures.value in
+    up_value b.significand b.shift
+    (value_of (take s.result s.new.digits)) c.if-binary-lt-LEAST.false
     (s.ensures.big.value ∙ ap (λ (x : ℕ). x * 2 ^ (b.shift - 1074)) first)

@@ -7,4 +7,5 @@ pub returns-then-rounds_up-clause-value : goal.returns-then-rounds_up-clause-val
 returns-then-rounds_up-clause-value c =
     let a = c.args in
     let n = value_of (take a.len a.digits.now) in
-    ap (λ (x : ℕ). x / 10 ^ a.dropped) c.add_one.ensures.big.value ∙ carried_up n a.dropped ∙ sym c.if-rounds_up.ensures.is
+    ap (λ (x : ℕ). x / 10 ^ a.dropped) c.add_one.ensures.big.value ∙ carried_up n a.dropped
+    ∙ sym c.if-rounds_up.ensures.is

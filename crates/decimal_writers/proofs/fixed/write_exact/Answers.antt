@@ -15,11 +15,15 @@ returns-then-exact-wanted c =
     let e = c.exact_digits-exact in
     let w = c.write_places in
     let value = value_of (take e.result.len e.new.digits) in
-    let sum : e.result.places + (c.args.places - e.result.places) ≡ c.args.places = omega (arith, c.if-exact-wanted.true) in
+    let sum : e.result.places + (c.args.places - e.result.places) ≡ c.args.places =
+    omega (arith, c.if-exact-wanted.true) in
     let text =
-    fixed_is (b.result.significand * 2 ^ b.result.shift) value e.result.places c.args.places (2 ^ 1074) e.ensures.value least_some c.args.x b.result.negative b.ensures.value
-    ∙ ap (λ (x : ℕ). sign_text b.result.negative ++ with_point c.args.places x) (fixed_more value e.result.places c.args.places c.if-exact-wanted.true)
-    ∙ ap (λ (x : ℕ). sign_text b.result.negative ++ with_point x (value / 10 ^ 0 * 10 ^ (c.args.places - e.result.places))) (sym sum) in
+    fixed_is (b.result.significand * 2 ^ b.result.shift) value e.result.places c.args.places
+    (2 ^ 1074) e.ensures.value least_some c.args.x b.result.negative b.ensures.value
+    ∙ ap (λ (x : ℕ). sign_text b.result.negative ++ with_point c.args.places x)
+    (fixed_more value e.result.places c.args.places c.if-exact-wanted.true)
+    ∙ ap (λ (x : ℕ). sign_text b.result.negative ++ with_point x
+    (value / 10 ^ 0 * 10 ^ (c.args.places - e.result.places))) (sym sum) in
     subst (λ (ds : List ℕ). Writes ds c.args.out.now w.new.out w.result) (sym text) w.ensures
 
 pub returns : goal.returns
@@ -34,8 +38,10 @@ returns c =
     let sum : c.args.places + 0 ≡ c.args.places = omega arith in
     let one : rounded * 10 ^ 0 ≡ rounded = omega arith in
     let text =
-    fixed_is (b.result.significand * 2 ^ b.result.shift) value e.result.places c.args.places (2 ^ 1074) e.ensures.value least_some c.args.x b.result.negative b.ensures.value
+    fixed_is (b.result.significand * 2 ^ b.result.shift) value e.result.places c.args.places
+    (2 ^ 1074) e.ensures.value least_some c.args.x b.result.negative b.ensures.value
     ∙ ap (λ (x : ℕ). sign_text b.result.negative ++ with_point c.args.places x)
-    (fixed_fewer value e.result.places c.args.places (omega (arith, c.if-exact-wanted.false)) ∙ sym r.ensures.value ∙ sym one)
+    (fixed_fewer value e.result.places c.args.places (omega (arith, c.if-exact-wanted.false))
+    ∙ sym r.ensures.value ∙ sym one)
     ∙ ap (λ (x : ℕ). sign_text b.result.negative ++ with_point x (rounded * 10 ^ 0)) (sym sum) in
     subst (λ (ds : List ℕ). Writes ds c.args.out.now w.new.out w.result) (sym text) w.ensures

@@ -16,6 +16,8 @@ returns-in-Some c =
     let power : to_z w32 (of_z w32 c.power_of.result) ≡ neg_ℤ (pos c.args.places) =
     to_z-of_z w32 c.power_of.result fits ∙ c.power_of.ensures in
     subst (λ (text : List ℕ). Writes text c.args.out.now w.new.out w.result)
-    (sym (quick_text c.args.x b.result.negative b.result.significand b.result.shift c.args.places c.in-Some.units
-    (to_z w32 (of_z w32 c.power_of.result)) b.ensures.value c.in-Some.ensures.whole c.in-Some.ensures.units power))
+    (sym (quick_text c.args.x b.result.negative b.result.significand b.result.shift c.args.places
+    c.in-Some.units
+    (to_z w32 (of_z w32 c.power_of.result)) b.ensures.value c.in-Some.ensures.whole
+    c.in-Some.ensures.units power))
     w.ensures

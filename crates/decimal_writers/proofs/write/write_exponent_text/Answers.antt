@@ -16,12 +16,21 @@ returns-then-len-out c =
     let first = to_z w64 (of_z w64 c.first_power-first.result) in
     let fits : SFits w64 c.first_power-first.result = search rules in
     let first_is : first ≡ first_power a.digits a.power =
-    to_z-of_z w64 c.first_power-first.result fits ∙ c.first_power-first.ensures ∙ ap (first_power a.digits) (to_z-of_z w32 a.power c.ranges.power) in
-    let is : places ≡ length (number_text a.digits) - 1 = ap (λ (x : ℕ). x - 1) c.count_digits-places.ensures.is in
+    to_z-of_z w64 c.first_power-first.result fits ∙ c.first_power-first.ensures
+    ∙ ap (first_power a.digits) (to_z-of_z w32 a.power c.ranges.power) in
+    let is : places ≡ length (number_text a.digits) - 1 =
+    ap (λ (x : ℕ). x - 1) c.count_digits-places.ensures.is in
     let len = bool_byte a.negative + c.length_with_point.result + c.length_of_exponent.result in
-    subst (λ (z : ℤ). Writes (sign_text a.negative ++ (mantissa_text a.digits ++ 101 ∷ signed_decimal z)) a.out.now a.out.now (Err (record { needed = len }))) first_is
-    (subst (λ (x : ℕ). Writes (sign_text a.negative ++ (with_point x a.digits ++ 101 ∷ signed_decimal first)) a.out.now a.out.now (Err (record { needed = len }))) is
-    (writes_no_parts a.negative (with_point places a.digits) (101 ∷ signed_decimal first) a.out.now len
+    subst (λ (z : ℤ). Writes
+    (sign_text a.negative
+    ++ (mantissa_text a.digits ++ 101 ∷ signed_decimal z)) a.out.now a.out.now
+    (Err (record { needed = len }))) first_is
+    (subst (λ (x : ℕ). Writes
+    (sign_text a.negative
+    ++ (with_point x a.digits ++ 101 ∷ signed_decimal first)) a.out.now a.out.now
+    (Err (record { needed = len }))) is
+    (writes_no_parts a.negative (with_point places a.digits)
+    (101 ∷ signed_decimal first) a.out.now len
     (omega (arith, c.length_with_point.ensures.is, c.length_of_exponent.ensures.is)) (omega arith)))
 
 pub returns : goal.returns
@@ -31,13 +40,21 @@ returns c =
     let first = to_z w64 (of_z w64 c.first_power-first.result) in
     let fits : SFits w64 c.first_power-first.result = search rules in
     let first_is : first ≡ first_power a.digits a.power =
-    to_z-of_z w64 c.first_power-first.result fits ∙ c.first_power-first.ensures ∙ ap (first_power a.digits) (to_z-of_z w32 a.power c.ranges.power) in
-    let is : places ≡ length (number_text a.digits) - 1 = ap (λ (x : ℕ). x - 1) c.count_digits-places.ensures.is in
+    to_z-of_z w64 c.first_power-first.result fits ∙ c.first_power-first.ensures
+    ∙ ap (first_power a.digits) (to_z-of_z w32 a.power c.ranges.power) in
+    let is : places ≡ length (number_text a.digits) - 1 =
+    ap (λ (x : ℕ). x - 1) c.count_digits-places.ensures.is in
     let len = bool_byte a.negative + c.length_with_point.result + c.length_of_exponent.result in
     let new = c.put_sign.new.out in
-    subst (λ (z : ℤ). Writes (sign_text a.negative ++ (mantissa_text a.digits ++ 101 ∷ signed_decimal z)) a.out.now new (Ok len)) first_is
-    (subst (λ (x : ℕ). Writes (sign_text a.negative ++ (with_point x a.digits ++ 101 ∷ signed_decimal first)) a.out.now new (Ok len)) is
+    subst (λ (z : ℤ). Writes
+    (sign_text a.negative ++ (mantissa_text a.digits ++ 101 ∷ signed_decimal z)) a.out.now new
+    (Ok len)) first_is
+    (subst (λ (x : ℕ). Writes
+    (sign_text a.negative
+    ++ (with_point x a.digits ++ 101 ∷ signed_decimal first)) a.out.now new (Ok len)) is
     (writes_parts a.negative (with_point places a.digits) (101 ∷ signed_decimal first) a.out.now len
     (omega (arith, c.length_with_point.ensures.is, c.length_of_exponent.ensures.is))
-    c.put_with_point.result c.put_exponent-mark.result c.put_exponent-mark.new.out c.put_with_point.new.out new (omega arith)
-    c.put_exponent-mark.ensures.start c.put_with_point.ensures.start c.put_exponent-mark.ensures.written c.put_with_point.ensures.written c.put_sign.ensures))
+    c.put_with_point.result c.put_exponent-mark.result c.put_exponent-mark.new.out
+    c.put_with_point.new.out new (omega arith)
+    c.put_exponent-mark.ensures.start c.put_with_point.ensures.start
+    c.put_exponent-mark.ensures.written c.put_with_point.ensures.written c.put_sign.ensures))

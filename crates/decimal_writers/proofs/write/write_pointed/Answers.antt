@@ -15,7 +15,8 @@ returns-then-len-out c =
     let power = to_z w32 (of_z w32 a.power) in
     let digits = with_point (places_of power) (units_of a.digits power) in
     let len = bool_byte a.negative + c.length_plain.result + c.length_of_place.result in
-    subst (λ (z : ℤ). Writes (plain_text a.negative a.digits z ++ zero_place z) a.out.now a.out.now (Err (record { needed = len }))) (to_z-of_z w32 a.power c.ranges.power)
+    subst (λ (z : ℤ). Writes (plain_text a.negative a.digits z ++ zero_place z) a.out.now a.out.now
+    (Err (record { needed = len }))) (to_z-of_z w32 a.power c.ranges.power)
     (regroup (sign_text a.negative) digits (zero_place power)
     (writes_no_parts a.negative digits (zero_place power) a.out.now len
     (omega (arith, c.length_plain.ensures.is, c.length_of_place.ensures.is)) (omega arith)))
@@ -26,9 +27,13 @@ returns c =
     let power = to_z w32 (of_z w32 a.power) in
     let digits = with_point (places_of power) (units_of a.digits power) in
     let len = bool_byte a.negative + c.length_plain.result + c.length_of_place.result in
-    subst (λ (z : ℤ). Writes (plain_text a.negative a.digits z ++ zero_place z) a.out.now c.put_sign.new.out (Ok len)) (to_z-of_z w32 a.power c.ranges.power)
+    subst (λ (z : ℤ). Writes
+    (plain_text a.negative a.digits z ++ zero_place z) a.out.now c.put_sign.new.out (Ok len))
+    (to_z-of_z w32 a.power c.ranges.power)
     (regroup (sign_text a.negative) digits (zero_place power)
     (writes_parts a.negative digits (zero_place power) a.out.now len
     (omega (arith, c.length_plain.ensures.is, c.length_of_place.ensures.is))
-    c.put_plain.result c.put_place-place.result c.put_place-place.new.out c.put_plain.new.out c.put_sign.new.out (omega arith)
-    c.put_place-place.ensures.start c.put_plain.ensures.start c.put_place-place.ensures.written c.put_plain.ensures.written c.put_sign.ensures))
+    c.put_plain.result c.put_place-place.result c.put_place-place.new.out c.put_plain.new.out
+    c.put_sign.new.out (omega arith)
+    c.put_place-place.ensures.start c.put_plain.ensures.start c.put_place-place.ensures.written
+    c.put_plain.ensures.written c.put_sign.ensures))

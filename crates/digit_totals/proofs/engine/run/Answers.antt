@@ -1,4 +1,4 @@
-use Rattle.std.proofs.Common.{List, Result, Err, ℕ, Some, None, refl}
+use Rattle.std.proofs.Common.{List, Err, ℕ, Some, None, refl}
 use Rattle.std.specs.Prelude.{Option}
 use Rattle.std.specs.Io.KnownBytes.{Keeps}
 use Rattle.digit_totals.specs.declared.fault.Fault.{Fault}

@@ -16,7 +16,8 @@ returns-clause-rest g c =
     let same = kept_is c.args.buffer.now c.keep.new.buffer c.in-Ok.ensures.rest.suffix.0
     c.in-Ok.added.rest.now c.args.end c.requires.within c.in-Ok.ensures.rest.suffix.1
     c.keep.ensures.front in
-    subst (λ bytes. LeavesRest (g.K.Adds.adding c.args.options) c.args.totals (take c.args.end c.args.buffer.now)
+    subst (λ bytes. LeavesRest (g.K.Adds.adding c.args.options) c.args.totals
+    (take c.args.end c.args.buffer.now)
     c.in-Ok.added.totals bytes) (sym same) c.in-Ok.ensures.rest.leaves
 
 pub returns-clause-whole : goal.returns-clause-whole

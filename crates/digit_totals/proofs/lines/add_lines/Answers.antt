@@ -1,6 +1,5 @@
 use Rattle.std.proofs.Common.{◌≤◌, length, arith, sym}
-use Rattle.digit_totals.specs.Report.{Leaves}
-use Rattle.digit_totals.proofs.Adding.{one_leaves, one_fails, leaves_more, then_fails}
+use Rattle.digit_totals.proofs.Adding.{one_leaves, leaves_more}
 use Rattle.digit_totals.proofs.lines.add_lines.Goals as goal
 
 pub loop-line-init : goal.loop-line-init

@@ -1,4 +1,4 @@
-use Rattle.std.proofs.Common.{arith, rules, FitsSigned, ◌∙◌, sym}
+use Rattle.std.proofs.Common.{rules, FitsSigned, ◌∙◌}
 use Rattle.std.proofs.lemmas.Int.{to_z-of_z}
 use Rattle.std.proofs.lemmas.List.{take_rest}
 use mir.Syntax.{w64, w128}
@@ -21,4 +21,5 @@ returns-in-Some-after_feed-clause-is c =
 
 pub returns-in-Some-after_feed-clause-suffix : goal.returns-in-Some-after_feed-clause-suffix
 returns-in-Some-after_feed-clause-suffix c =
-    rw (take_rest c.args.text.now c.in-Some-after_feed.next) (ends_with_drop c.args.text.now c.in-Some-after_feed.next)
+    rw (take_rest c.args.text.now c.in-Some-after_feed.next)
+    (ends_with_drop c.args.text.now c.in-Some-after_feed.next)

@@ -1,4 +1,4 @@
-use Rattle.std.proofs.Common.{arith, rules, FitsSigned, ◌∙◌, sym}
+use Rattle.std.proofs.Common.{rules, FitsSigned, ◌∙◌}
 use Rattle.std.proofs.lemmas.Int.{to_z-of_z}
 use Rattle.std.proofs.lemmas.List.{take_rest}
 use mir.Syntax.{w64, w128}

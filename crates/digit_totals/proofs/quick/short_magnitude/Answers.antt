@@ -2,7 +2,8 @@ use Rattle.std.proofs.Common.{◌≡◌, ◌<◌, arith}
 use Rattle.digit_totals.proofs.NumberLine.{short_scaled}
 use Rattle.digit_totals.proofs.quick.short_magnitude.Goals as goal
 
-pub returns-in-Some-read_short_fraction-clause-is : goal.returns-in-Some-read_short_fraction-clause-is
+pub returns-in-Some-read_short_fraction-clause-is :
+    goal.returns-in-Some-read_short_fraction-clause-is
 returns-in-Some-read_short_fraction-clause-is c = λ most fits.
     let m = c.in-Some-read_short_fraction.number in
     let says = c.in-Some-read_short_fraction.ensures in

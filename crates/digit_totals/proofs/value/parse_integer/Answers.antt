@@ -1,4 +1,4 @@
-use Rattle.std.proofs.Common.{◌∙◌, sym, rules, FitsSigned, ap, Ok}
+use Rattle.std.proofs.Common.{◌∙◌, sym, rules, FitsSigned}
 use Rattle.std.proofs.lemmas.Int.{to_z-of_z}
 use Rattle.lexical_digits.specs.declared.skip.component.Component.TheVariants.{Integer}
 use mir.Syntax.{w64, w128}

@@ -7,7 +7,8 @@ use Rattle.float_writers.proofs.write.shortest_size.Goals as goal
 
 pub returns-then-is_zero : goal.returns-then-is_zero
 returns-then-is_zero g c =
-    subst (λ (y : Float). IsShortest g.F.Float.format y nothing) (sym (c.is_zero.ensures.zero c.if-is_zero.true))
+    subst (λ (y : Float). IsShortest g.F.Float.format y nothing)
+    (sym (c.is_zero.ensures.zero c.if-is_zero.true))
     (zero_shortest g.F.Float.format)
 
 pub negated_if-requires : goal.negated_if-requires
@@ -16,14 +17,16 @@ negated_if-requires g c = record { number = number (g.F.Float.value c.args.x) c.
 pub shortest-requires : goal.shortest-requires
 shortest-requires g c =
     subst (λ (y : Float). IsAboveZero y)
-    (sym (size_is c.args.negative (g.F.Float.value c.args.x) (g.F.Float.value c.negated_if.result) c.requires.sign c.negated_if.ensures))
+    (sym (size_is c.args.negative (g.F.Float.value c.args.x)
+    (g.F.Float.value c.negated_if.result) c.requires.sign c.negated_if.ensures))
     (c.is_zero.ensures.above c.if-is_zero.false)
 
 pub returns : goal.returns
 returns g c =
     let is = c.shortest.ensures in
     subst (λ (y : Float). IsShortest g.F.Float.format y c.shortest.result)
-    (size_is c.args.negative (g.F.Float.value c.args.x) (g.F.Float.value c.negated_if.result) c.requires.sign c.negated_if.ensures)
+    (size_is c.args.negative (g.F.Float.value c.args.x)
+    (g.F.Float.value c.negated_if.result) c.requires.sign c.negated_if.ensures)
     (record {
       reads = is.reads;
       shortest = is.shortest;

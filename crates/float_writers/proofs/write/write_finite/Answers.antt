@@ -7,5 +7,7 @@ has_minus-negative-requires g c = number (g.F.Float.value c.args.x) c.requires
 pub returns-clause-reads : goal.returns-clause-reads
 returns-clause-reads g c =
     let d = c.shortest_size-decimal in
-    read_back g.F.Float.format (g.F.Float.value c.args.x) c.args.layout c.has_minus-negative.result d.result c.requires
-    c.has_minus-negative.ensures d.ensures c.args.out.now c.write_decimal.new.out c.write_decimal.result c.write_decimal.ensures.reads
+    read_back g.F.Float.format
+    (g.F.Float.value c.args.x) c.args.layout c.has_minus-negative.result d.result c.requires
+    c.has_minus-negative.ensures d.ensures c.args.out.now c.write_decimal.new.out
+    c.write_decimal.result c.write_decimal.ensures.reads

@@ -1,4 +1,4 @@
-use Rattle.std.proofs.Common.{◌≡◌, ◌+◌, ◌+ℤ◌, ℤ, pos, get_or, take, ◌++◌, ◌∷◌, [], true, FitsSigned, rules, arith, sym, ◌∙◌, ap, subst}
+use Rattle.std.proofs.Common.{◌≡◌, ◌+◌, ◌+ℤ◌, ℤ, pos, get_or, take, true, FitsSigned, rules, arith, sym, ◌∙◌, subst}
 use Rattle.std.proofs.lemmas.Int.{ints, to_z-of_z}
 use Rattle.std.proofs.lemmas.List.{take_more}
 use mir.Syntax.{w64, w128}
@@ -6,7 +6,7 @@ use mir.Val.{to_z, of_z}
 use Rattle.digit_totals.specs.declared.totals.Totals.{Totals}
 use Rattle.digit_totals.specs.Quick.{AddsUp}
 use Rattle.digit_totals.specs.Totals.{has_128_bits, plus}
-use Rattle.digit_totals.proofs.Bits.{fits_is, has_fits}
+use Rattle.digit_totals.proofs.Bits.{has_fits}
 use Rattle.digit_totals.proofs.ListedLines.{adds_more, totals_same, between_fits}
 use Rattle.digit_totals.proofs.totals.Totals.plus_all.Goals as goal
 
