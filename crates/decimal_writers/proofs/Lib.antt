@@ -12,3 +12,4 @@ pub mod ExactDigits
 pub mod Places
 pub mod Lengths
 pub mod QuickUnits
+pub mod Counting

@@ -184,8 +184,6 @@ number_more n many = ap length (number_step n many) ∙ length-append (number_te
 pub number_one : (n : ℕ) → n < 10 → length (number_text n) ≡ 1
 number_one n few = ap length (number_digit n few)
 
-pub ruleset counts = (word_digits, some_digits, number_more, number_one)
-
 -- ---- digits before the end of a slice
 
 pub record IsPut (n end at left : ℕ) (old new : List ℕ) : Type 0 where

@@ -3,20 +3,41 @@
 ghost use Rattle.std.specs.Prelude.{◌≡◌, ◌+◌, ◌-◌, ◌/◌, ◌^◌, ◌≤◌, ◌++◌, length, drop};
 ghost use Rattle.decimal_writers.specs.Text.{number_text, last_digits};
 
-/// How many decimal digits a number has.
-#[tactic(auto, using(crate::proofs::Numerals::counts))]
+/// Ten to each power below 2^64, and 0 for the first.
+static POWERS: [u64; 20] = [
+    0,
+    10,
+    100,
+    1_000,
+    10_000,
+    100_000,
+    1_000_000,
+    10_000_000,
+    100_000_000,
+    1_000_000_000,
+    10_000_000_000,
+    100_000_000_000,
+    1_000_000_000_000,
+    10_000_000_000_000,
+    100_000_000_000_000,
+    1_000_000_000_000_000,
+    10_000_000_000_000_000,
+    100_000_000_000_000_000,
+    1_000_000_000_000_000_000,
+    10_000_000_000_000_000_000,
+];
+
+/// How many decimal digits a number has: those of the power of two below it, or one more.
+#[inline(always)]
+#[tactic(auto, using(crate::proofs::Counting::counts))]
 pub fn count_digits(n: u64) -> usize
     ensures is { result ≡ length (number_text n) }
     ensures few { result ≤ 20 }
     ensures some { 1 ≤ result }
 {
-    let mut count = 1;
-    let mut left = n;
-    while left >= 10 {
-        left /= 10;
-        count += 1;
-    }
-    count
+    let log = n.max(1).ilog2() as usize;
+    let few = (log + 1) * 1233 / 4096;
+    few + (n >= POWERS[few]) as usize
 }
 
 /// Writes the last `count` digits of a number before `end`, with zeros where it has fewer, and
