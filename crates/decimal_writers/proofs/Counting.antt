@@ -17,7 +17,8 @@ length_is n c some low high =
     elim (cases_lt (length (number_text n)) c) [
       | inr l ↦ omega arith
       | inl l ↦
-          let tens : 10 ^ length (number_text n) ≤ 10 ^ (c - 1) = pow-le-pow_right (omega arith) (omega arith) in
+          let tens : 10 ^ length (number_text n) ≤ 10 ^ (c - 1) =
+          pow-le-pow_right (omega arith) (omega arith) in
           absurd (omega (arith, tens, (counted n).below, low))
     ]
 
@@ -34,7 +35,9 @@ record IsRow (row power log : ℕ) : Type 0 where
 
 abbrev test_row : ℕ → ℕ → ℕ → Bool
 test_row row power log =
-    ltb row 20 && (leb (2 * 2 ^ log) (10 ^ (row + 1)) && (leb (10 ^ (row - 1)) (2 ^ log) && eqb power (if ltb 0 row then 10 ^ row else 0)))
+    ltb row 20 && (leb (2 * 2 ^ log)
+    (10 ^ (row + 1)) && (leb (10 ^ (row - 1)) (2 ^ log) && eqb power
+    (if ltb 0 row then 10 ^ row else 0)))
 
 abbrev tests : (ℕ → Bool) → ℕ → Bool
 tests test zero = true
@@ -49,7 +52,8 @@ each test (suc n) k h l = elim (cases_lt k n) [
 
 row_is : (log : ℕ) → log < 64 → IsRow (row_of log) (get_or POWERS (row_of log) 0) log
 row_is log l =
-    let t : test_row (row_of log) (get_or POWERS (row_of log) 0) log ≡ true = each (λ k. test_row (row_of k) (get_or POWERS (row_of k) 0) k) 64 log refl l in
+    let t : test_row (row_of log) (get_or POWERS (row_of log) 0) log ≡ true =
+    each (λ k. test_row (row_of k) (get_or POWERS (row_of k) 0) k) 64 log refl l in
     from_test _ _ log t
   where
     from_test : (row power log : ℕ) → test_row row power log ≡ true → IsRow row power log
@@ -61,25 +65,29 @@ row_is log l =
       zero_is = λ none. grind (arith, nat_tests, t);
     }
 
-some_is : (log n : ℕ) → 0 < n → 2 ^ log ≤ n → n < 2 * 2 ^ log → (row power : ℕ) → IsRow row power log
+some_is : (log n : ℕ) → 0 < n → 2 ^ log ≤ n → n < 2 * 2 ^ log → (row power : ℕ)
+    → IsRow row power log
     → row + bool_byte (leb power n) ≡ length (number_text n)
 some_is log n some low high row power is =
     elim (cases_lt 0 row) [
       | inr none ↦
           let z : row ≡ 0 = omega arith in
           let p : power ≡ 0 = is.zero_is z in
-          let one : 2 * 2 ^ log ≤ 10 ^ (0 + 1) = subst (λ r. 2 * 2 ^ log ≤ 10 ^ (r + 1)) z is.above in
+          let one : 2 * 2 ^ log ≤ 10 ^ (0 + 1) =
+          subst (λ r. 2 * 2 ^ log ≤ 10 ^ (r + 1)) z is.above in
           let long = length_is n 1 (omega arith) (omega arith) (omega arith) in
           let up : bool_byte (leb power n) ≡ 1 = reached power n (omega arith) in
           omega (arith, up, long)
       | inl more ↦ elim (cases_lt n power) [
         | inl under ↦
-            let long = length_is n row more (omega (arith, is.below more)) (omega (arith, is.power_is more)) in
+            let long = length_is n row more (omega (arith, is.below more))
+            (omega (arith, is.power_is more)) in
             let none : bool_byte (leb power n) ≡ 0 = not_reached power n under in
             omega (arith, none, long)
         | inr over ↦
             let back : row + 1 - 1 ≡ row = omega arith in
-            let long = length_is n (row + 1) (omega arith) (rw back (omega (arith, is.power_is more))) (omega (arith, is.above)) in
+            let long = length_is n (row + 1) (omega arith)
+            (rw back (omega (arith, is.power_is more))) (omega (arith, is.above)) in
             let up : bool_byte (leb power n) ≡ 1 = reached power n over in
             omega (arith, up, long)
       ]
@@ -95,11 +103,13 @@ pub count_is : (log n : ℕ) → log < 64 → n < 2 ^ 64 → 2 ^ log ≤ max n 1
     → row_of log + bool_byte (leb (get_or POWERS (row_of log) 0) n) ≡ length (number_text n)
 count_is zero zero l few low high = number_one_back
   where
-    number_one_back : row_of 0 + bool_byte (leb (get_or POWERS (row_of 0) 0) 0) ≡ length (number_text 0)
+    number_one_back : row_of 0 + bool_byte (leb (get_or POWERS (row_of 0) 0) 0) ≡ length
+        (number_text 0)
     number_one_back = omega (arith, number_one 0 (omega arith))
 count_is (suc log) zero l few low high = absurd (omega (arith, low, pow-suc 2 log, pow_pos log))
 count_is log (suc n) l few low high =
     let m : max (suc n) 1 ≡ suc n = omega arith in
-    some_is log (suc n) (omega arith) (omega arith) (omega arith) (row_of log) (get_or POWERS (row_of log) 0) (row_is log l)
+    some_is log (suc n) (omega arith) (omega arith) (omega arith) (row_of log)
+    (get_or POWERS (row_of log) 0) (row_is log l)
 
 pub ruleset counts = (count_is, word_digits, some_digits)
