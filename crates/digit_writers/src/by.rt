@@ -1,6 +1,6 @@
 //! The text of an integer in a layout.
 
-ghost use Rattle.std.specs.Prelude.{◌≡◌, ℕ, ◌+◌, ◌<◌, ◌≤◌, ◌++◌, max, length, take, drop, IfOk, IfErr};
+ghost use Rattle.std.specs.Prelude.{◌≡◌, ℕ, ◌+◌, ◌<◌, ◌≤◌, ◌++◌, max, length, take, drop, IfOk, IfErr, decimal};
 ghost use Rattle.std.specs.List.{splice};
 ghost use Rattle.digit_writers.specs.Written.{Reads};
 ghost use Rattle.digit_writers.specs.Layouts.{sign_of, digit_count, thousands, laid_out, IsLaidOut, HasNoRoom, IsReadBy};
