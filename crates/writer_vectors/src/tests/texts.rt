@@ -1,15 +1,14 @@
-//! The shortest texts of floats, as rustc's `{}` and `{:e}` print them, and as Python's `json.dumps`
-//! does where it has no exponent.
+//! The shortest texts of floats, as rustc's `{}` and `{:e}` print them, and as Python's
+//! `json.dumps` does where it has no exponent.
 
 use float_writers::{AnyFloat, FloatLayout, FloatTextError, write_float};
-use std::process::Abort;
 use std::rt::HostRuntime;
 
 /// What stands behind each text.
 const BEHIND: u8 = b'#';
 
-/// Whether a float has this text, after which nothing is touched, and whether a byte of room less is
-/// refused.
+/// Whether a float has this text, after which nothing is touched, and whether a byte of room less
+/// is refused.
 fn writes<F: AnyFloat>(x: F, layout: FloatLayout, text: &[u8]) -> bool {
     let mut out = [BEHIND; 64];
     let Ok(len) = write_float(x, layout, &mut out) else {
