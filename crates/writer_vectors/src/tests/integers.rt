@@ -1,8 +1,7 @@
 //! Rows worked out by hand.
 
-use digit_writers::{
-    Layout, NoRoom, Written, write_number, write_number_by, write_price, write_scaled,
-};
+use decimal_writers::NoRoom;
+use digit_writers::{Layout, Written, write_number, write_number_by, write_price, write_scaled};
 
 /// Whether a number is written as this text, and nothing behind it.
 fn is_written<T: Written>(value: T, wanted: &[u8]) -> bool {
