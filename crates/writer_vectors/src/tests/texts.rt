@@ -14,7 +14,7 @@ fn writes<F: AnyFloat>(x: F, layout: FloatLayout, text: &[u8]) -> bool {
     let Ok(len) = write_float(x, layout, &mut out) else {
         return false;
     };
-    if len != text.len() || len > 63 || &out[..len] != text || out[len] != BEHIND {
+    if len == 0 || len != text.len() || len > 63 || &out[..len] != text || out[len] != BEHIND {
         return false;
     }
     let mut short = [BEHIND; 64];
