@@ -10,7 +10,8 @@ use Rattle.std.proofs.lemmas.Bool.{cases_lt}
 use lib.Ieee.{Float, Format, round}
 use lib.Ieee.Positive.{num, den}
 use lib.Ieee.Scale.{round_same}
-use Rattle.float_writers.specs.Decimals.{ReadsAt, Reads, far_of, units_of, places_of, IsShortestAt, IsNearer, IsAsNear, HasNoMoreDigits}
+use Rattle.decimal_writers.specs.Text.{units_of, places_of}
+use Rattle.float_writers.specs.Decimals.{ReadsAt, Reads, far_of, IsShortestAt, IsNearer, IsAsNear, HasNoMoreDigits}
 use Rattle.float_writers.specs.declared.decimal.Decimal.{Decimal}
 use Rattle.float_writers.proofs.Fewest.{ten_pos, joined}
 use Rattle.float_writers.proofs.OnGrid.{abs_scaled}

@@ -15,11 +15,12 @@ use Rattle.lexical_format.specs.declared.TheConstants.{STANDARD}
 use Rattle.digit_floats.specs.Float.{plain_marks, parse_at}
 use Rattle.digit_floats.proofs.Signs.{round_neg}
 use Rattle.decimal_writers.specs.Text as text
+use Rattle.decimal_writers.specs.Text.{units_of, places_of}
 use Rattle.decimal_writers.specs.Room.{Writes}
 use Rattle.decimal_writers.specs.Value as value
 use Rattle.decimal_writers.specs.Value.{nearest_of}
 use Rattle.decimal_writers.specs.declared.room.NoRoom as room
-use Rattle.float_writers.specs.Decimals.{Reads, HasNoMoreDigits, IsAsNear, units_of, places_of, far_of}
+use Rattle.float_writers.specs.Decimals.{Reads, HasNoMoreDigits, IsAsNear, far_of}
 use Rattle.float_writers.specs.Write.{IsShortest, IsTextOf}
 use Rattle.float_writers.specs.declared.decimal.Decimal.{Decimal}
 use Rattle.float_writers.specs.declared.write.FloatLayout.{FloatLayout}
@@ -49,19 +50,10 @@ signed f (inf false) a b e = e
 signed f (fin true m k) a b e = sym (round_neg f a b) ∙ ap neg e
 signed f (fin false m k) a b e = e
 
-units_same : (digits : ℕ) (power : ℤ) → text.units_of digits power ≡ units_of digits power
-units_same digits (pos n) = refl
-units_same digits (negsuc n) = refl
-
-places_same : (power : ℤ) → text.places_of power ≡ places_of power
-places_same (pos n) = refl
-places_same (negsuc n) = omega arith
-
 pub back : (f : Format) (x : Float) (d : Decimal) → Reads f (float_with_sign false x) d
     → nearest_of f (is_sign_negative x) d.digits d.power ≡ x
 back f x d is =
-    (λ i. round f (is_sign_negative x) (units_same d.digits d.power i) (10 ^ places_same d.power i))
-    ∙ signed f x (units_of d.digits d.power) (10 ^ places_of d.power) is
+    signed f x (units_of d.digits d.power) (10 ^ places_of d.power) is
 
 -- ---- zeros
 

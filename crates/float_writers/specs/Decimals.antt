@@ -1,19 +1,11 @@
 -- The decimals that read as a float, and how far they are from it.
-use Rattle.std.specs.Prelude.{◌≡◌, ◌⊎◌, ℕ, suc, ◌-◌, ◌*◌, ◌%◌, ◌^◌, ◌≤◌, ◌<◌, false, ℤ, pos, negsuc}
+use Rattle.std.specs.Prelude.{◌≡◌, ◌⊎◌, ℕ, ◌-◌, ◌*◌, ◌%◌, ◌^◌, ◌≤◌, ◌<◌, false}
 use Rattle.std.specs.Float.{Float, Format}
 use Rattle.std.specs.Float.Ieee.{round}
 use Rattle.std.specs.Int.{abs_diff}
 use lib.Ieee.Positive.{num, den}
+use Rattle.decimal_writers.specs.Text.{places_of, units_of}
 use Rattle.float_writers.specs.declared.decimal.Decimal.{Decimal}
-
--- digits times ten to a power is units_of / 10 ^ places_of
-abbrev pub units_of : ℕ → ℤ → ℕ
-units_of digits (pos n) = digits * 10 ^ n
-units_of digits (negsuc n) = digits
-
-abbrev pub places_of : ℤ → ℕ
-places_of (pos n) = 0
-places_of (negsuc n) = suc n
 
 -- the float nearest to digits * 10 ^ up / 10 ^ down is x
 abbrev pub ReadsAt : Format → Float → ℕ → ℕ → ℕ → Type 0

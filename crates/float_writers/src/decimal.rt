@@ -1,7 +1,8 @@
 //! The shortest decimal that reads as a float.
 
 ghost use Rattle.std.specs.Prelude.{◌≡◌, ◌⊎◌, pos, negsuc, ◌-ℤ◌, ◌≤ℤ◌, ◌+◌, ◌-◌, ◌*◌, ◌%◌, ◌^◌, ◌<◌, ◌≤◌};
-ghost use Rattle.float_writers.specs.Decimals.{units_of, places_of, Reads, HasNoMoreDigits, IsNearer, IsAsNear};
+ghost use Rattle.decimal_writers.specs.Text.{units_of, places_of};
+ghost use Rattle.float_writers.specs.Decimals.{Reads, HasNoMoreDigits, IsNearer, IsAsNear};
 ghost use Rattle.float_writers.specs.Parts.{IsAboveZero};
 
 use super::grid::digits_of;
