@@ -11,7 +11,7 @@ use Rattle.decimal_writers.specs.declared.digits.TheConstants.{POWERS}
 use Rattle.decimal_writers.specs.Text.{number_text}
 use Rattle.decimal_writers.proofs.Numerals.{counted, few_digits, number_one, word_digits, some_digits}
 
-length_is : (n c : ℕ) → 0 < c → 10 ^ (c - 1) ≤ n → n < 10 ^ c → length (number_text n) ≡ c
+pub length_is : (n c : ℕ) → 0 < c → 10 ^ (c - 1) ≤ n → n < 10 ^ c → length (number_text n) ≡ c
 length_is n c some low high =
     let most : length (number_text n) ≤ c = few_digits n c some high in
     elim (cases_lt (length (number_text n)) c) [

@@ -1,6 +1,6 @@
 -- How long the texts of floats are.
 use Rattle.std.proofs.Common.{◌≡◌, ℕ, ℤ, zero, suc, ◌+◌, ◌-◌, ◌*◌, ◌^◌, ◌<◌, ◌≤◌, Bool, true, false, ◌&&◌, [], ◌∷◌, ◌++◌, length, refl, ap, arith, length-append, unsigned_abs}
-use Rattle.std.specs.Prelude.{pos, negsuc, int_le, int_lt, ◌+ℤ◌, if◌then◌else◌}
+use Rattle.std.specs.Prelude.{pos, negsuc, int_le, int_lt, ◌+ℤ◌, ◌-ℤ◌, ◌≤ℤ◌, if◌then◌else◌}
 use Rattle.std.specs.Fmt.{sign_text, signed_decimal}
 use Rattle.std.proofs.lemmas.Bool.Decides.{nat_tests}
 use Rattle.std.proofs.lemmas.Int.{ints}
@@ -33,7 +33,8 @@ power_few z few =
       byte_few (int_lt z (pos 0)),
     )
 
-sum_few : (power : ℤ) (n : ℕ) → unsigned_abs power ≤ 400 → n < 17
+-- the power of ten of the first digit is small
+pub sum_few : (power : ℤ) (n : ℕ) → unsigned_abs power ≤ 400 → n < 18
     → unsigned_abs (power +ℤ pos n) < 1000
 sum_few (pos a) n few small = omega (arith, few, small)
 sum_few (negsuc a) n few small = go (negsuc a +ℤ pos n) refl
@@ -42,24 +43,44 @@ sum_few (negsuc a) n few small = go (negsuc a +ℤ pos n) refl
     go (pos k) e = omega (arith, ints, e, small)
     go (negsuc k) e = omega (arith, ints, e, few)
 
-module _ (negative : Bool) (digits : ℕ) (power : ℤ) (few : digits < 10 ^ 17)
-    (near : unsigned_abs power ≤ 400) where
+module _ (negative : Bool) (digits : ℕ) (power : ℤ) (k : ℕ) (some : 1 ≤ k) (less : k ≤ 18)
+    (few : digits < 10 ^ k) (near : unsigned_abs power ≤ 400) where
   abbrev count : ℕ
   count = length (number_text digits)
 
-  most : count ≤ 17
-  most = few_digits digits 17 (omega arith) few
+  most : count ≤ k
+  most = few_digits digits k some few
 
-  pub exponent_fits : length (exponent_text negative digits power) ≤ 24
-  exponent_fits =
+  exponent_few : length (exponent_text negative digits power) ≤ k + 7
+  exponent_few =
       let a = length-append (sign_text negative)
       (mantissa_text digits ++ 101 ∷ signed_decimal (first_power digits power)) in
       let b = length-append (mantissa_text digits)
       (101 ∷ signed_decimal (first_power digits power)) in
       let c = mantissa_few digits (count - 1) (omega (arith, some_digits digits)) in
       let d = power_few (first_power digits power)
-      (sum_few power (count - 1) near (omega (arith, most, some_digits digits))) in
+      (sum_few power (count - 1) near (omega (arith, most, less, some_digits digits))) in
       omega (arith, a, b, c, d, most, some_digits digits, sign_few negative)
+
+pub exponent_fits : (negative : Bool) (digits : ℕ) (power : ℤ) → digits < 10 ^ 17
+    → unsigned_abs power ≤ 400 → length (exponent_text negative digits power) ≤ 24
+exponent_fits negative digits power few near =
+    exponent_few negative digits power 17 (omega arith) (omega arith) few near
+
+-- with a zero after the digits
+pub pointed_fits : (negative : Bool) (digits : ℕ) (power : ℤ) → digits < 10 ^ 17
+    → negsuc 323 ≤ℤ power → power ≤ℤ pos 309
+    → length (exponent_text negative (digits * 10) (power -ℤ pos 1)) ≤ 25
+pointed_fits negative digits power few least most =
+    exponent_few negative (digits * 10) (power -ℤ pos 1) 18 (omega arith) (omega arith)
+    (omega (arith, few)) (down power least most)
+  where
+    down : (z : ℤ) → negsuc 323 ≤ℤ z → z ≤ℤ pos 309 → unsigned_abs (z -ℤ pos 1) ≤ 400
+    down z l m = go (z -ℤ pos 1) refl
+      where
+        go : (y : ℤ) → z -ℤ pos 1 ≡ y → unsigned_abs y ≤ 400
+        go (pos n) e = omega (arith, ints, e, m)
+        go (negsuc n) e = omega (arith, ints, e, l)
 
 tens_few : (digits n : ℕ) → length (number_text digits) + n ≤ 16
     → length (number_text (digits * 10 ^ n)) ≤ 16
@@ -84,9 +105,9 @@ places_few n count some e = go (negsuc n +ℤ pos (count - 1)) refl e
     go (negsuc k) sum test = omega (arith, ints, sum, plain_below k test, some)
 
 module _ (negative : Bool) (digits : ℕ) (few : length (number_text digits) ≤ 17) where
-  pointed_fits : (power : ℤ) → is_plain digits power ≡ true
+  placed_fits : (power : ℤ) → is_plain digits power ≡ true
       → length (plain_text negative digits power ++ zero_place power) ≤ 24
-  pointed_fits (pos n) plain =
+  placed_fits (pos n) plain =
       let a = length-append (plain_text negative digits (pos n)) (46 ∷ 48 ∷ []) in
       let b = length-append (sign_text negative) (number_text (digits * 10 ^ n)) in
       let l : length (number_text digits) + n ≤ 16 =
@@ -96,7 +117,7 @@ module _ (negative : Bool) (digits : ℕ) (few : length (number_text digits) ≤
         some_digits digits,
       ) in
       omega (arith, a, b, tens_few digits n l, sign_few negative)
-  pointed_fits (negsuc n) plain =
+  placed_fits (negsuc n) plain =
       let a = length-append (plain_text negative digits (negsuc n)) [] in
       let b = length-append (sign_text negative) (with_point (n + 1) digits) in
       let c = long_with_point digits (n + 1) (omega arith) in
@@ -112,7 +133,28 @@ usual_fits negative digits power few near = go (is_plain digits power) refl
     go : (b : Bool) → is_plain digits power ≡ b
         → length (if b then plain_text negative digits power
         ++ zero_place power else exponent_text negative digits power) ≤ 24
-    go true e = pointed_fits negative digits (few_digits digits 17 (omega arith) few) power e
+    go true e = placed_fits negative digits (few_digits digits 17 (omega arith) few) power e
     go false e = exponent_fits negative digits power few near
+
+-- ---- without an exponent, of the shortest decimal of a float
+
+tens_most : (digits n : ℕ) → length (number_text digits) ≤ 17
+    → length (number_text (digits * 10 ^ n)) ≤ 17 + n
+tens_most zero n few = omega (arith, ap length (no_tens n), number_one 0 (omega arith))
+tens_most (suc d) n few = omega (arith, long_tens (suc d) n (omega arith), few)
+
+pub plain_fits : (negative : Bool) (digits : ℕ) (power : ℤ) → digits < 10 ^ 17
+    → negsuc 323 ≤ℤ power → power ≤ℤ pos 309 → length (plain_text negative digits power) ≤ 327
+plain_fits negative digits (pos n) few least most =
+    let count = few_digits digits 17 (omega arith) few in
+    let low : n ≤ 309 = omega (arith, ints, most) in
+    let all = length-append (sign_text negative) (number_text (digits * 10 ^ n)) in
+    omega (arith, low, all, tens_most digits n count, sign_few negative)
+plain_fits negative digits (negsuc n) few least most =
+    let count = few_digits digits 17 (omega arith) few in
+    let low : n ≤ 323 = omega (arith, ints, least) in
+    let all = length-append (sign_text negative) (with_point (n + 1) digits) in
+    let long = long_with_point digits (n + 1) (omega arith) in
+    omega (arith, low, all, long, count, sign_few negative)
 
 pub ruleset fits = (exponent_fits, usual_fits)

@@ -4,12 +4,15 @@ pub mod Exponents
 pub mod Powers
 pub mod Texts
 pub mod Values
+pub mod Bytes
 pub mod Reading
 pub mod Bigs
 pub mod Rounding
 pub mod FloatBits
 pub mod ExactDigits
-pub mod Places
+pub mod Placed
 pub mod Lengths
 pub mod QuickUnits
 pub mod Counting
+pub mod First
+pub mod Rounded

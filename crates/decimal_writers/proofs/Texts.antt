@@ -72,5 +72,3 @@ regroup {old} {new} {result} sign first second is =
     subst (λ (ds : List ℕ). Writes ds old new result) (sym (append_assoc sign first second)) is
 
 pub ruleset written = (writes_none, writes_text, sign_long)
-
-pub ruleset joined = (writes_no_parts, writes_parts, sign_long)

@@ -17,7 +17,7 @@ use Rattle.decimal_writers.proofs.Numerals.{ten_pos, length-last, last_none, las
 digit_is : (d : ℕ) → d < 10 → digit_value (48 + d) ≡ d
 digit_is d few = grind (arith, nat_tests)
 
-last_are : (count n : ℕ) → AllDigits 10 (last_digits count n)
+pub last_are : (count n : ℕ) → AllDigits 10 (last_digits count n)
 last_are zero n = subst (AllDigits 10) (sym (last_none n)) tt
 last_are (suc count) n =
     subst (AllDigits 10) (sym (last_step count n))

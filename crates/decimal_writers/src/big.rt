@@ -154,6 +154,7 @@ pub fn add_one(digits: &mut [u8], len: usize, place: usize) -> usize
     requires room { len < length digits.old }
     ensures big { IsBig digits.new result (value_of (take len digits.old) + 10 ^ place) }
     ensures few { result ≤ len + 1 }
+    ensures least { len ≤ result }
 {
     let mut at = place;
     while at < len && digits[at] == 9 {

@@ -17,7 +17,8 @@
 //! serde_json.
 //!
 //! [`write_fixed`] writes a float itself with a fixed number of places: 0.125 with two is `0.12`,
-//! rounded once and at a tie to the even digit, as C's `%.2f` does.
+//! rounded once and at a tie to the even digit, as C's `%.2f` does. [`write_scientific`] writes it
+//! with one digit before the point, so many after it and an exponent: `1.25e-01`, as C's `%.2e`.
 //!
 //! A slice that is too short stays as it was, and the call answers the room needed ([`NoRoom`]).
 #![tactic(auto)]
@@ -28,11 +29,15 @@ mod exact;
 mod exponent;
 mod fixed;
 pub mod laws;
+mod places;
 mod point;
 mod quick;
 mod room;
+mod scientific;
 mod write;
 
+pub use self::exponent::ExponentText;
 pub use self::fixed::write_fixed;
 pub use self::room::{FLOAT_ROOM, NoRoom};
+pub use self::scientific::write_scientific;
 pub use self::write::{write_exponent, write_plain, write_usual};

@@ -11,3 +11,6 @@ pub mod Rows
 pub mod Strip
 pub mod Zeros
 pub mod Written
+pub mod ReadBack
+pub mod Same
+pub mod NoLonger

@@ -1,12 +1,14 @@
 -- The shortest decimal of any float, and its text.
-use Rattle.std.specs.Prelude.{◌≡◌, ◌⊎◌, ℕ, pos, ◌%◌, ◌<◌, Bool, false, IsTrue, List, ◌++◌, length, is_nan, codes, decimal}
+use Rattle.std.specs.Prelude.{◌≡◌, ◌⊎◌, ℕ, pos, negsuc, ◌%◌, ◌^◌, ◌<◌, ◌≤◌, ◌≤ℤ◌, Bool, false, IsTrue, List, ◌++◌, length, is_nan, codes, decimal}
 use Rattle.std.specs.Float.{Float, Format, float_is_finite, float_is_infinite, float_with_sign, is_sign_negative}
 use Rattle.decimal_writers.specs.Text.{plain_text, exponent_text, usual_text}
+use Rattle.decimal_writers.specs.declared.room.TheConstants.{FLOAT_ROOM}
 use Rattle.float_writers.specs.Decimals.{Reads, HasNoMoreDigits, IsNearer, IsAsNear}
 use Rattle.float_writers.specs.declared.decimal.Decimal.{Decimal}
 use Rattle.float_writers.specs.declared.write.FloatLayout.{FloatLayout}
 use Rattle.float_writers.specs.declared.write.FloatLayout.TheVariants.{Plain, Exponent, Usual}
 use Rattle.float_writers.specs.declared.write.FloatTextError.{FloatTextError}
+use Rattle.float_writers.specs.declared.write.TheConstants.{PLAIN_ROOM}
 use Rattle.float_writers.specs.declared.write.FloatTextError.TheVariants.{NoRoom, Infinite, NaN}
 
 -- of the decimals that read as x, which isn't below zero: none has fewer digits than this one, none
@@ -33,6 +35,15 @@ pub record IsTextOf (f : Format) (x : Float) (layout : FloatLayout) (text : List
   pub written : Decimal
   pub is : text ≡ text_of layout (is_sign_negative x) written
   pub shortest : IsShortest f (float_with_sign false x) written
+  pub few : written.digits < 10 ^ 17
+  pub least : negsuc 323 ≤ℤ written.power
+  pub most : written.power ≤ℤ pos 309
+
+-- so many bytes are enough for the text of each float
+abbrev pub HasRoom : FloatLayout → ℕ → Type 0
+HasRoom Plain room = PLAIN_ROOM ≤ room
+HasRoom Exponent room = FLOAT_ROOM ≤ room
+HasRoom Usual room = FLOAT_ROOM ≤ room
 
 -- why a slice of so many bytes has no text of a float
 abbrev pub IsReason : Format → Float → FloatLayout → ℕ → FloatTextError → Type 0

@@ -4,10 +4,13 @@
 
 mod decimal;
 mod grid;
+pub mod laws;
 mod parts;
 mod powers;
 mod write;
 
 pub use self::decimal::{Decimal, shortest};
 pub use self::parts::{Parts, WrittenFloat};
-pub use self::write::{AnyFloat, FloatLayout, FloatTextError, write_float};
+pub use self::write::{
+    AnyFloat, FloatLayout, FloatTextError, PLAIN_ROOM, shortest_of, write_float,
+};

@@ -1,19 +1,23 @@
 //! The shortest text of any float.
 
-ghost use Rattle.std.specs.Prelude.{◌≡◌, ◌≤◌, List, ℕ, Some, true, false, length, take, drop, IsTrue, IfOk, IfErr, is_nan};
+ghost use Rattle.std.specs.Prelude.{◌≡◌, ◌≤◌, ◌<◌, ◌≤ℤ◌, ◌^◌, pos, negsuc, List, ℕ, Some, true, false, length, take, drop, IsTrue, IfOk, IfErr, is_nan};
 ghost use Rattle.std.specs.Float.{NotNan, float_is_finite, float_is_infinite, is_sign_negative, float_with_sign, float_zero};
 ghost use Rattle.lexical_format.specs.declared.TheConstants.{STANDARD};
 ghost use Rattle.digit_floats.specs.Float.{plain_marks, parse_at};
 ghost use Rattle.decimal_writers.specs.Room.{Writes};
-ghost use Rattle.decimal_writers.specs.Value.{Reads};
+ghost use Rattle.decimal_writers.specs.Value.{Reads, IsOfFloats};
 ghost use Rattle.float_writers.specs.Parts.{IsAboveZero};
-ghost use Rattle.float_writers.specs.Write.{IsShortest, IsTextOf, IsReason, text_of, message};
+ghost use Rattle.float_writers.specs.Write.{HasRoom, IsShortest, IsTextOf, IsReason, text_of, message};
 
 use super::decimal::{Decimal, shortest};
 use super::parts::WrittenFloat;
 use decimal_writers::{NoRoom, write_exponent, write_plain, write_usual};
 use std::error::Error;
 use std::fmt;
+
+/// The most bytes that [`FloatLayout::Plain`] takes of a float: those of the negative of the least
+/// one above 0. The other layouts take at most [`FLOAT_ROOM`](decimal_writers::FLOAT_ROOM).
+pub const PLAIN_ROOM: usize = 327;
 
 /// How a decimal is laid out.
 #[derive(Clone, Copy, Debug, PartialEq, Eq)]
@@ -72,6 +76,11 @@ pub trait AnyFloat: WrittenFloat {
         requires { IsTrue (float_is_finite (Self.value self)) }
         ensures zero { result ≡ true → float_with_sign false (Self.value self) ≡ float_zero }
         ensures above { result ≡ false → IsAboveZero (float_with_sign false (Self.value self)) };
+
+    /// Whether it is the same as another one, bit by bit, or neither is a number.
+    fn is_same(self, other: Self) -> bool
+        ensures yes { result ≡ true → Self.value self ≡ Self.value other }
+        ensures no { result ≡ false → Self.value self ≡ Self.value other → ⊥ };
 }
 
 impl AnyFloat for f64 {
@@ -93,6 +102,17 @@ impl AnyFloat for f64 {
     #[inline(always)]
     fn is_zero(self) -> bool {
         self == 0.0
+    }
+
+    #[tactic(auto, using(crate::proofs::Same::same))]
+    fn is_same(self, other: f64) -> bool {
+        if self.is_nan() {
+            return other.is_nan();
+        }
+        if other.is_nan() {
+            return false;
+        }
+        self.to_bits() == other.to_bits()
     }
 }
 
@@ -116,6 +136,17 @@ impl AnyFloat for f32 {
     fn is_zero(self) -> bool {
         self == 0.0
     }
+
+    #[tactic(auto, using(crate::proofs::Same::same))]
+    fn is_same(self, other: f32) -> bool {
+        if self.is_nan() {
+            return other.is_nan();
+        }
+        if other.is_nan() {
+            return false;
+        }
+        self.to_bits() == other.to_bits()
+    }
 }
 
 /// The shortest decimal of a float's size, whatever its sign.
@@ -123,7 +154,10 @@ impl AnyFloat for f32 {
 fn shortest_size<F: AnyFloat>(x: F, negative: bool) -> Decimal
     requires finite { IsTrue (float_is_finite (F.value x)) }
     requires sign { negative ≡ is_sign_negative (F.value x) }
-    ensures { IsShortest F.format (float_with_sign false (F.value x)) result }
+    ensures shortest { IsShortest F.format (float_with_sign false (F.value x)) result }
+    ensures few { result.digits < 10 ^ 17 }
+    ensures least { negsuc 323 ≤ℤ result.power }
+    ensures most { result.power ≤ℤ pos 309 }
 {
     if x.is_zero() {
         return Decimal {
@@ -132,6 +166,21 @@ fn shortest_size<F: AnyFloat>(x: F, negative: bool) -> Decimal
         };
     }
     shortest(x.negated_if(negative))
+}
+
+/// The sign of a finite float, and the shortest decimal of its size, as of [`shortest`]; that of a
+/// zero is 0.
+#[inline]
+pub fn shortest_of<F: AnyFloat>(x: F) -> (bool, Decimal)
+    requires { IsTrue (float_is_finite (F.value x)) }
+    ensures sign { result.0 ≡ is_sign_negative (F.value x) }
+    ensures shortest { IsShortest F.format (float_with_sign false (F.value x)) result.1 }
+    ensures few { result.1.digits < 10 ^ 17 }
+    ensures least { negsuc 323 ≤ℤ result.1.power }
+    ensures most { result.1.power ≤ℤ pos 309 }
+{
+    let negative = x.has_minus();
+    (negative, shortest_size(x, negative))
 }
 
 /// Writes a decimal in a layout.
@@ -161,6 +210,7 @@ fn write_finite<F: AnyFloat>(x: F, layout: FloatLayout, out: &mut [u8]) -> Resul
         × Writes text out.old out.new result) }
     ensures reads { IfOk result (λ n.
         parse_at STANDARD (take n out.new) plain_marks F.format 0 ≡ Ok (F.value x)) }
+    ensures room { HasRoom layout (length out.old) → IfErr result (λ error. ⊥) }
 {
     let negative = x.has_minus();
     let decimal = shortest_size(x, negative);
@@ -170,8 +220,10 @@ fn write_finite<F: AnyFloat>(x: F, layout: FloatLayout, out: &mut [u8]) -> Resul
 /// Writes the shortest text of a float to the front of a slice, and answers its length: the fewest
 /// digits that are read as the float, of these the closest to it, and of two as close the one whose
 /// last digit is even. A zero keeps its sign. What follows the text in the slice stays as it was.
-/// If
-/// there is no text, the slice stays as it was.
+/// If there is no text, the slice stays as it was.
+///
+/// `parse_float` of the text is the float, bit by bit. A finite float always has room in 24 bytes
+/// ([`FLOAT_ROOM`](decimal_writers::FLOAT_ROOM)), and by [`FloatLayout::Plain`] in [`PLAIN_ROOM`].
 ///
 /// ```text
 /// x         Plain                       Exponent    Usual
@@ -190,11 +242,15 @@ pub fn write_float<F: AnyFloat>(
         IsTextOf F.format (F.value x) layout (take n out.new)) }
     ensures reads { IfOk result (λ n.
         parse_at STANDARD (take n out.new) plain_marks F.format 0 ≡ Ok (F.value x)) }
+    ensures by_words { IfOk result (λ n. (word : ℕ) → IsOfFloats word →
+        parse_at word (take n out.new) plain_marks F.format 0 ≡ Ok (F.value x)) }
     ensures within { IfOk result (λ n. n ≤ length out.old) }
     ensures rest { IfOk result (λ n. drop n out.new ≡ drop n out.old) }
     ensures none { IfErr result (λ error.
         IsReason F.format (F.value x) layout (length out.old) error) }
     ensures unchanged { IfErr result (λ error. out.new ≡ out.old) }
+    ensures room { IsTrue (float_is_finite (F.value x)) → HasRoom layout (length out.old) →
+        IfErr result (λ error. ⊥) }
 {
     if x.is_not_a_number() {
         return Err(FloatTextError::NaN);

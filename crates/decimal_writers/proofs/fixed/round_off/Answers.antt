@@ -1,6 +1,6 @@
 use Rattle.std.proofs.Common.{◌/◌, ◌^◌, ℕ, ap, sym, ◌∙◌, take}
 use Rattle.decimal_writers.specs.Big.{value_of}
-use Rattle.decimal_writers.proofs.Places.{carried_up}
+use Rattle.decimal_writers.proofs.Placed.{carried_up}
 use Rattle.decimal_writers.proofs.fixed.round_off.Goals as goal
 
 pub returns-then-rounds_up-clause-value : goal.returns-then-rounds_up-clause-value

@@ -3,7 +3,7 @@ use Rattle.std.specs.Fmt.{sign_text}
 use Rattle.decimal_writers.specs.Big.{value_of}
 use Rattle.decimal_writers.specs.Room.{Writes}
 use Rattle.decimal_writers.specs.Text.{with_point}
-use Rattle.decimal_writers.proofs.Places.{zeros_are, fixed_is, fixed_more, fixed_fewer, least_some}
+use Rattle.decimal_writers.proofs.Placed.{zeros_are, fixed_is, fixed_more, fixed_fewer, least_some}
 use Rattle.decimal_writers.proofs.fixed.write_exact.Goals as goal
 
 pub exact_digits-exact-requires-clause-zeros : goal.exact_digits-exact-requires-clause-zeros

@@ -4,7 +4,7 @@ use Rattle.std.proofs.lemmas.Int.{to_z-of_z}
 use mir.Syntax.{w32}
 use mir.Val.{to_z, of_z, SFits}
 use Rattle.decimal_writers.specs.Room.{Writes}
-use Rattle.decimal_writers.proofs.Places.{quick_text}
+use Rattle.decimal_writers.proofs.Placed.{quick_text}
 use Rattle.decimal_writers.proofs.fixed.write_fixed.Goals as goal
 use Rattle.std.proofs.Common.{ℕ}
 

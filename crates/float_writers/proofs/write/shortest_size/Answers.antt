@@ -5,8 +5,8 @@ use Rattle.float_writers.specs.Write.{IsShortest}
 use Rattle.float_writers.proofs.Written.{size_is, number, nothing, zero_shortest}
 use Rattle.float_writers.proofs.write.shortest_size.Goals as goal
 
-pub returns-then-is_zero : goal.returns-then-is_zero
-returns-then-is_zero g c =
+pub returns-then-is_zero-clause-shortest : goal.returns-then-is_zero-clause-shortest
+returns-then-is_zero-clause-shortest g c =
     subst (λ (y : Float). IsShortest g.F.Float.format y nothing)
     (sym (c.is_zero.ensures.zero c.if-is_zero.true))
     (zero_shortest g.F.Float.format)
@@ -21,8 +21,8 @@ shortest-requires g c =
     (g.F.Float.value c.negated_if.result) c.requires.sign c.negated_if.ensures))
     (c.is_zero.ensures.above c.if-is_zero.false)
 
-pub returns : goal.returns
-returns g c =
+pub returns-clause-shortest : goal.returns-clause-shortest
+returns-clause-shortest g c =
     let is = c.shortest.ensures in
     subst (λ (y : Float). IsShortest g.F.Float.format y c.shortest.result)
     (size_is c.args.negative (g.F.Float.value c.args.x)

@@ -15,12 +15,12 @@ use lib.Ieee.Nearest.{closest, closest_same}
 use mir.Val.{bool_byte}
 use Rattle.decimal_writers.specs.Big.{value_of, IsBig}
 use Rattle.decimal_writers.specs.Fixed.{fixed_text, point_of}
-use Rattle.decimal_writers.specs.Room.{Writes}
+use Rattle.decimal_writers.specs.Places.{IsPlaces, places_text}
+use Rattle.decimal_writers.specs.declared.places.Places.{Places}
 use Rattle.decimal_writers.specs.Text.{number_text, last_digits, with_point, places_of, units_of, plain_text}
 use Rattle.decimal_writers.proofs.Numerals.{ten_pos, counted, few_digits, number_one, length-last, last_none, last_step, last_split}
 use Rattle.decimal_writers.proofs.Points.{shifted}
 use Rattle.decimal_writers.proofs.Rounding.{closest_whole, front_below}
-use Rattle.decimal_writers.proofs.Texts.{writes_none, writes_text}
 
 -- ---- how many digits
 
@@ -79,6 +79,11 @@ tens_last (suc zeros) n =
     ∙ ap (λ (ds : List ℕ). ds ++ 48 ∷ []) (tens_last zeros n)
     ∙ sym (last_step zeros 0)
 
+pub point_long : (places : ℕ) → length (point_of places) ≡ bool_byte (nat_lt 0 places)
+point_long zero = refl
+point_long (suc more) = let yes : nat_lt 0 (suc more) ≡ true = grind (arith, nat_tests) in
+    ap bool_byte (sym yes)
+
 module _ (n dropped fraction zeros : ℕ) where
   abbrev rest : ℕ
   rest = n / 10 ^ dropped
@@ -128,11 +133,6 @@ module _ (n dropped fraction zeros : ℕ) where
           (λ (x : ℕ). last_digits x (rest * 10 ^ zeros)) (sym e) i)
           ∙ (λ i. number_text (whole_is i) ++ 46 ∷ last_is i)
 
-  point_long : (places : ℕ) → length (point_of places) ≡ bool_byte (nat_lt 0 places)
-  point_long zero = refl
-  point_long (suc more) = let yes : nat_lt 0 (suc more) ≡ true = grind (arith, nat_tests) in
-      ap bool_byte (sym yes)
-
   pub body_long : (whole : ℕ) → length (number_text (n / 10 ^ (dropped + fraction))) ≡ whole
       → length body ≡ whole + bool_byte (nat_lt 0 (fraction + zeros)) + (fraction + zeros)
   body_long whole is =
@@ -152,56 +152,46 @@ module _ (n dropped fraction zeros : ℕ) where
         length-last zeros 0,
       )
 
-  module _ (negative : Bool) (old : List ℕ) (whole end : ℕ)
-      (count : length (number_text (n / 10 ^ (dropped + fraction))) ≡ whole)
-      (long : end ≡ bool_byte negative + whole + bool_byte
-      (nat_lt 0 (fraction + zeros)) + (fraction + zeros)) where
-    all : end ≡ bool_byte negative + length body
-    all = omega (arith, long, body_long whole count)
+  pub text_long : (whole : ℕ) → length (number_text (n / 10 ^ (dropped + fraction))) ≡ whole
+      → length (with_point (fraction + zeros) (rest * 10 ^ zeros))
+      ≡ whole + bool_byte (nat_lt 0 (fraction + zeros)) + (fraction + zeros)
+  text_long whole is = ap length body_is ∙ body_long whole is
 
-    pub places_none : length old < end
-        → Writes (sign_text negative ++ with_point (fraction + zeros) (rest * 10 ^ zeros)) old old
-        (Err (record { needed = end }))
-    places_none few =
-        subst (λ (ds : List ℕ). Writes (sign_text negative ++ ds) old old
-        (Err (record { needed = end }))) (sym body_is)
-        (writes_none negative body old end all few)
+  pub text_put : (whole point end : ℕ) (one two three four old : List ℕ)
+      → length (number_text (n / 10 ^ (dropped + fraction))) ≡ whole
+      → drop (end - zeros) one ≡ last_digits zeros 0 ++ drop end old
+      → drop (end - zeros - fraction) two ≡ last_digits fraction rest ++ drop (end - zeros) one
+      → drop point three ≡ point_of (fraction + zeros) ++ drop (end - (fraction + zeros)) two
+      → drop (point - whole) four ≡ last_digits whole
+      (n / 10 ^ (dropped + fraction)) ++ drop point three
+      → drop (point - whole) four ≡ with_point (fraction + zeros) (rest * 10 ^ zeros) ++ drop end old
+  text_put whole point end one two three four old count is_zeros is_fraction is_point is_whole =
+      let place : end - (fraction + zeros) ≡ end - zeros - fraction = omega arith in
+      let numerals : last_digits whole (n / 10 ^ (dropped + fraction)) ≡ number_text
+      (n / 10 ^ (dropped + fraction)) =
+      ap (λ (x : ℕ). last_digits x (n / 10 ^ (dropped + fraction))) (sym count)
+      ∙ sym (counted (n / 10 ^ (dropped + fraction))).same in
+      is_whole
+      ∙ (λ i. numerals i ++ is_point i)
+      ∙ ap (λ (x : ℕ). number_text
+      (n / 10 ^ (dropped + fraction)) ++ (point_of (fraction + zeros) ++ drop x two)) place
+      ∙ ap (λ (ds : List ℕ). number_text
+      (n / 10 ^ (dropped + fraction)) ++ (point_of (fraction + zeros) ++ ds))
+      (is_fraction ∙ ap (λ (ds : List ℕ). last_digits fraction rest ++ ds) is_zeros
+      ∙ sym (append_assoc (last_digits fraction rest) (last_digits zeros 0) (drop end old)))
+      ∙ ap (λ (ds : List ℕ). number_text (n / 10 ^ (dropped + fraction)) ++ ds)
+      (sym (append_assoc (point_of (fraction + zeros))
+      (last_digits fraction rest ++ last_digits zeros 0) (drop end old)))
+      ∙ sym (append_assoc (number_text (n / 10 ^ (dropped + fraction)))
+      (point_of (fraction + zeros) ++ (last_digits fraction rest ++ last_digits zeros 0))
+      (drop end old))
+      ∙ ap (λ (ds : List ℕ). ds ++ drop end old) (sym body_is)
 
-    pub places_text : (point : ℕ) (one two three four new : List ℕ) → end ≤ length old
-        → point + length (point_of (fraction + zeros)) ≡ end - (fraction + zeros)
-        → drop (end - zeros) one ≡ last_digits zeros 0 ++ drop end old
-        → drop (end - zeros - fraction) two ≡ last_digits fraction rest ++ drop (end - zeros) one
-        → drop point three ≡ point_of (fraction + zeros) ++ drop (end - (fraction + zeros)) two
-        → drop (point - whole) four ≡ last_digits whole
-        (n / 10 ^ (dropped + fraction)) ++ drop point three
-        → new ≡ sign_text negative ++ drop (length (sign_text negative)) four
-        → Writes (sign_text negative ++ with_point (fraction + zeros) (rest * 10 ^ zeros)) old new
-        (Ok end)
-    places_text point one two three four new fits at is_zeros is_fraction is_point is_whole front =
-        let place : end - (fraction + zeros) ≡ end - zeros - fraction = omega arith in
-        let numerals : last_digits whole (n / 10 ^ (dropped + fraction)) ≡ number_text
-        (n / 10 ^ (dropped + fraction)) =
-        ap (λ (x : ℕ). last_digits x (n / 10 ^ (dropped + fraction))) (sym count)
-        ∙ sym (counted (n / 10 ^ (dropped + fraction))).same in
-        let joined : drop (point - whole) four ≡ body ++ drop end old =
-        is_whole
-        ∙ (λ i. numerals i ++ is_point i)
-        ∙ ap (λ (x : ℕ). number_text
-        (n / 10 ^ (dropped + fraction)) ++ (point_of (fraction + zeros) ++ drop x two)) place
-        ∙ ap (λ (ds : List ℕ). number_text
-        (n / 10 ^ (dropped + fraction)) ++ (point_of (fraction + zeros) ++ ds))
-        (is_fraction ∙ ap (λ (ds : List ℕ). last_digits fraction rest ++ ds) is_zeros
-        ∙ sym (append_assoc (last_digits fraction rest) (last_digits zeros 0) (drop end old)))
-        ∙ ap (λ (ds : List ℕ). number_text (n / 10 ^ (dropped + fraction)) ++ ds)
-        (sym (append_assoc (point_of (fraction + zeros))
-        (last_digits fraction rest ++ last_digits zeros 0) (drop end old)))
-        ∙ sym (append_assoc (number_text (n / 10 ^ (dropped + fraction)))
-        (point_of (fraction + zeros) ++ (last_digits fraction rest ++ last_digits zeros 0))
-        (drop end old)) in
-        let start : point - whole + length body ≡ end =
-        omega (arith, at, long, body_long whole count, point_long (fraction + zeros)) in
-        subst (λ (ds : List ℕ). Writes (sign_text negative ++ ds) old new (Ok end)) (sym body_is)
-        (writes_text negative body old end all (point - whole) four new fits start joined front)
+pub places_long : (bytes : List ℕ) (p : Places) → IsPlaces bytes p
+    → length (places_text bytes p)
+    ≡ p.whole + bool_byte (nat_lt 0 (p.fraction + p.zeros)) + (p.fraction + p.zeros)
+places_long bytes p is =
+    text_long (value_of (take p.len bytes)) p.dropped p.fraction p.zeros p.whole is.whole
 
 -- ---- rounded off
 
