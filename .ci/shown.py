@@ -65,7 +65,7 @@ def first_of(name, code):
     return lines_of(text if text.count("{") == text.count("}") else code)
 
 
-def untold(name, docs, code):
+def untold(docs, code):
     """What the example in a doc comment has, and the tests that show the call have not."""
     text = " ".join(re.findall(r"^```text\n(.*?)^```", "\n".join([*docs, ""]), re.S | re.M))
     raw = code.replace("\\\\", "\\")
@@ -78,10 +78,10 @@ def check():
     """Each call of DOOR has an example, each test shows something of DOOR, and the examples of doc
     comments are among the tests."""
     items, shown, faults = passed_on()[0], examples(), []
-    there = {name: Crate(crate) for name, (crate, _) in items.items()}
+    crates = {crate: Crate(crate) for crate in sorted({crate for crate, _ in items.values()})}
     functions = 0
-    for name, crate in there.items():
-        item = next((it for module in crate.modules.values() for it in module.source.items
+    for name, (crate, _) in items.items():
+        item = next((it for module in crates[crate].modules.values() for it in module.source.items
                      if it.name == name and it.is_public() and it.kind not in ("mod", "use")), None)
         if item and item.kind == "fn":
             functions += 1
@@ -89,7 +89,7 @@ def check():
                 faults.append(f"{item.file}:{item.line}: no test of {EXAMPLES} shows {name}")
         if item and name in shown:
             faults += [f"{item.file}:{item.line}: no test that shows {name} has `{it}`"
-                       for it in untold(name, item.docs, shown[name])]
+                       for it in untold(item.docs, shown[name])]
     faults += [f"{EXAMPLES}:1: {name} isn't of {DOOR}" for name in shown
                if name.split("::")[0] not in items]
     return f"{functions} calls of {DOOR} have an example that the gate runs", faults

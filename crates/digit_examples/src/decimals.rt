@@ -13,7 +13,10 @@ const GROUPS: u128 = (10 << 104) | (0x2c << 64) | INTEGER_INTERNAL_DIGIT_SEPARAT
 /// Shows `parse_scaled`.
 #[test]
 fn a_whole_text(rt: HostRuntime) {
-    assert_eq!(rt; parse_scaled::<i64>(b"1_234.5", PYTHON_LITERAL, b'.', 2), Ok(123450));
+    assert_eq!(rt;
+        parse_scaled::<i64>(b"1_234.5", PYTHON_LITERAL, b'.', 2),
+        Ok(123450)
+    );
     assert_eq!(rt;
         parse_scaled::<i64>(b"1.5x", PYTHON_LITERAL, b'.', 2),
         Err(ScaledError::Invalid(3))
@@ -27,7 +30,10 @@ fn an_amount(rt: HostRuntime) {
         read_scaled_from::<i64>(b"-1_234.5;", PYTHON_LITERAL, 0, b'.', 2),
         Ok((-123450, 8))
     );
-    assert_eq!(rt; read_scaled_from::<i64>(b"0.1250", STANDARD, 0, b'.', 3), Ok((125, 6)));
+    assert_eq!(rt;
+        read_scaled_from::<i64>(b"0.1250", STANDARD, 0, b'.', 3),
+        Ok((125, 6))
+    );
     assert_eq!(rt;
         read_scaled_from::<i64>(b"0.125", STANDARD, 0, b'.', 2),
         Err(ScaledError::TooFine(4))
@@ -37,7 +43,10 @@ fn an_amount(rt: HostRuntime) {
 /// Shows `read_scaled_up_to`.
 #[test]
 fn an_amount_up_to_a_greatest(rt: HostRuntime) {
-    assert_eq!(rt; read_scaled_up_to(b"12.5", STANDARD, 0, b'.', 2, 9999), Ok((1250, 4)));
+    assert_eq!(rt;
+        read_scaled_up_to(b"12.5", STANDARD, 0, b'.', 2, 9999),
+        Ok((1250, 4))
+    );
     assert_eq!(rt;
         read_scaled_up_to(b"123.5", STANDARD, 0, b'.', 2, 9999),
         Err(ScaledError::TooLarge(2))
@@ -62,8 +71,14 @@ fn a_price(rt: HostRuntime) {
 #[test]
 fn groups_of_three(rt: HostRuntime) {
     // GROUPS is the word of radix 10 with `,` between two digits of the integer
-    assert_eq!(rt; read_grouped_from::<i64>(b"1,234.5;", GROUPS, 0, b'.', 2), Ok((123450, 7)));
-    assert_eq!(rt; read_grouped_from::<i64>(b"12.50", GROUPS, 0, b'.', 2), Ok((1250, 5)));
+    assert_eq!(rt;
+        read_grouped_from::<i64>(b"1,234.5;", GROUPS, 0, b'.', 2),
+        Ok((123450, 7))
+    );
+    assert_eq!(rt;
+        read_grouped_from::<i64>(b"12.50", GROUPS, 0, b'.', 2),
+        Ok((1250, 5))
+    );
     assert_eq!(rt;
         read_grouped_from::<i64>(b"1,2,3.00", GROUPS, 0, b'.', 2),
         Err(PriceError::Group(2))
@@ -81,7 +96,10 @@ fn groups_of_three(rt: HostRuntime) {
 /// Shows `read_exact_from`.
 #[test]
 fn so_many_places(rt: HostRuntime) {
-    assert_eq!(rt; read_exact_from::<i64>(b"1.50;", STANDARD, 0, b'.', 2), Ok((150, 4)));
+    assert_eq!(rt;
+        read_exact_from::<i64>(b"1.50;", STANDARD, 0, b'.', 2),
+        Ok((150, 4))
+    );
     assert_eq!(rt;
         read_exact_from::<i64>(b"1.5;", STANDARD, 0, b'.', 2),
         Err(PriceError::Places(3))
@@ -134,13 +152,22 @@ fn before_rounding_by_a_form(rt: HostRuntime) {
         dropped: 0,
         exponent: -2,
     };
-    assert_eq!(rt; read_decimal_of(b"12.50,", 0, forms::MYSQL), Ok((decimal, 5)));
+    assert_eq!(rt;
+        read_decimal_of(b"12.50,", 0, forms::MYSQL),
+        Ok((decimal, 5))
+    );
     let decimal = Decimal {
         negative: false,
         value: 1000,
         dropped: 0,
         exponent: -3,
     };
-    assert_eq!(rt; read_decimal_of(b"1_000e-3f64", 0, forms::RUST), Ok((decimal, 8)));
-    assert_eq!(rt; read_decimal_of(b"0x1f", 0, forms::RUST), Err(NumberError::Empty(0)));
+    assert_eq!(rt;
+        read_decimal_of(b"1_000e-3f64", 0, forms::RUST),
+        Ok((decimal, 8))
+    );
+    assert_eq!(rt;
+        read_decimal_of(b"0x1f", 0, forms::RUST),
+        Err(NumberError::Empty(0))
+    );
 }

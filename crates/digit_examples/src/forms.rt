@@ -32,7 +32,10 @@ fn from_a_position_on(rt: HostRuntime) {
         word: STANDARD,
     };
     assert_eq!(rt; read_number_of::<f64>(b"01", 0, forms::JSON), Ok((zero, 1)));
-    assert_eq!(rt; read_number_of::<f64>(b".5", 0, forms::JSON), Err(NumberError::Empty(0)));
+    assert_eq!(rt;
+        read_number_of::<f64>(b".5", 0, forms::JSON),
+        Err(NumberError::Empty(0))
+    );
     assert_eq!(rt;
         read_number_of::<f64>(b"-inf,", 0, forms::TOML),
         Ok((Number::Float(-f64::INFINITY), 4))
@@ -69,7 +72,12 @@ fn a_form(rt: HostRuntime) {
         point: b'1',
         exponent: b'e',
     };
-    assert!(rt; !is_form(Form { marks, ..forms::JSON }));
+    assert!(rt;
+        !is_form(Form {
+            marks,
+            ..forms::JSON
+        })
+    );
 }
 
 /// Shows `read_list_of`.

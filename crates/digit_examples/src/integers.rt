@@ -11,8 +11,14 @@ use digits::{
 #[test]
 fn a_whole_text(rt: HostRuntime) {
     assert_eq!(rt; parse_number::<i8>(b"-1_28", PYTHON_LITERAL), Ok(-128));
-    assert_eq!(rt; parse_number::<i8>(b"128", PYTHON_LITERAL), Err(ParseError::Overflow(2)));
-    assert_eq!(rt; parse_number::<i8>(b"12 ", PYTHON_LITERAL), Err(ParseError::Invalid(2)));
+    assert_eq!(rt;
+        parse_number::<i8>(b"128", PYTHON_LITERAL),
+        Err(ParseError::Overflow(2))
+    );
+    assert_eq!(rt;
+        parse_number::<i8>(b"12 ", PYTHON_LITERAL),
+        Err(ParseError::Invalid(2))
+    );
 }
 
 /// Shows `parse_number_from`.
@@ -28,14 +34,23 @@ fn the_rest_of_a_text(rt: HostRuntime) {
 /// Shows `read_number`.
 #[test]
 fn the_start_of_a_text(rt: HostRuntime) {
-    assert_eq!(rt; read_number::<i32>(b"-1_000 m", PYTHON_LITERAL), Ok((-1000, 6)));
-    assert_eq!(rt; read_number::<u32>(b"-1", STANDARD), Err(LiteralError::Empty(0)));
+    assert_eq!(rt;
+        read_number::<i32>(b"-1_000 m", PYTHON_LITERAL),
+        Ok((-1000, 6))
+    );
+    assert_eq!(rt;
+        read_number::<u32>(b"-1", STANDARD),
+        Err(LiteralError::Empty(0))
+    );
 }
 
 /// Shows `read_number_from`.
 #[test]
 fn from_a_position_on(rt: HostRuntime) {
-    assert_eq!(rt; read_number_from::<u16>(b"8080:443", STANDARD, 5), Ok((443, 8)));
+    assert_eq!(rt;
+        read_number_from::<u16>(b"8080:443", STANDARD, 5),
+        Ok((443, 8))
+    );
     assert_eq!(rt;
         read_number_from::<u16>(b"8080:65536", STANDARD, 5),
         Err(LiteralError::Overflow(9))
@@ -47,7 +62,10 @@ fn from_a_position_on(rt: HostRuntime) {
 fn exactly_so_many_digits(rt: HostRuntime) {
     assert_eq!(rt; read_exactly::<u16>(b"2026-11-25", 0, 10, 4), Ok((2026, 4)));
     assert_eq!(rt; read_exactly::<u32>(b"\\u00e9", 2, 16, 4), Ok((233, 6)));
-    assert_eq!(rt; read_exactly::<u8>(b"7:05", 0, 10, 2), Err(LiteralError::Empty(1)));
+    assert_eq!(rt;
+        read_exactly::<u8>(b"7:05", 0, 10, 2),
+        Err(LiteralError::Empty(1))
+    );
 }
 
 /// Shows `read_at_most`.
@@ -61,14 +79,20 @@ fn at_most_so_many_digits(rt: HostRuntime) {
 #[test]
 fn an_integer_without_a_sign(rt: HostRuntime) {
     assert_eq!(rt; read_integer(b"1_000", PYTHON_LITERAL), Ok((1000, 5)));
-    assert_eq!(rt; read_integer(b"_1", PYTHON_LITERAL), Err(LiteralError::Empty(0)));
+    assert_eq!(rt;
+        read_integer(b"_1", PYTHON_LITERAL),
+        Err(LiteralError::Empty(0))
+    );
 }
 
 /// Shows `read_integer_from`.
 #[test]
 fn up_to_a_greatest_value(rt: HostRuntime) {
     assert_eq!(rt; read_integer_from(b"0x1_f", TOML_HEX, 2, 255), Ok((31, 5)));
-    assert_eq!(rt; read_integer_from(b"0x1_f", TOML_HEX, 2, 9), Err(LiteralError::Overflow(4)));
+    assert_eq!(rt;
+        read_integer_from(b"0x1_f", TOML_HEX, 2, 9),
+        Err(LiteralError::Overflow(4))
+    );
 }
 
 /// Shows `read_wide_from`.
@@ -96,7 +120,10 @@ fn how_many_digits(rt: HostRuntime) {
 /// Shows `stop_from`.
 #[test]
 fn where_digits_end(rt: HostRuntime) {
-    assert_eq!(rt; stop_from(b"1.5_0e7", PYTHON_LITERAL, Component::Fraction, 2), 5);
+    assert_eq!(rt;
+        stop_from(b"1.5_0e7", PYTHON_LITERAL, Component::Fraction, 2),
+        5
+    );
 }
 
 /// Shows `read_first_digits_from`.

@@ -15,11 +15,17 @@ fn integers(rt: HostRuntime) {
     assert_eq!(rt; (read.count, read.end), (3, ListEnd::Over(7)));
     assert_eq!(rt; three, [1, 2, 3]);
     let read = read_list(b"1, x", 0, STANDARD, COMMAS, &mut three);
-    assert_eq!(rt; (read.count, read.end), (1, ListEnd::Fault(LiteralError::Empty(3))));
+    assert_eq!(rt;
+        (read.count, read.end),
+        (1, ListEnd::Fault(LiteralError::Empty(3)))
+    );
     let read = read_list(b"1\n2\n", 0, STANDARD, LINES, &mut three);
     assert_eq!(rt; (read.count, read.end), (2, ListEnd::Over(4)));
     let read = read_list(b"]", 0, STANDARD, COMMAS, &mut three);
-    assert_eq!(rt; (read.count, read.end), (0, ListEnd::Fault(LiteralError::Empty(0))));
+    assert_eq!(rt;
+        (read.count, read.end),
+        (0, ListEnd::Fault(LiteralError::Empty(0)))
+    );
     // a full slice: the next call goes on at 4
     let mut two = [0u8; 2];
     let read = read_list(b"1,2,3", 0, STANDARD, COMMAS, &mut two);
@@ -56,7 +62,10 @@ fn values_of_a_type_of_your_own(rt: HostRuntime) {
     assert_eq!(rt; (read.count, read.end), (2, ListEnd::Over(10)));
     assert_eq!(rt; points[0], Point { x: 12, y: -5 });
     let read = read_items(b"12;", 0, LINES, &mut points);
-    assert_eq!(rt; (read.count, read.end), (0, ListEnd::Fault(PointError::NoColon(2))));
+    assert_eq!(rt;
+        (read.count, read.end),
+        (0, ListEnd::Fault(PointError::NoColon(2)))
+    );
 }
 
 /// Shows `parse_list`.
@@ -121,7 +130,10 @@ fn a_number_that_may_be_missing(rt: HostRuntime) {
     assert_eq!(rt; read_optional(kind, b"x=-12;", 5), Ok(None));
     assert_eq!(rt; read_optional(kind, b"", 0), Ok(None));
     assert_eq!(rt; read_optional(kind, b"-;", 0), Err(LiteralError::Empty(1)));
-    assert_eq!(rt; read_optional(kind, b"200", 0), Err(LiteralError::Overflow(2)));
+    assert_eq!(rt;
+        read_optional(kind, b"200", 0),
+        Err(LiteralError::Overflow(2))
+    );
 }
 
 /// Shows `Gap::past_blanks`, `Gap::next_after`.

@@ -16,7 +16,10 @@ fn a_literal(rt: HostRuntime) {
         end: 5,
     };
     assert_eq!(rt; read_literal(b"0xff_u8", 0, RUST, 255), Ok(mask));
-    assert_eq!(rt; read_literal(b"0b", 0, RUST, 255), Err(LanguageError::Empty(2)));
+    assert_eq!(rt;
+        read_literal(b"0b", 0, RUST, 255),
+        Err(LanguageError::Empty(2))
+    );
     let octal = Literal {
         value: 15,
         word: JAVA_OCTAL_LITERAL,
@@ -24,7 +27,10 @@ fn a_literal(rt: HostRuntime) {
         end: 3,
     };
     assert_eq!(rt; read_literal(b"017", 0, JAVA, 255), Ok(octal));
-    assert_eq!(rt; read_literal(b"017", 0, ZIG, 255), Err(LanguageError::Zero(0)));
+    assert_eq!(rt;
+        read_literal(b"017", 0, ZIG, 255),
+        Err(LanguageError::Zero(0))
+    );
 }
 
 /// Shows `read_literal_as`.

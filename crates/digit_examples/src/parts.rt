@@ -12,13 +12,19 @@ fn decimal_parts(rt: HostRuntime) {
     // a comma for the point, and `d` for the mark
     let text = b"1,25d2;";
     let mantissa = read_mantissa(text, STANDARD, 0, b',');
-    assert_eq!(rt; (mantissa.value, mantissa.places, mantissa.end), (125, 2, 4));
+    assert_eq!(rt;
+        (mantissa.value, mantissa.places, mantissa.end),
+        (125, 2, 4)
+    );
     let power = Power {
         negative: false,
         value: 2,
         end: 6,
     };
-    assert_eq!(rt; read_exponent(text, STANDARD, mantissa.end, b'd'), Ok(power));
+    assert_eq!(rt;
+        read_exponent(text, STANDARD, mantissa.end, b'd'),
+        Ok(power)
+    );
     assert_eq!(rt; round_parts::<f64>(text, true, mantissa, power), -125.0);
     let decimal = Decimal {
         negative: true,

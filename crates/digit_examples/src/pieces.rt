@@ -1,8 +1,8 @@
 //! A text that comes in pieces, and a stream.
 
 use digits::{
-    Both, COMMAS, FloatError, Floats, Integers, LINES, Number, NumberReader, PieceEnd,
-    STANDARD, Scaled, StreamEnd, StreamError, forms, read_float_list_piece, read_list_piece,
+    Both, COMMAS, FloatError, Floats, Integers, LINES, Number, NumberReader, PieceEnd, STANDARD,
+    Scaled, StreamEnd, StreamError, forms, read_float_list_piece, read_list_piece,
     read_list_piece_of, read_piece, read_scaled_list_piece, sure_end,
 };
 
@@ -29,7 +29,10 @@ fn floats(rt: HostRuntime) {
     let read = read_float_list_piece::<f64>(b"1.5,2e", 0, STANDARD, COMMAS, false, &mut out);
     assert_eq!(rt; (read.count, read.end), (1, PieceEnd::More(4)));
     let read = read_float_list_piece::<f64>(b"1.5,x", 0, STANDARD, COMMAS, false, &mut out);
-    assert_eq!(rt; (read.count, read.end), (1, PieceEnd::Fault(FloatError::Empty(4))));
+    assert_eq!(rt;
+        (read.count, read.end),
+        (1, PieceEnd::Fault(FloatError::Empty(4)))
+    );
 }
 
 /// Shows `read_scaled_list_piece`.
@@ -127,5 +130,5 @@ fn a_stream_into_a_slice(rt: HostRuntime) {
     assert_eq!(rt; (read.count, read.end), (2, StreamEnd::Over(3)));
     assert_eq!(rt; out, [1, 2, 0, 0]);
     assert_eq!(rt; numbers.position(), 3);
-    assert_eq!(rt; numbers.unread(), b";3");
+    assert_eq!(rt; numbers.unread(), b";3".as_slice());
 }

@@ -27,7 +27,10 @@ fn a_word_of_its_parts(rt: HostRuntime) {
         integer: internal,
         ..DECIMAL
     };
-    assert_eq!(rt; builder.build(), STANDARD | (0x27 << 64) | INTEGER_INTERNAL_DIGIT_SEPARATOR);
+    assert_eq!(rt;
+        builder.build(),
+        STANDARD | (0x27 << 64) | INTEGER_INTERNAL_DIGIT_SEPARATOR
+    );
     assert_eq!(rt; DECIMAL.build(), STANDARD);
 }
 

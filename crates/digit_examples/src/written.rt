@@ -2,7 +2,8 @@
 
 use digits::{
     FloatLayout, FloatTextError, Layout, MOST_ROOM, NoRoom, write_exponent, write_fixed,
-    write_float, write_number, write_number_by, write_plain, write_price, write_scaled, write_usual,
+    write_float, write_number, write_number_by, write_plain, write_price, write_scaled,
+    write_usual,
 };
 
 /// Shows `write_number`.
@@ -34,7 +35,10 @@ fn other_layouts(rt: HostRuntime) {
     let layout = hex.with_digits(4).in_upper_case();
     assert_eq!(rt; write_number_by(255, layout, &mut out), Ok(4));
     assert!(rt; out.starts_with(b"00FF"));
-    assert_eq!(rt; write_number_by(5, Layout::decimal().with_plus(), &mut out), Ok(2));
+    assert_eq!(rt;
+        write_number_by(5, Layout::decimal().with_plus(), &mut out),
+        Ok(2)
+    );
     assert!(rt; out.starts_with(b"+5"));
     assert_eq!(rt; Layout::of_radix(37), None);
 }
@@ -63,7 +67,10 @@ fn a_float(rt: HostRuntime) {
     assert!(rt; out.starts_with(b"0.1"));
     assert_eq!(rt; write_float(-12000.0, FloatLayout::Plain, &mut out), Ok(6));
     assert!(rt; out.starts_with(b"-12000"));
-    assert_eq!(rt; write_float(-12000.0, FloatLayout::Exponent, &mut out), Ok(6));
+    assert_eq!(rt;
+        write_float(-12000.0, FloatLayout::Exponent, &mut out),
+        Ok(6)
+    );
     assert!(rt; out.starts_with(b"-1.2e4"));
     assert_eq!(rt; write_float(-12000.0, FloatLayout::Usual, &mut out), Ok(8));
     assert!(rt; out.starts_with(b"-12000.0"));
