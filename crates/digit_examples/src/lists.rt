@@ -140,6 +140,6 @@ fn a_number_that_may_be_missing(rt: HostRuntime) {
 #[test]
 fn between_two_numbers(rt: HostRuntime) {
     assert_eq!(rt; COMMAS.past_blanks(b"  1 , 2", 0), 2);
-    assert_eq!(rt; COMMAS.next_after(b"1 , 2", 1), Ok(4));
+    assert_eq!(rt; COMMAS.next_after(b"1 , 2", 1), Ok(3));
     assert_eq!(rt; COMMAS.next_after(b"1 ; 2", 1), Err(2));
 }
