@@ -80,10 +80,10 @@ def check():
     items, shown, faults = passed_on()[0], examples(), []
     crates = {crate: Crate(crate) for crate in sorted({crate for crate, _ in items.values()})}
     functions = 0
-    for name, (crate, _) in items.items():
+    for name, (crate, path) in items.items():
         item = next((it for module in crates[crate].modules.values() for it in module.source.items
                      if it.name == name and it.is_public() and it.kind not in ("mod", "use")), None)
-        if item and item.kind == "fn":
+        if item and item.kind == "fn" and not path.startswith("laws::"):
             functions += 1
             if name not in shown:
                 faults.append(f"{item.file}:{item.line}: no test of {EXAMPLES} shows {name}")
