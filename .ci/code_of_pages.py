@@ -1,11 +1,15 @@
 """The code of the pages: the blocks of Rust of a page are a file that the gate proves."""
 import re
 
-from sources import DOOR, read
+from sources import DOOR, files_below, read
 
 USES = "crates/digit_uses"
 # The pages, and the module of digit_uses that the blocks of each are.
 PAGES = {"README.md": "readme", "CALLING.md": "calling"}
+# The pages whose blocks are parts of proved files, and the crate that has these.
+SHOWN = {"docs/IMPLEMENTING.md": "crates/digit_vectors"}
+# What begins the blocks that a reader puts in the place of others; `.ci/setup` does so.
+CHANGES = ("is_space b =", "    text.iter()")
 
 
 def blocks_of(page, language):
@@ -72,8 +76,29 @@ def first_run(faults):
         faults.append(f"README.md:1: the run of digit_hello doesn't print what {path} has")
 
 
+def parts(faults):
+    """Each paragraph of the blocks of Rust and antt of these pages is in a file of the crate."""
+    count = 0
+    for page, crate in SHOWN.items():
+        texts = [flat(read(path)) for path in files_below(crate, (".rt", ".antt"))]
+        for language in ("rust", "antt"):
+            for first, block in blocks_of(page, language):
+                if block[0].startswith(CHANGES):
+                    continue
+                for part in "\n".join(block).split("\n\n"):
+                    count += 1
+                    if not any(flat(part) in text for text in texts):
+                        faults.append(f"{page}:{first}: no file of {crate} has `{part.strip()[:60]}`")
+    return count
+
+
+def flat(text):
+    return " ".join(text.split())
+
+
 def check():
     faults, count = [], 0
+    shown = parts(faults)
     answers(faults)
     first_run(faults)
     for page in PAGES:
@@ -83,5 +108,5 @@ def check():
         here = [line for first, block in blocks for line in code(block, first)]
         faults.append(fault(page, here, path, code(read(path).split("\n"), 1)))
         count += len(blocks)
-    return (f"{count} blocks of {', '.join(PAGES)} are proved code",
+    return (f"{count} blocks of {', '.join(PAGES)} are proved code, and {shown} parts of others",
             [found for found in faults if found])

@@ -20,7 +20,7 @@ PART = re.compile(r"^// ---- (.*)$", re.M)
 def parts_of(text):
     """What commas part in a text of Rust, outside of brackets and literals."""
     parts, depth = [""], 0
-    for token in re.findall(r'"(?:\\.|[^"\\])*"|.', text, re.S):
+    for token in re.findall(r'"(?:\\.|[^"\\])*"|\'(?:\\.|[^\'\\])\'|.', text, re.S):
         depth += (token in "([{") - (token in ")]}")
         if token == "," and depth == 0:
             parts.append("")

@@ -1,10 +1,11 @@
 """The links of the pages: each link and its anchor, each heading that is cited after a link, and
 each backquoted path, proof module or name has to exist, and in the file that a page says: `x` of
-`file.rt`. Another page links to each page that isn't
+`file.rt`. So have the paths of commands. Another page links to each page that isn't
 a crate's. No page names a host of a package registry."""
 import os
 import re
 
+from code_of_pages import blocks_of
 from sources import TOP, files_below, read, slug_of
 
 # `](target)`, also with a title, and `, "heading"` after it; `[name]: target`; `<a href="target">`
@@ -18,6 +19,7 @@ OF_FILE = re.compile(rf"((?:{QUOTED}(?:, | and | or ))*{QUOTED}) of `([\w/]+\.(?
 # what pages say of other libraries
 OTHERS = {"parse_partial", "parse_with_options", "from_str_radix", "fast_float", "is_infinite"}
 FOREIGN = {"docs/DIFFERENCES.md": NAMES, "docs/RULES.md": r"[A-Z]\w*_(LITERAL|STRING)"}
+COMMANDED = (".ci", "bench", "c", "crates", "docs")
 HOSTS = r"\b(crates\.io|docs\.rs|lib\.rs/crates|pypi\.org|npmjs\.com|proxy\.golang\.org)\b"
 
 
@@ -78,6 +80,12 @@ class Tree:
             words = set(re.findall(r"\w+", "".join(map(self.text, files))))
             yield from (f"{path} has no {name}" for name in re.findall(r"(\w+)(?:\(\))?`", names)
                         if name not in words)
+
+    def lost_in_commands(self, line):
+        """The paths of the repository that a line of commands has, and that are nowhere."""
+        for path in re.findall(r"(?<![\w./$\"-])[\w.][\w./-]*", line.partition("  #")[0]):
+            if path.split("/")[0] in COMMANDED and self.is_path(path) and not self.has(path, ["."]):
+                yield path
 
     def link_fault(self, page, target, heading):
         path, _, anchor = target.partition("#")
@@ -141,6 +149,10 @@ def check():
                 elif tree.is_path(quoted) and not tree.has(
                         quoted, tree.bases + [os.path.dirname(page) or "."]):
                     faults.append(f"{page}:{number}: no path {quoted}")
+    for page in tree.pages:
+        for first, block in blocks_of(page, "sh"):
+            for number, line in enumerate(block, first):
+                faults += [f"{page}:{number}: no path {path}" for path in tree.lost_in_commands(line)]
     crates = [path for path in tree.pages if re.match(r"crates/", path)]
     faults += [f"{page}:1: no page links to it" for page in tree.pages
                if page not in linked and page not in crates]

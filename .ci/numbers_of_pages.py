@@ -109,9 +109,34 @@ def measured(it):
         it.count += 1
         if read(path) != text:
             it.faults.append(difference(path, text, "bench/pages.py"))
+    cases = speed.Cases()
+    for line, m in it.find("docs/SPEED.md", r"decimal `parse_number` and `parse_float` take at most "
+                           r"([\d.]+) times .* through a `Bytes`, up to ([\d.]+) times"):
+        ratios = [(case, cases.ratio(case, "Library", "Constant")) for case in cases.rows["Instructions"]]
+        there = [f"{max(it for case, it in ratios if it and re.match(form, case)):.2f}"
+                 for form in ("[ux]: ", "")]
+        it.compare("docs/SPEED.md", line, "what a word at run time costs", list(m.groups()), there)
     for line, m in it.find("docs/SPEED.md", r"A `Bytes` takes (\d+) bytes"):
         size = re.search(r"A `Bytes` takes (\d+) bytes", read("bench/cases.txt"))
         it.compare("docs/SPEED.md", line, "the size of a `Bytes`", m[1], size and size[1])
+
+
+def by_ends(it):
+    """What SPEED says of lists is what the rows of PERF say: of those whose numbers change their
+    length or have eight digits and more, with one byte between two numbers and with blanks."""
+    table = re.search(r"### Its rows\n(.*?)\n### ", read("docs/PERF.md"), re.S)[1]
+    ratios = {False: [], True: []}
+    for name, *cells in (line.split("|")[1:-1] for line in re.findall(r"^\| `.*", table, re.M)):
+        times = [(head.strip("`"), time) for head, time in zip(("d1", "d3", "d1-4"), cells)]
+        times += re.findall(r"`([^`]+)` ([\d./]+)", cells[-1])
+        for shape, time in times:
+            if re.fullmatch(r"d(\d+-\d+|8|16)", shape) and "/" in time:
+                old, new = map(float, time.split("/"))
+                ratios["blank" in name or "return" in name].append(new / old)
+    there = [f"{f(ratios[has]):.1f}" for has in (False, True) for f in (min, max)]
+    for line, m in it.find("docs/SPEED.md", r"take ([\d.]+) to ([\d.]+) of the time that they take one by "
+                           r"one, and with blanks ([\d.]+) to ([\d.]+)"):
+        it.compare("docs/SPEED.md", line, "what a list takes by PERF", list(m.groups()), there)
 
 
 def names(it):
@@ -151,6 +176,6 @@ def by_hand(it):
 
 def check():
     it = Numbers()
-    for part in (counted, read_by, bound, calls, measured, names, by_hand):
+    for part in (counted, read_by, bound, calls, measured, by_ends, names, by_hand):
         part(it)
     return f"{it.count} numbers and names", it.faults

@@ -39,7 +39,7 @@ def crates():
 
 # The crates that no caller in Rattle uses: examples, the programs, tests, the benchmark, the
 # library for C.
-INNER = ("digit_hello", "digit_uses", "digit_requests", "digit_drain", "digit_totals", "digit_sum",
+INNER = ("digit_hello", "digit_uses", "digit_examples", "digit_requests", "digit_drain", "digit_totals", "digit_sum",
          "digit_vectors", "number_vectors", "list_vectors", "digit_bench", "digits_c", "digit_jobs",
          "digit_rows", "writer_vectors", "writer_rows")
 

@@ -1,7 +1,7 @@
 #!/usr/bin/env python3
-"""Writes what pages say of the benchmark's last run, by bench/cases.txt and bench/peers/counts.txt:
-the tables of docs/SPEED.md and c/README.md, the sentences of README.md, and the picture
-docs/speed.svg. `.ci/pages` compares them."""
+"""Writes what pages say of the last runs, by bench/cases.txt, bench/peers/counts.txt and
+c/costs/counts.txt: the tables of docs/SPEED.md and c/README.md, the sentences of README.md, and the
+picture docs/speed.svg. `.ci/pages` compares them."""
 import os
 import re
 import sys
@@ -10,6 +10,7 @@ sys.dont_write_bytecode = True
 TOP = os.path.normpath(os.path.join(os.path.dirname(os.path.abspath(__file__)), ".."))
 CASES = "bench/cases.txt"
 from cases import UNITS, table, target  # noqa: E402
+from costs import costs  # noqa: E402
 from peers import door, peers, span as to_peers, times  # noqa: E402
 from picture import svg  # noqa: E402
 
@@ -173,9 +174,10 @@ def pages():
     """The pages by their paths, as bench/cases.txt has them."""
     cases = Cases()
     speeds = between(read("docs/SPEED.md"), "table", speed(cases))
+    from_c = between(read("c/README.md"), "costs", costs())
     return {"docs/SPEED.md": between(speeds, "peers", peers()),
             "README.md": between(read("README.md"), "speed", summary(cases)),
-            "c/README.md": between(read("c/README.md"), "door", door()),
+            "c/README.md": between(from_c, "door", door()),
             "docs/speed.svg": svg(cases)}
 
 

@@ -107,7 +107,21 @@ def peers():
             "JSON array. serde_json counts as one that does less in floats and JSON, since Debian's "
             "build has wrong last bits. fast_float is the library for C++, lexical-core the crate of "
             "Rust. [counts.txt](../bench/peers/counts.txt) has every reader."]
-    return "\n".join(text)
+    return "\n".join([*text, "", ahead(times.rows)] if times.rows else text)
+
+
+def ahead(rows):
+    """The rows in which a reader that does less takes less time, in the slower of the runs."""
+    found = {}
+    for row, sides in rows.items():
+        runs = [(sides[LIBRARY][run] / peer[0], peer[1]) for run in range(min(map(len, sides.values())))
+                if (peer := best(row, sides, lambda it: it[run], True))]
+        ratio, peer = max(runs, default=(0, ""))
+        if ratio > 1:
+            found.setdefault(peer, []).append(f'"{row}" ({ratio:.2f})')
+    told = "; ".join(f"{peer}, in {', '.join(shown)}" for peer, shown in found.items())
+    return (f"By time, of the readers that do less these are ahead: {told}. In brackets is the library's "
+            "time, divided by theirs." if told else "By time, no reader that does less is ahead.")
 
 
 def span(start):

@@ -1,4 +1,5 @@
-//! Whole numbers by their decimal digits, of which the first is the last one.
+//! Whole numbers that no type has, as a slice of decimal digits. Position 0 has the last digit, the
+//! one with the value 1, so that a number grows at the end of its slice.
 
 ghost use Rattle.std.specs.Prelude.{◌≡◌, ℕ, true, false, ◌+◌, ◌-◌, ◌*◌, ◌/◌, ◌%◌, ◌^◌, ◌<◌, ◌≤◌, ◌++◌, length, take, drop, slice_index};
 ghost use Rattle.decimal_writers.specs.Big.{value_of, IsBig};
@@ -6,7 +7,8 @@ ghost use Rattle.decimal_writers.specs.Text.{last_digits};
 ghost use lib.Ieee.Nearest.{closest};
 ghost use mir.Val.{bool_byte};
 
-/// Multiplies digits by a factor in place, and answers what goes before them.
+/// Multiplies a number by a factor in place, and answers the carry: what its digits have no room
+/// for.
 #[tactic(auto, using(crate::proofs::Bigs::turns))]
 pub fn times(digits: &mut [u8], factor: u64) -> u64
     requires digits { (k : ℕ) → slice_index digits.old k < 10 }
@@ -25,8 +27,8 @@ pub fn times(digits: &mut [u8], factor: u64) -> u64
     carry
 }
 
-/// Writes a number's digits from a position on, after those before it, and answers the position
-/// after them.
+/// Writes the digits of a carry from `start` on, and answers the position after them: how many
+/// digits the number has then.
 #[tactic(auto, using(crate::proofs::Bigs::carries))]
 pub fn put_carry(digits: &mut [u8], start: usize, carry: u64) -> usize
     requires digits { (k : ℕ) → slice_index digits.old k < 10 }
@@ -49,7 +51,7 @@ pub fn put_carry(digits: &mut [u8], start: usize, carry: u64) -> usize
     at
 }
 
-/// Multiplies a number of so many digits by a factor, and answers how many it has then.
+/// Multiplies a number of `len` digits by a factor, and answers how many digits the product has.
 #[tactic(auto, using(crate::proofs::Bigs::products))]
 pub fn multiply(digits: &mut [u8], len: usize, factor: u64) -> usize
     requires big { IsBig digits.old len (value_of (take len digits.old)) }
@@ -62,7 +64,8 @@ pub fn multiply(digits: &mut [u8], len: usize, factor: u64) -> usize
     put_carry(digits, len, carry)
 }
 
-/// Multiplies a number of so many digits by a power, and answers how many it has then.
+/// Multiplies a number of `len` digits by `base` to the power `exponent`, and answers how many
+/// digits the product has.
 #[tactic(auto, using(crate::proofs::Bigs::scales))]
 pub fn scale(digits: &mut [u8], len: usize, base: u64, exponent: usize) -> usize
     requires big { IsBig digits.old len (value_of (take len digits.old)) }
@@ -82,7 +85,7 @@ pub fn scale(digits: &mut [u8], len: usize, base: u64, exponent: usize) -> usize
     after
 }
 
-/// The digit at a position, 0 from the number's length on.
+/// The digit at a position of a number of `len` digits: 0 from `len` on.
 #[tactic(auto, using(crate::proofs::Bigs::positions))]
 pub fn digit_at(digits: &[u8], len: usize, at: usize) -> u8
     requires big { IsBig digits.now len (value_of (take len digits.now)) }
@@ -92,7 +95,7 @@ pub fn digit_at(digits: &[u8], len: usize, at: usize) -> u8
     if at < len { digits[at] } else { 0 }
 }
 
-/// Writes so many digits of a number, from a position on, before `end`.
+/// Writes `count` digits of a number as text, those from position `from` on, right before `end`.
 #[tactic(auto, using(crate::proofs::Bigs::put_at))]
 pub fn put_big(digits: &[u8], len: usize, from: usize, count: usize, out: &mut [u8], end: usize)
     requires big { IsBig digits.now len (value_of (take len digits.now)) }
@@ -121,8 +124,8 @@ pub fn are_zeros(digits: &[u8]) -> bool
     true
 }
 
-/// Whether a number goes up if so many of its last digits are rounded off: at a tie to the even
-/// digit.
+/// Whether a number is rounded up where its last `dropped` digits are left out. At a tie it is
+/// rounded to the even digit.
 #[tactic(auto, using(crate::proofs::Rounding::rounds))]
 pub fn rounds_up(digits: &[u8], len: usize, dropped: usize) -> bool
     requires big { IsBig digits.now len (value_of (take len digits.now)) }
@@ -146,7 +149,8 @@ pub fn rounds_up(digits: &[u8], len: usize, dropped: usize) -> bool
     digit_at(digits, len, dropped) % 2 == 1
 }
 
-/// Adds one at a place to a number of so many digits, and answers how many it has then.
+/// Adds ten to the power `place` to a number of `len` digits, and answers how many digits the sum
+/// has.
 #[tactic(auto, using(crate::proofs::Rounding::adds))]
 pub fn add_one(digits: &mut [u8], len: usize, place: usize) -> usize
     requires big { IsBig digits.old len (value_of (take len digits.old)) }

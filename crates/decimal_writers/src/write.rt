@@ -169,9 +169,8 @@ fn write_usual_text(
 
 /// Writes a decimal without an exponent at the front of a slice, and answers its length, or the
 /// room that it needs: `-0.00012`, `1.5`, `12000`, `0`. So Rust's `{}` writes a float, if the
-/// digits
-/// are its shortest. Digits of 0 are written too: 120 with the power -2 is `1.20`. What follows the
-/// text in the slice stays as it was.
+/// digits are its shortest. Digits of 0 are written too: 120 with the power -2 is `1.20`. What
+/// follows the text in the slice stays as it was.
 #[inline]
 #[tactic(auto, using(crate::proofs::Reading::reads))]
 pub fn write_plain(negative: bool, digits: u64, power: i32, out: &mut [u8]) -> Result<usize, NoRoom>
@@ -181,8 +180,9 @@ pub fn write_plain(negative: bool, digits: u64, power: i32, out: &mut [u8]) -> R
     write_plain_text(negative, digits, power, out)
 }
 
-/// The same with an exponent, and with one digit before the point: `-1.2e-4`, `1.5e0`, `1e23`. So
-/// Rust's `{:e}` writes a float.
+/// Writes a decimal with an exponent, and with one digit before the point, at the front of a slice,
+/// and answers its length, or the room that it needs: `-1.2e-4`, `1.5e0`, `1e23`. So Rust's `{:e}`
+/// writes a float.
 #[inline]
 #[tactic(auto, using(crate::proofs::Reading::reads))]
 pub fn write_exponent(
@@ -197,8 +197,9 @@ pub fn write_exponent(
     write_exponent_text(negative, digits, power, out)
 }
 
-/// The same with an exponent below 1e-5 and from 1e16 on, and else without, but with one place at
-/// least: `0.00012`, `12000.0`, `1e-7`, `1e16`. So serde_json writes a float.
+/// Writes a decimal as serde_json writes a float, at the front of a slice, and answers its length,
+/// or the room that it needs: `0.00012`, `12000.0`, `1e-7`, `1e16`. It has an exponent below 1e-5
+/// and from 1e16 on; in between it has a point, and at least one place after it.
 #[inline]
 #[tactic(auto, using(crate::proofs::Reading::reads))]
 pub fn write_usual(negative: bool, digits: u64, power: i32, out: &mut [u8]) -> Result<usize, NoRoom>

@@ -45,7 +45,7 @@ fn of_list<E: Copy>(end: ListEnd<E>) -> PieceEnd<E>
     }
 }
 
-/// Whether the outcome at a position stays.
+/// Whether the outcome at a position is the same, whatever follows the piece.
 #[inline(always)]
 fn is_sure(is_last: bool, sure: usize, at: usize) -> bool
     ensures { result ≡ is_sure is_last sure at }
@@ -53,7 +53,7 @@ fn is_sure(is_last: bool, sure: usize, at: usize) -> bool
     is_last || at < sure
 }
 
-/// Whether blanks alone separate.
+/// Whether a gap has no separator but blanks.
 #[inline(always)]
 fn is_of_blanks(gap: Gap) -> bool
     ensures { result ≡ is_of_blanks gap }
@@ -61,7 +61,8 @@ fn is_of_blanks(gap: Gap) -> bool
     gap.blanks_separate && gap.separators.low == 0 && gap.separators.high == 0
 }
 
-/// Whether it stays what follows the number that ends at a position.
+/// Whether it is known what follows the number that ends at `end`: a separator, or the end of the
+/// list.
 #[inline(always)]
 fn is_parted(gap: Gap, text: &[u8], is_last: bool, end: usize) -> bool
     requires { end ≤ length text.now }

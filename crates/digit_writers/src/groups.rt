@@ -1,4 +1,4 @@
-//! The digits of a number in a layout, from the last one back.
+//! Writes the digits of a number in a layout, its last digit first.
 
 ghost use Rattle.std.specs.Prelude.{◌≡◌, ◌+◌, ◌/◌, ◌^◌, ◌<◌, ◌≤◌, length};
 ghost use Rattle.std.specs.List.{splice};
@@ -23,7 +23,7 @@ fn glyph_of(value: u8, is_upper: bool) -> u8
     }
 }
 
-/// How many digits a number of 64 bits has, after so many that were counted.
+/// How many digits a number of 64 bits has, and `counted` more.
 #[inline(always)]
 fn count_narrow(n: u64, radix: u64, counted: usize) -> usize
     requires low { 2 ≤ radix }
@@ -55,7 +55,7 @@ pub(crate) fn count_digits(n: u128, radix: u8) -> usize
     count_narrow(left as u64, u64::from(radix), count)
 }
 
-/// Writes the last digits of a number of 64 bits from a position on, and answers the number
+/// Writes the last `count` digits of a number of 64 bits from `at` on, and answers the number
 /// without them.
 #[inline(always)]
 fn put_last_narrow(n: u64, count: usize, layout: Layout, out: &mut [u8], at: usize) -> u64
@@ -73,7 +73,7 @@ fn put_last_narrow(n: u64, count: usize, layout: Layout, out: &mut [u8], at: usi
     left
 }
 
-/// Writes the last digits of a number from a position on, and answers the number without them.
+/// Writes the last `count` digits of a number from `at` on, and answers the number without them.
 #[inline(never)]
 fn put_last_wide(n: u128, count: usize, layout: Layout, out: &mut [u8], at: usize) -> u128
     requires room { at + count ≤ length out.old }
@@ -90,7 +90,7 @@ fn put_last_wide(n: u128, count: usize, layout: Layout, out: &mut [u8], at: usiz
     left
 }
 
-/// Writes the last digits of a number from a position on, and answers the number without them.
+/// Writes the last `count` digits of a number from `at` on, and answers the number without them.
 #[inline(always)]
 pub(crate) fn put_last(n: u128, count: usize, layout: Layout, out: &mut [u8], at: usize) -> u128
     requires room { at + count ≤ length out.old }
@@ -104,7 +104,7 @@ pub(crate) fn put_last(n: u128, count: usize, layout: Layout, out: &mut [u8], at
     put_last_wide(n, count, layout, out, at)
 }
 
-/// How many separators are between so many digits.
+/// How many separators `count` digits have, one after each `every` digits.
 #[inline(always)]
 pub(crate) fn count_gaps(every: u8, count: usize) -> usize
     ensures is { result ≡ gaps every count }
@@ -127,7 +127,7 @@ fn group_size(every: u8, count: usize) -> usize
     if every == 0 { count } else { every as usize }
 }
 
-/// Writes so many digits of a number in groups, from `start` to `end`.
+/// Writes the last `count` digits of a number in groups, from `start` to `end`.
 #[inline(always)]
 pub(crate) fn put_groups(
     n: u128,

@@ -1,0 +1,134 @@
+//! A text that comes in pieces, and a stream.
+
+use digits::{
+    Both, COMMAS, FloatError, Floats, Integers, LINES, Number, NumberReader, PieceEnd, STANDARD,
+    Scaled, StreamEnd, StreamError, forms, read_float_list_piece, read_list_piece,
+    read_list_piece_of, read_piece, read_scaled_list_piece, sure_end,
+};
+
+/// Shows `read_list_piece`.
+#[test]
+fn integers(rt: HostRuntime) {
+    let mut out = [0u8; 3];
+    let read = read_list_piece(b"1, 23", 0, STANDARD, COMMAS, false, &mut out);
+    assert_eq!(rt; (read.count, read.end), (1, PieceEnd::More(3)));
+    // nothing follows, so 23 is whole
+    let read = read_list_piece(b"1, 23", 0, STANDARD, COMMAS, true, &mut out);
+    assert_eq!(rt; (read.count, read.end), (2, PieceEnd::Over(5)));
+    assert_eq!(rt; out, [1, 23, 0]);
+}
+
+/// Shows `read_float_list_piece`.
+#[test]
+fn floats(rt: HostRuntime) {
+    let mut out = [0.0; 3];
+    let read = read_float_list_piece::<f64>(b"1.5,-2", 0, STANDARD, COMMAS, false, &mut out);
+    assert_eq!(rt; (read.count, read.end), (1, PieceEnd::More(4)));
+    let read = read_float_list_piece::<f64>(b"1.5,-", 0, STANDARD, COMMAS, false, &mut out);
+    assert_eq!(rt; (read.count, read.end), (1, PieceEnd::More(4)));
+    let read = read_float_list_piece::<f64>(b"1.5,2e", 0, STANDARD, COMMAS, false, &mut out);
+    assert_eq!(rt; (read.count, read.end), (1, PieceEnd::More(4)));
+    let read = read_float_list_piece::<f64>(b"1.5,x", 0, STANDARD, COMMAS, false, &mut out);
+    assert_eq!(rt;
+        (read.count, read.end),
+        (1, PieceEnd::Fault(FloatError::Empty(4)))
+    );
+}
+
+/// Shows `read_scaled_list_piece`.
+#[test]
+fn amounts(rt: HostRuntime) {
+    let mut cents = [0i32; 2];
+    let amounts = Scaled::<i32>::new(STANDARD, b'.', 2);
+    let read = read_scaled_list_piece(b"1.25, -3", 0, amounts, COMMAS, false, &mut cents);
+    assert_eq!(rt; (read.count, read.end), (1, PieceEnd::More(6)));
+    let read = read_scaled_list_piece(b"1.25, -3", 0, amounts, COMMAS, true, &mut cents);
+    assert_eq!(rt; (read.count, read.end), (2, PieceEnd::Over(8)));
+    assert_eq!(rt; cents, [125, -300]);
+}
+
+/// Shows `read_list_piece_of`.
+#[test]
+fn numbers_by_a_form(rt: HostRuntime) {
+    let mut out = [Number::Float(0.0); 3];
+    let read = read_list_piece_of::<f64>(b"-2.5e3, 12", 0, forms::JSON, COMMAS, false, &mut out);
+    assert_eq!(rt; (read.count, read.end), (1, PieceEnd::More(8)));
+    assert_eq!(rt; out[0], Number::Float(-2500.0));
+}
+
+/// Shows `read_piece`.
+#[test]
+fn numbers_of_a_kind(rt: HostRuntime) {
+    let kind = Floats::<f64>::new(STANDARD);
+    let mut out = [0.0; 3];
+    let read = read_piece(kind, b"1.5,-2", 0, COMMAS, false, &mut out);
+    assert_eq!(rt; (read.count, read.end), (1, PieceEnd::More(4)));
+    // the bytes from 4 on come again, before those of the next block
+    let read = read_piece(kind, b"-2e3", 0, COMMAS, true, &mut out);
+    assert_eq!(rt; (read.count, read.end), (1, PieceEnd::Over(4)));
+    assert_eq!(rt; out[0], -2000.0);
+}
+
+/// Shows `sure_end`.
+#[test]
+fn what_no_later_byte_changes(rt: HostRuntime) {
+    let kind = Floats::<f64>::new(STANDARD);
+    assert_eq!(rt; sure_end(kind, b"1.5,-2"), 4);
+    assert_eq!(rt; sure_end(kind, b"12"), 0);
+    assert_eq!(rt; sure_end(kind, b"1 2 "), 4);
+}
+
+/// Shows `Both`.
+#[test]
+fn two_numbers_as_one(rt: HostRuntime) {
+    let side = Integers::<u16>::new(STANDARD);
+    let size = Both {
+        first: side,
+        between: b'x',
+        second: side,
+    };
+    let mut sizes = [(0, 0); 2];
+    let read = read_piece(size, b"640x480, 800x600", 0, COMMAS, true, &mut sizes);
+    assert_eq!(rt; (read.count, read.end), (2, PieceEnd::Over(16)));
+    assert_eq!(rt; sizes, [(640, 480), (800, 600)]);
+}
+
+/// Shows `NumberReader`.
+#[test]
+fn a_stream(rt: HostRuntime) {
+    let mut buffer = [0; 64];
+    let kind = Floats::<f64>::new(STANDARD);
+    let stream = b"1.5\n-2e3\n".as_slice();
+    let mut numbers = NumberReader::new(stream, &mut buffer, kind, LINES);
+    assert_eq!(rt; numbers.next_number(), Some(Ok(1.5)));
+    assert_eq!(rt; numbers.next_number(), Some(Ok(-2000.0)));
+    assert_eq!(rt; numbers.next_number(), None);
+    assert_eq!(rt; numbers.finish(), Ok(()));
+}
+
+/// Shows `NumberReader`, `NumberReader::finish`.
+#[test]
+fn what_follows_a_stream(rt: HostRuntime) {
+    let mut buffer = [0; 64];
+    let kind = Integers::<u64>::new(STANDARD);
+    let stream = b"1\nx".as_slice();
+    let mut numbers = NumberReader::new(stream, &mut buffer, kind, LINES);
+    assert_eq!(rt; numbers.next_number(), Some(Ok(1)));
+    assert_eq!(rt; numbers.next_number(), None);
+    assert_eq!(rt; numbers.finish(), Err(StreamError::Trailing(2)));
+}
+
+/// Shows `NumberReader::read_into`, `NumberReader::position`, `NumberReader::unread`.
+#[test]
+fn a_stream_into_a_slice(rt: HostRuntime) {
+    let mut buffer = [0; 64];
+    let kind = Integers::<u64>::new(STANDARD);
+    let stream = b"1,2;3".as_slice();
+    let mut numbers = NumberReader::new(stream, &mut buffer, kind, COMMAS);
+    let mut out = [0; 4];
+    let read = numbers.read_into(&mut out);
+    assert_eq!(rt; (read.count, read.end), (2, StreamEnd::Over(3)));
+    assert_eq!(rt; out, [1, 2, 0, 0]);
+    assert_eq!(rt; numbers.position(), 3);
+    assert_eq!(rt; numbers.unread(), b";3".as_slice());
+}

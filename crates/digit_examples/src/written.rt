@@ -1,0 +1,105 @@
+//! Numbers that are written. Each call writes to the front of a slice.
+
+use digits::{
+    FloatLayout, FloatTextError, Layout, MOST_ROOM, NoRoom, write_exponent, write_fixed,
+    write_float, write_number, write_number_by, write_plain, write_price, write_scaled,
+    write_usual,
+};
+
+/// Shows `write_number`.
+#[test]
+fn an_integer(rt: HostRuntime) {
+    let mut out = [0; MOST_ROOM];
+    assert_eq!(rt; write_number(-128i8, &mut out), 4);
+    assert!(rt; out.starts_with(b"-128"));
+}
+
+/// Shows `write_number_by`, `Layout::decimal`, `Layout::grouped`.
+#[test]
+fn an_integer_in_groups(rt: HostRuntime) {
+    let mut out = [0; 16];
+    let thousands = Layout::decimal().grouped(b',', 3).expect(&rt, "a layout");
+    assert_eq!(rt; write_number_by(-1234567, thousands, &mut out), Ok(10));
+    assert!(rt; out.starts_with(b"-1,234,567"));
+    assert_eq!(rt;
+        write_number_by(1234567, thousands, &mut out[..8]),
+        Err(NoRoom { needed: 9 })
+    );
+}
+
+/// Shows `Layout::of_radix`, `Layout::with_digits`, `Layout::in_upper_case`, `Layout::with_plus`.
+#[test]
+fn other_layouts(rt: HostRuntime) {
+    let mut out = [0; 16];
+    let hex = Layout::of_radix(16).expect(&rt, "a layout");
+    let layout = hex.with_digits(4).in_upper_case();
+    assert_eq!(rt; write_number_by(255, layout, &mut out), Ok(4));
+    assert!(rt; out.starts_with(b"00FF"));
+    assert_eq!(rt;
+        write_number_by(5, Layout::decimal().with_plus(), &mut out),
+        Ok(2)
+    );
+    assert!(rt; out.starts_with(b"+5"));
+    assert_eq!(rt; Layout::of_radix(37), None);
+}
+
+/// Shows `write_scaled`.
+#[test]
+fn an_amount(rt: HostRuntime) {
+    let mut out = [0; 16];
+    assert_eq!(rt; write_scaled(-1250i64, b'.', 2, &mut out), Ok(6));
+    assert!(rt; out.starts_with(b"-12.50"));
+}
+
+/// Shows `write_price`.
+#[test]
+fn a_price(rt: HostRuntime) {
+    let mut out = [0; 16];
+    assert_eq!(rt; write_price(123450i64, b'.', 2, b',', &mut out), Ok(8));
+    assert!(rt; out.starts_with(b"1,234.50"));
+}
+
+/// Shows `write_float`.
+#[test]
+fn a_float(rt: HostRuntime) {
+    let mut out = [0; 32];
+    assert_eq!(rt; write_float(0.1, FloatLayout::Usual, &mut out), Ok(3));
+    assert!(rt; out.starts_with(b"0.1"));
+    assert_eq!(rt; write_float(-12000.0, FloatLayout::Plain, &mut out), Ok(6));
+    assert!(rt; out.starts_with(b"-12000"));
+    assert_eq!(rt;
+        write_float(-12000.0, FloatLayout::Exponent, &mut out),
+        Ok(6)
+    );
+    assert!(rt; out.starts_with(b"-1.2e4"));
+    assert_eq!(rt; write_float(-12000.0, FloatLayout::Usual, &mut out), Ok(8));
+    assert!(rt; out.starts_with(b"-12000.0"));
+    assert_eq!(rt; write_float(-0.0, FloatLayout::Exponent, &mut out), Ok(4));
+    assert!(rt; out.starts_with(b"-0e0"));
+    assert_eq!(rt;
+        write_float(f64::INFINITY, FloatLayout::Usual, &mut out),
+        Err(FloatTextError::Infinite)
+    );
+}
+
+/// Shows `write_fixed`.
+#[test]
+fn a_float_with_two_places(rt: HostRuntime) {
+    let mut out = [0; 32];
+    // the float 2.675 is a little below it
+    assert_eq!(rt; write_fixed(2.675, 2, &mut out), Ok(4));
+    assert!(rt; out.starts_with(b"2.67"));
+}
+
+/// Shows `write_plain`, `write_exponent`, `write_usual`.
+#[test]
+fn a_decimal_in_each_layout(rt: HostRuntime) {
+    // 12 times ten to the power of 3
+    let mut out = [0; 16];
+    assert_eq!(rt; write_plain(false, 12, 3, &mut out), Ok(5));
+    assert!(rt; out.starts_with(b"12000"));
+    assert_eq!(rt; write_exponent(false, 12, 3, &mut out), Ok(5));
+    assert!(rt; out.starts_with(b"1.2e4"));
+    assert_eq!(rt; write_usual(false, 12, 3, &mut out), Ok(7));
+    assert!(rt; out.starts_with(b"12000.0"));
+}
