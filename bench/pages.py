@@ -146,16 +146,20 @@ def summary(cases):
         return most_of(cases, form, "Constant")
 
     return f"""\
-**You gain** most with integers: beside the best other reader that does the same work, a `u64` \
-takes {to_peers("u64")} times its instructions (`from_chars`), in groups as `1_234_567` \
-{to_peers("grouped")} (lexical-core), an `i32` with signs {to_peers("i32")} (std), a float \
-{to_peers("f64")} (fast_float, simdjson), a number of JSON {to_peers("JSON")} (simdjson).
+**You gain** most with a text that is one number, beside the best other reader that does the same \
+work. A `u64` takes {to_peers("u64")} times its instructions (`from_chars`), and \
+{to_peers("u64", "library, within a text")} times by `read_integer`, which also answers where the \
+number ends. In groups as `1_234_567` it takes {to_peers("grouped")} times (lexical-core). An `i32` with signs takes {to_peers("i32")} times \
+those of std, a float {to_peers("f64")} (fast_float, simdjson), a number of JSON \
+{to_peers("JSON")} (simdjson).
 
-**You lose** in four cases. Floats in groups take up to {most_to_std("x:")} times the instructions \
-that std takes for the same text without separators. Runs of dropped separators take up to \
-{most_to_original("e:")} times lexical-util's, and letters between digits {most_to_original("k:")} \
-times. Numbers through a `Bytes`, by a word that only run time knows, take up to \
-{most_of(cases, "", "Library")} times lexical-util's with a constant word.
+**You lose** in these cases. Floats in groups take up to {most_to_std("x:")} times the \
+instructions that std takes for the same text without separators. The others are beside \
+lexical-util. Digits of a `Bytes`, the cursor that iterators share, that you lend to a function \
+take up to {most_to_original("i:")} times, runs of dropped separators {most_to_original("e:")}, \
+binary integers {most_to_original("y:")}, letters between digits {most_to_original("k:")}, short \
+numbers with a `Bytes` each {most_to_original("f:")}. A `Bytes` by a word that only run time knows \
+takes up to {most_of(cases, "", "Library")} times what lexical-util takes with a constant word.
 
 {times()} [SPEED](docs/SPEED.md) has each row, and how to call it so that it is fast."""
 

@@ -90,8 +90,8 @@ def peers():
     counts, times = Figures("counts.txt"), Figures("times.txt")
     head = ["What is read", "Library", "to the best peer", "to one that does less"]
     body = [cells(row, sides) for row, sides in counts.rows.items()]
-    words = ("Instructions for a number with a constant word; their ratio to the best peer that "
-             "does the same work, and that does less")
+    words = ("Instructions for one number that is a whole text, with a constant word, or by "
+             "`forms::JSON`; their ratio to the best peer that does the same work, and that does less")
     if times.rows:
         head.append("time")
         words += ("; the ratio of the time to the fastest that does the same work, the greater "
@@ -124,11 +124,11 @@ def ahead(rows):
             "time, divided by theirs." if told else "By time, no reader that does less is ahead.")
 
 
-def span(start):
-    """The least and the greatest ratio to the best peer that does the same work, in the rows whose
-    names begin so."""
+def span(start, side=LIBRARY):
+    """The least and the greatest ratio of a side to the best peer that does the same work, in the rows
+    whose names begin so."""
     counts = Figures("counts.txt").rows
-    ratios = [sides[LIBRARY][0] / best(row, sides, lambda it: it[0], False)[0]
+    ratios = [sides[side][0] / best(row, sides, lambda it: it[0], False)[0]
               for row, sides in counts.items() if row.startswith(start)]
     least, most = f"{min(ratios):.1f}", f"{max(ratios):.1f}"
     return most if least == most else f"{least} to {most}"
