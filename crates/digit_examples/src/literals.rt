@@ -12,7 +12,7 @@ fn a_literal(rt: HostRuntime) {
     let mask = Literal {
         value: 255,
         word: RUST_HEX_LITERAL,
-        digits: 2,
+        digits: 2, // where its digits begin, after `0x`
         end: 5,
     };
     assert_eq!(rt; read_literal(b"0xff_u8", 0, RUST, 255), Ok(mask));
