@@ -50,7 +50,8 @@ point_bytes (suc more) n =
     (digit_bytes (number_text (n / 10 ^ suc more)) (number_are (n / 10 ^ suc more)))
     (refl, digit_bytes (last_digits (suc more) n) (last_are (suc more) n))
 
-pub exponent_bytes : (down : Bool) (ds : List ℕ) → AllDigits 10 ds → AreBytes (std.exponent_text down ds)
+pub exponent_bytes : (down : Bool) (ds : List ℕ) → AllDigits 10 ds
+    → AreBytes (std.exponent_text down ds)
 exponent_bytes down [] are = tt
 exponent_bytes down (d ∷ ds) are =
     (refl, both (sign_text down) (d ∷ ds) (sign_bytes down) (digit_bytes (d ∷ ds) are))
@@ -93,7 +94,8 @@ none rule (Some byte) ten minus point mark is =
     apart rule.separator byte minus point mark (sym (same_digit rule byte ten) ∙ other) is)
 
 -- no position of a text of these bytes holds a separator
-pub plain : (word : ℕ) → IsOfFloats word → (text : List ℕ) → AreBytes text → HasNoSeparator word text
+pub plain : (word : ℕ) → IsOfFloats word → (text : List ℕ) → AreBytes text
+    → HasNoSeparator word text
 unfolding holds_separator
 plain word of text are Integer q =
     none (rule_of word Integer) (slice_get text q) of.decimal.0 of.minus of.point of.mark

@@ -1,6 +1,6 @@
 -- Numbers with a fixed number of places.
 use Rattle.std.proofs.Common.{◌≡◌, ℕ, ℤ, zero, suc, ◌+◌, ◌-◌, ◌*◌, ◌/◌, ◌%◌, ◌^◌, ◌<◌, ◌≤◌, Bool, true, List, [], ◌∷◌, ◌++◌, length, take, drop, get_or, refl, sym, ap, subst, ◌∙◌, inl, inr, arith, lit<, replicate, append_assoc, append-nil, length-append}
-use Rattle.std.specs.Prelude.{pos, neg_ℤ, max, nat_lt, Ok, Err}
+use Rattle.std.specs.Prelude.{pos, neg_ℤ, max, nat_lt}
 use Rattle.std.specs.Float.{Float, nan, inf, fin}
 use Rattle.std.specs.Float.Ieee.{up, down}
 use Rattle.std.specs.Fmt.{sign_text}
@@ -164,7 +164,8 @@ module _ (n dropped fraction zeros : ℕ) where
       → drop point three ≡ point_of (fraction + zeros) ++ drop (end - (fraction + zeros)) two
       → drop (point - whole) four ≡ last_digits whole
       (n / 10 ^ (dropped + fraction)) ++ drop point three
-      → drop (point - whole) four ≡ with_point (fraction + zeros) (rest * 10 ^ zeros) ++ drop end old
+      → drop (point - whole) four
+      ≡ with_point (fraction + zeros) (rest * 10 ^ zeros) ++ drop end old
   text_put whole point end one two three four old count is_zeros is_fraction is_point is_whole =
       let place : end - (fraction + zeros) ≡ end - zeros - fraction = omega arith in
       let numerals : last_digits whole (n / 10 ^ (dropped + fraction)) ≡ number_text

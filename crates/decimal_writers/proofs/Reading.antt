@@ -145,7 +145,8 @@ module _ (word : ℕ) (of : IsOfFloats word) where
         → parse_at word (text z) plain_marks f 0 ≡ Ok (nearest_of f negative digits power)
     reads_power (pos a) (pos k) e few =
         let sum : k ≡ a + places = omega (arith, ints, e) in
-        let tens : 10 ^ k ≡ 10 ^ a * 10 ^ places = ap (λ (x : ℕ). 10 ^ x) sum ∙ pow-add 10 a places in
+        let tens : 10 ^ k ≡ 10 ^ a * 10 ^ places = ap (λ (x : ℕ). 10 ^ x) sum
+        ∙ pow-add 10 a places in
         let cross : digits * 10 ^ k * 10 ^ 0 ≡ digits * 10 ^ a * 10 ^ places =
         omega (arith, ap (λ (x : ℕ). digits * x) tens, mul_assoc digits (10 ^ a) (10 ^ places)) in
         reads_up k few
@@ -223,7 +224,10 @@ module _ (negative : Bool) (digits : ℕ) (power : ℤ) (old new : List ℕ)
 
   pub plain_read : Writes (plain_text negative digits power) old new result
       → IfOk result (λ n. Reads negative digits power (take n new))
-  plain_read = reads_text _ (record { is = λ f. plain_reads STANDARD standard f negative digits power })
+  plain_read =
+      reads_text _ (record {
+        is = λ f. plain_reads STANDARD standard f negative digits power;
+      })
 
   module _ (few : digits < 2 ^ 64) (fits : FitsSigned w32 power) where
     pub exponent_read : Writes (exponent_text negative digits power) old new result
@@ -231,7 +235,9 @@ module _ (negative : Bool) (digits : ℕ) (power : ℤ) (old new : List ℕ)
     exponent_read =
         reads_text _ (record {
           is =
-              λ f. exponent_reads STANDARD standard f negative digits power (first_few digits power few fits);
+              λ f.
+              exponent_reads STANDARD standard f negative digits power
+              (first_few digits power few fits);
         })
 
     pub usual_read : Writes (usual_text negative digits power) old new result
@@ -239,7 +245,9 @@ module _ (negative : Bool) (digits : ℕ) (power : ℤ) (old new : List ℕ)
     usual_read =
         reads_text _ (record {
           is =
-              λ f. usual_reads STANDARD standard f negative digits power (first_few digits power few fits);
+              λ f.
+              usual_reads STANDARD standard f negative digits power
+              (first_few digits power few fits);
         })
 
 pub ruleset reads = (plain_read, exponent_read, usual_read)

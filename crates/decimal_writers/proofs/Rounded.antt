@@ -1,5 +1,5 @@
 -- A number rounded to one digit and so many places.
-use Rattle.std.proofs.Common.{◌≡◌, ℕ, ℤ, zero, suc, ◌+◌, ◌-◌, ◌*◌, ◌/◌, ◌^◌, ◌<◌, ◌≤◌, Bool, true, false, List, [], ◌++◌, length, take, refl, sym, ap, subst, ◌∙◌, inl, inr, arith}
+use Rattle.std.proofs.Common.{◌≡◌, ℕ, ℤ, zero, suc, ◌+◌, ◌-◌, ◌*◌, ◌/◌, ◌^◌, ◌<◌, ◌≤◌, Bool, true, false, List, ◌++◌, take, refl, sym, ap, subst, ◌∙◌, inl, inr, arith}
 use Rattle.std.specs.Prelude.{pos, ◌+ℤ◌, ◌-ℤ◌, negsuc, ◌==◌, if◌then◌else◌}
 use Rattle.std.specs.Float.{Float, nan, inf, fin}
 use Rattle.std.specs.Float.Ieee.{up, down}
@@ -94,7 +94,8 @@ rounded_same places a b c d z pos_b pos_d e some is =
           let nothing : a ≡ 0 = omega (arith, none) in
           absurd (omega (arith, both, back, ap (λ (x : ℕ). x * d) nothing))
     ] in
-    rounded_some places a b z above (first_by a b z pos_b (first_same c d a b z pos_d pos_b back is))
+    rounded_some places a b z above
+    (first_by a b z pos_b (first_same c d a b z pos_d pos_b back is))
     ∙ ap (λ (x : ℕ). carried places x z) (units_same a b c d (z -ℤ pos places) pos_b pos_d e)
     ∙ sym (rounded_some places c d z some (first_by c d z pos_d is))
 
@@ -223,7 +224,8 @@ module _ (old new : List ℕ) (len after places dropped : ℕ)
       let one : 10 ^ places ≡ w / 10 ^ (after - (places + 1)) * 10 ^ 0 = omega (arith, digits) in
       let power : z +ℤ pos 1 ≡ pos after -ℤ pos (p + 1) = omega (arith, ints, next) in
       begun ∙ more places (w / 10 ^ dropped) z all
-      ∙ pair (10 ^ places) (w / 10 ^ (after - (places + 1)) * 10 ^ 0) (z +ℤ pos 1) (power_of after p)
+      ∙ pair (10 ^ places) (w / 10 ^ (after - (places + 1)) * 10 ^ 0) (z +ℤ pos 1)
+      (power_of after p)
       one (power ∙ sym (power_is after p (omega (arith, next))))
 
   pub many_are : len ≤ after → after ≤ len + 1

@@ -1,6 +1,6 @@
 //! Floats with a fixed number of places.
 
-ghost use Rattle.std.specs.Prelude.{◌≡◌, pos, neg_ℤ, ◌+◌, ◌-◌, ◌*◌, ◌/◌, ◌^◌, ◌<◌, ◌≤◌, ◌++◌, IsTrue, length, take, drop};
+ghost use Rattle.std.specs.Prelude.{◌≡◌, pos, neg_ℤ, ◌+◌, ◌-◌, ◌/◌, ◌^◌, ◌<◌, ◌≤◌, ◌++◌, IsTrue, length, take};
 ghost use Rattle.std.specs.Float.{float_is_finite};
 ghost use Rattle.std.specs.Fmt.{sign_text};
 ghost use lib.Ieee.Nearest.{closest};

@@ -1,6 +1,6 @@
 //! Floats with one digit before the point, a fixed number of places, and an exponent.
 
-ghost use Rattle.std.specs.Prelude.{◌≡◌, ℕ, ◌+◌, ◌*◌, ◌/◌, ◌^◌, ◌<◌, ◌≤◌, ◌++◌, IsTrue, length, take};
+ghost use Rattle.std.specs.Prelude.{◌≡◌, ℕ, ◌+◌, ◌^◌, ◌<◌, ◌≤◌, ◌++◌, IsTrue, length, take};
 ghost use Rattle.std.specs.Float.{float_is_finite};
 ghost use Rattle.std.specs.Fmt.{sign_text};
 ghost use Rattle.decimal_writers.specs.Big.{value_of, IsBig};

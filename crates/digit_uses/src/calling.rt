@@ -2,17 +2,18 @@
 #![tactic(auto, unfolding(digits::proofs::Literals::lexical_on_literals))]
 
 ghost use Rattle.std.specs.Prelude.{◌≡◌, ℕ, ◌+◌, ◌-◌, ◌^◌, ◌<◌, ◌≤◌, length, pos, Ok, Err, IfOk, IfErr, IfSome, IsTrue, MatchResult, true};
+ghost use Rattle.std.specs.Float.{float_is_finite};
 ghost use Rattle.digits.specs.Words.{Fills, Integer, binary64, digits_between, has_byte, integer_at, is_supported, list_at, literal_at, literal_none_at, number_at, number_of_at, parse_at, plain_marks, rule_of, stop, to_end};
 
 use digits::languages::RUST;
 use digits::words::PYTHON_LITERAL;
 use digits::{
-    Both, BothError, COMMAS, Component, DECIMAL, DigitSeparatorFlags, FloatError, Floats, Form,
-    INTEGER_INTERNAL_DIGIT_SEPARATOR, Integers, LINES, LanguageError, ListRead, Literal,
-    LiteralError, NO_FLAGS, NumberError, NumberFormatBuilder, NumberReader, ParseError, PieceRead,
-    Rule, STANDARD, StreamError, expect_byte, forms, is_supported, parse_float, parse_number,
-    read_integer_from, read_list, read_literal, read_number, read_number_from, read_number_of,
-    read_piece, stop_from,
+    Both, BothError, COMMAS, Component, DECIMAL, DigitSeparatorFlags, FLOAT_ROOM, FloatError,
+    FloatLayout, Floats, Form, INTEGER_INTERNAL_DIGIT_SEPARATOR, Integers, LINES, LanguageError,
+    ListRead, Literal, LiteralError, NO_FLAGS, NumberError, NumberFormatBuilder, NumberReader,
+    ParseError, PieceRead, Rule, STANDARD, StreamError, expect_byte, forms, is_supported,
+    parse_float, parse_number, read_integer_from, read_list, read_literal, read_number,
+    read_number_from, read_number_of, read_piece, stop_from, write_float,
 };
 use std::alloc::{AllocError, Global};
 use std::io::Read;
@@ -83,6 +84,21 @@ pub fn read_percent(line: &[u8], start: usize) -> Result<(u8, usize), PercentErr
         Ok((percent, end)) => Ok((percent as u8, end)),
         Err(LiteralError::Empty(at)) => Err(PercentError::NoDigit(at)),
         Err(LiteralError::Overflow(at)) => Err(PercentError::Above100(at)),
+    }
+}
+
+/// A float that was written and is read again: the same, bit by bit.
+pub fn write_and_read(x: f64) -> f64
+    requires { IsTrue (float_is_finite x) }
+    ensures { result ≡ x }
+{
+    let mut out = [0; FLOAT_ROOM];
+    match write_float(x, FloatLayout::Usual, &mut out) {
+        Ok(len) => match parse_float::<f64>(&out[..len], STANDARD) {
+            Ok(read) => read,
+            Err(_) => unreachable!(),
+        },
+        Err(_) => unreachable!(),
     }
 }
 

@@ -8,3 +8,5 @@ pub use Rattle.digit_literals.specs.declared.bytes.TheConstants.{BLANKS}
 pub use Rattle.digit_literals.specs.declared.list.TheConstants.{COMMAS, COMMAS_IN_LINE, LINES}
 pub use Rattle.digit_literals.specs.declared.list.TheConstants.{SPACES_IN_LINE, WHITESPACE}
 pub use Rattle.digit_writers.specs.declared.types.TheConstants.{MOST_ROOM}
+pub use Rattle.decimal_writers.specs.declared.room.TheConstants.{FLOAT_ROOM}
+pub use Rattle.float_writers.specs.declared.write.TheConstants.{PLAIN_ROOM}

@@ -84,11 +84,15 @@ pub use Rattle.digit_lists.specs.Groups.{AreGroups, groups_at, wrong_at}
 pub use Rattle.digit_lists.specs.Prices.{exact_at, grouped_at, places_at, price_at}
 pub use Rattle.digit_lists.specs.Prices.{price_is_empty, price_none_at, price_position}
 -- numbers that are written
+pub use Rattle.decimal_writers.specs.declared.exponent.ExponentText.{ExponentText}
 pub use Rattle.decimal_writers.specs.declared.room.NoRoom.{NoRoom}
+pub use Rattle.decimal_writers.specs.Fixed.{fixed_text}
 pub use Rattle.decimal_writers.specs.Room.{Writes}
+pub use Rattle.decimal_writers.specs.Scientific.{mark_text, rounded, scientific_text}
+pub use Rattle.decimal_writers.specs.Value.{IsOfFloats}
 pub use Rattle.digit_writers.specs.declared.layout.Layout.{Layout}
 pub use Rattle.digit_writers.specs.Layouts.{IsReadBy, laid_out}
 pub use Rattle.digit_writers.specs.Written.{IsOfRadix, IsShortest, Reads}
 pub use Rattle.float_writers.specs.declared.write.FloatLayout.{FloatLayout}
 pub use Rattle.float_writers.specs.declared.write.FloatTextError.{FloatTextError}
-pub use Rattle.float_writers.specs.Write.{IsReason, IsTextOf, text_of}
+pub use Rattle.float_writers.specs.Write.{HasRoom, IsReason, IsTextOf, text_of}

@@ -5,10 +5,13 @@
 //! A crate that depends on this one needs none of those below it.
 #![tactic(auto)]
 
+pub use decimal_writers::ExponentText;
+pub use decimal_writers::FLOAT_ROOM;
 pub use decimal_writers::NoRoom;
 pub use decimal_writers::write_exponent;
 pub use decimal_writers::write_fixed;
 pub use decimal_writers::write_plain;
+pub use decimal_writers::write_scientific;
 pub use decimal_writers::write_usual;
 pub use digit_floats::Decimal;
 pub use digit_floats::Float;
@@ -141,6 +144,7 @@ pub use digit_writers::write_scaled;
 pub use float_writers::AnyFloat;
 pub use float_writers::FloatLayout;
 pub use float_writers::FloatTextError;
+pub use float_writers::PLAIN_ROOM;
 pub use float_writers::WrittenFloat;
 pub use float_writers::write_float;
 pub use lexical_digits::ops::ByteSet;

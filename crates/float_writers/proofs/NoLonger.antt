@@ -1,10 +1,9 @@
 -- What is written of a float has no more digits than a text that is read as it.
 use Rattle.std.proofs.Common.{◌≡◌, ℕ, ℤ, zero, suc, ◌+◌, ◌*◌, ◌^◌, ◌<◌, Bool, true, false, List, length, refl, sym, ap, ◌∙◌, arith}
 use Rattle.std.specs.Prelude.{Result, Ok, Err, pos, negsuc, ◌-ℤ◌, ◌==◌, if◌then◌else◌}
-use Rattle.std.specs.Float.{Float, Format, nan, inf, fin, float_with_sign}
+use Rattle.std.specs.Float.{Float, Format, inf, float_with_sign}
 use Rattle.std.specs.Float.Numeral.{numeral_digits, tens_up, tens_down}
 use Rattle.std.proofs.lemmas.Int.{ints}
-use native.Mathlib.Nat.{mul_assoc}
 use mathlib.Core.Bool.{cond}
 use lib.Dec.{ltb}
 use lib.Ieee.{round, units, odd, prec, low, emax}
@@ -16,7 +15,6 @@ use Rattle.digit_floats.specs.Float.{plain_marks, past_sign, parts_at, float_at,
 use Rattle.digit_floats.specs.declared.error.FloatError.{FloatError}
 use Rattle.digit_floats.specs.declared.error.FloatError.TheVariants.{Invalid}
 use Rattle.decimal_writers.specs.Text.{units_of, places_of}
-use Rattle.float_writers.specs.Decimals.{Reads}
 use Rattle.float_writers.specs.Write.{IsTextOf}
 use Rattle.float_writers.specs.declared.write.FloatLayout.{FloatLayout}
 use Rattle.float_writers.proofs.Fewest.{ten_pos}

@@ -1,5 +1,5 @@
 -- The laws of what is written.
-use Rattle.std.proofs.Common.{◌≡◌, ℕ, ℤ, suc, ◌+◌, ◌-◌, ◌*◌, ◌^◌, ◌<◌, ◌≤◌, Bool, true, List, ◌++◌, length, take, drop, refl, sym, ap, subst, ◌∙◌, arith, unsigned_abs}
+use Rattle.std.proofs.Common.{◌≡◌, ℕ, ℤ, ◌-◌, ◌^◌, ◌<◌, ◌≤◌, Bool, true, List, length, sym, ap, subst, ◌∙◌, arith, unsigned_abs}
 use Rattle.std.specs.Prelude.{Result, Ok, IsTrue, IfErr, pos, negsuc, ◌≤ℤ◌}
 use Rattle.std.specs.Float.{Float, Format, nan, inf, fin, float_is_finite, float_is_infinite, is_sign_negative}
 use Rattle.std.proofs.lemmas.Int.{ints}

@@ -1,5 +1,5 @@
 -- Two floats that are the same.
-use Rattle.std.proofs.Common.{◌≡◌, ℕ, Bool, true, false, T, not, refl, sym, ap, ◌∙◌, true≢false}
+use Rattle.std.proofs.Common.{◌≡◌, true, false, T, not, refl, sym, ap, ◌∙◌, true≢false}
 use Rattle.std.specs.Float.{Float, Format, nan, inf, fin}
 use lib.Ieee.{fits, is_nan, of_bits, to_bits}
 use lib.Ieee.Bits.{of_bits-to_bits}

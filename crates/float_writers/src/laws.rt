@@ -10,8 +10,8 @@ ghost use Rattle.float_writers.specs.declared.write.FloatLayout.{FloatLayout};
 
 /// What [`write_float`](crate::write_float) writes of a float in a layout is read as this float by
 /// each word of floats (`read`). So two floats with one text are one, in whatever layouts (`one`).
-/// A text that is read as the float has no fewer significant digits (`no_longer`): to write what was
-/// read makes no more of them.
+/// A text that is read as the float has no fewer significant digits (`no_longer`): to write what
+/// was read makes no more of them.
 pub fn floats_are_read_back()
     ensures read { (f : Format) (x : Float) (layout : FloatLayout) (word : ℕ) (text : List ℕ) →
         IsOfFloats word → IsTextOf f x layout text →

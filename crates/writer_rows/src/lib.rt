@@ -1,6 +1,7 @@
 //! The calls that `bench/writers` makes, as a C library.
 #![tactic(auto)]
 
+use decimal_writers::{ExponentText, write_fixed, write_scientific};
 use float_writers::{WrittenFloat, shortest};
 
 /// A float's shortest decimal; no digits where there is none.
@@ -49,4 +50,28 @@ pub extern "C" fn writer_all(xs: &[f64], out: &mut Written) {
         power = power.wrapping_add(one.power);
     }
     *out = Written { digits, power };
+}
+
+/// Writes a float as C's `%.*e` does, and answers the length; 0 where there is no text.
+#[unsafe(no_mangle)]
+pub extern "C" fn writer_scientific(x: f64, places: u32, out: &mut [u8]) -> usize {
+    if !x.is_finite() {
+        return 0;
+    }
+    match write_scientific(x, places, ExponentText::Signed, out) {
+        Ok(len) => len,
+        Err(_) => 0,
+    }
+}
+
+/// The same as C's `%.*f`.
+#[unsafe(no_mangle)]
+pub extern "C" fn writer_fixed(x: f64, places: u32, out: &mut [u8]) -> usize {
+    if !x.is_finite() {
+        return 0;
+    }
+    match write_fixed(x, places, out) {
+        Ok(len) => len,
+        Err(_) => 0,
+    }
 }

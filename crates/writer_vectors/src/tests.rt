@@ -2,4 +2,5 @@
 
 mod decimals;
 mod integers;
+mod scientific;
 mod texts;

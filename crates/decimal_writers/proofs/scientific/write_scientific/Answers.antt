@@ -1,9 +1,8 @@
-use Rattle.std.proofs.Common.{◌≡◌, ◌+◌, ◌*◌, ◌^◌, ◌++◌, ℕ, ℤ, List, take, sym, subst, ap, ◌∙◌, rules}
+use Rattle.std.proofs.Common.{◌≡◌, ◌+◌, ◌*◌, ◌^◌, ◌++◌, ℕ, ℤ, List, sym, subst, ap, ◌∙◌, rules}
 use Rattle.std.specs.Fmt.{sign_text}
 use Rattle.std.proofs.lemmas.Int.{to_z-of_z}
 use mir.Syntax.{w64}
 use mir.Val.{to_z, of_z, SFits}
-use Rattle.decimal_writers.specs.Big.{value_of}
 use Rattle.decimal_writers.specs.Places.{number_of}
 use Rattle.decimal_writers.specs.Room.{Writes}
 use Rattle.decimal_writers.specs.Scientific.{mark_text, power_of}
