@@ -11,9 +11,9 @@ use digits::{
     Both, BothError, COMMAS, Component, DECIMAL, DigitSeparatorFlags, FLOAT_ROOM, FloatError,
     FloatLayout, Floats, Form, INTEGER_INTERNAL_DIGIT_SEPARATOR, Integers, LINES, LanguageError,
     ListRead, Literal, LiteralError, NO_FLAGS, NumberError, NumberFormatBuilder, NumberReader,
-    ParseError, PieceRead, Rule, STANDARD, StreamError, expect_byte, forms, is_supported,
-    parse_float, parse_number, read_integer_from, read_list, read_literal, read_number,
-    read_number_from, read_number_of, read_piece, stop_from, write_float,
+    ParseError, PieceRead, Rule, STANDARD, StreamError, block_start, end_in_text, expect_byte,
+    forms, is_supported, parse_float, parse_number, read_integer_from, read_list, read_literal,
+    read_number, read_number_from, read_number_of, read_piece, stop_from, write_float,
 };
 use std::alloc::{AllocError, Global};
 use std::io::Read;
@@ -168,6 +168,30 @@ pub fn read_pairs(
         second: side,
     };
     read_piece(point, block, 0, COMMAS, is_last, points)
+}
+
+/// The heights of a block of a text, one in each line, in the front of a slice: how many they are,
+/// and why there are no more, by positions of the text. The block is cut at two positions, which
+/// may be anywhere.
+pub fn read_block(
+    text: &[u8],
+    from: usize,
+    to: usize,
+    heights: &mut [i32],
+) -> Option<PieceRead<LiteralError>>
+    requires order { from ≤ to }
+    requires within { to ≤ length text.now }
+    ensures { IfSome result (λ read. read.count ≤ length heights.old) }
+{
+    let start = block_start(text, from, LINES);
+    let end = block_start(text, to.max(start), LINES);
+    let kind = Integers::<i32>::new(STANDARD);
+    let is_last = end == text.len();
+    let read = read_piece(kind, &text[start..end], 0, LINES, is_last, heights);
+    Some(PieceRead {
+        count: read.count,
+        end: end_in_text::<Integers<i32>>(read.end, start)?,
+    })
 }
 
 /// The digits of the integer that a text begins with, at any length, without its separators.

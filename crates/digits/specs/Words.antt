@@ -69,6 +69,8 @@ pub use Rattle.digit_pieces.specs.Pieces.{FillsPiece, IfAt, and_full, and_more, 
 unfoldable pub use Rattle.digit_pieces.specs.Pieces.{piece_at, whole_at}
 pub use Rattle.digit_pieces.specs.Texts.{IsApart, list_of, piece_of}
 unfoldable pub use Rattle.digit_pieces.specs.Texts.{read_pieces}
+pub use Rattle.digit_blocks.specs.Blocks.{AreStarts, EndsApart, HasNoneAtEnd, HaveRoom, IsStart, as_list, block_of, piece_later, reach}
+unfoldable pub use Rattle.digit_blocks.specs.Blocks.{blocks_at, joined, last_start}
 pub use Rattle.digit_streams.specs.declared.stream.StreamEnd.{StreamEnd}
 pub use Rattle.digit_streams.specs.declared.stream.StreamError.{StreamError}
 pub use Rattle.digit_streams.specs.Streams.{Gives, IsNext, stream_list}

@@ -13,6 +13,8 @@ pub use decimal_writers::write_fixed;
 pub use decimal_writers::write_plain;
 pub use decimal_writers::write_scientific;
 pub use decimal_writers::write_usual;
+pub use digit_blocks::block_start;
+pub use digit_blocks::end_in_text;
 pub use digit_floats::Decimal;
 pub use digit_floats::Float;
 pub use digit_floats::FloatError;

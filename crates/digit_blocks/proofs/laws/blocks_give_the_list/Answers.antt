@@ -1,0 +1,18 @@
+use Rattle.digit_blocks.proofs.Joined.{all_blocks}
+use Rattle.digit_blocks.proofs.laws.blocks_give_the_list.Goals as goal
+
+pub returns : goal.returns
+returns g c =
+    let k = g.K.Kind in
+    let m = g.met.K.Kind in
+    let kind = c.args.kind in
+    λ room whole blocks last apart ends rooms few.
+    all_blocks (k.number_at kind) k.none_at k.error_later (k.has_byte kind) c.args.gap
+    (record {
+      follows = λ text other at start upto from.
+          m.follows kind text other at start c.requires upto from;
+      precedes = λ text from at within fresh.
+          m.precedes kind text from at c.requires within fresh;
+      ends = λ text start end x within is. m.ends kind text start end x c.requires within is;
+      none_later = m.none_later;
+    }) apart room blocks last ends rooms whole few
