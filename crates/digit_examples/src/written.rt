@@ -86,8 +86,10 @@ fn a_float(rt: HostRuntime) {
 #[test]
 fn a_float_with_two_places(rt: HostRuntime) {
     let mut out = [0; 32];
-    // the float 2.675 is a little below it
-    assert_eq!(rt; write_fixed(2.675, 2, &mut out), Ok(4));
+    let x: f64 = 2.675;
+    assert!(rt; x.is_finite());
+    // the float is a little below 2.675
+    assert_eq!(rt; write_fixed(x, 2, &mut out), Ok(4));
     assert!(rt; out.starts_with(b"2.67"));
 }
 
