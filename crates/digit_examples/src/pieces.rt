@@ -2,8 +2,8 @@
 
 use digits::{
     Both, COMMAS, FloatError, Floats, Integers, LINES, Number, NumberReader, PieceEnd, STANDARD,
-    Scaled, StreamEnd, StreamError, forms, read_float_list_piece, read_list_piece,
-    read_list_piece_of, read_piece, read_scaled_list_piece, sure_end,
+    Scaled, StreamEnd, StreamError, block_start, end_in_text, forms, read_float_list_piece,
+    read_list_piece, read_list_piece_of, read_piece, read_scaled_list_piece, sure_end,
 };
 
 /// Shows `read_list_piece`.
@@ -91,6 +91,27 @@ fn two_numbers_as_one(rt: HostRuntime) {
     let read = read_piece(size, b"640x480, 800x600", 0, COMMAS, true, &mut sizes);
     assert_eq!(rt; (read.count, read.end), (2, PieceEnd::Over(16)));
     assert_eq!(rt; sizes, [(640, 480), (800, 600)]);
+}
+
+/// Shows `block_start`.
+#[test]
+fn where_a_text_may_be_cut(rt: HostRuntime) {
+    // 1 is in the midst of 12, which belongs to the block before
+    assert_eq!(rt; block_start(b"12,345,6", 1, COMMAS), 3);
+    assert_eq!(rt; block_start(b"12,345,6", 3, COMMAS), 3);
+    assert_eq!(rt; block_start(b"12,345,6", 7, COMMAS), 7);
+    assert_eq!(rt; block_start(b"12,345,6", 8, COMMAS), 8);
+}
+
+/// Shows `end_in_text`.
+#[test]
+fn an_end_in_the_text(rt: HostRuntime) {
+    // the block begins at 100
+    let end = PieceEnd::Over(4);
+    assert_eq!(rt;
+        end_in_text::<Integers<u64>>(end, 100),
+        Some(PieceEnd::Over(104))
+    );
 }
 
 /// Shows `NumberReader`.

@@ -1,9 +1,9 @@
 //! Numbers that are written. Each call writes to the front of a slice.
 
 use digits::{
-    FloatLayout, FloatTextError, Layout, MOST_ROOM, NoRoom, write_exponent, write_fixed,
-    write_float, write_number, write_number_by, write_plain, write_price, write_scaled,
-    write_usual,
+    ExponentText, FloatLayout, FloatTextError, Layout, MOST_ROOM, NoRoom, write_exponent,
+    write_fixed, write_float, write_number, write_number_by, write_plain, write_price,
+    write_scaled, write_scientific, write_usual,
 };
 
 /// Shows `write_number`.
@@ -86,9 +86,29 @@ fn a_float(rt: HostRuntime) {
 #[test]
 fn a_float_with_two_places(rt: HostRuntime) {
     let mut out = [0; 32];
-    // the float 2.675 is a little below it
-    assert_eq!(rt; write_fixed(2.675, 2, &mut out), Ok(4));
+    let x: f64 = 2.675;
+    assert!(rt; x.is_finite());
+    // the float is a little below 2.675
+    assert_eq!(rt; write_fixed(x, 2, &mut out), Ok(4));
     assert!(rt; out.starts_with(b"2.67"));
+}
+
+/// Shows `write_scientific`.
+#[test]
+fn a_float_with_an_exponent(rt: HostRuntime) {
+    let mut out = [0; 32];
+    let x: f64 = 1234.5;
+    assert!(rt; x.is_finite());
+    assert_eq!(rt;
+        write_scientific(x, 2, ExponentText::Signed, &mut out),
+        Ok(8)
+    );
+    assert!(rt; out.starts_with(b"1.23e+03"));
+    assert_eq!(rt;
+        write_scientific(x, 2, ExponentText::Short, &mut out),
+        Ok(6)
+    );
+    assert!(rt; out.starts_with(b"1.23e3"));
 }
 
 /// Shows `write_plain`, `write_exponent`, `write_usual`.
