@@ -1,9 +1,10 @@
 //! A text that comes in pieces, and a stream.
 
 use digits::{
-    Both, COMMAS, FloatError, Floats, Integers, LINES, Number, NumberReader, PieceEnd, STANDARD,
-    Scaled, StreamEnd, StreamError, block_start, end_in_text, forms, read_float_list_piece,
-    read_list_piece, read_list_piece_of, read_piece, read_scaled_list_piece, sure_end,
+    Both, COMMAS, FloatError, Floats, Integers, LINES, LiteralError, Number, NumberReader,
+    PieceEnd, STANDARD, Scaled, StreamEnd, StreamError, block_start, end_in_text, forms,
+    read_float_list_piece, read_list_piece, read_list_piece_of, read_piece, read_scaled_list_piece,
+    sure_end,
 };
 
 /// Shows `read_list_piece`.
@@ -112,6 +113,9 @@ fn an_end_in_the_text(rt: HostRuntime) {
         end_in_text::<Integers<u64>>(end, 100),
         Some(PieceEnd::Over(104))
     );
+    let end = PieceEnd::Fault(LiteralError::Empty(3));
+    let later = PieceEnd::Fault(LiteralError::Empty(103));
+    assert_eq!(rt; end_in_text::<Integers<u64>>(end, 100), Some(later));
 }
 
 /// Shows `NumberReader`.
