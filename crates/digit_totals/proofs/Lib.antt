@@ -6,6 +6,7 @@ pub mod FirstLine
 pub mod FirstMark
 pub mod Fits
 pub mod FloatOrder
+pub mod FloatTexts
 pub mod InLine
 pub mod ListedLines
 pub mod Meaning

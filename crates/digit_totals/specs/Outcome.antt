@@ -5,7 +5,7 @@ use Rattle.std.specs.Io.KnownBytes.{Appends, Keeps, IsAtEnd}
 use Rattle.std.specs.declared.io.ErrorKind.{ErrorKind}
 use Rattle.std.specs.declared.io.ErrorKind.TheVariants.{Interrupted}
 use Rattle.digit_totals.specs.declared.fault.Fault.{Fault}
-use Rattle.digit_totals.specs.declared.fault.Fault.TheVariants.{Line, Read, Write, Memory, Text}
+use Rattle.digit_totals.specs.declared.fault.Fault.TheVariants.{Line, Read, Write, Memory}
 use Rattle.digit_totals.specs.declared.fault.LineFault.{LineFault}
 use Rattle.digit_totals.specs.declared.options.Column.{Column}
 use Rattle.digit_totals.specs.declared.options.FloatOptions.{FloatOptions}
@@ -64,10 +64,8 @@ pub record Streams : Type 0 where
 abbrev pub EndsAtRead : Streams → ErrorKind → Type 0
 EndsAtRead s kind = (kind ≢ Interrupted) × Keeps s.had s.has
 
--- `IsLine` says which line is written of totals, and `MayDiffer` whether a number's text may not be
--- read as that number.
-module _ {T V : Type 0} (a : Adding T V) (IsLine : T → List ℕ → Type 0)
-    (MayDiffer : Type 0) (s : Streams) where
+-- `IsLine` says which line is written of totals.
+module _ {T V : Type 0} (a : Adding T V) (IsLine : T → List ℕ → Type 0) (s : Streams) where
   -- The input was read to its end, and all of a line of its totals was written.
   pub record WritesTotals : Type 0 where
     pub totals : T
@@ -98,7 +96,6 @@ module _ {T V : Type 0} (a : Adding T V) (IsLine : T → List ℕ → Type 0)
   RunsBy (Err (Read kind)) = EndsAtRead s kind
   RunsBy (Err (Write kind)) = WritesPart
   RunsBy (Err Memory) = Keeps s.had s.has
-  RunsBy (Err Text) = MayDiffer × Keeps s.had s.has
 
 -- a write failed
 abbrev pub IsWriteFault : Fault → Type 0
@@ -123,10 +120,10 @@ EndsWith column had has (Err fault) status =
 
 -- A run, and what is written to the standard error after it.
 pub record ServesBy {T V : Type 0} (a : Adding T V) (IsLine : T → List ℕ → Type 0)
-    (MayDiffer : Type 0) (column : Option Column) (s : Streams)
+    (column : Option Column) (s : Streams)
     (had has : Option (List ℕ)) (status : ℕ) : Type 0 where
   pub answer : Result (Unit {0}) Fault
-  pub runs : RunsBy a IsLine MayDiffer s answer
+  pub runs : RunsBy a IsLine s answer
   pub ends : EndsWith column had has answer status
 
 -- A text is written, and nothing is read; and what is written to the standard error after it.
@@ -140,15 +137,15 @@ pub record ServesHelp (text : List ℕ) (s : Streams) (had has : Option (List �
 -- ---- an exact sum, and a sum of floats
 
 abbrev pub Runs : Options → Streams → Result (Unit {0}) Fault → Type 0
-Runs options = RunsBy (Totals.adding options) (IsLineOf options.kind) ⊥
+Runs options = RunsBy (Totals.adding options) (IsLineOf options.kind)
 
 abbrev pub RunsFloats : FloatOptions → Streams → Result (Unit {0}) Fault → Type 0
-RunsFloats options = RunsBy (Floats.adding options) IsFloatLineOf ⊤
+RunsFloats options = RunsBy (Floats.adding options) IsFloatLineOf
 
 abbrev pub Serves : Options → Streams → (had has : Option (List ℕ)) → ℕ → Type 0
 Serves options =
-    ServesBy (Totals.adding options) (IsLineOf options.kind) ⊥ options.column
+    ServesBy (Totals.adding options) (IsLineOf options.kind) options.column
 
 abbrev pub ServesFloats : FloatOptions → Streams → (had has : Option (List ℕ)) → ℕ → Type 0
 ServesFloats options =
-    ServesBy (Floats.adding options) IsFloatLineOf ⊤ options.column
+    ServesBy (Floats.adding options) IsFloatLineOf options.column

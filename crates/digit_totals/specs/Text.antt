@@ -1,6 +1,6 @@
 -- What is written: the totals, or why there are none.
-use Rattle.std.specs.Prelude.{◌≡◌, ⊤, ℕ, zero, suc, ℤ, ◌-◌, ◌/◌, ◌%◌, ◌^◌, ◌==◌, if◌then◌else◌, List, ◌++◌, length, replicate, Option, None, Some, codes, decimal, unsigned_abs}
-use Rattle.std.specs.Float.{binary64}
+use Rattle.std.specs.Prelude.{◌≡◌, ℕ, zero, suc, ℤ, ◌-◌, ◌/◌, ◌%◌, ◌^◌, ◌==◌, if◌then◌else◌, List, ◌++◌, length, replicate, Option, None, Some, codes, decimal, unsigned_abs}
+use Rattle.std.specs.Float.{binary64, nan, inf, fin}
 use Rattle.std.specs.Float.Ieee.{Float}
 use Rattle.std.specs.Float.Parse.{parse_float}
 use Rattle.std.specs.Fmt.{sign_text, signed_decimal}
@@ -8,10 +8,12 @@ use Rattle.std.specs.Int.{is_negative}
 use Rattle.digit_literals.specs.Errors as integers
 use Rattle.digit_floats.specs.Scaled as decimals
 use Rattle.digit_floats.specs.Errors as floats
+use Rattle.float_writers.specs.Write as writers
+use Rattle.float_writers.specs.declared.write.FloatLayout.TheVariants.{Plain}
 use Rattle.std.specs.declared.io.ErrorKind.{ErrorKind}
 use Rattle.digit_totals.specs.ErrorKinds.{words_of}
 use Rattle.digit_totals.specs.declared.fault.Fault.{Fault}
-use Rattle.digit_totals.specs.declared.fault.Fault.TheVariants.{Line, Read, Write, Memory, Text}
+use Rattle.digit_totals.specs.declared.fault.Fault.TheVariants.{Line, Read, Write, Memory}
 use Rattle.digit_totals.specs.declared.fault.LineFault.{LineFault}
 use Rattle.digit_totals.specs.declared.fault.LineFault.TheVariants.{Number, Sum, LongLine}
 use Rattle.digit_totals.specs.declared.fault.NumberError.{NumberError}
@@ -61,9 +63,17 @@ IsLineOf kind t line = line ≡ line_of kind t
 
 -- ---- the totals of floats
 
--- std's `parse` reads a text as this float
-abbrev pub IsTextOf : Float → List ℕ → Type 0
-IsTextOf x text = parse_float binary64 text ≡ Some x
+-- the shortest text of a number, as Rust's `{}` lays it out: the fewest digits that are read as it,
+-- of these the closest to it; an infinity is `inf` with its sign
+abbrev pub IsShortestText : Float → List ℕ → Type 0
+IsShortestText nan text = text ≡ codes "NaN"
+IsShortestText (inf negative) text = text ≡ sign_text negative ++ codes "inf"
+IsShortestText (fin negative m e) text = writers.IsTextOf binary64 (fin negative m e) Plain text
+
+-- it is that, and std's `parse` reads it as the float
+pub record IsTextOf (x : Float) (text : List ℕ) : Type 0 where
+  pub shortest : IsShortestText x text
+  pub reads : parse_float binary64 text ≡ Some x
 
 -- a text of one of so many floats; of none a `-`
 abbrev pub IsTextOfSome : ℕ → Float → List ℕ → Type 0
@@ -79,12 +89,6 @@ pub record IsFloatLineOf (t : FloatTotals) (line : List ℕ) : Type 0 where
   pub least_is : IsTextOfSome t.count t.least least
   pub greatest_is : IsTextOfSome t.count t.greatest greatest
   pub line_is : line ≡ count_and_sum t.count sum ++ extremes least greatest
-
--- why no line is made; `MayDiffer` says whether a number's text may not be read as that number
-abbrev pub IsLack : Type 0 → Fault → Type 0
-IsLack MayDiffer Memory = ⊤
-IsLack MayDiffer Text = MayDiffer
-IsLack MayDiffer fault = ⊥
 
 -- ---- faults
 
@@ -124,7 +128,6 @@ error_line column (Line fault) = line_fault column fault
 error_line column (Read kind) = failed (codes "read") kind
 error_line column (Write kind) = failed (codes "write") kind
 error_line column Memory = codes "error: out of memory\n"
-error_line column Text = codes "error: a float is not read from its text\n"
 
 abbrev pub status_of : Fault → ℕ
 status_of (Line (Number line error)) = 3
@@ -133,4 +136,3 @@ status_of (Line (LongLine line)) = 5
 status_of (Read kind) = 6
 status_of (Write kind) = 7
 status_of Memory = 8
-status_of Text = 9

@@ -1,13 +1,12 @@
 //! What a run adds up: the numbers of lines, and how they are added.
 
-ghost use Rattle.std.specs.Prelude.{◌≡◌, ◌+◌, ◌^◌, ◌<◌, ◌≤◌, List, ℕ, Option, length, IfOk, IfErr, string_bytes};
+ghost use Rattle.std.specs.Prelude.{◌≡◌, ◌+◌, ◌^◌, ◌<◌, ◌≤◌, List, ℕ, Option, length, IfOk, IfErr};
 ghost use Rattle.digit_totals.specs.declared.options.Column.{Column};
 ghost use Rattle.digit_totals.specs.Report.{Adding, most_bytes, with_value, Leaves, EndsIn};
-ghost use Rattle.digit_totals.specs.Text.{IsLack};
 
-use super::fault::{Fault, LineFault};
+use super::fault::LineFault;
 use super::options::Column;
-use std::alloc::Allocator;
+use std::alloc::{AllocError, Allocator};
 
 /// Totals, and the text of which no line is among them.
 #[derive(Clone, Copy)]
@@ -34,11 +33,8 @@ pub trait Adds: Copy {
     // The column that has the number.
     ghost column_of: { Self → Option Column };
 
-    // The line that is written of totals, and whether a number's text may not be read as that
-    // number.
+    // The line that is written of totals.
     ghost IsLine: { Self → Self.Totals → List ℕ → Type 0 };
-
-    ghost MayDiffer: { Type 0 };
 
     /// The column that has the number. `None`: it is the whole line.
     fn column(self) -> Option<Column>
@@ -82,8 +78,11 @@ pub trait Adds: Copy {
         ensures fault { IfErr result (EndsIn (adding self) totals text.now) };
 
     /// The line of the totals.
-    fn line_of<A: Allocator>(self, alloc: &A, totals: Self::Totals) -> Result<String<&A>, Fault>
+    fn line_of<A: Allocator>(
+        self,
+        alloc: &A,
+        totals: Self::Totals,
+    ) -> Result<Vec<u8, &A>, AllocError>
         requires { valid self }
-        ensures is { IfOk result (λ line. IsLine self totals (string_bytes line)) }
-        ensures fault { IfErr result (IsLack MayDiffer) };
+        ensures { IfOk result (λ line. IsLine self totals line.items) };
 }

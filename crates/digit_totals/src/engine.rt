@@ -27,7 +27,7 @@ pub fn run<K: Adds, A: Allocator, R: Read, W: Write>(
     writer: &mut W,
 ) -> Result<(), Fault>
     requires { K.valid options }
-    ensures { RunsBy (K.adding options) (K.IsLine options) K.MayDiffer (record {
+    ensures { RunsBy (K.adding options) (K.IsLine options) (record {
       input = R.remaining reader.old;
       rest = R.remaining reader.new;
       had = W.contents writer.old;
@@ -38,11 +38,8 @@ pub fn run<K: Adds, A: Allocator, R: Read, W: Write>(
         Ok(totals) => totals,
         Err(fault) => return Err(fault),
     };
-    let line = match options.line_of(alloc, totals) {
-        Ok(line) => line,
-        Err(fault) => return Err(fault),
-    };
-    write_output(writer, line.as_bytes())
+    let line = options.line_of(alloc, totals)?;
+    write_output(writer, line.as_slice())
 }
 
 /// [`run`] of floats.
@@ -123,7 +120,7 @@ pub fn serve<K: Adds, R: Read, W: Write, E: Write>(
     errors: &mut E,
 ) -> u8
     requires { K.valid options }
-    ensures { ServesBy (K.adding options) (K.IsLine options) K.MayDiffer (K.column_of options)
+    ensures { ServesBy (K.adding options) (K.IsLine options) (K.column_of options)
         (record {
           input = R.remaining reader.old;
           rest = R.remaining reader.new;

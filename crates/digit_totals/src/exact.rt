@@ -1,14 +1,14 @@
 //! An exact sum, as what a run adds up.
 
 use super::adds::{Added, Adds};
-use super::fault::{Fault, LineFault};
+use super::fault::LineFault;
 use super::many::add_many;
 use super::options::{Column, Options};
 use super::quick::add_quick;
 use super::text::line_of;
 use super::totals::Totals;
 use super::value::value_of;
-use std::alloc::Allocator;
+use std::alloc::{AllocError, Allocator};
 
 impl Adds for Options {
     ghost use Rattle.std.specs.Prelude.{ℤ};
@@ -27,8 +27,6 @@ impl Adds for Options {
     ghost column_of = { λ options. options.column };
 
     ghost IsLine = { λ options. Text.IsLineOf options.kind };
-
-    ghost MayDiffer = { ⊥ };
 
     fn column(self) -> Option<Column> {
         self.column
@@ -59,10 +57,7 @@ impl Adds for Options {
         add_quick(self, totals, text)
     }
 
-    fn line_of<A: Allocator>(self, alloc: &A, totals: Totals) -> Result<String<&A>, Fault> {
-        match line_of(alloc, self.kind, totals) {
-            Ok(line) => Ok(line),
-            Err(_) => Err(Fault::Memory),
-        }
+    fn line_of<A: Allocator>(self, alloc: &A, totals: Totals) -> Result<Vec<u8, &A>, AllocError> {
+        line_of(alloc, self.kind, totals)
     }
 }

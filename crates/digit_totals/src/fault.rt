@@ -77,14 +77,12 @@ pub enum Fault {
     Write(ErrorKind),
     /// The allocator refused memory.
     Memory,
-    /// The text of a float among the totals is not read as that float.
-    Text,
 }
 
 impl Fault {
     ghost use Rattle.digit_totals.specs.Text.{status_of};
 
-    /// The exit status of the program for this fault: 3 to 9 in the order of the variants.
+    /// The exit status of the program for this fault: 3 to 8 in the order of the variants.
     pub fn status(&self) -> u8
         ensures { result ≡ status_of self.now }
     {
@@ -95,7 +93,6 @@ impl Fault {
             Fault::Read(_) => 6,
             Fault::Write(_) => 7,
             Fault::Memory => 8,
-            Fault::Text => 9,
         }
     }
 }

@@ -1,6 +1,6 @@
 //! The place of a column in a line.
 
-ghost use Rattle.std.specs.Prelude.{◌≡◌, ◌+◌, ◌-◌, ◌==◌, ◌<◌, ◌≤◌, ℕ, List, ◌∷◌, length, drop, slice_range, position, Err, IfOk, MatchResult};
+ghost use Rattle.std.specs.Prelude.{◌≡◌, ◌+◌, ◌-◌, ◌==◌, ◌<◌, ◌≤◌, ℕ, List, ◌∷◌, length, drop, slice_range, position, Some, Err, IfOk, MatchResult};
 ghost use Rattle.digit_totals.specs.Field.{fields_of, first_quoted, is_quoted, nth_span, span_in, unless_quoted};
 
 use super::fault::NumberError;
@@ -72,16 +72,12 @@ fn find_end(line: &[u8], separator: u8, start: usize) -> usize
     }
 }
 
-/// The start and the end of a column in a line, or why it isn't read. Without a column it is the
-/// whole line.
+/// The start and the end of a column in a line, or why it isn't read.
 #[tactic(auto, using(crate::proofs::Fields::spans))]
-pub fn find_span(column: Option<Column>, line: &[u8]) -> Result<(usize, usize), NumberError>
-    ensures is { result ≡ span_in column line.now }
+fn find_column(column: Column, line: &[u8]) -> Result<(usize, usize), NumberError>
+    ensures is { result ≡ span_in (Some column) line.now }
     ensures within { IfOk result (λ span. (span.0 ≤ span.1) × (span.1 ≤ length line.now)) }
 {
-    let Some(column) = column else {
-        return Ok((0, line.len()));
-    };
     let before = column.number.saturating_sub(1);
     let start = match find_start(line, column.separator, before) {
         Ok(start) => start,
@@ -92,4 +88,17 @@ pub fn find_span(column: Option<Column>, line: &[u8]) -> Result<(usize, usize), 
         return Err(NumberError::Quoted(before + 1));
     }
     Ok((start, end))
+}
+
+/// The start and the end of a column in a line, or why it isn't read. Without a column it is the
+/// whole line.
+#[inline(always)]
+pub fn find_span(column: Option<Column>, line: &[u8]) -> Result<(usize, usize), NumberError>
+    ensures is { result ≡ span_in column line.now }
+    ensures within { IfOk result (λ span. (span.0 ≤ span.1) × (span.1 ≤ length line.now)) }
+{
+    match column {
+        Some(column) => find_column(column, line),
+        None => Ok((0, line.len())),
+    }
 }

@@ -1,12 +1,12 @@
 //! A sum of floats, as what a run adds up.
 
 use super::adds::{Added, Adds};
-use super::fault::{Fault, LineFault};
+use super::fault::LineFault;
 use super::options::{Column, FloatOptions};
 use super::text::float_line;
 use super::totals::FloatTotals;
 use super::value::float_of;
-use std::alloc::Allocator;
+use std::alloc::{AllocError, Allocator};
 
 impl Adds for FloatOptions {
     ghost use Rattle.std.specs.Prelude.{⊤};
@@ -25,8 +25,6 @@ impl Adds for FloatOptions {
     ghost column_of = { λ options. options.column };
 
     ghost IsLine = { λ options. Text.IsFloatLineOf };
-
-    ghost MayDiffer = { ⊤ };
 
     fn column(self) -> Option<Column> {
         self.column
@@ -63,7 +61,11 @@ impl Adds for FloatOptions {
         Ok(Added { totals, rest: text })
     }
 
-    fn line_of<A: Allocator>(self, alloc: &A, totals: FloatTotals) -> Result<String<&A>, Fault> {
+    fn line_of<A: Allocator>(
+        self,
+        alloc: &A,
+        totals: FloatTotals,
+    ) -> Result<Vec<u8, &A>, AllocError> {
         float_line(alloc, totals)
     }
 }

@@ -1,6 +1,9 @@
 //! What is written: the totals, or why there are none.
 
-ghost use Rattle.std.specs.Prelude.{◌≡◌, ◌<◌, ◌≤◌, ◌^◌, ◌++◌, ◌-◌, replicate, ⊤, IfOk, IfErr, IsTrue, OnOk, string_bytes};
+ghost use Rattle.std.specs.Prelude.{◌≡◌, ◌<◌, ◌≤◌, ◌^◌, ◌++◌, ◌-◌, replicate, take, length, is_nan, IfOk, IfErr, IsTrue, OnOk, string_bytes};
+ghost use Rattle.std.specs.Float.{binary64, float_is_infinite};
+ghost use Rattle.float_writers.specs.Write.{IsReason};
+ghost use Rattle.float_writers.specs.declared.write.FloatLayout.TheVariants.{Plain};
 ghost use Rattle.digit_totals.specs.Text as Text;
 ghost use Rattle.digit_totals.specs.Value.{HasFewPlaces};
 
@@ -8,10 +11,9 @@ use super::error_kind::words_of;
 use super::fault::{Fault, LineFault, NumberError};
 use super::options::{Column, Kind};
 use super::totals::{FloatTotals, Totals};
-use digit_floats::Float;
+use float_writers::{FloatLayout, FloatTextError, write_float};
 use std::alloc::{AllocError, Allocator};
 use std::io::ErrorKind;
-use std::num::f64_to_bits_with_nan;
 
 /// Adds `count` zeros to a text.
 fn push_zeros<A: Allocator>(text: &mut String<A>, count: usize) -> Result<(), AllocError>
@@ -85,45 +87,58 @@ fn amount_of_some<A: Allocator>(
 pub fn count_and_sum<'a, A: Allocator>(
     alloc: &'a A,
     count: u128,
-    sum: &str,
-) -> Result<String<&'a A>, AllocError>
-    ensures { IfOk result (λ text. string_bytes text ≡ Text.count_and_sum count sum.now) }
+    sum: &[u8],
+) -> Result<Vec<u8, &'a A>, AllocError>
+    ensures { IfOk result (λ text. text.items ≡ Text.count_and_sum count sum.now) }
 {
-    format!(in alloc; "count={count} sum={sum}")
+    let front = format!(in alloc; "count={count} sum=")?;
+    let mut text = front.into_bytes();
+    text.extend_from_slice(sum)?;
+    Ok(text)
 }
 
 /// The least and the greatest amount, with their names, and the line feed.
 #[tactic(auto, unfolding(crate::specs::Text::extremes))]
 pub fn extremes<'a, A: Allocator>(
     alloc: &'a A,
-    least: &str,
-    greatest: &str,
-) -> Result<String<&'a A>, AllocError>
-    ensures { IfOk result (λ text. string_bytes text ≡ Text.extremes least.now greatest.now) }
+    least: &[u8],
+    greatest: &[u8],
+) -> Result<Vec<u8, &'a A>, AllocError>
+    ensures { IfOk result (λ text. text.items ≡ Text.extremes least.now greatest.now) }
 {
-    format!(in alloc; " min={least} max={greatest}\n")
+    let mut text = Vec::new(alloc);
+    text.extend_from_slice(b" min=")?;
+    text.extend_from_slice(least)?;
+    text.extend_from_slice(b" max=")?;
+    text.extend_from_slice(greatest)?;
+    text.extend_from_slice(b"\n")?;
+    Ok(text)
 }
 
 /// The line of the totals without its end.
-fn line_front<A: Allocator>(alloc: &A, kind: Kind, totals: Totals) -> Result<String<&A>, AllocError>
+fn line_front<A: Allocator>(
+    alloc: &A,
+    kind: Kind,
+    totals: Totals,
+) -> Result<Vec<u8, &A>, AllocError>
     requires { HasFewPlaces kind }
     ensures { IfOk result (λ text.
-        string_bytes text ≡ Text.count_and_sum totals.count (Text.amount kind totals.sum)) }
+        text.items ≡ Text.count_and_sum totals.count (Text.amount kind totals.sum)) }
 {
     let sum = amount(alloc, kind, totals.sum)?;
-    count_and_sum(alloc, totals.count, sum.as_str())
+    count_and_sum(alloc, totals.count, sum.as_bytes())
 }
 
 /// The end of the line of the totals.
-fn line_end<A: Allocator>(alloc: &A, kind: Kind, totals: Totals) -> Result<String<&A>, AllocError>
+fn line_end<A: Allocator>(alloc: &A, kind: Kind, totals: Totals) -> Result<Vec<u8, &A>, AllocError>
     requires { HasFewPlaces kind }
-    ensures { IfOk result (λ text. string_bytes text
+    ensures { IfOk result (λ text. text.items
         ≡ Text.extremes (Text.amount_of_some totals.count kind totals.least)
         (Text.amount_of_some totals.count kind totals.greatest)) }
 {
     let least = amount_of_some(alloc, totals.count, kind, totals.least)?;
     let greatest = amount_of_some(alloc, totals.count, kind, totals.greatest)?;
-    extremes(alloc, least.as_str(), greatest.as_str())
+    extremes(alloc, least.as_bytes(), greatest.as_bytes())
 }
 
 /// The line of the totals.
@@ -131,58 +146,82 @@ pub fn line_of<A: Allocator>(
     alloc: &A,
     kind: Kind,
     totals: Totals,
-) -> Result<String<&A>, AllocError>
+) -> Result<Vec<u8, &A>, AllocError>
     requires { HasFewPlaces kind }
-    ensures { IfOk result (λ text. string_bytes text ≡ Text.line_of kind totals) }
+    ensures { IfOk result (λ text. text.items ≡ Text.line_of kind totals) }
 {
     let mut line = line_front(alloc, kind, totals)?;
     let end = line_end(alloc, kind, totals)?;
-    line.push_str(end.as_str())?;
+    line.extend_from_slice(end.as_slice())?;
     Ok(line)
 }
 
-/// Whether two floats are the same, with their signs.
-fn is_same(x: f64, y: f64) -> bool
-    ensures { IsTrue result → x ≡ y }
+/// The text of an infinity.
+fn infinity_text(value: f64) -> &'static [u8]
+    requires { IsTrue (float_is_infinite value) }
+    ensures { Text.IsTextOf value result.now }
 {
-    f64_to_bits_with_nan(x) == f64_to_bits_with_nan(y)
+    if value.is_sign_negative() {
+        b"-inf".as_slice()
+    } else {
+        b"inf".as_slice()
+    }
 }
 
-/// The text of a float. It is tested that its float is read from it: std states no more of it.
-fn float_text<A: Allocator>(alloc: &A, value: f64) -> Result<String<&A>, Fault>
-    ensures is { IfOk result (λ text. Text.IsTextOf value (string_bytes text)) }
-    ensures fault { IfErr result (Text.IsLack ⊤) }
+/// The text of what is not a number.
+fn nan_text(value: f64) -> &'static [u8]
+    requires { IsTrue (is_nan value) }
+    ensures { Text.IsTextOf value result.now }
 {
-    let text = format!(in alloc; "{value}")?;
-    match f64::of_text(text.as_str()) {
-        Some(read) if is_same(read, value) => Ok(text),
-        _ => Err(Fault::Text),
+    b"NaN".as_slice()
+}
+
+/// Writes the shortest text of a number to the front of a slice, and answers its length.
+fn write_text(value: f64, out: &mut [u8]) -> Result<usize, FloatTextError>
+    ensures text { IfOk result (λ len. Text.IsTextOf value (take len out.new)) }
+    ensures within { IfOk result (λ len. len ≤ length out.old) }
+    ensures none { IfErr result (IsReason binary64 value Plain (length out.old)) }
+{
+    write_float(value, FloatLayout::Plain, out)
+}
+
+/// The most bytes of a float's text: a minus, `0.`, and 324 places.
+const TEXT_ROOM: usize = 327;
+
+/// The shortest text of a float.
+fn float_text<A: Allocator>(alloc: &A, value: f64) -> Result<Vec<u8, &A>, AllocError>
+    ensures { IfOk result (λ text. Text.IsTextOf value text.items) }
+{
+    let mut room = [0; TEXT_ROOM];
+    match write_text(value, &mut room) {
+        Ok(len) => Vec::from_slice(alloc, &room[..len]),
+        Err(FloatTextError::Infinite) => Vec::from_slice(alloc, infinity_text(value)),
+        Err(FloatTextError::NaN) => Vec::from_slice(alloc, nan_text(value)),
+        Err(FloatTextError::NoRoom(_)) => Err(AllocError),
     }
 }
 
 /// The least or the greatest of some floats; of none a `-`.
-fn text_of_some<A: Allocator>(alloc: &A, count: u128, value: f64) -> Result<String<&A>, Fault>
-    ensures is { IfOk result (λ text. Text.IsTextOfSome count value (string_bytes text)) }
-    ensures fault { IfErr result (Text.IsLack ⊤) }
+fn text_of_some<A: Allocator>(alloc: &A, count: u128, value: f64) -> Result<Vec<u8, &A>, AllocError>
+    ensures { IfOk result (λ text. Text.IsTextOfSome count value text.items) }
 {
     if count == 0 {
-        Ok(String::from_str(alloc, "-")?)
+        Vec::from_slice(alloc, b"-")
     } else {
         float_text(alloc, value)
     }
 }
 
 /// The line of the totals.
-pub fn float_line<A: Allocator>(alloc: &A, totals: FloatTotals) -> Result<String<&A>, Fault>
-    ensures is { IfOk result (λ line. Text.IsFloatLineOf totals (string_bytes line)) }
-    ensures fault { IfErr result (Text.IsLack ⊤) }
+pub fn float_line<A: Allocator>(alloc: &A, totals: FloatTotals) -> Result<Vec<u8, &A>, AllocError>
+    ensures { IfOk result (λ line. Text.IsFloatLineOf totals line.items) }
 {
     let sum = float_text(alloc, totals.sum)?;
     let least = text_of_some(alloc, totals.count, totals.least)?;
     let greatest = text_of_some(alloc, totals.count, totals.greatest)?;
-    let mut line = count_and_sum(alloc, totals.count, sum.as_str())?;
-    let end = extremes(alloc, least.as_str(), greatest.as_str())?;
-    line.push_str(end.as_str())?;
+    let mut line = count_and_sum(alloc, totals.count, sum.as_slice())?;
+    let end = extremes(alloc, least.as_slice(), greatest.as_slice())?;
+    line.extend_from_slice(end.as_slice())?;
     Ok(line)
 }
 
@@ -284,6 +323,5 @@ pub fn error_line<A: Allocator>(
         Fault::Read(kind) => failed(alloc, "read", kind),
         Fault::Write(kind) => failed(alloc, "write", kind),
         Fault::Memory => String::from_str(alloc, "error: out of memory\n"),
-        Fault::Text => String::from_str(alloc, "error: a float is not read from its text\n"),
     }
 }
