@@ -1,5 +1,5 @@
 /*
- * digits.h: reading numbers from a text, also with digit separators such as 1_000.
+ * digits.h: reading numbers from a text, also with digit separators such as 1_000, and writing them.
  *
  * C99, and C++ from C++11 on. Link libdigits.a or libdigits.so, which `make` makes in this folder.
  * Of the C library they call only memcpy and memset. They allocate nothing, keep no state and read
@@ -21,6 +21,7 @@
  * .._by            the same by a format word: separators, or another radix
  * .._list          reads numbers with a byte between two of them
  * .._piece         the same of a text that comes in pieces
+ * digits_write_..  writes the text of a number
  *
  * A blank is no part of a number, and no call that reads or parses one skips blanks. The calls for
  * lists and for single bytes do.
@@ -28,7 +29,7 @@
  *
  * What comes back
  *
- * Each call writes the number through its last argument, and answers a digits_outcome:
+ * Each call that reads writes the number through its last argument, and answers a digits_outcome:
  *
  *     int64_t number;
  *     digits_outcome outcome = digits_read_i64(text, length, 0, &number);
@@ -71,6 +72,8 @@
  *   0, `text` may be NULL.
  * - The last argument points to an object of its type, that isn't part of the text. It isn't NULL: a
  *   call by NULL crashes.
+ * - `out` points to `room` bytes of one object, which nothing else reads or writes during the call.
+ *   They needn't be set. If `room` is 0, `out` may be NULL.
  * - Floats are rounded to the nearest, and none is flushed to zero, as by default: no fesetround to
  *   another direction, and no program linked with -ffast-math.
  *
@@ -575,9 +578,103 @@ size_t digits_sure_end_of(const void *text, size_t length, uint32_t form);
 DIGITS_USED
 size_t digits_sure_end_by(const void *text, size_t length, digits_word word);
 
+/* ---- numbers that are written ----
+ *
+ * The text comes to the front of `out`, which has `room` bytes, and the call answers how many bytes
+ * it has. No zero byte is written after it, and what is behind the text isn't touched. Where the text
+ * is longer than `room`, or where there is none, the answer is 0 and nothing is written.
+ *
+ *     char text[DIGITS_ROOM_I64];
+ *     fwrite(text, 1, digits_write_i64(text, sizeof text, number), file);
+ *
+ * An integer is written in decimal, with a `-` before one below 0: `-12`. Its text is the shortest
+ * that digits_parse_i64 and its kind read as the number. With DIGITS_ROOM_I64 bytes, or those of the
+ * other type, the answer is never 0.
+ */
+
+DIGITS_USED
+size_t digits_write_i64(void *out, size_t room, int64_t value);
+DIGITS_USED
+size_t digits_write_u64(void *out, size_t room, uint64_t value);
+DIGITS_USED
+size_t digits_write_i32(void *out, size_t room, int32_t value);
+DIGITS_USED
+size_t digits_write_u32(void *out, size_t room, uint32_t value);
+
+/* The same in groups of `every` digits, counted from the last one, with `separator` between them:
+ * by ',' and 3 `-1,234,567`. Of 0 digits there are no groups; else there is no text where `separator`
+ * is 0 or a digit. A word that drops the separator between two digits reads the number back, such as
+ * DIGITS_MAKE_WORD(10, ',', DIGITS_FLAG_INTEGER_INTERNAL). */
+
+DIGITS_USED
+size_t digits_write_i64_grouped(void *out, size_t room, int64_t value, uint8_t separator,
+                                uint8_t every);
+DIGITS_USED
+size_t digits_write_u64_grouped(void *out, size_t room, uint64_t value, uint8_t separator,
+                                uint8_t every);
+
+/* An amount in units of its last place: -1250 of 2 places is `-12.50`, and digits_parse_scaled_i64
+ * with as many places reads it as -1250. Of more than 38 places there is no text.
+ *
+ * A price has `separator` between groups of three digits of its integer, or none by 0, and `point`
+ * before its places: 123450 of 2 places by ',' and '.' is `1,234.50`, and by 0 and ',' `1234,50`. */
+
+DIGITS_USED
+size_t digits_write_scaled_i64(void *out, size_t room, int64_t value, size_t places);
+DIGITS_USED
+size_t digits_write_price_i64(void *out, size_t room, int64_t value, size_t places,
+                              uint8_t separator, uint8_t point);
+
+/* The shortest text of a float: the fewest digits that are read as the float, of these the closest
+ * to it, and of two as close the one whose last digit is even. digits_parse_f64 reads it as the same
+ * float; a zero keeps its sign. Of an infinity and of a NaN there is no text. DIGITS_ROOM_F64 bytes
+ * hold the text of every other float, so with them the answer 0 says that it isn't finite.
+ *
+ * The layout is the usual one: with an exponent below 1e-5 and from 1e16 on, else without, but with
+ * one place at least: `0.1`, `12000.0`, `-0.0`, `1e-7`, `1e23`. It is a number of JSON. */
+
+DIGITS_USED
+size_t digits_write_f64(void *out, size_t room, double value);
+DIGITS_USED
+size_t digits_write_f32(void *out, size_t room, float value);
+
+/* The same in another layout, by a DIGITS_LAYOUT_..; of another number there is no text.
+ *
+ *                            0.00012    1.5      12000    1e23                        -0.0
+ *     DIGITS_LAYOUT_USUAL    0.00012    1.5      12000.0  1e23                        -0.0
+ *     DIGITS_LAYOUT_PLAIN    0.00012    1.5      12000    100000000000000000000000    -0
+ *     DIGITS_LAYOUT_EXPONENT 1.2e-4     1.5e0    1.2e4    1e23                        -0e0
+ *
+ * DIGITS_ROOM_F64 bytes hold the text with an exponent, too; that without one has at most 327. */
+
+DIGITS_USED
+size_t digits_write_f64_in(void *out, size_t room, double value, uint32_t layout);
+DIGITS_USED
+size_t digits_write_f32_in(void *out, size_t room, float value, uint32_t layout);
+
+/* A float with a fixed number of places, as printf's `%.2f` in the locale C: rounded once from the
+ * exact value, at a tie to the even digit, so that 0.125 of 2 places is `0.12`. The text has at most
+ * 311 bytes and the places. Of an infinity and of a NaN there is no text. */
+
+DIGITS_USED
+size_t digits_write_f64_fixed(void *out, size_t room, double value, uint32_t places);
+
 /* ---- what calls are told ---- */
 
 /* names: from the sources, by c/constants */
+/* The room for the longest text of a type. */
+#define DIGITS_ROOM_I64 20 /* The room that the longest text of an i64 takes: -9223372036854775808 */
+#define DIGITS_ROOM_U64 20 /* That of a u64: 18446744073709551615 */
+#define DIGITS_ROOM_I32 11 /* That of an i32: -2147483648 */
+#define DIGITS_ROOM_U32 10 /* That of a u32: 4294967295 */
+#define DIGITS_ROOM_F64 24 /* The room that the usual text of an f64 takes, and that with an exponent */
+#define DIGITS_ROOM_F32 24 /* The same of an f32 */
+
+/* How a float is laid out. */
+#define DIGITS_LAYOUT_USUAL 0 /* As JSON has it: with an exponent below 1e-5 and from 1e16 on, else with one place at least */
+#define DIGITS_LAYOUT_PLAIN 1 /* Without an exponent: 0.00012, 1.5, 12000 */
+#define DIGITS_LAYOUT_EXPONENT 2 /* With an exponent: 1.2e-4, 1.5e0 */
+
 /* Forms: docs/reference/digit_numbers.md. */
 #define DIGITS_FORM_LITERAL 0 /* The shortest form of source code: decimal digits without a sign, with a point or an exponent if they are a float */
 #define DIGITS_FORM_FLOAT 1 /* The shortest form of data: the same with a sign, and every number is a float */

@@ -7,13 +7,19 @@
 //         fail(n.message(), n.at); // the position of the byte at fault
 //     }
 //
-// digits.h says what each call reads, its faults, and what a caller owes. No call here throws or
-// allocates.
+// A number is written into places, such as an array of char or a std::span:
+//
+//     char places[digits::room<int64_t>];
+//     std::cout << digits::write(places, number);
+//
+// digits.h says what each call reads and writes, its faults, and what a caller owes. No call here
+// throws or allocates.
 #ifndef DIGITS_HPP
 #define DIGITS_HPP
 
 #include "digits.h"
 
+#include <iterator>
 #include <optional>
 #include <string_view>
 #include <type_traits>
@@ -315,6 +321,100 @@ inline list read_piece(std::string_view text, std::size_t start, std::uint32_t f
 [[nodiscard]] inline std::size_t sure_end(std::string_view text, word by) noexcept
 {
     return digits_sure_end_by(text.data(), text.size(), by);
+}
+
+// ---- numbers that are written, into places with data() and size(): an array, a std::span ----
+
+namespace detail {
+
+// The calls of digits.h that write, by their type, and the room for the longest text.
+template <typename T>
+struct writes;
+#define DIGITS_WRITES(type, name, most)                                                             \
+    template <>                                                                                     \
+    struct writes<type> {                                                                           \
+        static constexpr auto write = digits_write_##name;                                          \
+        static constexpr std::size_t room = most;                                                   \
+    };
+DIGITS_WRITES(int64_t, i64, DIGITS_ROOM_I64)
+DIGITS_WRITES(uint64_t, u64, DIGITS_ROOM_U64)
+DIGITS_WRITES(int32_t, i32, DIGITS_ROOM_I32)
+DIGITS_WRITES(uint32_t, u32, DIGITS_ROOM_U32)
+DIGITS_WRITES(double, f64, DIGITS_ROOM_F64)
+DIGITS_WRITES(float, f32, DIGITS_ROOM_F32)
+#undef DIGITS_WRITES
+
+// The text that a call of digits.h leaves at the front of the places.
+template <typename Places, typename Call, typename... Rest>
+std::string_view text(Places &places, Call call, Rest... rest) noexcept
+{
+    static_assert(sizeof *std::data(places) == 1, "places are bytes");
+    const std::size_t length = call(std::data(places), std::size(places), rest...);
+    return {reinterpret_cast<const char *>(std::data(places)), length};
+}
+
+} // namespace detail
+
+/// The room for the longest text of a type.
+template <typename T>
+inline constexpr std::size_t room = detail::writes<detail::same<T>>::room;
+
+/// The text of an integer or a float, at the front of the places. It is empty, and nothing is
+/// written, where it is longer than they are, or where the float isn't finite.
+template <typename Places, typename T>
+[[nodiscard]] std::string_view write(Places &&places, T value) noexcept
+{
+    using raw = detail::same<T>;
+    return detail::text(places, detail::writes<raw>::write, raw{value});
+}
+
+/// The text of a float in a DIGITS_LAYOUT_...
+template <typename Places, typename T>
+[[nodiscard]] std::string_view write_in(Places &&places, T value, std::uint32_t layout) noexcept
+{
+    if constexpr (std::is_same_v<T, float>)
+        return detail::text(places, digits_write_f32_in, value, layout);
+    else
+        return detail::text(places, digits_write_f64_in, double{value}, layout);
+}
+
+/// The text of a float with a fixed number of places.
+template <typename Places>
+[[nodiscard]] std::string_view write_fixed(Places &&places, double value,
+                                           std::uint32_t decimals) noexcept
+{
+    return detail::text(places, digits_write_f64_fixed, value, decimals);
+}
+
+/// The text of an integer in groups of digits.
+template <typename Places, typename T>
+[[nodiscard]] std::string_view write_grouped(Places &&places, T value, char separator,
+                                             std::uint8_t every = 3) noexcept
+{
+    static_assert(std::is_integral_v<T>);
+    const auto between = static_cast<std::uint8_t>(separator);
+    if constexpr (std::is_signed_v<T>)
+        return detail::text(places, digits_write_i64_grouped, std::int64_t{value}, between, every);
+    else
+        return detail::text(places, digits_write_u64_grouped, std::uint64_t{value}, between, every);
+}
+
+/// The text of an amount in units of its last place.
+template <typename Places>
+[[nodiscard]] std::string_view write_scaled(Places &&places, std::int64_t value,
+                                            std::size_t decimals) noexcept
+{
+    return detail::text(places, digits_write_scaled_i64, value, decimals);
+}
+
+/// The same in groups of three digits, by 0 in none, and with another point.
+template <typename Places>
+[[nodiscard]] std::string_view write_price(Places &&places, std::int64_t value,
+                                           std::size_t decimals, char separator,
+                                           char point = '.') noexcept
+{
+    return detail::text(places, digits_write_price_i64, value, decimals,
+                        static_cast<std::uint8_t>(separator), static_cast<std::uint8_t>(point));
 }
 
 } // namespace digits

@@ -635,6 +635,121 @@ static void edges(void)
     CHECK(f64 == 1.5);
 }
 
+/* What a call writes into `room` of 64 places, of which each other one has to stay a `*`; and the same
+ * call with one place less writes nothing. */
+#define WRITES(wanted, call)                                                   \
+    do {                                                                       \
+        char out[64];                                                          \
+        const size_t length = sizeof(wanted) - 1;                              \
+        size_t room = sizeof out, answer;                                      \
+        memset(out, '*', sizeof out);                                          \
+        answer = (call);                                                       \
+        if (answer != length || memcmp(out, wanted, length) != 0 || !rest_is(out, length)) { \
+            printf("test.c:%d: %.*s: %s\n", __LINE__, (int)answer, out, #call); \
+            faults++;                                                          \
+        }                                                                      \
+        memset(out, '*', sizeof out);                                          \
+        room = length;                                                         \
+        CHECK((call) == length && memcmp(out, wanted, length) == 0 && rest_is(out, length)); \
+        memset(out, '*', sizeof out);                                          \
+        if (length > 0) {                                                      \
+            room = length - 1;                                                 \
+            CHECK((call) == 0 && rest_is(out, 0));                             \
+        }                                                                      \
+    } while (0)
+
+/* Whether no byte from a position on was written. */
+static bool rest_is(const char out[64], size_t from)
+{
+    while (from < 64 && out[from] == '*')
+        from++;
+    return from == 64;
+}
+
+static void written_integers(void)
+{
+    WRITES("0", digits_write_i64(out, room, 0));
+    WRITES("-1", digits_write_i64(out, room, -1));
+    WRITES("9223372036854775807", digits_write_i64(out, room, INT64_MAX));
+    WRITES("-9223372036854775808", digits_write_i64(out, room, INT64_MIN));
+    WRITES("18446744073709551615", digits_write_u64(out, room, UINT64_MAX));
+    WRITES("10000000000", digits_write_u64(out, room, UINT64_C(10000000000)));
+    WRITES("2147483647", digits_write_i32(out, room, INT32_MAX));
+    WRITES("-2147483648", digits_write_i32(out, room, INT32_MIN));
+    WRITES("4294967295", digits_write_u32(out, room, UINT32_MAX));
+    WRITES("99", digits_write_u32(out, room, 99));
+    WRITES("-1,234,567", digits_write_i64_grouped(out, room, -1234567, ',', 3));
+    WRITES("123'4567", digits_write_u64_grouped(out, room, 1234567, '\'', 4));
+    WRITES("-9_223_372_036_854_775_808", digits_write_i64_grouped(out, room, INT64_MIN, '_', 3));
+    WRITES("18,446,744,073,709,551,615", digits_write_u64_grouped(out, room, UINT64_MAX, ',', 3));
+    WRITES("1 2 3", digits_write_u64_grouped(out, room, 123, ' ', 1));
+    WRITES("-123", digits_write_i64_grouped(out, room, -123, '-', 3));
+    WRITES("1234", digits_write_i64_grouped(out, room, 1234, 0, 0));
+    WRITES("", digits_write_i64_grouped(out, room, 1234, 0, 3));
+    WRITES("", digits_write_u64_grouped(out, room, 1234, '9', 3));
+    CHECK(digits_write_i64(NULL, 0, 7) == 0);
+    CHECK(digits_write_u64_grouped(NULL, 0, 7, ',', 3) == 0);
+}
+
+static void written_amounts(void)
+{
+    WRITES("-12.50", digits_write_scaled_i64(out, room, -1250, 2));
+    WRITES("0.05", digits_write_scaled_i64(out, room, 5, 2));
+    WRITES("-0.05", digits_write_scaled_i64(out, room, -5, 2));
+    WRITES("1250", digits_write_scaled_i64(out, room, 1250, 0));
+    WRITES("-92233720368547758.08", digits_write_scaled_i64(out, room, INT64_MIN, 2));
+    WRITES("0.00000000000000000000000000000000000007", digits_write_scaled_i64(out, room, 7, 38));
+    WRITES("", digits_write_scaled_i64(out, room, 7, 39));
+    WRITES("1,234.50", digits_write_price_i64(out, room, 123450, 2, ',', '.'));
+    WRITES("-1.234.567,00", digits_write_price_i64(out, room, -123456700, 2, '.', ','));
+    WRITES("1234,50", digits_write_price_i64(out, room, 123450, 2, 0, ','));
+    WRITES("999.99", digits_write_price_i64(out, room, 99999, 2, ',', '.'));
+    WRITES("1'000", digits_write_price_i64(out, room, 1000, 0, '\'', '.'));
+    WRITES("", digits_write_price_i64(out, room, 7, 39, ',', '.'));
+    CHECK(digits_write_scaled_i64(NULL, 0, 7, 2) == 0);
+    CHECK(digits_write_price_i64(NULL, 0, 7, SIZE_MAX, ',', '.') == 0);
+}
+
+static void written_floats(void)
+{
+    WRITES("0.1", digits_write_f64(out, room, 0.1));
+    WRITES("-12000.0", digits_write_f64(out, room, -12000.0));
+    WRITES("1e23", digits_write_f64(out, room, 1e23));
+    WRITES("9007199254740992.0", digits_write_f64(out, room, 9007199254740993.0));
+    WRITES("1e16", digits_write_f64(out, room, 1e16));
+    WRITES("0.00001", digits_write_f64(out, room, 1e-5));
+    WRITES("1e-6", digits_write_f64(out, room, 1e-6));
+    WRITES("5e-324", digits_write_f64(out, room, 4.9406564584124654e-324));
+    WRITES("-1.7976931348623157e308", digits_write_f64(out, room, -1.7976931348623157e308));
+    WRITES("-2.2250738585072014e-308", digits_write_f64(out, room, -2.2250738585072014e-308));
+    WRITES("0.0", digits_write_f64(out, room, 0.0));
+    WRITES("-0.0", digits_write_f64(out, room, -0.0));
+    WRITES("", digits_write_f64(out, room, HUGE_VAL));
+    WRITES("", digits_write_f64(out, room, -HUGE_VAL));
+    WRITES("", digits_write_f64(out, room, HUGE_VAL - HUGE_VAL));
+    WRITES("0.1", digits_write_f32(out, room, 0.1f));
+    WRITES("16777216.0", digits_write_f32(out, room, 16777217.0f));
+    WRITES("1e-45", digits_write_f32(out, room, 1e-45f));
+    WRITES("", digits_write_f32(out, room, (float)HUGE_VAL));
+    WRITES("0.1", digits_write_f64_in(out, room, 0.1, DIGITS_LAYOUT_USUAL));
+    WRITES("1.2e-4", digits_write_f64_in(out, room, 0.00012, DIGITS_LAYOUT_EXPONENT));
+    WRITES("-0e0", digits_write_f64_in(out, room, -0.0, DIGITS_LAYOUT_EXPONENT));
+    WRITES("12000", digits_write_f64_in(out, room, 12000.0, DIGITS_LAYOUT_PLAIN));
+    WRITES("100000000000000000000000", digits_write_f64_in(out, room, 1e23, DIGITS_LAYOUT_PLAIN));
+    WRITES("", digits_write_f64_in(out, room, 1.5, 3));
+    WRITES("1.5e0", digits_write_f32_in(out, room, 1.5f, DIGITS_LAYOUT_EXPONENT));
+    WRITES("", digits_write_f32_in(out, room, 1.5f, UINT32_MAX));
+    WRITES("0.12", digits_write_f64_fixed(out, room, 0.125, 2));
+    WRITES("-0.38", digits_write_f64_fixed(out, room, -0.375, 2));
+    WRITES("2", digits_write_f64_fixed(out, room, 2.5, 0));
+    WRITES("-0.00", digits_write_f64_fixed(out, room, -0.001, 2));
+    WRITES("0.1000000000000000055511151231257827", digits_write_f64_fixed(out, room, 0.1, 34));
+    WRITES("100.00", digits_write_f64_fixed(out, room, 99.999, 2));
+    WRITES("", digits_write_f64_fixed(out, room, HUGE_VAL, 2));
+    CHECK(digits_write_f64(NULL, 0, 1.5) == 0);
+    CHECK(digits_write_f64_fixed(NULL, 0, 1.5, UINT32_MAX) == 0);
+}
+
 int main(void)
 {
     CHECK(digits_version() == DIGITS_VERSION);
@@ -660,6 +775,9 @@ int main(void)
     no_digits();
     not_a_number();
     edges();
+    written_integers();
+    written_amounts();
+    written_floats();
     printf("%d faults\n", faults);
     return faults != 0;
 }

@@ -1,8 +1,12 @@
 // The calls of digits.hpp, each with a number or a fault. Their answers are those of test.c.
 #include "digits.hpp"
 
+#include <array>
+#include <cmath>
 #include <cstdio>
 #include <limits>
+#include <string>
+#include <vector>
 
 static int faults = 0;
 
@@ -29,8 +33,39 @@ static bool fails(const digits::result<T> &result, std::uint32_t status, std::si
     return !result && result.status == status && result.at == at && !result.optional();
 }
 
+// Numbers that are written, into places of several kinds.
+static void writes()
+{
+    char places[digits::room<int64_t>];
+    CHECK(digits::write(places, -12) == "-12");
+    CHECK(digits::write(places, std::numeric_limits<int64_t>::min()) == "-9223372036854775808");
+    CHECK(digits::write(places, std::numeric_limits<unsigned long long>::max()) ==
+          "18446744073709551615");
+    CHECK(digits::write(places, short{-7}) == "-7" && digits::write(places, 7u) == "7");
+    std::array<char, digits::room<double>> room;
+    CHECK(digits::write(room, 0.1) == "0.1" && digits::write(room, 0.1f) == "0.1");
+    CHECK(digits::write(room, -5e-324) == "-5e-324");
+    CHECK(digits::write(room, HUGE_VAL).empty() && digits::write(room, std::nan("")).empty());
+    CHECK(digits::write_in(room, 12000.0, DIGITS_LAYOUT_EXPONENT) == "1.2e4");
+    CHECK(digits::write_in(room, 12000.0f, DIGITS_LAYOUT_PLAIN) == "12000");
+    CHECK(digits::write_in(room, 12000.0, 3).empty());
+    CHECK(digits::write_fixed(room, 0.125, 2) == "0.12");
+    std::string text(12, '*');
+    CHECK(digits::write_grouped(text, 1234567, ',') == "1,234,567" && text == "1,234,567***");
+    CHECK(digits::write_grouped(text, 255u, '_', 1) == "2_5_5");
+    CHECK(digits::write_scaled(text, -1250, 2) == "-12.50");
+    CHECK(digits::write_price(text, 123450, 2, ',') == "1,234.50");
+    CHECK(digits::write_price(text, 123450, 2, '.', ',') == "1.234,50");
+    std::vector<unsigned char> few(2, '*');
+    CHECK(digits::write(few, 123).empty() && few[0] == '*' && few[1] == '*');
+    CHECK(digits::write(few, 42) == "42");
+    CHECK(digits::write(std::vector<char>(), 1).empty());
+    CHECK(digits::parse<double>(digits::write(room, 1.0 / 3)).value_or(0) == 1.0 / 3);
+}
+
 int main()
 {
+    writes();
     CHECK(is(digits::read<int64_t>("-12;"), int64_t{-12}, 3));
     CHECK(is(digits::read<long long>("x=+12 ", 2), 12LL, 5));
     CHECK(is(digits::read<unsigned long>("18446744073709551615"),

@@ -1,6 +1,6 @@
 // The same for libFuzzer: nine bytes choose the start, the word, the language and the form, and the
-// others are the text.
-#include "beside.hpp"
+// others are the text. Its first eight are a number that is written.
+#include "writes.hpp"
 
 // The library isn't instrumented, so what calls answered is what the fuzzer counts.
 __attribute__((section("__libfuzzer_extra_counters"))) static uint8_t counters[1 << 15];
@@ -22,5 +22,10 @@ extern "C" int LLVMFuzzerTestOneInput(const uint8_t *bytes, size_t length)
         return 0;
     beside::seen = seen;
     beside::all(text, bytes[0] % (text.size() + 1), choice);
+    if (text.size() >= 8) {
+        uint64_t bits;
+        std::memcpy(&bits, text.data(), 8);
+        beside::all_writes(bits, choice);
+    }
     return 0;
 }

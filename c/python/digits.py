@@ -1,4 +1,5 @@
-"""Reading numbers from bytes, also with digit separators, by the proved library of digits.h.
+"""Reading numbers from bytes, also with digit separators, and writing them, by the proved library of
+digits.h.
 
 >>> import digits
 >>> digits.parse_i64(b"-1000")
@@ -9,13 +10,16 @@
 (8080, 4)
 >>> digits.parse_number(b"1e2"), digits.parse_number(b"100")
 (100.0, 100)
+>>> digits.write_f64(1e23), digits.write_price(123450, 2)
+(b'1e23', b'1,234.50')
 >>> digits.parse_i64(b"10x")
 Traceback (most recent call last):
 digits.Fault: a byte that is no part of the number, at 2
 
 A text is bytes, a bytearray, a memoryview or whatever else has bytes in one piece; none is copied. A
 `read` takes the number that begins at a start, and a `parse` the whole text. Positions count bytes
-from the start of the text, from 0. digits.h says what each call reads and its faults.
+from the start of the text, from 0. A `write` gives the text of a number, as bytes. digits.h says what
+each call reads and writes, and its faults.
 
 The library is libdigits.so of the folder that DIGITS_LIB names, or else of ../out, where `make`
 writes it, of ../../lib, where `make install` does, or of the system.
@@ -54,6 +58,19 @@ CLOSED = 15  # The list has no number, and ends here
 NONE = 0  # There is no number
 INTEGER = 1  # The number is an integer
 FLOAT = 2  # The number is a float
+
+# The room for the longest text of a type.
+ROOM_I64 = 20  # The room that the longest text of an i64 takes: -9223372036854775808
+ROOM_U64 = 20  # That of a u64: 18446744073709551615
+ROOM_I32 = 11  # That of an i32: -2147483648
+ROOM_U32 = 10  # That of a u32: 4294967295
+ROOM_F64 = 24  # The room that the usual text of an f64 takes, and that with an exponent
+ROOM_F32 = 24  # The same of an f32
+
+# How a float is laid out.
+LAYOUT_USUAL = 0  # As JSON has it: with an exponent below 1e-5 and from 1e16 on, else with one place at least
+LAYOUT_PLAIN = 1  # Without an exponent: 0.00012, 1.5, 12000
+LAYOUT_EXPONENT = 2  # With an exponent: 1.2e-4, 1.5e0
 
 # Forms: docs/reference/digit_numbers.md.
 FORM_LITERAL = 0  # The shortest form of source code: decimal digits without a sign, with a point or an exponent if they are a float
@@ -625,3 +642,99 @@ def numbers_of(file, between=b" ", read_piece=read_f64_piece, size=1 << 16):
         text, before = text[at:], before + at
     if text or block and _block(file, 1):
         raise Fault(INVALID, before)
+
+
+# ---- numbers that are written ----
+
+
+def _writer(name, *types, most=64):
+    """A call that writes into places, and answers how many bytes it wrote: what it gives is these
+    bytes, or none where there is no text. `most` places hold each text."""
+    function = getattr(_LIBRARY, f"digits_write_{name}")
+    function.argtypes = [c_void_p, c_size_t, *types]
+    function.restype = c_size_t
+
+    def call(*told, room=most):
+        places = ctypes.create_string_buffer(room)
+        return places.raw[: function(places, room, *told)]
+
+    return call
+
+
+def _integers(name, given, least, most):
+    """The write of a type of integers."""
+    call = _writer(name, given)
+
+    def write(value):
+        """The shortest text of an integer."""
+        return call(_within(value, least, most))
+
+    write.__name__ = f"write_{name}"
+    return write
+
+
+def _within(value, least, most):
+    """An integer that a type has: ctypes would cut it."""
+    if not least <= value <= most:
+        raise OverflowError(f"{value} is not from {least} to {most}")
+    return value
+
+
+def _some(text, why):
+    """A text that isn't empty."""
+    if not text:
+        raise ValueError(why)
+    return text
+
+
+write_i64 = _integers("i64", c_int64, -(2**63), 2**63 - 1)
+write_u64 = _integers("u64", c_uint64, 0, 2**64 - 1)
+write_i32 = _integers("i32", c_int32, -(2**31), 2**31 - 1)
+write_u32 = _integers("u32", c_uint32, 0, 2**32 - 1)
+
+_write_i64_grouped = _writer("i64_grouped", c_int64, c_uint8, c_uint8, most=128)
+_write_u64_grouped = _writer("u64_grouped", c_uint64, c_uint8, c_uint8, most=128)
+_write_scaled = _writer("scaled_i64", c_int64, c_size_t)
+_write_price = _writer("price_i64", c_int64, c_size_t, c_uint8, c_uint8)
+_write_f64 = _writer("f64_in", c_double, c_uint32, most=400)
+_write_f32 = _writer("f32_in", c_float, c_uint32, most=400)
+_write_fixed = _writer("f64_fixed", c_double, c_uint32)
+
+
+def write_grouped(value, separator=b",", every=3):
+    """An integer of 64 bits in groups of so many digits, counted from the last one."""
+    call = _write_i64_grouped if value < 0 else _write_u64_grouped
+    _within(value, -(2**63), 2**64 - 1)
+    return _some(call(value, ord(separator), _within(every, 0, 255)), "a separator that is a digit or 0")
+
+
+def write_scaled(value, places):
+    """An amount in units of its last place: -1250 of 2 places is b"-12.50"."""
+    return _some(_write_scaled(_within(value, -(2**63), 2**63 - 1), _within(places, 0, 2**64 - 1)),
+                 MESSAGES[BAD_PLACES])
+
+
+def write_price(value, places, separator=b",", point=b"."):
+    """The same in groups of three digits, or in none by b""."""
+    text = _write_price(_within(value, -(2**63), 2**63 - 1), _within(places, 0, 2**64 - 1),
+                        ord(separator or b"\0"), ord(point))
+    return _some(text, MESSAGES[BAD_PLACES])
+
+
+def write_f64(value, layout=LAYOUT_USUAL):
+    """The shortest text of a float that is read as the same float; by a LAYOUT_... A ValueError says
+    that it isn't finite."""
+    return _some(_write_f64(value, _within(layout, LAYOUT_USUAL, LAYOUT_EXPONENT)),
+                 "a float that isn't finite has no text")
+
+
+def write_f32(value, layout=LAYOUT_USUAL):
+    """The same of the f32 nearest to a float."""
+    return _some(_write_f32(value, _within(layout, LAYOUT_USUAL, LAYOUT_EXPONENT)),
+                 "a float that isn't finite has no text")
+
+
+def write_fixed(value, places):
+    """A float with a fixed number of places, as format(value, ".2f") has it."""
+    return _some(_write_fixed(value, _within(places, 0, 2**31), room=311 + places),
+                 "a float that isn't finite has no text")

@@ -1,11 +1,15 @@
 #!/usr/bin/env python3
 """Each call with a number or a fault. Their answers are those of test.c."""
+import decimal
 import doctest
 import functools
 import io
+import math
 import mmap
 import os
+import random
 import signal
+import struct
 import subprocess
 import sys
 import tempfile
@@ -158,6 +162,42 @@ class Calls(unittest.TestCase):
                                  env={**os.environ, "DIGITS_LIB": folder})
         if ran.returncode:  # the system may have one
             self.assertIn(f"no libdigits.so in {folder}, and none of the system", ran.stderr)
+
+    def test_writes(self):
+        self.assertEqual(digits.write_i64(-(2**63)), b"-9223372036854775808")
+        self.assertEqual(digits.write_u64(2**64 - 1), b"18446744073709551615")
+        self.assertEqual((digits.write_i32(-7), digits.write_u32(7)), (b"-7", b"7"))
+        self.assertRaises(OverflowError, digits.write_i64, 2**63)
+        self.assertRaises(OverflowError, digits.write_u32, -1)
+        self.assertEqual(digits.write_grouped(-1234567), b"-1,234,567")
+        self.assertEqual(digits.write_grouped(2**64 - 1, b"_", 1).replace(b"_", b""),
+                         b"18446744073709551615")
+        self.assertRaises(ValueError, digits.write_grouped, 1, b"7")
+        self.assertEqual(digits.write_scaled(-1250, 2), b"-12.50")
+        self.assertEqual(digits.write_price(123450, 2), b"1,234.50")
+        self.assertEqual(digits.write_price(123450, 2, b"", b","), b"1234,50")
+        self.assertRaises(ValueError, digits.write_scaled, 1, 39)
+        self.assertRaises(ValueError, digits.write_f64, float("nan"))
+        self.assertRaises(ValueError, digits.write_fixed, float("-inf"), 2)
+        self.assertRaises(OverflowError, digits.write_f64, 1.5, 3)
+        self.assertEqual(digits.write_f32(0.1), b"0.1")
+        self.assertEqual(digits.write_f64(1.5, digits.LAYOUT_EXPONENT), b"1.5e0")
+
+    def test_writes_beside_python(self):
+        source = random.Random(1)
+        for _ in range(20000):
+            x = struct.unpack("d", source.randbytes(8))[0]
+            if math.isfinite(x):
+                text = digits.write_f64(x)
+                self.assertEqual(float(text), x)
+                self.assertEqual(decimal.Decimal(text.decode()), decimal.Decimal(repr(x)))
+                self.assertEqual(digits.write_fixed(x, 3).decode(), format(x, ".3f"))
+            n = source.getrandbits(source.randrange(1, 64)) * source.choice((-1, 1))
+            self.assertEqual(digits.write_i64(n).decode(), str(n))
+            self.assertEqual(digits.write_grouped(n).decode(), f"{n:,}")
+            self.assertEqual(digits.write_grouped(n, b"_").decode(), f"{n:_}")
+            self.assertEqual(digits.write_price(n, 2).decode(),
+                             f"{decimal.Decimal(n).scaleb(-2):,.2f}")
 
     def test_texts(self):
         text = b"  1234;"

@@ -51,6 +51,34 @@ pub mod kinds {
     pub const FLOAT: u32 = 2;
 }
 
+/// The room for the longest text of a type.
+pub mod rooms {
+    /// The room that the longest text of an i64 takes: -9223372036854775808.
+    pub const I64: usize = 20;
+    /// That of a u64: 18446744073709551615.
+    pub const U64: usize = 20;
+    /// That of an i32: -2147483648.
+    pub const I32: usize = 11;
+    /// That of a u32: 4294967295.
+    pub const U32: usize = 10;
+    /// The room that the usual text of an f64 takes, and that with an exponent.
+    pub const F64: usize = 24;
+    /// The same of an f32.
+    pub const F32: usize = 24;
+}
+
+/// How a float is laid out.
+pub mod layouts {
+    use crate::Layout;
+
+    /// As JSON has it: with an exponent below 1e-5 and from 1e16 on, else with one place at least.
+    pub const USUAL: Layout = Layout(0);
+    /// Without an exponent: 0.00012, 1.5, 12000.
+    pub const PLAIN: Layout = Layout(1);
+    /// With an exponent: 1.2e-4, 1.5e0.
+    pub const EXPONENT: Layout = Layout(2);
+}
+
 /// Forms: docs/reference/digit_numbers.md.
 pub mod forms {
     use crate::Form;

@@ -1,7 +1,8 @@
-//! Reading numbers from bytes, also with digit separators, by the proved library of `digits.h`.
+//! Reading numbers from bytes, also with digit separators, and writing them, by the proved library of
+//! `digits.h`.
 //!
 //! ```
-//! use digits_sys::{parse, parse_by, parse_json, read, statuses, words};
+//! use digits_sys::{parse, parse_by, parse_json, read, rooms, statuses, words, write};
 //!
 //! assert_eq!(parse::<i32>(b"-1000"), Ok(-1000));
 //! assert_eq!(parse_by::<f64>(b"1_234.5e-1", words::PYTHON_LITERAL), Ok(123.45));
@@ -10,10 +11,14 @@
 //!
 //! let fault = parse::<i32>(b"10x").unwrap_err();
 //! assert_eq!((fault.status, fault.at), (statuses::INVALID, 2));
+//!
+//! let mut places = [0; rooms::F64];
+//! assert_eq!(write(0.1, &mut places), Some(&b"0.1"[..]));
 //! ```
 //!
 //! A `read` takes the number that begins at a start, and a `parse` the whole text. Positions count
-//! bytes from the start of the text, from 0. `digits.h` says what each call reads and its faults.
+//! bytes from the start of the text, from 0. A `write` gives the text of a number, at the front of a
+//! slice. `digits.h` says what each call reads and writes, and its faults.
 
 mod constants;
 
@@ -29,6 +34,11 @@ pub struct Status(u32);
 #[repr(transparent)]
 #[derive(Clone, Copy, Debug, PartialEq, Eq, Hash)]
 pub struct Form(u32);
+
+/// How a float is laid out, of [`layouts`].
+#[repr(transparent)]
+#[derive(Clone, Copy, Debug, PartialEq, Eq, Hash)]
+pub struct Layout(u32);
 
 /// A language of literals, of [`languages`].
 #[repr(transparent)]
@@ -652,4 +662,124 @@ pub fn sure_end_of(text: &[u8], form: Form) -> usize {
 pub fn sure_end_by(text: &[u8], word: Word) -> usize {
     // SAFETY: the text has this length.
     unsafe { digits_sure_end_by(text.as_ptr(), text.len(), word) }
+}
+
+// ---- numbers that are written ----
+
+/// The text that a call leaves at the front of a slice. `None`: there is no room for it, or no text,
+/// and nothing was written.
+#[inline(always)]
+fn text(places: &mut [u8], call: impl FnOnce(*mut u8, usize) -> usize) -> Option<&[u8]> {
+    let length = call(places.as_mut_ptr(), places.len());
+    (length > 0).then(|| &places[..length])
+}
+
+mod sealed_write {
+    pub trait Calls: Sized {
+        fn write(self, places: &mut [u8]) -> Option<&[u8]>;
+    }
+}
+
+/// A type whose numbers are written: `i64`, `u64`, `i32`, `u32`, `f64`, `f32`.
+pub trait WrittenValue: sealed_write::Calls {}
+
+macro_rules! written_values {
+    ($($type:ty: $write:ident;)*) => {$(
+        extern "C" {
+            fn $write(places: *mut u8, room: usize, value: $type) -> usize;
+        }
+
+        impl sealed_write::Calls for $type {
+            fn write(self, places: &mut [u8]) -> Option<&[u8]> {
+                // SAFETY: `text` passes places with their number.
+                text(places, |to, room| unsafe { $write(to, room, self) })
+            }
+        }
+
+        impl WrittenValue for $type {}
+    )*};
+}
+
+written_values! {
+    i64: digits_write_i64;
+    u64: digits_write_u64;
+    i32: digits_write_i32;
+    u32: digits_write_u32;
+    f64: digits_write_f64;
+    f32: digits_write_f32;
+}
+
+extern "C" {
+    fn digits_write_i64_grouped(
+        places: *mut u8, room: usize, value: i64, separator: u8, every: u8,
+    ) -> usize;
+    fn digits_write_u64_grouped(
+        places: *mut u8, room: usize, value: u64, separator: u8, every: u8,
+    ) -> usize;
+    fn digits_write_scaled_i64(
+        places: *mut u8, room: usize, value: i64, decimals: usize,
+    ) -> usize;
+    fn digits_write_price_i64(
+        places: *mut u8, room: usize, value: i64, decimals: usize, separator: u8, point: u8,
+    ) -> usize;
+    fn digits_write_f64_in(places: *mut u8, room: usize, value: f64, layout: Layout) -> usize;
+    fn digits_write_f32_in(places: *mut u8, room: usize, value: f32, layout: Layout) -> usize;
+    fn digits_write_f64_fixed(places: *mut u8, room: usize, value: f64, decimals: u32) -> usize;
+}
+
+/// The shortest text of an integer or a float, at the front of a slice of `rooms` bytes. `None`:
+/// there is no room, or the float isn't finite.
+pub fn write<T: WrittenValue>(value: T, places: &mut [u8]) -> Option<&[u8]> {
+    value.write(places)
+}
+
+/// The text of an integer in groups of so many digits, counted from the last one. `None` too: the
+/// separator is a digit or 0.
+pub fn write_i64_grouped(value: i64, separator: u8, every: u8, places: &mut [u8]) -> Option<&[u8]> {
+    // SAFETY: as of all calls by `text`.
+    text(places, |to, room| unsafe { digits_write_i64_grouped(to, room, value, separator, every) })
+}
+
+/// The same of a `u64`.
+pub fn write_u64_grouped(value: u64, separator: u8, every: u8, places: &mut [u8]) -> Option<&[u8]> {
+    // SAFETY: as of all calls by `text`.
+    text(places, |to, room| unsafe { digits_write_u64_grouped(to, room, value, separator, every) })
+}
+
+/// The text of an amount in units of its last place: -1250 of 2 decimals is `-12.50`.
+pub fn write_scaled(value: i64, decimals: usize, places: &mut [u8]) -> Option<&[u8]> {
+    // SAFETY: as of all calls by `text`.
+    text(places, |to, room| unsafe { digits_write_scaled_i64(to, room, value, decimals) })
+}
+
+/// The same with another point, and with a separator between groups of three digits, or 0 for none.
+pub fn write_price(
+    value: i64,
+    decimals: usize,
+    separator: u8,
+    point: u8,
+    places: &mut [u8],
+) -> Option<&[u8]> {
+    // SAFETY: as of all calls by `text`.
+    text(places, |to, room| unsafe {
+        digits_write_price_i64(to, room, value, decimals, separator, point)
+    })
+}
+
+/// The shortest text of a float in a layout.
+pub fn write_f64_in(value: f64, layout: Layout, places: &mut [u8]) -> Option<&[u8]> {
+    // SAFETY: as of all calls by `text`.
+    text(places, |to, room| unsafe { digits_write_f64_in(to, room, value, layout) })
+}
+
+/// The same of an `f32`.
+pub fn write_f32_in(value: f32, layout: Layout, places: &mut [u8]) -> Option<&[u8]> {
+    // SAFETY: as of all calls by `text`.
+    text(places, |to, room| unsafe { digits_write_f32_in(to, room, value, layout) })
+}
+
+/// The text of a float with a fixed number of decimals.
+pub fn write_fixed(value: f64, decimals: u32, places: &mut [u8]) -> Option<&[u8]> {
+    // SAFETY: as of all calls by `text`.
+    text(places, |to, room| unsafe { digits_write_f64_fixed(to, room, value, decimals) })
 }

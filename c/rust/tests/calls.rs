@@ -134,3 +134,22 @@ fn a_fault_is_an_error() {
     let fault: Box<dyn std::error::Error> = parse::<i32>(b"10x").unwrap_err().into();
     assert_eq!(fault.to_string(), "a byte that is no part of the number at byte 2");
 }
+
+#[test]
+fn writes() {
+    let mut places = [b'*'; 32];
+    assert_eq!(write(i64::MIN, &mut places), Some(&b"-9223372036854775808"[..]));
+    assert_eq!(places[20], b'*');
+    assert_eq!(write(u32::MAX, &mut places), Some(&b"4294967295"[..]));
+    assert_eq!(write(7i32, &mut []), None);
+    assert_eq!(write(0.1f32, &mut places), Some(&b"0.1"[..]));
+    assert_eq!(write(f64::NAN, &mut places), None);
+    assert_eq!(write_f64_in(12000.0, layouts::PLAIN, &mut places), Some(&b"12000"[..]));
+    assert_eq!(write_f32_in(12000.0, layouts::EXPONENT, &mut places), Some(&b"1.2e4"[..]));
+    assert_eq!(write_fixed(0.125, 2, &mut places), Some(&b"0.12"[..]));
+    assert_eq!(write_i64_grouped(-1234567, b',', 3, &mut places), Some(&b"-1,234,567"[..]));
+    assert_eq!(write_u64_grouped(1234567, b'_', 4, &mut places), Some(&b"123_4567"[..]));
+    assert_eq!(write_u64_grouped(1234567, b'7', 4, &mut places), None);
+    assert_eq!(write_scaled(-1250, 2, &mut places), Some(&b"-12.50"[..]));
+    assert_eq!(write_price(123450, 2, b',', b'.', &mut places), Some(&b"1,234.50"[..]));
+}

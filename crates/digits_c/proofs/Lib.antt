@@ -1,3 +1,5 @@
+mod FloatTexts
 mod OnWords
+mod Puts
 mod Read
 mod Stays

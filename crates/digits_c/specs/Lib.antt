@@ -6,3 +6,4 @@ pub mod Literals
 pub mod Numbers
 pub mod Outcomes
 pub mod Pieces
+pub mod Texts

@@ -1,5 +1,5 @@
-//! The calls of `digits` that read a number, for C. `c/digits.h` declares them, and says what a
-//! caller in C has to know.
+//! The calls of `digits` that read a number or write one, for C. `c/digits.h` declares them, and
+//! says what a caller in C has to know.
 //!
 //! No call requires anything of its arguments: a start after the end of the text, a word that isn't
 //! supported and a number that names no language or form have a status of their own. What a
@@ -21,6 +21,8 @@ mod pieces;
 mod scaled;
 mod source;
 mod word;
+mod write;
+mod write_floats;
 
 pub use laws::{
     kinds_say, read_then_as_i64, reads_stay, reads_stay_by, reads_stay_of, statuses_say,
