@@ -5,6 +5,7 @@ pub mod Fresh
 pub mod GoesOn
 pub mod Moved
 pub mod NameBytes
+pub mod Shared
 pub mod SureEnds
 pub mod Theorem
 pub mod Turns

@@ -15,4 +15,5 @@ pub mod MovedForms
 pub mod FormEnds
 pub mod OfForm
 pub mod OfBoth
+pub mod OfEnclosed
 pub mod OfLanguage

@@ -1,5 +1,7 @@
+pub mod Apart
 pub mod Both
 pub mod Cuts
+pub mod Enclosed
 pub mod Languages
 pub mod Laws
 pub mod Moves

@@ -1,8 +1,9 @@
 //! The kinds of numbers: integers, floats and scaled numbers by a word, numbers by a form, literals
-//! of a language, and two numbers with a byte between them.
+//! of a language, two numbers with a byte between them, and a number between two bytes.
 
 mod both;
 mod bytes;
+mod enclosed;
 mod floats;
 mod form_bytes;
 mod integers;
@@ -11,6 +12,7 @@ mod of_language;
 mod scaled;
 
 pub use self::both::{Both, BothError};
+pub use self::enclosed::{BracketError, Enclosed};
 pub use self::floats::Floats;
 pub use self::integers::Integers;
 pub use self::of_form::OfForm;

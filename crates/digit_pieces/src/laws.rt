@@ -7,6 +7,7 @@ ghost use Rattle.digit_pieces.specs.Cuts.{sure_end};
 ghost use Rattle.digit_pieces.specs.Pieces.{and_full, as_piece, full_past, is_of_blanks, piece_at, whole_at};
 ghost use Rattle.digit_pieces.specs.Texts.{IsApart, list_of, read_pieces};
 
+pub mod apart;
 pub mod precedes;
 pub mod precedes_form;
 

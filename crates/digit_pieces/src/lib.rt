@@ -2,6 +2,7 @@
 //! read piece by piece.
 #![tactic(auto)]
 
+mod apart;
 mod kind;
 mod kinds;
 pub mod laws;
@@ -9,8 +10,11 @@ mod lists;
 mod piece;
 mod sure;
 
+pub use self::apart::is_apart;
 pub use self::kind::Kind;
-pub use self::kinds::{Both, BothError, Floats, Integers, OfForm, OfLanguage, Scaled};
+pub use self::kinds::{
+    Both, BothError, BracketError, Enclosed, Floats, Integers, OfForm, OfLanguage, Scaled,
+};
 pub use self::lists::{
     read_float_list_piece, read_list_piece, read_list_piece_of, read_scaled_list_piece,
 };

@@ -68,6 +68,7 @@ unfoldable pub use Rattle.digit_pieces.specs.Cuts.{sure_end}
 pub use Rattle.digit_pieces.specs.Pieces.{FillsPiece, IfAt, and_full, and_more, as_piece, full_past, is_of_blanks, list_later}
 unfoldable pub use Rattle.digit_pieces.specs.Pieces.{piece_at, whole_at}
 pub use Rattle.digit_pieces.specs.Texts.{IsApart, list_of, piece_of}
+pub use Rattle.digit_pieces.specs.Apart.{IsShared, are_apart, is_between, is_pointed_byte, is_word_byte}
 unfoldable pub use Rattle.digit_pieces.specs.Texts.{read_pieces}
 pub use Rattle.digit_blocks.specs.Blocks.{AreStarts, EndsApart, HasNoneAtEnd, HaveRoom, IsStart, as_list, block_of, piece_later, reach}
 unfoldable pub use Rattle.digit_blocks.specs.Blocks.{blocks_at, joined, last_start}
