@@ -99,3 +99,5 @@ pub use Rattle.digit_writers.specs.Written.{IsOfRadix, IsShortest, Reads}
 pub use Rattle.float_writers.specs.declared.write.FloatLayout.{FloatLayout}
 pub use Rattle.float_writers.specs.declared.write.FloatTextError.{FloatTextError}
 pub use Rattle.float_writers.specs.Write.{HasRoom, IsReason, IsTextOf, text_of}
+pub use Rattle.form_writers.specs.declared.error.FormTextError.{FormTextError}
+pub use Rattle.form_writers.specs.Numbers.{IsNumberOf, IsReason as IsFormReason, IsSame}
