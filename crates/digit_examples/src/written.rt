@@ -87,9 +87,10 @@ fn a_float(rt: HostRuntime) {
 fn a_float_with_two_places(rt: HostRuntime) {
     let mut out = [0; 32];
     let x: f64 = 2.675;
-    assert!(rt; x.is_finite());
-    // the float is a little below 2.675
-    assert_eq!(rt; write_fixed(x, 2, &mut out), Ok(4));
+    if x.is_finite() {
+        // the float is a little below 2.675
+        assert_eq!(rt; write_fixed(x, 2, &mut out), Ok(4));
+    }
     assert!(rt; out.starts_with(b"2.67"));
 }
 
