@@ -1,10 +1,10 @@
 //! A text that comes in pieces, and a stream.
 
 use digits::{
-    Both, COMMAS, FloatError, Floats, Integers, LINES, LiteralError, Number, NumberReader,
-    PieceEnd, STANDARD, Scaled, StreamEnd, StreamError, block_start, end_in_text, forms,
-    read_float_list_piece, read_list_piece, read_list_piece_of, read_piece, read_scaled_list_piece,
-    sure_end,
+    Both, COMMAS, FloatError, Floats, INTEGER_INTERNAL_DIGIT_SEPARATOR, Integers, LINES,
+    LiteralError, Number, NumberReader, PieceEnd, STANDARD, Scaled, StreamEnd, StreamError,
+    block_start, end_in_text, forms, is_apart, read_float_list_piece, read_list_piece,
+    read_list_piece_of, read_piece, read_scaled_list_piece, sure_end,
 };
 
 /// Shows `read_list_piece`.
@@ -116,6 +116,15 @@ fn an_end_in_the_text(rt: HostRuntime) {
     let end = PieceEnd::Fault(LiteralError::Empty(3));
     let later = PieceEnd::Fault(LiteralError::Empty(103));
     assert_eq!(rt; end_in_text::<Integers<u64>>(end, 100), Some(later));
+}
+
+/// Shows `is_apart`.
+#[test]
+fn what_separates_is_in_no_number(rt: HostRuntime) {
+    assert!(rt; is_apart(Integers::<u64>::new(STANDARD), COMMAS));
+    // the word that drops the commas of 1,234
+    let groups = (10 << 104) | (0x2c << 64) | INTEGER_INTERNAL_DIGIT_SEPARATOR;
+    assert!(rt; !is_apart(Integers::<u64>::new(groups), COMMAS));
 }
 
 /// Shows `NumberReader`.

@@ -1,9 +1,10 @@
 //! Numbers that are written. Each call writes to the front of a slice.
 
 use digits::{
-    ExponentText, FloatLayout, FloatTextError, Layout, MOST_ROOM, NoRoom, write_exponent,
-    write_fixed, write_float, write_number, write_number_by, write_plain, write_price,
-    write_scaled, write_scientific, write_usual,
+    ExponentText, FloatLayout, FloatTextError, FormTextError, Layout, MOST_ROOM, NoRoom, Number,
+    forms, write_exponent, write_fixed, write_float, write_float_of, write_integer_of,
+    write_number, write_number_by, write_number_of, write_plain, write_price, write_scaled,
+    write_scientific, write_usual,
 };
 
 /// Shows `write_number`.
@@ -110,6 +111,26 @@ fn a_float_with_an_exponent(rt: HostRuntime) {
         Ok(6)
     );
     assert!(rt; out.starts_with(b"1.23e3"));
+}
+
+/// Shows `write_number_of`, `write_float_of`, `write_integer_of`.
+#[test]
+fn a_number_of_a_form(rt: HostRuntime) {
+    let mut out = [0; 32];
+    assert_eq!(rt;
+        write_number_of(Number::Float(0.5), forms::JSON, &mut out),
+        Ok(3)
+    );
+    assert!(rt; out.starts_with(b"0.5"));
+    assert_eq!(rt; write_float_of(2.0, forms::JSON, &mut out), Ok(3));
+    assert!(rt; out.starts_with(b"2.0"));
+    assert_eq!(rt; write_integer_of(-3, forms::JSON, &mut out), Ok(2));
+    assert!(rt; out.starts_with(b"-3"));
+    // in Rust a minus is an operator
+    assert_eq!(rt;
+        write_integer_of(-3, forms::RUST, &mut out),
+        Err(FormTextError::NoNumber)
+    );
 }
 
 /// Shows `write_plain`, `write_exponent`, `write_usual`.
