@@ -7,11 +7,10 @@ use Rattle.std.proofs.lemmas.Bool.Decides.{nat_tests}
 use Rattle.std.proofs.lemmas.Fmt.{decimal_is_IsNumeral_wide, length-decimal-le_wide}
 use Rattle.digit_writers.specs.Digits.{last_decimals}
 use Rattle.digit_writers.specs.Layouts.{grouped, before, gaps, thousands, thousands_after}
-use Rattle.digit_writers.proofs.Decimals.{decimal_parts, three_digits, three_written}
+use Rattle.digit_writers.proofs.Decimals.{decimal_parts, three_digits}
 use Rattle.digit_writers.proofs.Grouped.{group_none, group_more, group_front, length_group}
 use Rattle.digit_writers.proofs.LastDigits.{last_of_rest, last_split, length_last}
 use Rattle.digit_writers.proofs.Splices.{both, one_spliced}
-use Rattle.std.proofs.lemmas.List.{length-set}
 
 module _ (separator : ℕ) where
   abbrev group : List ℕ → List ℕ
@@ -160,26 +159,17 @@ module _ (separator : ℕ) where
       ap (λ (t : List ℕ). separator ∷ t)
       (few_as_is (last_decimals 3 n) (omega (arith, length_last 10 false 3 n)))
 
-  pub group_written : (out new : List ℕ) (at n byte : ℕ) → n < 1000 → byte ≡ 48 + n / 100
-      → at + 4 ≤ length out
-      → new ≡ splice (set (set out at separator) (at + 1) byte) (at + 2) (at + 2 + 2)
-      (last_decimals 2 (n % 100))
+  pub group_written : (out new : List ℕ) (at n : ℕ) → at + 4 ≤ length out
+      → new ≡ splice (set out at separator) (at + 1) (at + 1 + 3) (last_decimals 3 n)
       → new ≡ splice out at (at + 4) (tail 3 n)
-  group_written out new at n byte l first room second =
-      let one : List ℕ = set out at separator in
-      let long : length one ≡ length out = length-set out at separator in
-      let here : at + 1 + 1 ≡ at + 2 = omega arith in
-      let there : at + 1 + 1 + 2 ≡ at + 2 + 2 = omega arith in
+  group_written out new at n room written =
       let end : at + 1 + 3 ≡ at + 4 = omega arith in
-      let low : List ℕ = last_decimals 2 (n % 100) in
-      let after : new ≡ splice (set one (at + 1) byte) (at + 1 + 1) (at + 1 + 1 + 2) low =
-      second ∙ ap (λ (from : ℕ). splice (set one (at + 1) byte) from (at + 2 + 2) low) (sym here)
-      ∙ ap (λ (to : ℕ). splice (set one (at + 1) byte) (at + 1 + 1) to low) (sym there) in
-      three_written one new (at + 1) n byte l first (omega (arith, long, room)) after
-      ∙ ap (λ (to : ℕ). splice one (at + 1) to (last_decimals 3 n)) end
-      ∙ ap (λ (old : List ℕ). splice old (at + 1) (at + 4) (last_decimals 3 n))
+      let ds : List ℕ = last_decimals 3 n in
+      written
+      ∙ ap (λ (to : ℕ). splice (set out at separator) (at + 1) to ds) end
+      ∙ ap (λ (old : List ℕ). splice old (at + 1) (at + 4) ds)
       (one_spliced out at separator (omega (arith, room)))
-      ∙ both out (separator ∷ []) (last_decimals 3 n) at (at + 1) (at + 4) (omega arith)
+      ∙ both out (separator ∷ []) ds at (at + 1) (at + 4) (omega arith)
       (omega (arith, length_last 10 false 3 n)) room
       ∙ ap (splice out at (at + 4)) (sym (small_tail n))
 
@@ -193,14 +183,10 @@ module _ (separator : ℕ) where
         length_last 10 false 3 n,
       )
 
-  pub three_text : (out new : List ℕ) (at n byte : ℕ) → 100 ≤ n → n < 1000 → byte ≡ 48 + n / 100
-      → at + length (text n) ≤ length out
-      → new ≡ splice (set out at byte) (at + 1) (at + 1 + 2) (last_decimals 2 (n % 100))
-      → new ≡ splice out at (at + 3) (text n)
-  three_text out new at n byte low high first room second =
-      three_written out new at n byte high first (omega (arith, room, three_end n at low high))
-      second
-      ∙ ap (splice out at (at + 3)) (three_digits n low high ∙ sym (small_text n high))
+  pub three_text : (out new : List ℕ) (at n : ℕ) → 100 ≤ n → n < 1000
+      → new ≡ splice out at (at + 3) (last_decimals 3 n) → new ≡ splice out at (at + 3) (text n)
+  three_text out new at n low high written =
+      written ∙ ap (splice out at (at + 3)) (three_digits n low high ∙ sym (small_text n high))
 
   -- a number of fewer
   pub few_room : (n at room : ℕ) → n < 100 → at + length (text n) ≤ room

@@ -1,6 +1,7 @@
 pub mod LastDigits
 pub mod Splices
 pub mod Decimals
+pub mod TableOfThree
 pub mod Rooms
 pub mod Reading
 pub mod Grouped

@@ -31,6 +31,7 @@ pub mod laws;
 mod layout;
 mod number;
 mod thousands;
+mod triples;
 mod types;
 mod wide;
 

@@ -4,7 +4,8 @@ ghost use Rattle.std.specs.Prelude.{◌≡◌, ◌+◌, ◌/◌, ◌%◌, ◌^�
 ghost use Rattle.std.specs.List.{splice};
 ghost use Rattle.digit_writers.specs.Layouts.{thousands, thousands_after};
 
-use super::digits::{put_first_two, put_two};
+use super::digits::put_first_two;
+use super::triples::put_three;
 
 /// 10 to the power of 18.
 const TEN_TO_18: u128 = 1_000_000_000_000_000_000;
@@ -17,8 +18,7 @@ fn put_group(n: u32, separator: u8, out: &mut [u8], at: usize)
     ensures { out.new ≡ splice out.old at (at + 4) (thousands_after separator 3 n) }
 {
     out[at] = separator;
-    out[at + 1] = b'0' + (n / 100) as u8;
-    put_two(n % 100, out, at + 2);
+    put_three(n, out, at + 1);
 }
 
 /// Writes two groups, each with a separator before it, from a position on.
@@ -65,8 +65,7 @@ fn put_first_three(n: u32, separator: u8, out: &mut [u8], at: usize) -> usize
     if n < 100 {
         return put_first_two(n, out, at);
     }
-    out[at] = b'0' + (n / 100) as u8;
-    put_two(n % 100, out, at + 1);
+    put_three(n, out, at);
     at + 3
 }
 

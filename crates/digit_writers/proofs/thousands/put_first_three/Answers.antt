@@ -1,4 +1,4 @@
-use Rattle.std.proofs.Common.{ℕ, length, refl, sym, ap, ◌∙◌, arith, length-set}
+use Rattle.std.proofs.Common.{length, sym, ap, ◌∙◌, arith}
 use Rattle.std.specs.List.{splice}
 use Rattle.digit_writers.proofs.InThousands.{small_text, three_end, three_text, few_room}
 use Rattle.digit_writers.proofs.thousands.put_first_three.Goals as goal
@@ -22,15 +22,10 @@ returns-then-n-lt100-clause-written c =
     ∙ ap (splice c.args.out.now c.args.at put.result)
     (sym (small_text c.args.separator c.args.n (omega arith)))
 
-pub bounds-out-at : goal.bounds-out-at
-bounds-out-at c =
+pub put_three-requires-clause-room : goal.put_three-requires-clause-room
+put_three-requires-clause-room c =
     let end = three_end c.args.separator c.args.n c.args.at c.if-n-lt100.false c.requires.below in
     omega (arith, end, c.requires.room)
-
-pub put_two-requires-clause-room : goal.put_two-requires-clause-room
-put_two-requires-clause-room c =
-    let end = three_end c.args.separator c.args.n c.args.at c.if-n-lt100.false c.requires.below in
-    omega (arith, end, c.requires.room, length-set {A = ℕ})
 
 pub returns-clause-end : goal.returns-clause-end
 returns-clause-end c =
@@ -38,5 +33,5 @@ returns-clause-end c =
 
 pub returns-clause-written : goal.returns-clause-written
 returns-clause-written c =
-    three_text c.args.separator c.args.out.now c.put_two.new.out c.args.at c.args.n _
-    c.if-n-lt100.false c.requires.below refl c.requires.room c.put_two.ensures
+    three_text c.args.separator c.args.out.now c.put_three.new.out c.args.at c.args.n
+    c.if-n-lt100.false c.requires.below c.put_three.ensures
