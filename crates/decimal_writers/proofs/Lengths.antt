@@ -1,6 +1,6 @@
 -- How long the texts of floats are.
 use Rattle.std.proofs.Common.{◌≡◌, ℕ, ℤ, zero, suc, ◌+◌, ◌-◌, ◌*◌, ◌^◌, ◌<◌, ◌≤◌, Bool, true, false, ◌&&◌, [], ◌∷◌, ◌++◌, length, refl, ap, arith, length-append, unsigned_abs}
-use Rattle.std.specs.Prelude.{pos, negsuc, int_le, int_lt, ◌+ℤ◌, ◌≤ℤ◌, if◌then◌else◌}
+use Rattle.std.specs.Prelude.{pos, negsuc, int_le, int_lt, ◌+ℤ◌, ◌-ℤ◌, ◌≤ℤ◌, if◌then◌else◌}
 use Rattle.std.specs.Fmt.{sign_text, signed_decimal}
 use Rattle.std.proofs.lemmas.Bool.Decides.{nat_tests}
 use Rattle.std.proofs.lemmas.Int.{ints}
@@ -66,6 +66,21 @@ pub exponent_fits : (negative : Bool) (digits : ℕ) (power : ℤ) → digits < 
     → unsigned_abs power ≤ 400 → length (exponent_text negative digits power) ≤ 24
 exponent_fits negative digits power few near =
     exponent_few negative digits power 17 (omega arith) (omega arith) few near
+
+-- with a zero after the digits
+pub pointed_fits : (negative : Bool) (digits : ℕ) (power : ℤ) → digits < 10 ^ 17
+    → negsuc 323 ≤ℤ power → power ≤ℤ pos 309
+    → length (exponent_text negative (digits * 10) (power -ℤ pos 1)) ≤ 25
+pointed_fits negative digits power few least most =
+    exponent_few negative (digits * 10) (power -ℤ pos 1) 18 (omega arith) (omega arith)
+    (omega (arith, few)) (down power least most)
+  where
+    down : (z : ℤ) → negsuc 323 ≤ℤ z → z ≤ℤ pos 309 → unsigned_abs (z -ℤ pos 1) ≤ 400
+    down z l m = go (z -ℤ pos 1) refl
+      where
+        go : (y : ℤ) → z -ℤ pos 1 ≡ y → unsigned_abs y ≤ 400
+        go (pos n) e = omega (arith, ints, e, m)
+        go (negsuc n) e = omega (arith, ints, e, l)
 
 tens_few : (digits n : ℕ) → length (number_text digits) + n ≤ 16
     → length (number_text (digits * 10 ^ n)) ≤ 16

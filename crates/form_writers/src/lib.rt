@@ -1,7 +1,6 @@
-//! Numbers written as a language or a data format writes them, by its
-//! [`Form`](digit_numbers::Form): what is written is a number of the form, to its end, and this
-//! one. Where a form has no such number, as JSON no NaN and source code none below 0, the answer
-//! says so.
+//! Numbers written as a language or a data format writes them, by its `Form`: what is written is a
+//! number of the form, to its end, and this one. Where a form has no such number, as JSON no NaN
+//! and source code none below 0, the answer says so.
 //!
 //! ```text
 //! number        JSON       TOML       YAML       ERLANG
