@@ -656,7 +656,8 @@ def _writer(name, *types, most=64):
 
     def call(*told, room=most):
         places = ctypes.create_string_buffer(room)
-        return places.raw[: function(places, room, *told)]
+        length = function(places, room, *told)
+        return places.raw[:length]
 
     return call
 
