@@ -39,14 +39,31 @@ fn json_has_finite_numbers(rt: HostRuntime) {
 }
 
 #[test]
-fn names_are_those_of_the_form(rt: HostRuntime) {
+fn names_of_toml(rt: HostRuntime) {
     let inf = f64::INFINITY;
     assert!(&rt; writes(inf, forms::TOML, b"inf") && writes(-inf, forms::TOML, b"-inf"));
-    assert!(&rt; writes(f64::NAN, forms::TOML, b"nan") && writes(f64::NAN, forms::YAML, b".nan"));
+    assert!(&rt; writes(f64::NAN, forms::TOML, b"nan"));
+}
+
+#[test]
+fn names_of_yaml(rt: HostRuntime) {
+    let inf = f64::INFINITY;
     assert!(&rt; writes(inf, forms::YAML, b".inf") && writes(-inf, forms::YAML, b"-.inf"));
+    assert!(&rt; writes(f64::NAN, forms::YAML, b".nan"));
+}
+
+#[test]
+fn names_of_json5(rt: HostRuntime) {
+    let inf = f64::INFINITY;
     assert!(&rt; writes(inf, forms::JSON5, b"Infinity") && writes(f64::NAN, forms::JSON5, b"NaN"));
-    assert!(&rt; writes(inf, forms::XML_DOUBLE, b"INF"));
-    assert!(&rt; writes(-inf, forms::XML_DOUBLE, b"-INF"));
+}
+
+#[test]
+fn names_of_xml(rt: HostRuntime) {
+    let inf = f64::INFINITY;
+    assert!(&rt;
+        writes(inf, forms::XML_DOUBLE, b"INF") && writes(-inf, forms::XML_DOUBLE, b"-INF")
+    );
 }
 
 #[test]
