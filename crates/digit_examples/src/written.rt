@@ -22,9 +22,15 @@ fn an_integer_in_groups(rt: HostRuntime) {
     let thousands = Layout::decimal().grouped(b',', 3).expect(&rt, "a layout");
     assert_eq!(rt; write_number_by(-1234567, thousands, &mut out), Ok(10));
     assert!(rt; out.starts_with(b"-1,234,567"));
+}
+
+/// Shows `write_number_by`.
+#[test]
+fn no_room_for_a_number(rt: HostRuntime) {
+    let mut few = [0; 2];
     assert_eq!(rt;
-        write_number_by(1234567, thousands, &mut out[..8]),
-        Err(NoRoom { needed: 9 })
+        write_number_by(123, Layout::decimal(), &mut few),
+        Err(NoRoom { needed: 3 })
     );
 }
 

@@ -1,12 +1,11 @@
 //! Tests: texts that are cut into blocks, at each two positions, by worked rows.
 
 use digit_blocks::laws::{
-    a_pair_has_none_at_the_end, a_piece_is_a_list, blocks_give_the_list, cuts_give_the_list,
-    kinds_have_none_at_the_end,
+    a_piece_is_a_list, blocks_give_the_list, cuts_give_the_list, kinds_have_none_at_the_end,
 };
 use digit_blocks::{block_start, end_in_text};
 use digit_literals::{COMMAS, Gap, LINES, LiteralError, WHITESPACE};
-use digit_pieces::{Both, Integers, Kind, PieceEnd, read_piece};
+use digit_pieces::{Integers, Kind, PieceEnd, read_piece};
 use lexical_format::STANDARD;
 
 /// A text, what is between its numbers, a position, and where the first block from there on begins.
@@ -159,12 +158,5 @@ fn an_end_is_later_by_the_blocks_offset(rt: HostRuntime) {
 #[test]
 #[tactic(auto, unfolding(lexical_format::proofs::OnLiterals::lexical_on_literals))]
 fn no_number_is_at_the_end(_rt: HostRuntime) {
-    let side = Integers::<u16>::new(STANDARD);
-    let pair = Both {
-        first: side,
-        between: b':',
-        second: side,
-    };
     kinds_have_none_at_the_end(b"1:2,", STANDARD);
-    a_pair_has_none_at_the_end(pair, b"1:2,");
 }
