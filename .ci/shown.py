@@ -16,7 +16,7 @@ ANSWER = re.compile(r"\b(?:Ok|Err|Some|Over|Full|Fault|More)\((?:[^()]|\((?:[^()
 def line_of(indent, shown, answer):
     """An expression, and its answer as a comment: behind it, or in a line of its own."""
     line = f"{indent}{shown} // {answer}"
-    return line if len(line) <= MOST else f"{indent}{shown}\n{indent}// {answer}"
+    return line if len(line) <= MOST else f"{indent}{shown}\n{indent}// answers {answer}"
 
 
 def told(match):
@@ -48,21 +48,6 @@ def examples():
 def lines_of(code):
     """An example as lines of code."""
     return code.replace("\0", "").split("\n")
-
-
-def first_of(name, code):
-    """The first answer of a call in an example, with what it needs before it, and the answer after
-    it, if that says more of the same call."""
-    lines = code.split("\n")
-    call = re.compile(rf"\b{name.split('::')[-1]}(::<.*?>)?\(")
-    first = next((n for n, line in enumerate(lines) if call.search(line)), 0)
-    while first < len(lines) - 1 and not lines[first].startswith("\0"):
-        first += 1
-    last = first + 1
-    if first and last < len(lines) and lines[last].startswith("\0") and not call.search(lines[last]):
-        last += 1
-    text = "\n".join(lines[:last])
-    return lines_of(text if text.count("{") == text.count("}") else code)
 
 
 def untold(docs, code):

@@ -38,6 +38,10 @@ fn the_rest_of_a_text(rt: HostRuntime) {
 #[test]
 fn the_start_of_a_text(rt: HostRuntime) {
     assert_eq!(rt; read_float::<f64>(b"1.5 m", STANDARD), Ok((1.5, 3)));
+    assert_eq!(rt;
+        read_float::<f64>(b"1em", STANDARD),
+        Err(FloatError::EmptyExponent(2))
+    );
 }
 
 /// Shows `read_float_from`.

@@ -10,6 +10,7 @@ use digits::{
 /// Shows `parse_number`.
 #[test]
 fn a_whole_text(rt: HostRuntime) {
+    assert_eq!(rt; parse_number::<i32>(b"-1_000", PYTHON_LITERAL), Ok(-1000));
     assert_eq!(rt; parse_number::<i8>(b"-1_28", PYTHON_LITERAL), Ok(-128));
     assert_eq!(rt;
         parse_number::<i8>(b"128", PYTHON_LITERAL),

@@ -2,7 +2,7 @@
 
 use digits::{
     ExponentText, FloatLayout, FloatTextError, FormTextError, Layout, MOST_ROOM, NoRoom, Number,
-    forms, write_exponent, write_fixed, write_float, write_float_of, write_integer_of,
+    STANDARD, forms, write_exponent, write_fixed, write_float, write_float_of, write_integer_of,
     write_number, write_number_by, write_number_of, write_plain, write_price, write_scaled,
     write_scientific, write_usual,
 };
@@ -119,7 +119,7 @@ fn a_float_with_an_exponent(rt: HostRuntime) {
     assert!(rt; out.starts_with(b"1.23e3"));
 }
 
-/// Shows `write_number_of`, `write_float_of`, `write_integer_of`.
+/// Shows `write_number_of`.
 #[test]
 fn a_number_of_a_form(rt: HostRuntime) {
     let mut out = [0; 32];
@@ -128,8 +128,33 @@ fn a_number_of_a_form(rt: HostRuntime) {
         Ok(3)
     );
     assert!(rt; out.starts_with(b"0.5"));
+    assert_eq!(rt;
+        write_number_of(Number::Float(f64::NAN), forms::JSON, &mut out),
+        Err(FormTextError::NoNumber)
+    );
+    let debt: Number<f64> = Number::Integer {
+        negative: true,
+        magnitude: 3,
+        word: STANDARD,
+    };
+    assert_eq!(rt; write_number_of(debt, forms::JSON, &mut out), Ok(2));
+    assert!(rt; out.starts_with(b"-3"));
+}
+
+/// Shows `write_float_of`.
+#[test]
+fn a_float_of_a_form(rt: HostRuntime) {
+    let mut out = [0; 32];
     assert_eq!(rt; write_float_of(2.0, forms::JSON, &mut out), Ok(3));
     assert!(rt; out.starts_with(b"2.0"));
+    assert_eq!(rt; write_float_of(f64::INFINITY, forms::TOML, &mut out), Ok(3));
+    assert!(rt; out.starts_with(b"inf"));
+}
+
+/// Shows `write_integer_of`.
+#[test]
+fn an_integer_of_a_form(rt: HostRuntime) {
+    let mut out = [0; 32];
     assert_eq!(rt; write_integer_of(-3, forms::JSON, &mut out), Ok(2));
     assert!(rt; out.starts_with(b"-3"));
     // in Rust a minus is an operator
@@ -139,15 +164,31 @@ fn a_number_of_a_form(rt: HostRuntime) {
     );
 }
 
-/// Shows `write_plain`, `write_exponent`, `write_usual`.
+/// Shows `write_plain`.
 #[test]
-fn a_decimal_in_each_layout(rt: HostRuntime) {
+fn a_decimal_without_an_exponent(rt: HostRuntime) {
     // 12 times ten to the power of 3
     let mut out = [0; 16];
     assert_eq!(rt; write_plain(false, 12, 3, &mut out), Ok(5));
     assert!(rt; out.starts_with(b"12000"));
+}
+
+/// Shows `write_exponent`.
+#[test]
+fn a_decimal_with_an_exponent(rt: HostRuntime) {
+    // 12 times ten to the power of 3
+    let mut out = [0; 16];
     assert_eq!(rt; write_exponent(false, 12, 3, &mut out), Ok(5));
     assert!(rt; out.starts_with(b"1.2e4"));
+}
+
+/// Shows `write_usual`.
+#[test]
+fn a_decimal_as_usual(rt: HostRuntime) {
+    // 12 times ten to the power of 3, and of 20
+    let mut out = [0; 16];
     assert_eq!(rt; write_usual(false, 12, 3, &mut out), Ok(7));
     assert!(rt; out.starts_with(b"12000.0"));
+    assert_eq!(rt; write_usual(false, 12, 20, &mut out), Ok(6));
+    assert!(rt; out.starts_with(b"1.2e21"));
 }

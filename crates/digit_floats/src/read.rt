@@ -166,7 +166,7 @@ fn read_last_float<F: Float>(
     read_float_rest::<F>(text, word, start)
 }
 
-/// [`read_float_from`] from the start of a text on.
+/// The float at the start of a text, and the position after it: [`read_float_from`] from 0.
 #[inline(always)]
 pub fn read_float<F: Float>(text: &[u8], word: u128) -> Result<(F, usize), FloatError>
     requires supported { IsTrue (is_supported word) }

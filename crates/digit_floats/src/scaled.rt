@@ -282,10 +282,10 @@ fn sign_of<T: Integer>(text: &[u8], start: usize) -> (bool, usize)
     }
 }
 
-/// The decimal number that begins at `start`, in units of its last place: times ten to the power
-/// `places`, exactly, as an integer of a type; and where it ends. It is an optional `+` or `-` if
-/// the type has a sign, and then integer and fraction, with `point` between them, of any number of
-/// digits; one of the two may have none. An exponent isn't read. Requires that `start` is within
+/// The decimal number that begins at `start`, times ten to the power `places`, as an exact integer
+/// of a type: with 2 places `12.5` is 1250; and the position after it. It is an optional `+` or `-`
+/// if the type has a sign, and then integer and fraction, with `point` between them, of any number
+/// of digits; one of the two may have none. An exponent isn't read. Requires that `start` is within
 /// the text, that the word is supported and decimal, and that there are at most 38 places.
 ///
 /// ```text
@@ -318,8 +318,8 @@ pub fn read_scaled_from<T: Integer>(
     Ok((T::of_magnitude(is_negative, magnitude), end))
 }
 
-/// The decimal number that a text is, in units of its last place: [`read_scaled_from`] of a whole
-/// text.
+/// The decimal number that a whole text is, times ten to the power `places`, as an exact integer of
+/// a type: with 2 places `12.5` is 1250. [`read_scaled_from`] says what it may be.
 ///
 /// ```text
 /// `1_234.5` with internal `_`, as an `i64` of 2 places: Ok(123450); `1.5x`: Err(Invalid(3))

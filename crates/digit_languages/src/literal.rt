@@ -98,8 +98,8 @@ fn has_prefix(language: Language, text: &[u8], start: usize, letter: u8) -> bool
             || (language.upper && has_byte(text, start + 1, letter - 32)))
 }
 
-/// The word that a prefix at the start says. Requires that the start is within the text and the
-/// language's words are supported.
+/// The word of the digits after the prefix at `start`, or `None` if no prefix of the language is
+/// there. Requires that the start is within the text and the language's words are supported.
 #[inline(always)]
 pub fn prefix_word(language: Language, text: &[u8], start: usize) -> Option<u128>
     requires language { IsLanguage language }

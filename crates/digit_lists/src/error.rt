@@ -9,7 +9,7 @@ use digit_literals::LiteralError;
 use digit_numbers::NumberError;
 use digit_pieces::BothError;
 
-/// What errors of one number can say: where the fault is, and whether a number is missing. The
+/// The trait of errors of one number: where the fault is, and whether no number was there. The
 /// errors of all kinds of numbers here are of this trait.
 pub trait NoNumber: Copy {
     ghost use Rattle.std.specs.Prelude.{◌≡◌, ℕ, Bool};

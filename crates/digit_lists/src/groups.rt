@@ -45,11 +45,11 @@ fn find_wrong(text: &[u8], word: u128, at: usize) -> Option<usize>
     }
 }
 
-/// Where the first group of digits begins that hasn't three, of the integer at a position; the
-/// first group may have one to three. The digits between separators are a group, and so are those
-/// before the first separator and after the last one. `None` says that the integer is in groups of
-/// three, as `1,234,567` and `12` are. Only separators that the word drops are passed, and no sign.
-/// Requires that the position is within the text and that the word is supported.
+/// The position of the first group of digits with a wrong number of them, of the integer at a
+/// position: each has three, the first one to three. The digits between separators are a group, and
+/// so are those before the first separator and after the last one. `None` says that the integer is
+/// in groups of three, as `1,234,567` and `12` are. Only separators that the word drops are passed,
+/// and no sign. Requires that the position is within the text and that the word is supported.
 ///
 /// ```text
 /// with `,` between digits: `1,234;` None; `1,2,3` Some(2); `12,34` Some(3); `1234` Some(0)

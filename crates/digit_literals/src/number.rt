@@ -345,9 +345,9 @@ pub fn parse_number_from<T: Integer>(text: &[u8], word: u128, start: usize) -> R
     to_the_end::<T>(text, word, start, number)
 }
 
-/// The number of a type that a text is: `u8` to `u128`, `i8` to `i128`, `usize`, `isize`. Otherwise
-/// the first fault. Only a type with a sign takes a `+` or a `-`. Requires that the word is
-/// supported.
+/// The integer that a whole text is, as a value of a type: `u8` to `u128`, `i8` to `i128`, `usize`,
+/// `isize`. Otherwise the first fault. Only a type with a sign takes a `+` or a `-`. Requires that
+/// the word is supported.
 ///
 /// ```text
 /// with internal `_`, `parse_number::<i8>`: `-1_28` is Ok(-128), `128` is Err(Overflow(2))
@@ -363,8 +363,8 @@ pub fn parse_number<T: Integer>(text: &[u8], word: u128) -> Result<T, ParseError
     parse_number_from::<T>(text, word, 0)
 }
 
-/// The number of a type that a text begins with, and where it ends: [`read_number_from`] from 0.
-/// Requires that the word is supported.
+/// The integer at the start of a text, as a value of a type, and the position after it:
+/// [`read_number_from`] from 0. Requires that the word is supported.
 ///
 /// ```text
 /// `-1_000 m` with internal `_`, `read_number::<i32>`: Ok((-1000, 6))

@@ -126,7 +126,8 @@ fn take_form(number: usize) -> Option<Form>
     })
 }
 
-/// The form with a number, if there is one: the numbers are those of `c/digits.h`.
+/// The form to which `c/digits.h` gives this number, as 2 is `DIGITS_FORM_RUST`; `None` if it gives
+/// it to none.
 #[inline(never)]
 #[tactic(auto, unfolding(crate::specs::Numbered::form_of))]
 pub fn form_of(number: usize) -> Option<Form>

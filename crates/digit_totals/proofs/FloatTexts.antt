@@ -87,3 +87,11 @@ unfolding is_nan read_float scan_numeral
 nan_text nan e = record { shortest = refl; reads = refl }
 nan_text (inf negative) e = absurd (cc)
 nan_text (fin negative m k) e = absurd (cc)
+
+-- what is neither an infinity nor a NaN is finite
+pub others_are_finite : (x : Float) → float_is_infinite x ≡ false → is_nan x ≡ false
+    → IsTrue (float_is_finite x)
+unfolding float_is_infinite is_nan float_is_finite
+others_are_finite nan infinite is = absurd (cc)
+others_are_finite (inf negative) infinite is = absurd (cc)
+others_are_finite (fin negative m k) infinite is = tt

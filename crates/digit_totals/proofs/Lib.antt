@@ -14,4 +14,5 @@ pub mod NumberLine
 pub mod OnWords
 pub mod Order
 pub mod Pieces
+pub mod Search
 pub mod Words

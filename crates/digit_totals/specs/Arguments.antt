@@ -214,4 +214,12 @@ usage_line words error = usage_error words error ++ usage
 -- ---- what is written for `--help`
 
 unfoldable pub help : List ℕ
-help = codes "usage: digit_sum [--column N [--separator C]] [--places N | --floats] [--underscores] [--help]\nAdds up the numbers of its input, one a line.\n  --column N     the number is in column N, from 1, and not the whole line\n  --separator C  the byte between two columns, \\t for a tab; otherwise a comma\n  --places N     decimal numbers of at most N places, 0 to 38; otherwise integers\n  --floats       floats: each number and each sum is the nearest one\n  --underscores  one _ may be between two digits\n  --help         this text, and no sum\n"
+help = codes "usage: digit_sum [--column N [--separator C]] [--places N | --floats] "
+    ++ codes "[--underscores] [--help]\n"
+    ++ codes "Adds up the numbers of its input, one a line.\n"
+    ++ codes "  --column N     the number is in column N, from 1, and not the whole line\n"
+    ++ codes "  --separator C  the byte between two columns, \\t for a tab; otherwise a comma\n"
+    ++ codes "  --places N     decimal numbers of at most N places, 0 to 38; otherwise integers\n"
+    ++ codes "  --floats       floats: each number and each sum is the nearest one\n"
+    ++ codes "  --underscores  one _ may be between two digits\n"
+    ++ codes "  --help         this text, and no sum\n"

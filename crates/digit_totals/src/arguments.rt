@@ -389,7 +389,17 @@ fn usage() -> &'static str
 pub fn help() -> &'static str
     ensures { result.now ≡ Arguments.help }
 {
-    "usage: digit_sum [--column N [--separator C]] [--places N | --floats] [--underscores] [--help]\nAdds up the numbers of its input, one a line.\n  --column N     the number is in column N, from 1, and not the whole line\n  --separator C  the byte between two columns, \\t for a tab; otherwise a comma\n  --places N     decimal numbers of at most N places, 0 to 38; otherwise integers\n  --floats       floats: each number and each sum is the nearest one\n  --underscores  one _ may be between two digits\n  --help         this text, and no sum\n"
+    concat!(
+        "usage: digit_sum [--column N [--separator C]] [--places N | --floats] ",
+        "[--underscores] [--help]\n",
+        "Adds up the numbers of its input, one a line.\n",
+        "  --column N     the number is in column N, from 1, and not the whole line\n",
+        "  --separator C  the byte between two columns, \\t for a tab; otherwise a comma\n",
+        "  --places N     decimal numbers of at most N places, 0 to 38; otherwise integers\n",
+        "  --floats       floats: each number and each sum is the nearest one\n",
+        "  --underscores  one _ may be between two digits\n",
+        "  --help         this text, and no sum\n",
+    )
 }
 
 /// The lines of a fault of the arguments: what is wrong, and what is allowed.

@@ -1,19 +1,12 @@
 //! The place of a column in a line.
 
-ghost use Rattle.std.specs.Prelude.{◌≡◌, ◌+◌, ◌-◌, ◌==◌, ◌<◌, ◌≤◌, ℕ, List, ◌∷◌, length, drop, slice_range, position, Some, Err, IfOk, MatchResult};
+ghost use Rattle.std.specs.Prelude.{◌≡◌, ◌+◌, ◌-◌, ◌<◌, ◌≤◌, ℕ, List, ◌∷◌, length, drop, slice_range, Some, Err, IfOk, MatchResult};
 ghost use Rattle.digit_totals.specs.Field.{fields_of, first_quoted, is_quoted, nth_span, span_in, unless_quoted};
 
 use super::fault::NumberError;
 use super::options::Column;
+use super::search::find;
 use digit_literals::{BLANKS, has_byte, past_bytes};
-
-/// The position of the first of a byte.
-#[inline]
-pub fn find(bytes: &[u8], mark: u8) -> Option<usize>
-    ensures { result ≡ position (λ byte. byte == mark) bytes.now }
-{
-    bytes.iter().position(|byte| *byte == mark)
-}
 
 /// Whether a field begins with a quote, after any blanks.
 #[inline]

@@ -9,8 +9,8 @@ ghost use Rattle.digit_totals.specs.Report.{most_bytes, with_lines, LeavesRest, 
 
 use super::adds::Adds;
 use super::fault::{Fault, LineFault};
-use super::field::find;
 use super::lines::add_lines;
+use super::search::find;
 use std::io::{ErrorKind, Read};
 
 /// The length of the buffer: a line has fewer bytes.

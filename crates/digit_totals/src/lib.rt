@@ -17,6 +17,7 @@ pub mod many;
 pub mod options;
 pub mod output;
 pub mod quick;
+pub mod search;
 pub mod text;
 pub mod totals;
 pub mod value;

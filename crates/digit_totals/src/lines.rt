@@ -6,7 +6,7 @@ ghost use Rattle.digit_totals.specs.Report.{most_bytes, Leaves, EndsIn};
 
 use super::adds::{Added, Adds};
 use super::fault::LineFault;
-use super::field::find;
+use super::search::find;
 
 /// The first line of a text, and what follows its line feed. `None`: there is no line feed.
 pub fn first_line(text: &[u8]) -> Option<(&[u8], &[u8])>

@@ -1,9 +1,8 @@
 //! What is written: the totals, or why there are none.
 
-ghost use Rattle.std.specs.Prelude.{◌≡◌, ◌<◌, ◌≤◌, ◌^◌, ◌++◌, ◌-◌, replicate, take, length, is_nan, IfOk, IfErr, IsTrue, OnOk, string_bytes};
-ghost use Rattle.std.specs.Float.{binary64, float_is_infinite};
-ghost use Rattle.float_writers.specs.Write.{IsReason};
-ghost use Rattle.float_writers.specs.declared.write.FloatLayout.TheVariants.{Plain};
+ghost use Rattle.std.specs.Prelude.{◌≡◌, ◌<◌, ◌≤◌, ◌^◌, ◌++◌, ◌-◌, replicate, take, length, is_nan, IfOk, IsTrue, OnOk, string_bytes};
+ghost use Rattle.std.specs.Float.{float_is_finite, float_is_infinite};
+ghost use Rattle.float_writers.specs.declared.write.TheConstants.{PLAIN_ROOM};
 ghost use Rattle.digit_totals.specs.Text as Text;
 ghost use Rattle.digit_totals.specs.Value.{HasFewPlaces};
 
@@ -11,7 +10,7 @@ use super::error_kind::words_of;
 use super::fault::{Fault, LineFault, NumberError};
 use super::options::{Column, Kind};
 use super::totals::{FloatTotals, Totals};
-use float_writers::{FloatLayout, FloatTextError, write_float};
+use float_writers::{FloatLayout, PLAIN_ROOM, write_float};
 use std::alloc::{AllocError, Allocator};
 use std::io::ErrorKind;
 
@@ -176,29 +175,33 @@ fn nan_text(value: f64) -> &'static [u8]
     b"NaN".as_slice()
 }
 
-/// Writes the shortest text of a number to the front of a slice, and answers its length.
-fn write_text(value: f64, out: &mut [u8]) -> Result<usize, FloatTextError>
-    ensures text { IfOk result (λ len. Text.IsTextOf value (take len out.new)) }
-    ensures within { IfOk result (λ len. len ≤ length out.old) }
-    ensures none { IfErr result (IsReason binary64 value Plain (length out.old)) }
+/// Writes the shortest text of a finite number to the front of a slice, and answers its length.
+fn write_text(value: f64, out: &mut [u8]) -> usize
+    requires finite { IsTrue (float_is_finite value) }
+    requires room { PLAIN_ROOM ≤ length out.old }
+    ensures text { Text.IsTextOf value (take result out.new) }
+    ensures within { result ≤ length out.old }
 {
-    write_float(value, FloatLayout::Plain, out)
+    match write_float(value, FloatLayout::Plain, out) {
+        Ok(len) => len,
+        Err(_) => unreachable!(),
+    }
 }
 
-/// The most bytes of a float's text: a minus, `0.`, and 324 places.
-const TEXT_ROOM: usize = 327;
-
 /// The shortest text of a float.
+#[tactic(auto, using(crate::proofs::FloatTexts::others_are_finite))]
 fn float_text<A: Allocator>(alloc: &A, value: f64) -> Result<Vec<u8, &A>, AllocError>
     ensures { IfOk result (λ text. Text.IsTextOf value text.items) }
 {
-    let mut room = [0; TEXT_ROOM];
-    match write_text(value, &mut room) {
-        Ok(len) => Vec::from_slice(alloc, &room[..len]),
-        Err(FloatTextError::Infinite) => Vec::from_slice(alloc, infinity_text(value)),
-        Err(FloatTextError::NaN) => Vec::from_slice(alloc, nan_text(value)),
-        Err(FloatTextError::NoRoom(_)) => Err(AllocError),
+    if value.is_infinite() {
+        return Vec::from_slice(alloc, infinity_text(value));
     }
+    if value.is_nan() {
+        return Vec::from_slice(alloc, nan_text(value));
+    }
+    let mut out = [0; PLAIN_ROOM];
+    let len = write_text(value, &mut out);
+    Vec::from_slice(alloc, &out[..len])
 }
 
 /// The least or the greatest of some floats; of none a `-`.

@@ -131,7 +131,8 @@ pub fn write_number_of<F: AnyFloat>(
     }
 }
 
-/// The same of a float.
+/// Writes a float as a number of a form, as [`write_number_of`] does: 2.0 is `2.0` by JSON, so that
+/// it isn't read as an integer.
 pub fn write_float_of<F: AnyFloat>(x: F, form: Form, out: &mut [u8]) -> Result<usize, FormTextError>
     requires { IsForm form }
     ensures reads { IfOk result (λ n.
@@ -145,7 +146,8 @@ pub fn write_float_of<F: AnyFloat>(x: F, form: Form, out: &mut [u8]) -> Result<u
     write_number_of::<F>(Number::Float(x), form, out)
 }
 
-/// The same of an integer.
+/// Writes an integer as a number of a form, as [`write_number_of`] does, if the form has it: RUST
+/// has no `-3`, since a minus is an operator there.
 pub fn write_integer_of(value: i128, form: Form, out: &mut [u8]) -> Result<usize, FormTextError>
     requires { IsForm form }
     ensures reads { IfOk result (λ n. IsNumberOf form binary64
