@@ -77,7 +77,7 @@ It is the fastest in {fastest()} such rows. The picture has them all, and [SPEED
 their figures, and how to call it so that it is fast.
 
 **You also need where the number ends**, as a lexer does: then the gain is smaller. By the call that \
-answers it {by_read()}.
+answers it, of the same texts, {by_read()}.
 
 **You lose** with floats in groups: up to {most_of_groups} times the instructions that std takes for \
 the same text without separators. You also lose if you walk over digits by an iterator \
