@@ -8,6 +8,13 @@ USES = "crates/digit_uses"
 PAGES = {"README.md": "readme", "CALLING.md": "calling"}
 # The pages whose blocks are parts of proved files, and the crate that has these.
 SHOWN = {"docs/IMPLEMENTING.md": "crates/digit_vectors"}
+# What pages show of other languages: the mark of its blocks, the file whose examples are run, how a line
+# has a call and its answer, and how the file has them.
+DOORS = ("README.md", "c/README.md")
+OTHERS = {
+    "rs": ("c/rust/src/lib.rs", r"(?:let \w+ = )?(.*?);? // ((?:Ok|Some)\(.*?\))(?:: .*)?", "assert_eq!({}, {})"),
+    "python": ("c/python/digits.py", r"(.*?)  # (.*)", ">>> {}\n{}"),
+}
 # What begins the blocks that a reader puts in the place of others; `.ci/setup` does so.
 CHANGES = ("is_space b =", "    text.iter()")
 
@@ -67,6 +74,18 @@ def answers(faults):
             faults.append(f"README.md:{number}: no `{m[1]} == {m[2]}` in {path}")
 
 
+def others(faults):
+    """Each answer in another language is one that an example of its file has."""
+    for language, (path, form, there) in OTHERS.items():
+        text = re.sub(r"\s+# .*", "", read(path)) if language == "python" else read(path)
+        for page in DOORS:
+            for first, block in blocks_of(page, language):
+                for number, line in enumerate(block, first):
+                    m = re.fullmatch(form, line)
+                    if m and there.format(*m.groups()) not in text:
+                        faults.append(f"{page}:{number}: no `{there.format(*m.groups())}` in {path}")
+
+
 def first_run(faults):
     """What README shows of digit_hello is what `rt ci` finds that it prints."""
     path = "crates/digit_hello/stdout"
@@ -100,6 +119,7 @@ def check():
     faults, count = [], 0
     shown = parts(faults)
     answers(faults)
+    others(faults)
     first_run(faults)
     for page in PAGES:
         by_the_door(page, faults)

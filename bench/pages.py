@@ -1,7 +1,8 @@
 #!/usr/bin/env python3
-"""Writes what pages say of the last runs, by bench/cases.txt, bench/peers/counts.txt and
-c/costs/counts.txt: the tables of docs/SPEED.md and c/README.md, the sentences of README.md, and the
-picture docs/speed.svg. `.ci/pages` compares them."""
+"""Writes what pages say of the last runs, by bench/cases.txt, bench/peers/counts.txt,
+bench/peers/times.txt and c/costs/counts.txt: the tables of docs/SPEED.md and c/README.md, the table and
+the sentences of README.md, and the pictures docs/speed.svg and docs/times.svg. `.ci/pages` compares
+them."""
 import os
 import re
 import sys
@@ -11,8 +12,9 @@ TOP = os.path.normpath(os.path.join(os.path.dirname(os.path.abspath(__file__)), 
 CASES = "bench/cases.txt"
 from cases import UNITS, table, target  # noqa: E402
 from costs import costs  # noqa: E402
-from peers import door, peers, span as to_peers, times  # noqa: E402
-from picture import svg  # noqa: E402
+from peers import READ, door, peers  # noqa: E402
+from picture import of_times, svg  # noqa: E402
+from readers import answer, ratios, readme  # noqa: E402
 
 # The rows of SPEED, with the cases that they show.
 ROWS = {
@@ -46,6 +48,7 @@ class Cases:
 
     def __init__(self):
         self.rows, self.runs = ({unit: {} for unit in UNITS} for _ in range(2))
+        self.to_one_kind = []
         self.machine, *lines = read(CASES).split("\n")
         self.means, head, unit = [], [], ""
         for line in lines:
@@ -58,6 +61,8 @@ class Cases:
                 head = cells
             elif line.startswith("| JSON |"):
                 head = []
+            elif not head and line.startswith("| z: "):
+                self.to_one_kind.append(float(cells[-1].split(" ")[0]))
             elif line.startswith("| g: "):
                 self.runs[unit][cells[0], int(cells[1])] = dict(zip(head, cells))
             elif line.startswith("| ") and head:
@@ -91,18 +96,17 @@ def speed_rows(cases):
         row = cases.row(case)
         times = cases.rows["Nanoseconds"].get(case, {})
         to_std = cases.ratio(case, "Constant", "Filter") if case[0] in BY_STD else None
-        is_over = " over" if "over" in row.get("Library / floor", "") else ""
         is_beside = row.get("Original", "–") != "–"
-        yield [words, row["Constant"], row["Constant / fixed"] if is_beside else "–",
-               f"{to_std:.2f}" if to_std else "–", row["Library"] + is_over,
+        yield [words, row["Constant"], row["Constant / fixed"].split(" ")[0] if is_beside else "–",
+               f"{to_std:.2f}" if to_std else "–", row["Library"],
                *(["/".join(times.get(column, "–") for column in ("Constant", "Original"))]
                  if cases.rows["Nanoseconds"] else [])]
 
 
 def asked(cases, flags):
-    """What it costs to ask the looks after each number."""
+    """What a byte takes where the looks are asked after each number, and where they aren't."""
     case = f"f: {flags}, 1 to 4 digits"
-    return f"{cases.row(case)['Constant']} to {cases.row(f'{case}, looks asked')['Constant']}"
+    return cases.row(f"{case}, looks asked")["Constant"], cases.row(case)["Constant"]
 
 
 def speed(cases):
@@ -111,57 +115,62 @@ def speed(cases):
     head = ["What is read", "Constant word", "to lexical-util", "to std", "At run time",
             *(["ns"] if is_timed else [])]
     last = "; in the last column nanoseconds, of the constant word and of lexical-util"
-    lines = [f"{cases.machine}\n"]
-    lines += table(f"Instructions for each byte{last if is_timed else ''}:", head, speed_rows(cases))
-    # which case takes most, bench/cases.txt says
-    lines += [re.sub(r', "[^"]*"', "", f"{mean}\n") for mean in cases.means]
+    lines = table(f"Instructions for each byte{last if is_timed else ''}:", head, speed_rows(cases))
+    mean, most, late, most_late = re.search(
+        r"([\d.]+) \(at most ([\d.]+).*? ([\d.]+) \(at most ([\d.]+)", cases.means[0]).groups()
+    plain, flagged = (asked(cases, flags) for flags in ("no flags", "I"))
+    kept = cases.run("IC", 100, "Library"), cases.run("IC", 100000, "Library")
     return "\n".join(lines) + f"""
-If `looks` is asked after each number of 1 to 4 digits, these go from {asked(cases, "no flags")} \
-without flags, and from {asked(cases, "I")} with separators allowed. A kept run of separators \
-takes {cases.run("IC", 100, "Library")} at 100 and {cases.run("IC", 100000, "Library")} at 100,000 \
-(word IC); lexical-util takes {cases.run("IC", 10000, "Original")} at 10,000, and that grows."""
+Over [all cases](../bench/cases.txt) this library takes {mean} times the instructions of lexical-util with \
+a constant word (geometric mean; at most {most} times). With a word that only run time knows it takes \
+{late} times those of lexical-util with a constant one (at most {most_late} times). Where lexical-util \
+has no such call, the same work in plain Rust stands for it.
+
+If you ask `looks` after each number of 1 to 4 digits, a byte takes {plain[0]} instructions in place of \
+{plain[1]} without flags, and {flagged[0]} in place of {flagged[1]} with separators allowed.
+
+A run of separators that no rule drops takes {kept[0]} instructions for each byte if it has 100 of them, \
+and {kept[1]} if it has 100,000. lexical-util takes {int(cases.run("IC", 10000, "Original")):,} for each \
+byte of a run of 10,000, and that grows with the run.
+
+{cases.machine}"""
 
 
-# ---- README.md
+# The cases that take more than elsewhere: what is read, how its cases' names begin, beside what, and why.
+LEXICAL_UTIL = "lexical-util"
+LOST = [
+    ("floats in groups, as `1_234.5`", "x: I", "std, which gets them without separators",
+     "their digits are read twice"),
+    ("short numbers, each by a `Bytes` of its own", "f:", LEXICAL_UTIL,
+     "each number makes a `Bytes`, and `looks` adds the counts up"),
+    ("digits of a `Bytes` that you lend to a function", "i:", LEXICAL_UTIL,
+     "the `Bytes` is in memory, so each byte stores the cursor there"),
+    ("runs of 16 separators that are dropped", "e:", LEXICAL_UTIL, "each run calls the decision"),
+    ("binary integers", "y: radix 2,", LEXICAL_UTIL, "a digit's value is loaded, not subtracted"),
+    ("numbers up to a comma, by `peek` and `next`", "n:", LEXICAL_UTIL,
+     "counting a look takes two instructions a digit, and `peek` and `next` each test the end of the text"),
+    ("letters by `peek` and `next`", "k:", LEXICAL_UTIL,
+     "a letter isn't counted as a digit: each takes an addition that leaves it out, and a jump to it"),
+    ("numbers of one `Bytes` with `clear_counts`", "q:", LEXICAL_UTIL,
+     "one register has to serve the address, the end and the next start"),
+]
 
-def span(cases, form, side, other=None):
-    """The least and the greatest ratio of a side to another, by default to the one that has its
-    word fixed, in the cases whose names begin with this form."""
-    ratios = [ratio for case in cases.rows["Instructions"] if re.match(form, case)
-              if (ratio := cases.ratio(case, side, other or cases.fixed_side(case)))]
-    least, most = f"{min(ratios):.1f}", f"{max(ratios):.1f}"
-    return most if least == most else f"{least} to {most}"
+
+def lost(cases):
+    """What docs/SPEED.md says of the cases that take more than elsewhere."""
+    body = [[what, f"{most_of(cases, form, 'Constant', 'Filter' if form[0] == 'x' else None):.2f}", *rest]
+            for what, form, *rest in LOST]
+    body.append(["a number of JSON by `read_number_of`", f"{max(cases.to_one_kind):.2f}",
+                 "`read_float` or `read_literal`, which read one kind", "it calls what is rare"])
+    return "\n".join(table("At most so many times the instructions, with a constant word:",
+                           ["What is read", "Ratio", "Beside", "Why"], body)).rstrip("\n")
 
 
 def most_of(cases, form, side, other=None):
-    return span(cases, form, side, other).split()[-1]
-
-
-def summary(cases):
-    """What README.md has between its comments: what you gain, when you lose, and the times."""
-    def most_to_std(form):
-        return most_of(cases, form, "Constant", "Filter")
-
-    def most_to_original(form):
-        return most_of(cases, form, "Constant")
-
-    return f"""\
-**You gain** most with a text that is one number, beside the best other reader that does the same \
-work. A `u64` takes {to_peers("u64")} times its instructions (`from_chars`), and \
-{to_peers("u64", "library, within a text")} times by `read_integer`, which also answers where the \
-number ends. In groups as `1_234_567` it takes {to_peers("grouped")} times (lexical-core). An `i32` with signs takes {to_peers("i32")} times \
-those of std, a float {to_peers("f64")} (fast_float, simdjson), a number of JSON \
-{to_peers("JSON")} (simdjson).
-
-**You lose** in these cases. Floats in groups take up to {most_to_std("x:")} times the \
-instructions that std takes for the same text without separators. The others are beside \
-lexical-util. Digits of a `Bytes`, the cursor that iterators share, that you lend to a function \
-take up to {most_to_original("i:")} times, runs of dropped separators {most_to_original("e:")}, \
-binary integers {most_to_original("y:")}, letters between digits {most_to_original("k:")}, short \
-numbers with a `Bytes` each {most_to_original("f:")}. A `Bytes` by a word that only run time knows \
-takes up to {most_of(cases, "", "Library")} times what lexical-util takes with a constant word.
-
-{times()} [SPEED](docs/SPEED.md) has each row, and how to call it so that it is fast."""
+    """The greatest ratio of a side to another, by default to the one that has its word fixed, in the
+    cases whose names begin with this form."""
+    return max(ratio for case in cases.rows["Instructions"] if re.match(form, case)
+               if (ratio := cases.ratio(case, side, other or cases.fixed_side(case))))
 
 
 # ---- all of them
@@ -176,13 +185,17 @@ def between(page, name, text):
 
 def pages():
     """The pages by their paths, as bench/cases.txt has them."""
-    cases = Cases()
-    speeds = between(read("docs/SPEED.md"), "table", speed(cases))
-    from_c = between(read("c/README.md"), "costs", costs())
-    return {"docs/SPEED.md": between(speeds, "peers", peers()),
-            "README.md": between(read("README.md"), "speed", summary(cases)),
-            "c/README.md": between(from_c, "door", door()),
-            "docs/speed.svg": svg(cases)}
+    cases, speeds = Cases(), read("docs/SPEED.md")
+    for name, text in (("answer", answer()), ("peers", peers()), ("door", door()),
+                       ("table", speed(cases)), ("lost", lost(cases))):
+        speeds = between(speeds, name, text)
+    groups = f"{most_of(cases, 'x: I', 'Constant', 'Filter'):.2f}"
+    return {"docs/SPEED.md": speeds,
+            "README.md": between(read("README.md"), "speed", readme(groups)),
+            "c/README.md": between(read("c/README.md"), "costs", costs()),
+            "docs/speed.svg": svg(cases),
+            "docs/times.svg": of_times({row: (ratio, ratios(side=READ).get(row))
+                                        for row, ratio in ratios().items()})}
 
 
 if __name__ == "__main__":

@@ -5,6 +5,8 @@ from cases import table
 
 HERE = os.path.join(os.path.dirname(os.path.abspath(__file__)), "peers")
 LIBRARY = "library"
+# The same texts by the call that also answers where a number ends.
+READ = "library, within a text"
 # The columns of the table for C: the ends of a side's name from C and of the same call in Rattle.
 DOOR = {
     "constant word": (", from C", ""),
@@ -20,7 +22,8 @@ DOOR_ROWS = [
 LESS = {
     ("", "atoi"): "no test for overflow",
     ("", "simdjson, one number"): "no test for the end of the text",
-    ("f64", "serde_json"): "wrong last bits, as Debian builds it",
+    ("f64", "serde_json"): "wrong last bits of some floats, as it is built without its feature "
+                           "`float_roundtrip`",
     ("JSON", "serde_json"): "the same",
     ("JSON", "serde_json, the array"): "the same",
     ("JSON", "rapidjson, the array"): "another value than 0 for `0e83` and its like",
@@ -72,81 +75,43 @@ def cells(row, sides):
             ratio(mine[0], best(row, sides, lambda it: it[0], True))]
 
 
-def slower_run(row, sides):
-    """The library's time, and the fastest peer that does the same work, in the run in which their
-    ratio is greatest."""
+def slower_run(row, sides, side=LIBRARY, does_less=False):
+    """A side's time, and the fastest peer that does the same work, or does less, in the run in which
+    their ratio is greatest; or None."""
     runs = range(min(len(it) for it in sides.values()))
-    found = [(sides[LIBRARY][run], best(row, sides, lambda it: it[run], False)) for run in runs]
-    return max(found, key=lambda it: it[0] / it[1][0])
+    found = [(sides[side][run], best(row, sides, lambda it: it[run], does_less)) for run in runs]
+    return max(found, key=lambda it: it[0] / it[1][0]) if found[0][1] else None
 
 
-def time(row, sides):
-    """The ratio of the library's time to the fastest that does the same work."""
-    return ratio(*slower_run(row, sides)) if sides else "–"
+def timed(row, sides):
+    """What the times say of a row."""
+    mine, peer = slower_run(row, sides)
+    # by a form the library's call is one that answers the end
+    by_read = slower_run(row, sides, READ if READ in sides else LIBRARY)
+    less = slower_run(row, sides, does_less=True)
+    name = peer[1].partition(",")[0]
+    return [row, f"{mine:.1f}", f"{by_read[0]:.1f}" if READ in sides or row.startswith("JSON") else "–",
+            f"{peer[0]:.1f} {name}", f"{mine / peer[0]:.2f}", ratio(less[0], less[1]) if less else "–"]
 
 
 def peers():
     """What docs/SPEED.md has between its comments on peers."""
     counts, times = Figures("counts.txt"), Figures("times.txt")
-    head = ["What is read", "Library", "to the best peer", "to one that does less"]
-    body = [cells(row, sides) for row, sides in counts.rows.items()]
-    words = ("Instructions for one number that is a whole text, with a constant word, or by "
-             "`forms::JSON`; their ratio to the best peer that does the same work, and that does less")
-    if times.rows:
-        head.append("time")
-        words += ("; the ratio of the time to the fastest that does the same work, the greater "
-                  "one of two runs on a quiet machine")
-        for line in body:
-            line.append(time(line[0], times.rows.get(line[0])))
-    shown = [best(row, counts.rows[row], lambda it: it[0], True) for row, *_ in body]
-    told = "; ".join(f"{side} ({it})" for (_, side), it in LESS.items()
-                     if any(peer and peer[1] == side for peer in shown))
-    text = [f"{counts.head}.\n", *table(f"{words}:", head, body),
-            f"Some readers do less than this library, and have a column of their own: {told}. Of "
-            f"grouped numbers these readers get {PLAIN}. Where simdjson does the same work, it reads a "
-            "JSON array. serde_json counts as one that does less in floats and JSON, since Debian's "
-            "build has wrong last bits. fast_float is the library for C++, lexical-core the crate of "
-            "Rust. [counts.txt](../bench/peers/counts.txt) has every reader."]
-    return "\n".join([*text, "", ahead(times.rows)] if times.rows else text)
-
-
-def ahead(rows):
-    """The rows in which a reader that does less takes less time, in the slower of the runs."""
-    found = {}
-    for row, sides in rows.items():
-        runs = [(sides[LIBRARY][run] / peer[0], peer[1]) for run in range(min(map(len, sides.values())))
-                if (peer := best(row, sides, lambda it: it[run], True))]
-        ratio, peer = max(runs, default=(0, ""))
-        if ratio > 1:
-            found.setdefault(peer, []).append(f'"{row}" ({ratio:.2f})')
-    told = "; ".join(f"{peer}, in {', '.join(shown)}" for peer, shown in found.items())
-    return (f"By time, of the readers that do less these are ahead: {told}. In brackets is the library's "
-            "time, divided by theirs." if told else "By time, no reader that does less is ahead.")
-
-
-def span(start, side=LIBRARY):
-    """The least and the greatest ratio of a side to the best peer that does the same work, in the rows
-    whose names begin so."""
-    counts = Figures("counts.txt").rows
-    ratios = [sides[side][0] / best(row, sides, lambda it: it[0], False)[0]
-              for row, sides in counts.items() if row.startswith(start)]
-    least, most = f"{min(ratios):.1f}", f"{max(ratios):.1f}"
-    return most if least == most else f"{least} to {most}"
-
-
-def times():
-    """What README.md says of the times: in how many rows the library is fastest, and the others."""
-    rows = Figures("times.txt").rows
-    ratios = {row: mine / peer[0] for row, (mine, peer) in
-              ((row, slower_run(row, sides)) for row, sides in rows.items())}
-    slower = sorted((it for it in ratios.items() if it[1] > 1), key=lambda it: -it[1])
-    names = " and ".join(f'{it:.2f} times as long ("{row}")' for row, it in slower)
-    least, most = (f(it for it in ratios.values() if it <= 1) for f in (min, max))
-    return (f"**By time** it is the fastest of those that do the same work in "
-            f"{len(ratios) - len(slower)} of {len(ratios)} rows: it takes {least:.2f} to {most:.2f} "
-            "times as long as the next one. "
-            + (f"In the other rows it takes {names}. " if slower else "")
-            + "Of two runs on a quiet machine the slower one counts.")
+    less = [f"- {side}: {it}" for (_, side), it in LESS.items() if it != "the same"]
+    return "\n".join([
+        *table("By time:", ["What is read", "Here, ns", "By `read_`, ns", "The next one, ns", "Ratio",
+                           "To one that does less"],
+               [timed(row, sides) for row, sides in times.rows.items()]),
+        *table("By instructions:", ["What is read", "Here", "To the best other one",
+                                   "To one that does less"],
+               [cells(row, sides) for row, sides in counts.rows.items()]),
+        "These readers do less than this library:\n", *less,
+        f"- of grouped numbers every one but lexical-core: it gets {PLAIN}\n",
+        "Where simdjson does the same work, it reads a JSON array. fast_float is the library for C++, "
+        "lexical-core the crate of Rust. All are as Debian 12 has them: fast_float 3.9.0, lexical-core "
+        "0.7.6, serde_json 1.0.87, simdjson 3.0.1. [counts.txt](../bench/peers/counts.txt) and "
+        "[times.txt](../bench/peers/times.txt) have every reader.\n",
+        f"Instructions: {counts.head}. Times: {times.head}."])
 
 
 # ---- from C
@@ -162,7 +127,7 @@ def above(sides, column):
 
 
 def door():
-    """What c/README.md has between its comments on calls from C."""
+    """What docs/SPEED.md has between its comments on calls from C."""
     rows = Figures("counts.txt").rows
     body = []
     for name in DOOR_ROWS:

@@ -1,5 +1,5 @@
 """Draws docs/speed.svg for pages.py: the ratios of instructions by case, and a byte's instructions
-against the length of a run that is kept."""
+against the length of a run that is kept. And docs/times.svg: the ratios of times beside other readers."""
 from math import inf, log
 
 from cases import target
@@ -166,3 +166,37 @@ def svg(cases):
         'font-family="Helvetica, Arial, \'DejaVu Sans\', sans-serif">',
         rect(0, 0, WIDTH, height, "#ffffff"), *ratios(cases, names), *runs(cases, bottom + GAP),
         "</svg>\n"])
+
+
+# ---- docs/times.svg
+
+def of_times(ratios):
+    """The ratio of the library's time to that of the fastest other reader, by what is read: of the call
+    that reads a whole text, and of the one that also answers the end, if it was timed."""
+    bottom = TOP + ROW * len(ratios)
+    there = [it for both in ratios.values() for it in both if it]
+    axis = Axis(min(0.3, *there) / 1.05, max(1.2, *there) * 1.05, LEFT, RIGHT)
+    names = {"Constant": "the number is a whole text", "Library": "by the call that also answers the end"}
+    shapes = [head(36, "Time of this library / time of the fastest other reader")]
+    for n, (side, words) in enumerate(names.items()):
+        shapes += [mark(side, LEFT + 240 * n, 67.5), text(LEFT + 240 * n + 12, 72, words)]
+    for n, row in enumerate(ratios):
+        shapes += [rect(16, TOP + ROW * n, RIGHT - 4, ROW, BAND)] if n % 2 == 0 else []
+        shapes.append(text(LEFT - 16, TOP + ROW * (n + 0.7), row, "end"))
+    for step in axis.ticks(0.3, 0.4, 0.5, 0.6, 0.7, 0.8, 0.9, 1, 1.1, 1.2):
+        x = axis.at(step)
+        shapes += [line(x, TOP, x, bottom, *((AXIS, 2) if step == 1 else (GRID, 1))),
+                   text(x, bottom + 18, step, "middle")]
+    shapes.append(text((LEFT + RIGHT) / 2, bottom + 42, "left of 1: this library is faster", "middle", SOFT))
+    for n, (row, both) in enumerate(ratios.items()):
+        for side, ratio in zip(names, both):
+            if ratio:
+                shapes.append(titled_mark(side, axis.at(ratio), TOP + ROW * (n + 0.5),
+                                          f"{row}, {names[side]}: {ratio:.2f}"))
+    height = bottom + 62
+    return "\n".join([
+        f'<svg xmlns="http://www.w3.org/2000/svg" width="{WIDTH}" height="{height}" '
+        f'viewBox="0 0 {WIDTH} {height}" role="img" '
+        'aria-label="Time of this library to that of the fastest other reader" '
+        'font-family="Helvetica, Arial, \'DejaVu Sans\', sans-serif">',
+        rect(0, 0, WIDTH, height, "#ffffff"), *shapes, "</svg>\n"])
