@@ -1,5 +1,5 @@
 #!/usr/bin/env python3
-"""Writes what pages say of the last runs, by bench/cases.txt, bench/peers/counts.txt and
+"""Writes what pages say of the last runs, by bench/cases.txt, the counts and times in bench/peers, and
 c/costs/counts.txt: the tables of docs/SPEED.md and c/README.md, the sentences of README.md, and the
 picture docs/speed.svg. `.ci/pages` compares them."""
 import os
@@ -13,6 +13,7 @@ from cases import UNITS, table, target  # noqa: E402
 from costs import costs  # noqa: E402
 from peers import door, peers, span as to_peers, times  # noqa: E402
 from picture import svg  # noqa: E402
+from written import writers  # noqa: E402
 
 # The rows of SPEED, with the cases that they show.
 ROWS = {
@@ -179,6 +180,7 @@ def pages():
     cases = Cases()
     speeds = between(read("docs/SPEED.md"), "table", speed(cases))
     from_c = between(read("c/README.md"), "costs", costs())
+    speeds = between(speeds, "writing", writers())
     return {"docs/SPEED.md": between(speeds, "peers", peers()),
             "README.md": between(read("README.md"), "speed", summary(cases)),
             "c/README.md": between(from_c, "door", door()),

@@ -53,7 +53,7 @@ def lacks(row, side):
     return found[0] if found else None
 
 
-def best(row, sides, value, does_less):
+def best(row, sides, value, does_less, lacks=lacks):
     """The least of the sides that do the same work, or of those that do less, with its name."""
     found = [(value(figures), side) for side, figures in sides.items()
              if not side.startswith(LIBRARY) and bool(lacks(row, side)) == does_less]
@@ -72,11 +72,11 @@ def cells(row, sides):
             ratio(mine[0], best(row, sides, lambda it: it[0], True))]
 
 
-def slower_run(row, sides):
+def slower_run(row, sides, lacks=lacks):
     """The library's time, and the fastest peer that does the same work, in the run in which their
     ratio is greatest."""
     runs = range(min(len(it) for it in sides.values()))
-    found = [(sides[LIBRARY][run], best(row, sides, lambda it: it[run], False)) for run in runs]
+    found = [(sides[LIBRARY][run], best(row, sides, lambda it: it[run], False, lacks)) for run in runs]
     return max(found, key=lambda it: it[0] / it[1][0])
 
 

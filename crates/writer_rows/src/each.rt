@@ -1,6 +1,6 @@
 //! Numbers, written one after another.
 
-ghost use Rattle.std.specs.Prelude.{◌≡◌, ◌≤◌, length};
+ghost use Rattle.std.specs.Prelude.{◌≤◌, length};
 
 /// How one number is written.
 pub trait WritesOne: Copy {

@@ -1,7 +1,5 @@
 //! Floats, written one after another.
 
-ghost use Rattle.std.specs.Prelude.{◌≡◌, ◌≤◌, length};
-
 use super::each::{WritesOne, write_each};
 use decimal_writers::{ExponentText, write_fixed, write_scientific};
 use float_writers::{AnyFloat, FloatLayout, write_float};

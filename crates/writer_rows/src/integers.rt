@@ -1,7 +1,5 @@
 //! Integers and amounts, written one after another.
 
-ghost use Rattle.std.specs.Prelude.{◌≡◌, ◌≤◌, length};
-
 use super::each::{WritesOne, write_each};
 use digit_writers::{Layout, Written, write_number, write_number_by, write_price, write_scaled};
 use std::marker::PhantomData;

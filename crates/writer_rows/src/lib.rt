@@ -1,6 +1,6 @@
-//! The calls that `bench/writers` and `bench/peers` make, as a C library. A call whose name ends with
-//! a type's in the plural writes many numbers one after another, with a comma after each, and
-//! answers how many bytes that takes.
+//! The calls that `bench/writers` and `bench/peers` make, as a C library. A call of numbers in the
+//! plural, as `writer_u64s`, writes them one after another, with a comma after each, as long as
+//! there is room, and answers how many bytes that takes.
 #![tactic(auto)]
 
 mod each;
