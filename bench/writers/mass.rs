@@ -238,9 +238,8 @@ fn compare_amounts(from: u64, to: u64, sums: &mut Sums) {
     let places = (from / BLOCK % 39) as usize;
     for (writer, is_grouped) in [(writer_scaled as Writer, false), (writer_prices, true)] {
         // SAFETY: the values are only read, and of `out` no byte after its end is written
-        let length = unsafe {
-            writer(values.as_ptr(), values.len(), places, out.as_mut_ptr(), out.len())
-        };
+        let length =
+            unsafe { writer(values.as_ptr(), values.len(), places, out.as_mut_ptr(), out.len()) };
         let mut rest = &out[..length];
         for value in &values {
             sums.written += 1;
@@ -287,9 +286,9 @@ fn main() {
         ("f32", None) => {
             in_blocks(1 << 32, threads, |from, to, sums| compare::<f32>(from..to, sums))
         }
-        ("f64", Some(count)) => in_blocks(count, threads, |from, to, sums| {
-            compare::<f64>((from..to).map(chance), sums)
-        }),
+        ("f64", Some(count)) => {
+            in_blocks(count, threads, |from, to, sums| compare::<f64>((from..to).map(chance), sums))
+        }
         ("amounts", Some(count)) => in_blocks(count, threads, compare_amounts),
         _ => panic!("f32, f64 or amounts"),
     };

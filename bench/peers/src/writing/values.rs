@@ -58,7 +58,11 @@ impl Random {
     }
 
     fn sign(&mut self) -> f64 {
-        if self.below(2) == 1 { -1.0 } else { 1.0 }
+        if self.below(2) == 1 {
+            -1.0
+        } else {
+            1.0
+        }
     }
 }
 
