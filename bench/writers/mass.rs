@@ -207,7 +207,8 @@ fn compare<F: Float>(bits: impl Iterator<Item = u64>, sums: &mut Sums) {
         if is_even_of_two(x, ours, theirs) {
             sums.as_near += 1;
         } else {
-            sums.tell(&format!("{:x} is written {text}, by ryu {:?}", x.bits(), theirs));
+            let theirs = String::from_utf8_lossy(theirs);
+            sums.tell(&format!("{:x} is written {text}, by ryu {theirs}", x.bits()));
         }
     }
 }
