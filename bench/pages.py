@@ -1,8 +1,7 @@
 #!/usr/bin/env python3
-"""Writes what pages say of the last runs, by bench/cases.txt, bench/peers/counts.txt,
-bench/peers/times.txt and c/costs/counts.txt: the tables of docs/SPEED.md and c/README.md, the table and
-the sentences of README.md, and the pictures docs/speed.svg and docs/times.svg. `.ci/pages` compares
-them."""
+"""Writes what pages say of the last runs, by bench/cases.txt, the counts and times in bench/peers, and
+c/costs/counts.txt: the tables of docs/SPEED.md and c/README.md, the table and the sentences of
+README.md, and the pictures docs/speed.svg and docs/times.svg. `.ci/pages` compares them."""
 import os
 import re
 import sys
@@ -15,6 +14,7 @@ from costs import costs  # noqa: E402
 from peers import READ, door, peers  # noqa: E402
 from picture import of_times, svg  # noqa: E402
 from readers import answer, ratios, readme  # noqa: E402
+from written import writers  # noqa: E402
 
 # The rows of SPEED, with the cases that they show.
 ROWS = {
@@ -187,7 +187,7 @@ def pages():
     """The pages by their paths, as bench/cases.txt has them."""
     cases, speeds = Cases(), read("docs/SPEED.md")
     for name, text in (("answer", answer()), ("peers", peers()), ("door", door()),
-                       ("table", speed(cases)), ("lost", lost(cases))):
+                       ("writing", writers()), ("table", speed(cases)), ("lost", lost(cases))):
         speeds = between(speeds, name, text)
     groups = f"{most_of(cases, 'x: I', 'Constant', 'Filter'):.2f}"
     return {"docs/SPEED.md": speeds,

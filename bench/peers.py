@@ -56,7 +56,7 @@ def lacks(row, side):
     return found[0] if found else None
 
 
-def best(row, sides, value, does_less):
+def best(row, sides, value, does_less, lacks=lacks):
     """The least of the sides that do the same work, or of those that do less, with its name."""
     found = [(value(figures), side) for side, figures in sides.items()
              if not side.startswith(LIBRARY) and bool(lacks(row, side)) == does_less]
@@ -75,11 +75,11 @@ def cells(row, sides):
             ratio(mine[0], best(row, sides, lambda it: it[0], True))]
 
 
-def slower_run(row, sides, side=LIBRARY, does_less=False):
+def slower_run(row, sides, side=LIBRARY, does_less=False, lacks=lacks):
     """A side's time, and the fastest peer that does the same work, or does less, in the run in which
     their ratio is greatest; or None."""
     runs = range(min(len(it) for it in sides.values()))
-    found = [(sides[side][run], best(row, sides, lambda it: it[run], does_less)) for run in runs]
+    found = [(sides[side][run], best(row, sides, lambda it: it[run], does_less, lacks)) for run in runs]
     return max(found, key=lambda it: it[0] / it[1][0]) if found[0][1] else None
 
 

@@ -1,5 +1,6 @@
 //! The rows: what is read, and by which sides.
 
+use crate::measure::{self, Row};
 #[cfg(feature = "has-atoi")]
 use crate::sides::atoi;
 #[cfg(feature = "has-lexical-core")]
@@ -8,36 +9,12 @@ use crate::sides::lexical;
 use crate::sides::minimal;
 #[cfg(feature = "has-serde_json")]
 use crate::sides::serde;
-use crate::sides::{cxx, library, rust, Way};
+use crate::sides::{cxx, library, rust};
 use crate::texts::{self, Text};
 
-/// A side: its name, and whether its sum is that of the library.
-#[derive(Clone, Copy)]
-pub struct Side {
-    pub name: &'static str,
-    pub way: Way,
-    pub is_same: bool,
-}
-
-/// What is read. The first side is the library.
-pub struct Row {
-    pub name: &'static str,
-    pub text: Text,
-    pub sides: Vec<Side>,
-}
-
-/// Adds sides by their names. `~` says that a side's sum may differ: it reads all numbers as
-/// floats, or its last bits are wrong.
-macro_rules! sides {
-    ($($(#[$cfg:meta])* $name:literal $way:expr;)*) => {{
-        let mut sides: Vec<(&'static str, Way)> = Vec::new();
-        $($(#[$cfg])* sides.push(($name, $way));)*
-        sides.into_iter().map(|(name, way)| {
-            let is_same = !name.ends_with('~');
-            Side { name: name.trim_end_matches('~'), way, is_same }
-        }).collect::<Vec<Side>>()
-    }};
-}
+/// A `~` says that a side's sum may differ: it reads all numbers as floats, or its last bits are
+/// wrong.
+type Side = measure::Side<Text>;
 
 fn u64s() -> Vec<Side> {
     sides! {
@@ -147,7 +124,7 @@ fn json() -> Vec<Side> {
 }
 
 /// The rows that are wanted, over texts of about so many bytes.
-pub fn rows(size: usize, is_wanted: &dyn Fn(&str) -> bool) -> Vec<Row> {
+pub fn rows(size: usize, is_wanted: &dyn Fn(&str) -> bool) -> Vec<Row<Text>> {
     let all: [(&'static str, fn(usize) -> Text, fn() -> Vec<Side>); 23] = [
         ("u64, 1 to 4 digits", |n| texts::integers(n, (1, 4)), u64s),
         ("u64, 8 digits", |n| texts::integers(n, (8, 8)), u64s),
@@ -174,5 +151,5 @@ pub fn rows(size: usize, is_wanted: &dyn Fn(&str) -> bool) -> Vec<Row> {
         ("JSON, 1 to 3 digits, an exponent", texts::powers, json),
     ];
     let wanted = all.into_iter().filter(|(name, _, _)| is_wanted(name));
-    wanted.map(|(name, text, sides)| Row { name, text: text(size), sides: sides() }).collect()
+    wanted.map(|(name, text, sides)| Row { name, input: text(size), sides: sides() }).collect()
 }

@@ -14,8 +14,6 @@ pub mod serde;
 
 use crate::texts::Text;
 
-pub type Way = fn(&Text) -> u64;
-
 /// The sum of what a closure makes of each number.
 #[inline(always)]
 fn sum(bytes: &[u8], lengths: &[u8], value: impl Fn(&[u8]) -> u64) -> u64 {

@@ -1,5 +1,11 @@
-//! The calls that `bench/writers` makes, as a C library.
+//! The calls that `bench/writers` and `bench/peers` make, as a C library. A call of numbers in the
+//! plural, as `writer_u64s`, writes them one after another, with a comma after each, as long as
+//! there is room, and answers how many bytes that takes.
 #![tactic(auto)]
+
+mod each;
+mod floats;
+mod integers;
 
 use decimal_writers::{ExponentText, write_fixed, write_scientific};
 use float_writers::{WrittenFloat, shortest};

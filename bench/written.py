@@ -1,0 +1,104 @@
+"""The table of the library beside other writers, by bench/peers/written-counts.txt and
+written-times.txt."""
+from cases import table
+from peers import LIBRARY, Figures, best, ratio, slower_run
+
+PLAIN = "library, plain"
+# What a side doesn't do that the library does, in the rows whose names begin so.
+LESS = {
+    ("", "itoa, its own buffer"): "its text isn't in the slice of the caller",
+    ("f", "dtoa"): "sometimes a digit too many",
+    ("f", "snprintf, %.17g"): "17 digits",
+    ("f", "snprintf, %.9g"): "9 digits",
+    ("%", "double-conversion"): "a tie is rounded up",
+}
+# The most that a row may take beside a peer, in the rows whose names begin so; and beside the best.
+AIMS = {
+    "u64": {"itoa": 0.95},
+    "i32": {"itoa": 0.95},
+    "grouped": {PLAIN: 1.15},
+    "f64": {"ryu": 0.85, "to_chars": 0.65},
+    "f32": {"ryu": 0.85, "to_chars": 0.65},
+    "%.2f": {"to_chars": 0.5, "snprintf": 0.2},
+}
+MOST = 1.05
+
+
+def lacks(row, side):
+    """What a side doesn't do, or None."""
+    if side.endswith(", plain"):
+        return "no separators"
+    found = [it for (start, name), it in LESS.items() if row.startswith(start) and name == side]
+    return found[0] if found else None
+
+
+def best_of(row, sides, does_less, run=0):
+    return best(row, sides, lambda it: it[run], does_less, lacks)
+
+
+def aims_of(row, sides):
+    """Each peer beside which the row has an aim: its name, the ratio, and the aim."""
+    found = [it for start, it in AIMS.items() if row.startswith(start)]
+    for peer, most in (found[0] if found else {}).items():
+        if peer in sides:
+            yield peer, sides[LIBRARY][0] / sides[peer][0], most
+
+
+def shown(value, name, most):
+    return f"{value:.2f} {name.removeprefix('library, ')}" + (" over" if value > most else "")
+
+
+def cells(row, sides):
+    """What the counts say of a row."""
+    mine, same = sides[LIBRARY][0], best_of(row, sides, False)
+    beside = ", ".join(shown(value, peer, most) for peer, value, most in aims_of(row, sides))
+    return [f"`{row[:4]}`{row[4:]}" if row[0] == "%" else row, f"{mine:.0f}",
+            shown(mine / same[0], same[1].partition(",")[0], MOST) if same else "–",
+            ratio(mine, best_of(row, sides, True)), beside or "–"]
+
+
+def time(row, sides):
+    """The ratio of the library's time to the fastest that does the same work."""
+    if not sides or not best_of(row, sides, False):
+        return "–"
+    return ratio(*slower_run(row, sides, lacks=lacks))
+
+
+def met(rows):
+    """How many aims there are, and how many of them are met."""
+    ratios = []
+    for row, sides in rows.items():
+        same = best_of(row, sides, False)
+        ratios += [(value, most) for _, value, most in aims_of(row, sides)]
+        ratios += [(sides[LIBRARY][0] / same[0], MOST)] if same else []
+    return len(ratios), sum(value <= most for value, most in ratios)
+
+
+def writers():
+    """What docs/SPEED.md has between its comments on writing."""
+    counts, times = Figures("written-counts.txt"), Figures("written-times.txt")
+    head = ["What is written", "Library", "to the best peer", "to one that does less", "to its aims"]
+    body = [cells(row, sides) for row, sides in counts.rows.items()]
+    words = ("Instructions for one number, written into the slice of the caller with a comma behind "
+             "it; their ratio to the best peer that does the same work, that does less, and to those "
+             "for which there is an aim")
+    if times.rows:
+        head.append("time")
+        words += ("; the ratio of the time to the fastest that does the same work, the greater one "
+                  "of two runs on a quiet machine")
+        for line, row in zip(body, counts.rows):
+            line.append(time(row, times.rows.get(row)))
+    told = "; ".join(f"{side} ({it})" for (_, side), it in LESS.items())
+    all_aims, are_met = met(counts.rows)
+    return "\n".join([
+        f"{counts.head}.\n", *table(f"{words}:", head, body),
+        f"Writers that do less have a column of their own: {told}. Of grouped numbers they write the "
+        "same without separators, and *plain* is the library's own. to_chars is that of libstdc++, "
+        "and writes all digits of a whole number. double-conversion is the library for C++. itoa, "
+        "ryu, dtoa and lexical-core are crates of Rust, and std's floats are of two as close not "
+        "always the even one. [written-counts.txt](../bench/peers/written-counts.txt) has every "
+        "writer, and mispredicted branches.", "",
+        "An aim is the most that a row may take: an integer 0.95 of itoa, in groups 1.15 of the same "
+        "without, a float 0.85 of ryu and 0.65 of to_chars, `%.2f` 0.5 of to_chars and 0.2 of "
+        f"snprintf, and every row {MOST} of the best peer. *over*: it is missed. Of {all_aims} aims "
+        f"{are_met} are met."])
