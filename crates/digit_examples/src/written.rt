@@ -4,8 +4,8 @@ use digit_uses::calling::{RoundError, round_json};
 use digits::{
     ExponentText, FloatLayout, FloatTextError, FormTextError, Layout, MOST_ROOM, NoRoom, Number,
     NumberError, forms, write_exponent, write_fixed, write_float, write_float_of, write_integer_of,
-    write_number, write_number_by, write_number_of, write_plain, write_price, write_scaled,
-    write_scientific, write_usual,
+    write_list, write_number, write_number_by, write_number_of, write_plain, write_price,
+    write_scaled, write_scientific, write_usual,
 };
 
 /// Shows `write_number`.
@@ -49,6 +49,22 @@ fn other_layouts(rt: HostRuntime) {
     );
     assert!(rt; out.starts_with(b"+5"));
     assert_eq!(rt; Layout::of_radix(37), None);
+}
+
+/// Shows `write_list`.
+#[test]
+fn a_list_of_integers(rt: HostRuntime) {
+    let mut out = [0; 16];
+    assert_eq!(rt; write_list(&[80, -1, 443], b',', &mut out), Ok(9));
+    assert!(rt; out.starts_with(b"80,-1,443"));
+    let mut few = [0; 5];
+    assert_eq!(rt;
+        write_list(&[80, 443], b'\n', &mut few),
+        Err(NoRoom { needed: 6 })
+    );
+    let mut out = [0; 16];
+    let none: [i64; 0] = [];
+    assert_eq!(rt; write_list(&none, b',', &mut out), Ok(0));
 }
 
 /// Shows `write_scaled`.
