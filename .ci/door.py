@@ -56,7 +56,7 @@ GROUPS = {
         NumberReader StreamRead StreamEnd StreamError is_apart"""),
     "Numbers that are written": (
         "the shortest text, groups, fixed places, by a form", """
-        write_number write_number_by Layout write_scaled write_price write_float FloatLayout
+        write_number write_number_by Layout write_list write_scaled write_price write_float FloatLayout
         FloatTextError write_fixed write_scientific ExponentText write_plain write_usual
         write_exponent write_number_of write_float_of write_integer_of FormTextError NoRoom MOST_ROOM
         FLOAT_ROOM PLAIN_ROOM Written AnyFloat WrittenFloat"""),

@@ -21,7 +21,7 @@
  * .._by            the same by a format word: separators, or another radix
  * .._list          reads numbers with a byte between two of them
  * .._piece         the same of a text that comes in pieces
- * digits_write_..  writes the text of a number
+ * digits_write_..  writes the text of a number; .._of as a language or a data format has it
  *
  * A blank is no part of a number, and no call that reads or parses one skips blanks. The calls for
  * lists and for single bytes do.
@@ -659,6 +659,33 @@ size_t digits_write_f32_in(void *out, size_t room, float value, uint32_t layout)
 DIGITS_USED
 size_t digits_write_f64_fixed(void *out, size_t room, double value, uint32_t places);
 
+/* The same with one digit before the point and an exponent, by a DIGITS_EXPONENT_..: with
+ * DIGITS_EXPONENT_SIGNED as printf's `%.2e` in the locale C, so that 1234.5 of 2 places is
+ * `1.23e+03`, and with DIGITS_EXPONENT_SHORT `1.23e3`; of another number there is no text. The text
+ * has at most 8 bytes and the places. */
+
+DIGITS_USED
+size_t digits_write_f64_scientific(void *out, size_t room, double value, uint32_t places,
+                                   uint32_t exponent);
+
+/* A number as a language or a data format has it, by a DIGITS_FORM_..: digits_parse_number by the
+ * form reads the text as this number. A float has the digits of digits_write_f64, laid out so that
+ * the form reads it as a float:
+ *
+ *                             0.5    2.0    1e16      -3.0    inf     nan
+ *     DIGITS_FORM_JSON        0.5    2.0    1e16      -3.0    none    none
+ *     DIGITS_FORM_TOML        0.5    2.0    1e16      -3.0    inf     nan
+ *     DIGITS_FORM_YAML        0.5    2.0    1e16      -3.0    .inf    .nan
+ *     DIGITS_FORM_ERLANG      0.5    2.0    1.0e16    none    none    none
+ *
+ * There is no text where the form has no such number, as JSON no NaN and source code none below 0,
+ * or where no form has this number. 328 bytes hold every text. */
+
+DIGITS_USED
+size_t digits_write_f64_of(void *out, size_t room, double value, uint32_t form);
+DIGITS_USED
+size_t digits_write_i64_of(void *out, size_t room, int64_t value, uint32_t form);
+
 /* ---- what calls are told ---- */
 
 /* names: from the sources, by c/constants */
@@ -674,6 +701,10 @@ size_t digits_write_f64_fixed(void *out, size_t room, double value, uint32_t pla
 #define DIGITS_LAYOUT_USUAL 0 /* As JSON has it: with an exponent below 1e-5 and from 1e16 on, else with one place at least */
 #define DIGITS_LAYOUT_PLAIN 1 /* Without an exponent: 0.00012, 1.5, 12000 */
 #define DIGITS_LAYOUT_EXPONENT 2 /* With an exponent: 1.2e-4, 1.5e0 */
+
+/* How an exponent is written. */
+#define DIGITS_EXPONENT_SIGNED 0 /* As C's %e: with a sign and two digits at least, 1.5e+00 */
+#define DIGITS_EXPONENT_SHORT 1 /* Short: 1.5e0 */
 
 /* Forms: docs/reference/digit_numbers.md. */
 #define DIGITS_FORM_LITERAL 0 /* The shortest form of source code: decimal digits without a sign, with a point or an exponent if they are a float */

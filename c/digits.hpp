@@ -386,6 +386,26 @@ template <typename Places>
     return detail::text(places, digits_write_f64_fixed, value, decimals);
 }
 
+/// The same with one digit before the point and an exponent, by a DIGITS_EXPONENT_...
+template <typename Places>
+[[nodiscard]] std::string_view
+write_scientific(Places &&places, double value, std::uint32_t decimals,
+                 std::uint32_t exponent = DIGITS_EXPONENT_SIGNED) noexcept
+{
+    return detail::text(places, digits_write_f64_scientific, value, decimals, exponent);
+}
+
+/// The text of an integer or a float as a DIGITS_FORM_.. has it. It is empty too where the form has
+/// no such number.
+template <typename Places, typename T>
+[[nodiscard]] std::string_view write_of(Places &&places, T value, std::uint32_t form) noexcept
+{
+    if constexpr (std::is_integral_v<T>)
+        return detail::text(places, digits_write_i64_of, std::int64_t{value}, form);
+    else
+        return detail::text(places, digits_write_f64_of, double{value}, form);
+}
+
 /// The text of an integer in groups of digits.
 template <typename Places, typename T>
 [[nodiscard]] std::string_view write_grouped(Places &&places, T value, char separator,

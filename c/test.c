@@ -750,6 +750,45 @@ static void written_floats(void)
     CHECK(digits_write_f64_fixed(NULL, 0, 1.5, UINT32_MAX) == 0);
 }
 
+static void written_scientific(void)
+{
+    const uint32_t printf_like = DIGITS_EXPONENT_SIGNED, brief = DIGITS_EXPONENT_SHORT;
+    WRITES("1.23e+03", digits_write_f64_scientific(out, room, 1234.5, 2, printf_like));
+    WRITES("1.23e3", digits_write_f64_scientific(out, room, 1234.5, 2, brief));
+    WRITES("1.0e+01", digits_write_f64_scientific(out, room, 9.96, 1, printf_like));
+    WRITES("2e+00", digits_write_f64_scientific(out, room, 2.5, 0, printf_like));
+    WRITES("-0.00e+00", digits_write_f64_scientific(out, room, -0.0, 2, printf_like));
+    WRITES("-0.00e0", digits_write_f64_scientific(out, room, -0.0, 2, brief));
+    WRITES("4.941e-324", digits_write_f64_scientific(out, room, 4.9406564584124654e-324, 3, brief));
+    WRITES("-1.0e+100", digits_write_f64_scientific(out, room, -1e100, 1, printf_like));
+    WRITES("1.00000000000000005551e-01",
+           digits_write_f64_scientific(out, room, 0.1, 20, printf_like));
+    WRITES("", digits_write_f64_scientific(out, room, 1.5, 2, 2));
+    WRITES("", digits_write_f64_scientific(out, room, -HUGE_VAL, 2, printf_like));
+    WRITES("", digits_write_f64_scientific(out, room, HUGE_VAL - HUGE_VAL, 2, brief));
+    CHECK(digits_write_f64_scientific(NULL, 0, 1.5, 2, printf_like) == 0);
+}
+
+static void written_by_a_form(void)
+{
+    WRITES("0.5", digits_write_f64_of(out, room, 0.5, DIGITS_FORM_JSON));
+    WRITES("2.0", digits_write_f64_of(out, room, 2.0, DIGITS_FORM_JSON));
+    WRITES("1e16", digits_write_f64_of(out, room, 1e16, DIGITS_FORM_JSON));
+    WRITES("1.0e16", digits_write_f64_of(out, room, 1e16, DIGITS_FORM_ERLANG));
+    WRITES("-inf", digits_write_f64_of(out, room, -HUGE_VAL, DIGITS_FORM_TOML));
+    WRITES(".inf", digits_write_f64_of(out, room, HUGE_VAL, DIGITS_FORM_YAML));
+    WRITES("", digits_write_f64_of(out, room, HUGE_VAL, DIGITS_FORM_JSON));
+    WRITES("", digits_write_f64_of(out, room, -3.0, DIGITS_FORM_ERLANG));
+    WRITES("", digits_write_f64_of(out, room, 0.5, UINT32_MAX));
+    WRITES("-3", digits_write_i64_of(out, room, -3, DIGITS_FORM_JSON));
+    WRITES("-9223372036854775808", digits_write_i64_of(out, room, INT64_MIN, DIGITS_FORM_TOML));
+    WRITES("7", digits_write_i64_of(out, room, 7, DIGITS_FORM_RUST));
+    WRITES("", digits_write_i64_of(out, room, -3, DIGITS_FORM_RUST));
+    WRITES("", digits_write_i64_of(out, room, 7, UINT32_MAX));
+    CHECK(digits_write_f64_of(NULL, 0, 0.5, DIGITS_FORM_JSON) == 0);
+    CHECK(digits_write_i64_of(NULL, 0, 7, DIGITS_FORM_JSON) == 0);
+}
+
 int main(void)
 {
     CHECK(digits_version() == DIGITS_VERSION);
@@ -778,6 +817,8 @@ int main(void)
     written_integers();
     written_amounts();
     written_floats();
+    written_scientific();
+    written_by_a_form();
     printf("%d faults\n", faults);
     return faults != 0;
 }

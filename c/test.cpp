@@ -50,6 +50,11 @@ static void writes()
     CHECK(digits::write_in(room, 12000.0f, DIGITS_LAYOUT_PLAIN) == "12000");
     CHECK(digits::write_in(room, 12000.0, 3).empty());
     CHECK(digits::write_fixed(room, 0.125, 2) == "0.12");
+    CHECK(digits::write_scientific(room, 1234.5, 2) == "1.23e+03");
+    CHECK(digits::write_scientific(room, 1234.5, 2, DIGITS_EXPONENT_SHORT) == "1.23e3");
+    CHECK(digits::write_of(room, 2.0, DIGITS_FORM_JSON) == "2.0");
+    CHECK(digits::write_of(room, -3, DIGITS_FORM_JSON) == "-3");
+    CHECK(digits::write_of(room, std::nan(""), DIGITS_FORM_JSON).empty());
     std::string text(12, '*');
     CHECK(digits::write_grouped(text, 1234567, ',') == "1,234,567" && text == "1,234,567***");
     CHECK(digits::write_grouped(text, 255u, '_', 1) == "2_5_5");

@@ -7,6 +7,7 @@
 
 #include <algorithm>
 #include <cinttypes>
+#include <type_traits>
 
 namespace beside {
 
@@ -128,6 +129,7 @@ inline void written_integers(uint64_t bits, uint64_t choice)
     const string text = printed("%" PRId64, i64), other = printed("%" PRIu64, bits);
     writes("an i64", text, more, digits_write_i64, i64);
     writes("a u64", other, more, digits_write_u64, bits);
+    writes("an i64 of JSON", text, more, digits_write_i64_of, i64, uint32_t{DIGITS_FORM_JSON});
     writes("an i32", printed("%" PRId32, i32), more, digits_write_i32, i32);
     writes("a u32", printed("%" PRIu32, u32), more, digits_write_u32, u32);
     int64_t again;
@@ -175,13 +177,19 @@ void written_floats(T x, size_t more, Write write, WriteIn write_in, Read read)
     check(texts[0].size() <= DIGITS_ROOM_F64 && texts[2].size() <= DIGITS_ROOM_F64, "the room");
     const string text = written("a float", 64, write, x);
     check(bytes_of(read(text.c_str())) == bytes_of(x), "a float that is read back");
+    if constexpr (std::is_same_v<T, double>)
+        writes("a float of JSON", texts[0], more, digits_write_f64_of, x, uint32_t{DIGITS_FORM_JSON});
 }
 
-inline void written_fixed(double x, size_t more, uint32_t places)
+inline void written_places(double x, size_t more, uint32_t places)
 {
+    const bool is_there = std::isfinite(x);
     writes("a float with fixed places",
-           std::isfinite(x) ? printed("%.*f", static_cast<int>(places), x) : "", more,
+           is_there ? printed("%.*f", static_cast<int>(places), x) : "", more,
            digits_write_f64_fixed, x, places);
+    writes("a float with an exponent",
+           is_there ? printed("%.*e", static_cast<int>(places), x) : "", more,
+           digits_write_f64_scientific, x, places, uint32_t{DIGITS_EXPONENT_SIGNED});
 }
 
 // All calls that write, of a number of these bits.
@@ -198,7 +206,7 @@ inline void all_writes(uint64_t bits, uint64_t choice)
                    [](const char *text) { return std::strtod(text, nullptr); });
     written_floats(f32, more, digits_write_f32, digits_write_f32_in,
                    [](const char *text) { return std::strtof(text, nullptr); });
-    written_fixed(f64, more, static_cast<uint32_t>(choice >> 48 & (choice >> 56 & 7 ? 31 : 1023)));
+    written_places(f64, more, static_cast<uint32_t>(choice >> 48 & (choice >> 56 & 7 ? 31 : 1023)));
 }
 
 } // namespace beside

@@ -72,6 +72,10 @@ LAYOUT_USUAL = 0  # As JSON has it: with an exponent below 1e-5 and from 1e16 on
 LAYOUT_PLAIN = 1  # Without an exponent: 0.00012, 1.5, 12000
 LAYOUT_EXPONENT = 2  # With an exponent: 1.2e-4, 1.5e0
 
+# How an exponent is written.
+EXPONENT_SIGNED = 0  # As C's %e: with a sign and two digits at least, 1.5e+00
+EXPONENT_SHORT = 1  # Short: 1.5e0
+
 # Forms: docs/reference/digit_numbers.md.
 FORM_LITERAL = 0  # The shortest form of source code: decimal digits without a sign, with a point or an exponent if they are a float
 FORM_FLOAT = 1  # The shortest form of data: the same with a sign, and every number is a float
@@ -700,6 +704,9 @@ _write_price = _writer("price_i64", c_int64, c_size_t, c_uint8, c_uint8)
 _write_f64 = _writer("f64_in", c_double, c_uint32, most=400)
 _write_f32 = _writer("f32_in", c_float, c_uint32, most=400)
 _write_fixed = _writer("f64_fixed", c_double, c_uint32)
+_write_scientific = _writer("f64_scientific", c_double, c_uint32, c_uint32)
+_write_f64_of = _writer("f64_of", c_double, c_uint32, most=400)
+_write_i64_of = _writer("i64_of", c_int64, c_uint32, most=400)
 
 
 def write_grouped(value, separator=b",", every=3):
@@ -739,3 +746,21 @@ def write_fixed(value, places):
     """A float with a fixed number of places, as format(value, ".2f") has it."""
     return _some(_write_fixed(value, _within(places, 0, 2**31), room=311 + places),
                  "a float that isn't finite has no text")
+
+
+def write_scientific(value, places, exponent=EXPONENT_SIGNED):
+    """A float with one digit before the point and an exponent, as format(value, ".2e") has it; by
+    EXPONENT_SHORT 1.23e3 in place of 1.23e+03."""
+    exponent = _within(exponent, EXPONENT_SIGNED, EXPONENT_SHORT)
+    return _some(_write_scientific(value, _within(places, 0, 2**31), exponent, room=8 + places),
+                 "a float that isn't finite has no text")
+
+
+def write_number(value, form=FORM_JSON):
+    """A float, or an int of 64 bits, as a FORM_.. has it. A ValueError says that the form has no such
+    number, as JSON no NaN and source code none below 0."""
+    if isinstance(value, int):
+        text = _write_i64_of(_within(value, -(2**63), 2**63 - 1), form)
+    else:
+        text = _write_f64_of(value, form)
+    return _some(text, "the form has no such number")

@@ -182,6 +182,18 @@ class Calls(unittest.TestCase):
         self.assertRaises(OverflowError, digits.write_f64, 1.5, 3)
         self.assertEqual(digits.write_f32(0.1), b"0.1")
         self.assertEqual(digits.write_f64(1.5, digits.LAYOUT_EXPONENT), b"1.5e0")
+        self.assertEqual(digits.write_scientific(1234.5, 2, digits.EXPONENT_SHORT), b"1.23e3")
+        self.assertRaises(ValueError, digits.write_scientific, float("inf"), 2)
+        self.assertRaises(OverflowError, digits.write_scientific, 1.5, 2, 2)
+
+    def test_writes_by_a_form(self):
+        self.assertEqual(digits.write_number(2.0), b"2.0")
+        self.assertEqual(digits.write_number(-(2**63)), b"-9223372036854775808")
+        self.assertEqual(digits.write_number(float("-inf"), digits.FORM_TOML), b"-inf")
+        self.assertEqual(digits.write_number(1e16, digits.FORM_ERLANG), b"1.0e16")
+        self.assertRaises(ValueError, digits.write_number, float("nan"))
+        self.assertRaises(ValueError, digits.write_number, -3, digits.FORM_RUST)
+        self.assertRaises(OverflowError, digits.write_number, 2**63)
 
     def test_writes_beside_python(self):
         source = random.Random(1)
@@ -192,6 +204,8 @@ class Calls(unittest.TestCase):
                 self.assertEqual(float(text), x)
                 self.assertEqual(decimal.Decimal(text.decode()), decimal.Decimal(repr(x)))
                 self.assertEqual(digits.write_fixed(x, 3).decode(), format(x, ".3f"))
+                self.assertEqual(digits.write_scientific(x, 5).decode(), format(x, ".5e"))
+                self.assertEqual(digits.parse_number(digits.write_number(x)), x)
             n = source.getrandbits(source.randrange(1, 64)) * source.choice((-1, 1))
             self.assertEqual(digits.write_i64(n).decode(), str(n))
             self.assertEqual(digits.write_grouped(n).decode(), f"{n:,}")

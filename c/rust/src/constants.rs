@@ -79,6 +79,16 @@ pub mod layouts {
     pub const EXPONENT: Layout = Layout(2);
 }
 
+/// How an exponent is written.
+pub mod exponents {
+    use crate::Exponent;
+
+    /// As C's %e: with a sign and two digits at least, 1.5e+00.
+    pub const SIGNED: Exponent = Exponent(0);
+    /// Short: 1.5e0.
+    pub const SHORT: Exponent = Exponent(1);
+}
+
 /// Forms: docs/reference/digit_numbers.md.
 pub mod forms {
     use crate::Form;

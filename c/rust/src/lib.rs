@@ -40,6 +40,11 @@ pub struct Form(u32);
 #[derive(Clone, Copy, Debug, PartialEq, Eq, Hash)]
 pub struct Layout(u32);
 
+/// How an exponent is written, of [`exponents`].
+#[repr(transparent)]
+#[derive(Clone, Copy, Debug, PartialEq, Eq, Hash)]
+pub struct Exponent(u32);
+
 /// A language of literals, of [`languages`].
 #[repr(transparent)]
 #[derive(Clone, Copy, Debug, PartialEq, Eq, Hash)]
@@ -725,6 +730,11 @@ extern "C" {
     fn digits_write_f64_in(places: *mut u8, room: usize, value: f64, layout: Layout) -> usize;
     fn digits_write_f32_in(places: *mut u8, room: usize, value: f32, layout: Layout) -> usize;
     fn digits_write_f64_fixed(places: *mut u8, room: usize, value: f64, decimals: u32) -> usize;
+    fn digits_write_f64_scientific(
+        places: *mut u8, room: usize, value: f64, decimals: u32, exponent: Exponent,
+    ) -> usize;
+    fn digits_write_f64_of(places: *mut u8, room: usize, value: f64, form: Form) -> usize;
+    fn digits_write_i64_of(places: *mut u8, room: usize, value: i64, form: Form) -> usize;
 }
 
 /// The shortest text of an integer or a float, at the front of a slice of `rooms` bytes. `None`:
@@ -782,4 +792,30 @@ pub fn write_f32_in(value: f32, layout: Layout, places: &mut [u8]) -> Option<&[u
 pub fn write_fixed(value: f64, decimals: u32, places: &mut [u8]) -> Option<&[u8]> {
     // SAFETY: as of all calls by `text`.
     text(places, |to, room| unsafe { digits_write_f64_fixed(to, room, value, decimals) })
+}
+
+/// The same with one digit before the point and an exponent.
+pub fn write_scientific(
+    value: f64,
+    decimals: u32,
+    exponent: Exponent,
+    places: &mut [u8],
+) -> Option<&[u8]> {
+    // SAFETY: as of all calls by `text`.
+    text(places, |to, room| unsafe {
+        digits_write_f64_scientific(to, room, value, decimals, exponent)
+    })
+}
+
+/// The text of a float as a language or a data format has it. `None` too: the form has no such
+/// float.
+pub fn write_f64_of(value: f64, form: Form, places: &mut [u8]) -> Option<&[u8]> {
+    // SAFETY: as of all calls by `text`.
+    text(places, |to, room| unsafe { digits_write_f64_of(to, room, value, form) })
+}
+
+/// The same of an `i64`.
+pub fn write_i64_of(value: i64, form: Form, places: &mut [u8]) -> Option<&[u8]> {
+    // SAFETY: as of all calls by `text`.
+    text(places, |to, room| unsafe { digits_write_i64_of(to, room, value, form) })
 }

@@ -147,6 +147,15 @@ fn writes() {
     assert_eq!(write_f64_in(12000.0, layouts::PLAIN, &mut places), Some(&b"12000"[..]));
     assert_eq!(write_f32_in(12000.0, layouts::EXPONENT, &mut places), Some(&b"1.2e4"[..]));
     assert_eq!(write_fixed(0.125, 2, &mut places), Some(&b"0.12"[..]));
+    let (signed, short) = (exponents::SIGNED, exponents::SHORT);
+    assert_eq!(write_scientific(1234.5, 2, signed, &mut places), Some(&b"1.23e+03"[..]));
+    assert_eq!(write_scientific(1234.5, 2, short, &mut places), Some(&b"1.23e3"[..]));
+    assert_eq!(write_scientific(f64::NAN, 2, signed, &mut places), None);
+    assert_eq!(write_f64_of(-2.0, forms::JSON, &mut places), Some(&b"-2.0"[..]));
+    assert_eq!(write_f64_of(f64::INFINITY, forms::YAML, &mut places), Some(&b".inf"[..]));
+    assert_eq!(write_f64_of(f64::INFINITY, forms::JSON, &mut places), None);
+    assert_eq!(write_i64_of(-3, forms::JSON, &mut places), Some(&b"-3"[..]));
+    assert_eq!(write_i64_of(-3, forms::RUST, &mut places), None);
     assert_eq!(write_i64_grouped(-1234567, b',', 3, &mut places), Some(&b"-1,234,567"[..]));
     assert_eq!(write_u64_grouped(1234567, b'_', 4, &mut places), Some(&b"123_4567"[..]));
     assert_eq!(write_u64_grouped(1234567, b'7', 4, &mut places), None);

@@ -1,10 +1,11 @@
 //! Numbers that are written. Each call writes to the front of a slice.
 
+use digit_uses::calling::{RoundError, round_json};
 use digits::{
     ExponentText, FloatLayout, FloatTextError, FormTextError, Layout, MOST_ROOM, NoRoom, Number,
-    STANDARD, forms, write_exponent, write_fixed, write_float, write_float_of, write_integer_of,
-    write_number, write_number_by, write_number_of, write_plain, write_price, write_scaled,
-    write_scientific, write_usual,
+    NumberError, STANDARD, forms, write_exponent, write_fixed, write_float, write_float_of,
+    write_integer_of, write_list, write_number, write_number_by, write_number_of, write_plain,
+    write_price, write_scaled, write_scientific, write_usual,
 };
 
 /// Shows `write_number`.
@@ -48,6 +49,22 @@ fn other_layouts(rt: HostRuntime) {
     );
     assert!(rt; out.starts_with(b"+5"));
     assert_eq!(rt; Layout::of_radix(37), None);
+}
+
+/// Shows `write_list`.
+#[test]
+fn a_list_of_integers(rt: HostRuntime) {
+    let mut out = [0; 16];
+    assert_eq!(rt; write_list(&[80, -1, 443], b',', &mut out), Ok(9));
+    assert!(rt; out.starts_with(b"80,-1,443"));
+    let mut few = [0; 5];
+    assert_eq!(rt;
+        write_list(&[80, 443], b'\n', &mut few),
+        Err(NoRoom { needed: 6 })
+    );
+    let mut out = [0; 16];
+    let none: [i64; 0] = [];
+    assert_eq!(rt; write_list(&none, b',', &mut out), Ok(0));
 }
 
 /// Shows `write_scaled`.
@@ -191,4 +208,24 @@ fn a_decimal_as_usual(rt: HostRuntime) {
     assert!(rt; out.starts_with(b"12000.0"));
     assert_eq!(rt; write_usual(false, 12, 20, &mut out), Ok(6));
     assert!(rt; out.starts_with(b"1.2e21"));
+}
+
+/// A block of CALLING.md.
+#[test]
+fn a_number_that_is_read_and_rounded(rt: HostRuntime) {
+    let mut out = [0; 16];
+    assert_eq!(rt; round_json(b"-12e-3", &mut out), Ok(5));
+    assert!(rt; out.starts_with(b"-0.01"));
+    // the float is a little below 1.005
+    assert_eq!(rt; round_json(b"1.005", &mut out), Ok(4));
+    assert!(rt; out.starts_with(b"1.00"));
+    assert_eq!(rt; round_json(b"1e999", &mut out), Err(RoundError::TooLarge));
+    assert_eq!(rt;
+        round_json(b"01", &mut out),
+        Err(RoundError::NoNumber(NumberError::Invalid(1)))
+    );
+    assert_eq!(rt;
+        round_json(b"7", &mut out[..3]),
+        Err(RoundError::NoRoom(NoRoom { needed: 4 }))
+    );
 }

@@ -1,19 +1,21 @@
 //! The blocks of the page CALLING.md, in its order. `.ci/pages` compares the two.
 #![tactic(auto, unfolding(digits::proofs::Literals::lexical_on_literals))]
 
-ghost use Rattle.std.specs.Prelude.{◌≡◌, ℕ, ◌+◌, ◌-◌, ◌^◌, ◌<◌, ◌≤◌, length, pos, Ok, Err, IfOk, IfErr, IfSome, IsTrue, MatchResult, true};
-ghost use Rattle.std.specs.Float.{float_is_finite};
-ghost use Rattle.digits.specs.Words.{Fills, Integer, binary64, digits_between, has_byte, integer_at, is_supported, list_at, literal_at, literal_none_at, number_at, number_of_at, parse_at, plain_marks, rule_of, stop, to_end};
+ghost use Rattle.std.specs.Prelude.{◌≡◌, ℕ, ◌+◌, ◌-◌, ◌^◌, ◌<◌, ◌≤◌, length, pos, Ok, Err, IfOk, IfErr, IfSome, IsTrue, MatchResult, take, true};
+ghost use Rattle.std.specs.Float.{Float, float_is_finite};
+ghost use Rattle.digits.specs.Words.{Fills, Integer, Number, binary64, digits_between, fixed_text, float_in, has_byte, integer_at, is_supported, list_at, literal_at, literal_none_at, number_at, number_of_at, number_to_end, parse_at, plain_marks, rule_of, stop, to_end, with_value};
 
+use digits::forms::JSON;
 use digits::languages::RUST;
 use digits::words::PYTHON_LITERAL;
 use digits::{
     Both, BothError, COMMAS, Component, DECIMAL, DigitSeparatorFlags, FLOAT_ROOM, FloatError,
     FloatLayout, Floats, Form, INTEGER_INTERNAL_DIGIT_SEPARATOR, Integers, LINES, LanguageError,
-    ListRead, Literal, LiteralError, NO_FLAGS, NumberError, NumberFormatBuilder, NumberReader,
-    ParseError, PieceRead, Rule, STANDARD, StreamError, block_start, end_in_text, expect_byte,
-    forms, is_supported, parse_float, parse_number, read_integer_from, read_list, read_literal,
-    read_number, read_number_from, read_number_of, read_piece, stop_from, write_float,
+    ListRead, Literal, LiteralError, NO_FLAGS, NoRoom, NumberError, NumberFormatBuilder,
+    NumberReader, ParseError, PieceRead, Rule, STANDARD, StreamError, block_start, end_in_text,
+    expect_byte, forms, is_supported, parse_float, parse_number, parse_number_of,
+    read_integer_from, read_list, read_literal, read_number, read_number_from, read_number_of,
+    read_piece, stop_from, write_fixed, write_float,
 };
 use std::alloc::{AllocError, Global};
 use std::io::Read;
@@ -100,6 +102,30 @@ pub fn write_and_read(x: f64) -> f64
         },
         Err(_) => unreachable!(),
     }
+}
+
+/// Why a number wasn't rounded.
+#[derive(Clone, Copy, Debug, PartialEq, Eq)]
+pub enum RoundError {
+    NoNumber(NumberError),
+    TooLarge,
+    NoRoom(NoRoom),
+}
+
+/// Writes the number of JSON that a text is, rounded to two places, and answers how many bytes that
+/// takes: `-12e-3` gives `-0.01`.
+pub fn round_json(text: &[u8], out: &mut [u8]) -> Result<usize, RoundError>
+    ensures { let read = number_to_end text.now (number_of_at JSON text.now 0 binary64) in
+        IfOk result (λ len. (number : Number Float)
+        × (read ≡ Ok (with_value (λ x. x) number))
+        × (take len out.new ≡ fixed_text (float_in binary64 (λ x. x) number) 2)) }
+{
+    let number = parse_number_of::<f64>(text, JSON).map_err(RoundError::NoNumber)?;
+    let x = number.to_float();
+    if !x.is_finite() {
+        return Err(RoundError::TooLarge);
+    }
+    write_fixed(x, 2, out).map_err(RoundError::NoRoom)
 }
 
 /// Radix 16, and `'` between digits.

@@ -16,3 +16,5 @@ pub mod AmountParts
 pub mod AmountReading
 pub mod PriceReading
 pub mod ReadBack
+pub mod ListTexts
+pub mod ListReading

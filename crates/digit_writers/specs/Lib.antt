@@ -3,3 +3,4 @@ pub mod Written
 pub mod Valid
 pub mod Layouts
 pub mod Amounts
+pub mod Lists

@@ -149,6 +149,7 @@ pub use digit_streams::StreamRead;
 pub use digit_writers::Layout;
 pub use digit_writers::MOST_ROOM;
 pub use digit_writers::Written;
+pub use digit_writers::write_list;
 pub use digit_writers::write_number;
 pub use digit_writers::write_number_by;
 pub use digit_writers::write_price;

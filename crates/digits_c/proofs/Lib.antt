@@ -1,4 +1,5 @@
 mod FloatTexts
+mod NumberTexts
 mod OnWords
 mod Puts
 mod Read

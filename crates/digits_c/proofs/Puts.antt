@@ -8,13 +8,14 @@ use Rattle.std.proofs.lemmas.Bool.{cases_lt}
 use Rattle.std.proofs.lemmas.Bool.Decides.{nat_tests}
 use Rattle.std.proofs.lemmas.List.{length-take-le, take_at, drop_at}
 use Rattle.decimal_writers.specs.Fixed.{fixed_text}
+use Rattle.decimal_writers.specs.Scientific.{scientific_text}
 use Rattle.digits.specs.Words.{FloatLayout, FloatTextError, IsReason, IsTextOf, STANDARD, parse_at, plain_marks}
-use Rattle.digits.specs.Words.{IsOfRadix, IsReadBy, Layout, NoRoom, Writes, laid_out}
+use Rattle.digits.specs.Words.{ExponentText, IsOfRadix, IsReadBy, Layout, NoRoom, Writes, laid_out}
 use Rattle.digit_writers.specs.Digits.{last_digits}
 use Rattle.digit_writers.specs.Layouts.{HasParts, digit_count, digits_in, grouped, sign_of, text_of}
 use Rattle.digit_writers.specs.Valid.{is_layout}
 use Rattle.digit_writers.proofs.Plainly.{decimal_is}
-use Rattle.digits_c.specs.Texts.{IsGrouped, Puts, PutsFloat, ReadsGroups, grouped_text}
+use Rattle.digits_c.specs.Texts.{IsGrouped, Puts, PutsFloat, ReadsGroups, grouped_text, scientific_by}
 use Rattle.digits_c.proofs.FloatTexts.{never_empty}
 
 module _ (text old new : List ℕ) where
@@ -199,6 +200,18 @@ no_fixed nan places is = refl
 no_fixed (inf negative) places is = refl
 no_fixed (fin negative significand exponent) places is = absurd (cc)
 
+no_scientific : (x : Float) (places : ℕ) (style : ExponentText) → float_is_finite x ≡ false
+    → scientific_text x places style ≡ []
+unfolding float_is_finite
+no_scientific nan places style is = refl
+no_scientific (inf negative) places style is = refl
+no_scientific (fin negative significand exponent) places style is = absurd (cc)
+
+pub no_exponent : (x : Float) (places : ℕ) (style : Option ExponentText)
+    → float_is_finite x ≡ false → scientific_by x places style ≡ []
+no_exponent x places None is = refl
+no_exponent x places (Some style) is = no_scientific x places style is
+
 module _ (f : Format) (x : Float) (layout : FloatLayout) (old new : List ℕ) where
   pub float_by : (r : Result ℕ FloatTextError) (count : ℕ) → count ≡ result_unwrap_or r 0
       → IfOk r (λ n. IsTextOf f x layout (take n new))
@@ -241,3 +254,5 @@ pub ruleset puts_groups = (put_grouped, groups_read, put_no_groups)
 pub ruleset puts_floats = (float_by)
 
 pub ruleset puts_fixed = (put_as_written, put_none, no_fixed)
+
+pub ruleset puts_scientific = (put_none, no_exponent)

@@ -1,15 +1,17 @@
 -- Numbers that are written into places of the caller, as C has them.
 use Rattle.std.specs.Prelude.{◌≡◌, ℕ, ℤ, ◌<◌, ◌≤◌, ◌==◌, nat_lt, if◌then◌else◌, unsigned_abs, false, true, List, [], ◌++◌, length, take, drop, decimal, Option, None, Some, Ok}
-use Rattle.std.specs.Float.{Float, Format}
+use Rattle.std.specs.Float.{Float, Format, binary64}
 use Rattle.std.specs.Int.{is_negative}
 use Rattle.lexical_format.specs.Word.{separator, bit}
 use Rattle.digit_writers.specs.Amounts.{amount_text}
 use Rattle.digit_writers.specs.Layouts.{HasParts, grouped, sign_of}
 use Rattle.digit_writers.specs.Valid.{is_layout}
-use Rattle.digits.specs.Words.{FloatLayout, FloatTextError, IsOfRadix, IsReason, IsTextOf, Layout}
-use Rattle.digits.specs.Words.{STANDARD, parse_at, plain_marks}
+use Rattle.digits.specs.Words.{ExponentText, FloatLayout, FloatTextError, IsOfRadix, IsReason}
+use Rattle.digits.specs.Words.{IsTextOf, Layout, STANDARD, parse_at, plain_marks, scientific_text}
+use Rattle.digits.specs.Words.{Form, FormTextError, IsFormReason, IsNumberOf, Number}
+use Rattle.decimal_writers.specs.declared.exponent.ExponentText.TheVariants.{Short, Signed}
 use Rattle.float_writers.specs.declared.write.FloatLayout.TheVariants.{Plain, Exponent, Usual}
-use Rattle.digits_c.specs.declared.write_floats.TheConstants.{USUAL, PLAIN, EXPONENT}
+use Rattle.digits_c.specs.declared.write_floats.TheConstants.{USUAL, PLAIN, EXPONENT, EXPONENT_SIGNED, EXPONENT_SHORT}
 
 -- What a call leaves that writes a text: unless the answer is 0, the text is at the front of the
 -- places. What is behind it is what it was. The answer is the text's length if there is room for
@@ -80,3 +82,34 @@ pub record PutsFloat (f : Format) (x : Float) (layout : FloatLayout) (old new : 
 abbrev pub PutsFloatBy : Format → Float → Option FloatLayout → List ℕ → List ℕ → ℕ → Type 0
 PutsFloatBy f x None old new count = (count ≡ 0) × (new ≡ old)
 PutsFloatBy f x (Some layout) old new count = PutsFloat f x layout old new count
+
+-- the text of an exponent with a number
+unfoldable pub exponent_of : ℕ → Option ExponentText
+exponent_of n =
+    if n == EXPONENT_SIGNED then Some Signed
+    else if n == EXPONENT_SHORT then Some Short
+    else None
+
+-- a float with one digit before the point, so many places and such an exponent
+abbrev pub scientific_by : Float → ℕ → Option ExponentText → List ℕ
+scientific_by x places None = []
+scientific_by x places (Some style) = scientific_text x places style
+
+-- ---- numbers by a form
+
+-- What a call leaves that writes a number by a form: unless the answer is 0, its text is at the
+-- front of the places, and is read by the form as the number. What is behind it is what it was. If
+-- the answer is 0, there is a reason: the form has no such number, or a text of it is longer than
+-- the places.
+pub record PutsNumber (form : Form) (number : Number Float) (old new : List ℕ) (count : ℕ) : Type 0
+  where
+    pub reads : 0 < count → IsNumberOf form binary64 number (take count new)
+    pub within : count ≤ length old
+    pub rest : drop count new ≡ drop count old
+    pub none : count ≡ 0
+        → (error : FormTextError) × IsFormReason form binary64 number (length old) error
+
+-- the same by a form that has a number, or has none
+abbrev pub PutsNumberBy : Number Float → Option Form → List ℕ → List ℕ → ℕ → Type 0
+PutsNumberBy number None old new count = (count ≡ 0) × (new ≡ old)
+PutsNumberBy number (Some form) old new count = PutsNumber form number old new count

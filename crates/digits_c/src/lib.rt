@@ -23,6 +23,7 @@ mod source;
 mod word;
 mod write;
 mod write_floats;
+mod write_numbers;
 
 pub use laws::{
     kinds_say, read_then_as_i64, reads_stay, reads_stay_by, reads_stay_of, statuses_say,

@@ -1,12 +1,13 @@
 //! Floats, written into places of the caller.
 
-ghost use Rattle.std.specs.Prelude.{◌≡◌};
-ghost use Rattle.std.specs.Float.{binary32, binary64};
+ghost use Rattle.std.specs.Prelude.{◌≡◌, IsTrue};
+ghost use Rattle.std.specs.Float.{binary32, binary64, float_is_finite};
 ghost use Rattle.decimal_writers.specs.Fixed.{fixed_text};
+ghost use Rattle.decimal_writers.specs.Scientific.{scientific_text};
 ghost use Rattle.float_writers.specs.declared.write.FloatLayout.TheVariants.{Usual};
-ghost use Rattle.digits_c.specs.Texts.{Puts, PutsFloat, PutsFloatBy, layout_of};
+ghost use Rattle.digits_c.specs.Texts.{Puts, PutsFloat, PutsFloatBy, exponent_of, layout_of, scientific_by};
 
-use digits::{AnyFloat, FloatLayout, write_fixed, write_float};
+use digits::{AnyFloat, ExponentText, FloatLayout, write_fixed, write_float, write_scientific};
 
 /// The room that the usual text of an f64 takes, and that with an exponent.
 pub const ROOM_F64: usize = 24;
@@ -19,6 +20,11 @@ pub const USUAL: u32 = 0;
 pub const PLAIN: u32 = 1;
 /// With an exponent: `1.2e-4`, `1.5e0`.
 pub const EXPONENT: u32 = 2;
+
+/// As C's `%e`: with a sign and two digits at least, `1.5e+00`.
+pub const EXPONENT_SIGNED: u32 = 0;
+/// Short: `1.5e0`.
+pub const EXPONENT_SHORT: u32 = 1;
 
 /// Writes the shortest text of a float into places, and answers its length, or 0 where there is no
 /// room or no text.
@@ -101,4 +107,50 @@ pub extern "C" fn digits_write_f64_fixed(out: &mut [u8], value: f64, places: u32
         return 0;
     }
     write_fixed(value, places, out).unwrap_or(0)
+}
+
+/// The text of an exponent with a number.
+#[inline(always)]
+#[tactic(auto, unfolding(crate::specs::Texts::exponent_of))]
+fn exponent_of(style: u32) -> Option<ExponentText>
+    ensures { result ≡ exponent_of style }
+{
+    match style {
+        EXPONENT_SIGNED => Some(ExponentText::Signed),
+        EXPONENT_SHORT => Some(ExponentText::Short),
+        _ => None,
+    }
+}
+
+/// Writes a finite float with one digit before the point, so many places and an exponent, and
+/// answers its length, or 0 where there is no room.
+#[inline(always)]
+#[tactic(auto, using(crate::proofs::Puts::puts_fixed))]
+fn write_with_exponent(out: &mut [u8], value: f64, places: u32, style: ExponentText) -> usize
+    requires { IsTrue (float_is_finite value) }
+    ensures { Puts (scientific_text value places style) out.old out.new result }
+{
+    write_scientific(value, places, style, out).unwrap_or(0)
+}
+
+/// Writes an `f64` with one digit before the point, so many places and an exponent, as C's `%.2e`
+/// does: rounded once from its exact value, at a tie to the even digit. Answers its length, or 0
+/// where there is no room, the float isn't finite or no exponent has the number.
+#[unsafe(no_mangle)]
+#[tactic(auto, using(crate::proofs::Puts::puts_scientific))]
+pub extern "C" fn digits_write_f64_scientific(
+    out: &mut [u8],
+    value: f64,
+    places: u32,
+    style: u32,
+) -> usize
+    ensures { Puts (scientific_by value places (exponent_of style)) out.old out.new result }
+{
+    if !value.is_finite() {
+        return 0;
+    }
+    match exponent_of(style) {
+        Some(style) => write_with_exponent(out, value, places, style),
+        None => 0,
+    }
 }
