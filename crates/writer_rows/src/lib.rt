@@ -2,7 +2,7 @@
 #![tactic(auto)]
 
 use decimal_writers::{ExponentText, write_fixed, write_scientific};
-use float_writers::{WrittenFloat, shortest};
+use float_writers::{FloatLayout, WrittenFloat, shortest, write_float};
 
 /// A float's shortest decimal; no digits where there is none.
 #[derive(Clone, Copy)]
@@ -74,4 +74,23 @@ pub extern "C" fn writer_fixed(x: f64, places: u32, out: &mut [u8]) -> usize {
         Ok(len) => len,
         Err(_) => 0,
     }
+}
+
+/// Writes the shortest text of a float in the usual layout, and answers the length; 0 where there
+/// is no text.
+#[unsafe(no_mangle)]
+pub extern "C" fn writer_usual(x: f64, out: &mut [u8]) -> usize {
+    write_float(x, FloatLayout::Usual, out).unwrap_or(0)
+}
+
+/// The same without an exponent.
+#[unsafe(no_mangle)]
+pub extern "C" fn writer_plain(x: f64, out: &mut [u8]) -> usize {
+    write_float(x, FloatLayout::Plain, out).unwrap_or(0)
+}
+
+/// The same with an exponent.
+#[unsafe(no_mangle)]
+pub extern "C" fn writer_exponent(x: f64, out: &mut [u8]) -> usize {
+    write_float(x, FloatLayout::Exponent, out).unwrap_or(0)
 }
