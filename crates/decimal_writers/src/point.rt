@@ -18,6 +18,7 @@ pub fn length_with_point(digits: u64, places: usize) -> usize
 }
 
 /// [`put_with_point`] of a number below 1, in code of its own: its digits, and zeros before them.
+#[cold]
 #[inline(never)]
 #[tactic(auto, using(crate::proofs::Points::below_one))]
 fn put_below_one(digits: u64, places: usize, out: &mut [u8], end: usize) -> usize
