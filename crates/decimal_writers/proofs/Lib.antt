@@ -1,4 +1,5 @@
 pub mod Numerals
+pub mod TwoDigits
 pub mod Points
 pub mod Exponents
 pub mod Powers

@@ -2,12 +2,14 @@
 use Rattle.std.proofs.Common.{◌≡◌, ℕ, zero, suc, ◌+◌, ◌-◌, ◌*◌, ◌/◌, ◌%◌, ◌^◌, ◌<◌, ◌≤◌, List, [], ◌∷◌, ◌++◌, length, drop, set, map, refl, sym, ap, subst, ◌∙◌, inl, inr, arith, length-append, append_assoc, append-nil}
 use Rattle.std.specs.Prelude.{decimal}
 use Rattle.std.specs.Int.Digits.{digits_of}
+use Rattle.std.proofs.Math.Arith.{mod-mul}
 use Rattle.std.proofs.Math.Nat.{div-one, pow-le-pow_right}
 use Rattle.std.proofs.lemmas.Bool.{cases_lt}
 use Rattle.std.proofs.lemmas.Fmt.{decimal_by_steps_wide}
 use Rattle.std.proofs.lemmas.Int.Digits.{digits_of_step}
 use Rattle.std.proofs.lemmas.List.{map-append, drop-set}
 use native.Mathlib.Nat.{pow-suc, div-div-eq-div-mul}
+use lib.Pow.{pow-add}
 use Rattle.decimal_writers.specs.Text.{number_text, last_digits}
 
 -- ---- the last digits of a number
@@ -63,9 +65,23 @@ pub ten_pos : (k : ℕ) → 0 < 10 ^ k
 ten_pos zero = omega arith
 ten_pos (suc k) = omega (arith, pow-suc 10 k, ten_pos k)
 
+-- the last digits are those of the rest after the power
+pub last_of_rest : (k n : ℕ) → last_digits k (n % 10 ^ k) ≡ last_digits k n
+last_of_rest zero n = last_none (n % 10 ^ 0) ∙ sym (last_none n)
+last_of_rest (suc k) n =
+    let tens : 10 ^ suc k ≡ 10 ^ k * 10 = pow-suc 10 k in
+    let is : n % 10 ^ suc k ≡ n / 10 % 10 ^ k * 10 + n % 10 =
+    ap (λ (x : ℕ). n % x) tens ∙ mod-mul n (ten_pos k) (omega arith) in
+    let over : n % 10 ^ suc k / 10 ≡ n / 10 % 10 ^ k = omega (arith, is) in
+    let last : n % 10 ^ suc k % 10 ≡ n % 10 = omega (arith, is) in
+    last_step k (n % 10 ^ suc k)
+    ∙ (λ i. last_digits k (over i) ++ (48 + last i) ∷ [])
+    ∙ ap (λ (ds : List ℕ). ds ++ (48 + n % 10) ∷ []) (last_of_rest k (n / 10))
+    ∙ sym (last_step k n)
+
 -- ---- all digits of a number
 
-number_digit : (n : ℕ) → n < 10 → number_text n ≡ (48 + n) ∷ []
+pub number_digit : (n : ℕ) → n < 10 → number_text n ≡ (48 + n) ∷ []
 unfolding number_text
 number_digit zero few = refl
 number_digit (suc n) few =
@@ -184,6 +200,29 @@ number_more n many = ap length (number_step n many) ∙ length-append (number_te
 pub number_one : (n : ℕ) → n < 10 → length (number_text n) ≡ 1
 number_one n few = ap length (number_digit n few)
 
+-- its last digits, and the number without them before them
+pub number_parts : (k n : ℕ) → 10 ^ k ≤ n
+    → number_text n ≡ number_text (n / 10 ^ k) ++ last_digits k n
+number_parts zero n low =
+    let one : n / 10 ^ 0 ≡ n = div-one n in
+    rw (one, last_none) (sym (append-nil (number_text n)))
+number_parts (suc k) n low =
+    let tens : 10 ^ suc k ≡ 10 * 10 ^ k = omega (arith, pow-suc 10 k) in
+    let over : n / 10 / 10 ^ k ≡ n / 10 ^ suc k =
+    div-div-eq-div-mul n 10 (10 ^ k) ∙ ap (λ (x : ℕ). n / x) (sym tens) in
+    number_step n (omega (arith, low, tens, ten_pos k))
+    ∙ ap (λ (ds : List ℕ). ds ++ (48 + n % 10) ∷ [])
+    (number_parts k (n / 10) (omega (arith, low, tens)))
+    ∙ append_assoc (number_text (n / 10 / 10 ^ k)) (last_digits k (n / 10)) _
+    ∙ ap (λ (x : ℕ). number_text x ++ (last_digits k (n / 10) ++ (48 + n % 10) ∷ [])) over
+    ∙ ap (λ (ds : List ℕ). number_text (n / 10 ^ suc k) ++ ds) (sym (last_step k n))
+
+pub number_length : (k n : ℕ) → 10 ^ k ≤ n
+    → length (number_text n) ≡ length (number_text (n / 10 ^ k)) + k
+number_length k n low =
+    ap length (number_parts k n low) ∙ length-append (number_text (n / 10 ^ k)) (last_digits k n)
+    ∙ ap (λ (x : ℕ). length (number_text (n / 10 ^ k)) + x) (length-last k n)
+
 -- ---- digits before the end of a slice
 
 pub record IsPut (n end at left : ℕ) (old new : List ℕ) : Type 0 where
@@ -200,42 +239,81 @@ put_none n end old =
       written = rw (none, last_none) refl;
     }
 
-pub put_one : (n end at left : ℕ) (old new : List ℕ) → end ≤ length old → length new ≡ length old
-    → 0 < at
-    → IsPut n end at left old new
-    → IsPut n end (at - 1) (left / 10) old (set new (at - 1) (48 + left % 10))
-put_one n end at left old new fits same some is =
-    let next : end - (at - 1) ≡ suc (end - at) = omega (arith, is.within) in
-    let tens : 10 ^ suc (end - at) ≡ 10 ^ (end - at) * 10 = omega (arith, pow-suc 10 (end - at)) in
-    let back : at - 1 + 1 ≡ at = omega arith in
-    let first : drop (at - 1) (set new (at - 1) (48 + left % 10)) ≡ (48 + left % 10) ∷ drop at new =
-    drop-set new (at - 1) (48 + left % 10) (omega (arith, is.within))
-    ∙ ap (λ (x : ℕ). (48 + left % 10) ∷ drop x new) back in
+-- so many digits of what is left
+pub put_more : (n end at left k : ℕ) (old new newer : List ℕ) → k ≤ at
+    → drop (at - k) newer ≡ last_digits k left ++ drop at new
+    → IsPut n end at left old new → IsPut n end (at - k) (left / 10 ^ k) old newer
+put_more n end at left k old new newer room more is =
+    let all : end - (at - k) ≡ k + (end - at) = omega (arith, is.within, room) in
+    let turned : 10 ^ (end - at) * 10 ^ k ≡ 10 ^ (end - (at - k)) =
+    omega (arith, pow-add 10 k (end - at)) ∙ ap (λ (x : ℕ). 10 ^ x) (sym all) in
     record {
       within = omega (arith, is.within);
       rest =
-          ap (λ (x : ℕ). x / 10) is.rest ∙ div-div-eq-div-mul n (10 ^ (end - at)) 10
-          ∙ ap (λ (x : ℕ). n / x) (sym tens) ∙ ap (λ (x : ℕ). n / 10 ^ x) (sym next);
+          ap (λ (x : ℕ). x / 10 ^ k) is.rest ∙ div-div-eq-div-mul n (10 ^ (end - at)) (10 ^ k)
+          ∙ ap (λ (x : ℕ). n / x) turned;
       written =
-          first ∙ ap (λ (ds : List ℕ). (48 + left % 10) ∷ ds) is.written
-          ∙ ap (λ (x : ℕ). (48 + x % 10) ∷ (last_digits (end - at) n ++ drop end old)) is.rest
-          ∙ ap (λ (ds : List ℕ). ds ++ drop end old) (sym (last_more (end - at) n))
-          ∙ ap (λ (x : ℕ). last_digits x n ++ drop end old) (sym next);
+          more ∙ ap (λ (ds : List ℕ). last_digits k left ++ ds) is.written
+          ∙ sym (append_assoc (last_digits k left) (last_digits (end - at) n) (drop end old))
+          ∙ ap (λ (ds : List ℕ). ds ++ drop end old)
+          (ap (λ (x : ℕ). last_digits k x ++ last_digits (end - at) n) is.rest
+          ∙ sym (last_split k (end - at) n)
+          ∙ ap (λ (x : ℕ). last_digits x n) (sym all));
     }
 
-pub ruleset puts = (put_none, put_one)
+-- one digit
+pub put_last : (n end at left : ℕ) (old new : List ℕ) → 1 ≤ at → at ≤ length new
+    → IsPut n end at left old new
+    → IsPut n end (at - 1) (left / 10) old (set new (at - 1) (48 + left % 10))
+put_last n end at left old new some within is =
+    let back : at - 1 + 1 ≡ at = omega arith in
+    let last : last_digits 1 left ≡ (48 + left % 10) ∷ [] =
+    last_step 0 left ∙ ap (λ (ds : List ℕ). ds ++ (48 + left % 10) ∷ []) (last_none (left / 10)) in
+    put_more n end at left 1 old new (set new (at - 1) (48 + left % 10)) some
+    (drop-set new (at - 1) (48 + left % 10) (omega arith)
+    ∙ ap (λ (x : ℕ). (48 + left % 10) ∷ drop x new) back
+    ∙ ap (λ (ds : List ℕ). ds ++ drop at new) (sym last)) is
 
--- a whole number before the end
-pub put_all : (n count end : ℕ) (old new : List ℕ) → count ≡ length (number_text n)
-    → drop (end - count) new ≡ last_digits count n ++ drop end old
-    → drop (end - count) new ≡ number_text n ++ drop end old
-put_all n count end old new counts written =
-    written
-    ∙ ap (λ (ds : List ℕ). ds ++ drop end old)
-    (ap (λ (x : ℕ). last_digits x n) counts ∙ sym (counted n).same)
+-- where all of so many are written
+pub put_done : (n count end at left : ℕ) (old new : List ℕ) → count ≤ end → at ≡ end - count
+    → IsPut n end at left old new
+    → (left ≡ n / 10 ^ count) × (drop (end - count) new ≡ last_digits count n ++ drop end old)
+put_done n count end at left old new room is put =
+    let all : end - at ≡ count = omega (arith, is, room) in (
+      put.rest ∙ ap (λ (x : ℕ). n / 10 ^ x) all,
+      ap (λ (x : ℕ). drop x new) (sym is) ∙ put.written
+          ∙ ap (λ (x : ℕ). last_digits x n ++ drop end old) all,
+    )
+
+-- a number of which so many digits are written, and the others left
+pub record IsBegun (n end at left : ℕ) (old new : List ℕ) : Type 0 where
+  pub within : at ≤ end
+  pub long : length (number_text n) + at ≡ length (number_text left) + end
+  pub written : number_text left ++ drop at new ≡ number_text n ++ drop end old
+
+pub begun_none : (n end : ℕ) (old : List ℕ) → IsBegun n end end n old old
+begun_none n end old = record { within = omega arith; long = refl; written = refl }
+
+pub begun_more : (n end at left k low : ℕ) (old new newer : List ℕ) → 10 ^ k ≤ left → k ≤ at
+    → low ≡ left % 10 ^ k → drop (at - k) newer ≡ last_digits k low ++ drop at new
+    → IsBegun n end at left old new → IsBegun n end (at - k) (left / 10 ^ k) old newer
+begun_more n end at left k low old new newer many room rest more is = record {
+  within = omega (arith, is.within);
+  long = omega (arith, is.long, number_length k left many, room);
+  written =
+      ap (λ (ds : List ℕ). number_text (left / 10 ^ k) ++ ds)
+      (more
+      ∙ ap (λ (ds : List ℕ). ds ++ drop at new)
+      (ap (last_digits k) rest ∙ last_of_rest k left))
+      ∙ sym (append_assoc (number_text (left / 10 ^ k)) (last_digits k left) (drop at new))
+      ∙ ap (λ (ds : List ℕ). ds ++ drop at new) (sym (number_parts k left many))
+      ∙ is.written;
+}
 
 -- what std writes of a number
 pub number_is : (n : ℕ) → n < 10 ^ 64 → number_text n ≡ decimal n
 number_is =
     decimal_by_steps_wide (λ n ds. number_text n ≡ ds) number_digit
     (λ n ds many is. number_step n many ∙ ap (λ (xs : List ℕ). xs ++ (48 + n % 10) ∷ []) is)
+
+pub ruleset puts = (put_none, put_done)

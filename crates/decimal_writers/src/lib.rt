@@ -29,6 +29,7 @@ mod exact;
 mod exponent;
 mod fixed;
 pub mod laws;
+mod pairs;
 mod places;
 mod point;
 mod quick;

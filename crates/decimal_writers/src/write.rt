@@ -1,14 +1,17 @@
 //! The three layouts.
 
-ghost use Rattle.std.specs.Prelude.{◌≡◌, ◌&&◌, int_le, int_lt, pos, negsuc, ◌+◌, ◌^◌, ◌≤◌, ◌++◌, length, take, drop, IfOk};
+ghost use Rattle.std.specs.Prelude.{◌≡◌, ◌&&◌, int_le, int_lt, pos, negsuc, ◌+◌, ◌-◌, ◌+ℤ◌, ◌^◌, ◌≤◌, ◌++◌, length, take, drop, IfOk};
 ghost use Rattle.std.specs.Fmt.{sign_text};
-ghost use Rattle.decimal_writers.specs.Text.{with_point, places_of, units_of, first_power, plain_text, exponent_text, zero_place, usual_text};
+ghost use Rattle.decimal_writers.specs.Text.{number_text, with_point, places_of, units_of, plain_text, exponent_text, zero_place, usual_text};
 ghost use Rattle.decimal_writers.specs.Room.{Writes};
 ghost use Rattle.decimal_writers.specs.Value.{Reads};
 
 use super::digits::count_digits;
 use super::exponent::{length_of_exponent, put_exponent};
-use super::point::{length_with_point, length_with_zeros, put_with_point, put_with_zeros};
+use super::point::{
+    length_of_mantissa, length_with_point, length_with_zeros, put_mantissa, put_with_point,
+    put_with_zeros,
+};
 use super::room::NoRoom;
 
 /// Writes a minus to the front, if there is one.
@@ -72,32 +75,37 @@ pub fn write_plain_text(
     Ok(len)
 }
 
-/// The power of ten of the first digit.
+/// The power of ten of the first of so many digits.
 #[inline(always)]
-fn first_power(digits: u64, power: i32) -> i64
-    ensures { result ≡ first_power digits power }
+fn first_power(count: usize, power: i32) -> i64
+    requires some { 1 ≤ count }
+    requires few { count ≤ 20 }
+    ensures { result ≡ power +ℤ pos (count - 1) }
 {
-    i64::from(power) + (count_digits(digits) - 1) as i64
+    i64::from(power) + (count - 1) as i64
 }
 
-/// [`write_exponent`], before it is read.
+/// [`write_exponent`], before it is read, by the count of the digits.
 #[inline(always)]
 fn write_exponent_text(
     negative: bool,
     digits: u64,
+    count: usize,
     power: i32,
     out: &mut [u8],
 ) -> Result<usize, NoRoom>
+    requires count { count ≡ length (number_text digits) }
+    requires some { 1 ≤ count }
+    requires few { count ≤ 20 }
     ensures { Writes (exponent_text negative digits power) out.old out.new result }
 {
-    let places = count_digits(digits) - 1;
-    let first = first_power(digits, power);
-    let len = negative as usize + length_with_point(digits, places) + length_of_exponent(first);
+    let first = first_power(count, power);
+    let len = negative as usize + length_of_mantissa(count) + length_of_exponent(first);
     if len > out.len() {
         return Err(NoRoom { needed: len });
     }
     let mark = put_exponent(first, out, len);
-    put_with_point(digits, places, out, mark);
+    put_mantissa(digits, out, mark);
     put_sign(negative, out);
     Ok(len)
 }
@@ -161,10 +169,11 @@ fn write_usual_text(
 ) -> Result<usize, NoRoom>
     ensures { Writes (usual_text negative digits power) out.old out.new result }
 {
-    if is_plain(first_power(digits, power)) {
+    let count = count_digits(digits);
+    if is_plain(first_power(count, power)) {
         return write_pointed(negative, digits, power, out);
     }
-    write_exponent_text(negative, digits, power, out)
+    write_exponent_text(negative, digits, count, power, out)
 }
 
 /// Writes a decimal without an exponent at the front of a slice, and answers its length, or the
@@ -194,7 +203,7 @@ pub fn write_exponent(
     ensures writes { Writes (exponent_text negative digits power) out.old out.new result }
     ensures reads { IfOk result (λ n. Reads negative digits power (take n out.new)) }
 {
-    write_exponent_text(negative, digits, power, out)
+    write_exponent_text(negative, digits, count_digits(digits), power, out)
 }
 
 /// Writes a decimal as serde_json writes a float, at the front of a slice, and answers its length,

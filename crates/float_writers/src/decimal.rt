@@ -98,7 +98,7 @@ fn decimal_of(digits: u64, up: u64) -> Decimal
 
 /// The shortest decimal that reads as a float, and of those with as many digits the closest to it;
 /// of two as close, the one whose last digit is even. It has no zero at its end.
-#[inline]
+#[inline(always)]
 pub fn shortest<F: WrittenFloat>(x: F) -> Decimal
     requires { IsAboveZero (F.value x) }
     ensures reads { Reads F.format (F.value x) result }

@@ -75,7 +75,8 @@ struct Place {
     reach: u128,
 }
 
-/// Half the gap to the next float, in 2 ^ 124ths of a step.
+/// Half the gap to the next float, in 2 ^ 124ths of a step. That the shift is below 64, as `% 64`
+/// says, saves a compiler the case of more.
 #[inline(always)]
 fn half_of(row: u128, shift: u64) -> u128
     requires shift { (0 < shift) × (shift ≤ 4) }
@@ -83,7 +84,7 @@ fn half_of(row: u128, shift: u64) -> u128
     ensures most { row < (result + 1) * 2 ^ (5 - shift) }
     ensures few { result < 2 ^ 127 }
 {
-    row >> (5 - shift)
+    row >> ((5 - shift) % 64)
 }
 
 /// How far below the float a number may be that reads as it: half the gap below it.

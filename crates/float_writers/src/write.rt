@@ -232,7 +232,7 @@ fn write_finite<F: AnyFloat>(x: F, layout: FloatLayout, out: &mut [u8]) -> Resul
 /// 1e23      100000000000000000000000    1e23        1e23
 /// -0.0      -0                          -0e0        -0.0
 /// ```
-#[inline]
+#[inline(always)]
 pub fn write_float<F: AnyFloat>(
     x: F,
     layout: FloatLayout,

@@ -1,10 +1,10 @@
-use Rattle.std.proofs.Common.{◌≡◌, ◌+◌, ◌-◌, ℕ, ℤ, ap, ◌∙◌, subst, arith, rules, length, ◌∷◌, ◌++◌}
-use Rattle.std.specs.Prelude.{Ok, Err}
+use Rattle.std.proofs.Common.{◌≡◌, ◌+◌, ◌-◌, ◌++◌, ◌∷◌, ℤ, ◌∙◌, subst, sym, arith, rules}
+use Rattle.std.specs.Prelude.{Ok, Err, pos, ◌+ℤ◌}
 use Rattle.std.specs.Fmt.{sign_text, signed_decimal}
 use mir.Syntax.{w32, w64}
 use mir.Val.{bool_byte, to_z, of_z, SFits}
 use Rattle.std.proofs.lemmas.Int.{to_z-of_z}
-use Rattle.decimal_writers.specs.Text.{number_text, with_point, mantissa_text, first_power}
+use Rattle.decimal_writers.specs.Text.{mantissa_text, first_power}
 use Rattle.decimal_writers.specs.Room.{Writes}
 use Rattle.decimal_writers.proofs.Texts.{writes_no_parts, writes_parts}
 use Rattle.decimal_writers.proofs.write.write_exponent_text.Goals as goal
@@ -12,49 +12,45 @@ use Rattle.decimal_writers.proofs.write.write_exponent_text.Goals as goal
 pub returns-then-len-out : goal.returns-then-len-out
 returns-then-len-out c =
     let a = c.args in
-    let places = c.count_digits-places.result - 1 in
-    let first = to_z w64 (of_z w64 c.first_power-first.result) in
-    let fits : SFits w64 c.first_power-first.result = search rules in
+    let f = c.first_power-first.result in
+    let first = to_z w64 (of_z w64 f) in
+    let fits : SFits w64 f = search rules in
     let first_is : first ≡ first_power a.digits a.power =
-    to_z-of_z w64 c.first_power-first.result fits ∙ c.first_power-first.ensures
-    ∙ ap (first_power a.digits) (to_z-of_z w32 a.power c.ranges.power) in
-    let is : places ≡ length (number_text a.digits) - 1 =
-    ap (λ (x : ℕ). x - 1) c.count_digits-places.ensures.is in
-    let len = bool_byte a.negative + c.length_with_point.result + c.length_of_exponent.result in
+    to_z-of_z w64 f fits ∙ c.first_power-first.ensures
+    ∙ (λ i. to_z-of_z w32 a.power c.ranges.power i +ℤ pos (c.requires.count i - 1)) in
+    let len = bool_byte a.negative + c.length_of_mantissa.result + c.length_of_exponent.result in
     subst (λ (z : ℤ). Writes
-    (sign_text a.negative
-    ++ (mantissa_text a.digits ++ 101 ∷ signed_decimal z)) a.out.now a.out.now
+    (sign_text a.negative ++ (mantissa_text a.digits ++ 101 ∷ signed_decimal z)) a.out.now a.out.now
     (Err (record { needed = len }))) first_is
-    (subst (λ (x : ℕ). Writes
-    (sign_text a.negative
-    ++ (with_point x a.digits ++ 101 ∷ signed_decimal first)) a.out.now a.out.now
-    (Err (record { needed = len }))) is
-    (writes_no_parts a.negative (with_point places a.digits)
-    (101 ∷ signed_decimal first) a.out.now len
-    (omega (arith, c.length_with_point.ensures.is, c.length_of_exponent.ensures.is)) (omega arith)))
+    (writes_no_parts a.negative (mantissa_text a.digits) (101 ∷ signed_decimal first) a.out.now len
+    (omega (
+      arith,
+      c.length_of_mantissa.ensures.is a.digits (sym c.requires.count),
+      c.length_of_exponent.ensures.is,
+    ))
+    (omega arith))
 
 pub returns : goal.returns
 returns c =
     let a = c.args in
-    let places = c.count_digits-places.result - 1 in
-    let first = to_z w64 (of_z w64 c.first_power-first.result) in
-    let fits : SFits w64 c.first_power-first.result = search rules in
+    let f = c.first_power-first.result in
+    let first = to_z w64 (of_z w64 f) in
+    let fits : SFits w64 f = search rules in
     let first_is : first ≡ first_power a.digits a.power =
-    to_z-of_z w64 c.first_power-first.result fits ∙ c.first_power-first.ensures
-    ∙ ap (first_power a.digits) (to_z-of_z w32 a.power c.ranges.power) in
-    let is : places ≡ length (number_text a.digits) - 1 =
-    ap (λ (x : ℕ). x - 1) c.count_digits-places.ensures.is in
-    let len = bool_byte a.negative + c.length_with_point.result + c.length_of_exponent.result in
+    to_z-of_z w64 f fits ∙ c.first_power-first.ensures
+    ∙ (λ i. to_z-of_z w32 a.power c.ranges.power i +ℤ pos (c.requires.count i - 1)) in
+    let len = bool_byte a.negative + c.length_of_mantissa.result + c.length_of_exponent.result in
     let new = c.put_sign.new.out in
     subst (λ (z : ℤ). Writes
     (sign_text a.negative ++ (mantissa_text a.digits ++ 101 ∷ signed_decimal z)) a.out.now new
     (Ok len)) first_is
-    (subst (λ (x : ℕ). Writes
-    (sign_text a.negative
-    ++ (with_point x a.digits ++ 101 ∷ signed_decimal first)) a.out.now new (Ok len)) is
-    (writes_parts a.negative (with_point places a.digits) (101 ∷ signed_decimal first) a.out.now len
-    (omega (arith, c.length_with_point.ensures.is, c.length_of_exponent.ensures.is))
-    c.put_with_point.result c.put_exponent-mark.result c.put_exponent-mark.new.out
-    c.put_with_point.new.out new (omega arith)
-    c.put_exponent-mark.ensures.start c.put_with_point.ensures.start
-    c.put_exponent-mark.ensures.written c.put_with_point.ensures.written c.put_sign.ensures))
+    (writes_parts a.negative (mantissa_text a.digits) (101 ∷ signed_decimal first) a.out.now len
+    (omega (
+      arith,
+      c.length_of_mantissa.ensures.is a.digits (sym c.requires.count),
+      c.length_of_exponent.ensures.is,
+    ))
+    c.put_mantissa.result c.put_exponent-mark.result c.put_exponent-mark.new.out
+    c.put_mantissa.new.out new (omega arith)
+    c.put_exponent-mark.ensures.start c.put_mantissa.ensures.start
+    c.put_exponent-mark.ensures.written c.put_mantissa.ensures.written c.put_sign.ensures)
