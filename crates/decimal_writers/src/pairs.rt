@@ -3,8 +3,8 @@
 ghost use Rattle.std.specs.Prelude.{◌≡◌, ◌+◌, ◌-◌, ◌/◌, ◌^◌, ◌<◌, ◌≤◌, ◌++◌, length, drop};
 ghost use Rattle.decimal_writers.specs.Text.{number_text, last_digits};
 
-/// The two digits of each number below 100.
-static PAIRS: [u8; 200] = *b"00010203040506070809\
+/// The two digits of each number below 100: those of `n` at `2 * n` and after it.
+pub static PAIRS: [u8; 200] = *b"00010203040506070809\
     10111213141516171819\
     20212223242526272829\
     30313233343536373839\
