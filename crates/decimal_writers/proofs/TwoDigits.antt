@@ -5,7 +5,7 @@ use Rattle.std.proofs.lemmas.Bool.Decides.{nat_tests}
 use Rattle.std.proofs.lemmas.List.{drop-set, length-set}
 use Rattle.decimal_writers.specs.declared.pairs.TheConstants.{PAIRS}
 use Rattle.decimal_writers.specs.Text.{number_text, last_digits}
-use Rattle.decimal_writers.proofs.Numerals.{last_none, last_step, last_split, last_of_rest, length-last, number_digit, number_one, number_parts, number_length, some_digits}
+use Rattle.decimal_writers.proofs.Numerals.{last_none, last_step, last_split, last_of_rest, length-last, number_digit, number_one, number_parts, number_length}
 
 -- ---- the table
 

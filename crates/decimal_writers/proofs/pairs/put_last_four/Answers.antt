@@ -1,6 +1,4 @@
-use Rattle.std.proofs.Common.{◌≡◌, ◌+◌, ◌-◌, ◌*◌, ◌/◌, ◌^◌, ◌≤◌, ℕ, length, refl, arith}
-use Rattle.decimal_writers.specs.Text.{number_text}
-use Rattle.decimal_writers.proofs.Numerals.{some_digits}
+use Rattle.std.proofs.Common.{◌-◌, ◌*◌, arith}
 use Rattle.decimal_writers.proofs.TwoDigits.{number_left, number_long}
 use Rattle.decimal_writers.proofs.pairs.put_last_four.Goals as goal
 
