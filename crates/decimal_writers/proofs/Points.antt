@@ -41,9 +41,6 @@ shifted n (suc places) =
           omega (arith, is, here, some_digits (front / 10))
     ]
 
-pub with_no_point : (n : ℕ) → with_point 0 n ≡ number_text n
-with_no_point n = refl
-
 pub with_some_point : (n places : ℕ) → 0 < places
     → with_point places n ≡ number_text (n / 10 ^ places) ++ 46 ∷ last_digits places n
 with_some_point n zero some = absurd (omega arith)

@@ -5,7 +5,7 @@ use Rattle.std.proofs.lemmas.Bool.Decides.{nat_tests}
 use Rattle.std.proofs.lemmas.List.{drop-set, length-set}
 use Rattle.decimal_writers.specs.declared.pairs.TheConstants.{PAIRS}
 use Rattle.decimal_writers.specs.Text.{number_text, last_digits}
-use Rattle.decimal_writers.proofs.Numerals.{last_none, last_step, last_split, last_of_rest, length-last, number_digit, number_one, number_parts, number_length, some_digits}
+use Rattle.decimal_writers.proofs.Numerals.{last_none, last_step, last_split, last_of_rest, length-last, number_digit, number_one, number_parts, number_length}
 
 -- ---- the table
 
@@ -82,14 +82,12 @@ pub number_long : (n high k : ℕ) → 10 ^ k ≤ n → high ≡ n / 10 ^ k
 number_long n high k many first =
     number_length k n many ∙ ap (λ (x : ℕ). length (number_text x) + k) (sym first)
 
-pub number_put : (n high low k end start : ℕ) (old one new : List ℕ) → 10 ^ k ≤ n
+pub number_left : (n high low k end : ℕ) (old new : List ℕ) → 10 ^ k ≤ n
     → high ≡ n / 10 ^ k → low ≡ n % 10 ^ k
-    → drop (end - k) one ≡ last_digits k low ++ drop end old
-    → drop start new ≡ number_text high ++ drop (end - k) one
-    → drop start new ≡ number_text n ++ drop end old
-number_put n high low k end start old one new many first second is_low is_high =
-    is_high
-    ∙ ap (λ (ds : List ℕ). number_text high ++ ds) is_low
+    → drop (end - k) new ≡ last_digits k low ++ drop end old
+    → number_text high ++ drop (end - k) new ≡ number_text n ++ drop end old
+number_left n high low k end old new many first second is =
+    ap (λ (ds : List ℕ). number_text high ++ ds) is
     ∙ sym (append_assoc (number_text high) (last_digits k low) (drop end old))
     ∙ ap (λ (ds : List ℕ). ds ++ drop end old)
     ((λ i. number_text (first i) ++ last_digits k (second i))

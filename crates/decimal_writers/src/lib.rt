@@ -39,6 +39,7 @@ mod write;
 
 pub use self::exponent::ExponentText;
 pub use self::fixed::write_fixed;
+pub use self::pairs::PAIRS;
 pub use self::room::{FLOAT_ROOM, NoRoom};
 pub use self::scientific::write_scientific;
 pub use self::write::{write_exponent, write_plain, write_usual};

@@ -3,8 +3,8 @@
 ghost use Rattle.std.specs.Prelude.{◌≡◌, ◌+◌, ◌-◌, ◌/◌, ◌^◌, ◌<◌, ◌≤◌, ◌++◌, length, drop};
 ghost use Rattle.decimal_writers.specs.Text.{number_text, last_digits};
 
-/// The two digits of each number below 100.
-static PAIRS: [u8; 200] = *b"00010203040506070809\
+/// The two digits of each number below 100: those of `n` at `2 * n` and after it.
+pub static PAIRS: [u8; 200] = *b"00010203040506070809\
     10111213141516171819\
     20212223242526272829\
     30313233343536373839\
@@ -92,21 +92,42 @@ fn put_first_two(n: u32, out: &mut [u8], end: usize) -> usize
     end - 2
 }
 
-/// Writes a number of at most four digits, and answers where it begins.
+/// Writes the last two digits of a number, if it has more, and answers what is left, and where.
 #[inline(always)]
-fn put_first_four(n: u32, out: &mut [u8], end: usize) -> usize
+fn put_last_two(n: u32, out: &mut [u8], end: usize) -> (u32, usize)
     requires below { n < 10 ^ 4 }
     requires room { length (number_text n) ≤ end }
     requires within { end ≤ length out.old }
-    ensures start { result + length (number_text n) ≡ end }
-    ensures written { drop result out.new ≡ number_text n ++ drop end out.old }
+    ensures below { result.0 < 100 }
+    ensures start { result.1 + length (number_text n) ≡ end + length (number_text result.0) }
+    ensures written { number_text result.0 ++ drop result.1 out.new
+        ≡ number_text n ++ drop end out.old }
 {
     if n < 100 {
-        return put_first_two(n, out, end);
+        return (n, end);
     }
     let high = first_two(n);
     put_two(n - high * 100, out, end);
-    put_first_two(high, out, end - 2)
+    (high, end - 2)
+}
+
+/// Writes the last four digits of a number, if it has more, and answers what is left, and where.
+#[inline(always)]
+fn put_last_four(n: u32, out: &mut [u8], end: usize) -> (u32, usize)
+    requires below { n < 10 ^ 8 }
+    requires room { length (number_text n) ≤ end }
+    requires within { end ≤ length out.old }
+    ensures below { result.0 < 10 ^ 4 }
+    ensures start { result.1 + length (number_text n) ≡ end + length (number_text result.0) }
+    ensures written { number_text result.0 ++ drop result.1 out.new
+        ≡ number_text n ++ drop end out.old }
+{
+    if n < 10_000 {
+        return (n, end);
+    }
+    let high = first_four(n);
+    put_four(n - high * 10_000, out, end);
+    (high, end - 4)
 }
 
 /// Writes a number of at most eight digits, and answers where it begins.
@@ -118,10 +139,7 @@ pub fn put_first_eight(n: u32, out: &mut [u8], end: usize) -> usize
     ensures start { result + length (number_text n) ≡ end }
     ensures written { drop result out.new ≡ number_text n ++ drop end out.old }
 {
-    if n < 10_000 {
-        return put_first_four(n, out, end);
-    }
-    let high = first_four(n);
-    put_four(n - high * 10_000, out, end);
-    put_first_four(high, out, end - 4)
+    let (few, middle) = put_last_four(n, out, end);
+    let (fewer, start) = put_last_two(few, out, middle);
+    put_first_two(fewer, out, start)
 }

@@ -1,42 +1,18 @@
 -- The decimal digits of a number, as parts that are written one after another.
-use Rattle.std.proofs.Common.{◌≡◌, ℕ, zero, suc, ◌+◌, ◌*◌, ◌/◌, ◌%◌, ◌^◌, ◌<◌, ◌≤◌, Bool, true, false, ◌&&◌, eqb, List, [], ◌∷◌, ◌++◌, length, set, get_or, refl, sym, ap, subst, ◌∙◌, inl, inr, arith, append_assoc, append-nil, length-append}
+use Rattle.std.proofs.Common.{◌≡◌, ℕ, zero, suc, ◌+◌, ◌*◌, ◌/◌, ◌%◌, ◌^◌, ◌<◌, ◌≤◌, false, List, [], ◌∷◌, ◌++◌, length, set, get_or, refl, sym, ap, ◌∙◌, arith, append_assoc, append-nil, length-append}
 use Rattle.std.specs.Prelude.{decimal}
 use Rattle.std.specs.List.{splice}
 use Rattle.std.specs.Fmt.{digit_glyph}
 use Rattle.std.proofs.Math.Nat.{pow-suc, pow-zero, div-one, div-div-eq-div-mul, one-le-pow}
 use Rattle.std.proofs.lemmas.Nat.{le-div}
-use Rattle.std.proofs.lemmas.Bool.{cases_lt}
 use Rattle.std.proofs.lemmas.Bool.Decides.{nat_tests}
 use Rattle.std.proofs.lemmas.Fmt.{decimal_digit, decimal_step_wide}
 use Rattle.std.proofs.lemmas.List.{length-set}
-use Rattle.digit_writers.specs.declared.digits.TheConstants.{PAIRS}
+use Rattle.decimal_writers.specs.declared.pairs.TheConstants.{PAIRS}
+use Rattle.decimal_writers.proofs.TwoDigits.{pair_is}
 use Rattle.digit_writers.specs.Digits.{last_decimals}
 use Rattle.digit_writers.proofs.LastDigits.{last_push, last_split, last_of_rest, length_last, no_digits}
 use Rattle.digit_writers.proofs.Splices.{both, one_spliced}
-
--- ---- the table
-
-abbrev test_pair : ℕ → Bool
-test_pair n = eqb (get_or PAIRS (n * 2) 0) (48 + n / 10) && eqb (get_or PAIRS (n * 2 + 1) 0)
-    (48 + n % 10)
-
-abbrev tests : (ℕ → Bool) → ℕ → Bool
-tests test zero = true
-tests test (suc n) = test n && tests test n
-
-each : (test : ℕ → Bool) (n k : ℕ) → tests test n ≡ true → k < n → test k ≡ true
-each test zero k h l = absurd (omega arith)
-each test (suc n) k h l = elim (cases_lt k n) [
-  | inl a ↦ grind (arith, h, each test n k)
-  | inr a ↦ let e : n ≡ k = omega arith in subst (λ x. test x ≡ true) e (grind (arith, h))
-]
-
-pub pair_is : (n : ℕ) → n < 100
-    → (get_or PAIRS (n * 2) 0 ≡ 48 + n / 10) × (get_or PAIRS (n * 2 + 1) 0 ≡ 48 + n % 10)
-pair_is n l = from_test _ _ _ _ (each test_pair 100 n refl l)
-  where
-    from_test : (a b c d : ℕ) → (eqb a b && eqb c d) ≡ true → (a ≡ b) × (c ≡ d)
-    from_test a b c d h = (grind (arith, nat_tests, h), grind (arith, nat_tests, h))
 
 -- ---- a fixed number of digits
 

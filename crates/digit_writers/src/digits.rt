@@ -4,17 +4,7 @@ ghost use Rattle.std.specs.Prelude.{◌≡◌, ◌+◌, ◌*◌, ◌^◌, ◌<�
 ghost use Rattle.std.specs.List.{splice};
 ghost use Rattle.digit_writers.specs.Digits.{last_decimals};
 
-/// The two digits of each number below 100.
-static PAIRS: [u8; 200] = *b"00010203040506070809\
-    10111213141516171819\
-    20212223242526272829\
-    30313233343536373839\
-    40414243444546474849\
-    50515253545556575859\
-    60616263646566676869\
-    70717273747576777879\
-    80818283848586878889\
-    90919293949596979899";
+use decimal_writers::PAIRS;
 
 /// Writes two digits from a position on.
 #[inline(always)]
