@@ -16,18 +16,20 @@ use Rattle.lexical_digits.specs.declared.skip.rule.Rule.{Rule}
 use Rattle.lexical_digits.specs.declared.skip.rule.Class.TheVariants.{Other}
 use Rattle.lexical_digits.specs.Separators.{class, is_digit, is_separator}
 use Rattle.lexical_digits.specs.State.{rule_of}
+use Rattle.lexical_digits.specs.Stop.{stop}
+use Rattle.lexical_digits.proofs.Calls.FirstOther.{stop_is_first}
 use Rattle.digit_literals.specs.declared.LiteralError.{LiteralError}
 use Rattle.digit_literals.specs.declared.LiteralError.TheVariants.{Empty}
 use Rattle.digit_literals.specs.declared.list.Gap.{Gap}
 use Rattle.digit_literals.specs.declared.list.ListEnd.TheVariants.{Over}
 use Rattle.digit_literals.specs.Errors.{literal_none_at}
 use Rattle.digit_literals.specs.Lists.{Numbers, is_blank, has_separator, past_blanks, next_after, list_at}
+use Rattle.digit_literals.specs.Integers.{integer_at}
 use Rattle.digit_literals.specs.Numbers.{number_at}
 use Rattle.digit_literals.specs.Written.{IsWrittenAt}
 use Rattle.digit_literals.proofs.Lists.{no_blank, separator_is_no_blank}
 use Rattle.digit_literals.proofs.Written.{number_read}
 use Rattle.digit_lists.specs.Lists.{full_list, parsed}
-use Rattle.digit_lists.proofs.AtEnd.{integer_ends}
 use Rattle.digit_pieces.specs.Cuts.{is_integer_byte}
 use Rattle.digit_writers.specs.Lists.{others_text, list_text, IsListReadBy}
 use Rattle.digit_writers.specs.Written.{IsOfType}
@@ -61,6 +63,10 @@ or_true : (b : Bool) → (b || true) ≡ true
 or_true true = refl
 or_true false = refl
 
+and_none : (b : Bool) → (b && false) ≡ false
+and_none true = refl
+and_none false = refl
+
 and_false : (b : Bool) (at : ℕ) → (if b && false then Ok at else Err at) ≡ Err at
 and_false true at = refl
 and_false false at = refl
@@ -77,6 +83,18 @@ one_passed p x xs passes = grind (arith, passes, take_while-cons p x xs)
 none_passed : (p : ℕ → Bool) (x : ℕ) (xs : List ℕ) → p x ≡ false
     → length (take_while p (x ∷ xs)) ≡ 0
 none_passed p x xs passes = grind (arith, passes, take_while-cons p x xs)
+
+-- no number is in an empty text
+module _ (rule : Rule) where
+  no_integer : (most : ℕ) → integer_at rule [] 0 most ≡ Err (Empty 0)
+  unfolding integer_at
+  no_integer most =
+      let first = stop_is_first rule [] 0 0 (omega arith) in
+      let none : stop rule [] 0 0 ≡ 0 = omega (arith, first.within) in
+      rw none refl
+
+  no_number : (least most : ℕ) → number_at least most rule [] 0 ≡ Err (Empty 0)
+  no_number least most = rw (and_none (nat_lt 0 least), no_integer most) refl
 
 -- a byte that may be in an integer
 record Begins (word least : ℕ) (text : List ℕ) : Type 0 where
@@ -118,14 +136,14 @@ module _ (word least most separator : ℕ) (gap : Gap) (by : IsListReadBy word l
     }
 
     -- a byte that may be in a number is not between two
-    none_between : (byte : ℕ) → is_integer_byte least word byte ≡ true
+    is_apart : (byte : ℕ) → is_integer_byte least word byte ≡ true
         → (accepts gap.separators byte ≡ false) × (accepts gap.blanks byte ≡ false)
-    none_between byte may =
+    is_apart byte may =
         or_parts (accepts gap.separators byte) (accepts gap.blanks byte) (by.apart byte may)
 
     no_blank_is : (byte : ℕ) → is_integer_byte least word byte ≡ true → is_blank gap byte ≡ false
     no_blank_is byte may =
-        ap (λ (b : Bool). b && not (accepts gap.separators byte)) (none_between byte may).1
+        ap (λ (b : Bool). b && not (accepts gap.separators byte)) (is_apart byte may).1
 
     -- ---- the separator
 
@@ -179,7 +197,7 @@ module _ (word least most separator : ℕ) (gap : Gap) (by : IsListReadBy word l
         pub separates_none : has_separator gap text start ≡ false
         separates_none =
             ap (holds_of (accepts gap.separators)) byte_is
-            ∙ (none_between first.byte first.may).0
+            ∙ (is_apart first.byte first.may).0
 
         no_blanks_first : length (take_while (is_blank gap) (drop start text)) ≡ 0
         no_blanks_first =
@@ -332,7 +350,7 @@ module _ (word least most separator : ℕ) (gap : Gap) (by : IsListReadBy word l
         listed (list_text separator (z ∷ zs)) zs z 0 room (omega arith) refl all l
 
     none_there : one [] 0 ≡ Err (Empty 0)
-    none_there = integer_ends least most rule []
+    none_there = no_number rule least most
 
     no_list : (room : ℕ) → gap.may_trail ≡ true
         → full_list (one []) literal_none_at gap [] room 0 ≡ ([], Over 0)
@@ -386,6 +404,3 @@ module _ (word least most separator : ℕ) (gap : Gap) (by : IsListReadBy word l
           subst (λ (t : List ℕ). parsed t (full_list (one t) literal_none_at gap t room 0)
           ≡ Ok (length xs)) (sym is)
           (parsed_back (map value xs) room all fits may ∙ ap Ok same)
-
--- to be named in an attribute
-pub ruleset lists = (list_back, full_back, parsed_back)

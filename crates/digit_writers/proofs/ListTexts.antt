@@ -6,7 +6,7 @@ use Rattle.std.specs.List.{splice}
 use Rattle.std.proofs.lemmas.List.{drop_more, drop-drop, drop_all, length-take-le}
 use Rattle.std.proofs.lemmas.List.Elements.{All-nil}
 use Rattle.digit_literals.specs.Numbers.{signed}
-use Rattle.digit_writers.specs.Layouts.{digit_count}
+use Rattle.digit_writers.specs.Layouts.{digit_count, sign_of}
 use Rattle.digit_writers.specs.Lists.{list_text, others_text, IsListSoFar}
 use Rattle.digit_writers.specs.Written.{IsOfType}
 use Rattle.digit_writers.proofs.LastDigits.{length_last}
@@ -30,22 +30,27 @@ of_type true (suc n) least most z is some fits few =
     subst (IsOfType least most) is (omega (arith, fits), omega (arith, few))
 
 -- how long it is
-pub length_is : (negative : Bool) (n count : ℕ) (z : ℤ) → signed negative n ≡ z
-    → (negative ≡ true → 0 < n) → n < 10 ^ 64 → count ≡ digit_count 10 n
-    → (if negative then 1 else 0) + count ≡ length (signed_decimal z)
-length_is negative n count z is some few counts =
+pub length_is : (negative : Bool) (n signs count : ℕ) (z : ℤ) → signed negative n ≡ z
+    → (negative ≡ true → 0 < n) → n < 10 ^ 64 → signs ≡ length (sign_of false negative)
+    → count ≡ digit_count 10 n → signs + count ≡ length (signed_decimal z)
+length_is negative n signs count z is some few signed_by counts =
     let digits : count ≡ length (decimal n) =
     counts ∙ sym (length_last 10 false (digit_count 10 n) n) ∙ ap length (decimal_is false n few) in
-    ap (λ (k : ℕ). (if negative then 1 else 0) + k) digits ∙ signs negative (decimal n)
-    ∙ ap length (sym (signed_is negative n z is some))
+    omega (
+      arith,
+      digits,
+      signed_by,
+      minus negative,
+      length-append (sign_text negative) (decimal n),
+      ap length (signed_is negative n z is some),
+    )
   where
-    signs : (negative : Bool) (ds : List ℕ)
-        → (if negative then 1 else 0) + length ds ≡ length (sign_text negative ++ ds)
-    signs true ds = refl
-    signs false ds = omega arith
+    minus : (negative : Bool) → length (sign_of false negative) ≡ length (sign_text negative)
+    minus true = refl
+    minus false = refl
 
 -- to be named in an attribute
-pub ruleset parts = (signed_is, of_type, length_is)
+pub ruleset parts = (signed_is, of_type)
 
 -- what is left at an element
 pub left_at : {V : Type 0} (value : V → ℤ) (xs : List V) (i : ℕ) (x : V) → i < length xs

@@ -45,7 +45,6 @@ pub fn layouts_are_read_back()
 /// What [`write_list`](crate::write_list) writes of numbers of a type is read as these numbers, to
 /// its end, by each word and gap that read such a list: by `read_list` of integers (`read`), and by
 /// `parse_list`, which has as many (`whole`, `parsed`). There is a number, or the gap may trail.
-#[tactic(auto, using(crate::proofs::ListReading::lists))]
 pub fn lists_are_read_back()
     ensures read { (word least most separator room : ℕ) (gap : Gap) (z : ℤ) (others : List ℤ) →
         IsListReadBy word least separator gap → All (IsOfType least most) (z ∷ others) →

@@ -13,6 +13,7 @@ ghost use Rattle.digit_lists.specs.Lists.{full_list, parsed};
 ghost use Rattle.digit_writers.specs.Lists.{IsListReadBy, list_text};
 ghost use Rattle.digit_writers.specs.Written.{IsOfType};
 
+use super::by::count_signs;
 use super::groups::count_digits;
 use super::types::Written;
 use super::wide::put_number;
@@ -27,7 +28,7 @@ fn length_of<T: Written>(value: T) -> usize
     ensures of_type { IsOfType T.MIN_MAGNITUDE T.MAX (T.number value) }
 {
     let (is_negative, magnitude) = value.parts();
-    is_negative as usize + count_digits(magnitude, 10)
+    count_signs(false, is_negative) + count_digits(magnitude, 10)
 }
 
 /// How long the text of a list is that has a number, or the greatest `usize` if that is less.

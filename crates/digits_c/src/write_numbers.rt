@@ -5,16 +5,18 @@ ghost use Rattle.digits.specs.Numbers as numbers;
 ghost use Rattle.digits.specs.Words.{IsForm, form_of, with_value};
 ghost use Rattle.digits_c.specs.Texts.{PutsNumber, PutsNumberBy};
 
+use digit_lists::laws::no_number_at_the_end;
 use digits::{Form, Number, STANDARD, form_of, write_number_of};
 
 /// Writes a number by a form into places, and answers its length, or 0 where there is no room or
 /// the form has no such number.
 #[inline(always)]
-#[tactic(auto, using(crate::proofs::NumberTexts::puts_numbers))]
 fn write(out: &mut [u8], number: Number<f64>, form: Form) -> usize
     requires { IsForm form }
     ensures { PutsNumber form (with_value (λ x. x) number) out.old out.new result }
 {
+    // no text is empty, since no number is in an empty one
+    no_number_at_the_end(&[], STANDARD);
     write_number_of::<f64>(number, form, out).unwrap_or(0)
 }
 
