@@ -13,7 +13,7 @@ from cases import UNITS, table, target  # noqa: E402
 from costs import costs  # noqa: E402
 from peers import door, peers, span as to_peers, times  # noqa: E402
 from picture import svg  # noqa: E402
-from written import writers  # noqa: E402
+from written import PLAIN, span as to_writers, writers  # noqa: E402
 
 # The rows of SPEED, with the cases that they show.
 ROWS = {
@@ -162,7 +162,14 @@ binary integers {most_to_original("y:")}, letters between digits {most_to_origin
 numbers with a `Bytes` each {most_to_original("f:")}. A `Bytes` by a word that only run time knows \
 takes up to {most_of(cases, "", "Library")} times what lexical-util takes with a constant word.
 
-{times()} [SPEED](docs/SPEED.md) has each row, and how to call it so that it is fast."""
+{times()}
+
+**What you write**, beside the best other writer: a `u64` takes {to_writers("u64")} times its \
+instructions (itoa, lexical-core), a float {to_writers("f")} (ryu, to_chars), `%.2f` \
+{to_writers("%.2f")}, `%.6e` {to_writers("%.6e")} (to_chars). In groups, as `1_234_567`, a `u64` \
+takes {to_writers("grouped", PLAIN)} times what it takes without.
+
+[SPEED](docs/SPEED.md) has each row, and how to call it so that it is fast."""
 
 
 # ---- all of them

@@ -74,6 +74,15 @@ def met(rows):
     return len(ratios), sum(value <= most for value, most in ratios)
 
 
+def span(start, peer=None):
+    """The least and the greatest ratio to a peer, by default to the best that does the same work, in
+    the rows whose names begin so."""
+    ratios = [sides[LIBRARY][0] / (sides[peer][0] if peer else best_of(row, sides, False)[0])
+              for row, sides in Figures("written-counts.txt").rows.items() if row.startswith(start)]
+    least, most = f"{min(ratios):.1f}", f"{max(ratios):.1f}"
+    return most if least == most else f"{least} to {most}"
+
+
 def writers():
     """What docs/SPEED.md has between its comments on writing."""
     counts, times = Figures("written-counts.txt"), Figures("written-times.txt")
