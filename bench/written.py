@@ -4,6 +4,7 @@ from cases import table
 from peers import LIBRARY, Figures, best, ratio, slower_run
 
 PLAIN = "library, plain"
+FROM_C = "library, from C"
 # What a side doesn't do that the library does, in the rows whose names begin so.
 LESS = {
     ("", "itoa, its own buffer"): "its text isn't in the slice of the caller",
@@ -74,6 +75,30 @@ def met(rows):
     return len(ratios), sum(value <= most for value, most in ratios)
 
 
+def from_c(rows):
+    """How many instructions more a call from C takes, as a sentence."""
+    more = [sides[FROM_C][0] - sides[LIBRARY][0] for sides in rows.values() if FROM_C in sides]
+    return f" From C a call takes {min(more):.0f} to {max(more):.0f} more." if more else ""
+
+
+def span(start, peer=None):
+    """The least and the greatest ratio to a peer, by default to the best that does the same work, in
+    the rows whose names begin so."""
+    ratios = [sides[LIBRARY][0] / (sides[peer][0] if peer else best_of(row, sides, False)[0])
+              for row, sides in Figures("written-counts.txt").rows.items() if row.startswith(start)]
+    least, most = f"{min(ratios):.1f}", f"{max(ratios):.1f}"
+    return most if least == most else f"{least} to {most}"
+
+
+def told():
+    """What README.md says of what is written."""
+    return f"""\
+**What you write**, beside the best other writer: a `u64` takes {span("u64")} times its instructions \
+(itoa, lexical-core), a float {span("f")} (ryu, to_chars), `%.2f` {span("%.2f")}, `%.6e` \
+{span("%.6e")} (to_chars). In groups, as `1_234_567`, a `u64` takes {span("grouped", PLAIN)} times \
+what it takes without ([every row](docs/SPEED.md#writing))."""
+
+
 def writers():
     """What docs/SPEED.md has between its comments on writing."""
     counts, times = Figures("written-counts.txt"), Figures("written-times.txt")
@@ -97,7 +122,7 @@ def writers():
         "and writes all digits of a whole number. double-conversion is the library for C++. itoa, "
         "ryu, dtoa and lexical-core are crates of Rust, and std's floats are of two as close not "
         "always the even one. [written-counts.txt](../bench/peers/written-counts.txt) has every "
-        "writer, and mispredicted branches.", "",
+        f"writer, and mispredicted branches.{from_c(counts.rows)}", "",
         "An aim is the most that a row may take: an integer 0.95 of itoa, in groups 1.15 of the same "
         "without, a float 0.85 of ryu and 0.65 of to_chars, `%.2f` 0.5 of to_chars and 0.2 of "
         f"snprintf, and every row {MOST} of the best peer. *over*: it is missed. Of {all_aims} aims "

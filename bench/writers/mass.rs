@@ -21,14 +21,15 @@ unsafe extern "C" {
 }
 
 /// How many numbers are written at once, and how many bytes one may take.
-const BLOCK: u64 = 1 << 16;
+const BLOCK: u64 = 1 << 13;
 const ROOM: usize = 80;
 /// How many numbers that differ are told.
 const TOLD: u64 = 20;
 
-/// What came of many numbers.
+/// What came of many numbers, and where they are written.
 #[derive(Default)]
 struct Sums {
+    out: Vec<u8>,
     written: u64,
     without_text: u64,
     as_near: u64,
@@ -36,6 +37,13 @@ struct Sums {
 }
 
 impl Sums {
+    /// Where so many numbers are written.
+    fn room(&mut self, count: usize) -> Vec<u8> {
+        let mut out = std::mem::take(&mut self.out);
+        out.resize(count * ROOM, 0);
+        out
+    }
+
     fn add(&mut self, other: &Sums) {
         self.written += other.written;
         self.without_text += other.without_text;
@@ -180,12 +188,14 @@ fn is_even_of_two<F: Float>(x: F, ours: &[u8], theirs: &[u8]) -> bool {
 /// Compares the texts of floats of these bits.
 fn compare<F: Float>(bits: impl Iterator<Item = u64>, sums: &mut Sums) {
     let values: Vec<F> = bits.map(F::of_bits).collect();
-    let mut out = vec![0; values.len() * ROOM];
+    let mut out = sums.room(values.len());
     // SAFETY: the values are only read, and of `out` no byte after its end is written
     let length = unsafe { F::WRITER(values.as_ptr(), values.len(), out.as_mut_ptr(), out.len()) };
-    let mut texts = out[..length].split(|byte| *byte == b',');
+    let mut rest = std::str::from_utf8(&out[..length]).expect("ASCII");
     for x in values {
-        let ours = texts.next().unwrap_or(b"missing");
+        let (text, after) = rest.split_once(',').unwrap_or(("missing", ""));
+        rest = after;
+        let ours = text.as_bytes();
         if !x.is_finite() {
             sums.without_text += 1;
             if !ours.is_empty() {
@@ -194,7 +204,6 @@ fn compare<F: Float>(bits: impl Iterator<Item = u64>, sums: &mut Sums) {
             continue;
         }
         sums.written += 1;
-        let text = std::str::from_utf8(ours).unwrap_or("no text");
         if text.parse::<F>().ok().map(F::bits) != Some(x.bits()) {
             sums.tell(&format!("{:x} is written {text}, which isn't read back", x.bits()));
         }
@@ -211,6 +220,7 @@ fn compare<F: Float>(bits: impl Iterator<Item = u64>, sums: &mut Sums) {
             sums.tell(&format!("{:x} is written {text}, by ryu {theirs}", x.bits()));
         }
     }
+    sums.out = out;
 }
 
 /// The text of an amount: `Display` of its size, zeros, a point, and separators.
@@ -235,7 +245,7 @@ fn amount_of(value: i64, places: usize, is_grouped: bool) -> String {
 fn compare_amounts(from: u64, to: u64, sums: &mut Sums) {
     let values: Vec<i64> =
         (from..to).map(|at| chance(2 * at) as i64 >> (chance(2 * at + 1) % 64)).collect();
-    let mut out = vec![0; values.len() * ROOM];
+    let mut out = sums.room(values.len());
     let places = (from / BLOCK % 39) as usize;
     for (writer, is_grouped) in [(writer_scaled as Writer, false), (writer_prices, true)] {
         // SAFETY: the values are only read, and of `out` no byte after its end is written

@@ -20,7 +20,40 @@ impl<T: Written> WritesOne for Decimal<T> {
     }
 }
 
-/// The same in a layout.
+/// An integer of 128 bits, as C passes it on.
+#[derive(Clone, Copy)]
+#[repr(C)]
+pub struct Halves {
+    pub low: u64,
+    pub high: u64,
+}
+
+impl Halves {
+    #[inline(always)]
+    fn whole(self) -> u128 {
+        (u128::from(self.high) << 64) | u128::from(self.low)
+    }
+}
+
+/// The integers of 128 bits, in decimal.
+#[derive(Clone, Copy)]
+struct Wide {
+    is_signed: bool,
+}
+
+impl WritesOne for Wide {
+    type Number = Halves;
+
+    #[inline(always)]
+    fn write_one(self, value: Halves, out: &mut [u8]) -> usize {
+        if self.is_signed {
+            return Decimal::<i128>(PhantomData).write_one(value.whole().cast_signed(), out);
+        }
+        Decimal::<u128>(PhantomData).write_one(value.whole(), out)
+    }
+}
+
+/// Integers in a layout.
 #[derive(Clone, Copy)]
 struct By<T: Written> {
     layout: Layout,
@@ -104,8 +137,8 @@ pub extern "C" fn writer_u64s(values: &[u64], out: &mut [u8]) -> usize {
 
 /// The same.
 #[unsafe(no_mangle)]
-pub extern "C" fn writer_u128s(values: &[u128], out: &mut [u8]) -> usize {
-    write_all(values, out)
+pub extern "C" fn writer_u128s(values: &[Halves], out: &mut [u8]) -> usize {
+    write_each(Wide { is_signed: false }, values, out)
 }
 
 /// The same.
@@ -140,8 +173,8 @@ pub extern "C" fn writer_i64s(values: &[i64], out: &mut [u8]) -> usize {
 
 /// The same.
 #[unsafe(no_mangle)]
-pub extern "C" fn writer_i128s(values: &[i128], out: &mut [u8]) -> usize {
-    write_all(values, out)
+pub extern "C" fn writer_i128s(values: &[Halves], out: &mut [u8]) -> usize {
+    write_each(Wide { is_signed: true }, values, out)
 }
 
 /// The same.
