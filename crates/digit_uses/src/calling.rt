@@ -28,25 +28,6 @@ pub fn read_mask(text: &[u8]) -> Result<(u16, usize), LanguageError> {
     read_literal_as::<u16>(text, 0, RUST)
 }
 
-ghost use Rattle.std.specs.Prelude.{IsTrue};
-ghost use Rattle.digits.specs.Words.{is_supported};
-
-use digits::{Component, Rule, stop_from};
-use std::alloc::{AllocError, Global};
-
-/// The digits of the integer that a text begins with, at any length, without its separators.
-pub fn digits_of(alloc: Global, text: &[u8], word: u128) -> Result<Vec<u8>, AllocError>
-    requires { IsTrue (is_supported word) }
-{
-    let rule = Rule::of(word, Component::Integer);
-    let end = stop_from(text, word, Component::Integer, 0);
-    text[..end]
-        .iter()
-        .copied()
-        .filter(|byte| rule.is_digit(*byte))
-        .collect(alloc)
-}
-
 ghost use Rattle.std.specs.Prelude.{◌<◌, ◌≤◌, length, IfOk};
 
 use digits::{Number, NumberError, byte_at, forms, read_number_of};
@@ -152,7 +133,7 @@ use digits::{FLOAT_ROOM, FloatLayout, MOST_ROOM, write_float, write_number, writ
 pub fn first_texts() {
     let mut out = [0; MOST_ROOM];
     let height = write_number(-128i8, &mut out); // 4: `&out[..4]` is `-128`
-    let rate = write_float(123.45, FloatLayout::Usual, &mut out); // Ok(6): `123.45`
+    let rate = write_float(0.1, FloatLayout::Usual, &mut out); // Ok(3): `0.1`
     let price = write_price(123450i64, b'.', 2, b',', &mut out); // Ok(8): `1,234.50`
 }
 
@@ -166,7 +147,7 @@ pub fn write_grouped(number: i64, out: &mut [u8]) -> Result<usize, NoRoom> {
     write_number_by(number, layout, out)
 }
 
-ghost use Rattle.std.specs.Prelude.{◌≡◌};
+ghost use Rattle.std.specs.Prelude.{◌≡◌, IsTrue};
 ghost use Rattle.std.specs.Float.{float_is_finite};
 
 use digits::parse_float;
@@ -185,6 +166,8 @@ pub fn write_and_read(x: f64) -> f64
         Err(_) => unreachable!(),
     }
 }
+
+ghost use Rattle.digits.specs.Words.{is_supported};
 
 use digits::{
     DECIMAL, DigitSeparatorFlags, INTEGER_INTERNAL_DIGIT_SEPARATOR, NO_FLAGS, NumberFormatBuilder,
@@ -227,6 +210,22 @@ pub fn read_css(text: &[u8], start: usize) -> Result<(f64, usize), NumberError>
 {
     let (number, end) = read_number_of::<f64>(text, start, CSS)?;
     Ok((number.to_float(), end))
+}
+
+use digits::{Component, Rule, stop_from};
+use std::alloc::{AllocError, Global};
+
+/// The digits of the integer that a text begins with, at any length, without its separators.
+pub fn digits_of(alloc: Global, text: &[u8], word: u128) -> Result<Vec<u8>, AllocError>
+    requires { IsTrue (is_supported word) }
+{
+    let rule = Rule::of(word, Component::Integer);
+    let end = stop_from(text, word, Component::Integer, 0);
+    text[..end]
+        .iter()
+        .copied()
+        .filter(|byte| rule.is_digit(*byte))
+        .collect(alloc)
 }
 
 use digits::read_integer_from;

@@ -1,10 +1,12 @@
-//! The functions of the page CALLING.md that read a number, a token of JSON and a row of CSV. The
-//! expected values are worked out by hand.
+//! The functions of the page CALLING.md that read a number, a token of JSON, a row of CSV
+//! and a number of CSS, and write a number. The expected values are worked out by hand.
 
 use digit_lists::ListError;
 use digit_literals::{LiteralError, ParseError};
 use digit_numbers::NumberError;
-use digit_uses::calling::{parse_height, parse_row, read_mask, read_size, read_token};
+use digit_uses::calling::{
+    parse_height, parse_row, read_css, read_mask, read_size, read_token, write_grouped,
+};
 
 #[test]
 fn a_height_is_a_whole_text(rt: HostRuntime) {
@@ -122,4 +124,20 @@ fn what_is_no_row(rt: HostRuntime) {
         let answer = parse_row(text, &mut row);
         assert!(rt; answer == Err(*error), "{text:?}: {answer:?}");
     }
+}
+
+#[test]
+fn a_number_of_css_needs_a_fraction_after_a_point(rt: HostRuntime) {
+    assert!(rt; read_css(b"1.5em", 0) == Ok((1.5, 3)));
+    assert!(rt; read_css(b"+.5e3", 0) == Ok((500.0, 5)));
+    assert!(rt; read_css(b"5.", 0) == Ok((5.0, 1)));
+    assert!(rt; read_css(b"em", 0) == Err(NumberError::Empty(0)));
+}
+
+#[test]
+fn a_number_is_written_in_groups(rt: HostRuntime) {
+    let mut out = [0; 10];
+    assert!(rt; write_grouped(-1234567, &mut out) == Ok(10));
+    assert!(rt; out == *b"-1,234,567");
+    assert!(rt; write_grouped(-12345678, &mut out).map_err(|error| error.needed) == Err(11));
 }
