@@ -43,6 +43,23 @@ pub fn read_ports(text: &[u8], ports: &mut [u16]) -> ListRead<LiteralError>
     read_list::<u16>(text, 0, STANDARD, COMMAS, ports)
 }
 
+ghost use Rattle.digits.specs.Words.{Holds, full_list, parsed};
+
+use digits::{COMMAS_IN_LINE, Integers, ListError, parse_list};
+
+/// How many numbers a line has, which are in the front of `row` then, or the first fault:
+/// `12, 7,305` has three.
+pub fn parse_row(line: &[u8], row: &mut [u32]) -> Result<usize, ListError<LiteralError>>
+    ensures is { let at = number_at 0 (2 ^ 32 - 1) (rule_of STANDARD Integer) line.now in
+        let list = full_list at literal_none_at COMMAS_IN_LINE line.now (length row.old) 0 in
+        result ≡ parsed line.now list }
+    ensures numbers { let at = number_at 0 (2 ^ 32 - 1) (rule_of STANDARD Integer) line.now in
+        let list = full_list at literal_none_at COMMAS_IN_LINE line.now (length row.old) 0 in
+        Holds (λ number. pos number) list.0 row.old row.new }
+{
+    parse_list(Integers::<u32>::new(STANDARD), line, COMMAS_IN_LINE, row)
+}
+
 ghost use Rattle.std.specs.Prelude.{ℕ, ◌≤◌, IfOk, IfErr};
 ghost use Rattle.digits.specs.Words.{integer_at};
 
