@@ -1,12 +1,14 @@
 //! The functions of the page CALLING.md that read a number, a token of JSON, a row of CSV
 //! and a number of CSS, and write a number. The expected values are worked out by hand.
 
+use digit_floats::{FloatError, read_float};
 use digit_lists::ListError;
-use digit_literals::{LiteralError, ParseError};
-use digit_numbers::NumberError;
+use digit_literals::{LINES, ListEnd, LiteralError, ParseError, read_list};
+use digit_numbers::{Number, NumberError, forms, read_number_of};
 use digit_uses::calling::{
-    parse_height, parse_row, read_css, read_mask, read_size, read_token, write_grouped,
+    parse_height, parse_row, read_css, read_mask, read_ports, read_size, read_token, write_grouped,
 };
+use lexical_format::STANDARD;
 
 #[test]
 fn a_height_is_a_whole_text(rt: HostRuntime) {
@@ -140,4 +142,34 @@ fn a_number_is_written_in_groups(rt: HostRuntime) {
     assert!(rt; write_grouped(-1234567, &mut out) == Ok(10));
     assert!(rt; out == *b"-1,234,567");
     assert!(rt; write_grouped(-12345678, &mut out).map_err(|error| error.needed) == Err(11));
+}
+
+#[test]
+#[tactic(auto, unfolding(lexical_format::proofs::OnLiterals::lexical_on_literals))]
+fn an_exponent_without_a_digit(rt: HostRuntime) {
+    assert!(rt; read_float::<f64>(b"1em", STANDARD) == Err(FloatError::EmptyExponent(2)));
+    assert!(rt; read_number_of::<f64>(b"1em", 0, forms::CSS) == Ok((Number::Float(1.0), 1)));
+}
+
+#[test]
+fn why_a_list_has_no_more_numbers(rt: HostRuntime) {
+    let mut four = [0; 4];
+    let read = read_ports(b"80, 443;", &mut four);
+    assert!(rt; read.count == 2 && read.end == ListEnd::Over(7));
+    assert!(rt; four == [80, 443, 0, 0]);
+    let read = read_ports(b"80, x", &mut four);
+    assert!(rt; read.count == 1 && read.end == ListEnd::Fault(LiteralError::Empty(4)));
+    let mut one = [0; 1];
+    let read = read_ports(b"80, 443;", &mut one);
+    assert!(rt; read.count == 1 && read.end == ListEnd::Full(3));
+}
+
+#[test]
+#[tactic(auto, unfolding(lexical_format::proofs::OnLiterals::lexical_on_literals))]
+fn why_a_column_has_no_more_numbers(rt: HostRuntime) {
+    let mut four = [0u16; 4];
+    let read = read_list(b"80\n443\n", 0, STANDARD, LINES, &mut four);
+    assert!(rt; read.count == 2 && read.end == ListEnd::Over(7));
+    let read = read_list(b"80\n\n443\n", 0, STANDARD, LINES, &mut four);
+    assert!(rt; read.count == 1 && read.end == ListEnd::Over(3));
 }
