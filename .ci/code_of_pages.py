@@ -1,13 +1,17 @@
 """The code of the pages: the blocks of Rust of a page are a file that the gate proves."""
+import os
 import re
 
 from sources import DOOR, files_below, read
 
 USES = "crates/digit_uses"
 # The pages, and the module of digit_uses that the blocks of each are.
-PAGES = {"README.md": "readme", "CALLING.md": "calling"}
-# The pages whose blocks are parts of proved files, and the crate that has these.
-SHOWN = {"docs/IMPLEMENTING.md": "crates/digit_vectors"}
+PAGES = {"README.md": "readme", "CALLING.md": "calling", "docs/PROVING.md": "proving"}
+# The crate of whoever pastes them, which here is digit_uses.
+CALLER = "my_parser"
+# The pages whose blocks of these languages are parts of proved files, and the crate that has these.
+SHOWN = {"docs/IMPLEMENTING.md": ("crates/digit_vectors", ("rust", "antt")),
+         "docs/PROVING.md": (USES, ("antt",))}
 # What pages show of other languages: the mark of its blocks, the file whose examples are run, how a line
 # has a call and its answer, and how the file has them.
 DOORS = ("README.md", "c/README.md")
@@ -35,7 +39,9 @@ def blocks_of(page, language):
 
 def code(lines, first):
     """(number, line) without blank lines, the head's comments, and the attribute of a crate."""
-    return [(number, line.rstrip()) for number, line in enumerate(lines, first)
+    here = f"Rattle.{os.path.basename(USES)}."
+    return [(number, line.rstrip().replace(f"Rattle.{CALLER}.", here))
+            for number, line in enumerate(lines, first)
             if line.strip() and not line.startswith(("//!", "#!["))]
 
 
@@ -59,7 +65,7 @@ def by_the_door(page, faults):
         for number, line in enumerate(block, first):
             m = re.match(r"(?:ghost )?use (?:Rattle\.)?(\w+)|#.*?\b(?:using|unfolding)\((\w+)::", line)
             crate = m and (m[1] or m[2])
-            if crate and crate not in (DOOR, "std"):
+            if crate and crate not in (DOOR, CALLER, "std"):
                 faults.append(f"{page}:{number}: a caller who has only `{DOOR}` has no `{crate}`")
 
 
@@ -98,9 +104,9 @@ def first_run(faults):
 def parts(faults):
     """Each paragraph of the blocks of Rust and antt of these pages is in a file of the crate."""
     count = 0
-    for page, crate in SHOWN.items():
+    for page, (crate, languages) in SHOWN.items():
         texts = [flat(read(path)) for path in files_below(crate, (".rt", ".antt"))]
-        for language in ("rust", "antt"):
+        for language in languages:
             for first, block in blocks_of(page, language):
                 if block[0].startswith(CHANGES):
                     continue

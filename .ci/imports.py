@@ -1,10 +1,10 @@
-"""What `digits` hands out to a caller's specs/: each import line of the table of CALLING.md is one
+"""What `digits` hands out to a caller's specs/: each import line of the table of PROVING.md is one
 of a file that the gate proves, and each constant of Rust and each module of specs/ has its line."""
 import re
 
 from sources import DOOR, read
 
-PAGE = "CALLING.md"
+PAGE = "docs/PROVING.md"
 TRIED = "crates/digit_uses/specs/Imports.antt"
 ROOT = f"crates/{DOOR}/src/lib.rt"
 SPECS = f"crates/{DOOR}/specs"

@@ -1,4 +1,4 @@
--- Each import line of CALLING.md, "Names in specs/". What it imports is used once.
+-- Each import line of docs/PROVING.md, "Names in specs/". What it imports is used once.
 use Rattle.std.specs.Prelude.{ℕ, Bool, List, [], ◌∷◌}
 use Rattle.digits.specs.Constants.{STANDARD, COMMAS, BLANKS}
 use Rattle.digits.specs.Formats.{PYTHON_LITERAL}

@@ -12,6 +12,7 @@ pub mod literal;
 pub mod loops;
 pub mod money;
 pub mod points;
+pub mod proving;
 pub mod readme;
 pub mod settings;
 pub mod values;

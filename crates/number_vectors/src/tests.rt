@@ -5,6 +5,7 @@ ghost use Rattle.std.specs.Prelude.{◌≡◌};
 ghost use Rattle.lexical_digits.specs.State.{start};
 
 mod bounds;
+mod calling;
 mod decimals;
 mod ends;
 mod every_byte;

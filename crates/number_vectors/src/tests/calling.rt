@@ -1,0 +1,175 @@
+//! The functions of the page CALLING.md that read a number, a token of JSON, a row of CSV
+//! and a number of CSS, and write a number. The expected values are worked out by hand.
+
+use digit_floats::{FloatError, read_float};
+use digit_lists::ListError;
+use digit_literals::{LINES, ListEnd, LiteralError, ParseError, read_list};
+use digit_numbers::{Number, NumberError, forms, read_number_of};
+use digit_uses::calling::{
+    parse_height, parse_row, read_css, read_mask, read_ports, read_size, read_token, write_grouped,
+};
+use lexical_format::STANDARD;
+
+#[test]
+fn a_height_is_a_whole_text(rt: HostRuntime) {
+    let rows: [(&[u8], Result<i32, ParseError>); 7] = [
+        (b"-1_000", Ok(-1000)),
+        (b"+7", Ok(7)),
+        (b"2_147_483_648", Err(ParseError::Overflow(12))),
+        (b"1_000m", Err(ParseError::Invalid(5))),
+        (b" 1", Err(ParseError::Invalid(0))),
+        (b"1__0", Err(ParseError::Invalid(1))),
+        (b"", Err(ParseError::Empty(0))),
+    ];
+    for (text, expected) in rows {
+        let answer = parse_height(text);
+        assert!(rt; answer == expected, "{text:?}: {answer:?}");
+    }
+}
+
+#[test]
+fn a_size_is_two_numbers(rt: HostRuntime) {
+    assert!(rt; read_size(b"1_920x1_080 px") == Ok((1920, 1080, 11)));
+    assert!(rt; read_size(b"1_920,1_080") == Err(LiteralError::Empty(5)));
+    assert!(rt; read_size(b"1x") == Err(LiteralError::Empty(2)));
+    assert!(rt; read_mask(b"0xff_u8") == Ok((255, 5)));
+}
+
+/// The token that begins a text: as an `i64`, as a float, and where it ends.
+fn token(text: &[u8]) -> Result<(Option<i64>, f64, usize), NumberError> {
+    let (number, end) = read_token(text, 0)?;
+    Ok((number.as_integer::<i64>(), number.to_float(), end))
+}
+
+#[test]
+fn a_token_of_json_ends_where_one_may_end(rt: HostRuntime) {
+    let rows: [(&[u8], i64, f64, usize); 8] = [
+        (b"12]", 12, 12.0, 2),
+        (b"0", 0, 0.0, 1),
+        (b"-7,", -7, -7.0, 2),
+        (b"5 ", 5, 5.0, 1),
+        (b"5\t", 5, 5.0, 1),
+        (b"5\n", 5, 5.0, 1),
+        (b"5\r\n", 5, 5.0, 1),
+        (b"5}", 5, 5.0, 1),
+    ];
+    for (text, integer, float, end) in rows {
+        let answer = token(text);
+        assert!(rt;
+            answer == Ok((Some(integer), float, end)),
+            "{text:?}: {answer:?}"
+        );
+    }
+}
+
+#[test]
+fn a_token_of_json_may_be_a_float(rt: HostRuntime) {
+    let rows: [(&[u8], f64, usize); 4] = [
+        (b"-1.5e3,", -1500.0, 6),
+        (b"1.0", 1.0, 3),
+        (b"9223372036854775808", 9223372036854775808.0, 19),
+        (b"1e999", f64::INFINITY, 5),
+    ];
+    for (text, float, end) in rows {
+        let answer = token(text);
+        assert!(rt; answer == Ok((None, float, end)), "{text:?}: {answer:?}");
+    }
+}
+
+#[test]
+fn what_is_no_token_of_json(rt: HostRuntime) {
+    let rows: [(&[u8], NumberError); 9] = [
+        (b"01", NumberError::Invalid(1)),
+        (b"1.", NumberError::Invalid(1)),
+        (b"1.e3", NumberError::Invalid(1)),
+        (b"1e", NumberError::Invalid(1)),
+        (b"12x", NumberError::Invalid(2)),
+        (b"1[", NumberError::Invalid(1)),
+        (b".5", NumberError::Empty(0)),
+        (b"+1", NumberError::Empty(0)),
+        (b"-", NumberError::Empty(1)),
+    ];
+    for (text, error) in rows {
+        let answer = token(text);
+        assert!(rt; answer == Err(error), "{text:?}: {answer:?}");
+    }
+}
+
+#[test]
+fn a_row_is_a_line_of_numbers(rt: HostRuntime) {
+    let mut row = [0; 3];
+    assert!(rt; parse_row(b"12, 7,305", &mut row) == Ok(3));
+    assert!(rt; row == [12, 7, 305]);
+    assert!(rt; parse_row(b" 1\t, 2 ", &mut row) == Ok(2));
+    assert!(rt; row == [1, 2, 305]);
+}
+
+/// Why a line is no row of at most three numbers.
+static NO_ROWS: [(&[u8], ListError<LiteralError>); 8] = [
+    (b"12,,7", ListError::Number(LiteralError::Empty(3))),
+    (b"12,7,", ListError::Number(LiteralError::Empty(5))),
+    (b"", ListError::Number(LiteralError::Empty(0))),
+    (b"12,-7", ListError::Number(LiteralError::Empty(3))),
+    (
+        b"12,4294967296",
+        ListError::Number(LiteralError::Overflow(12)),
+    ),
+    (b"12, 7,305\r", ListError::Invalid(9)),
+    (b"12;7", ListError::Invalid(2)),
+    (b"1,2, 3, 4", ListError::NoRoom(8)),
+];
+
+#[test]
+fn what_is_no_row(rt: HostRuntime) {
+    for (text, error) in &NO_ROWS {
+        let mut row = [0; 3];
+        let answer = parse_row(text, &mut row);
+        assert!(rt; answer == Err(*error), "{text:?}: {answer:?}");
+    }
+}
+
+#[test]
+fn a_number_of_css_needs_a_fraction_after_a_point(rt: HostRuntime) {
+    assert!(rt; read_css(b"1.5em", 0) == Ok((1.5, 3)));
+    assert!(rt; read_css(b"+.5e3", 0) == Ok((500.0, 5)));
+    assert!(rt; read_css(b"5.", 0) == Ok((5.0, 1)));
+    assert!(rt; read_css(b"em", 0) == Err(NumberError::Empty(0)));
+}
+
+#[test]
+fn a_number_is_written_in_groups(rt: HostRuntime) {
+    let mut out = [0; 10];
+    assert!(rt; write_grouped(-1234567, &mut out) == Ok(10));
+    assert!(rt; out == *b"-1,234,567");
+    assert!(rt; write_grouped(-12345678, &mut out).map_err(|error| error.needed) == Err(11));
+}
+
+#[test]
+#[tactic(auto, unfolding(lexical_format::proofs::OnLiterals::lexical_on_literals))]
+fn an_exponent_without_a_digit(rt: HostRuntime) {
+    assert!(rt; read_float::<f64>(b"1em", STANDARD) == Err(FloatError::EmptyExponent(2)));
+    assert!(rt; read_number_of::<f64>(b"1em", 0, forms::CSS) == Ok((Number::Float(1.0), 1)));
+}
+
+#[test]
+fn why_a_list_has_no_more_numbers(rt: HostRuntime) {
+    let mut four = [0; 4];
+    let read = read_ports(b"80, 443;", &mut four);
+    assert!(rt; read.count == 2 && read.end == ListEnd::Over(7));
+    assert!(rt; four == [80, 443, 0, 0]);
+    let read = read_ports(b"80, x", &mut four);
+    assert!(rt; read.count == 1 && read.end == ListEnd::Fault(LiteralError::Empty(4)));
+    let mut one = [0; 1];
+    let read = read_ports(b"80, 443;", &mut one);
+    assert!(rt; read.count == 1 && read.end == ListEnd::Full(3));
+}
+
+#[test]
+#[tactic(auto, unfolding(lexical_format::proofs::OnLiterals::lexical_on_literals))]
+fn why_a_column_has_no_more_numbers(rt: HostRuntime) {
+    let mut four = [0u16; 4];
+    let read = read_list(b"80\n443\n", 0, STANDARD, LINES, &mut four);
+    assert!(rt; read.count == 2 && read.end == ListEnd::Over(7));
+    let read = read_list(b"80\n\n443\n", 0, STANDARD, LINES, &mut four);
+    assert!(rt; read.count == 1 && read.end == ListEnd::Over(3));
+}
