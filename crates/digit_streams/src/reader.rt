@@ -177,6 +177,9 @@ impl<'b, K: Kind, R: Read> NumberReader<'b, K, R> {
             self.old.gap self.new.held)) }
         ensures place { IfNone self.old.ended (IsPlaceOfNext result self.new.position
             self.new.capacity (length self.new.held)) }
+        ensures end { IfNone self.old.ended (IsPlace
+            (end_of_next result self.new.position self.new.ended) self.new.position
+            self.new.capacity (length self.new.held)) }
         ensures reason { IfNone self.old.ended (HasReason (K.number_at self.old.kind) K.none_at
             K.error_at (K.has_byte self.old.kind) self.old.gap
             (end_of_next result self.new.position self.new.ended) self.new.position

@@ -1,7 +1,7 @@
 use Rattle.std.proofs.Common.{◌≡◌, ℕ, ◌-◌, List, [], length, drop}
 use Rattle.std.specs.Prelude.{IfSome}
 use Rattle.digit_pieces.specs.Texts.{IsApart}
-use Rattle.digit_streams.specs.Streams.{Gives, GoesOn, HasReason, IfEndsFault, end_of_next, ended_by, list_of_option, next_of, stream_list}
+use Rattle.digit_streams.specs.Streams.{Gives, GoesOn, HasReason, IfEndsFault, IsPlace, end_of_next, ended_by, list_of_option, next_of, stream_list}
 use Rattle.digit_streams.proofs.Single.{ends_so, gives_next, next_end, none_list, none_then, numbers_are}
 use Rattle.digit_streams.proofs.reader.NumberReader.next_number.Goals as goal
 
@@ -34,6 +34,18 @@ returns-clause-list g c =
     new.ended read.ensures.full read.ensures.fault read.ensures.place read.ensures.ended)
     (none_list reader.ended reader.bytes Apart list (list_of_option k.meaning read.result.0)
     read.result.1 read.ensures.list))
+
+pub returns-clause-end : goal.returns-clause-end
+returns-clause-end g c =
+    let reader = c.args.self.now in
+    let read = c.read_one-number in
+    let new = read.new.self in
+    rw c.next_of.ensures
+    (none_then reader.ended (λ end. IsPlace end new.position new.capacity (length new.held))
+    (end_of_next (next_of read.result.0 read.result.1) new.position new.ended) read.result.1
+    (next_end reader.ended read.result.0 read.result.1 new.position new.capacity (length new.held)
+    new.ended read.ensures.full read.ensures.fault read.ensures.place read.ensures.ended)
+    read.ensures.place)
 
 pub returns-clause-reason : goal.returns-clause-reason
 returns-clause-reason g c =
