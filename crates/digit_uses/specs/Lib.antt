@@ -7,4 +7,5 @@ pub mod Lists
 pub mod Literal
 pub mod Points
 pub mod Settings
+pub mod Sums
 pub mod Values

@@ -14,4 +14,5 @@ pub mod money;
 pub mod points;
 pub mod readme;
 pub mod settings;
+pub mod sums;
 pub mod values;

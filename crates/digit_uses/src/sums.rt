@@ -1,0 +1,41 @@
+//! The sum of the integers of a stream, one in each line: of a file or a socket of any length, whose
+//! bytes come in pieces cut anywhere. The contract says that they are the integers of the whole
+//! text. What a reader gave so far is a record, and one lemma is for each call.
+//!
+//! Proof by hand: 40 lines, an invariant and the answers of five goals.
+
+ghost use Rattle.std.specs.Prelude.{IfSome};
+ghost use Rattle.digit_uses.specs.Sums.{IsSum};
+
+use digit_streams::laws::calls_go_on;
+use digits::{
+    Integers, LINES, LiteralError, NumberReader, STANDARD, StreamError, integers_are_apart,
+};
+use std::io::Read;
+
+/// The sum of the integers of a stream, one in each line. A buffer of 64 bytes is enough, if no line
+/// has more than 63.
+#[tactic(auto, unfolding(digits::proofs::Literals::lexical_on_literals))]
+pub fn sum_of<R: Read + Drop>(
+    stream: R,
+    buffer: &mut [u8],
+) -> Result<i128, StreamError<LiteralError>>
+    ensures { IfSome (R.remaining stream) (λ text. IsSum text result) }
+{
+    let kind = Integers::<i64>::new(STANDARD);
+    integers_are_apart::<i64>(STANDARD, LINES);
+    calls_go_on(kind, LINES);
+    let mut numbers = NumberReader::new(stream, buffer, kind, LINES);
+    let mut sum = 0;
+    for turn in 0..u64::MAX {
+        match numbers.next_number() {
+            Some(Ok(number)) => sum += i128::from(number),
+            Some(Err(error)) => return Err(error),
+            None => match numbers.finish() {
+                Ok(()) => return Ok(sum),
+                Err(error) => return Err(error),
+            },
+        }
+    }
+    Err(StreamError::TooLong)
+}
