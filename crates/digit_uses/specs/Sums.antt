@@ -1,13 +1,12 @@
 -- The sum of the integers of a stream, one in each line.
-use Rattle.std.specs.Prelude.{◌≡◌, ⊤, ℕ, ℤ, pos, ◌+ℤ◌, ◌-◌, ◌^◌, ◌<◌, List, length, Option, None, Some, IfSome, Result, Ok, Err}
+use Rattle.std.specs.Prelude.{◌≡◌, ⊤, ℕ, ℤ, pos, ◌+ℤ◌, ◌-◌, ◌^◌, ◌<◌, List, length, Result, Ok, Err}
 use Rattle.std.specs.List.{fold}
 use Rattle.digits.specs.Constants.{LINES, STANDARD}
-use Rattle.digits.specs.StreamEnds.{Full, Over, Fault}
+use Rattle.digits.specs.StreamEnds.{Over, Fault}
 use Rattle.digits.specs.StreamErrors.{Number, NoRoom, Read, TooLong, Trailing}
-use Rattle.digits.specs.Words.{Gives, Integer, LiteralError, StreamEnd, StreamError, literal_none_at, number_at, rule_of, stream_list}
+use Rattle.digits.specs.Words.{Integer, LiteralError, StreamEnd, StreamError, literal_none_at, number_at, rule_of, stream_list}
 use Rattle.digit_pieces.specs.Moves.{literal_later}
-use Rattle.digit_streams.specs.declared.stream.Ended.{Ended}
-use Rattle.digit_streams.specs.Streams.{IfTrailing, StreamNumbers, UsesKnown, end_again}
+use Rattle.digit_streams.specs.Streams.{StreamNumbers}
 
 -- the integers of a text from a position of the stream on, as many as there is room for
 abbrev pub integers_from : ℕ → List ℕ → ℕ → StreamNumbers ℤ LiteralError
@@ -35,23 +34,3 @@ IsSum text (Err (NoRoom at)) = ⊤
 IsSum text (Err (Read kind)) = ⊤
 IsSum text (Err TooLong) = ⊤
 IsSum text (Err (Trailing at)) = ((sum : ℤ) × AddsUp text (Over at) sum) × (at < length text)
-
--- how the numbers so far end: there is room for more, or an end is answered again
-abbrev pub end_by : {E : Type 0} → ℕ → Option (Ended E) → StreamEnd E
-end_by position None = Full position
-end_by position (Some ended) = end_again ended
-
--- A list that is over is over at this position. No other fact trails it.
-abbrev pub IsHere : {E : Type 0} → StreamEnd E → ℕ → Type 0
-IsHere (Full at) position = ⊤
-IsHere (Over at) position = at ≡ position
-IsHere (Fault error) position = IfTrailing error (λ at. ⊥)
-
--- What a reader gave of a stream, whose bytes are known or not: the numbers of a list up to an end.
--- It is at a position, and these bytes are left.
-pub record HasGiven {A E : Type 0} (list : List ℕ → ℕ → StreamNumbers A E)
-    (known : Option (List ℕ)) (numbers : List A) (end : StreamEnd E) (position : ℕ)
-    (bytes : Option (List ℕ)) : Type 0 where
-  pub uses : UsesKnown 0 position known bytes
-  pub gives : IfSome known (λ text. (room : ℕ) × Gives (list text room) numbers end)
-  pub here : IsHere end position

@@ -7,7 +7,6 @@
 ghost use Rattle.std.specs.Prelude.{IfSome};
 ghost use Rattle.digit_uses.specs.Sums.{IsSum};
 
-use digit_streams::laws::calls_go_on;
 use digits::{
     Integers, LINES, LiteralError, NumberReader, STANDARD, StreamError, integers_are_apart,
 };
@@ -24,7 +23,6 @@ pub fn sum_of<R: Read + Drop>(
 {
     let kind = Integers::<i64>::new(STANDARD);
     integers_are_apart::<i64>(STANDARD, LINES);
-    calls_go_on(kind, LINES);
     let mut numbers = NumberReader::new(stream, buffer, kind, LINES);
     let mut sum = 0;
     for turn in 0..u64::MAX {

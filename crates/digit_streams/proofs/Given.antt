@@ -1,4 +1,4 @@
--- What a caller knows of the calls of a reader of numbers, one after the other.
+-- What a reader gave, call after call.
 use Rattle.std.proofs.Common.{◌≡◌, ℕ, ◌+◌, ◌-◌, ◌<◌, List, [], ◌++◌, drop, length, ap, refl, ◌∙◌, sym, subst, arith, append_assoc, append-nil}
 use Rattle.std.proofs.lemmas.List.{drop-drop, length-drop}
 use Rattle.std.specs.Prelude.{Option, None, Some, IfSome, IfNone, Result}
@@ -8,8 +8,7 @@ use Rattle.digit_streams.specs.declared.stream.StreamEnd.{StreamEnd}
 use Rattle.digit_streams.specs.declared.stream.StreamEnd.TheVariants.{Full, Over, Fault}
 use Rattle.digit_streams.specs.declared.stream.StreamError.{StreamError}
 use Rattle.digit_streams.specs.declared.stream.StreamError.TheVariants.{Number, NoRoom, Read, TooLong, Trailing}
-use Rattle.digit_streams.specs.Streams.{Gives, IsPlace, StreamNumbers, UsesKnown, end_of_next, next_again, numbers_of_next, then_from}
-use Rattle.digit_uses.specs.Sums.{HasGiven, IsHere, end_by}
+use Rattle.digit_streams.specs.Streams.{Gives, HasGiven, IsHere, IsPlace, StreamNumbers, UsesKnown, end_again, end_by, end_of_next, next_again, next_of, numbers_of_next, then_from}
 
 -- ---- the bytes
 
@@ -18,7 +17,7 @@ no_bytes None bytes e = tt
 no_bytes (Some text) None e = absurd cc
 no_bytes (Some text) (Some bytes) e =
     let same : bytes ≡ text = cc in
-    record { onward = omega arith; within = omega arith; rest = same; }
+    record { onward = omega arith; within = omega arith; rest = same }
 
 more_bytes : (position at : ℕ) (known bytes rest : Option (List ℕ))
     → UsesKnown 0 position known bytes → UsesKnown position at bytes rest
@@ -111,11 +110,12 @@ module _ {A E : Type 0} where
           → IfSome known (λ text. (room : ℕ) × Gives (list 0 text room) (numbers ++ more) end)
       gives_on position None bytes uses so_far gives = tt
       gives_on position (Some text) None uses so_far gives = absurd uses
-      gives_on position (Some text) (Some bytes) uses (n, first) gives =
-          (n + m,
-          rw (on n text, first)
-          (gives_both (list position (drop (position - 0) text) m) numbers more end
-          (rw uses.rest at gives)))
+      gives_on position (Some text) (Some bytes) uses (n, first) gives = (
+        n + m,
+        rw (on n text, first)
+            (gives_both (list position (drop (position - 0) text) m) numbers more end
+            (rw uses.rest at gives)),
+      )
 
     -- one more call of `next_number`
     module _ {V : Type 0} (meaning : V → A) (before : List A) (position at : ℕ)
@@ -182,9 +182,24 @@ module _ {A E : Type 0} where
           (end_of_next result at after) at rest
       given_next Apart ended known bytes rest capacity held given apart gives uses place again
           still = record {
-        uses = more_bytes position at known bytes rest given.uses uses;
-        gives =
-            gives_next ended known bytes given.uses given.gives given.here
-            (if_apart Apart apart ended bytes gives) again still;
-        here = here_next ended capacity held given.here place again;
-      }
+            uses = more_bytes position at known bytes rest given.uses uses;
+            gives =
+                gives_next ended known bytes given.uses given.gives given.here
+                (if_apart Apart apart ended bytes gives) again still;
+            here = here_next ended capacity held given.here place again;
+          }
+
+-- what is told after an end
+pub told_again : {V E : Type 0} (before : Option (Ended E)) (number : Option V) (end : StreamEnd E)
+    → IfSome before (λ ended. ◌≡◌ {A = Option V × StreamEnd E} (number, end)
+    (None, end_again ended))
+    → IfSome before (λ ended. next_of number end ≡ next_again ended)
+told_again None number end again = tt
+told_again (Some (ended.Over at)) number end again =
+    let no : number ≡ None = ap (λ l. l.0) again in
+    let over : end ≡ Over at = ap (λ l. l.1) again in
+    rw (no, over) refl
+told_again (Some (ended.Fault error)) number end again =
+    let no : number ≡ None = ap (λ l. l.0) again in
+    let fault : end ≡ Fault error = ap (λ l. l.1) again in
+    rw (no, fault) refl
