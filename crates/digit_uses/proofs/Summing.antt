@@ -3,9 +3,8 @@ use Rattle.std.proofs.Common.{◌≡◌, ℕ, ℤ, ◌<◌, List, [], length, ap
 use Rattle.std.specs.Prelude.{Option, None, Some, IfSome, Ok, Err}
 use Rattle.digits.specs.StreamEnds.{Over, Fault}
 use Rattle.digits.specs.StreamErrors.{Number, NoRoom, Read, TooLong, Trailing}
-use Rattle.digits.specs.Words.{LiteralError, StreamError}
-use Rattle.digit_streams.specs.Streams.{HasGiven, IfTrailing, IsUnknown}
-use Rattle.digit_streams.proofs.Given.{none_left, some_left}
+use Rattle.digits.specs.Words.{HasGiven, IfTrailing, IsUnknown, LiteralError, StreamError}
+use Rattle.digits.proofs.ForCallers.{none_left, some_left}
 use Rattle.digit_uses.specs.Sums.{AddsUp, IsSum, integers_from, sum_of}
 
 -- the numbers end with an error of the reader

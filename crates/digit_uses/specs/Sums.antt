@@ -4,9 +4,7 @@ use Rattle.std.specs.List.{fold}
 use Rattle.digits.specs.Constants.{LINES, STANDARD}
 use Rattle.digits.specs.StreamEnds.{Over, Fault}
 use Rattle.digits.specs.StreamErrors.{Number, NoRoom, Read, TooLong, Trailing}
-use Rattle.digits.specs.Words.{Integer, LiteralError, StreamEnd, StreamError, literal_none_at, number_at, rule_of, stream_list}
-use Rattle.digit_pieces.specs.Moves.{literal_later}
-use Rattle.digit_streams.specs.Streams.{StreamNumbers}
+use Rattle.digits.specs.Words.{Integer, LiteralError, StreamEnd, StreamError, StreamNumbers, literal_later, literal_none_at, number_at, rule_of, stream_list}
 
 -- the integers of a text from a position of the stream on, as many as there is room for
 abbrev pub integers_from : ℕ → List ℕ → ℕ → StreamNumbers ℤ LiteralError

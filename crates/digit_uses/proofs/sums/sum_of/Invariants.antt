@@ -1,7 +1,7 @@
 -- The sum so far is that of the numbers that the reader gave.
 use Rattle.std.proofs.Common.{◌≡◌, List, ℤ, pos, ◌*◌, ◌^◌, ◌≤ℤ◌, neg_ℤ}
 use Rattle.digits.specs.Constants.{LINES, STANDARD}
-use Rattle.digit_streams.specs.Streams.{HasGiven, end_by}
+use Rattle.digits.specs.Words.{HasGiven, end_by}
 use Rattle.digit_uses.specs.Sums.{integers_from, sum_of}
 use Rattle.digit_uses.proofs.sums.sum_of.Given as goal
 

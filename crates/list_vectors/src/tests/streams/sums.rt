@@ -68,6 +68,9 @@ fn bytes_after_a_sum(rt: HostRuntime) {
         (b"1\n2\nx".as_slice(), 4),
     ];
     for (text, at) in trailing {
-        assert_eq!(rt; sum(text, &turns, &mut [0; 8]), Err(StreamError::Trailing(at)));
+        assert_eq!(rt;
+            sum(text, &turns, &mut [0; 8]),
+            Err(StreamError::Trailing(at))
+        );
     }
 }
