@@ -58,8 +58,8 @@ some_left position text (Some bytes) uses some =
 
 -- ---- the numbers
 
-here : {E : Type 0} (end : StreamEnd E) (position capacity held : ℕ) → IsPlace end position capacity held
-    → IsHere end position
+here : {E : Type 0} (end : StreamEnd E) (position capacity held : ℕ)
+    → IsPlace end position capacity held → IsHere end position
 here (Full at) position capacity held place = tt
 here (Over at) position capacity held place = place
 here (Fault (Number error)) position capacity held place = tt

@@ -23,8 +23,8 @@ pub record AddsUp (text : List ℕ) (end : StreamEnd LiteralError) (sum : ℤ) :
   pub list : integers_from 0 text room ≡ (numbers, end)
   pub is : sum ≡ sum_of numbers
 
--- What is answered of a text: the sum of its integers, which are all of it; or where it is at fault.
--- A buffer may be too small, and a reader may fail, at any text.
+-- What is answered of a text: the sum of its integers, which are all of it; or where it is at
+-- fault. A buffer may be too small, and a reader may fail, at any text.
 abbrev pub IsSum : List ℕ → Result ℤ (StreamError LiteralError) → Type 0
 IsSum text (Ok sum) = AddsUp text (Over (length text)) sum
 IsSum text (Err (Number error)) = (sum : ℤ) × AddsUp text (Fault (Number error)) sum

@@ -1,8 +1,7 @@
-//! The sum of the integers of a stream, one in each line: of a file or a socket of any length, whose
-//! bytes come in pieces cut anywhere. The contract says that they are the integers of the whole
-//! text. What a reader gave so far is a record, and one lemma is for each call.
+//! The sum of the integers of a stream, one in each line, such as a file or a socket: of the whole
+//! text, however it comes in pieces. The invariant says which numbers the reader gave so far.
 //!
-//! Proof by hand: 40 lines, an invariant and the answers of five goals.
+//! Proof by hand: 60 lines, an invariant and the answers of five goals.
 
 ghost use Rattle.std.specs.Prelude.{IfSome};
 ghost use Rattle.digit_uses.specs.Sums.{IsSum};
@@ -12,8 +11,8 @@ use digits::{
 };
 use std::io::Read;
 
-/// The sum of the integers of a stream, one in each line. A buffer of 64 bytes is enough, if no line
-/// has more than 63.
+/// The sum of the integers of a stream, one in each line: of `1\n-2\n` it is -1, and `1\n2x` gives
+/// `Trailing(3)`. A buffer of 64 bytes is enough, if no line has more than 63.
 #[tactic(auto, unfolding(digits::proofs::Literals::lexical_on_literals))]
 pub fn sum_of<R: Read + Drop>(
     stream: R,
