@@ -8,3 +8,4 @@ pub mod Single
 pub mod Stuck
 pub mod SureHere
 pub mod Turns
+pub mod Given

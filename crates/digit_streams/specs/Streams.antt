@@ -1,5 +1,5 @@
 -- Lists of numbers in a stream. Positions count bytes of the stream.
-use Rattle.std.specs.Prelude.{◌≡◌, ◌≢◌, Bool, false, ⊤, ℕ, ◌+◌, ◌-◌, ◌^◌, ◌≤◌, ◌⊎◌, if◌then◌else◌, List, [], ◌∷◌, ◌++◌, length, drop, Option, None, Some, Result, Ok, Err}
+use Rattle.std.specs.Prelude.{◌≡◌, ◌≢◌, Bool, false, ⊤, ℕ, ◌+◌, ◌-◌, ◌^◌, ◌≤◌, ◌⊎◌, if◌then◌else◌, List, [], ◌∷◌, ◌++◌, length, drop, Option, None, Some, IfSome, Result, Ok, Err}
 use Rattle.std.specs.declared.io.ErrorKind.TheVariants.{Interrupted}
 use Rattle.digit_literals.specs.declared.list.Gap.{Gap}
 use Rattle.digit_literals.specs.declared.list.ListEnd.{ListEnd}
@@ -362,3 +362,23 @@ IsUnknown (Trailing at) position capacity held = ⊤
 abbrev pub IfFault : {E : Type 0} → Ended E → (StreamError E → Type 0) → Type 0
 IfFault (ended.Over at) P = ⊤
 IfFault (ended.Fault error) P = P error
+
+-- how the numbers so far end: there is room for more, or an end is answered again
+abbrev pub end_by : {E : Type 0} → ℕ → Option (Ended E) → StreamEnd E
+end_by position None = Full position
+end_by position (Some ended) = end_again ended
+
+-- A list that is over is over at this position. No other fact trails it.
+abbrev pub IsHere : {E : Type 0} → StreamEnd E → ℕ → Type 0
+IsHere (Full at) position = ⊤
+IsHere (Over at) position = at ≡ position
+IsHere (Fault error) position = IfTrailing error (λ at. ⊥)
+
+-- What a reader gave of a stream, whose bytes are known or not: the numbers of a list up to an end.
+-- It is at a position, and these bytes are left.
+pub record HasGiven {A E : Type 0} (list : List ℕ → ℕ → StreamNumbers A E)
+    (known : Option (List ℕ)) (numbers : List A) (end : StreamEnd E) (position : ℕ)
+    (bytes : Option (List ℕ)) : Type 0 where
+  pub uses : UsesKnown 0 position known bytes
+  pub gives : IfSome known (λ text. (room : ℕ) × Gives (list text room) numbers end)
+  pub here : IsHere end position

@@ -59,10 +59,10 @@ impl<'b, K: Kind, R: Read> Model for NumberReader<'b, K, R> {
 }
 
 impl<'b, K: Kind, R: Read> NumberReader<'b, K, R> {
-    ghost use Rattle.std.specs.Prelude.{◌≡◌, ◌-◌, ◌<◌, ◌≤◌, [], length, map, take, drop, None, Err, IfSome, IfNone, IfErr, OnOk, IsSome, ℕ};
+    ghost use Rattle.std.specs.Prelude.{◌≡◌, ◌-◌, ◌<◌, ◌≤◌, [], length, map, take, drop, None, Err, IfSome, IfNone, IfErr, OnOk, IsSome, ℕ, List, Option, ◌++◌};
     ghost use Rattle.std.specs.Io.KnownBytes.{Keeps};
     ghost use Rattle.digit_pieces.specs.Texts.{IsApart};
-    ghost use Rattle.digit_streams.specs.Streams.{EndsSo, Gives, GoesOn, HasReason, IfEndsFault, IfFault, IfNoFault, IfNoRoom, IfNoRoomOfNext, IfTrailing, IsNext, IsPlace, IsPlaceOfNext, IsUnknown, NeedsMore, StandsAfter, UsesKnown, stream_list, numbers_of, numbers_of_next, end_of_next, ended_by, next_again, end_again, list_of_option};
+    ghost use Rattle.digit_streams.specs.Streams.{EndsSo, Gives, GoesOn, HasGiven, HasReason, IfEndsFault, IfFault, IfNoFault, IfNoRoom, IfNoRoomOfNext, IfTrailing, IsNext, IsPlace, IsPlaceOfNext, IsUnknown, NeedsMore, StandsAfter, UsesKnown, stream_list, numbers_of, numbers_of_next, end_by, end_of_next, ended_by, next_again, end_again, list_of_option};
 
     /// A reader of the numbers of a stream. Requires that the kind is valid.
     pub fn new(reader: R, buffer: &'b mut [u8], kind: K, gap: Gap) -> NumberReader<'b, K, R>
@@ -73,6 +73,9 @@ impl<'b, K: Kind, R: Read> NumberReader<'b, K, R> {
         ensures capacity { result.capacity ≡ length buffer.old }
         ensures bytes { result.bytes ≡ R.remaining reader }
         ensures ended { result.ended ≡ None }
+        ensures given { let list = stream_list (K.number_at kind) K.none_at K.error_later gap in
+            HasGiven (list 0) (R.remaining reader) [] (end_by result.position result.ended)
+            result.position result.bytes }
     {
         NumberReader {
             format: Format { kind, gap },
@@ -177,6 +180,9 @@ impl<'b, K: Kind, R: Read> NumberReader<'b, K, R> {
             self.old.gap self.new.held)) }
         ensures place { IfNone self.old.ended (IsPlaceOfNext result self.new.position
             self.new.capacity (length self.new.held)) }
+        ensures end { IfNone self.old.ended (IsPlace
+            (end_of_next result self.new.position self.new.ended) self.new.position
+            self.new.capacity (length self.new.held)) }
         ensures reason { IfNone self.old.ended (HasReason (K.number_at self.old.kind) K.none_at
             K.error_at (K.has_byte self.old.kind) self.old.gap
             (end_of_next result self.new.position self.new.ended) self.new.position
@@ -195,6 +201,15 @@ impl<'b, K: Kind, R: Read> NumberReader<'b, K, R> {
             self.old.gap in
             let rest = drop (self.new.position - self.old.position) bytes in
             GoesOn (list self.old.position bytes 1) [] (list self.new.position rest 1)))) }
+        ensures given { (known : Option (List ℕ)) (before : List K.Meaning) →
+            IsApart (K.has_byte self.old.kind) self.old.gap →
+            let list = stream_list (K.number_at self.old.kind) K.none_at K.error_later
+            self.old.gap in
+            HasGiven (list 0) known before (end_by self.old.position self.old.ended)
+            self.old.position self.old.bytes →
+            HasGiven (list 0) known (before ++ numbers_of_next K.meaning result)
+            (end_of_next result self.new.position self.new.ended) self.new.position
+            self.new.bytes }
         ensures ended { EndsSo result self.new.ended }
         ensures goes_on { IfNone self.old.ended (self.new.ended
             ≡ ended_by (end_of_next result self.new.position self.new.ended)) }
@@ -251,6 +266,7 @@ impl<'b, K: Kind, R: Read> NumberReader<'b, K, R> {
 
     /// Reads the next number, if there is one, and why there are no more.
     fn read_one(&mut self) -> (Option<K::Number>, StreamEnd<K::Error>)
+        ensures valid { K.valid self.old.kind }
         ensures list { IfSome self.old.bytes (λ bytes.
             IsApart (K.has_byte self.old.kind) self.old.gap →
             let list = numbers_of K.number_at K.none_at K.error_later self.old bytes 1 in

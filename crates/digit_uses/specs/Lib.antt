@@ -7,5 +7,6 @@ pub mod Lists
 pub mod Literal
 pub mod Points
 pub mod Settings
+pub mod Sums
 pub mod Tokens
 pub mod Values

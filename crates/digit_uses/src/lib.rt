@@ -15,4 +15,5 @@ pub mod points;
 pub mod proving;
 pub mod readme;
 pub mod settings;
+pub mod sums;
 pub mod values;

@@ -3,3 +3,4 @@ pub use Rattle.digit_literals.proofs.ForCallers.{stops, rests, all_is, few_digit
 pub use Rattle.digit_literals.proofs.ForCallers.{value_of_both, value_of_pieces, value_more, same_more}
 pub use Rattle.digit_literals.proofs.ForCallers.{dropped, first_digits, first_of_others}
 pub use Rattle.digit_literals.proofs.Lists.{goes_on as list_goes_on}
+pub use Rattle.digit_streams.proofs.Given.{none_left, some_left}

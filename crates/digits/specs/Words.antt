@@ -67,6 +67,7 @@ pub use Rattle.digit_pieces.specs.Cuts.{is_integer_byte, is_float_byte, is_scale
 unfoldable pub use Rattle.digit_pieces.specs.Cuts.{sure_end}
 pub use Rattle.digit_pieces.specs.Pieces.{FillsPiece, IfAt, and_full, and_more, as_piece, full_past, is_of_blanks, list_later}
 unfoldable pub use Rattle.digit_pieces.specs.Pieces.{piece_at, whole_at}
+pub use Rattle.digit_pieces.specs.Moves.{literal_later}
 pub use Rattle.digit_pieces.specs.Texts.{IsApart, list_of, piece_of}
 pub use Rattle.digit_pieces.specs.Apart.{IsShared, are_apart, is_between, is_pointed_byte, is_word_byte}
 unfoldable pub use Rattle.digit_pieces.specs.Texts.{read_pieces}
@@ -74,7 +75,7 @@ pub use Rattle.digit_blocks.specs.Blocks.{AreStarts, EndsApart, HasNoneAtEnd, Ha
 unfoldable pub use Rattle.digit_blocks.specs.Blocks.{blocks_at, joined, last_start}
 pub use Rattle.digit_streams.specs.declared.stream.StreamEnd.{StreamEnd}
 pub use Rattle.digit_streams.specs.declared.stream.StreamError.{StreamError}
-pub use Rattle.digit_streams.specs.Streams.{Gives, IsNext, stream_list}
+pub use Rattle.digit_streams.specs.Streams.{Gives, HasGiven, IfTrailing, IsNext, IsUnknown, StreamNumbers, end_by, stream_list}
 -- whole lists, enclosed lists, numbers that may be missing, and prices
 pub use Rattle.digit_lists.specs.declared.list.ListError.{ListError}
 pub use Rattle.digit_lists.specs.declared.enclosed.EnclosedError.{EnclosedError}

@@ -7,10 +7,11 @@
 //! - a reader that fails in mid-stream, and what was read before; a number as long as the buffer,
 //!   and one that is longer; what is answered again: `ends`
 //! - a number that is answered before the reader is asked again: `waits`
-//! - a caller: `uses`
+//! - a caller: `uses`; the sum of a stream, which `digit_uses` proves: `sums`
 
 mod ends;
 mod readers;
 mod rows;
+mod sums;
 mod uses;
 mod waits;
