@@ -130,7 +130,7 @@ fn scientific() -> Vec<Side> {
 
 /// The rows that are wanted, over so many numbers.
 pub fn rows(count: usize, is_wanted: &dyn Fn(&str) -> bool) -> Vec<Row<Numbers>> {
-    let all: [(&'static str, fn(usize) -> Numbers, fn() -> Vec<Side>); 27] = [
+    let all: [(&'static str, fn(usize) -> Numbers, fn() -> Vec<Side>); 28] = [
         ("u64, 3 digits", |n| values::integers(n, (3, 3)), u64s),
         ("u64, 1 to 4 digits", |n| values::integers(n, (1, 4)), u64s),
         ("u64, 8 digits", |n| values::integers(n, (8, 8)), u64s),
@@ -155,6 +155,7 @@ pub fn rows(count: usize, is_wanted: &dyn Fn(&str) -> bool) -> Vec<Row<Numbers>>
         ("%.2f, prices of 1 to 5 digits", |n| values::prices(n, (1, 5)), fixed),
         ("%.2f, 3 digits and 2 places", values::one_form, fixed),
         ("%.2f, in [0, 1000)", |n| values::below(n, 1000.0), fixed),
+        ("%.2f, in [0, 1e22)", |n| values::below(n, 1e22), fixed),
         ("%.6e, random bits", values::bits, scientific),
         ("%.6e, coordinates", values::coordinates, scientific),
         ("%.6e, 3 digits and 2 places", values::one_form, scientific),
