@@ -368,7 +368,7 @@ abbrev pub end_by : {E : Type 0} → ℕ → Option (Ended E) → StreamEnd E
 end_by position None = Full position
 end_by position (Some ended) = end_again ended
 
--- A list that is over is over at this position. No other fact trails it.
+-- A list that is over is over at this position. No error says that bytes trail.
 abbrev pub IsHere : {E : Type 0} → StreamEnd E → ℕ → Type 0
 IsHere (Full at) position = ⊤
 IsHere (Over at) position = at ≡ position
