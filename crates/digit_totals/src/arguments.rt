@@ -4,8 +4,8 @@ ghost use Rattle.std.specs.Prelude.{◌≡◌, ◌==◌, ◌+◌, ◌≤◌, ◌
 ghost use Rattle.digit_totals.specs.Arguments as Arguments;
 ghost use Rattle.digit_totals.specs.Value.{HasFewPlaces, MayServe};
 
-use super::field::find;
 use super::options::{Column, FloatOptions, Kind, Options, Request};
+use super::search::find;
 use digit_literals::parse_number;
 use lexical_format::STANDARD;
 use std::alloc::{AllocError, Allocator};
