@@ -1,5 +1,6 @@
 pub mod Adding
 pub mod Bits
+pub mod Blocks
 pub mod ErrorsWithin
 pub mod Fields
 pub mod FirstLine
@@ -14,5 +15,4 @@ pub mod NumberLine
 pub mod OnWords
 pub mod Order
 pub mod Pieces
-pub mod Search
 pub mod Words

@@ -33,7 +33,7 @@ fn find_in_few(bytes: &[u8], mark: u8) -> Option<usize>
 
 /// The position of the first of a byte.
 #[inline]
-#[tactic(auto, using(crate::proofs::Search::steps))]
+#[tactic(auto, using(crate::proofs::Blocks::steps))]
 pub fn find(bytes: &[u8], mark: u8) -> Option<usize>
     ensures { result ≡ position (λ byte. byte == mark) bytes.now }
 {

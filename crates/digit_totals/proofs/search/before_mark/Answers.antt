@@ -1,6 +1,6 @@
 use Rattle.std.proofs.Common.{take, drop}
 use Rattle.std.proofs.lemmas.Simd.{length-chunk}
-use Rattle.digit_totals.proofs.Search.{none_is, first_is}
+use Rattle.digit_totals.proofs.Blocks.{none_is, first_is}
 use Rattle.digit_totals.proofs.search.before_mark.Goals as goal
 
 pub returns-then-marks-eq0 : goal.returns-then-marks-eq0

@@ -1,5 +1,5 @@
 use Rattle.std.proofs.Common.{◌+◌, ◌≤◌, length, arith}
-use Rattle.digit_totals.proofs.Search.{onward}
+use Rattle.digit_totals.proofs.Blocks.{onward}
 use Rattle.digit_totals.proofs.search.find.Goals as goal
 
 pub loop-at-preserved : goal.loop-at-preserved
