@@ -1,6 +1,6 @@
 -- The text of a float.
 use Rattle.std.proofs.Common.{◌≡◌, ℕ, Bool, true, false, T, not, List, ◌++◌, refl, subst}
-use Rattle.std.specs.Prelude.{Option, Result, Ok, Err, Some, None, take, IfOk, IsTrue, codes, slice_get, if◌then◌else◌}
+use Rattle.std.specs.Prelude.{Option, Ok, Some, None, IsTrue, codes, slice_get, if◌then◌else◌}
 use Rattle.std.specs.Float.{Float, nan, inf, fin, binary64, float_is_finite, float_is_infinite, is_sign_negative}
 use Rattle.std.specs.Float.Numeral.{scan_numeral}
 use Rattle.std.specs.Float.Parse.{read_float}
@@ -17,7 +17,6 @@ use Rattle.digit_floats.specs.Separators.{HasNoSeparator}
 use Rattle.digit_floats.proofs.AsStd.{as_parsed}
 use Rattle.float_writers.specs.Write as writers
 use Rattle.float_writers.specs.declared.write.FloatLayout.TheVariants.{Plain}
-use Rattle.float_writers.specs.declared.write.FloatTextError.{FloatTextError}
 use Rattle.digit_totals.specs.Text.{IsShortestText, IsTextOf}
 
 -- ---- no byte is a separator of the standard word
@@ -49,20 +48,13 @@ shortest_text nan text finite is = absurd (cc)
 shortest_text (inf negative) text finite is = absurd (cc)
 shortest_text (fin negative m e) text finite is = is
 
-finite_text : (x : Float) (text : List ℕ) → writers.IsTextOf binary64 x Plain text
+-- what is written is the text of the float
+pub finite_text : (x : Float) (text : List ℕ) → writers.IsTextOf binary64 x Plain text
     → parse_at STANDARD text plain_marks binary64 0 ≡ Ok x → IsTextOf x text
 finite_text x text is reads = record {
   shortest = shortest_text x text is.finite is;
   reads = as_parsed STANDARD text (refl, refl) (plain text) binary64 x reads;
 }
-
--- where a text is written, it is that of the float
-pub written_text : (x : Float) (new : List ℕ) (r : Result ℕ FloatTextError)
-    → IfOk r (λ n. writers.IsTextOf binary64 x Plain (take n new))
-    → IfOk r (λ n. parse_at STANDARD (take n new) plain_marks binary64 0 ≡ Ok x)
-    → IfOk r (λ n. IsTextOf x (take n new))
-written_text x new (Ok n) is reads = finite_text x (take n new) is reads
-written_text x new (Err error) is reads = tt
 
 pub infinite_is_number : (x : Float) → IsTrue (float_is_infinite x) → T (not (is_nan x))
 unfolding float_is_infinite is_nan
@@ -94,4 +86,4 @@ pub others_are_finite : (x : Float) → float_is_infinite x ≡ false → is_nan
 unfolding float_is_infinite is_nan float_is_finite
 others_are_finite nan infinite is = absurd (cc)
 others_are_finite (inf negative) infinite is = absurd (cc)
-others_are_finite (fin negative m k) infinite is = tt
+others_are_finite (fin negative m k) infinite is = refl
