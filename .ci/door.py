@@ -7,7 +7,7 @@ import shown
 import sources
 from clauses import PAGE as CLAUSES
 from layout import anchor_of, declaration_of, filled, first_sentence, signature_of, text_of
-from sources import DOOR, slug_of
+from sources import DOOR, dedent, slug_of
 
 # Each group of the page: what its entries are for, and their names, in the order of the page.
 GROUPS = {
@@ -118,9 +118,11 @@ This page has everything that you import from `{DOOR}`, by what you do:
 """
 
 ENTRIES = f"""
-**An entry** has the declaration of a type, or the signature of a call; below it are answers. An \
-answer stands behind `//` on the line of its call, or on the next line after `// answers`. The gate \
-runs each. "Its contract" leads to what the call answers of every text.
+**An entry** has the declaration of a type, or the signature of a call, and examples. What stands \
+behind `//` on the line of a call is its answer; a long one is on the next line, after `// answers`. \
+Other comments explain. `rt ci` runs each example as a test. In examples words such as \
+`PYTHON_LITERAL` are of `digits::words`, `RUST` is of `digits::languages`, and `?` stands for taking \
+the value out. "Its contract" leads to what the call answers of every text.
 
 **You prove** that a word is supported, and that a start is within the text: nothing tests it when \
 the program runs. Where a call asks for more, its entry says so. For a constant word one attribute \
@@ -175,8 +177,8 @@ class Door:
         elif item and item.kind == "fn":
             head = filled(signature_of(item).removeprefix("pub "), "", "        ")
             head += self.conditions(item)
-        elif item and item.kind in ("const", "static") and len(item.head) <= 100:
-            head = [item.head.removeprefix("pub ")]
+        elif item and item.kind in ("const", "static"):
+            head = dedent(item.text.removeprefix("pub ")).split("\n")
         else:
             head = []
         answers = shown.lines_of(self.examples[name]) if name in self.examples else []

@@ -14,7 +14,7 @@ from costs import costs  # noqa: E402
 from peers import READ, door, peers  # noqa: E402
 from picture import of_times, svg  # noqa: E402
 from readers import answer, ratios, readme  # noqa: E402
-from written import writers  # noqa: E402
+from written import aims, writers  # noqa: E402
 
 # The rows of SPEED, with the cases that they show.
 ROWS = {
@@ -191,6 +191,7 @@ def pages():
         speeds = between(speeds, name, text)
     groups = f"{most_of(cases, 'x: I', 'Constant', 'Filter'):.2f}"
     return {"docs/SPEED.md": speeds,
+            "docs/PERF.md": between(read("docs/PERF.md"), "aims", aims()),
             "README.md": between(read("README.md"), "speed", readme(groups)),
             "c/README.md": between(read("c/README.md"), "costs", costs()),
             "docs/speed.svg": svg(cases),

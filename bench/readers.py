@@ -1,7 +1,7 @@
 """What README.md and the head of docs/SPEED.md say of the times beside other readers."""
 from cases import table
 from peers import LIBRARY, READ, Figures, slower_run
-from written import told
+from written import lost, told
 
 # The rows that README.md shows, by what it calls them.
 SHOWN = {
@@ -82,5 +82,5 @@ answers it, of the same texts, {by_read()}.
 
 **You lose** with floats in groups: up to {most_of_groups} times the instructions that std takes for \
 the same text without separators. You also lose if you walk over digits by an iterator \
-([where you lose](docs/SPEED.md#where-you-lose)).
+([where you lose](docs/SPEED.md#where-you-lose)). {lost()}
 """, told()])

@@ -45,17 +45,16 @@ def aims_of(row, sides):
             yield peer, sides[LIBRARY][0] / sides[peer][0], most
 
 
-def shown(value, name, most):
-    return f"{value:.2f} {name.removeprefix('library, ')}" + (" over" if value > most else "")
+def named(row):
+    """A row's name, with its format as code."""
+    return f"`{row[:4]}`{row[4:]}" if row[0] == "%" else row
 
 
 def cells(row, sides):
     """What the counts say of a row."""
-    mine, same = sides[LIBRARY][0], best_of(row, sides, False)
-    beside = ", ".join(shown(value, peer, most) for peer, value, most in aims_of(row, sides))
-    return [f"`{row[:4]}`{row[4:]}" if row[0] == "%" else row, f"{mine:.0f}",
-            shown(mine / same[0], same[1].partition(",")[0], MOST) if same else "–",
-            ratio(mine, best_of(row, sides, True)), beside or "–"]
+    mine = sides[LIBRARY][0]
+    return [named(row), f"{mine:.0f}", ratio(mine, best_of(row, sides, False)),
+            ratio(mine, best_of(row, sides, True))]
 
 
 def time(row, sides):
@@ -65,14 +64,25 @@ def time(row, sides):
     return ratio(*slower_run(row, sides, lacks=lacks))
 
 
-def met(rows):
-    """How many aims there are, and how many of them are met."""
-    ratios = []
-    for row, sides in rows.items():
-        same = best_of(row, sides, False)
-        ratios += [(value, most) for _, value, most in aims_of(row, sides)]
-        ratios += [(sides[LIBRARY][0] / same[0], MOST)] if same else []
-    return len(ratios), sum(value <= most for value, most in ratios)
+def beside(row, sides):
+    """Each ratio of a row that has an aim: the peer, the ratio, and the aim."""
+    yield from aims_of(row, sides)
+    same = best_of(row, sides, False)
+    if same:
+        yield same[1].partition(",")[0], sides[LIBRARY][0] / same[0], MOST
+
+
+def aims():
+    """What docs/PERF.md has between its comments on the aims of writing."""
+    rows = Figures("written-counts.txt").rows
+    ratios = {row: list(beside(row, sides)) for row, sides in rows.items()}
+    missed = {row: [it for it in found if it[1] > it[2]] for row, found in ratios.items()}
+    body = [[named(row), "; ".join(f"{value:.2f} of {peer.removeprefix('library, ')}, aim {aim}"
+                                   for peer, value, aim in found)]
+            for row, found in missed.items() if found]
+    count, lost = sum(map(len, ratios.values())), sum(map(len, missed.values()))
+    return "\n".join(table(f"Of {count} such ratios {count - lost} are within their aim. These are "
+                           "not:", ["What is written", "Instructions, beside the aim"], body))
 
 
 def from_c(rows):
@@ -90,23 +100,31 @@ def span(start, peer=None):
     return most if least == most else f"{least} to {most}"
 
 
+def lost():
+    """What README.md says of what is dearer to write than by others."""
+    return f"""\
+When you write, you lose with `%.6e`: it takes {span("%.6e")} times the instructions of the best other \
+writer. Large numbers by `%.2f` take up to {span("%.2f").split()[-1]} times, integers of up to four digits \
+{span("u64, 1 to 4")} times."""
+
+
 def told():
     """What README.md says of what is written."""
     return f"""\
 **What you write**, beside the best other writer: a `u64` takes {span("u64")} times its instructions \
-(itoa, lexical-core), a float {span("f")} (ryu, to_chars), `%.2f` {span("%.2f")}, `%.6e` \
-{span("%.6e")} (to_chars). In groups, as `1_234_567`, a `u64` takes {span("grouped", PLAIN)} times \
+(itoa, lexical-core), a float {span("f")} (ryu, to_chars), `%.2f` of up to four digits before the point \
+{span("%.2f, prices")} (to_chars). In groups, as `1_234_567`, a `u64` takes {span("grouped", PLAIN)} times \
 what it takes without ([every row](docs/SPEED.md#writing))."""
 
 
 def writers():
     """What docs/SPEED.md has between its comments on writing."""
     counts, times = Figures("written-counts.txt"), Figures("written-times.txt")
-    head = ["What is written", "Library", "to the best peer", "to one that does less", "to its aims"]
+    head = ["What is written", "Here", "To the best other one", "To one that does less"]
     body = [cells(row, sides) for row, sides in counts.rows.items()]
-    words = ("Instructions for one number, written into the slice of the caller with a comma behind "
-             "it; their ratio to the best peer that does the same work, that does less, and to those "
-             "for which there is an aim")
+    words = ("Instructions for one number, written into your slice with a comma behind it; and their "
+             "ratio to those of the best writer that does the same work, and of the best that does "
+             "less. Below 1 this library takes fewer")
     if times.rows:
         head.append("time")
         words += ("; the ratio of the time to the fastest that does the same work, the greater one "
@@ -114,16 +132,11 @@ def writers():
         for line, row in zip(body, counts.rows):
             line.append(time(row, times.rows.get(row)))
     told = "; ".join(f"{side} ({it})" for (_, side), it in LESS.items())
-    all_aims, are_met = met(counts.rows)
     return "\n".join([
         f"{counts.head}.\n", *table(f"{words}:", head, body),
         f"Writers that do less have a column of their own: {told}. Of grouped numbers they write the "
-        "same without separators, and *plain* is the library's own. to_chars is that of libstdc++, "
+        "same without separators. to_chars is that of libstdc++, "
         "and writes all digits of a whole number. double-conversion is the library for C++. itoa, "
         "ryu, dtoa and lexical-core are crates of Rust, and std's floats are of two as close not "
         "always the even one. [written-counts.txt](../bench/peers/written-counts.txt) has every "
-        f"writer, and mispredicted branches.{from_c(counts.rows)}", "",
-        "An aim is the most that a row may take: an integer 0.95 of itoa, in groups 1.15 of the same "
-        "without, a float 0.85 of ryu and 0.65 of to_chars, `%.2f` 0.5 of to_chars and 0.2 of "
-        f"snprintf, and every row {MOST} of the best peer. *over*: it is missed. Of {all_aims} aims "
-        f"{are_met} are met."])
+        f"writer, and mispredicted branches.{from_c(counts.rows)}"])

@@ -226,7 +226,7 @@ fn fault_of(text: &[u8], word: u128, mantissa: Mantissa, places: usize, most: u1
     start + count_fitting(&text[start..mantissa.end], whole, places, most)
 }
 
-/// The decimal number at a position, in units of its last place, if that is at most `most`:
+/// The decimal number at a position, times ten to the power `places`, if that is at most `most`:
 /// [`read_scaled_from`] of a number whose sign is yours to read. For a `DECIMAL(9, 2)` of SQL
 /// `most` is 999,999,999.
 #[inline]

@@ -1,4 +1,4 @@
-//! Languages by name.
+//! Languages by name, such as `RUST`, `PYTHON`, `C`, `GO` and `JAVA`.
 
 ghost use Rattle.digit_languages.specs.Words.{IsLanguage};
 

@@ -103,10 +103,11 @@ fn count_places(text: &[u8], word: u128, at: usize, point: u8) -> usize
     read_mantissa(text, word, at, point).places
 }
 
-/// The decimal number that begins at `start`, in units of its last place, with exactly `places`
-/// places: [`read_scaled_from`](digit_floats::read_scaled_from), where the fraction has to have
-/// `places` digits. So a zero at its end is no longer optional. Requires that `start` is within the
-/// text, that the word is supported and decimal, and that there are at most 38 places.
+/// The decimal number that begins at `start`, times ten to the power `places`, as an exact integer,
+/// with exactly `places` places: [`read_scaled_from`](digit_floats::read_scaled_from), where the
+/// fraction has to have `places` digits. So a zero at its end is no longer optional. Requires that
+/// `start` is within the text, that the word is supported and decimal, and that there are at most
+/// 38 places.
 ///
 /// ```text
 /// of 2 places: `1.50;` Ok((150, 4)); `1.5;` Err(Places(3)); `1.500` Err(Places(5))
@@ -137,10 +138,10 @@ pub fn read_exact_from<T: Integer>(
     }
 }
 
-/// The decimal number that begins at `start`, in units of its last place, with an integer in groups
-/// of three digits: [`read_scaled_from`](digit_floats::read_scaled_from), where the digits between
-/// two separators have to be three, and those before the first one to three
-/// ([`wrong_group`](crate::wrong_group)). Requires what that does.
+/// The decimal number that begins at `start`, times ten to the power `places`, as an exact integer,
+/// with its whole digits in groups of three: [`read_scaled_from`](digit_floats::read_scaled_from),
+/// where the digits between two separators have to be three, and those before the first one to
+/// three ([`wrong_group`](crate::wrong_group)). Requires what that does.
 ///
 /// ```text
 /// of 2 places, with `,` between digits: `1,234.5;` Ok((123450, 7)); `12.50` Ok((1250, 5))
@@ -171,9 +172,9 @@ pub fn read_grouped_from<T: Integer>(
     }
 }
 
-/// The decimal number that begins at `start`, in units of its last place, with groups of three
-/// digits and exactly `places` places: as by [`read_grouped_from`] and by [`read_exact_from`].
-/// Requires what these do.
+/// The price that begins at `start`, times ten to the power `places`, as an exact integer: with 2
+/// places `1,234.50` is 123450. It has groups of three digits and exactly `places` places, as by
+/// [`read_grouped_from`] and by [`read_exact_from`]. Requires what these do.
 ///
 /// ```text
 /// of 2 places, with `,` between digits: `1,234.50 EUR` Ok((123450, 8)); `1,234.5` Err(Places(7))

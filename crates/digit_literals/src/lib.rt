@@ -64,11 +64,10 @@ use std::fmt;
 /// position counts bytes from the start of the buffer, from 0.
 #[derive(Clone, Copy, Debug, PartialEq, Eq)]
 pub enum LiteralError {
-    /// The first kept byte, which is at this position, is no digit; or there is none, and this
-    /// is the end.
+    /// No digit is at this position, where one has to be: another byte is there, or the text ends.
     Empty(usize),
-    /// With the digit at this position the value is above the greatest that was asked for, or
-    /// `u64::MAX` where none was.
+    /// With the digit at this position the value is outside of what the call allows: its type, its
+    /// `most`, or by `read_integer` a `u64`.
     Overflow(usize),
 }
 

@@ -10,13 +10,13 @@ use std::fmt;
 /// The first fault of a text that is no number of its type. A position counts bytes from 0.
 #[derive(Clone, Copy, Debug, PartialEq, Eq)]
 pub enum ParseError {
-    /// Where a digit has to be, the text ends, as of the empty text or of a sign alone. The
-    /// position is that end. One that was a [`LiteralError`] may also hold the first kept byte,
-    /// which is no digit.
+    /// The text ends at this position, where a digit has to be: the empty text, or a sign alone.
+    /// After `?` on a [`LiteralError`] a byte that is no digit may be there.
     Empty(usize),
-    /// The byte at this position is kept, and is no digit.
+    /// The byte at this position is no part of the number: no digit, and no separator that the word
+    /// drops there.
     Invalid(usize),
-    /// With the digit at this position the value is above the greatest one.
+    /// With the digit at this position the value is outside of the type.
     Overflow(usize),
 }
 

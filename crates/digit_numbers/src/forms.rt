@@ -1,5 +1,6 @@
-//! Forms by name, in three parts: the source code of languages, data formats, and the strings that
-//! a function takes for a number. A form of one's own begins with [`LITERAL`] or [`FLOAT`].
+//! Forms by name, in three parts: the source code of languages, such as `RUST` and `C99`, data
+//! formats, such as `JSON`, `TOML` and `CSS`, and the strings that a function takes for a number,
+//! such as `STRTOD` and `RUST_PARSE`. A form of one's own begins with [`LITERAL`] or [`FLOAT`].
 
 ghost use Rattle.digit_numbers.specs.Forms.{IsForm};
 

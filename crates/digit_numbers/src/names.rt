@@ -1,4 +1,5 @@
-//! Names of special values, as forms have them.
+//! Names of special values, as forms have them: `LOWER_CASE` is `inf` and `nan`, `CAPITALIZED` is
+//! `Infinity` and `NaN`.
 
 use super::form::{NameSign, Special, SpecialValue, Specials};
 

@@ -1,4 +1,6 @@
-//! Words with names: which separators a language allows in its number literals.
+//! Words with names: `HEXADECIMAL`, `OCTAL`, `BINARY`, and those of languages, such as
+//! `PYTHON_LITERAL`, `RUST_LITERAL`, `RUST_HEX_LITERAL` and `TOML_HEX`: which separators a language
+//! allows in its number literals.
 //!
 //! A word says nothing of signs, prefixes, suffixes or leading zeros, nor how many digits a
 //! component needs: the reader asks for those. [`words_say`](crate::laws::words_say) has the parts

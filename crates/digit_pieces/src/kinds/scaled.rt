@@ -8,8 +8,9 @@ use digit_floats::{ScaledError, read_scaled_from};
 use digit_literals::Integer;
 use std::marker::PhantomData;
 
-/// The decimal numbers by a format word, in units of their last place, as integers of a type:
-/// [`read_scaled_from`](digit_floats::read_scaled_from) reads them.
+/// The decimal numbers by a format word, times ten to the power `places`, as exact integers of a
+/// type: with 2 places `12.5` is 1250. [`read_scaled_from`](digit_floats::read_scaled_from) reads
+/// them.
 #[derive(Clone, Copy)]
 pub struct Scaled<T: Integer> {
     /// The format word.
