@@ -124,9 +124,12 @@ Other comments explain. `rt ci` runs each example as a test. In examples words s
 `PYTHON_LITERAL` are of `digits::words`, `RUST` is of `digits::languages`, and `?` stands for taking \
 the value out. "Its contract" leads to what the call answers of every text.
 
-**You prove** that a word is supported, and that a start is within the text: nothing tests it when \
-the program runs. Where a call asks for more, its entry says so. For a constant word one attribute \
-is enough ([CALLING.md](../../CALLING.md)).
+**You prove** that a word is supported, and that a position is within the text: nothing tests it \
+when the program runs. Calls that read floats, scaled numbers or prices by a word need a decimal one: \
+mantissa and exponent of radix 10. Only `byte_at`, `has_byte`, `expect_byte`, `name_end`, \
+`read_exactly` and `read_at_most` take any position. Where a call asks for more, its entry says so. \
+For a constant word one attribute is enough ([CALLING.md](../../CALLING.md)), and a position that a \
+call answered is within the text.
 
 [How to read a clause]({CLAUSES}.md). [CALLING.md](../../CALLING.md) has whole functions. \
 `.ci/door.py` made this page from the sources.

@@ -77,8 +77,9 @@ def readme(most_of_groups):
 It is the fastest in {fastest()} such rows. The picture has them all, and [SPEED.md](docs/SPEED.md) \
 their figures, and how to call it so that it is fast.
 
-**You also need where the number ends**, as a lexer does: then the gain is smaller. By the call that \
-answers it, of the same texts, {by_read()}.
+**A lexer also needs where the number ends.** With `read_integer` and `read_float`, which answer it, \
+the library is about as fast as the fastest other reader, on some texts faster and on some slower: \
+{by_read()}.
 
 **You lose** with floats in groups: up to {most_of_groups} times the instructions that std takes for \
 the same text without separators. You also lose if you walk over digits by an iterator \

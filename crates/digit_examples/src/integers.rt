@@ -20,6 +20,10 @@ fn a_whole_text(rt: HostRuntime) {
         parse_number::<i8>(b"12 ", PYTHON_LITERAL),
         Err(ParseError::Invalid(2))
     );
+    assert_eq!(rt;
+        parse_number::<u32>(b"+1", STANDARD),
+        Err(ParseError::Invalid(0))
+    );
 }
 
 /// Shows `parse_number_from`.

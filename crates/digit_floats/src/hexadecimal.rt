@@ -36,9 +36,9 @@ pub struct HexMantissa {
     pub end: usize,
 }
 
-/// Reads integer and fraction from a position on, where neither a sign nor a prefix is: none of
-/// them may have a digit. Requires that the word is supported, that its mantissa is hexadecimal,
-/// and its exponent decimal.
+/// Reads the hexadecimal digits of integer and fraction from a position on, after a sign and a
+/// prefix. There may be none: test `digits`. Requires that the word is supported, that its mantissa
+/// is hexadecimal, and its exponent decimal.
 #[inline(always)]
 #[tactic(auto, unfolding(crate::specs::Float::mantissas))]
 pub fn read_hex_mantissa(text: &[u8], word: u128, at: usize, point: u8) -> HexMantissa

@@ -194,7 +194,8 @@ fn read_mantissa_by(text: &[u8], word: u128, at: usize, point: u8, by_eights: bo
     }
 }
 
-/// Reads integer and fraction from a position on, where no sign is: none of them may have a digit.
+/// Reads the digits of integer and fraction from a position on, without a sign. There may be none:
+/// test `digits`.
 #[inline(always)]
 pub fn read_mantissa(text: &[u8], word: u128, at: usize, point: u8) -> Mantissa
     requires supported { IsTrue (is_supported word) }

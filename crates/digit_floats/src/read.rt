@@ -95,8 +95,9 @@ fn read_float_rest<F: Float>(
     }
 }
 
-/// The float that begins at a position of a text, and the position after it: a sign, digits with a
-/// point before, among or after them, and an exponent after `e` or `E`. Requires that the word is
+/// The float that begins at a position of a text, and the position after it: an optional sign,
+/// digits with an optional point before, among or after them, and an optional exponent after `e` or
+/// `E`; what is too large is infinite, and what is too small is 0. Requires that the word is
 /// supported, and that its mantissa and exponent are decimal. `inf` and `nan` are no digits, so
 /// they are refused as `Empty`: a word says nothing about them.
 ///
@@ -199,10 +200,10 @@ pub fn parse_float_from<F: Float>(text: &[u8], word: u128, start: usize) -> Resu
     Ok(x)
 }
 
-/// The float nearest to the number that a text is: a sign, digits with a point before, among or
-/// after them, and an exponent after `e` or `E`. Sign, point and exponent may be missing. No value
-/// is too large: it is infinite, and one too small is 0. `inf` and `nan` are refused. Requires that
-/// the word is supported, and that its mantissa and exponent are decimal.
+/// The float nearest to the number that a whole text is: an optional sign, digits with an optional
+/// point before, among or after them, and an optional exponent after `e` or `E`; what is too large
+/// is infinite, what is too small is 0, and `inf` and `nan` are refused. Requires that the word is
+/// supported, and that its mantissa and exponent are decimal.
 ///
 /// ```text
 /// by `STANDARD`: `-1.5e3`: Ok(-1500.0); `.5`: Ok(0.5); `1e999`: Ok(inf)

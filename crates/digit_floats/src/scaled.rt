@@ -23,7 +23,7 @@ pub enum ScaledError {
     Empty(usize),
     /// With the digit at this position the number is too large.
     TooLarge(usize),
-    /// The digit at this position is the first after the last place that is no zero.
+    /// The number has a digit other than 0 beyond the last place. The first such one is here.
     TooFine(usize),
     /// The byte at this position is no part of the number before it.
     Invalid(usize),

@@ -26,7 +26,8 @@ pub struct Literal {
 /// Why there is no literal. A position counts bytes from the start of the text, from 0.
 #[derive(Clone, Copy, Debug, PartialEq, Eq)]
 pub enum LanguageError {
-    /// The first kept byte after the prefix, at this position, is no digit; or there is none.
+    /// No digit is at this position, where the literal needs one, after its prefix if it has one:
+    /// another byte is there, or the text ends.
     Empty(usize),
     /// With the digit at this position the value is above the greatest one.
     Overflow(usize),

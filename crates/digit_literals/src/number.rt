@@ -345,8 +345,8 @@ pub fn parse_number_from<T: Integer>(text: &[u8], word: u128, start: usize) -> R
     to_the_end::<T>(text, word, start, number)
 }
 
-/// The integer that a whole text is, as a value of a type: `u8` to `u128`, `i8` to `i128`, `usize`,
-/// `isize`. Otherwise the first fault. Only a type with a sign takes a `+` or a `-`. Requires that
+/// The integer that a whole text is, after a `+` or a `-` if the type has a sign, as a value of a
+/// type: `u8` to `u128`, `i8` to `i128`, `usize`, `isize`. Otherwise the first fault. Requires that
 /// the word is supported.
 ///
 /// ```text

@@ -55,6 +55,20 @@ pub fn parse_row(line: &[u8], row: &mut [u32]) -> Result<usize, ListError<Litera
     parse_list(Integers::<u32>::new(STANDARD), line, COMMAS_IN_LINE, row)
 }
 
+use digits::{ScaledError, read_scaled_from};
+
+/// The cents of a field of a line, exactly: `12.5` is 1250, and `12.345` is a fault at its `5`.
+pub fn parse_cents(line: &[u8], from: usize, to: usize) -> Result<i64, ScaledError>
+    requires order { from ≤ to }
+    requires within { to ≤ length line.now }
+{
+    let (cents, end) = read_scaled_from::<i64>(&line[..to], STANDARD, from, b'.', 2)?;
+    if end < to {
+        return Err(ScaledError::Invalid(end));
+    }
+    Ok(cents)
+}
+
 use digits::{COMMAS, ListRead, read_list};
 
 /// The ports that a text lists, `80, 443;`, in the front of a slice: how many they are, and why

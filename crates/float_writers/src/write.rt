@@ -34,7 +34,7 @@ pub enum FloatLayout {
 /// Why a float has no text.
 #[derive(Clone, Copy, Debug, PartialEq, Eq)]
 pub enum FloatTextError {
-    /// The slice is shorter than the text, which has so many bytes.
+    /// The text needs this many bytes, and the slice has fewer. Nothing was written.
     NoRoom(usize),
     /// The float is an infinity.
     Infinite,

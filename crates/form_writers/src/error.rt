@@ -9,7 +9,7 @@ use std::fmt;
 /// Why a number has no text by a form.
 #[derive(Clone, Copy, Debug, PartialEq, Eq)]
 pub enum FormTextError {
-    /// The slice is shorter than the text, which has so many bytes.
+    /// The text needs this many bytes, and the slice has fewer. Nothing was written.
     NoRoom(usize),
     /// The form has no number of this value.
     NoNumber,
