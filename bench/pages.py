@@ -9,7 +9,7 @@ import sys
 sys.dont_write_bytecode = True
 TOP = os.path.normpath(os.path.join(os.path.dirname(os.path.abspath(__file__)), ".."))
 CASES = "bench/cases.txt"
-from cases import UNITS, table, target  # noqa: E402
+from cases import UNITS, table  # noqa: E402
 from costs import costs  # noqa: E402
 from peers import READ, door, peers  # noqa: E402
 from picture import of_times, svg  # noqa: E402
