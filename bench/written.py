@@ -126,9 +126,9 @@ def writers():
              "ratio to those of the best writer that does the same work, and of the best that does "
              "less. Below 1 this library takes fewer")
     if times.rows:
-        head.append("time")
-        words += ("; the ratio of the time to the fastest that does the same work, the greater one "
-                  "of two runs on a quiet machine")
+        head.append("Time")
+        words += (". *Time* is the ratio of the time to that of the fastest one that does the same "
+                  "work, the greater one of two runs")
         for line, row in zip(body, counts.rows):
             line.append(time(row, times.rows.get(row)))
     told = "; ".join(f"{side} ({it})" for (_, side), it in LESS.items())
