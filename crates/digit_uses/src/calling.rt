@@ -58,7 +58,7 @@ pub fn parse_row(line: &[u8], row: &mut [u32]) -> Result<usize, ListError<Litera
 use digits::{ScaledError, read_scaled_from};
 
 /// The cents of a field of a line, exactly: `12.5` is 1250, and `12.345` is a fault at its `5`.
-pub fn parse_cents(line: &[u8], from: usize, to: usize) -> Result<i64, ScaledError>
+pub fn cents_of_field(line: &[u8], from: usize, to: usize) -> Result<i64, ScaledError>
     requires order { from ≤ to }
     requires within { to ≤ length line.now }
 {
