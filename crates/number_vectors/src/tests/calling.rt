@@ -1,12 +1,13 @@
 //! The functions of the page CALLING.md that read a number, a token of JSON, a row of CSV
 //! and a number of CSS, and write a number. The expected values are worked out by hand.
 
-use digit_floats::{FloatError, read_float};
+use digit_floats::{FloatError, ScaledError, read_float};
 use digit_lists::ListError;
 use digit_literals::{LINES, ListEnd, LiteralError, ParseError, read_list};
 use digit_numbers::{Number, NumberError, forms, read_number_of};
 use digit_uses::calling::{
-    parse_height, parse_row, read_css, read_mask, read_ports, read_size, read_token, write_grouped,
+    cents_of_field, parse_height, parse_row, read_css, read_mask, read_ports, read_size,
+    read_token, write_grouped,
 };
 use lexical_format::STANDARD;
 
@@ -126,6 +127,13 @@ fn what_is_no_row(rt: HostRuntime) {
         let answer = parse_row(text, &mut row);
         assert!(rt; answer == Err(*error), "{text:?}: {answer:?}");
     }
+}
+
+#[test]
+fn a_field_has_cents(rt: HostRuntime) {
+    assert!(rt; cents_of_field(b"id,12.5,x", 3, 7) == Ok(1250));
+    assert!(rt; cents_of_field(b"id,12.345,x", 3, 9) == Err(ScaledError::TooFine(8)));
+    assert!(rt; cents_of_field(b"id,12.5x,y", 3, 8) == Err(ScaledError::Invalid(7)));
 }
 
 #[test]
