@@ -14,7 +14,7 @@ answer is `Ok(read)`, its second part, the end, is above 0 and at most the lengt
 - Unsigned numbers are ℕ, signed ones ℤ, and none overflows. A byte is a number, a slice a \
 `List ℕ`; positions count bytes from 0.
 - The line *Words* below a contract links to the meaning of each word in it: first those that the \
-libraries define, then those of std, which are listed below. The *Words* of a page are by module: \
+libraries define ([those of `digits`](words.md)), then those of std, which are listed below. The *Words* of a page are by module: \
 `ghost use Rattle.MODULE.{WORD};` imports one. Each links to its definition. The check unfolds an \
 `abbrev` by itself; an `unfoldable` word stays closed until `unfolding(..)` of your attribute names it.
 - Signs: `a ≡ b` says that both are equal, `P × Q` that both hold, `P ⊎ Q` that one of them does, \
@@ -116,6 +116,41 @@ MEANINGS = {
     "Bor": ("Bor", "a `&mut`, in a ghost member"),
     "GName": ("GName", "the ghost name of a `&mut`"),
     "Keeps": ("Keeps old new", "if it was known which bytes a reader has left, it still has these"),
+}
+# What words of the libraries say whose definition shares a comment with others, or has none.
+SAID = {
+    "exactly_at": "the number of exactly n digits that begin here, and where they end, or why there is none",
+    "at_most_at": "the number of at least one and at most n digits that begin here, and where they end, or "
+                  "why there is none",
+    "counted_at": "the digits that begin here, from `few` to `many` of them: their value, if it is at most "
+                  "`most`, and where they end; otherwise the first digit with which it is above that, or "
+                  "the byte where one more has to be",
+    "IfFull": "if the end is `Full at`, then `P at`",
+    "IfOver": "if the end is `Over at`, then `P at`",
+    "has_separator": "whether a byte that separates is at a position",
+    "list_at": "the numbers of a list, as many as there is room for, and why there are no more. The last two "
+               "arguments are the room and the start; `one` is the number at a position, and `none_at` "
+               "whether an error says that none begins there",
+    "parse_at": "the float that the text is from a position on, or why it is none",
+    "form_of": "the form that has this number in `c/digits.h`, if there is one",
+    "format_form": "the form of a data format that has this number, if there is one",
+    "position": "the position that it holds",
+    "piece_at": "the numbers of a piece, as many as there is room for, and why there are no more",
+    "whole_at": "the numbers of a whole text that may come in pieces: `list_at`, but that `Full` is after "
+                "one blank where blanks alone separate",
+    "last_start": "the last of some positions; of none the first argument",
+    "float_is_empty": "whether it says that there is no digit",
+    "language_is_empty": "whether it says that there is no digit",
+    "literal_is_empty": "whether it says that there is no digit",
+    "number_is_empty": "whether it says that there is no number",
+    "price_is_empty": "whether it says that there is no digit",
+    "scaled_is_empty": "whether it says that there is no digit",
+    "exact_at": "the number at a position with exactly so many places, or why there is none",
+    "grouped_at": "the number at a position with groups of three digits, or why there is none",
+    "price_at": "the number at a position with both, or why there is none",
+    "scientific_text": "the text of a finite float with one digit before the point, so many places after "
+                       "it, and an exponent",
+    "laid_out": "the text of a number in a layout",
 }
 # As in Rust, or told above.
 KNOWN = {"Ok", "Err", "Some", "None", "true", "false", "List", "Bool", "Option", "Result", "ℕ", "ℤ"}

@@ -7,11 +7,16 @@ from sources import DOOR, files_below, read
 USES = "crates/digit_uses"
 # The pages, and the module of digit_uses that the blocks of each are.
 PAGES = {"README.md": "readme", "CALLING.md": "calling", "docs/PROVING.md": "proving"}
+# The pages of which each block has all its imports, so that it can be pasted alone. Their file has each
+# import once.
+ALONE = ("CALLING.md",)
 # The crate of whoever pastes them, which here is digit_uses.
 CALLER = "my_parser"
 # The pages whose blocks of these languages are parts of proved files, and the crate that has these.
 SHOWN = {"docs/IMPLEMENTING.md": ("crates/digit_vectors", ("rust", "antt")),
-         "docs/PROVING.md": (USES, ("antt",))}
+         "docs/PROVING.md": (USES, ("antt",)), "CALLING.md": (USES, ("antt",))}
+# The blocks of Rust that are parts of another file of digit_uses.
+PARTS = {"CALLING.md": ("impl Item for", f"{USES}/src/points.rt")}
 # What pages show of other languages: the mark of its blocks, the file whose examples are run, how a line
 # has a call and its answer, and how the file has them.
 DOORS = ("README.md", "c/README.md")
@@ -35,6 +40,50 @@ def blocks_of(page, language):
         elif block is not None:
             block[1].append(line)
     return found
+
+
+def own_blocks(page):
+    """The blocks of Rust of a page that a caller pastes, without those of PARTS."""
+    start = PARTS.get(page, ("",))[0]
+    return [it for it in blocks_of(page, "rust") if not start or not it[1][0].startswith(start)]
+
+
+def imports_of(rows):
+    """The imports of numbered lines, as (path, name), and the other lines."""
+    found, others, use = set(), [], ""
+    for number, line in rows:
+        if not use and not re.match(r"(ghost )?use ", line):
+            others.append((number, line))
+            continue
+        use += line.strip() + " "
+        if ";" in line:
+            path, _, last = re.match(r"(.*?)(::|\.)?(\{[^}]*\}|\w+);", use).groups()
+            found |= {(path, name) for name in re.findall(r"[^\s{},]+", last)}
+            use = ""
+    return found, others
+
+
+def has_name(name, rows):
+    """Whether lines have a name, or a sign of the logic, apart from their comments."""
+    lines = [line.partition("//")[0].replace("..", " ") for _, line in rows]
+    sign = name.replace("◌", "")
+    if sign != name:
+        return any(f" {sign} " in it for it in lines if re.match(r"\s*(requires|ensures)\b", it))
+    return re.search(rf"(?<![\w:.]){name}\b", "\n".join(lines))
+
+
+def alone(page, path, blocks, there, faults):
+    """Each block imports what it names of the imports of the file, and no more."""
+    imported, _ = imports_of(there)
+    for first, block in blocks:
+        own, rows = imports_of(code(block, first))
+        for use in sorted(imported | own):
+            if use in own and use not in imported:
+                faults.append(f"{page}:{first}: {path} has no `{use[0]} {use[1]}`")
+            elif use in own and not has_name(use[1], rows):
+                faults.append(f"{page}:{first}: the block imports `{use[1]}`, and doesn't name it")
+            elif use not in own and has_name(use[1], rows):
+                faults.append(f"{page}:{first}: the block names `{use[1]}`, and doesn't import it")
 
 
 def code(lines, first):
@@ -104,13 +153,18 @@ def first_run(faults):
 def parts(faults):
     """Each paragraph of the blocks of Rust and antt of these pages is in a file of the crate."""
     count = 0
+    for page, (start, path) in PARTS.items():
+        for first, block in blocks_of(page, "rust"):
+            if block[0].startswith(start) and flat("\n".join(block)) not in flat(read(path)):
+                faults.append(f"{page}:{first}: {path} has another `{block[0]}`")
     for page, (crate, languages) in SHOWN.items():
         texts = [flat(read(path)) for path in files_below(crate, (".rt", ".antt"))]
         for language in languages:
             for first, block in blocks_of(page, language):
                 if block[0].startswith(CHANGES):
                     continue
-                for part in "\n".join(block).split("\n\n"):
+                text = "\n".join(block).replace(f"Rattle.{CALLER}.", f"Rattle.{os.path.basename(USES)}.")
+                for part in text.split("\n\n"):
                     count += 1
                     if not any(flat(part) in text for text in texts):
                         faults.append(f"{page}:{first}: no file of {crate} has `{part.strip()[:60]}`")
@@ -130,9 +184,13 @@ def check():
     for page in PAGES:
         by_the_door(page, faults)
     for page, module in PAGES.items():
-        path, blocks = f"{USES}/src/{module}.rt", blocks_of(page, "rust")
+        path, blocks = f"{USES}/src/{module}.rt", own_blocks(page)
         here = [line for first, block in blocks for line in code(block, first)]
-        faults.append(fault(page, here, path, code(read(path).split("\n"), 1)))
+        there = code(read(path).split("\n"), 1)
+        if page in ALONE:
+            alone(page, path, blocks, there, faults)
+            here, there = imports_of(here)[1], imports_of(there)[1]
+        faults.append(fault(page, here, path, there))
         count += len(blocks)
     return (f"{count} blocks of {', '.join(PAGES)} are proved code, and {shown} parts of others",
             [found for found in faults if found])

@@ -1,78 +1,119 @@
-"""docs/reference/DOOR.md: what DOOR passes on, by what a caller does. Each entry has its line, the
-declaration of a type or the signature of a call, and an example that a test runs."""
+"""docs/reference/DOOR.md: what DOOR passes on, by what a caller does. Each entry has what the source
+says, the declaration of a type or the signature of a call, and an example that a test runs. And
+words.md: the words of its contracts."""
 import itertools
 import re
+import textwrap
 
 import shown
 import sources
-from clauses import PAGE as CLAUSES
-from layout import anchor_of, declaration_of, filled, first_sentence, signature_of, text_of
+from clauses import PAGE as CLAUSES, SAID
+from layout import (anchor_of, declaration_of, filled, first_sentence, signature_of, text_of,
+                    use_of)
 from sources import DOOR, dedent, slug_of
 
-# Each group of the page: what its entries are for, and their names, in the order of the page.
+# Each group of the page: what it has, in the index and at its head, and its names, in the order of the
+# page.
 GROUPS = {
-    "Words": (
-        "how digits are written: their radix, their separator, and where it may be", """
-        STANDARD words is_supported NumberFormatBuilder DECIMAL ALL_FLAGS NO_FLAGS
-        INTEGER_INTERNAL_DIGIT_SEPARATOR FRACTION_INTERNAL_DIGIT_SEPARATOR
-        EXPONENT_INTERNAL_DIGIT_SEPARATOR DigitSeparatorFlags NumberFormat"""),
     "Integers": (
-        "`parse_number` reads a whole text, `read_number` the integer at its start, "
-        "`read_number_from` the one at a position", """
-        parse_number read_number read_number_from parse_number_from read_exactly read_at_most
-        read_integer read_integer_from read_wide_from count_digits Integer ParseError LiteralError"""),
+        "`-1_000`",
+        "A `parse_` call takes a whole text. A `read_` call reads the number at the start, or with "
+        "`_from` at a position, and answers the number and the position after it.", """
+        parse_number read_number read_number_from parse_number_from ParseError LiteralError
+        read_integer_from read_wide_from read_exactly read_at_most count_digits Integer"""),
     "Floats": (
-        "the same by `parse_float`, `read_float`, `read_float_from`", """
-        parse_float read_float read_float_from parse_float_from round_integer Float FloatError"""),
-    "Decimal numbers and prices": (
-        "`12.50` as the integer 1250, exactly", """
-        parse_scaled read_scaled_from read_scaled_up_to read_price_from read_grouped_from
-        read_exact_from wrong_group read_decimal_from read_decimal_of Decimal ScaledError PriceError"""),
-    "Literals of a language": (
-        "`0xff` with its prefix", """
-        read_literal read_literal_as is_language prefix_word languages Literal LanguageError Language
-        FirstZero"""),
-    "Numbers by a form": (
-        "those of JSON, TOML, C, Python and others", """
-        read_number_of parse_number_of forms form_of is_form Number NumberError Form Signs Whole
-        AfterPoint Exponents HexFloats Specials Special SpecialValue names"""),
+        "`-1.5e3`",
+        "The float nearest to a decimal number, of two as near the one whose last bit is 0. A type is "
+        "`f64` or `f32`. To read `inf` and `nan` too, go by a [form](#numbers-by-a-form), as "
+        "`forms::RUST_PARSE`.", """
+        parse_float read_float read_float_from parse_float_from FloatError round_integer Float"""),
     "Lists": (
-        "many numbers of a text into a slice", """
-        read_list read_float_list read_list_of read_list_by read_items parse_list read_enclosed
-        read_optional ListRead ListEnd ListError EnclosedError NoNumber"""),
+        "`80, 443`, into a slice",
+        "Many numbers of a text, into the front of a slice that you lend. A `read_` call goes on as far "
+        "as there are numbers, and says why it stopped; `parse_list` takes a whole text. Each skips the "
+        "blanks of its [gap](#between-two-numbers).", """
+        read_list read_float_list read_list_of ListRead ListEnd parse_list ListError read_enclosed
+        EnclosedError read_list_by read_items"""),
     "Between two numbers": (
-        "commas, blanks, ends of lines", """
-        COMMAS COMMAS_IN_LINE LINES WHITESPACE SPACES_IN_LINE BLANKS Gap"""),
-    "Kinds of numbers": (
-        "which numbers a list, a piece or a stream has", """
-        Integers Floats Scaled Prices OfForm OfLanguage Both Enclosed Kind Item BothError
-        BracketError"""),
-    "Pieces and blocks of a text": (
-        "a text that comes in parts, or is cut into blocks that are read by themselves", """
-        read_piece PieceRead PieceEnd read_list_piece read_float_list_piece read_scaled_list_piece
-        read_list_piece_of sure_end block_start end_in_text"""),
-    "Streams": (
-        "the numbers of a file or a socket", """
-        NumberReader StreamRead StreamEnd StreamError is_apart"""),
+        "a comma, a line feed, or blanks",
+        "A gap says what separates the numbers of a list. One of your own, such as for `;`, is a "
+        "[`Gap { .. }`](#gap).", """
+        COMMAS COMMAS_IN_LINE LINES WHITESPACE SPACES_IN_LINE Gap BLANKS"""),
+    "Numbers by a form": (
+        "as JSON, TOML, C or `strtod` has them",
+        "A form is the grammar of a number in JSON, TOML, C, Python or another language, or in a "
+        "function such as `strtod` ([a table of all](forms.md)).", """
+        parse_number_of read_number_of Number NumberError forms is_form"""),
+    "Decimal numbers and prices": (
+        "`12.50` as 1250, exactly",
+        "`12.50` as the integer 1250, exactly, and no float on the way.", """
+        parse_scaled read_scaled_from ScaledError read_scaled_up_to read_grouped_from read_exact_from
+        read_price_from PriceError read_decimal_from read_decimal_of Decimal"""),
+    "Literals of a language": (
+        "`0xff`",
+        "Integers of source code, such as `0xff`, with their prefix.", """
+        read_literal_as read_literal Literal LanguageError languages prefix_word Language FirstZero
+        is_language"""),
+    "Words": (
+        "radix, separator, and where one may be",
+        "A word is a `u128` that says how digits are written: their radix, their separator, and where "
+        "one may be. Take one with a name ([what each reads](../RULES.md#words-with-names)), write it from "
+        "its parts, or make it with the builder.", """
+        STANDARD words is_supported NumberFormatBuilder DigitSeparatorFlags DECIMAL NO_FLAGS ALL_FLAGS
+        INTEGER_INTERNAL_DIGIT_SEPARATOR FRACTION_INTERNAL_DIGIT_SEPARATOR
+        EXPONENT_INTERNAL_DIGIT_SEPARATOR NumberFormat"""),
     "Numbers that are written": (
-        "the shortest text, groups, fixed places, by a form", """
-        write_number write_number_by Layout write_list write_scaled write_price write_float FloatLayout
-        FloatTextError write_fixed write_scientific ExponentText write_plain write_usual
-        write_exponent write_number_of write_float_of write_integer_of FormTextError NoRoom MOST_ROOM
-        FLOAT_ROOM PLAIN_ROOM Written AnyFloat WrittenFloat"""),
+        "the shortest text, groups, places, by a form",
+        "A call puts the text at the front of `out` and answers how many bytes it has. What follows is "
+        "as it was.", """
+        write_number MOST_ROOM write_float FloatLayout FloatTextError FLOAT_ROOM PLAIN_ROOM
+        write_number_by Layout NoRoom write_scaled write_price write_fixed write_scientific
+        ExponentText write_list write_number_of write_float_of write_integer_of FormTextError
+        write_plain write_usual write_exponent Written"""),
+    "Kinds of numbers": (
+        "which numbers a list or a stream has",
+        "A kind is a value that says which numbers a list, a piece or a stream has: "
+        "`Integers::<i32>::new(STANDARD)`, for example. For values of your own write an `impl Item`, as "
+        "[points.rt](../../crates/digit_uses/src/points.rt) does, or an "
+        "[`impl Kind`](../../crates/digit_pieces/README.md).", """
+        Integers Floats Scaled Prices OfForm OfLanguage Both BothError Enclosed BracketError
+        read_optional Kind NoNumber Item"""),
+    "Streams": (
+        "a file or a socket of any length",
+        "The numbers of a file or a socket, of any length, through a buffer that you lend.", """
+        NumberReader StreamError StreamRead StreamEnd is_apart"""),
+    "Pieces and blocks of a text": (
+        "a text in parts",
+        "A text that comes in parts, or is cut into blocks that are read by themselves.", """
+        read_piece PieceRead PieceEnd sure_end block_start end_in_text"""),
     "Bytes between numbers": (
-        "what a parser does around its numbers", """
+        "what a parser does around its numbers",
+        "What a parser does around its numbers.", """
         byte_at has_byte has_bytes expect_byte expect_bytes past_bytes name_end ByteSet"""),
+    "A form of your own": (
+        "a grammar that has no name here",
+        "Write one from a form that is close: `Form { needs_fraction: true, ..forms::FLOAT }`.", """
+        Form Signs Whole Marks Exponents AfterPoint HexFloats Specials Special SpecialValue names"""),
     "Digits, and the parts of a number": (
-        "for a parser that puts a number together itself", """
+        "for a parser that puts a number together itself",
+        "For a parser that puts a number together itself.", """
         stop_from read_first_digits_from FirstDigits read_mantissa Mantissa read_exponent Power
-        round_parts decimal_of read_hex_mantissa HexMantissa read_hex_float_from round_hex Marks
-        Component Rule"""),
-    "Laws for the prover": (
-        "call one in your body: it does nothing when the program runs, and tells the prover a fact", """
-        integers_are_apart floats_are_apart scaled_are_apart literals_are_apart numbers_are_apart
-        both_are_apart any_are_apart"""),
+        round_parts decimal_of Component Rule"""),
 }
+
+# What only the page of its library has, and the heading of the table that leads there.
+MORE = """
+    read_integer read_list_piece read_float_list_piece read_list_piece_of read_scaled_list_piece
+    wrong_group form_of read_hex_mantissa HexMantissa read_hex_float_from round_hex AnyFloat WrittenFloat
+    integers_are_apart floats_are_apart scaled_are_apart literals_are_apart numbers_are_apart
+    both_are_apart any_are_apart""".split()
+ELSEWHERE = "On the crates' pages only"
+# The traits whose methods a caller doesn't need, and a call that serves the library alone.
+FOR_LIBRARY = ("Integer", "Float", "Written")
+HIDDEN = ("no_number",)
+# The modules whose constants have a table elsewhere.
+TABLES = {"forms": " [A table of all](forms.md).",
+          "words": " [What each reads](../RULES.md#words-with-names)."}
 
 # What a caller proves, in words. The head of the page tells those without a word.
 CONDITIONS = {
@@ -106,54 +147,136 @@ CONDITIONS = {
     "IsApart (B.has_byte second) gap": "no byte of the gap may be in a number of the second kind",
 }
 
+# The impls that a trait's entry shows: the file, its head, and where the words are.
+IMPLS = {"Item": ("crates/digit_uses/src/points.rt", "impl Item for Point",
+                  "the definitions that its ghost lines name are in specs/Points.antt of digit_uses")}
+
+# The page of the words, and the heading of the index.
+WORDS = "words"
+INDEX = "All names"
+
 HEAD = f"""# {DOOR}
 
-```rust
-use {DOOR}::{{STANDARD, parse_number}};
+Read a number from bytes, and write one:
 
-parse_number::<i32>(b"-1000", STANDARD) // Ok(-1000)
+```rust
+use {DOOR}::words::PYTHON_LITERAL;
+use {DOOR}::{{STANDARD, parse_float, parse_number, read_number}};
+
+LINES
 ```
 
-This page has everything that you import from `{DOOR}`, by what you do:
+- **A text** is a `&[u8]`. A position counts its bytes from 0.
+- **A word** says how digits are written: `STANDARD` reads `1000`, `PYTHON_LITERAL` also `1_000`. \
+[Others have names](#words), and you can make your own. A [form](#numbers-by-a-form) is a whole \
+grammar, such as JSON's.
+- **An answer** of `parse_` is the number that the whole text is; of `read_` the number and the \
+position after it. An error holds the position of the fault. No call panics, and those that read \
+allocate nothing.
+- **You prove** that a word is supported and that a start is within the text, from 0 to \
+`text.len()`: nothing tests it when the program runs. For a constant word one attribute does it ([set up](../../CALLING.md#set-up)), and \
+a position that a call answered is within the text. Floats and amounts need a word whose radixes are \
+10. Where a call asks for more, `// you prove` says so. `byte_at`, `has_byte`, `expect_byte`, \
+`name_end`, `read_exactly` and `read_at_most` take any position; their neighbours `has_bytes`, \
+`expect_bytes` and `past_bytes` want one within the text.
+
+[CALLING.md](../../CALLING.md) has a table by which you choose a call, and whole functions.
+
+How to read an entry:
+
+- **Its heading leads to its contract**, which says what a call answers of every text, by \
+[definitions]({WORDS}.md) and [signs]({CLAUSES}.md).
+- **Behind `//`** on the line of a call is its answer; a long one is on the next line, after \
+`// answers`. `rt ci` runs each example as a test. `?` in one takes the value out of the `Ok` or the `Some`.
+- **"Derives"** has the traits of a type: each error also has `Display` and `Error`, except `BothError`.
+- **The order of arguments:** `text` is the first, or the second where a kind is the first. Then comes \
+`start`; only a call for one number by a word has the word before it. `out` is the last.
+
+## {INDEX}
+
 """
 
-ENTRIES = f"""
-**An entry** has the declaration of a type, or the signature of a call, and examples. What stands \
-behind `//` on the line of a call is its answer; a long one is on the next line, after `// answers`. \
-Other comments explain. `rt ci` runs each example as a test. In examples words such as \
-`PYTHON_LITERAL` are of `digits::words`, `RUST` is of `digits::languages`, and `?` stands for taking \
-the value out. "Its contract" leads to what the call answers of every text.
+# The calls of the first block. Each is a line of an example.
+FIRST = ("parse_number::<i32>(b\"-1_000\", PYTHON_LITERAL)",
+         "read_number::<i32>(b\"-1_000 m\", PYTHON_LITERAL)",
+         "parse_float::<f64>(b\"-1.5e3\", STANDARD)",
+         "parse_float::<f64>(b\"1.5x\", STANDARD)")
 
-**You prove** that a word is supported, and that a position is within the text: nothing tests it \
-when the program runs. Calls that read floats, scaled numbers or prices by a word need a decimal one: \
-mantissa and exponent of radix 10. Only `byte_at`, `has_byte`, `expect_byte`, `name_end`, \
-`read_exactly` and `read_at_most` take any position. Where a call asks for more, its entry says so. \
-For a constant word one attribute is enough ([CALLING.md](../../CALLING.md)), and a position that a \
-call answered is within the text.
+WORDS_HEAD = f"""# Words of contracts
 
-[How to read a clause]({CLAUSES}.md). [CALLING.md](../../CALLING.md) has whole functions. \
-`.ci/door.py` made this page from the sources.
+`ensures {{ result ≡ to_end text.now (number_at (2 ^ 31) (2 ^ 31 - 1) r text.now 0) }}` is a clause: \
+its words say which answer a call gives. These are those of `{DOOR}`, by the library that defines them. \
+A clause of yours imports them as `ghost use Rattle.{DOOR}.specs.Words.{{number_at, to_end}};`. Each \
+leads to its definition. [How to read a clause]({CLAUSES}.md) has the signs and the words of std, and \
+[PROVING.md](../PROVING.md) whole functions with clauses. The words that only a library's own clauses \
+have are at the end of its page.
 """
 
-WORDS = f"""## Words of contracts
 
-A clause of yours imports them as `ghost use Rattle.{DOOR}.specs.Words.{{rule_of}};`. Each leads to \
-what it means, on the page of the crate that defines it.
-"""
+# The sentences of doc comments that the head of the page tells.
+TOLD = ("Requires ", "A position counts", "Takes no memory", "Not in lexical-util", "lexical-util's")
+# The half line of a name whose first clause says too little.
+HALVES = {
+    "read_wide_from": "The same up to 128 bits",
+    "read_integer": "`read_number::<u64>` by another name",
+    "is_form": "Whether numbers can be read by this form",
+    "read_scaled_from": "The decimal number that begins at `start`, and where it ends",
+    "read_grouped_from": "The same with its whole digits in groups of three",
+    "read_exact_from": "The same with exactly `places` places",
+    "read_price_from": "The same with both, as prices have them",
+    "read_scaled_up_to": "The same without a sign, and up to a greatest value",
+    "read_decimal_from": "The digits and the power of a decimal number, before it is rounded",
+    "read_decimal_of": "The same of a number of a form",
+    "read_literal_as": "The integer literal that begins at `start`, as a number of a type",
+    "read_literal": "The same up to a greatest value, with its word and its digits' place",
+    "forms": "Forms by name",
+    "write_scaled": "Writes an amount, such as cents, with a point before its last digits",
+    "write_price": "The same with a byte between groups of three digits",
+    "read_list_piece": "`read_piece` of integers",
+    "read_float_list_piece": "`read_piece` of floats",
+    "read_list_piece_of": "`read_piece` of numbers of a form",
+    "read_scaled_list_piece": "`read_piece` of amounts",
+}
+# How long the half line of a name may be.
+ROOM = 84
+MORE_HEAD = """\
+Readers of `u64` and of pieces by their own names, the parts of hexadecimal floats, and laws, which do \
+nothing when the program runs: each tells the prover that no byte between two numbers may be in one."""
 
 
 def names():
     """The names of the page, in order."""
-    return [name for _, names in GROUPS.values() for name in names.split()]
+    return [name for *_, names in GROUPS.values() for name in names.split()] + MORE
 
 
 class Door:
-    """The page, from the libraries with their anchors and sentences."""
+    """The page, from the libraries with their anchors and doc comments."""
 
-    def __init__(self, libraries, sentences):
-        self.libraries, self.sentences = libraries, sentences
+    def __init__(self, libraries, docs):
+        self.libraries, self.docs = libraries, docs
         self.items, self.words = sources.passed_on()
-        self.examples, self.lost = shown.examples(), []
+        self.tests, self.lost = shown.tests(), []
+        self.slugs, self.counts = {}, {}
+        for heading in self.headings():
+            slug = slug_of(heading)
+            count = self.counts[slug] = self.counts.get(slug, -1) + 1
+            self.slugs[heading] = f"{slug}-{count}" if count else slug
+        self.here = {self.page_of(name): self.slugs[f"`{name}`"] for name in names()
+                     if f"`{name}`" in self.slugs and name in self.items}
+
+    @staticmethod
+    def headings():
+        """The headings of the page, in order."""
+        yield INDEX
+        for group, (*_, names_of) in GROUPS.items():
+            yield group
+            yield from (f"`{name}`" for name in names_of.split())
+
+    def page_of(self, name):
+        """Where the page of its library has an item."""
+        crate, path = self.items[name]
+        anchors = self.libraries[crate].anchors
+        return f"{crate}.md#{anchors.get(path, anchors.get(name))}"
 
     def item(self, crate, name):
         """An item of a crate, or None for a module."""
@@ -172,11 +295,53 @@ class Door:
                 said.append(CONDITIONS.get(condition, ""))
         return [f"// you prove: {it}" for it in dict.fromkeys(filter(None, said))]
 
-    def code(self, library, item, name):
-        """The declaration or the signature of an item, and its example."""
-        if item and item.kind in ("struct", "enum"):
-            head = declaration_of(library.crate, item)
-            head[0] = re.sub(r"^#\[derive\(.*?\)\] |pub ", "", head[0])
+    @staticmethod
+    def methods(item):
+        """The functions of an impl or a trait, each with what its first sentence says."""
+        lines = []
+        for member in item.inner:
+            if (member.kind == "fn" and (item.kind == "trait" or member.is_public())
+                    and member.name not in HIDDEN):
+                said = textwrap.wrap(plain(first_sentence(member.docs)), 92)
+                lines += [f"    /// {line}" for line in said]
+                lines += filled(signature_of(member).removeprefix("pub ") + ";", "    ", "        ")
+        return lines
+
+    def declared(self, library, item):
+        """The declaration of an item: of a type with its calls, of a trait with its methods."""
+        if item.name in FOR_LIBRARY:
+            return [item.head.removeprefix("pub ") + " { /* for the library */ }"]
+        if item.kind == "trait":
+            types = [line for member in item.inner if member.kind == "type"
+                     for line in [*(f"    /// {it}" for it in member.docs),
+                                  *filled(member.head, "    ")]]
+            return [item.head.removeprefix("pub ") + " {", *types, *self.methods(item),
+                    "    /* ghost members and laws */", "}"]
+        head = declaration_of(library.crate, item)
+        head[0] = re.sub(r"^#\[derive\(.*?\)\] |pub ", "", head[0])
+        for impl in library.impls.get(id(item), []):
+            calls = [] if impl.trait else self.methods(impl)
+            head += ["", impl.head + " {", *calls, "}"] if calls else []
+        return head
+
+    def example(self, name):
+        """The examples of an item and of its calls, below the imports from its modules."""
+        if name in IMPLS:
+            path, head, words = IMPLS[name]
+            found = [it for it in sources.Source(path).items if it.kind == "impl" and it.head == head]
+            self.lost += [] if found else [f"IMPLS of .ci/door.py: {path} has no `{head}`"]
+            return [f"// {words}", *(line for it in found for line in it.text.split("\n"))]
+        code = "\n\n".join(code for names_of, code in self.tests
+                            if name in (it.split("::")[0] for it in names_of))
+        used = set(re.findall(r"(?<!::)\b\w+", code))
+        uses = [f"use {DOOR}::{module}::{there[0] if len(there) == 1 else braced(there)};"
+                for module, have in shown.imports().items() for there in [sorted(have & used)] if there]
+        return [*uses, *[""] * bool(uses), *shown.lines_of(code)] if code else []
+
+    def code(self, library, item):
+        """The declaration or the signature of an item."""
+        if item and item.kind in ("struct", "enum", "trait"):
+            head = self.declared(library, item)
         elif item and item.kind == "fn":
             head = filled(signature_of(item).removeprefix("pub "), "", "        ")
             head += self.conditions(item)
@@ -184,44 +349,130 @@ class Door:
             head = dedent(item.text.removeprefix("pub ")).split("\n")
         else:
             head = []
-        answers = shown.lines_of(self.examples[name]) if name in self.examples else []
-        return head + [""] * bool(head and answers) + answers
+        return head
+
+    def text(self, name, item):
+        """What the doc comment of an item says, by paragraphs, without its example and without what
+        the head of the page tells."""
+        page = self.page_of(name)
+        crate, anchor = page.split(".md#")
+        docs = self.docs[crate].get(anchor, [])
+        if item is None:
+            path = self.items[name][1]
+            docs = [first_sentence(self.libraries[crate].crate.modules[(path,)].source.docs)]
+        text = re.sub(r"^```\w*\n.*?^```$", "", "\n".join(docs), flags=re.S | re.M)
+        parts = ([it for it in re.split(r"(?<=\.)\s+(?=[A-Z`\[])", " ".join(part.split()))
+                  if not it.startswith(TOLD)] for part in re.split(r"\n\s*\n", text))
+        text = "\n\n".join(" ".join(part) for part in parts if any(part))
+        return re.sub(r"\]\(#", f"]({crate}.md#", text)
 
     def lines_of(self, name):
-        """An entry: its line, with the calls of a type, and its code."""
+        """An entry: what it is, and its code. Its heading leads to the page of its library."""
         crate, path = self.items[name]
         library, item = self.libraries[crate], self.item(crate, name)
-        anchor = library.anchors.get(path, library.anchors.get(name))
-        sentence = self.sentences[crate].get(anchor, "")
+        first, *parts = self.text(name, item).split("\n\n")
         if not item:
-            sentence = first_sentence(library.crate.modules[(path,)].source.docs)
-        sentence = re.sub(r"\]\(#", f"]({crate}.md#", sentence)
-        calls = [f"[`{key[len(name) + 2:]}`]({crate}.md#{there})"
-                 for key, there in library.anchors.items() if re.fullmatch(rf"{name}::[a-z]\w*", key)]
-        more = f" Calls: {', '.join(calls)}." if calls else ""
-        code = self.code(library, item, name)
-        block = ["", "```rust", *code, "```"] if code else []
-        return [f"### `{name}`", "", f"{sentence} [Its contract]({crate}.md#{anchor}).{more}"
-                if item and item.kind == "fn" else f"{sentence} [More]({crate}.md#{anchor}).{more}",
-                *block, ""]
+            first += TABLES.get(name) or self.constants(library.crate.modules[(path,)].source)
+        elif item.kind == "fn":
+            first += self.types(item)
+        else:
+            first += self.derives(item)
+        blocks = [line for code in (self.code(library, item), self.example(name)) if code
+                  for line in ("", "```rust", *code, "```")]
+        text = "\n\n".join([first, *parts])
+        return [f"### [`{name}`]({self.page_of(name)})", "", self.to_here(text), *blocks, ""]
 
-    def word_lines(self):
-        links = {}
+    @staticmethod
+    def derives(item):
+        """The traits that a type derives; `Clone` isn't named beside `Copy`."""
+        found = [it for attr in item.attrs if attr.startswith("#[derive")
+                 for it in re.findall(r"\w+", attr.partition("(")[2])]
+        found = [f"`{it}`" for it in found if it != "Drop" and not (it == "Clone" and "Copy" in found)]
+        return f" Derives {', '.join(found)}." if found else ""
+
+    def types(self, item):
+        """Links to the types of a signature."""
+        named = dict.fromkeys(f"`{it}`" for it in re.findall(r"(?<!::)\b[A-Z]\w+", item.head))
+        links = [f"[{it}](#{self.slugs[it]})" for it in named if it in self.slugs]
+        return f" Types: {', '.join(links)}." if links else ""
+
+    @staticmethod
+    def constants(source):
+        """The constants of a module; of those that are named for one prefix of a language the first."""
+        names_of = [it.name for it in source.items if it.kind == "const" and it.is_public()]
+        apart = [it for it in names_of if re.search(r"_(HEX|OCTAL|BINARY)(_LITERAL)?$", it)]
+        said = f" They are {', '.join(f'`{it}`' for it in names_of if it not in apart)}"
+        return said + (f", and those after a prefix, as `{apart[0]}` and `{apart[1]}`." if apart else ".")
+
+    def to_here(self, text):
+        """A text whose links to items of this page lead to their entries."""
+        return re.sub(r"\]\((\w+\.md#[^)]*)\)", lambda m: f"](#{self.here[m[1]]})"
+                      if m[1] in self.here else m[0], text)
+
+    def first(self):
+        """The calls of the first block, as an example has them."""
+        lines = [line for _, code in self.tests for line in shown.lines_of(code)]
+        for call in FIRST:
+            found = [line for line in lines if line.startswith(f"{call} // ")]
+            self.lost += [] if found else [f"FIRST of .ci/door.py: no example has {call}"]
+            yield found[0] if found else call
+
+    def rows(self, names_of):
+        """The rows of a table of items, each with half a line."""
+        for name in names_of:
+            text = plain(self.text(name, self.item(self.items[name][0], name))).partition("\n")[0]
+            half = HALVES.get(name) or half_of(first_sentence([text]))
+            to = f"#{self.slugs[f'`{name}`']}" if f"`{name}`" in self.slugs else self.page_of(name)
+            yield f"| [`{name}`]({to}) | {half} |"
+
+    def index(self):
+        """A table for each group."""
+        for group, (has, _, names_of) in GROUPS.items():
+            yield from (f"| [{group}](#{self.slugs[group]}) | {has} |", "|---|---|",
+                        *self.rows(names_of.split()), "")
+        yield f"{len(MORE)} names more are [{ELSEWHERE[0].lower()}{ELSEWHERE[1:]}](#{slug_of(ELSEWHERE)})."
+        yield ""
+
+    def words_page(self):
+        """The words of contracts that DOOR passes on, each as it is used and with what it says."""
+        lines = {}
         for name, (module, there) in self.words.items():
             crate = module.split(".")[1]
             definition = crate in self.libraries and self.libraries[crate].words.get((module, there))
             if definition:
-                links.setdefault(crate, []).append(f"[`{name}`]({crate}.md#{anchor_of(definition)})")
-        return [f"- [`{it}`]({it}.md#words): {', '.join(links[it])}" for it in links]
+                use = name + use_of(definition).removeprefix(there)
+                said = SAID.get(name, definition.comment)
+                self.lost += [] if said else [f"SAID of .ci/clauses.py has no {name}"]
+                lines.setdefault(crate, []).append(
+                    f"- [`{use}`]({crate}.md#{anchor_of(definition)}): {said}")
+        parts = (["", f"## `{crate}`", "", *lines[crate]] for crate in lines)
+        return text_of([*WORDS_HEAD.rstrip().split("\n"), *itertools.chain(*parts)])
 
     def write(self):
         have = names()
         self.lost += [f"GROUPS of .ci/door.py has no {it}" for it in self.items if it not in have]
         self.lost += [f"GROUPS of .ci/door.py: {DOOR} has no {it}" for it in have if it not in self.items]
-        lines = [HEAD, *(f"- [{group}](#{slug_of(group)}): {use}" for group, (use, _) in GROUPS.items()),
-                 ENTRIES]
-        for group, (_, names_of) in GROUPS.items():
+        lines = [HEAD.replace("LINES", "\n".join(self.first())), *self.index()]
+        for group, (_, use, names_of) in GROUPS.items():
             entries = [it for it in names_of.split() if it in self.items]
-            lines += [f"## {group}", "", *itertools.chain(*map(self.lines_of, entries))]
-        lines += [WORDS, *self.word_lines()]
+            lines += [f"## {group}", "", use, "", *itertools.chain(*map(self.lines_of, entries))]
+        lines += [f"## {ELSEWHERE}", "", MORE_HEAD, "", "| Name | What it is |", "|---|---|",
+                  *self.rows(MORE)]
         return text_of("\n".join(lines).split("\n"))
+
+
+def half_of(sentence):
+    """A sentence up to its first colon, and of that as many clauses as a row of a table has room for."""
+    head = re.match(r"(?:`[^`]*`|\([^)]*\)|[^`(:;])*", sentence)[0].rstrip(".")
+    cuts = [m.start() for m in re.finditer(r"`[^`]*`|\([^)]*\)|(,) ", head) if m[1]]
+    ends = [len(head), *reversed(cuts)]
+    return head[:next((it for it in ends if it <= ROOM), ends[-1])]
+
+
+def plain(sentence):
+    """A sentence of a doc comment without links."""
+    return re.sub(r"\[(`[^`]*`)\](\([^)]*\))?", r"\1", sentence)
+
+
+def braced(names_of):
+    return "{" + ", ".join(names_of) + "}"

@@ -1,6 +1,8 @@
 #!/usr/bin/env python3
 """The public names of the libraries beside .ci/kept.txt, which has those of version 0.1.0: none may
-be missing. What came since then `.ci/reference` writes into CHANGELOG.md.
+be missing. What came since then `.ci/reference` writes into CHANGELOG.md. Kept are the names of
+`digits` and of the libraries that it was made of first; those of MOVING may go to another crate, as
+long as `digits` passes them on.
 
     .ci/kept.py --write FOLDER    writes kept.txt by a checkout of that version"""
 import os
@@ -11,6 +13,7 @@ sys.dont_write_bytecode = True
 import sources  # noqa: E402
 
 KEPT = ".ci/kept.txt"
+MOVING = ("digit_languages", "digit_floats", "digit_numbers")
 HEAD = "# The public names of version 0.1.0, by library; see kept.py. None is taken out.\n"
 
 
@@ -34,11 +37,15 @@ def names_of(library):
              if item.kind != "ghost"]
     names = {"::".join((*path, item.name)) for path, item in shown}
     names |= {"::".join((*module.path, here)) for module in public for here, _ in module.aliases}
-    # what other crates have, passed on from the root
-    root = "\n".join(item.head for item in crate.modules[()].source.items if item.kind == "use"
-                     and item.is_public())
-    names |= {name.strip() for one, several in re.findall(r"::(?:(\w+)|\{([^}]*)\});", root)
-              for name in (one or several).split(",") if name.strip()}
+    # what other crates have, passed on from the root or a module: a type with its methods
+    for module in public:
+        uses = [item.head for item in module.source.items if item.kind == "use" and item.is_public()]
+        for other, one, several in re.findall(r"use (\w+)(?:::\w+)*?::(?:(\w+)|\{([^}]*)\});",
+                                              "\n".join(uses)):
+            passed = {name.strip() for name in (one or several).split(",") if name.strip()}
+            names |= {"::".join((*module.path, name)) for name in passed}
+            if other in sources.crates():
+                names |= {*members(sources.Crate(other), passed)}
     return names | {*members(crate, {item.name for _, item in shown})}
 
 
@@ -55,7 +62,8 @@ def kept():
 
 def write(folder):
     own, sources.TOP = sources.TOP, os.path.abspath(folder)
-    text = "".join(f"{library}: {' '.join(sorted(names))}\n" for library, names in all_names().items())
+    text = "".join(f"{library}: {' '.join(sorted(names))}\n" for library, names in all_names().items()
+                   if library not in MOVING)
     sources.TOP = own
     with open(os.path.join(own, KEPT), "w", encoding="utf8") as file:
         file.write(HEAD + text)
@@ -71,7 +79,7 @@ def new_names():
 
 
 def new_libraries():
-    return [library for library in sources.libraries() if library not in kept()]
+    return [library for library in sources.libraries() if library not in {*kept(), *MOVING}]
 
 
 def check():

@@ -68,3 +68,18 @@ def import_lines(modules):
 
 def anchor_of(definition):
     return f"{definition.module.split('.')[-1]}.{definition.name}"
+
+
+def use_of(definition):
+    """How a word is used: its name with its parameters, or with its type where it has cases."""
+    scope = " ".join(re.findall(r"\(([\w ]+?)\s+:", definition.scope))
+    first, *lines = definition.text.split("\n")
+    start = " ".join([definition.name] + scope.split())
+    if re.match(r"pub record", first):
+        head = re.split(r"\s+where\b", definition.text.partition(definition.name)[2])[0]
+        return " ".join([start] + re.findall(r"\(([\w ]+?)\s+:", head))
+    sides = [line for line in lines if line.startswith(definition.name + " ") and "=" in line]
+    if len(sides) == 1:
+        return " ".join([start] + sides[0].partition("=")[0].split()[1:])
+    type_of = re.sub(r"\s+where$", "", first.partition(definition.name)[2].strip())
+    return f"{start} {type_of}".strip()

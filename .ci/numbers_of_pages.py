@@ -4,6 +4,7 @@ import os
 import re
 import sys
 
+import kept
 from forms import forms
 from sources import DOOR, TOP, crates, difference, files_below, libraries, read
 
@@ -144,10 +145,13 @@ def names(it):
     it.find("README.md", r"rattle-kit-\w+ logic [0-9a-f]+")
     versions = it.find("CHANGELOG.md", r"^## (\d+\.\d+\.\d+)")
     version = versions[0][1][1] if versions else ""
+    for line, m in it.find("c/README.md", r"digits-(\d+\.\d+\.\d+)-x86_64"):
+        it.compare("c/README.md", line, "the version of CHANGELOG.md", m[1], version)
     line, text = next(((n, text) for n, text in it.lines("CHANGELOG.md")
                        if "`lexical_plain`" in text and "`digit_script`" in text), (1, ""))
-    listed = {"CHANGELOG.md": (line, re.findall(rf"`([a-z]+_[a-z]+|{DOOR})`", text)),
-              HOUSE: (1, re.findall(r"`\]\(reference/(\w+)\.md\)", read(HOUSE)))}
+    it.compare("CHANGELOG.md", line, "the list of libraries whose names are kept",
+               sorted({*re.findall(rf"`([a-z]+_[a-z]+|{DOOR})`", text)}), sorted(kept.kept()))
+    listed = {HOUSE: (1, re.findall(r"`\]\(reference/(\w+)\.md\)", read(HOUSE)))}
     for page, (line, names) in listed.items():
         it.compare(page, line, "the list of libraries", sorted(set(names)),
                    sorted(libraries() + [DOOR]))

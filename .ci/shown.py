@@ -34,15 +34,31 @@ def code_of(body):
     return re.sub(r'\.expect\(&rt, ".*?"\)', "?", text.rstrip("\n"))
 
 
+def tests():
+    """(names, code) of each test: the calls, methods and types that it shows. A line of an assertion
+    begins with a zero byte."""
+    return [(re.findall(r"`([\w:]+)`", docs), code_of(body)) for path in files_below(EXAMPLES, ".rt")
+            for docs, body in TEST.findall(read(path))]
+
+
 def examples():
     """{name: code} of each call, method or type that a test shows. Of several tests the code is one
-    after the other. A line of an assertion begins with a zero byte."""
+    after the other."""
+    found = {}
+    for names, code in tests():
+        for name in names:
+            found.setdefault(name, []).append(code)
+    return {name: "\n\n".join(codes) for name, codes in found.items()}
+
+
+def imports():
+    """{module: names} of what the tests import from the modules of DOOR."""
     found = {}
     for path in files_below(EXAMPLES, ".rt"):
-        for docs, body in TEST.findall(read(path)):
-            for name in re.findall(r"`([\w:]+)`", docs):
-                found.setdefault(name, []).append(code_of(body))
-    return {name: "\n\n".join(codes) for name, codes in found.items()}
+        for module, name, names in re.findall(rf"^use {DOOR}::((?:\w+::)+)(?:(\w+)|\{{([^}}]*)\}});",
+                                              read(path), re.M):
+            found.setdefault(module[:-2], set()).update(re.findall(r"\w+", name or names))
+    return dict(sorted(found.items()))
 
 
 def lines_of(code):

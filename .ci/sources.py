@@ -39,7 +39,7 @@ def crates():
 
 # The crates that no caller in Rattle uses: examples, the programs, tests, the benchmark, the
 # library for C.
-INNER = ("digit_hello", "digit_uses", "digit_examples", "digit_requests", "digit_drain", "digit_totals", "digit_sum",
+INNER = ("digit_words", "digit_hello", "digit_uses", "digit_examples", "digit_requests", "digit_drain", "digit_totals", "digit_sum",
          "digit_vectors", "number_vectors", "list_vectors", "digit_bench", "digits_c", "digit_jobs",
          "digit_rows", "writer_vectors", "writer_rows")
 
@@ -74,7 +74,8 @@ def names_of(imports):
 
 
 def slug_of(heading):
-    """The anchor that a Markdown page gives to a heading."""
+    """The anchor that a Markdown page gives to a heading, by its text without links."""
+    heading = re.sub(r"\[([^\]]*)\]\([^)]*\)", r"\1", heading)
     return re.sub(r"[^\w\- ]", "", heading.lower()).replace(" ", "-")
 
 

@@ -1,16 +1,14 @@
 """What README.md and the head of docs/SPEED.md say of the times beside other readers."""
 from cases import table
 from peers import LIBRARY, READ, Figures, slower_run
-from written import lost, told
+from written import lost, span as span_of_writing
 
 # The rows that README.md shows, by what it calls them.
 SHOWN = {
-    "`u64`, 1 to 4 digits": "u64, 1 to 4 digits",
-    "`u64`, 16 digits": "u64, 16 digits",
-    "`i32`, 1 to 9 digits, half of them after a `-`": "i32, 1 to 9 digits, signs",
-    "`u64` of 8 to 20 digits in groups, as `12_345_678`": "grouped u64, 8 to 20 digits",
-    "`f64`, coordinates, as `-12.3456`": "f64, coordinates",
-    "number of JSON, six of ten short integers": "JSON, mixed",
+    "16 digits of a `u64`": "u64, 16 digits",
+    "8 to 20 digits in groups, as `12_345_678`": "grouped u64, 8 to 20 digits",
+    "coordinates, as `-12.3456`": "f64, coordinates",
+    "numbers of JSON": "JSON, mixed",
 }
 # What README.md calls the readers.
 READERS = {"from_chars": "C++'s `from_chars`", "std": "Rust's std",
@@ -64,24 +62,32 @@ long as the next one{f", in the other rows {others}" if slower else ""}.
 can't put it into its caller's loop."""
 
 
+def beside():
+    """The rows that README.md shows, and those in which another reader is faster."""
+    slower = [row for row, ratio in ratios().items() if ratio > 1]
+    named = {row: words for words, row in SHOWN.items()}
+    for row in [*SHOWN.values(), *slower]:
+        mine, (other, side) = slower_run(row, rows()[row])
+        yield [named.get(row, row), f"{mine:.1f}", f"{other:.1f}, {READERS.get(side, side)}",
+               f"{mine / other:.2f}"]
+
+
 def readme(most_of_groups):
     """What README.md has between its comments."""
-    body = []
-    for words, row in SHOWN.items():
-        mine, (other, side) = slower_run(row, rows()[row])
-        body.append([words, f"{mine:.1f}", f"{other:.1f}, {READERS.get(side, side)}"])
-    shown = table("Nanoseconds for one number that is a whole text, and by the fastest other reader that "
-                  "does the same work; of two runs on a quiet machine the slower one:",
-                  ["What is read", "Here", "The next one"], body)
-    return "\n".join([*shown, f"""\
-It is the fastest in {fastest()} such rows. The picture has them all, and [SPEED.md](docs/SPEED.md) \
-their figures, and how to call it so that it is fast.
+    machine = Figures("times.txt").head.split("; ")[1]
+    lines = table("**A number that is a whole text:** nanoseconds for one, here and by the fastest other "
+                  f"reader that does the same work. This library is the fastest in {fastest()} rows of "
+                  "the picture; the last rows here are those where it isn't:",
+                  ["What is read", "Here", "The next one", "Ratio"], beside())
+    return "\n".join(lines) + f"""
+Timed on: {machine}. [SPEED.md](docs/SPEED.md#beside-other-readers) has every row, and how it was measured.
 
-**A lexer also needs where the number ends.** With `read_integer` and `read_float`, which answer it, \
-the library is about as fast as the fastest other reader, on some texts faster and on some slower: \
-{by_read()}.
+**You gain** also where you write a float: {span_of_writing("f")} times the instructions of the best \
+other writer.
 
-**You lose** with floats in groups: up to {most_of_groups} times the instructions that std takes for \
-the same text without separators. You also lose if you walk over digits by an iterator \
-([where you lose](docs/SPEED.md#where-you-lose)). {lost()}
-""", told()])
+**It is even** where you also need the end of a number, as a lexer does: a `u64` takes \
+{span('u64', READ)} times as long as by the fastest other reader, an `f64` {span('f64', READ)} times.
+
+**You lose** with floats in groups, which take up to {most_of_groups} times the instructions of std on \
+the same text without separators, with iterators ([where you lose](docs/SPEED.md#where-you-lose)), and \
+when you write {lost()} ([every row](docs/SPEED.md#writing))."""

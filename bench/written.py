@@ -101,20 +101,10 @@ def span(start, peer=None):
 
 
 def lost():
-    """What README.md says of what is dearer to write than by others."""
+    """What README.md says is dearer to write than by others."""
     return f"""\
-When you write, you lose with `%.6e`: it takes {span("%.6e")} times the instructions of the best \
-other writer. Large numbers by `%.2f` take up to {span("%.2f").split()[-1]} times, integers of up to \
-four digits {span("u64, 1 to 4")} times."""
-
-
-def told():
-    """What README.md says of what is written."""
-    return f"""\
-**What you write**, beside the best other writer: a `u64` takes {span("u64")} times its instructions \
-(itoa, lexical-core), a float {span("f")} (ryu, to_chars), `%.2f` of prices {span("%.2f, prices")} \
-(to_chars). In groups, as `1_234_567`, a `u64` takes {span("grouped", PLAIN)} times what it takes \
-without ([every row](docs/SPEED.md#writing))."""
+`%.6e` (up to {span("%.6e").split()[-1]} times the instructions of the best other writer), large numbers \
+by `%.2f` (up to {span("%.2f").split()[-1]}), or integers of up to four digits ({span("u64, 1 to 4")})"""
 
 
 def writers():

@@ -2,11 +2,11 @@
 use Rattle.std.proofs.Common.{◌≡◌, ℕ, Bool, true, false, List, refl, ap}
 use Rattle.std.specs.Prelude.{ℤ, ◌==◌, Result, Err, Option, Some, None}
 use Rattle.std.proofs.lemmas.Bool.{eq-eqb}
-use Rattle.digit_floats.specs.declared.scaled.ScaledError.{ScaledError}
-use Rattle.digit_floats.specs.Scaled.{read_scaled_at}
-use Rattle.digit_lists.specs.declared.prices.PriceError.{PriceError}
-use Rattle.digit_lists.specs.declared.prices.PriceError.TheVariants.{Number}
-use Rattle.digit_lists.specs.Prices.{if_exact, if_grouped, of_number, price_by}
+use Rattle.digit_amounts.specs.declared.scaled.ScaledError.{ScaledError}
+use Rattle.digit_amounts.specs.Scaled.{read_scaled_at}
+use Rattle.digit_amounts.specs.declared.prices.PriceError.{PriceError}
+use Rattle.digit_amounts.specs.declared.prices.PriceError.TheVariants.{Number}
+use Rattle.digit_amounts.specs.Prices.{if_exact, if_grouped, of_number, price_by}
 
 -- a position is itself
 pub is_itself : (n : ℕ) → (n == n) ≡ true

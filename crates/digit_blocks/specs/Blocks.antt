@@ -9,7 +9,7 @@ use Rattle.digit_literals.specs.declared.list.ListEnd.TheVariants as lists
 use Rattle.digit_literals.specs.Lists.{Numbers}
 use Rattle.digit_pieces.specs.declared.piece.PieceEnd.{PieceEnd}
 use Rattle.digit_pieces.specs.declared.piece.PieceEnd.TheVariants.{More, Full, Over, Fault}
-use Rattle.digit_pieces.specs.Moves.{byte_before}
+use Rattle.lexical_digits.specs.Moves.{byte_before}
 use Rattle.digit_pieces.specs.Pieces.{PieceNumbers, and_more, is_of_blanks, list_later}
 use Rattle.digit_pieces.specs.Texts.{list_of, piece_of}
 

@@ -2,8 +2,8 @@
 
 use digits::words::RUST_HEX_LITERAL;
 use digits::{
-    COMMAS, Form, ListEnd, Marks, Number, NumberError, STANDARD, form_of, forms, is_form,
-    parse_number_of, read_list_of, read_number_of,
+    COMMAS, Form, ListEnd, Marks, Number, NumberError, OfForm, STANDARD, form_of, forms, is_form,
+    parse_list, parse_number_of, read_list_of, read_number_of,
 };
 
 /// Shows `parse_number_of`.
@@ -78,6 +78,37 @@ fn a_form(rt: HostRuntime) {
             ..forms::JSON
         })
     );
+}
+
+/// Shows `Form`.
+#[test]
+fn a_form_of_ones_own(rt: HostRuntime) {
+    // a digit has to follow the point, as in CSS
+    let css = Form {
+        needs_fraction: true,
+        ..forms::FLOAT
+    };
+    assert_eq!(rt;
+        read_number_of::<f64>(b"1.5em", 0, css),
+        Ok((Number::Float(1.5), 3))
+    );
+    assert_eq!(rt;
+        read_number_of::<f64>(b"-.5e3px", 0, css),
+        Ok((Number::Float(-500.0), 5))
+    );
+    assert_eq!(rt;
+        parse_number_of::<f64>(b"5.", css),
+        Err(NumberError::Invalid(1))
+    );
+}
+
+/// Shows `OfForm`.
+#[test]
+fn the_kind_of_a_form(rt: HostRuntime) {
+    let mut numbers = [Number::Float(0.0); 2];
+    let kind = OfForm::<f64>::new(forms::JSON);
+    assert_eq!(rt; parse_list(kind, b"1.5, 2e3", COMMAS, &mut numbers), Ok(2));
+    assert_eq!(rt; numbers, [Number::Float(1.5), Number::Float(2000.0)]);
 }
 
 /// Shows `read_list_of`.

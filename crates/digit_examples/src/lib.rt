@@ -5,6 +5,8 @@
 #[cfg(test)]
 mod bytes;
 #[cfg(test)]
+mod calling;
+#[cfg(test)]
 mod decimals;
 #[cfg(test)]
 mod floats;

@@ -1,10 +1,11 @@
 //! Lists, and a number that may be missing.
 
 use digit_uses::points::{Point, PointError};
+use digits::languages::RUST;
 use digits::{
-    COMMAS, EnclosedError, Floats, Integers, LINES, ListEnd, ListError, LiteralError, STANDARD,
-    Scaled, WHITESPACE, parse_list, read_enclosed, read_float_list, read_items, read_list,
-    read_list_by, read_optional,
+    BracketError, ByteSet, COMMAS, Enclosed, EnclosedError, Floats, Gap, Integers, LINES, ListEnd,
+    ListError, LiteralError, OfLanguage, PriceError, Prices, STANDARD, Scaled, WHITESPACE,
+    parse_list, read_enclosed, read_float_list, read_items, read_list, read_list_by, read_optional,
 };
 
 /// Shows `read_list`.
@@ -43,7 +44,7 @@ fn floats(rt: HostRuntime) {
     assert_eq!(rt; (read.count, read.end), (2, ListEnd::Over(11)));
 }
 
-/// Shows `read_list_by`.
+/// Shows `read_list_by`, `Scaled`.
 #[test]
 fn numbers_of_a_kind(rt: HostRuntime) {
     let mut cents = [0u32; 3];
@@ -51,6 +52,87 @@ fn numbers_of_a_kind(rt: HostRuntime) {
     let read = read_list_by(prices, b"1.5, 2 ,3]", 0, COMMAS, &mut cents);
     assert_eq!(rt; (read.count, read.end), (3, ListEnd::Over(9)));
     assert_eq!(rt; cents, [150, 200, 300]);
+}
+
+/// Shows `Integers`.
+#[test]
+fn the_kind_of_integers(rt: HostRuntime) {
+    let mut ports = [0; 2];
+    let kind = Integers::<u16>::new(STANDARD);
+    assert_eq!(rt; parse_list(kind, b"80, 443", COMMAS, &mut ports), Ok(2));
+    assert_eq!(rt; ports, [80, 443]);
+}
+
+/// Shows `Floats`.
+#[test]
+fn the_kind_of_floats(rt: HostRuntime) {
+    let mut row = [0.0; 2];
+    let kind = Floats::<f64>::new(STANDARD);
+    assert_eq!(rt; parse_list(kind, b"1.5 -2e3", WHITESPACE, &mut row), Ok(2));
+    assert_eq!(rt; row, [1.5, -2000.0]);
+}
+
+/// Shows `OfLanguage`.
+#[test]
+fn the_kind_of_literals(rt: HostRuntime) {
+    let mut bytes = [0; 2];
+    let kind = OfLanguage::<u8>::new(RUST);
+    assert_eq!(rt; parse_list(kind, b"0xff, 0b1_1", COMMAS, &mut bytes), Ok(2));
+    assert_eq!(rt; bytes, [255, 3]);
+}
+
+/// Shows `Prices`.
+#[test]
+fn the_kind_of_prices(rt: HostRuntime) {
+    // exactly two places
+    let prices = Prices::<i64>::exact(STANDARD, b'.', 2);
+    let mut cents = [0; 2];
+    assert_eq!(rt;
+        parse_list(prices, b"1.50 2.00", WHITESPACE, &mut cents),
+        Ok(2)
+    );
+    assert_eq!(rt; cents, [150, 200]);
+    assert_eq!(rt;
+        parse_list(prices, b"1.5", WHITESPACE, &mut cents),
+        Err(ListError::Number(PriceError::Places(3)))
+    );
+}
+
+/// Shows `Enclosed`.
+#[test]
+fn numbers_in_quotes(rt: HostRuntime) {
+    let quoted = Enclosed {
+        opening: b'"',
+        kind: Scaled::<i64>::new(STANDARD, b'.', 2),
+        closing: b'"',
+    };
+    let mut cents = [0; 2];
+    assert_eq!(rt;
+        parse_list(quoted, b"\"1.50\", \"2\"", COMMAS, &mut cents),
+        Ok(2)
+    );
+    assert_eq!(rt; cents, [150, 200]);
+    assert_eq!(rt;
+        parse_list(quoted, b"\"1.50", COMMAS, &mut cents),
+        Err(ListError::Number(BracketError::NoClosing(5)))
+    );
+}
+
+/// Shows `Gap`.
+#[test]
+fn a_gap_of_ones_own(rt: HostRuntime) {
+    // one `;`, which is byte 0x3b, with any blanks around it
+    let semicolons = Gap {
+        separators: ByteSet {
+            low: 1 << 0x3b,
+            high: 0,
+        },
+        ..COMMAS
+    };
+    let mut three = [0u8; 3];
+    let read = read_list(b"1; 2 ;3]", 0, STANDARD, semicolons, &mut three);
+    assert_eq!(rt; (read.count, read.end), (3, ListEnd::Over(7)));
+    assert_eq!(rt; three, [1, 2, 3]);
 }
 
 /// Shows `read_items`.

@@ -166,3 +166,21 @@ fn a_stream_into_a_slice(rt: HostRuntime) {
     assert_eq!(rt; numbers.position(), 3);
     assert_eq!(rt; numbers.unread(), b";3".as_slice());
 }
+
+/// Shows `NumberReader::new_at`, `NumberReader::pass_byte`.
+#[test]
+fn a_list_in_brackets(rt: HostRuntime) {
+    let mut buffer = [0; 64];
+    let kind = Integers::<u64>::new(STANDARD);
+    // 100 bytes of the stream were read before
+    let stream = b"[1, 2] x".as_slice();
+    let mut numbers = NumberReader::new_at(stream, &mut buffer, kind, COMMAS, 100);
+    assert_eq!(rt; numbers.pass_byte(b'['), Ok(true));
+    // an empty list would end here
+    assert_eq!(rt; numbers.pass_byte(b']'), Ok(false));
+    assert_eq!(rt; numbers.next_number(), Some(Ok(1)));
+    assert_eq!(rt; numbers.next_number(), Some(Ok(2)));
+    assert_eq!(rt; numbers.next_number(), None);
+    assert_eq!(rt; numbers.pass_byte(b']'), Ok(true));
+    assert_eq!(rt; numbers.position(), 106);
+}

@@ -1,6 +1,6 @@
 //! Numbers that are written. Each call writes to the front of a slice.
 
-use digit_uses::calling::{RoundError, round_json};
+use digit_uses::proving::{RoundError, round_json};
 use digits::{
     ExponentText, FloatLayout, FloatTextError, FormTextError, Layout, MOST_ROOM, NoRoom, Number,
     NumberError, STANDARD, forms, write_exponent, write_fixed, write_float, write_float_of,
@@ -210,7 +210,7 @@ fn a_decimal_as_usual(rt: HostRuntime) {
     assert!(rt; out.starts_with(b"1.2e21"));
 }
 
-/// A block of CALLING.md.
+/// A block of PROVING.md.
 #[test]
 fn a_number_that_is_read_and_rounded(rt: HostRuntime) {
     let mut out = [0; 16];

@@ -22,7 +22,7 @@ use Rattle.std.specs.Float.{Float, Format}
 use Rattle.std.specs.Float.Numeral.{nearest_float}
 use Rattle.std.specs.Float.Parse.{parse_float, read_float, sign_len}
 use Rattle.std.specs.Float.Numeral as std
-use Rattle.digit_literals.specs.After.{digits_between}
+use Rattle.digit_values.specs.After.{digits_between}
 use Rattle.digit_floats.specs.Bytes.{stands, is_sign, is_minus, is_point, is_mark}
 use Rattle.digit_floats.specs.Float.{IsDecimal, plain_marks, past_sign, digits_end, digits_from, fraction_digits, fraction_end, exponent_digits, exponent_end, exponent_negative, mantissa_end, number_end, float_end, float_at, parts_at, mantissa_count, parse_at}
 use Rattle.digit_floats.specs.Separators.{HasNoSeparator}

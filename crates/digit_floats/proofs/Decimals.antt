@@ -6,7 +6,7 @@ use Rattle.std.proofs.lemmas.Bool.Decides.{nat_tests}
 use Rattle.lexical_digits.specs.declared.skip.rule.Rule.{Rule}
 use Rattle.lexical_digits.specs.Separators.{is_digit}
 use Rattle.lexical_format.specs.Digits as words
-use Rattle.digit_literals.proofs.ForCallers.{dropped}
+use Rattle.digit_values.proofs.ForCallers.{dropped}
 
 pub same_digit : (rule : Rule) (byte : ℕ) → rule.radix ≡ 10
     → is_digit rule byte ≡ is_ascii_digit byte

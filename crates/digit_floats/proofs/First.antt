@@ -4,9 +4,9 @@ use Rattle.std.specs.Prelude.{min}
 use Rattle.std.specs.Str.Parse.{AllDigits, digits_value}
 use Rattle.std.proofs.lemmas.Int.Digits.{digits_value-lt}
 use Rattle.std.proofs.lemmas.List.{length-drop}
-use Rattle.digit_literals.specs.Significant.{significant, IsOfFirstDigits}
-use Rattle.digit_literals.proofs.ForCallers.{value_of_both, value_of_pieces}
-use Rattle.digit_literals.proofs.Significant.{worth_same}
+use Rattle.digit_values.specs.Significant.{significant, IsOfFirstDigits}
+use Rattle.digit_values.proofs.ForCallers.{value_of_both, value_of_pieces}
+use Rattle.digit_values.proofs.Significant.{worth_same}
 use Rattle.digit_floats.specs.Near.{IsCutAt}
 
 split : (n : ℕ) (xs : List ℕ) → take n xs ++ drop n xs ≡ xs

@@ -8,7 +8,7 @@ use lib.Dec.{ltb→lt, nltb→le}
 use lib.Pow.{pow-add, pow_pos, pow_mono}
 use lib.Ieee.{Format, binary32, binary64, low, emax, units, round}
 use lib.Ieee.Scale.{round_same}
-use Rattle.digit_literals.proofs.ForCallers.{value_of_both}
+use Rattle.digit_values.proofs.ForCallers.{value_of_both}
 use Rattle.digit_floats.specs.Binary.{IsWholePart}
 use Rattle.digit_floats.specs.declared.hexadecimal.HexKept.{HexKept}
 use Rattle.digit_floats.specs.Hexadecimal.{IsHexKept}

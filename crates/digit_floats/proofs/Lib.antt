@@ -1,29 +1,28 @@
 pub mod AsStd
-mod Between
-mod Bits
+pub mod BothSides
 pub mod Bytes
-mod Cut
-mod CutOff
 pub mod Decimals
-mod Faults
-mod First
-mod Firsts
-mod HexDigits
-mod Huge
-mod Kept
-mod Mantissas
-mod Middles
+pub mod Mantissas
 pub mod Numbers
-mod Others
-mod Outcomes
-mod Plains
-mod Product
-mod Rows
 pub mod Signs
-mod Squeeze
-mod Tens
 pub mod Units
 pub mod WhatFollows
-mod WholePart
-mod Within
-mod Written
+pub mod Between
+pub mod Bits
+pub mod Cut
+pub mod CutOff
+pub mod EightDigits
+pub mod First
+pub mod HexDigits
+pub mod Huge
+pub mod Kept
+pub mod Middles
+pub mod Others
+pub mod Outcomes
+pub mod Product
+pub mod Rows
+pub mod Squeeze
+pub mod Tens
+pub mod WholePart
+pub mod Within
+pub mod Written

@@ -4,7 +4,6 @@ use Rattle.std.specs.Prelude.{if◌then◌else◌, filter, slice_range}
 use Rattle.std.specs.Char.{is_ascii_digit}
 use Rattle.std.specs.Float.{Format}
 use Rattle.std.specs.Float.Ieee.{round}
-use Rattle.digit_literals.proofs.ForCallers.{value_of_both}
 use Rattle.digit_floats.specs.Near.{IsCutAt}
 
 -- no digit is between a position and itself
@@ -23,6 +22,3 @@ pub no_power : (f : Format) (negative : Bool) (digits places n : ℕ) (down : Bo
     ≡ round f negative digits (10 ^ places)
 no_power f negative digits places n true none = rw none (grind arith)
 no_power f negative digits places n false none = rw none (grind arith)
-
--- to be named in an attribute
-pub ruleset both = (value_of_both)

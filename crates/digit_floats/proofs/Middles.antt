@@ -12,8 +12,8 @@ use Rattle.std.proofs.lemmas.Int.Digits.{digits_value-lt}
 use Rattle.std.proofs.lemmas.List.{length-drop, take-append-drop}
 use Rattle.std.proofs.lemmas.Nat.{mul-pow, mod-mul-add}
 use Rattle.std.proofs.Math.Nat.{one-le-pow}
-use Rattle.digit_literals.specs.Significant.{IsOfFirstDigits}
-use Rattle.digit_literals.proofs.ForCallers.{value_of_both, value_of_pieces, first_no_more}
+use Rattle.digit_values.specs.Significant.{IsOfFirstDigits}
+use Rattle.digit_values.proofs.ForCallers.{value_of_both, value_of_pieces, first_no_more}
 use Rattle.digit_floats.specs.Binary.{IsWholePart}
 use Rattle.digit_floats.specs.Cut.{IsCut}
 use Rattle.digit_floats.proofs.First.{first_and_rest, drop_digits}

@@ -1,5 +1,5 @@
 -- A number between two that round alike rounds as they do.
-use Rattle.std.proofs.Common.{◌≡◌, ℕ, suc, ◌+◌, ◌-◌, ◌*◌, ◌/◌, ◌^◌, ◌<◌, ◌≤◌, Bool, true, false, ◌&&◌, cond, T, ltb, refl, sym, ap, subst, ◌∙◌, true≢false, ◌⊎◌, inl, inr, arith, mul-le-mul_left, mul-le-mul_right}
+use Rattle.std.proofs.Common.{◌≡◌, ℕ, suc, ◌+◌, ◌*◌, ◌/◌, ◌^◌, ◌<◌, ◌≤◌, Bool, true, false, ◌&&◌, cond, T, ltb, refl, sym, ap, subst, ◌∙◌, true≢false, ◌⊎◌, inl, inr, arith, mul-le-mul_left, mul-le-mul_right}
 use mathlib.Core.Bool.{◌||◌}
 use native.Mathlib.Nat.{le_antisymm, le_of_lt, le_trans, le_of_mul-le-mul_right, mul-pos}
 use Rattle.std.specs.Prelude.{min}

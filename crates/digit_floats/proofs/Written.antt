@@ -18,7 +18,7 @@ use Rattle.std.proofs.lemmas.List.{append-nil, length-append, length-take-le}
 use Rattle.std.proofs.lemmas.Str.{IsUtf8-from_ascii}
 use Rattle.std.proofs.lemmas.Str.Ascii.{IsAscii-nil, IsAscii-cons}
 use Rattle.std.proofs.lemmas.Str.Parse.{digit_from_value}
-use Rattle.digit_literals.proofs.ForCallers.{value_of_both}
+use Rattle.digit_values.proofs.ForCallers.{value_of_both}
 use Rattle.digit_floats.specs.declared.long.Kept.{Kept}
 use Rattle.digit_floats.specs.Cut.{room, IsKept, last_digit, four_digits, cut_parts}
 use Rattle.digit_floats.proofs.Cut.{IsWritten, round_cut}

@@ -3,7 +3,7 @@ use Rattle.std.specs.Prelude.{ℕ, ◌-◌, Bool, if◌then◌else◌, List, ◌
 use Rattle.std.specs.Int.{saturate_signed, w64}
 use Rattle.std.specs.Str.Parse.{digits_value}
 use Rattle.lexical_digits.specs.declared.skip.component.Component.TheVariants.{Integer}
-use Rattle.digit_literals.specs.Significant.{significant}
+use Rattle.digit_values.specs.Significant.{significant}
 use Rattle.digit_floats.specs.declared.decimal.Decimal.{Decimal}
 use Rattle.digit_floats.specs.declared.error.FloatError.{FloatError}
 use Rattle.digit_floats.specs.declared.parts.Marks.{Marks}

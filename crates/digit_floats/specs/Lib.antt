@@ -2,13 +2,15 @@ pub mod Binary
 pub mod Bytes
 pub mod Cut
 pub mod Decimals
+pub mod Eights
 pub mod Errors
 pub mod Exact
 pub mod Float
 pub mod Follows
 pub mod Hexadecimal
+pub mod Moves
 pub mod Near
 pub mod Parts
-pub mod Plain
+pub mod Reads
+pub mod Rounds
 pub mod Separators
-pub mod Scaled

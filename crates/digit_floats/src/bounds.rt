@@ -5,11 +5,12 @@ ghost use Rattle.std.specs.Prelude.{◌≡◌, true, false, ◌+◌, ◌-◌, �
 ghost use Rattle.std.specs.Float.{Format};
 ghost use Rattle.std.specs.Float.Ieee.{prec, units, round};
 ghost use Rattle.digit_floats.specs.Near.{IsScaled, IsCutAt};
+ghost use Rattle.digit_floats.specs.Rounds.{nearest_decimal};
 
 use super::binary::nearest_binary;
 use super::float::{Float, signed};
-use super::near::normalized;
-use super::powers::{row, scale};
+use super::near::{LOWER_BITS, normalized};
+use super::powers::{POWER_OF_ONE, POWERS, SCALE_BIAS, row, scale};
 
 /// Whether two counts of units, each with its scale, are one number. A power of two is the greatest
 /// count of a scale, and the least of the next.
@@ -45,8 +46,8 @@ fn round_between<F: Float>(digits: u64, more: u64, power: u64) -> Option<F>
     let (shifted, zeros) = normalized(digits);
     let least = (shifted as u128 * row(power) as u128) >> 64;
     let most = least + 2 + (more << zeros) as u128;
-    let above = (64 + scale(power) + F::least()) as u128;
-    let below = (1200 + zeros) as u128;
+    let above = (LOWER_BITS + scale(power) + F::least()) as u128;
+    let below = (SCALE_BIAS + zeros) as u128;
     let precision = F::precision();
     let (count, units) = nearest_binary(least, false, above, below, precision);
     let (last_count, last_units) = nearest_binary(most, false, above, below, precision);
@@ -65,9 +66,9 @@ fn powers_of(places: u64, cut: u64, down: bool, power: u64) -> (u64, u64)
     ensures down { result.1 ≡ places + (if down then power else 0) }
 {
     if down {
-        (cut + 342, places + power)
+        (cut + POWER_OF_ONE, places + power)
     } else {
-        (cut + 342 + power, places)
+        (cut + POWER_OF_ONE + power, places)
     }
 }
 
@@ -86,14 +87,13 @@ pub fn round_bounds<F: Float>(
     requires places { places < 2 ^ 63 }
     requires power { power < 2 ^ 32 }
     ensures { IfSome result (λ x. (n : ℕ) → IsCutAt n digits cut
-        → F.value x ≡ round F.format negative
-        (n * 10 ^ (if down then 0 else power)) (10 ^ (places + (if down then power else 0)))) }
+        → F.value x ≡ nearest_decimal F.format negative n places down power) }
 {
     let (up, below) = powers_of(places, cut, down, power);
     if up < below {
         return Some(signed(negative, F::of_units(0, 0)));
     }
-    if up - below >= 651 {
+    if up - below >= POWERS {
         return Some(signed(negative, F::infinity()));
     }
     let x: F = round_between(digits, cut.min(1), up - below)?;

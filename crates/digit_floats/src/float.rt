@@ -6,7 +6,7 @@ ghost use Rattle.std.specs.Float.{Format, NotNan, inf, nan, binary32, binary64};
 ghost use Rattle.std.specs.Float.Ieee.{prec, low, neg, round, units};
 ghost use Rattle.std.specs.Float.Parse.{parse_float as std_float};
 
-use super::exact::{ten_to_f32, ten_to_f64};
+use super::powers::{ten_to_f32, ten_to_f64};
 
 /// `f64` and `f32`.
 pub trait Float: Copy {

@@ -16,7 +16,7 @@ use super::binary::round_binary;
 use super::error::FloatError;
 use super::float::{Float, signed};
 use super::parts::{Marks, Power, read_exponent, read_part, read_sign};
-use digit_literals::has_byte;
+use digit_values::has_byte;
 use lexical_digits::skip::Component;
 
 /// The hexadecimal digits of integer and fraction, and where they are in their text.
@@ -55,7 +55,7 @@ pub fn read_hex_mantissa(text: &[u8], word: u128, at: usize, point: u8) -> HexMa
         ≡ (if stands (is_point point) text.now e then e + 1 else e) }
     ensures end { result.end ≡ mantissa_end word text.now point at }
 {
-    let (integer, whole_end) = read_part(text, word, Component::Integer, at, 0, 0);
+    let (integer, whole_end) = read_part(text, word, Component::Integer, at, 0);
     if !has_byte(text, whole_end, point) {
         return HexMantissa {
             digits: integer.count,
@@ -66,7 +66,7 @@ pub fn read_hex_mantissa(text: &[u8], word: u128, at: usize, point: u8) -> HexMa
             end: whole_end,
         };
     }
-    let (fraction, end) = read_part(text, word, Component::Fraction, whole_end + 1, 0, 0);
+    let (fraction, end) = read_part(text, word, Component::Fraction, whole_end + 1, 0);
     HexMantissa {
         digits: integer.count + fraction.count,
         places: fraction.count,

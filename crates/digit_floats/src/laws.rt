@@ -11,9 +11,7 @@ ghost use Rattle.digit_floats.specs.Float.{IsDecimal, plain_marks, past_sign, pa
 ghost use Rattle.digit_floats.specs.Bytes.{stands, is_minus};
 ghost use Rattle.digit_floats.specs.declared.error.FloatError.{FloatError};
 ghost use Rattle.digit_floats.specs.declared.parts.Marks.{Marks};
-ghost use Rattle.digit_floats.specs.Decimals.{read_decimal_at};
 ghost use Rattle.digit_floats.specs.Follows.{IsSameFloatUpTo};
-ghost use Rattle.digit_floats.specs.Scaled.{read_scaled_at};
 ghost use Rattle.digit_floats.specs.Separators.{HasNoSeparator};
 
 /// On a text without separators, all of which is a float, std's `parse` answers the same float.
@@ -56,18 +54,6 @@ pub fn what_follows_changes_no_float()
     ensures { (word : ℕ) (marks : Marks) (one other : List ℕ) (at start : ℕ) (f : Format) →
         IsSameFloatUpTo word marks one other at → start ≤ at →
         read_at word one marks f start ≡ read_at word other marks f start }
-{}
-
-/// The same of a decimal number, and of a scaled one: [`what_follows_changes_no_float`].
-pub fn what_follows_changes_no_decimal()
-    ensures decimal { (word : ℕ) (marks : Marks) (one other : List ℕ) (at start : ℕ) →
-        IsSameFloatUpTo word marks one other at → start ≤ at →
-        read_decimal_at word one marks start ≡ read_decimal_at word other marks start }
-    ensures scaled { (word : ℕ) (marks : Marks) (one other : List ℕ)
-        (at places least most start : ℕ) →
-        IsSameFloatUpTo word marks one other at → start ≤ at →
-        read_scaled_at word one marks.point places least most start
-        ≡ read_scaled_at word other marks.point places least most start }
 {}
 
 /// A float that was written is read: perhaps a minus, digits, perhaps a point and digits, and

@@ -4,21 +4,19 @@
 mod binary;
 mod bounds;
 mod decimal;
+mod eights;
 mod error;
 mod exact;
 mod float;
 mod hexadecimal;
 pub mod laws;
-mod list;
 mod long;
 mod middle;
 mod near;
 mod parts;
-mod plain;
 mod powers;
 mod read;
 mod round;
-mod scaled;
 mod zeros;
 
 pub use self::binary::round_integer;
@@ -26,11 +24,10 @@ pub use self::decimal::{Decimal, decimal_of, read_decimal_from};
 pub use self::error::FloatError;
 pub use self::float::Float;
 pub use self::hexadecimal::{HexMantissa, read_hex_float_from, read_hex_mantissa, round_hex};
-pub use self::list::{Floats, read_float_list};
 pub use self::parts::{
     Mantissa, Marks, Power, has_mark, read_exponent, read_mantissa, read_short_exponent,
-    read_short_exponent_here, read_short_fraction, read_short_whole,
+    read_short_exponent_here, read_short_fraction, read_short_whole, read_sign,
 };
 pub use self::read::{parse_float, parse_float_from, read_float, read_float_from};
 pub use self::round::{round_few, round_few_with, round_parts};
-pub use self::scaled::{ScaledError, parse_scaled, read_scaled_from, read_scaled_up_to};
+pub use self::zeros::are_zeros;

@@ -2,10 +2,10 @@
 //! floats is exact.
 
 ghost use Rattle.std.specs.Prelude.{◌≡◌, ◌+◌, ◌-◌, ◌*◌, ◌^◌, ◌<◌, ◌≤◌, ◌++◌, ℕ, min, if◌then◌else◌, IfSome};
-ghost use Rattle.std.specs.Float.Ieee.{round};
 ghost use Rattle.std.specs.Str.Parse.{digits_value};
 ghost use Rattle.digit_floats.specs.Cut.{IsCut};
 ghost use Rattle.digit_floats.specs.Parts.{integer_of, fraction_of, IsMantissa};
+ghost use Rattle.digit_floats.specs.Rounds.{IsRounded};
 
 use super::binary::round_binary;
 use super::float::{Float, signed};
@@ -75,11 +75,8 @@ pub fn round_middle<F: Float>(
     power: Power,
 ) -> Option<F>
     requires { IsMantissa text.now mantissa }
-    ensures { IfSome result (λ x. (n : ℕ) → power.value ≡ min n (2 ^ 64 - 1)
-        → F.value x ≡ round F.format negative
-        (digits_value 10 (integer_of text.now mantissa ++ fraction_of text.now mantissa)
-        * 10 ^ (if power.negative then 0 else n))
-        (10 ^ (mantissa.places + (if power.negative then n else 0)))) }
+    ensures { IfSome result (λ x.
+        IsRounded F.format negative text.now mantissa power (F.value x)) }
 {
     if mantissa.dropped > mantissa.places {
         return None;

@@ -1,12 +1,19 @@
 //! A float by one product of its digits with the 64 leading bits of a power of ten.
 
-ghost use Rattle.std.specs.Prelude.{◌≡◌, false, ◌+◌, ◌-◌, ◌*◌, ◌%◌, ◌^◌, ◌<◌, ◌≤◌, ℕ, IfSome, if◌then◌else◌};
+ghost use Rattle.std.specs.Prelude.{◌≡◌, false, ◌+◌, ◌-◌, ◌*◌, ◌%◌, ◌^◌, ◌<◌, ◌≤◌, ℕ, IfSome};
 ghost use Rattle.std.specs.Float.{Format};
 ghost use Rattle.std.specs.Float.Ieee.{prec, low, units, round};
 ghost use Rattle.digit_floats.specs.Near.{IsScaled, IsCutAt};
+ghost use Rattle.digit_floats.specs.Rounds.{nearest_decimal};
 
 use super::float::{Float, signed};
-use super::powers::{row, scale};
+use super::powers::{POWER_OF_ONE, POWERS, SCALE_BIAS, row, scale};
+
+/// How many bits of a product of 128 are below its upper half.
+pub const LOWER_BITS: u64 = 64;
+
+/// How many bits the upper half has at least, without the last digit, which says half a unit.
+const UPPER_BITS: u64 = 62;
 
 /// The digits shifted up until the top bit is set, and by how much.
 #[inline(always)]
@@ -32,7 +39,7 @@ fn halves_of(high: u64, precision: u64) -> (u64, u64, u64, u64)
     ensures few { result.0 < 2 ^ (precision + 1) }
 {
     let top = high >> 63;
-    let drop = 62 - precision + top;
+    let drop = UPPER_BITS - precision + top;
     let halves = high >> drop;
     let unit = 1 << drop;
     let rest = high % unit;
@@ -47,7 +54,7 @@ fn is_at_edge(high: u64, precision: u64) -> bool
     ensures zeros { result ≡ false → 0 < high % 2 ^ (62 - precision) }
     ensures ones { result ≡ false → high % 2 ^ (62 - precision) + 1 < 2 ^ (62 - precision) }
 {
-    let unit = 1 << (62 - precision);
+    let unit = 1 << (UPPER_BITS - precision);
     (high % unit + 1) % unit < 2
 }
 
@@ -79,8 +86,8 @@ pub fn nearest_units(
     let product = shifted as u128 * row(power) as u128;
     let high = (product >> 64) as u64;
     let (halves, rest, room, top) = halves_of(high, precision);
-    let above = scale(power) + least + 126 + top;
-    let below = 1200 + precision + zeros;
+    let above = scale(power) + least + (LOWER_BITS + UPPER_BITS) + top;
+    let below = SCALE_BIAS + precision + zeros;
     // no subnormal and no infinite float: the least scale is 1, and the greatest this bound
     let scale = above.wrapping_sub(below);
     if scale >= 2 * (least + 2 - precision) - 1 {
@@ -132,8 +139,7 @@ pub fn round_from<F: Float>(
     requires places { places < 2 ^ 63 }
     requires power { power < 2 ^ 32 }
     ensures { IfSome result (λ x. (n : ℕ) → IsCutAt n digits cut
-        → F.value x ≡ round F.format negative
-        (n * 10 ^ (if down then 0 else power)) (10 ^ (places + (if down then power else 0)))) }
+        → F.value x ≡ nearest_decimal F.format negative n places down power) }
 {
     let exponent = if down {
         0u64.wrapping_sub(power)
@@ -141,8 +147,10 @@ pub fn round_from<F: Float>(
         power
     };
     // one test for both ends: what is below 0 wraps
-    let row = (cut + 342).wrapping_sub(places).wrapping_add(exponent);
-    if row >= 651 {
+    let row = (cut + POWER_OF_ONE)
+        .wrapping_sub(places)
+        .wrapping_add(exponent);
+    if row >= POWERS {
         return None;
     }
     let x: F = nearest(digits, cut.min(1), row)?;
@@ -165,8 +173,7 @@ fn round_cut_apart<F: Float>(
     requires places { places < 2 ^ 63 }
     requires power { power < 2 ^ 32 }
     ensures { IfSome result (λ x. (n : ℕ) → IsCutAt n digits cut
-        → F.value x ≡ round F.format negative
-        (n * 10 ^ (if down then 0 else power)) (10 ^ (places + (if down then power else 0)))) }
+        → F.value x ≡ nearest_decimal F.format negative n places down power) }
 {
     round_from(negative, digits, cut, places, down, power)
 }
@@ -187,8 +194,7 @@ pub fn round_cut<F: Float>(
     requires places { places < 2 ^ 63 }
     requires power { power < 2 ^ 32 }
     ensures { IfSome result (λ x. (n : ℕ) → IsCutAt n digits cut
-        → F.value x ≡ round F.format negative
-        (n * 10 ^ (if down then 0 else power)) (10 ^ (places + (if down then power else 0)))) }
+        → F.value x ≡ nearest_decimal F.format negative n places down power) }
 {
     match round_cut_apart(negative, digits, cut, places, down, power) {
         Some(x) => Some(x),

@@ -1,20 +1,19 @@
 //! Sign, mantissa and exponent of a number, each component from where it begins.
 
-ghost use Rattle.std.specs.Prelude.{◌≡◌, true, ◌+◌, ◌-◌, ◌^◌, ◌<◌, ◌≤◌, min, if◌then◌else◌, length, filter, slice_range, IsTrue, IfSome, IfOk, IfErr, OnOk, Ok, Err, MatchResult};
+ghost use Rattle.std.specs.Prelude.{◌≡◌, true, false, ◌+◌, ◌-◌, ◌^◌, ◌<◌, ◌≤◌, min, if◌then◌else◌, length, filter, slice_range, IsTrue, IfSome, IfOk, IfErr, OnOk, Ok, Err, MatchResult};
 ghost use Rattle.std.specs.Char.{is_ascii_digit, is_ascii_hexdigit};
 ghost use Rattle.std.specs.Str.Parse.{digits_value, digits_value_after};
 ghost use Rattle.lexical_format.specs.Word.{exponent_radix, is_supported};
 ghost use Rattle.lexical_digits.specs.State.{rule_of};
 ghost use Rattle.lexical_digits.specs.declared.skip.component.Component.TheVariants.{Integer, Fraction, Exponent};
-ghost use Rattle.digit_literals.specs.First.{ReadsFirst};
 ghost use Rattle.digit_floats.specs.Bytes.{stands, is_minus, is_point, is_mark};
 ghost use Rattle.digit_floats.specs.Float.{IsDecimal, past_sign, digits_from, digits_end, fraction_digits, mantissa_end, exponent_digits, exponent_end, exponent_negative};
 ghost use Rattle.digit_floats.specs.Float.{end_at};
-ghost use Rattle.digit_floats.specs.Parts.{integer_of, fraction_of, exponent_of, IsMantissa, IsShort, IsPower, IsParts};
+ghost use Rattle.digit_floats.specs.Parts.{integer_of, fraction_of, exponent_of, HasFraction, IsFew, IsMantissa, IsMantissaFrom, IsPart, IsParts, IsPower, IsPowerFrom, IsShort, IsWhole};
 
+use super::eights::read_decimal_part;
 use super::error::FloatError;
-use super::plain::read_decimal_part;
-use digit_literals::{
+use digit_values::{
     FirstDigits, has_byte, read_few_digits_from, read_first_digits_from, read_some_digits_from,
     read_some_digits_here,
 };
@@ -55,7 +54,7 @@ pub fn read_sign(text: &[u8], at: usize) -> (bool, usize)
 /// [`read_sign`], by no branch that depends on a minus. It is only for speed, of a number after
 /// which none is read (the peers' row of coordinates).
 #[inline(always)]
-pub fn pass_sign(text: &[u8], at: usize) -> (bool, usize)
+pub fn read_last_sign(text: &[u8], at: usize) -> (bool, usize)
     requires { at ≤ length text.now }
     ensures minus { result.0 ≡ stands is_minus text.now at }
     ensures after { result.1 ≡ past_sign text.now at }
@@ -83,7 +82,8 @@ pub fn has_mark(text: &[u8], at: usize, mark: u8) -> bool
     }
 }
 
-/// The first digits of a component from a position on, after those of a number, and where they end.
+/// The first digits of a component from a position on, as many as leave their value at most `most`,
+/// and where all its digits end.
 #[inline(always)]
 #[tactic(auto, using(crate::proofs::Decimals::firsts), unfolding(crate::specs::Float::components))]
 pub fn read_part(
@@ -91,19 +91,16 @@ pub fn read_part(
     word: u128,
     component: Component,
     at: usize,
-    before: u64,
     most: u64,
 ) -> (FirstDigits, usize)
     requires supported { IsTrue (is_supported word) }
     requires within { at ≤ length text.now }
-    requires before { before ≤ most }
     ensures count { result.0.count ≡ length (digits_from word text.now component at) }
     ensures whole { result.0.dropped ≡ 0
-        → result.0.value ≡ digits_value_after (rule_of word component).radix before
+        → result.0.value ≡ digits_value_after (rule_of word component).radix 0
         (digits_from word text.now component at) }
-    ensures dropped { result.0.dropped ≤ result.0.count }
     ensures over { 0 < result.0.dropped
-        → most < digits_value_after (rule_of word component).radix before
+        → most < digits_value_after (rule_of word component).radix 0
         (digits_from word text.now component at) }
     ensures bytes { (rule_of word component).radix ≡ 10
         → filter is_ascii_digit (slice_range text.now at result.1)
@@ -111,14 +108,11 @@ pub fn read_part(
     ensures hex_bytes { (rule_of word component).radix ≡ 16
         → filter is_ascii_hexdigit (slice_range text.now at result.1)
         ≡ digits_from word text.now component at }
-    ensures fits { result.0.value ≤ most }
-    ensures first { ReadsFirst (rule_of word component).radix most before
-        (digits_from word text.now component at) result.0 }
     ensures end { result.1 ≡ digits_end word text.now component at }
     ensures onward { at + result.0.count ≤ result.1 }
     ensures within { result.1 ≤ length text.now }
 {
-    read_first_digits_from(text, word, component, at, before, most)
+    read_first_digits_from(text, word, component, at, 0, most)
 }
 
 /// The digits of integer and fraction, and where they are in their text.
@@ -143,55 +137,69 @@ pub struct Mantissa {
     pub end: usize,
 }
 
+impl Mantissa {
+    /// An integer alone, whose digits were read: its first ones, and where it ends.
+    #[inline(always)]
+    fn whole(text: &[u8], word: u128, at: usize, read: (FirstDigits, usize)) -> Mantissa
+        requires { IsPart word text.now Integer at 0 read }
+        ensures { IsWhole word text.now at read result }
+    {
+        let (digits, end) = read;
+        Mantissa {
+            value: digits.value,
+            digits: digits.count,
+            places: 0,
+            dropped: digits.dropped,
+            start: at,
+            whole_end: end,
+            fraction_start: end,
+            end,
+        }
+    }
+
+    /// An integer alone, and then a byte and a fraction, whose digits were read.
+    #[inline(always)]
+    fn with_fraction(self, text: &[u8], word: u128, read: (FirstDigits, usize)) -> Mantissa
+        requires is { IsMantissa text.now self }
+        requires places { self.places ≡ 0 }
+        requires end { self.end ≡ self.whole_end }
+        requires dropped { self.dropped ≤ self.digits }
+        requires fraction { IsPart word text.now Fraction (self.whole_end + 1) self.value read }
+        ensures { HasFraction text.now self read result }
+    {
+        let (digits, end) = read;
+        Mantissa {
+            value: digits.value,
+            digits: self.digits + digits.count,
+            places: digits.count,
+            dropped: self.dropped + digits.dropped,
+            fraction_start: self.whole_end + 1,
+            end,
+            ..self
+        }
+    }
+}
+
 /// [`read_mantissa`], where `by_eights` says whether each component is looked at for eight digits
 /// at once first: that is faster of more than 19 digits.
 #[inline(always)]
-#[tactic(auto, using(crate::proofs::Mantissas::both), unfolding(crate::specs::Float::mantissas))]
+#[tactic(auto, unfolding(crate::specs::Float::mantissas))]
 fn read_mantissa_by(text: &[u8], word: u128, at: usize, point: u8, by_eights: bool) -> Mantissa
     requires supported { IsTrue (is_supported word) }
     requires decimal { IsDecimal word }
     requires within { at ≤ length text.now }
-    ensures is { IsMantissa text.now result }
-    ensures integer { integer_of text.now result ≡ digits_from word text.now Integer at }
-    ensures fraction { let e = digits_end word text.now Integer at in
-        fraction_of text.now result ≡ fraction_digits word text.now point e }
-    ensures start { result.start ≡ at }
-    ensures whole_end { result.whole_end ≡ digits_end word text.now Integer at }
+    ensures is { IsMantissaFrom word point text.now at result }
     ensures fraction_start { let e = digits_end word text.now Integer at in result.fraction_start
         ≡ (if stands (is_point point) text.now e then e + 1 else e) }
-    ensures end { result.end ≡ mantissa_end word text.now point at }
 {
-    let (integer, whole_end) = read_decimal_part(text, word, Component::Integer, at, 0, by_eights);
-    if !has_byte(text, whole_end, point) {
-        return Mantissa {
-            value: integer.value,
-            digits: integer.count,
-            places: 0,
-            dropped: integer.dropped,
-            start: at,
-            whole_end,
-            fraction_start: whole_end,
-            end: whole_end,
-        };
+    let integer = read_decimal_part(text, word, Component::Integer, at, 0, by_eights);
+    let whole = Mantissa::whole(text, word, at, integer);
+    if !has_byte(text, whole.whole_end, point) {
+        return whole;
     }
-    let (fraction, end) = read_decimal_part(
-        text,
-        word,
-        Component::Fraction,
-        whole_end + 1,
-        integer.value,
-        by_eights,
-    );
-    Mantissa {
-        value: fraction.value,
-        digits: integer.count + fraction.count,
-        places: fraction.count,
-        dropped: integer.dropped + fraction.dropped,
-        start: at,
-        whole_end,
-        fraction_start: whole_end + 1,
-        end,
-    }
+    let at = whole.whole_end + 1;
+    let fraction = read_decimal_part(text, word, Component::Fraction, at, whole.value, by_eights);
+    whole.with_fraction(text, word, fraction)
 }
 
 /// Reads the digits of integer and fraction from a position on, without a sign. There may be none:
@@ -214,29 +222,56 @@ pub fn read_mantissa(text: &[u8], word: u128, at: usize, point: u8) -> Mantissa
     read_mantissa_by(text, word, at, point, false)
 }
 
-/// The digits of an integer, if there are 1 to 19, and no separator is met.
+/// The first digits of a component where none was dropped: written as a 0, so that no caller asks.
+#[inline(always)]
+fn undropped(digits: FirstDigits) -> FirstDigits
+    requires { digits.dropped ≡ 0 }
+    ensures { result ≡ digits }
+{
+    FirstDigits {
+        dropped: 0,
+        ..digits
+    }
+}
+
+/// The digits of a component, if there are 1 to 19, and no separator is met.
 #[inline(always)]
 #[tactic(auto, using(crate::proofs::Decimals::firsts), unfolding(crate::specs::Float::components))]
-fn read_some_part(text: &[u8], word: u128, at: usize) -> Option<(FirstDigits, usize)>
+fn read_some_part(
+    text: &[u8],
+    word: u128,
+    component: Component,
+    at: usize,
+) -> Option<(FirstDigits, usize)>
     requires supported { IsTrue (is_supported word) }
-    requires decimal { IsDecimal word }
+    requires decimal { (rule_of word component).radix ≡ 10 }
     requires within { at ≤ length text.now }
-    ensures count { IfSome result (λ r.
-        r.0.count ≡ length (digits_from word text.now Integer at)) }
-    ensures bytes { IfSome result (λ r. filter is_ascii_digit (slice_range text.now at r.1)
-        ≡ digits_from word text.now Integer at) }
-    ensures first { IfSome result (λ r. ReadsFirst 10 (10 ^ 19 - 1)
-        0 (digits_from word text.now Integer at) r.0) }
-    ensures few { IfSome result (λ r. r.0.count ≤ 19) }
-    ensures all { IfSome result (λ r. r.0.dropped ≡ 0) }
-    ensures end { IfSome result (λ r. r.1 ≡ digits_end word text.now Integer at) }
-    ensures onward { IfSome result (λ r. at + r.0.count ≤ r.1) }
-    ensures within { IfSome result (λ r. r.1 ≤ length text.now) }
-    ensures below { IfSome result (λ r. r.0.value < 10 ^ r.0.count) }
+    ensures is { IfSome result (IsPart word text.now component at 0) }
+    ensures few { IfSome result (IsFew 0) }
     ensures some { IfSome result (λ r. 0 < r.0.count) }
     ensures digit { IfSome result (λ _. stands is_ascii_digit text.now at ≡ true) }
 {
-    read_some_digits_from(text, word, Component::Integer, at)
+    let (digits, end) = read_some_digits_from(text, word, component, at)?;
+    Some((undropped(digits), end))
+}
+
+/// [`read_some_part`] in the place of its call.
+#[inline(always)]
+#[tactic(auto, using(crate::proofs::Decimals::firsts), unfolding(crate::specs::Float::components))]
+fn read_some_part_here(
+    text: &[u8],
+    word: u128,
+    component: Component,
+    at: usize,
+) -> Option<(FirstDigits, usize)>
+    requires supported { IsTrue (is_supported word) }
+    requires decimal { (rule_of word component).radix ≡ 10 }
+    requires within { at ≤ length text.now }
+    ensures is { IfSome result (IsPart word text.now component at 0) }
+    ensures few { IfSome result (IsFew 0) }
+    ensures some { IfSome result (λ r. 0 < r.0.count) }
+{
+    read_some_digits_here(text, word, component, at)
 }
 
 /// The digits of a fraction, after so many of an integer, if there are at most 19 in all, and no
@@ -255,19 +290,11 @@ fn read_few_part(
     requires within { at ≤ length text.now }
     requires before { before < 10 ^ counted }
     requires counted { counted ≤ 19 }
-    ensures count { IfSome result (λ r.
-        r.0.count ≡ length (digits_from word text.now Fraction at)) }
-    ensures bytes { IfSome result (λ r. filter is_ascii_digit (slice_range text.now at r.1)
-        ≡ digits_from word text.now Fraction at) }
-    ensures first { IfSome result (λ r. ReadsFirst 10 (10 ^ 19 - 1)
-        before (digits_from word text.now Fraction at) r.0) }
-    ensures few { IfSome result (λ r. counted + r.0.count ≤ 19) }
-    ensures all { IfSome result (λ r. r.0.dropped ≡ 0) }
-    ensures end { IfSome result (λ r. r.1 ≡ digits_end word text.now Fraction at) }
-    ensures onward { IfSome result (λ r. at + r.0.count ≤ r.1) }
-    ensures within { IfSome result (λ r. r.1 ≤ length text.now) }
+    ensures is { IfSome result (IsPart word text.now Fraction at before) }
+    ensures few { IfSome result (IsFew counted) }
 {
-    read_few_digits_from(text, word, Component::Fraction, at, before, counted)
+    let (digits, end) = read_few_digits_from(text, word, Component::Fraction, at, before, counted)?;
+    Some((undropped(digits), end))
 }
 
 /// The integer of a mantissa from a position on, where it has 1 to 19 digits, and no separator is
@@ -283,17 +310,8 @@ pub fn read_short_whole(text: &[u8], word: u128, at: usize) -> Option<Mantissa>
     ensures some { IfSome result (λ m. 0 < m.digits) }
     ensures digit { IfSome result (λ _. stands is_ascii_digit text.now at ≡ true) }
 {
-    let (integer, whole_end) = read_some_part(text, word, at)?;
-    Some(Mantissa {
-        value: integer.value,
-        digits: integer.count,
-        places: 0,
-        dropped: 0,
-        start: at,
-        whole_end,
-        fraction_start: whole_end,
-        end: whole_end,
-    })
+    let read = read_some_part(text, word, Component::Integer, at)?;
+    Some(Mantissa::whole(text, word, at, read))
 }
 
 /// The mantissa whose integer was read by [`read_short_whole`], where it has at most 19 digits, no
@@ -324,17 +342,8 @@ pub fn read_short_fraction(text: &[u8], word: u128, whole: Mantissa, point: u8) 
     if at >= text.len() {
         return None;
     }
-    let (fraction, end) = read_few_part(text, word, at, whole.value, whole.digits)?;
-    Some(Mantissa {
-        value: fraction.value,
-        digits: whole.digits + fraction.count,
-        places: fraction.count,
-        dropped: 0,
-        start: whole.start,
-        whole_end: whole.whole_end,
-        fraction_start: at,
-        end,
-    })
+    let read = read_few_part(text, word, at, whole.value, whole.digits)?;
+    Some(whole.with_fraction(text, word, read))
 }
 
 /// An exponent.
@@ -346,6 +355,22 @@ pub struct Power {
     pub value: u64,
     /// Where its digits end.
     pub end: usize,
+}
+
+impl Power {
+    /// The exponent of a number that has none and ends at a position: 0.
+    #[inline(always)]
+    pub const fn none(end: usize) -> Power
+        ensures negative { result.negative ≡ false }
+        ensures value { result.value ≡ 0 }
+        ensures end { result.end ≡ end }
+    {
+        Power {
+            negative: false,
+            value: 0,
+            end,
+        }
+    }
 }
 
 /// Reads an exponent, if its mark is at this position: without a mark it is 0 and ends here. The
@@ -372,14 +397,10 @@ pub fn read_exponent(text: &[u8], word: u128, at: usize, mark: u8) -> Result<Pow
     ensures stops { IfErr result (λ stop. stop ≡ exponent_end word text.now mark at) }
 {
     if !has_mark(text, at, mark) {
-        return Ok(Power {
-            negative: false,
-            value: 0,
-            end: at,
-        });
+        return Ok(Power::none(at));
     }
     let (negative, start) = read_sign(text, at + 1);
-    let (part, end) = read_part(text, word, Component::Exponent, start, 0, u64::MAX);
+    let (part, end) = read_part(text, word, Component::Exponent, start, u64::MAX);
     if part.count == 0 {
         return Err(end);
     }
@@ -395,24 +416,6 @@ pub fn read_exponent(text: &[u8], word: u128, at: usize, mark: u8) -> Result<Pow
     })
 }
 
-/// The digits of an exponent, if there are 1 to 19, and no separator is met.
-#[inline(always)]
-#[tactic(auto, unfolding(crate::specs::Float::digits_from, crate::specs::Float::digits_end))]
-fn read_power_digits(text: &[u8], word: u128, at: usize) -> Option<(FirstDigits, usize)>
-    requires supported { IsTrue (is_supported word) }
-    requires decimal { exponent_radix word ≡ 10 }
-    requires within { at ≤ length text.now }
-    ensures first { IfSome result (λ r. ReadsFirst 10 (10 ^ 19 - 1) 0
-        (digits_from word text.now Exponent at) r.0) }
-    ensures all { IfSome result (λ r. r.0.dropped ≡ 0) }
-    ensures end { IfSome result (λ r. r.1 ≡ digits_end word text.now Exponent at) }
-    ensures onward { IfSome result (λ r. at + r.0.count ≤ r.1) }
-    ensures within { IfSome result (λ r. r.1 ≤ length text.now) }
-    ensures some { IfSome result (λ r. 0 < r.0.count) }
-{
-    read_some_digits_from(text, word, Component::Exponent, at)
-}
-
 /// [`read_exponent`] where its mark is at a position, if 1 to 19 digits follow, and no separator is
 /// met. Otherwise it answers `None`.
 #[inline(always)]
@@ -422,38 +425,16 @@ pub fn read_short_exponent(text: &[u8], word: u128, at: usize, mark: u8) -> Opti
     requires decimal { exponent_radix word ≡ 10 }
     requires mark { stands (is_mark mark) text.now at ≡ true }
     requires within { at < length text.now }
-    ensures value { IfSome result (λ p.
-        p.value ≡ min (digits_value 10 (exponent_digits word text.now mark at)) (2 ^ 64 - 1)) }
-    ensures negative { IfSome result (λ p. p.negative ≡ exponent_negative word text.now mark at) }
-    ensures end { IfSome result (λ p. p.end ≡ exponent_end word text.now mark at) }
-    ensures within { IfSome result (λ p. (at ≤ p.end) × (p.end ≤ length text.now)) }
+    ensures is { IfSome result (IsPowerFrom word mark text.now at) }
     ensures some { IfSome result (λ _. 0 < length (exponent_digits word text.now mark at)) }
 {
     let (negative, start) = read_sign(text, at + 1);
-    let (part, end) = read_power_digits(text, word, start)?;
+    let (part, end) = read_some_part(text, word, Component::Exponent, start)?;
     Some(Power {
         negative,
         value: part.value,
         end,
     })
-}
-
-/// [`read_power_digits`] in the place of its call.
-#[inline(always)]
-#[tactic(auto, unfolding(crate::specs::Float::digits_from, crate::specs::Float::digits_end))]
-fn read_power_digits_here(text: &[u8], word: u128, at: usize) -> Option<(FirstDigits, usize)>
-    requires supported { IsTrue (is_supported word) }
-    requires decimal { exponent_radix word ≡ 10 }
-    requires within { at ≤ length text.now }
-    ensures first { IfSome result (λ r. ReadsFirst 10 (10 ^ 19 - 1) 0
-        (digits_from word text.now Exponent at) r.0) }
-    ensures all { IfSome result (λ r. r.0.dropped ≡ 0) }
-    ensures end { IfSome result (λ r. r.1 ≡ digits_end word text.now Exponent at) }
-    ensures onward { IfSome result (λ r. at + r.0.count ≤ r.1) }
-    ensures within { IfSome result (λ r. r.1 ≤ length text.now) }
-    ensures some { IfSome result (λ r. 0 < r.0.count) }
-{
-    read_some_digits_here(text, word, Component::Exponent, at)
 }
 
 /// [`read_short_exponent`], whose digits are read in the place of its call. It is only for speed,
@@ -465,15 +446,11 @@ pub fn read_short_exponent_here(text: &[u8], word: u128, at: usize, mark: u8) ->
     requires decimal { exponent_radix word ≡ 10 }
     requires mark { stands (is_mark mark) text.now at ≡ true }
     requires within { at < length text.now }
-    ensures value { IfSome result (λ p.
-        p.value ≡ min (digits_value 10 (exponent_digits word text.now mark at)) (2 ^ 64 - 1)) }
-    ensures negative { IfSome result (λ p. p.negative ≡ exponent_negative word text.now mark at) }
-    ensures end { IfSome result (λ p. p.end ≡ exponent_end word text.now mark at) }
-    ensures within { IfSome result (λ p. (at ≤ p.end) × (p.end ≤ length text.now)) }
+    ensures is { IfSome result (IsPowerFrom word mark text.now at) }
     ensures some { IfSome result (λ _. 0 < length (exponent_digits word text.now mark at)) }
 {
     let (negative, start) = read_sign(text, at + 1);
-    let (part, end) = read_power_digits_here(text, word, start)?;
+    let (part, end) = read_some_part_here(text, word, Component::Exponent, start)?;
     Some(Power {
         negative,
         value: part.value,
@@ -489,22 +466,14 @@ fn read_short_power(text: &[u8], word: u128, at: usize, mark: u8) -> Option<Powe
     requires supported { IsTrue (is_supported word) }
     requires decimal { exponent_radix word ≡ 10 }
     requires within { at ≤ length text.now }
-    ensures value { IfSome result (λ p.
-        p.value ≡ min (digits_value 10 (exponent_digits word text.now mark at)) (2 ^ 64 - 1)) }
-    ensures negative { IfSome result (λ p. p.negative ≡ exponent_negative word text.now mark at) }
-    ensures end { IfSome result (λ p. p.end ≡ exponent_end word text.now mark at) }
-    ensures within { IfSome result (λ p. (at ≤ p.end) × (p.end ≤ length text.now)) }
+    ensures is { IfSome result (IsPowerFrom word mark text.now at) }
     ensures some { IfSome result (λ _. stands (is_mark mark) text.now at ≡ true
         → 0 < length (exponent_digits word text.now mark at)) }
 {
     if has_mark(text, at, mark) {
         return read_short_exponent(text, word, at, mark);
     }
-    Some(Power {
-        negative: false,
-        value: 0,
-        end: at,
-    })
+    Some(Power::none(at))
 }
 
 /// The parts of a number.

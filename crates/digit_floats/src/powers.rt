@@ -1,7 +1,41 @@
-//! The powers of ten from 10 ^ -342 to 10 ^ 308, each cut to its 64 leading bits.
+//! Powers of ten: those that a float holds, and those from 10 ^ -342 to 10 ^ 308, each cut to its
+//! 64 leading bits.
 
-ghost use Rattle.std.specs.Prelude.{◌≡◌, ◌<◌};
+ghost use Rattle.std.specs.Prelude.{◌≡◌, ◌<◌, ◌≤◌};
+ghost use Rattle.digit_floats.specs.Exact.{IsTenTo};
 ghost use Rattle.digit_floats.specs.Near.{IsRow, power_scale};
+
+static TENS_F64: [f64; 23] = [
+    1e0, 1e1, 1e2, 1e3, 1e4, 1e5, 1e6, 1e7, 1e8, 1e9, 1e10, 1e11, 1e12, 1e13, 1e14, 1e15, 1e16,
+    1e17, 1e18, 1e19, 1e20, 1e21, 1e22,
+];
+
+static TENS_F32: [f32; 11] = [1e0, 1e1, 1e2, 1e3, 1e4, 1e5, 1e6, 1e7, 1e8, 1e9, 1e10];
+
+/// A power of ten that an `f64` holds.
+pub fn ten_to_f64(k: u64) -> f64
+    requires { k ≤ 22 }
+    ensures { IsTenTo k result }
+{
+    TENS_F64[k as usize]
+}
+
+/// A power of ten that an `f32` holds.
+pub fn ten_to_f32(k: u64) -> f32
+    requires { k ≤ 10 }
+    ensures { IsTenTo k result }
+{
+    TENS_F32[k as usize]
+}
+
+/// How many powers there are with their leading bits.
+pub const POWERS: u64 = 651;
+
+/// Which of them is 1: the first is 10 to minus this.
+pub const POWER_OF_ONE: u64 = 342;
+
+/// How much more a scale is than the power of two that it says, so that none is below 0.
+pub const SCALE_BIAS: u64 = 1200;
 
 /// The 64 leading bits of 10 ^ (power - 342).
 #[inline(always)]

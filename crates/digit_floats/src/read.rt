@@ -4,10 +4,11 @@ ghost use Rattle.std.specs.Prelude.{◌≡◌, ◌<◌, ◌≤◌, length, IsTru
 ghost use Rattle.std.specs.Float.{NotNan};
 ghost use Rattle.lexical_format.specs.Word.{is_supported};
 ghost use Rattle.digit_floats.specs.Float.{IsDecimal, plain_marks, read_at, parse_at};
+ghost use Rattle.digit_floats.specs.Reads.{ReadsFloat};
 
 use super::error::FloatError;
 use super::float::Float;
-use super::parts::{Marks, Parts, pass_sign, read_parts, read_short_parts, read_sign};
+use super::parts::{Marks, Parts, read_last_sign, read_parts, read_short_parts, read_sign};
 use super::round::{round_parts, round_short, round_unsigned};
 use lexical_digits::skip::{Component, Rule};
 
@@ -23,12 +24,7 @@ fn read_float_apart<F: Float>(
     requires supported { IsTrue (is_supported word) }
     requires decimal { IsDecimal word }
     requires within { start ≤ length text.now }
-    ensures reads { MatchResult result
-        (λ r. read_at word text.now plain_marks F.format start ≡ Ok (F.value r.0, r.1))
-        (λ error. read_at word text.now plain_marks F.format start ≡ Err error) }
-    ensures no_nan { IfOk result (λ r. NotNan (F.value r.0)) }
-    ensures onward { IfOk result (λ r. start < r.1) }
-    ensures within { IfOk result (λ r. r.1 ≤ length text.now) }
+    ensures { ReadsFloat F.format F.value word text.now start result }
 {
     let parts = read_parts(text, word, Marks::PLAIN, start, true)?;
     let x = round_parts::<F>(text, parts.negative, parts.mantissa, parts.power);
@@ -47,12 +43,7 @@ fn read_float_in_groups<F: Float>(
     requires supported { IsTrue (is_supported word) }
     requires decimal { IsDecimal word }
     requires within { start ≤ length text.now }
-    ensures reads { MatchResult result
-        (λ r. read_at word text.now plain_marks F.format start ≡ Ok (F.value r.0, r.1))
-        (λ error. read_at word text.now plain_marks F.format start ≡ Err error) }
-    ensures no_nan { IfOk result (λ r. NotNan (F.value r.0)) }
-    ensures onward { IfOk result (λ r. start < r.1) }
-    ensures within { IfOk result (λ r. r.1 ≤ length text.now) }
+    ensures { ReadsFloat F.format F.value word text.now start result }
 {
     let parts = read_parts(text, word, Marks::PLAIN, start, false)?;
     let x = round_parts::<F>(text, parts.negative, parts.mantissa, parts.power);
@@ -77,12 +68,7 @@ fn read_float_rest<F: Float>(
     requires supported { IsTrue (is_supported word) }
     requires decimal { IsDecimal word }
     requires within { start ≤ length text.now }
-    ensures reads { MatchResult result
-        (λ r. read_at word text.now plain_marks F.format start ≡ Ok (F.value r.0, r.1))
-        (λ error. read_at word text.now plain_marks F.format start ≡ Err error) }
-    ensures no_nan { IfOk result (λ r. NotNan (F.value r.0)) }
-    ensures onward { IfOk result (λ r. start < r.1) }
-    ensures within { IfOk result (λ r. r.1 ≤ length text.now) }
+    ensures { ReadsFloat F.format F.value word text.now start result }
 {
     let read = if has_groups(word) {
         read_float_in_groups::<F>(text, word, start)
@@ -147,13 +133,9 @@ fn read_last_float<F: Float>(
     requires supported { IsTrue (is_supported word) }
     requires decimal { IsDecimal word }
     requires within { start ≤ length text.now }
-    ensures reads { MatchResult result
-        (λ r. read_at word text.now plain_marks F.format start ≡ Ok (F.value r.0, r.1))
-        (λ error. read_at word text.now plain_marks F.format start ≡ Err error) }
-    ensures no_nan { IfOk result (λ r. NotNan (F.value r.0)) }
-    ensures within { IfOk result (λ r. r.1 ≤ length text.now) }
+    ensures { ReadsFloat F.format F.value word text.now start result }
 {
-    let sign = pass_sign(text, start);
+    let sign = read_last_sign(text, start);
     if let Some(parts) = read_short_parts(text, word, Marks::PLAIN, start, sign) {
         let Parts {
             negative,

@@ -5,6 +5,7 @@ ghost use Rattle.std.specs.Float.{NotNan};
 ghost use Rattle.std.specs.Float.Ieee.{round};
 ghost use Rattle.std.specs.Str.Parse.{digits_value};
 ghost use Rattle.digit_floats.specs.Parts.{integer_of, fraction_of, IsMantissa};
+ghost use Rattle.digit_floats.specs.Rounds.{IsRounded};
 
 use super::bounds::round_bounds;
 use super::exact::round_exact;
@@ -57,11 +58,8 @@ pub fn round_few_with<F: Float>(
 ) -> Option<F>
     requires is { IsMantissa text.now mantissa }
     requires few { mantissa.dropped ≡ 0 }
-    ensures value { IfSome result (λ x. (n : ℕ) → power.value ≡ min n (2 ^ 64 - 1)
-        → F.value x ≡ round F.format negative
-        (digits_value 10 (integer_of text.now mantissa ++ fraction_of text.now mantissa)
-        * 10 ^ (if power.negative then 0 else n))
-        (10 ^ (mantissa.places + (if power.negative then n else 0)))) }
+    ensures value { IfSome result (λ x.
+        IsRounded F.format negative text.now mantissa power (F.value x)) }
     ensures no_nan { IfSome result (λ x. NotNan (F.value x)) }
 {
     if power.value > 0x7fff_ffff {
@@ -89,11 +87,8 @@ pub fn round_short<F: Float>(
 ) -> Option<F>
     requires is { IsMantissa text.now mantissa }
     requires few { mantissa.dropped ≡ 0 }
-    ensures value { IfSome result (λ x. (n : ℕ) → power.value ≡ min n (2 ^ 64 - 1)
-        → F.value x ≡ round F.format negative
-        (digits_value 10 (integer_of text.now mantissa ++ fraction_of text.now mantissa)
-        * 10 ^ (if power.negative then 0 else n))
-        (10 ^ (mantissa.places + (if power.negative then n else 0)))) }
+    ensures value { IfSome result (λ x.
+        IsRounded F.format negative text.now mantissa power (F.value x)) }
     ensures no_nan { IfSome result (λ x. NotNan (F.value x)) }
 {
     if power.value == 0 {
@@ -120,11 +115,8 @@ pub fn round_unsigned<F: Float>(
 ) -> Option<F>
     requires is { IsMantissa text.now mantissa }
     requires few { mantissa.dropped ≡ 0 }
-    ensures value { IfSome result (λ x. (n : ℕ) → power.value ≡ min n (2 ^ 64 - 1)
-        → F.value x ≡ round F.format negative
-        (digits_value 10 (integer_of text.now mantissa ++ fraction_of text.now mantissa)
-        * 10 ^ (if power.negative then 0 else n))
-        (10 ^ (mantissa.places + (if power.negative then n else 0)))) }
+    ensures value { IfSome result (λ x.
+        IsRounded F.format negative text.now mantissa power (F.value x)) }
     ensures no_nan { IfSome result (λ x. NotNan (F.value x)) }
 {
     match round_short::<F>(text, false, mantissa, power) {
@@ -138,11 +130,8 @@ pub fn round_unsigned<F: Float>(
 #[inline(always)]
 fn round_far<F: Float>(text: &[u8], negative: bool, mantissa: Mantissa, power: Power) -> Option<F>
     requires { IsMantissa text.now mantissa }
-    ensures { IfSome result (λ x. (n : ℕ) → power.value ≡ min n (2 ^ 64 - 1)
-        → F.value x ≡ round F.format negative
-        (digits_value 10 (integer_of text.now mantissa ++ fraction_of text.now mantissa)
-        * 10 ^ (if power.negative then 0 else n))
-        (10 ^ (mantissa.places + (if power.negative then n else 0)))) }
+    ensures { IfSome result (λ x.
+        IsRounded F.format negative text.now mantissa power (F.value x)) }
 {
     if mantissa.value == 0 || power.value > 0xffff_ffff {
         return None;
@@ -163,11 +152,7 @@ fn round_far<F: Float>(text: &[u8], negative: bool, mantissa: Mantissa, power: P
 #[inline(never)]
 fn round_apart<F: Float>(text: &[u8], negative: bool, mantissa: Mantissa, power: Power) -> F
     requires { IsMantissa text.now mantissa }
-    ensures { (n : ℕ) → power.value ≡ min n (2 ^ 64 - 1)
-        → F.value result ≡ round F.format negative
-        (digits_value 10 (integer_of text.now mantissa ++ fraction_of text.now mantissa)
-        * 10 ^ (if power.negative then 0 else n))
-        (10 ^ (mantissa.places + (if power.negative then n else 0))) }
+    ensures { IsRounded F.format negative text.now mantissa power (F.value result) }
 {
     if let Some(x) = round_middle::<F>(text, negative, mantissa, power) {
         return x;
@@ -189,11 +174,7 @@ fn round_apart<F: Float>(text: &[u8], negative: bool, mantissa: Mantissa, power:
 #[inline(always)]
 fn round_rest<F: Float>(text: &[u8], negative: bool, mantissa: Mantissa, power: Power) -> F
     requires { IsMantissa text.now mantissa }
-    ensures { (n : ℕ) → power.value ≡ min n (2 ^ 64 - 1)
-        → F.value result ≡ round F.format negative
-        (digits_value 10 (integer_of text.now mantissa ++ fraction_of text.now mantissa)
-        * 10 ^ (if power.negative then 0 else n))
-        (10 ^ (mantissa.places + (if power.negative then n else 0))) }
+    ensures { IsRounded F.format negative text.now mantissa power (F.value result) }
 {
     round_apart::<F>(text, negative, mantissa, power)
 }

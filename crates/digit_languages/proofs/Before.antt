@@ -1,6 +1,6 @@
 -- Two texts that are the same before a position, and bytes that pass a test.
-use Rattle.std.proofs.Common.{◌≡◌, ℕ, ◌+◌, ◌<◌, ◌≤◌, Bool, true, false, Option, Some, None, List, length, take, slice_get, refl, arith, inl, inr}
-use Rattle.std.proofs.lemmas.Bool.{cases_lt, eqb-true}
+use Rattle.std.proofs.Common.{◌≡◌, ℕ, ◌+◌, ◌<◌, ◌≤◌, Bool, true, false, Option, Some, None, List, length, take, slice_get, refl, sym, ◌∙◌, arith}
+use Rattle.std.proofs.lemmas.Bool.{eqb-true}
 use Rattle.std.proofs.lemmas.List.{length-take-le, take-take}
 use Rattle.std.proofs.lemmas.Bool.Decides.{nat_tests}
 use Rattle.std.specs.Prelude.{◌==◌}
@@ -10,11 +10,20 @@ use Rattle.lexical_digits.specs.Cursor.{holds_of}
 use Rattle.lexical_digits.specs.declared.skip.rule.Rule.{Rule}
 use Rattle.lexical_digits.specs.declared.skip.rule.Class.TheVariants.{Other}
 use Rattle.lexical_digits.specs.Separators.{is_digit, is_separator, class}
-use Rattle.lexical_digits.specs.Follows.{AreSameUpTo}
 use Rattle.lexical_digits.specs.Laws.Terms.{gets, slice_get_past}
+use Rattle.lexical_digits.proofs.Calls.BothSides.{AreSameFrom, from_start, zero_later, cut_test, cut_before}
 use Rattle.lexical_digits.proofs.Calls.WhatFollows.{same_byte, same_take}
-use Rattle.digit_literals.specs.Numbers.{has_byte}
+use Rattle.digit_values.specs.Bytes.{has_byte}
 use Rattle.digit_languages.specs.Follows.{AreSameBefore}
+
+-- a byte doesn't pass, if there is one
+abbrev pub Fails : (ℕ → Bool) → Option ℕ → Type 0
+Fails p o = holds_of p o ≡ false
+
+pub fails_of : (p q : ℕ → Bool) → ((b : ℕ) → p b ≡ false → q b ≡ false) → (o : Option ℕ)
+    → Fails p o → Fails q o
+fails_of p q within None h = refl
+fails_of p q within (Some b) h = within b h
 
 -- ---- where no number goes on
 
@@ -23,7 +32,7 @@ no_digit : (radix byte : ℕ) → is_ascii_alphanumeric byte ≡ false
 unfolding digit_value
 no_digit radix byte h = grind (arith, nat_tests)
 
-ends_class : (p : ℕ → Bool) (rule : Rule)
+pub ends_class : (p : ℕ → Bool) (rule : Rule)
     → ((b : ℕ) → p b ≡ false → is_ascii_alphanumeric b ≡ false)
     → ((b : ℕ) → p b ≡ false → is_separator rule.separator b ≡ false)
     → (o : Option ℕ) → holds_of p o ≡ false → class rule o ≡ Other
@@ -34,47 +43,26 @@ ends_class p rule digits separators (Some b) h =
 
 -- ---- of texts that are the same before a position
 
-module _ (p : ℕ → Bool) (one other : List ℕ) (at : ℕ) (upto : AreSameBefore p one other at) where
-  -- the digits of a rule
-  pub same_by_rule : (rule : Rule) → ((b : ℕ) → p b ≡ false → is_ascii_alphanumeric b ≡ false)
-      → ((b : ℕ) → p b ≡ false → is_separator rule.separator b ≡ false)
-      → AreSameUpTo rule one other at
-  same_by_rule rule digits separators = record {
-    same = upto.same;
-    one_within = upto.one_within;
-    other_within = upto.other_within;
-    one_ends = ends_class p rule digits separators _ upto.one_ends;
-    other_ends = ends_class p rule digits separators _ upto.other_ends;
-  }
+pub from_before : (p : ℕ → Bool) (one other : List ℕ) (at : ℕ) → AreSameBefore p one other at
+    → AreSameFrom (Fails p) one 0 other at
+from_before p one other at upto =
+    from_start (Fails p) refl one other at upto.same upto.one_ends upto.other_ends
 
-  -- a byte before the position
-  pub same_before : (i : ℕ) → i < at → slice_get one i ≡ slice_get other i
-  same_before i l =
-      grind (arith, gets, same_byte one other at upto.same i l, upto.one_within, upto.other_within)
+module _ (p : ℕ → Bool) (one other : List ℕ) (at : ℕ) (upto : AreSameBefore p one other at)
+    (q : ℕ → Bool) (within : (b : ℕ) → p b ≡ false → q b ≡ false) where
+  both : AreSameFrom (Fails p) one 0 other at
+  both = from_before p one other at upto
 
-  module _ (q : ℕ → Bool) (within : (b : ℕ) → p b ≡ false → q b ≡ false) where
-    none_passes : (o : Option ℕ) → holds_of p o ≡ false → holds_of q o ≡ false
-    none_passes None h = refl
-    none_passes (Some b) h = within b h
+  -- whether a byte up to it passes
+  pub same_test : (i : ℕ) → i ≤ at → holds_of q (slice_get one i) ≡ holds_of q (slice_get other i)
+  same_test i l =
+      cut_test (Fails p) one 0 other at both q (fails_of p q within) i i (zero_later i) l
 
-    -- whether a byte up to it passes
-    pub same_test : (i : ℕ) → i ≤ at → holds_of q (slice_get one i) ≡ holds_of q (slice_get other i)
-    same_test i l = elim (cases_lt i at) [
-      | inl m ↦ rw (same_before i m) refl
-      | inr m ↦
-          let e : i ≡ at = omega arith in
-          rw (e, none_passes _ upto.one_ends, none_passes _ upto.other_ends) refl
-    ]
-
-    -- one that passes is before it
-    pub passes_before : (i : ℕ) → i ≤ at → holds_of q (slice_get one i) ≡ true → i + 1 ≤ at
-    passes_before i l is = elim (cases_lt i at) [
-      | inl m ↦ omega arith
-      | inr m ↦
-          let e : i ≡ at = omega arith in
-          let h : holds_of q (slice_get one at) ≡ true = rw (← e) is in
-          let n = none_passes _ upto.one_ends in cc
-    ]
+  -- one that passes is before it
+  pub passes_before : (i : ℕ) → i ≤ at → holds_of q (slice_get one i) ≡ true → i + 1 ≤ at
+  passes_before i l is =
+      cut_before (Fails p) one 0 other at both q (fails_of p q within) i l
+      (sym (same_test i l) ∙ is)
 
 -- ---- which texts are the same
 

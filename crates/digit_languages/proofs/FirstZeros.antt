@@ -7,10 +7,10 @@ use Rattle.lexical_digits.specs.Separators.{kept_positions, is_kept, is_dropped,
 use Rattle.lexical_digits.specs.Stop.{stop}
 use Rattle.lexical_digits.specs.declared.skip.component.Component.TheVariants.{Integer}
 use Rattle.lexical_digits.specs.State.{rule_of}
-use Rattle.digit_literals.specs.Integers.{integer_at}
-use Rattle.digit_literals.specs.Numbers.{has_byte}
-use Rattle.digit_literals.specs.declared.LiteralError.{LiteralError}
-use Rattle.digit_literals.specs.declared.LiteralError.TheVariants as integers
+use Rattle.digit_integers.specs.Integers.{integer_at}
+use Rattle.digit_values.specs.Bytes.{has_byte}
+use Rattle.digit_values.specs.declared.LiteralError.{LiteralError}
+use Rattle.digit_values.specs.declared.LiteralError.TheVariants as integers
 use Rattle.digit_languages.specs.Words.{octal_of}
 use Rattle.digit_languages.specs.declared.language.FirstZero.TheVariants.{Plain, Octal, Alone, Zeros}
 use Rattle.digit_languages.specs.declared.language.Language.{Language}

@@ -1,3 +1,4 @@
 pub mod FirstZeros
 pub mod Before
+pub mod BothSides
 pub mod WhatFollows

@@ -1,4 +1,5 @@
 pub mod Words
 pub mod Literals
 pub mod Follows
+pub mod Moves
 pub mod Zeros

@@ -2,10 +2,10 @@
 use Rattle.std.specs.Prelude.{ℕ, ℤ, pos, ◌+◌, ◌-◌, ◌==◌, Bool, true, false, ◌&&◌, ◌||◌, nat_lt, if◌then◌else◌, List, ◌++◌, codes, decimal, Option, Some, None, is_some, Result, Ok, Err}
 use Rattle.lexical_digits.specs.State.{rule_of}
 use Rattle.lexical_digits.specs.declared.skip.component.Component.TheVariants.{Integer}
-use Rattle.digit_literals.specs.declared.LiteralError.{LiteralError}
-use Rattle.digit_literals.specs.declared.LiteralError.TheVariants as integers
-use Rattle.digit_literals.specs.Integers.{integer_at}
-use Rattle.digit_literals.specs.Numbers.{has_byte}
+use Rattle.digit_values.specs.declared.LiteralError.{LiteralError}
+use Rattle.digit_values.specs.declared.LiteralError.TheVariants as integers
+use Rattle.digit_integers.specs.Integers.{integer_at}
+use Rattle.digit_values.specs.Bytes.{has_byte}
 use Rattle.digit_languages.specs.declared.language.Language.{Language}
 use Rattle.digit_languages.specs.declared.language.FirstZero.{FirstZero}
 use Rattle.digit_languages.specs.declared.language.FirstZero.TheVariants.{Plain, Octal, Alone, Zeros}

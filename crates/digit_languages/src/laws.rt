@@ -2,7 +2,7 @@
 
 ghost use Rattle.std.specs.Prelude.{◌≡◌, ℕ, ◌+◌, ◌<◌, ◌≤◌, Bool, true, false, List, length, take, slice_get};
 ghost use Rattle.lexical_digits.specs.Cursor.{holds_of};
-ghost use Rattle.digit_literals.specs.Numbers.{has_byte};
+ghost use Rattle.digit_values.specs.Bytes.{has_byte};
 ghost use Rattle.digit_languages.specs.declared.language.Language.{Language};
 ghost use Rattle.digit_languages.specs.Follows.{AreSameBefore, is_literal_byte};
 ghost use Rattle.digit_languages.specs.Literals.{literal_at};

@@ -2,12 +2,13 @@
 
 ghost use Rattle.std.specs.Prelude.{◌≡◌, ◌+◌, ◌-◌, ◌<◌, ◌≤◌, Some, Ok, Err, length, IfOk, IfErr, MatchResult, IsTrue, IfSome};
 ghost use Rattle.lexical_format.specs.Word.{is_supported};
-ghost use Rattle.digit_literals.specs.Numbers.{has_byte};
+ghost use Rattle.digit_values.specs.Bytes.{has_byte};
 ghost use Rattle.digit_languages.specs.Words.{IsLanguage};
 ghost use Rattle.digit_languages.specs.Literals.{has_prefix, prefix_word, plain_word, refuses, literal_at, typed, language_error, none_at, position, message};
 
 use super::language::{FirstZero, Language};
-use digit_literals::{Integer, LiteralError, has_byte, read_wide_from};
+use digit_integers::{Integer, read_wide_from};
+use digit_values::{LiteralError, has_byte};
 use std::error::Error;
 use std::fmt;
 

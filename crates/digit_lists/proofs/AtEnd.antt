@@ -12,17 +12,17 @@ use Rattle.lexical_digits.specs.State.{rule_of}
 use Rattle.lexical_digits.specs.Stop.{stop}
 use Rattle.lexical_digits.proofs.Calls.FirstOther.{stop_is_first}
 use Rattle.digit_literals.specs.declared.list.Gap.{Gap}
-use Rattle.digit_literals.specs.declared.LiteralError.TheVariants as integers
-use Rattle.digit_literals.specs.Integers.{integer_at}
+use Rattle.digit_values.specs.declared.LiteralError.TheVariants as integers
+use Rattle.digit_integers.specs.Integers.{integer_at}
 use Rattle.digit_literals.specs.Lists.{past_blanks, list_at}
-use Rattle.digit_literals.specs.Numbers.{number_at, digits_from, is_negative_from}
-use Rattle.digit_literals.proofs.Between.{none_between}
+use Rattle.digit_integers.specs.Numbers.{number_at, digits_from, is_negative_from}
+use Rattle.digit_values.proofs.Between.{none_between}
 use Rattle.digit_floats.specs.Bytes.{stands, is_sign, is_point}
 use Rattle.digit_floats.specs.Float.{plain_marks, read_at, past_sign, digits_end, fraction_digits, fraction_end}
 use Rattle.digit_floats.specs.Float as floating
-use Rattle.digit_floats.specs.Scaled.{read_scaled_at, scaled_at}
+use Rattle.digit_amounts.specs.Scaled.{read_scaled_at, scaled_at}
 use Rattle.digit_floats.specs.declared.error.FloatError.TheVariants as floats
-use Rattle.digit_floats.specs.declared.scaled.ScaledError.TheVariants as scaled
+use Rattle.digit_amounts.specs.declared.scaled.ScaledError.TheVariants as scaled
 use Rattle.digit_lists.specs.Lists.{full_list, parsed}
 use Rattle.digit_lists.specs.declared.list.ListError.TheVariants as lists
 

@@ -1,4 +1,3 @@
-mod AtEnd
-mod FormEnd
-mod Grouping
-mod Holding
+pub mod AtEnd
+pub mod FormEnd
+pub mod Holding

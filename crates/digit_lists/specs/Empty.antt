@@ -1,11 +1,13 @@
 -- Whether an error says that there is no digit, or by a form no number.
 use Rattle.std.specs.Prelude.{Bool, true, false}
-use Rattle.digit_literals.specs.declared.LiteralError.{LiteralError}
-use Rattle.digit_literals.specs.declared.LiteralError.TheVariants as integers
+use Rattle.digit_values.specs.declared.LiteralError.{LiteralError}
+use Rattle.digit_values.specs.declared.LiteralError.TheVariants as integers
 use Rattle.digit_floats.specs.declared.error.FloatError.{FloatError}
 use Rattle.digit_floats.specs.declared.error.FloatError.TheVariants as floats
-use Rattle.digit_floats.specs.declared.scaled.ScaledError.{ScaledError}
-use Rattle.digit_floats.specs.declared.scaled.ScaledError.TheVariants as scaled
+use Rattle.digit_amounts.specs.declared.scaled.ScaledError.{ScaledError}
+use Rattle.digit_amounts.specs.declared.scaled.ScaledError.TheVariants as scaled
+use Rattle.digit_amounts.specs.declared.prices.PriceError.{PriceError}
+use Rattle.digit_amounts.specs.declared.prices.PriceError.TheVariants.{Number, Group, Places}
 use Rattle.digit_numbers.specs.declared.number.NumberError.{NumberError}
 use Rattle.digit_numbers.specs.declared.number.NumberError.TheVariants as numbers
 use Rattle.digit_languages.specs.declared.literal.LanguageError.{LanguageError}
@@ -27,6 +29,11 @@ scaled_is_empty (scaled.Empty at) = true
 scaled_is_empty (scaled.TooLarge at) = false
 scaled_is_empty (scaled.TooFine at) = false
 scaled_is_empty (scaled.Invalid at) = false
+
+abbrev pub price_is_empty : PriceError → Bool
+price_is_empty (Number error) = scaled_is_empty error
+price_is_empty (Group at) = false
+price_is_empty (Places at) = false
 
 abbrev pub number_is_empty : NumberError → Bool
 number_is_empty (numbers.Empty at) = true

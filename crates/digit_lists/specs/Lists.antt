@@ -4,7 +4,7 @@ use Rattle.digit_literals.specs.declared.list.Gap.{Gap}
 use Rattle.digit_literals.specs.declared.list.ListEnd.{ListEnd}
 use Rattle.digit_literals.specs.declared.list.ListEnd.TheVariants.{Full, Over, Fault}
 use Rattle.digit_literals.specs.Lists.{Numbers, past_blanks, no_number, list_at}
-use Rattle.digit_literals.specs.Numbers.{has_byte}
+use Rattle.digit_values.specs.Bytes.{has_byte}
 use Rattle.digit_lists.specs.declared.list.ListError.{ListError}
 use Rattle.digit_lists.specs.declared.list.ListError.TheVariants as lists
 use Rattle.digit_lists.specs.declared.enclosed.EnclosedError.{EnclosedError}

@@ -2,14 +2,15 @@
 
 ghost use Rattle.std.specs.Prelude.{◌≡◌, ◌+◌, ◌<◌, ◌≤◌, true, false, length, map, take, IfOk};
 ghost use Rattle.digit_literals.specs.Lists.{Fills, IfOver};
-ghost use Rattle.digit_literals.specs.Numbers.{has_byte};
+ghost use Rattle.digit_values.specs.Bytes.{has_byte};
 ghost use Rattle.digit_lists.specs.Lists.{inside, enclosed, Holds};
 ghost use Rattle.digit_lists.specs.Errors.{enclosed_position, enclosed_message};
 
 use super::error::NoNumber;
 use super::list::read_full_list;
-use digit_literals::{Gap, ListEnd, ListRead, has_byte};
+use digit_literals::{Gap, ListEnd, ListRead};
 use digit_pieces::Kind;
+use digit_values::has_byte;
 use std::error::Error;
 use std::fmt;
 

@@ -2,12 +2,12 @@
 
 ghost use Rattle.std.specs.Prelude.{◌≡◌};
 
-use super::prices::PriceError;
-use digit_floats::{FloatError, ScaledError};
+use digit_amounts::{PriceError, ScaledError};
+use digit_floats::FloatError;
 use digit_languages::LanguageError;
-use digit_literals::LiteralError;
 use digit_numbers::NumberError;
 use digit_pieces::BothError;
+use digit_values::LiteralError;
 
 /// The trait of errors of one number: where the fault is, and whether no number was there. The
 /// errors of all kinds of numbers here are of this trait.
@@ -29,7 +29,7 @@ pub trait NoNumber: Copy {
 }
 
 impl NoNumber for LiteralError {
-    ghost use Rattle.digit_literals.specs.Errors.{literal_position};
+    ghost use Rattle.digit_values.specs.Errors.{literal_position};
     ghost use Rattle.digit_lists.specs.Empty.{literal_is_empty};
 
     ghost fault_at = { literal_position };
@@ -67,7 +67,7 @@ impl NoNumber for FloatError {
 }
 
 impl NoNumber for ScaledError {
-    ghost use Rattle.digit_floats.specs.Scaled.{position};
+    ghost use Rattle.digit_amounts.specs.Scaled.{position};
     ghost use Rattle.digit_lists.specs.Empty.{scaled_is_empty};
 
     ghost fault_at = { position };
@@ -150,7 +150,8 @@ impl<D: NoNumber, E: NoNumber> NoNumber for BothError<D, E> {
 }
 
 impl NoNumber for PriceError {
-    ghost use Rattle.digit_lists.specs.Prices.{price_is_empty, price_position};
+    ghost use Rattle.digit_amounts.specs.Prices.{price_position};
+    ghost use Rattle.digit_lists.specs.Empty.{price_is_empty};
 
     ghost fault_at = { price_position };
 

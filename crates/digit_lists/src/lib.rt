@@ -1,20 +1,20 @@
-//! Lists that are a whole text or are between two bytes, numbers that may be missing, and decimal
-//! numbers with an exact number of places and with groups of three digits.
+//! Lists of any numbers: from a position on, as a whole text, and between two bytes; and numbers
+//! that may be missing.
 #![tactic(auto)]
 
 mod enclosed;
 mod error;
-mod groups;
-mod kind;
+mod floats;
+mod items;
 pub mod laws;
 mod list;
+mod of_form;
 mod optional;
-mod prices;
 
 pub use self::enclosed::{EnclosedError, read_enclosed};
 pub use self::error::NoNumber;
-pub use self::groups::wrong_group;
-pub use self::kind::Prices;
+pub use self::floats::read_float_list;
+pub use self::items::{Item, Items, read_items};
 pub use self::list::{ListError, parse_list, read_list_by};
+pub use self::of_form::read_list_of;
 pub use self::optional::read_optional;
-pub use self::prices::{PriceError, read_exact_from, read_grouped_from, read_price_from};

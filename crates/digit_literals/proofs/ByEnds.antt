@@ -16,12 +16,14 @@ use Rattle.lexical_format.specs.Digits as words
 use Rattle.lexical_digits.specs.declared.skip.rule.Rule.{Rule}
 use Rattle.lexical_digits.specs.Separators.{is_digit}
 use Rattle.digit_literals.specs.declared.list.Gap.{Gap}
-use Rattle.digit_literals.specs.Ends.{is_decimal, AreOthers, AreDecimal}
-use Rattle.digit_literals.specs.Integers.{integer_at}
+use Rattle.digit_literals.specs.Ends.{is_decimal, AreOthers}
+use Rattle.digit_words.specs.Eight.{AreDecimal}
+use Rattle.digit_integers.specs.Integers.{integer_at}
 use Rattle.digit_literals.specs.Lists.{is_blank, past_blanks}
-use Rattle.digit_literals.specs.Numbers.{has_byte, with_sign, number_at}
+use Rattle.digit_values.specs.Bytes.{has_byte}
+use Rattle.digit_integers.specs.Numbers.{with_sign, number_at}
 use Rattle.digit_literals.proofs.Lists.{no_blank}
-use Rattle.digit_literals.proofs.Passed.{by_radix}
+use Rattle.digit_values.proofs.Passed.{by_radix}
 
 -- ---- the comparison of 64 bytes
 
@@ -197,7 +199,7 @@ number_at_once least most rule gap text at others value end are fits more few bl
     both false is = rw is refl
 
 -- to be named in an attribute
-pub ruleset short_number = (some_bit, before_first, first_room)
+pub ruleset usual_number = (some_bit, before_first, first_room)
 
 -- what is no decimal digit is none of a rule of radix 10
 pub no_digit : (rule : Rule) (byte : ℕ) → rule.radix ≡ 10 → byte < 256
@@ -208,10 +210,3 @@ no_digit rule byte ten fits other =
     ∙ agree_below_at (is_digit_of_radix 10) is_decimal 256 byte refl fits ∙ other
 
 -- ---- parts of digits
-
-pub part_decimal : (text : List ℕ) (at count m n : ℕ) → AreDecimal text at count → m + n ≤ count
-    → AreDecimal text (at + m) n
-part_decimal text at count m n all few i l =
-    let same : at + (m + i) ≡ at + m + i = omega arith in
-    let digit = all (m + i) (omega (arith, few, l)) in
-    rw same at digit

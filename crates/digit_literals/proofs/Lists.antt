@@ -1,18 +1,17 @@
 -- One turn of a loop that reads a list into a slice.
 pub use Rattle.digit_literals.specs.Lists.{SoFar}
-use Rattle.std.proofs.Common.{◌≡◌, ℕ, zero, suc, ◌+◌, ◌-◌, ◌<◌, ◌≤◌, List, [], ◌∷◌, ◌++◌, map, length, take, drop, ◌/◌, ◌%◌, ◌^◌, refl, sym, ◌∙◌, ap, ◌*◌, arith}
+use Rattle.std.proofs.Common.{◌≡◌, ℕ, zero, suc, ◌+◌, ◌-◌, ◌<◌, ◌≤◌, List, [], ◌∷◌, ◌++◌, map, length, take, drop, ◌/◌, ◌%◌, ◌^◌, refl, sym, ◌∙◌, ap, arith}
 use Rattle.std.specs.Prelude.{Bool, true, false, nat_lt, Option, Some, None, slice_get, ◌&&◌, if◌then◌else◌, Result, Ok, Err, set}
 use Rattle.std.proofs.lemmas.List.{take_more_set, drop-set-lt, drop-drop, length-set, map-append, append_assoc, length-map, length-take-le, append-nil}
 use Rattle.std.proofs.lemmas.Bool.Decides.{nat_tests}
-use Rattle.std.proofs.lemmas.Nat.{pow-add, shr-shr}
-use Rattle.std.proofs.Math.Nat.{mod-add-div, add-mul-div_left, add-mul-mod_self_right, one-le-pow, pow-suc}
+use Rattle.std.proofs.lemmas.Nat.{shr-shr}
 use Rattle.lexical_format.specs.Word.{bit}
 use Rattle.lexical_digits.specs.ByteSet.{accepts}
 use Rattle.lexical_digits.specs.Cursor.{holds_of}
 use Rattle.digit_literals.specs.declared.list.Gap.{Gap}
 use Rattle.digit_literals.specs.declared.list.ListEnd.{ListEnd}
 use Rattle.digit_literals.specs.declared.list.ListEnd.TheVariants.{Full, Over, Fault}
-use Rattle.digit_literals.proofs.Passing.{none_passed}
+use Rattle.digit_values.proofs.Passing.{none_passed}
 use Rattle.digit_literals.specs.Lists.{Numbers, is_blank, has_blank, has_separator, past_blanks, next_after, no_number, before, and_then, after_number, from_number, list_at, Fills}
 
 -- where no blank is, none is passed
@@ -31,23 +30,6 @@ separator_is_no_blank gap text at h =
         → holds_of (is_blank gap) byte ≡ false
     other None e = refl
     other (Some byte) e = grind (arith, e)
-
--- the lower bits of a number
-pub low_bit : (n place : ℕ) → place < 64 → bit (n % 2 ^ 64) place ≡ bit n place
-low_bit n place l =
-    let more : ℕ = 63 - place in
-    let q : ℕ = n / 2 ^ 64 in
-    let split : 64 ≡ place + suc more = omega (arith, l) in
-    let power : 2 ^ 64 ≡ 2 ^ place * (2 ^ more * 2) =
-    rw (← split, pow-suc 2 more) at (pow-add 2 place (suc more)) in
-    let some : 0 < 2 ^ place = one-le-pow place 2 (omega arith) in
-    let same : 2 ^ place * (2 ^ more * 2) * q ≡ 2 ^ place * (2 ^ more * q * 2) = grind arith in
-    let all : n ≡ n % 2 ^ 64 + 2 ^ place * (2 ^ more * q * 2) =
-    sym (mod-add-div n (2 ^ 64)) ∙ ap (λ m. n % 2 ^ 64 + m * q) power
-    ∙ ap (λ m. n % 2 ^ 64 + m) same in
-    let halves : n / 2 ^ place ≡ (n % 2 ^ 64) / 2 ^ place + 2 ^ more * q * 2 =
-    ap (λ m. m / 2 ^ place) all ∙ add-mul-div_left (n % 2 ^ 64) (2 ^ more * q * 2) some in
-    rw (halves, add-mul-mod_self_right ((n % 2 ^ 64) / 2 ^ place) (2 ^ more * q) 2) refl
 
 -- ten bits of which none is set
 ten_clear : (x k : ℕ) → k < 10 → x % 1024 ≡ 0 → x / 2 ^ k % 2 ≡ 0

@@ -6,7 +6,7 @@ use Rattle.std.proofs.lemmas.List.Sums.{take_while-cons}
 use Rattle.lexical_digits.specs.ByteSet.{accepts}
 use Rattle.lexical_digits.specs.Cursor.{holds_of}
 use Rattle.lexical_digits.specs.declared.ops.ByteSet.{ByteSet}
-use Rattle.digit_literals.specs.Bytes.{is_name_byte, name_end, past_bytes}
+use Rattle.digit_values.specs.Bytes.{is_name_byte, name_end, past_bytes}
 use Rattle.digit_literals.specs.declared.list.Gap.{Gap}
 use Rattle.digit_literals.specs.Lists.{has_blank, is_blank, past_blanks}
 

@@ -23,11 +23,6 @@ module _ (text : List ℕ) (at : ℕ) where
     pub digits : (i j : ℕ) → i < j → bit_at others j ≡ 1 → bit_at others i ≡ 0
         → is_decimal (slice_index text (at + i)) ≡ true
 
-  -- so many bytes from a position on are decimal digits
-  abbrev pub AreDecimal : ℕ → Type 0
-  AreDecimal count = (i : ℕ) → i < count
-      → (48 ≤ slice_index text (at + i)) × (slice_index text (at + i) < 58)
-
 -- after a number that ends here the next one may be at a place, or the list is over
 module _ (gap : Gap) (text : List ℕ) (end : ℕ) where
   pub record IsPlaceAfter (place : Place) : Type 0 where

@@ -1,12 +1,7 @@
 -- What a gap says, byte by byte.
-use Rattle.std.specs.Prelude.{◌≡◌, ℕ, ◌<◌, Bool}
-use Rattle.lexical_digits.specs.ByteSet.{accepts}
-use Rattle.lexical_digits.specs.declared.ops.ByteSet.{ByteSet}
+pub use Rattle.digit_values.specs.Bytes.{HasBytes}
+use Rattle.std.specs.Prelude.{◌≡◌, ℕ, Bool}
 use Rattle.digit_literals.specs.declared.list.Gap.{Gap}
-
--- a set has the bytes that pass a test, and no other
-pub record HasBytes (set : ByteSet) (test : ℕ → Bool) : Type 0 where
-  pub has : (byte : ℕ) → byte < 256 → accepts set byte ≡ test byte
 
 -- the separators and the blanks of a gap, whether blanks separate, and whether a separator may be
 -- last

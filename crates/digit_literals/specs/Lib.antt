@@ -1,12 +1,7 @@
-pub mod Peeks
 pub mod Outcomes
 pub mod After
-pub mod Reads
-pub mod Eight
 pub mod Ends
-pub mod Groups
 pub mod Integers
-pub mod Hexadecimal
 pub mod Rest
 pub mod Significant
 pub mod First

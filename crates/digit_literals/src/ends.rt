@@ -7,18 +7,17 @@ ghost use Rattle.lexical_digits.specs.declared.skip.component.Component.TheVaria
 ghost use Rattle.lexical_digits.specs.ByteSet.{accepts};
 ghost use Rattle.lexical_digits.specs.Separators.{is_separator};
 ghost use Rattle.lexical_digits.specs.State.{rule_of};
-ghost use Rattle.digit_literals.specs.Eight.{IsWritten};
+ghost use Rattle.digit_words.specs.Eight.{IsWritten};
 ghost use Rattle.digit_literals.specs.Ends.{AreByEnds, AreOthers, IsPlaceAfter, IsOverAfter};
-ghost use Rattle.digit_literals.specs.Errors.{literal_none_at};
-ghost use Rattle.digit_literals.specs.Integers.{integer_at};
+ghost use Rattle.digit_values.specs.Errors.{literal_none_at};
+ghost use Rattle.digit_integers.specs.Integers.{integer_at};
 ghost use Rattle.digit_literals.specs.Lists.{SoFar, Fills, IfFull, IfOver, is_blank, list_at, next_after, past_blanks};
-ghost use Rattle.digit_literals.specs.Numbers.{number_at, is_negative_from, digits_from, signed};
+ghost use Rattle.digit_integers.specs.Numbers.{number_at, is_negative_from, digits_from, signed};
 
-use super::LiteralError;
-use super::bytes::accepts;
-use super::eight::{few_at, value_at};
 use super::list::{Gap, ListEnd, ListRead};
-use super::number::{Integer, greatest, greatest_of_both};
+use digit_integers::{Integer, greatest, greatest_of_both};
+use digit_values::{LiteralError, accepts};
+use digit_words::eight::{one_to_eight_at, value_at};
 use lexical_digits::skip::{Component, Rule};
 use std::simd::prelude::*;
 
@@ -188,7 +187,7 @@ fn pass_sign<T: Integer>(text: &[u8], place: usize, others: u64) -> Option<Head>
 
 /// The next number, whatever is before its digits.
 #[inline(always)]
-#[tactic(auto, using(crate::proofs::ByEnds::short_number, crate::proofs::ByEnds::begins_at_once))]
+#[tactic(auto, using(crate::proofs::ByEnds::usual_number, crate::proofs::ByEnds::begins_at_once))]
 fn any_head<T: Integer>(text: &[u8], gap: Gap, at: usize, rest: u64) -> Option<Head>
     requires within { at ≤ length text.now }
     requires rest { AreOthers text.now at rest }
@@ -367,8 +366,8 @@ fn number_of<T: Integer>(
 /// The number that begins with its first digit at a position, if it has no sign, and up to eight
 /// digits, whose end is known: the usual one.
 #[inline(always)]
-#[tactic(auto, using(crate::proofs::ByEnds::short_number))]
-fn short_number<T: Integer>(
+#[tactic(auto, using(crate::proofs::ByEnds::usual_number))]
+fn usual_number<T: Integer>(
     text: &[u8],
     word: u128,
     gap: Gap,
@@ -397,7 +396,7 @@ fn short_number<T: Integer>(
         others: rest,
         has_sign: false,
     };
-    let value = few_at(text, at, count as usize);
+    let value = one_to_eight_at(text, at, count as usize);
     let read = number_of::<T>(text, word, gap, head, count, value)?;
     Some(read)
 }
@@ -456,7 +455,7 @@ fn number_by_end<T: Integer>(
 {
     let count = place.rest.trailing_zeros();
     if count > 0 && count <= 8 && !may_be_signed {
-        return short_number::<T>(text, word, gap, place.at, place.rest, count);
+        return usual_number::<T>(text, word, gap, place.at, place.rest, count);
     }
     let mut read = any_number::<T>(text, word, gap, place.at, place.rest)?;
     read.may_be_signed = read.may_be_signed | may_be_signed;

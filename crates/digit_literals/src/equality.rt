@@ -1,49 +1,14 @@
 //! `==` and `clone` on the plain values of this crate: `==` answers `true` exactly if the two
 //! values are the same, part by part, and a clone is the same value.
 
-ghost use Rattle.std.specs.Prelude.{◌≡◌, true};
+ghost use Rattle.std.specs.Prelude.{◌≡◌};
 
-use super::{Digits, FirstDigits, LiteralError, ParseError, TooLarge};
-
-/// Two errors of a literal are equal exactly if they are the same.
-pub fn same_literal_error(a: LiteralError, b: LiteralError) -> bool
-    ensures same { result ≡ true → a ≡ b }
-    ensures equal { a ≡ b → result ≡ true }
-{
-    a == b
-}
-
-/// Two errors of a whole text are equal exactly if they are the same.
-pub fn same_parse_error(a: ParseError, b: ParseError) -> bool
-    ensures same { result ≡ true → a ≡ b }
-    ensures equal { a ≡ b → result ≡ true }
-{
-    a == b
-}
-
-/// Two answers of digits are equal exactly if they are the same.
-pub fn same_digits(a: Digits, b: Digits) -> bool
-    ensures same { result ≡ true → a ≡ b }
-    ensures equal { a ≡ b → result ≡ true }
-{
-    a == b
-}
-
-/// Two answers of first digits are equal exactly if they are the same.
-pub fn same_first_digits(a: FirstDigits, b: FirstDigits) -> bool
-    ensures same { result ≡ true → a ≡ b }
-    ensures equal { a ≡ b → result ≡ true }
-{
-    a == b
-}
-
-/// Two errors of a value too large are equal exactly if they are the same.
-pub fn same_too_large(a: TooLarge, b: TooLarge) -> bool
-    ensures same { result ≡ true → a ≡ b }
-    ensures equal { a ≡ b → result ≡ true }
-{
-    a == b
-}
+use digit_integers::ParseError;
+pub use digit_integers::equality::same_parse_error;
+pub use digit_values::equality::{
+    same_digits, same_first_digits, same_literal_error, same_too_large,
+};
+use digit_values::{Digits, FirstDigits, LiteralError, TooLarge};
 
 /// A clone is the same value.
 pub fn clones_are_same(

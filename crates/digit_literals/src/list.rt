@@ -5,15 +5,14 @@ ghost use Rattle.lexical_format.specs.Word.{is_supported};
 ghost use Rattle.lexical_digits.specs.declared.skip.component.Component.TheVariants.{Integer};
 ghost use Rattle.lexical_digits.specs.ByteSet.{accepts};
 ghost use Rattle.lexical_digits.specs.State.{rule_of};
-ghost use Rattle.digit_literals.specs.Errors.{literal_none_at};
+ghost use Rattle.digit_values.specs.Errors.{literal_none_at};
 ghost use Rattle.digit_literals.specs.Lists.{is_blank, has_blank, has_separator, past_blanks, next_after, no_number, list_at, SoFar, Fills, IfFull, IfOver};
-ghost use Rattle.digit_literals.specs.Numbers.{number_at};
+ghost use Rattle.digit_integers.specs.Numbers.{number_at};
 
-use super::LiteralError;
-use super::bytes::{BLANKS, accepts};
 use super::ends::{is_by_ends, read_by_ends};
-use super::number::{Integer, read_number_from};
 use super::one::ReadsOne;
+use digit_integers::{Integer, read_number_from};
+use digit_values::{BLANKS, LiteralError, accepts};
 use lexical_digits::ops::ByteSet;
 
 /// What is between two numbers of a list: one separator, with any blanks around it.
@@ -37,7 +36,8 @@ const SPACES: ByteSet = ByteSet {
     high: 0,
 };
 
-/// One comma, with any [`BLANKS`] around it: between the numbers of a JSON array.
+/// One comma, with any [`BLANKS`](digit_values::BLANKS) around it: between the numbers of a JSON
+/// array.
 pub const COMMAS: Gap = Gap {
     separators: ByteSet {
         low: 1 << 44,
@@ -87,8 +87,9 @@ pub const LINES: Gap = Gap {
 pub enum ListEnd<E> {
     /// The slice is full. The next number may begin at this position, which is after a separator.
     Full(usize),
-    /// The list is over. No separator is at this position, past the blanks after the last number;
-    /// or no number begins there.
+    /// The list is over. At this position, past the blanks after the last number, is the first byte
+    /// that isn't of the list, or the end of the text: no separator, or a byte at which no number
+    /// begins.
     Over(usize),
     /// Where a number has to be is none.
     Fault(E),
@@ -163,7 +164,7 @@ impl Gap {
 
     /// [`past_blanks`](Gap::past_blanks), where a blank is expected: one takes no loop.
     #[inline(always)]
-    #[tactic(auto, using(crate::proofs::Passing::passing), unfolding(crate::specs::Lists::past_blanks))]
+    #[tactic(auto, using(digit_values::proofs::Passing::passing), unfolding(crate::specs::Lists::past_blanks))]
     pub(super) fn past_few_blanks(self, text: &[u8], at: usize) -> usize
         requires { at ≤ length text.now }
         ensures is { result ≡ past_blanks self text.now at }
@@ -339,11 +340,11 @@ pub fn read_list_with<R: ReadsOne>(
     }
 }
 
-/// The numbers of a type from `start` on, read into a slice: each as by [`read_number_from`], with
-/// what `gap` says between two of them. It reads until the slice is full, the list is over, or no
-/// number is where one has to be. The front of the slice has the numbers that were read, its rest
-/// isn't touched. Takes no memory. Requires that `start` is within the text and the word is
-/// supported.
+/// The numbers of a type from `start` on, read into a slice: each as by
+/// [`read_number_from`](digit_integers::read_number_from), with what `gap` says between two of
+/// them. It reads until the slice is full, the list is over, or no number is where one has to be.
+/// The front of the slice has the numbers that were read, its rest isn't touched. Takes no memory.
+/// Requires that `start` is within the text and the word is supported.
 ///
 /// Blanks before the first number are passed. A list that fills the slice and has no separator
 /// after its last number is [`Over`](ListEnd::Over), not [`Full`](ListEnd::Full). From the position

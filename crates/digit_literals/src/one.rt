@@ -2,8 +2,8 @@
 
 ghost use Rattle.std.specs.Prelude.{◌≡◌, ℕ, Bool, ◌≤◌, List, length, Result, Ok, Err, IfOk, MatchResult};
 
-use super::LiteralError;
-use super::number::{Integer, read_number_from};
+use digit_integers::{Integer, read_number_from};
+use digit_values::LiteralError;
 use std::marker::PhantomData;
 
 /// How one number of a list is read. It is for the crates above this one, whose lists are all read
@@ -45,8 +45,8 @@ pub trait ReadsOne: Copy {
         ensures { result ≡ none_at place error };
 }
 
-/// The integers of a type by a format word, as [`read_number_from`](crate::read_number_from) reads
-/// them.
+/// The integers of a type by a format word, as
+/// [`read_number_from`](digit_integers::read_number_from) reads them.
 #[derive(Clone, Copy)]
 pub struct Integers<T: Integer> {
     /// The format word.
@@ -72,8 +72,8 @@ impl<T: Integer> ReadsOne for Integers<T> {
     ghost use Rattle.lexical_format.specs.Word.{is_supported};
     ghost use Rattle.lexical_digits.specs.State.{rule_of};
     ghost use Rattle.lexical_digits.specs.declared.skip.component.Component.TheVariants as components;
-    ghost use Rattle.digit_literals.specs.Errors.{literal_none_at};
-    ghost use Rattle.digit_literals.specs.Numbers as numbers;
+    ghost use Rattle.digit_values.specs.Errors.{literal_none_at};
+    ghost use Rattle.digit_integers.specs.Numbers as numbers;
 
     type Number = T;
 

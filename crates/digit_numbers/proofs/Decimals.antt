@@ -1,5 +1,5 @@
 -- The decimal number of a form: where its whole digits end, and what a lone `0` is.
-use Rattle.std.proofs.Common.{◌≡◌, ℕ, zero, suc, ◌+◌, ◌<◌, ◌-◌, Bool, true, false, List, [], ◌∷◌, length, refl, ◌∙◌, subst, arith, slice_get}
+use Rattle.std.proofs.Common.{◌≡◌, ℕ, zero, suc, ◌+◌, ◌<◌, ◌-◌, Bool, true, false, List, [], ◌∷◌, length, refl, sym, ◌∙◌, subst, arith, slice_get}
 use Rattle.std.specs.Prelude.{⊤, Option, None, Some, Result, Ok, Err, is_some, slice_index, if◌then◌else◌, pos, ◌==◌}
 use Rattle.std.proofs.lemmas.Bool.Decides.{nat_tests}
 use Rattle.std.proofs.lemmas.Option.{get_or_from_slice_get, slice_get_within}
@@ -8,13 +8,13 @@ use Rattle.lexical_digits.specs.Separators.{is_digit}
 use Rattle.lexical_digits.specs.State.{rule_of}
 use Rattle.lexical_digits.specs.declared.skip.rule.Rule.{Rule}
 use Rattle.lexical_digits.specs.declared.skip.component.Component.TheVariants.{Integer}
-use Rattle.digit_literals.specs.After.{digits_between}
-use Rattle.digit_literals.specs.Integers.{integer_at}
-use Rattle.digit_literals.specs.Numbers.{has_byte}
-use Rattle.digit_literals.specs.Significant.{significant}
-use Rattle.digit_literals.specs.declared.LiteralError.{LiteralError}
-use Rattle.digit_literals.specs.declared.LiteralError.TheVariants.{Empty, Overflow}
-use Rattle.digit_literals.proofs.Between.{more_between, none_between}
+use Rattle.digit_values.specs.After.{digits_between}
+use Rattle.digit_integers.specs.Integers.{integer_at}
+use Rattle.digit_values.specs.Bytes.{has_byte}
+use Rattle.digit_values.specs.Significant.{significant}
+use Rattle.digit_values.specs.declared.LiteralError.{LiteralError}
+use Rattle.digit_values.specs.declared.LiteralError.TheVariants.{Empty, Overflow}
+use Rattle.digit_values.proofs.Between.{more_between, none_between}
 use Rattle.digit_floats.specs.Decimals.{decimal_of, signed_exponent}
 use Rattle.digit_floats.specs.Float.{digits_end, digits_from}
 use Rattle.digit_languages.specs.declared.language.Language.{Language}
@@ -23,14 +23,19 @@ use Rattle.digit_languages.specs.Literals.{has_prefix, prefix_word, word_at, dig
 use Rattle.digit_numbers.specs.declared.form.Form.{Form}
 use Rattle.digit_numbers.specs.Forms.{unprefixed, with_hex_only, has_hex, is_always_float, may_be_float}
 use Rattle.digit_numbers.specs.Numbers.{word, has_sign, is_minus, hex_word_at, past_sign, language, plain_at, float_here, number_of_at}
-use Rattle.digit_numbers.specs.Numbers.{zero_here, integer_here, is_float, whole_digits, whole_end}
-use Rattle.digit_numbers.specs.Decimals.{decimal_end, decimal_of_at}
+use Rattle.digit_numbers.specs.Numbers.{zero_here, whole_here, integer_here, is_float, whole_digits, whole_end}
+use Rattle.digit_numbers.specs.Numbers.{digits_stop, has_more_zeros, parts, Outcome}
+use Rattle.digit_numbers.specs.declared.number.Number.{Number}
+use Rattle.std.specs.Float.{Float}
+use Rattle.std.specs.Float.Ieee.{round}
+use Rattle.std.specs.Float.Numeral.{has_digits}
+use Rattle.digit_numbers.specs.Decimals.{decimal_of_at}
 use Rattle.digit_numbers.specs.declared.number.Number.TheVariants as numbers
-use Rattle.digit_numbers.specs.declared.number.NumberError.{NumberError}
 use Rattle.digit_numbers.specs.declared.number.NumberError.TheVariants as errors
 use Rattle.digit_languages.specs.declared.literal.LanguageError.{LanguageError}
 use Rattle.digit_languages.specs.declared.literal.LanguageError.TheVariants as literals
 use Rattle.digit_numbers.proofs.Digits.{alone_stop, no_zeros}
+use Rattle.digit_numbers.proofs.Digits as digits
 use Rattle.digit_numbers.proofs.Large.{large_some}
 use Rattle.digit_numbers.proofs.Zeros.{large_plain}
 use Rattle.std.specs.Float.{binary64}
@@ -144,65 +149,141 @@ pub onward : (word : ℕ) (text : List ℕ) (at : ℕ) → 0 < length (digits_fr
 unfolding digits_from digits_end
 onward word text at some = some_onward (rule_of word Integer) text at _ some
 
+-- what a number that has neither a point nor an exponent says of its end
 module _ (f : Form) (text : List ℕ) (start : ℕ)
     (no : is_float f text (past_sign f text start) ≡ false)
-    (exact : is_always_float f.whole ≡ false) where
+    (no_prefix : is_some (prefix_word (language f text start) text (past_sign f text start))
+    ≡ false) where
   abbrev here : ℕ
   here = past_sign f text start
 
   abbrev literal : Result Literal LanguageError
   literal = literal_at (language f text start) text here (2 ^ 128 - 1)
 
-  abbrev end_of : Result ℕ NumberError
-  end_of = decimal_end f text start (plain_at f text start binary64)
+  -- all digits end there, or a `0` alone
+  abbrev EndsAt : ℕ → Type 0
+  EndsAt end = (end ≡ whole_end f text here → ⊥)
+      → (has_byte text here 48 ≡ true) × (end ≡ here + 1)
 
-  of_literal : end_of ≡ decimal_end f text start (integer_here f text start binary64 literal)
-  unfolding plain_at
-  of_literal = rw (no, exact) refl
+  -- whether a number's digits are decimal
+  abbrev pub is_decimal : Number Float → Bool
+  is_decimal (numbers.Integer negative magnitude said) = said == word f text
+  is_decimal (numbers.Float x) = true
 
-  abbrev lone_end : Result ℕ NumberError
-  lone_end = if has_byte text here 48 then Ok (here + 1) else Err (errors.Empty here)
+  of_float : has_more_zeros f text here ≡ false → 0 < length (whole_digits f text here)
+      → (end : ℕ) → digits_stop f text here ≡ end → EndsAt end
+  of_float z some end e other =
+      absurd (other (sym e ∙ alone_stop f text here no z some))
 
-  zero_end : decimal_end f text start (zero_here f text start binary64) ≡ lone_end
-  zero_end = by (has_byte text here 48)
+  many : has_byte text here 48 ≡ false → (over : ℕ) → literal ≡ Err (literals.Overflow over)
+      → 0 < length (whole_digits f text here)
+  many other over is =
+      large_some (word f text) text here over
+      (large_plain (language f text start) text here over other (word f text)
+      (by (has_sign f text start && not f.signed_prefix)) is)
     where
-      by : (b : Bool)
-          → decimal_end f text start (if b then
-          Ok (numbers.Integer (is_minus f text start) 0 (word f text), here + 1) else
-          Err (errors.Empty here)) ≡ (if b then Ok (here + 1) else Err (errors.Empty here))
-      by true = grind (arith, nat_tests)
+      by : (b : Bool) → (if b then unprefixed f.integers else f.integers).decimal
+          ≡ f.integers.decimal
+      by true = refl
       by false = refl
 
-  pub empty_end : (e : ℕ) → literal ≡ Err (literals.Empty e) → end_of ≡ lone_end
-  empty_end e is = of_literal ∙ rw is zero_end
+  -- of a number that is one always a float, and of an integer
+  ends_whole : (n : Number Float) (end : ℕ) → whole_here f text start binary64 ≡ Ok (n, end)
+      → EndsAt end
+  ends_whole n end = by (has_more_zeros f text here) (has_digits (parts f text here)) refl refl
+    where
+      zeros : has_more_zeros f text here ≡ true → has_byte text here 48 ≡ true
+      zeros z = grind (arith, z)
 
-  pub refused_end : (e : ℕ) → literal ≡ Err (literals.Zero e) → end_of ≡ lone_end
-  refused_end e is = of_literal ∙ rw is zero_end
+      some : has_more_zeros f text here ≡ false → has_digits (parts f text here) ≡ true
+          → (k : ℕ) → length (whole_digits f text here) ≡ k → 0 < k
+      some z d zero e = absurd (let a = digits.none f text here no z e in cc)
+      some z d (suc k) e = omega arith
 
-  module _ (other : has_byte text here 48 ≡ false) (over : ℕ)
-      (is : literal ≡ Err (literals.Overflow over)) where
-    some : 0 < length (whole_digits f text here)
-    some =
-        large_some (word f text) text here over
-        (large_plain (language f text start) text here over other (word f text)
-        (by (has_sign f text start && not f.signed_prefix)) is)
-      where
-        by : (b : Bool) → (if b then unprefixed f.integers else f.integers).decimal
-            ≡ f.integers.decimal
-        by true = refl
-        by false = refl
+      by : (z d : Bool) → has_more_zeros f text here ≡ z → has_digits (parts f text here) ≡ d
+          → ◌≡◌ {A = Outcome}
+          (if z then Ok (numbers.Float (round binary64 (is_minus f text start) 0 1), here + 1)
+          else if d then float_here f text start binary64 else Err (errors.Empty here))
+          (Ok (n, end)) → EndsAt end
+      by true d z e is = λ other. (zeros z, grind (arith, is))
+      by false true z e is =
+          of_float z (some z e (length (whole_digits f text here)) refl) end (grind (arith, is))
+      by false false z e is = absurd (grind (arith, is))
 
-    pub large_end : end_of ≡ Ok (whole_end f text here)
-    large_end = of_literal ∙ rw (is, other) (by (may_be_float f.whole))
-      where
-        by : (b : Bool)
-            → decimal_end f text start (if b && true then float_here f text start binary64 else
-            Err (errors.Overflow over)) ≡ Ok (whole_end f text here)
-        by true = rw (alone_stop f text here no (no_zeros f text here other) some) refl
-        by false = rw other refl
+  ends_zero : (n : Number Float) (end : ℕ) → zero_here f text start binary64 ≡ Ok (n, end)
+      → EndsAt end
+  ends_zero n end = by (has_byte text here 48) refl
+    where
+      by : (z : Bool) → has_byte text here 48 ≡ z
+          → ◌≡◌ {A = Outcome}
+          (if z then Ok (numbers.Integer (is_minus f text start) 0 (word f text), here + 1)
+          else Err (errors.Empty here)) (Ok (n, end)) → EndsAt end
+      by true z is = λ other. (z, grind (arith, is))
+      by false z is = absurd (grind (arith, is))
 
-    pub large_onward : here < whole_end f text here
-    large_onward = onward (word f text) text here some
+  ends_integer : (o : Result Literal LanguageError) → literal ≡ o → (n : Number Float) (end : ℕ)
+      → integer_here f text start binary64 o ≡ Ok (n, end) → is_decimal n ≡ true → EndsAt end
+  ends_integer (Ok read) e n end is d = λ other.
+      let word_is : read.word ≡ word f text = grind (arith, nat_tests, is, d) in
+      let end_is : read.end ≡ end = grind (arith, is) in
+      absurd (other (sym end_is
+      ∙ literal_ends (language f text start) text here no_prefix (2 ^ 128 - 1) read e (word f text)
+      word_is))
+  ends_integer (Err (literals.Overflow over)) e n end is d =
+      by (may_be_float f.whole) (has_byte text here 48) refl is
+    where
+      by : (m z : Bool) → has_byte text here 48 ≡ z
+          → (if m && not z then float_here f text start binary64 else Err (errors.Overflow over))
+          ≡ Ok (n, end) → EndsAt end
+      by true false z is =
+          of_float (no_zeros f text here z) (many z over e) end (grind (arith, is))
+      by true true z is = absurd (grind (arith, is))
+      by false z h is = absurd (grind (arith, is))
+  ends_integer (Err (literals.Empty i)) e n end is d = ends_zero n end is
+  ends_integer (Err (literals.Zero i)) e n end is d = ends_zero n end is
+
+  pub ends : (n : Number Float) (end : ℕ) → plain_at f text start binary64 ≡ Ok (n, end)
+      → is_decimal n ≡ true → EndsAt end
+  unfolding plain_at
+  ends n end = by (is_always_float f.whole) refl
+    where
+      by : (b : Bool) → is_always_float f.whole ≡ b → plain_at f text start binary64 ≡ Ok (n, end)
+          → is_decimal n ≡ true → EndsAt end
+      by true e is d = ends_whole n end (rw (no, e) at is)
+      by false e is d = ends_integer literal refl n end (rw (no, e) at is) d
+
+  -- above 128 bits it has digits
+  of_overflow : (o : Result Literal LanguageError) → literal ≡ o → (over : ℕ)
+      → has_byte text here 48 ≡ false
+      → integer_here f text start binary64 o ≡ Err (errors.Overflow over)
+      → here < whole_end f text here
+  of_overflow (Ok read) e over z is = absurd (grind (arith, is))
+  of_overflow (Err (literals.Overflow i)) e over z is =
+      onward (word f text) text here (many z i e)
+  of_overflow (Err (literals.Empty i)) e over z is = absurd (grind (arith, z, is))
+  of_overflow (Err (literals.Zero i)) e over z is = absurd (grind (arith, z, is))
+
+  pub large_onward : (over : ℕ) → plain_at f text start binary64 ≡ Err (errors.Overflow over)
+      → has_byte text here 48 ≡ false → here < whole_end f text here
+  unfolding plain_at
+  large_onward over = by (is_always_float f.whole) refl
+    where
+      by : (b : Bool) → is_always_float f.whole ≡ b
+          → plain_at f text start binary64 ≡ Err (errors.Overflow over)
+          → has_byte text here 48 ≡ false → here < whole_end f text here
+      by true e is z =
+          absurd (no_fault (has_more_zeros f text here) (has_digits (parts f text here))
+          (rw (no, e) at is))
+        where
+          no_fault : (z d : Bool)
+              → ◌≡◌ {A = Outcome}
+              (if z then Ok (numbers.Float (round binary64 (is_minus f text start) 0 1), here + 1)
+              else if d then float_here f text start binary64 else Err (errors.Empty here))
+              (Err (errors.Overflow over)) → ⊥
+          no_fault true d is = grind (arith, is)
+          no_fault false true is = grind (arith, is)
+          no_fault false false is = grind (arith, is)
+      by false e is z = of_overflow literal refl over z (rw (no, e) at is)
 
 -- ---- of truths
 

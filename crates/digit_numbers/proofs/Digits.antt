@@ -12,7 +12,7 @@ use Rattle.lexical_digits.specs.Cursor.{holds_of}
 use Rattle.digit_floats.specs.Bytes.{stands, is_point, is_mark}
 use Rattle.digit_languages.specs.declared.language.Language.{Language}
 use Rattle.lexical_digits.specs.declared.skip.component.Component.TheVariants.{Integer}
-use Rattle.digit_literals.specs.Numbers.{has_byte}
+use Rattle.digit_values.specs.Bytes.{has_byte}
 use Rattle.digit_floats.specs.Float.{digits_end, exponent_digits, fraction_digits, fraction_end}
 use Rattle.digit_floats.specs.Float.{mantissa_end}
 use Rattle.digit_numbers.specs.declared.form.Form.{Form}

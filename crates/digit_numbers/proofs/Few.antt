@@ -1,14 +1,14 @@
 -- The value of an integer whose digits are at most 19 significant ones.
-use Rattle.std.proofs.Common.{◌≡◌, ℕ, ◌≤◌, ◌-◌, Bool, List, [], ◌++◌, length, refl, sym, ◌∙◌, ap, arith}
+use Rattle.std.proofs.Common.{◌≡◌, ℕ, ◌≤◌, List, [], ◌++◌, length, sym, ◌∙◌, ap, arith}
 use Rattle.std.proofs.lemmas.Bool.Decides.{nat_tests}
 use Rattle.std.proofs.lemmas.List.{append-nil, take_all, nil_from_length}
-use Rattle.std.specs.Prelude.{Ok, filter, slice_range}
+use Rattle.std.specs.Prelude.{Ok}
 use Rattle.lexical_digits.specs.declared.skip.rule.Rule.{Rule}
-use Rattle.digit_literals.specs.Integers.{integer_at, IsIntegerFrom}
+use Rattle.digit_integers.specs.Integers.{integer_at, IsIntegerFrom}
 use Rattle.std.specs.Str.Parse.{digits_value}
 use Rattle.lexical_digits.specs.declared.skip.component.Component.TheVariants.{Integer}
-use Rattle.digit_literals.specs.Significant.{significant, IsOfFirstDigits}
-use Rattle.digit_literals.proofs.Significant.{worth_same}
+use Rattle.digit_values.specs.Significant.{significant, IsOfFirstDigits}
+use Rattle.digit_values.proofs.Significant.{worth_same}
 use Rattle.digit_floats.specs.Float.{digits_from}
 use Rattle.digit_floats.specs.Parts.{integer_of, fraction_of}
 use Rattle.digit_floats.specs.declared.parts.Mantissa.{Mantissa}
@@ -21,14 +21,6 @@ pub integer_is : (rule : Rule) (text : List ℕ) (start most value end : ℕ)
 unfolding integer_at
 integer_is rule text start most value end i =
     grind (arith, nat_tests, i.ends, i.some, i.is, i.fits)
-
--- no digits are worth 0
-pub no_digits : IsOfFirstDigits 10 19 [] 0 0
-unfolding significant
-no_digits = search
-
-pub none_between : (p : ℕ → Bool) (text : List ℕ) (at : ℕ) → filter p (slice_range text at at) ≡ []
-none_between p text at = let none : at - at ≡ 0 = omega arith in rw none refl
 
 -- none was dropped
 value_of_few : (ds : List ℕ) (value more : ℕ) → IsOfFirstDigits 10 19 ds value more → more ≡ 0
@@ -51,7 +43,5 @@ module _ (word : ℕ) (text : List ℕ) (m : Mantissa) (is : IsWholeOf word text
       let all : integer_of text m ++ fraction_of text m ≡ integer_of text m =
       rw no_fraction (append-nil (integer_of text m)) in
       value_of_few _ _ _ is.is.first few ∙ ap (λ t. digits_value 10 t) (all ∙ is.integer)
-
-pub ruleset zero = (no_digits, none_between)
 
 pub ruleset few = (digits_of_whole, value_of_whole)

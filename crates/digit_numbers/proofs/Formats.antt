@@ -5,7 +5,7 @@ use Rattle.std.specs.Float.{Float, Format}
 use Rattle.std.specs.Float.Numeral.{has_digits}
 use Rattle.lexical_format.specs.Word.{separator}
 use Rattle.lexical_digits.specs.Separators.{is_separator}
-use Rattle.digit_literals.specs.Numbers.{has_byte}
+use Rattle.digit_values.specs.Bytes.{has_byte}
 use Rattle.digit_floats.specs.Bytes.{stands}
 use Rattle.digit_languages.specs.declared.literal.Literal.{Literal}
 use Rattle.digit_languages.specs.declared.literal.LanguageError.{LanguageError}

@@ -23,12 +23,12 @@ use Rattle.lexical_digits.specs.Separators.{is_separator_class, holds_separator}
 use Rattle.lexical_digits.specs.State.{rule_of}
 use Rattle.lexical_digits.specs.Stop.{stop}
 use Rattle.lexical_digits.proofs.Calls.FirstOther.{stop_is_first}
-use Rattle.digit_literals.specs.After.{digits_between}
-use Rattle.digit_literals.specs.Integers.{first_over, integer_at, value_to, IsIntegerFrom}
-use Rattle.digit_literals.specs.declared.LiteralError.{LiteralError}
-use Rattle.digit_literals.specs.declared.LiteralError.TheVariants as integers
-use Rattle.digit_literals.specs.Numbers.{has_byte}
-use Rattle.digit_literals.proofs.Texts.{says_some, some_at, reads_more}
+use Rattle.digit_values.specs.After.{digits_between}
+use Rattle.digit_integers.specs.Integers.{first_over, integer_at, value_to, IsIntegerFrom}
+use Rattle.digit_values.specs.declared.LiteralError.{LiteralError}
+use Rattle.digit_values.specs.declared.LiteralError.TheVariants as integers
+use Rattle.digit_values.specs.Bytes.{has_byte}
+use Rattle.digit_integers.proofs.Texts.{says_some, some_at, reads_more}
 use Rattle.digit_floats.specs.Bytes.{stands, is_point, is_minus, is_sign}
 use Rattle.digit_floats.proofs.Bytes.{stands_is, stands_within}
 use Rattle.digit_floats.proofs.Decimals.{same_digit}

@@ -6,9 +6,9 @@ use Rattle.lexical_digits.specs.declared.skip.rule.Rule.{Rule}
 use Rattle.lexical_digits.specs.declared.skip.component.Component.TheVariants.{Integer}
 use Rattle.lexical_digits.specs.State.{rule_of}
 use Rattle.lexical_digits.specs.Stop.{stop}
-use Rattle.digit_literals.specs.After.{digits_between}
-use Rattle.digit_literals.specs.Integers.{integer_at}
-use Rattle.digit_literals.specs.declared.LiteralError.TheVariants.{Overflow}
+use Rattle.digit_values.specs.After.{digits_between}
+use Rattle.digit_integers.specs.Integers.{integer_at}
+use Rattle.digit_values.specs.declared.LiteralError.TheVariants.{Overflow}
 use Rattle.digit_floats.specs.Float.{digits_end, digits_from}
 unfoldable pub use Rattle.digit_floats.specs.Float.{components}
 

@@ -1,11 +1,11 @@
 pub mod Alone
 pub mod AsDecimal
+pub mod BothSides
 pub mod Decimals
 pub mod Digits
 pub mod Few
 pub mod Formats
 pub mod Json
-mod JsonFloats
 pub mod JsonBytes
 pub mod Large
 pub mod Longest
@@ -16,3 +16,4 @@ pub mod SameParts
 pub mod ShortNumbers
 pub mod WhatFollows
 pub mod Zeros
+pub mod JsonFloats

@@ -4,7 +4,7 @@ use Rattle.lexical_format.specs.Digits.{digit_value}
 use Rattle.lexical_digits.specs.Separators.{kept_positions, is_kept, is_dropped, holds_separator}
 use Rattle.lexical_digits.specs.Separators.{is_digit, is_separator, drain, digits_seen}
 use Rattle.lexical_digits.specs.Stop.{stop}
-use Rattle.digit_literals.specs.Integers.{integer_at}
+use Rattle.digit_integers.specs.Integers.{integer_at}
 use Rattle.digit_floats.specs.Float.{digits_end, digits_from, fraction_digits, fraction_end}
 use Rattle.digit_floats.specs.Float.{exponent_digits, exponent_end, exponent_negative}
 use Rattle.digit_numbers.specs.Numbered.{source_form, script_form, format_form, parse_form, take_form}

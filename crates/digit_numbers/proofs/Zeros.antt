@@ -12,10 +12,10 @@ use Rattle.digit_languages.specs.declared.literal.Literal.{Literal}
 use Rattle.digit_languages.specs.declared.literal.LanguageError.TheVariants as literals
 use Rattle.lexical_digits.specs.declared.skip.component.Component.TheVariants.{Integer}
 use Rattle.lexical_digits.specs.State.{rule_of}
-use Rattle.digit_literals.specs.Integers.{integer_at}
-use Rattle.digit_literals.specs.declared.LiteralError.{LiteralError}
-use Rattle.digit_literals.specs.declared.LiteralError.TheVariants.{Empty, Overflow}
-use Rattle.digit_literals.specs.Numbers.{has_byte}
+use Rattle.digit_integers.specs.Integers.{integer_at}
+use Rattle.digit_values.specs.declared.LiteralError.{LiteralError}
+use Rattle.digit_values.specs.declared.LiteralError.TheVariants.{Empty, Overflow}
+use Rattle.digit_values.specs.Bytes.{has_byte}
 use Rattle.digit_numbers.specs.Forms.{with_hex_only}
 use Rattle.digit_numbers.specs.Reads.{IsPlain}
 

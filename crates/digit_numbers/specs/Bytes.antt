@@ -1,2 +1,2 @@
 -- Several bytes of a text, beside its numbers.
-pub use Rattle.digit_literals.specs.Bytes.{has_bytes, expect_bytes}
+pub use Rattle.digit_values.specs.Bytes.{has_bytes, expect_bytes}

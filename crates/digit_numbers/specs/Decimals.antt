@@ -7,8 +7,8 @@ use Rattle.std.specs.Float.Numeral.{Parts}
 use Rattle.std.specs.Str.Parse.{digits_value}
 use Rattle.lexical_digits.specs.declared.skip.component.Component.TheVariants.{Integer}
 use Rattle.lexical_digits.specs.State.{rule_of}
-use Rattle.digit_literals.specs.After.{digits_between}
-use Rattle.digit_literals.specs.Numbers.{has_byte}
+use Rattle.digit_values.specs.After.{digits_between}
+use Rattle.digit_values.specs.Bytes.{has_byte}
 use Rattle.digit_floats.specs.declared.decimal.Decimal.{Decimal}
 use Rattle.digit_floats.specs.Decimals.{decimal_of, signed_exponent}
 use Rattle.digit_languages.specs.Literals.{prefix_word}

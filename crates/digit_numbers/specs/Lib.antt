@@ -4,6 +4,7 @@ pub mod Decimals
 pub mod Follows
 pub mod Forms
 pub mod Json
+pub mod Moves
 pub mod Numbered
 pub mod Numbers
 pub mod Reads

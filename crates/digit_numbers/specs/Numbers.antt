@@ -12,7 +12,7 @@ use Rattle.lexical_format.specs.Word.{separator}
 use Rattle.lexical_digits.specs.declared.skip.component.Component.TheVariants.{Integer}
 use Rattle.lexical_digits.specs.Separators.{is_separator}
 use Rattle.lexical_digits.specs.State.{rule_of}
-use Rattle.digit_literals.specs.Numbers.{has_byte}
+use Rattle.digit_values.specs.Bytes.{has_byte}
 use Rattle.digit_floats.specs.Bytes.{stands, is_mark, is_point}
 use Rattle.digit_floats.specs.Float.{digits_end, digits_from, fraction_digits, fraction_end}
 use Rattle.digit_floats.specs.Float.{exponent_digits, exponent_end, exponent_negative}

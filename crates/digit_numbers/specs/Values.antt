@@ -3,7 +3,7 @@ use Rattle.std.specs.Prelude.{ℕ, ℤ, ◌==◌, Bool, false, if◌then◌else�
 use Rattle.std.specs.Prelude.{List, ◌++◌, codes, decimal}
 use Rattle.std.specs.Float.{Float, Format, NotNan}
 use Rattle.std.specs.Float.Ieee.{round}
-use Rattle.digit_literals.specs.Numbers.{signed}
+use Rattle.digit_integers.specs.Numbers.{signed}
 use Rattle.digit_numbers.specs.declared.number.Number.{Number}
 use Rattle.digit_numbers.specs.declared.number.Number.TheVariants as numbers
 use Rattle.digit_numbers.specs.declared.number.NumberError.{NumberError}

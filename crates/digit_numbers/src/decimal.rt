@@ -1,11 +1,11 @@
 //! The decimal number at a position, by a form, before it is rounded.
 
-ghost use Rattle.std.specs.Prelude.{◌≡◌, ◌+◌, ◌<◌, ◌≤◌, false, true, length, Ok, Err, IfOk, if◌then◌else◌, is_some, [], pos};
+ghost use Rattle.std.specs.Prelude.{◌≡◌, ◌+◌, ◌<◌, ◌≤◌, false, true, length, Ok, Err, IfOk, is_some, [], pos};
 ghost use Rattle.std.specs.Float.{binary64};
 ghost use Rattle.lexical_digits.specs.declared.skip.component.Component.TheVariants.{Integer};
 ghost use Rattle.lexical_digits.specs.State.{rule_of};
-ghost use Rattle.digit_literals.specs.After.{digits_between};
-ghost use Rattle.digit_literals.specs.Numbers.{has_byte};
+ghost use Rattle.digit_values.specs.After.{digits_between};
+ghost use Rattle.digit_values.specs.Bytes.{has_byte};
 ghost use Rattle.digit_floats.specs.Decimals.{decimal_of};
 ghost use Rattle.digit_languages.specs.Literals.{prefix_word};
 ghost use Rattle.digit_numbers.specs.declared.number.NumberError.TheVariants.{Empty};
@@ -14,15 +14,15 @@ ghost use Rattle.digit_numbers.specs.Forms.{IsForm};
 ghost use Rattle.digit_numbers.specs.Numbers.{is_float, is_minus, language, parts, plain_at};
 ghost use Rattle.digit_numbers.specs.Reads.{IsMantissaAt, IsPowerAt, IsSign};
 
-use super::float::{float_power, has_more_zeros, whole_of};
+use super::float::{float_power, whole_of};
 use super::form::Form;
-use super::integer::{has_separator, is_zero, read_integer};
-use super::number::NumberError;
-use super::plain::read_digits;
+use super::integer::{has_separator, is_zero};
+use super::number::{Number, NumberError};
+use super::plain::{read_digits, read_whole};
 use super::sign::{Sign, language_of, read_sign};
 use super::special::special_of;
 use digit_floats::{Decimal, Mantissa, Power, decimal_of};
-use digit_languages::{LanguageError, prefix_word};
+use digit_languages::prefix_word;
 
 /// Whether a special value or a prefix is after the sign.
 fn is_named(text: &[u8], start: usize, form: Form, sign: Sign) -> bool
@@ -34,21 +34,8 @@ fn is_named(text: &[u8], start: usize, form: Form, sign: Sign) -> bool
     special.is_some() || prefix_word(language_of(form, sign.is_there), text, sign.end).is_some()
 }
 
-/// Where a `0` ends, if one is at a position.
-fn zero_end(text: &[u8], at: usize) -> Result<usize, NumberError>
-    ensures is { result ≡ (if has_byte text.now at 48 then Ok (at + 1) else Err (Empty at)) }
-    ensures zero { IfOk result (λ end. (has_byte text.now at 48 ≡ true) × (end ≡ at + 1)) }
-    ensures end { IfOk result (λ end. (at < end) × (end ≤ length text.now)) }
-{
-    if is_zero(text, at) {
-        Ok(at + 1)
-    } else {
-        Err(NumberError::Empty(at))
-    }
-}
-
-/// Where the digits of a number end that has neither a point nor an exponent.
-#[tactic(auto, using(crate::proofs::Digits::wholes), unfolding(crate::specs::Numbers::plain_at))]
+/// Where the digits of a number end that has neither a point nor an exponent: where the number
+/// does, if they are decimal, and of an integer above 128 bits where all do.
 fn read_end(
     text: &[u8],
     start: usize,
@@ -56,7 +43,6 @@ fn read_end(
     sign: Sign,
     mantissa: Mantissa,
 ) -> Result<usize, NumberError>
-    requires within { start ≤ length text.now }
     requires form { IsForm form }
     requires sign { IsSign form text.now start sign }
     requires digits { IsMantissaAt form text.now mantissa }
@@ -69,23 +55,26 @@ fn read_end(
         (has_byte text.now sign.end 48 ≡ true) × (end ≡ sign.end + 1)) }
     ensures end { IfOk result (λ end. (start < end) × (end ≤ length text.now)) }
 {
-    let at = sign.end;
-    if form.whole.is_float() {
-        if has_more_zeros(text, form, mantissa) {
-            return Ok(at + 1);
+    match read_whole::<f64>(text, start, form, sign, mantissa) {
+        Ok(
+            (
+                Number::Integer {
+                    negative: _,
+                    magnitude: _,
+                    word,
+                },
+                end,
+            ),
+        ) => {
+            if word == form.integers.decimal {
+                Ok(end)
+            } else {
+                Err(NumberError::Empty(sign.end))
+            }
         }
-        if mantissa.digits == mantissa.places {
-            return Err(NumberError::Empty(at));
-        }
-        return Ok(mantissa.whole_end);
-    }
-    match read_integer(text, language_of(form, sign.is_there), at) {
-        Ok(read) if read.word == form.integers.decimal => Ok(read.end),
-        Ok(_) => Err(NumberError::Empty(at)),
-        Err(LanguageError::Overflow(over)) if is_zero(text, at) => Err(NumberError::Overflow(over)),
-        Err(LanguageError::Overflow(_)) => Ok(mantissa.whole_end),
-        Err(LanguageError::Empty(_)) => zero_end(text, at),
-        Err(LanguageError::Zero(_)) => zero_end(text, at),
+        Ok((Number::Float(_), end)) => Ok(end),
+        Err(NumberError::Overflow(_)) if !is_zero(text, sign.end) => Ok(mantissa.whole_end),
+        Err(error) => Err(error),
     }
 }
 
@@ -108,12 +97,7 @@ fn whole_to(text: &[u8], form: Form, negative: bool, mantissa: Mantissa, end: us
         };
     }
     let whole = whole_of(text, form.integers.decimal, mantissa);
-    let none = Power {
-        negative: false,
-        value: 0,
-        end,
-    };
-    decimal_of(text, negative, whole, none)
+    decimal_of(text, negative, whole, Power::none(end))
 }
 
 /// The decimal number of a float's mantissa and power.
@@ -127,7 +111,7 @@ fn of_float(text: &[u8], form: Form, negative: bool, mantissa: Mantissa, power: 
 
 /// The decimal number that begins at a start, where no special value and no prefix is.
 #[tactic(auto, unfolding(crate::specs::Numbers::plain_at))]
-fn read_plain(
+fn read_plain_decimal(
     text: &[u8],
     start: usize,
     form: Form,
@@ -176,5 +160,5 @@ pub fn read_decimal_of(
     if is_named(text, start, form, sign) || has_separator(text, form.integers.decimal, sign.end) {
         return Err(NumberError::Empty(sign.end));
     }
-    read_plain(text, start, form, sign)
+    read_plain_decimal(text, start, form, sign)
 }

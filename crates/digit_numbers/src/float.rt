@@ -8,22 +8,23 @@ ghost use Rattle.std.specs.Str.Parse.{digits_value};
 ghost use Rattle.lexical_digits.specs.declared.skip.component.Component.TheVariants.{Integer};
 ghost use Rattle.lexical_format.specs.Word.{is_supported, exponent_radix};
 ghost use Rattle.lexical_digits.specs.State.{rule_of};
-ghost use Rattle.digit_literals.specs.Integers.{integer_at};
-ghost use Rattle.digit_literals.specs.declared.LiteralError.TheVariants.{Overflow};
+ghost use Rattle.digit_integers.specs.Integers.{integer_at};
+ghost use Rattle.digit_values.specs.declared.LiteralError.TheVariants.{Overflow};
 ghost use Rattle.digit_floats.specs.Bytes.{stands, is_point, is_mark};
-ghost use Rattle.digit_floats.specs.Float.{IsDecimal, digits_from, digits_end, exponent_digits, exponent_end, exponent_negative, parts_at};
-ghost use Rattle.digit_floats.specs.Parts.{integer_of, fraction_of, IsMantissa, IsShort};
+ghost use Rattle.digit_floats.specs.Float.{IsDecimal, digits_from, digits_end, exponent_digits, exponent_negative, parts_at};
+ghost use Rattle.digit_floats.specs.Parts.{integer_of, fraction_of, IsMantissa, IsPowerFrom, IsShort};
 ghost use Rattle.digit_numbers.specs.Forms.{IsForm, is_barred};
 ghost use Rattle.digit_numbers.specs.Numbers.{allows_point, digits_stop, exponent, fraction, has_exponent, has_more_zeros, is_float, mark_at, mark_or, parts, whole_end};
-ghost use Rattle.digit_numbers.specs.Reads.{IsMantissaAt, IsExponentAt, IsWholeOf, IsPowerAt, IsFloatAt, whole_of};
+ghost use Rattle.digit_numbers.specs.Reads.{IsMantissaAt, IsExponentAt, IsFloatRead, IsPowerAt, IsWholeOf, whole_of};
 
 use super::form::Form;
 use super::integer::is_zero;
 use digit_floats::{
     Float, Mantissa, Power, has_mark, read_exponent, read_mantissa, read_short_exponent,
-    read_short_exponent_here, read_short_fraction, round_few, round_few_with, round_parts,
+    read_short_exponent_here, read_short_fraction, round_few, round_few_with, round_integer,
+    round_parts,
 };
-use digit_literals::has_byte;
+use digit_values::has_byte;
 
 /// Whether a byte is at a position that may not follow a point.
 #[inline(always)]
@@ -49,9 +50,9 @@ fn allows_point(text: &[u8], form: Form, mantissa: Mantissa) -> bool
 }
 
 /// Whether more digits follow a first `0`, which the form refuses.
-#[inline(always)]
+#[inline]
 pub fn has_more_zeros(text: &[u8], form: Form, mantissa: Mantissa) -> bool
-    requires is { IsMantissaAt form text.now mantissa }
+    requires { mantissa.whole_end ≡ whole_end form text.now mantissa.start }
     ensures { result ≡ has_more_zeros form text.now mantissa.start }
 {
     !form.float_zeros && is_zero(text, mantissa.start) && mantissa.start + 1 < mantissa.whole_end
@@ -63,11 +64,7 @@ fn read_exponent_apart(text: &[u8], word: u128, at: usize, mark: u8) -> Result<P
     requires supported { IsTrue (is_supported word) }
     requires decimal { exponent_radix word ≡ 10 }
     requires within { at ≤ length text.now }
-    ensures value { IfOk result (λ p.
-        p.value ≡ min (digits_value 10 (exponent_digits word text.now mark at)) (2 ^ 64 - 1)) }
-    ensures negative { IfOk result (λ p. p.negative ≡ exponent_negative word text.now mark at) }
-    ensures end { IfOk result (λ p. p.end ≡ exponent_end word text.now mark at) }
-    ensures within { IfOk result (λ p. (at ≤ p.end) × (p.end ≤ length text.now)) }
+    ensures is { IfOk result (IsPowerFrom word mark text.now at) }
     ensures some { OnOk result (stands (is_mark mark) text.now at ≡ true
         → 0 < length (exponent_digits word text.now mark at)) }
     ensures none { IfErr result (λ _. length (exponent_digits word text.now mark at) ≡ 0) }
@@ -121,11 +118,7 @@ fn no_power(text: &[u8], form: Form, mantissa: Mantissa) -> Power
     ensures is { IsPowerAt form text.now mantissa.start result }
     ensures end { result.end ≡ mantissa.end }
 {
-    Power {
-        negative: false,
-        value: 0,
-        end: mantissa.end,
-    }
+    Power::none(mantissa.end)
 }
 
 /// The exponent of the float that a mantissa begins, or 0 if it has none. `None` if it begins no
@@ -164,13 +157,8 @@ pub fn read_float<F: Float>(
 ) -> Option<(F, usize)>
     requires form { IsForm form }
     requires is { IsMantissaAt form text.now mantissa }
-    ensures is { MatchOption result (is_float form text.now mantissa.start ≡ false)
-        (λ r. is_float form text.now mantissa.start ≡ true) }
-    ensures value { IfSome result (λ r. F.value r.0
-        ≡ nearest_float F.format negative (parts form text.now mantissa.start)) }
-    ensures ends { IfSome result (λ r. r.1 ≡ digits_stop form text.now mantissa.start) }
-    ensures number { IfSome result (λ r. NotNan (F.value r.0)) }
-    ensures end { IfSome result (λ r. (mantissa.start < r.1) × (r.1 ≤ length text.now)) }
+    ensures { MatchOption result (is_float form text.now mantissa.start ≡ false)
+        (IsFloatRead F.format F.value form text.now mantissa.start negative) }
 {
     let power = float_power(text, form, mantissa)?;
     // the only place, so that rounding is inlined once
@@ -216,10 +204,8 @@ fn round_marked<F: Float>(
     requires mark { stands (is_mark form.marks.exponent) text.now mantissa.end ≡ true }
     requires few { mantissa.dropped ≡ 0 }
     requires power { IsExponentAt form text.now mantissa power }
-    ensures is { IfSome result (λ r.
-        IsFloatAt form text.now mantissa.start negative F.format (F.value r.0) r.1) }
-    ensures number { IfSome result (λ r. NotNan (F.value r.0)) }
-    ensures within { IfSome result (λ r. (mantissa.end ≤ r.1) × (r.1 ≤ length text.now)) }
+    ensures { IfSome result
+        (IsFloatRead F.format F.value form text.now mantissa.start negative) }
 {
     let has_fraction = mantissa.places > 0;
     if !form.exponents.allow(has_fraction) {
@@ -289,15 +275,6 @@ fn round_unmarked<F: Float>(
     }
 }
 
-/// Whether more digits follow a first `0`, which the form refuses: of the digits before a point.
-#[inline]
-pub fn has_short_zeros(text: &[u8], form: Form, whole: Mantissa) -> bool
-    requires is { IsShort form.integers.decimal text.now whole }
-    ensures { result ≡ has_more_zeros form text.now whole.start }
-{
-    !form.float_zeros && is_zero(text, whole.start) && whole.start + 1 < whole.whole_end
-}
-
 /// The float of the digits before a point that is there, if it is short: digits follow the point,
 /// and any mark of an exponent, which the form has there, and it refuses no first `0`.
 #[inline(always)]
@@ -312,12 +289,9 @@ pub fn read_short_pointed<F: Float>(
     requires is { IsShort form.integers.decimal text.now whole }
     requires some { 0 < whole.digits }
     requires point { stands (is_point form.marks.point) text.now whole.whole_end ≡ true }
-    ensures is { IfSome result (λ r.
-        IsFloatAt form text.now whole.start negative F.format (F.value r.0) r.1) }
-    ensures number { IfSome result (λ r. NotNan (F.value r.0)) }
-    ensures end { IfSome result (λ r. (whole.start < r.1) × (r.1 ≤ length text.now)) }
+    ensures { IfSome result (IsFloatRead F.format F.value form text.now whole.start negative) }
 {
-    if has_short_zeros(text, form, whole) {
+    if has_more_zeros(text, form, whole) {
         return None;
     }
     let mantissa = read_fraction(text, form, whole)?;
@@ -348,7 +322,7 @@ fn mantissa_of_whole(text: &[u8], form: Form, whole: Mantissa) -> Mantissa
 /// The float of the digits before the mark of an exponent that is there, if it is short: the form
 /// has an exponent there, digits follow the mark, and it refuses no first `0`.
 #[inline(always)]
-pub fn read_short_power<F: Float>(
+pub fn read_short_marked<F: Float>(
     text: &[u8],
     form: Form,
     negative: bool,
@@ -361,12 +335,9 @@ pub fn read_short_power<F: Float>(
     requires point { stands (is_point form.marks.point) text.now whole.whole_end ≡ false }
     requires mark { stands (is_mark form.marks.exponent) text.now whole.whole_end ≡ true }
     requires within { whole.whole_end < length text.now }
-    ensures is { IfSome result (λ r.
-        IsFloatAt form text.now whole.start negative F.format (F.value r.0) r.1) }
-    ensures number { IfSome result (λ r. NotNan (F.value r.0)) }
-    ensures end { IfSome result (λ r. (whole.start < r.1) × (r.1 ≤ length text.now)) }
+    ensures { IfSome result (IsFloatRead F.format F.value form text.now whole.start negative) }
 {
-    if has_short_zeros(text, form, whole) {
+    if has_more_zeros(text, form, whole) {
         return None;
     }
     let mantissa = mantissa_of_whole(text, form, whole);
@@ -399,12 +370,7 @@ fn round_alone<F: Float>(text: &[u8], negative: bool, mantissa: Mantissa) -> F
         (digits_value 10 (integer_of text.now mantissa ++ fraction_of text.now mantissa))
         (10 ^ mantissa.places) }
 {
-    let power = Power {
-        negative: false,
-        value: 0,
-        end: mantissa.end,
-    };
-    round_parts::<F>(text, negative, mantissa, power)
+    round_parts::<F>(text, negative, mantissa, Power::none(mantissa.end))
 }
 
 /// A byte that isn't at a position.
@@ -439,23 +405,11 @@ pub fn whole_of(text: &[u8], word: u128, mantissa: Mantissa) -> Mantissa
 
 /// The zero that a first `0` is by itself.
 #[cold]
-#[tactic(auto, using(digit_floats::proofs::Numbers::round_number, crate::proofs::Few::zero))]
-pub fn zero_alone<F: Float>(text: &[u8], negative: bool, at: usize) -> F
-    requires { at ≤ length text.now }
+pub fn zero_alone<F: Float>(negative: bool) -> F
     ensures value { F.value result ≡ round F.format negative 0 1 }
     ensures number { NotNan (F.value result) }
 {
-    let none = Mantissa {
-        value: 0,
-        digits: 0,
-        places: 0,
-        dropped: 0,
-        start: at,
-        whole_end: at,
-        fraction_start: at,
-        end: at,
-    };
-    round_alone::<F>(text, negative, none)
+    round_integer::<F>(negative, 0)
 }
 
 /// The float that digits are by themselves, in code of its own.

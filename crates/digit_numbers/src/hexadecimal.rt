@@ -1,6 +1,6 @@
 //! The hexadecimal float at a position, by a form.
 
-ghost use Rattle.std.specs.Prelude.{◌≡◌, ◌+◌, ◌-◌, ◌<◌, ◌≤◌, length, false, true, Some, None, is_some, ℕ, IsTrue, IfSome, MatchOption};
+ghost use Rattle.std.specs.Prelude.{◌≡◌, ◌+◌, ◌-◌, ◌<◌, ◌≤◌, length, false, true, Some, None, IsTrue, IfSome, MatchOption};
 ghost use Rattle.std.specs.Float.{NotNan};
 ghost use Rattle.lexical_format.specs.Word.{is_supported};
 ghost use Rattle.digit_floats.specs.Parts.{IsPower, exponent_of};
@@ -11,7 +11,7 @@ ghost use Rattle.digit_numbers.specs.Forms.{IsForm, has_hex, hex_form, with_hex_
 ghost use Rattle.digit_numbers.specs.Numbers.{allows_point, digits_stop, exponent, fraction, has_exponent, hex_value, hex_word_at, is_bare, is_hex_here, mark_at, parts};
 ghost use Rattle.lexical_digits.specs.declared.skip.component.Component.TheVariants.{Integer};
 ghost use Rattle.lexical_digits.specs.State.{rule_of};
-ghost use Rattle.digit_numbers.specs.Reads.{IsHexAt};
+ghost use Rattle.digit_numbers.specs.Reads.{IsHexAt, IsHexRead};
 
 use super::float::has_barred;
 use super::form::Form;
@@ -19,7 +19,7 @@ use digit_floats::{
     Float, HexMantissa, Power, has_mark, read_exponent, read_hex_mantissa, round_hex,
 };
 use digit_languages::{Language, prefix_word};
-use digit_literals::has_byte;
+use digit_values::has_byte;
 use lexical_digits::skip::{Component, Rule};
 
 /// A language with no prefix but that of hexadecimal digits.
@@ -124,19 +124,14 @@ fn round_alone<F: Float>(
         ≡ hex_value (hex_form form word) text.now mantissa.start F.format negative }
     ensures number { NotNan (F.value result) }
 {
-    let power = Power {
-        negative: false,
-        value: 0,
-        end: mantissa.end,
-    };
-    round_hex::<F>(text, negative, mantissa, power)
+    round_hex::<F>(text, negative, mantissa, Power::none(mantissa.end))
 }
 
 /// The float of hexadecimal digits at a position, after a prefix, and where it ends, if there is
 /// one.
 #[inline(always)]
 #[tactic(auto, using(crate::proofs::Digits::hexes), unfolding(crate::specs::Numbers::is_hex_here))]
-fn read_digits<F: Float>(
+fn read_hex_digits<F: Float>(
     text: &[u8],
     form: Form,
     word: u128,
@@ -190,20 +185,14 @@ fn read_hex<F: Float>(
     requires hexadecimal { has_hex form.hex_floats ≡ true
         → IfSome language.hexadecimal IsHexadecimal }
     requires within { at ≤ length text.now }
-    ensures is { MatchOption result (hex_word_at form language text.now at ≡ None)
-        (λ r. is_some (hex_word_at form language text.now at) ≡ true) }
-    ensures reads { IfSome result (λ r. (word : ℕ) →
-        hex_word_at form language text.now at ≡ Some word →
-        (F.value r.0 ≡ hex_value (hex_form form word) text.now (at + 2) F.format negative)
-        × (r.1 ≡ digits_stop (hex_form form word) text.now (at + 2))) }
-    ensures number { IfSome result (λ r. NotNan (F.value r.0)) }
-    ensures within { IfSome result (λ r. (at < r.1) × (r.1 ≤ length text.now)) }
+    ensures { MatchOption result (hex_word_at form language text.now at ≡ None)
+        (IsHexRead F.format F.value form language text.now at negative) }
 {
     if !form.hex_floats.exist() {
         return None;
     }
     let word = hex_word(text, language, at)?;
-    read_digits::<F>(text, form, word, negative, at + 2)
+    read_hex_digits::<F>(text, form, word, negative, at + 2)
 }
 
 /// The hexadecimal float at a position, if the form has any.
@@ -221,14 +210,8 @@ pub fn hex_of<F: Float>(
     requires hexadecimal { has_hex form.hex_floats ≡ true
         → IfSome language.hexadecimal IsHexadecimal }
     requires within { at ≤ length text.now }
-    ensures is { MatchOption result (hex_word_at form language text.now at ≡ None)
-        (λ r. is_some (hex_word_at form language text.now at) ≡ true) }
-    ensures reads { IfSome result (λ r. (word : ℕ) →
-        hex_word_at form language text.now at ≡ Some word →
-        (F.value r.0 ≡ hex_value (hex_form form word) text.now (at + 2) F.format negative)
-        × (r.1 ≡ digits_stop (hex_form form word) text.now (at + 2))) }
-    ensures number { IfSome result (λ r. NotNan (F.value r.0)) }
-    ensures within { IfSome result (λ r. (at < r.1) × (r.1 ≤ length text.now)) }
+    ensures { MatchOption result (hex_word_at form language text.now at ≡ None)
+        (IsHexRead F.format F.value form language text.now at negative) }
 {
     if !form.hex_floats.exist() {
         return None;

@@ -7,9 +7,9 @@ ghost use Rattle.lexical_digits.specs.Cursor.{holds_of};
 ghost use Rattle.lexical_digits.specs.Separators.{is_separator};
 ghost use Rattle.lexical_digits.specs.declared.skip.component.Component.TheVariants.{Integer};
 ghost use Rattle.lexical_digits.specs.State.{rule_of};
-ghost use Rattle.digit_literals.specs.Integers.{IsIntegerFrom};
+ghost use Rattle.digit_integers.specs.Integers.{IsIntegerFrom};
 ghost use Rattle.digit_floats.specs.Bytes.{stands};
-ghost use Rattle.digit_literals.specs.Numbers.{has_byte};
+ghost use Rattle.digit_values.specs.Bytes.{has_byte};
 ghost use Rattle.digit_languages.specs.Words.{IsLanguage};
 ghost use Rattle.digit_languages.specs.Literals.{literal_at};
 ghost use Rattle.digit_numbers.specs.Forms.{unprefixed};
@@ -17,7 +17,7 @@ ghost use Rattle.digit_numbers.specs.Reads.{IsPlain, IsWholeOf};
 
 use digit_floats::Mantissa;
 use digit_languages::{FirstZero, Language, LanguageError, Literal, read_literal};
-use digit_literals::has_byte;
+use digit_values::has_byte;
 use lexical_format::NumberFormat;
 
 /// A language without its prefixes.
@@ -103,7 +103,7 @@ fn is_plain(text: &[u8], language: Language, at: usize, value: u128, end: usize)
 
 /// The integer without a prefix whose digits were read as a mantissa, if it has all of them.
 #[inline(always)]
-fn read_decimal(text: &[u8], word: u128, mantissa: Mantissa) -> Option<(u128, usize)>
+fn value_of_mantissa(text: &[u8], word: u128, mantissa: Mantissa) -> Option<(u128, usize)>
     requires is { IsWholeOf word text.now mantissa }
     ensures is { let r = rule_of word Integer in IfSome result (λ read.
         IsIntegerFrom r text.now mantissa.start (2 ^ 128 - 1) read.0 read.1) }
@@ -118,7 +118,7 @@ fn read_decimal(text: &[u8], word: u128, mantissa: Mantissa) -> Option<(u128, us
 /// The longest integer of a language whose decimal digits were read as a mantissa: if it has no
 /// prefix, no more digits after a first `0`, and at most 19 significant ones.
 #[inline(always)]
-pub fn read_few(text: &[u8], language: Language, mantissa: Mantissa) -> Option<Literal>
+pub fn integer_of_mantissa(text: &[u8], language: Language, mantissa: Mantissa) -> Option<Literal>
     requires is { IsWholeOf language.decimal text.now mantissa }
     ensures is { IfSome result (λ read.
         literal_at language text.now mantissa.start (2 ^ 128 - 1) ≡ Ok read) }
@@ -126,7 +126,7 @@ pub fn read_few(text: &[u8], language: Language, mantissa: Mantissa) -> Option<L
         (mantissa.start < read.end) × (read.end ≤ length text.now)) }
 {
     let at = mantissa.start;
-    let (value, end) = read_decimal(text, language.decimal, mantissa)?;
+    let (value, end) = value_of_mantissa(text, language.decimal, mantissa)?;
     if !is_plain(text, language, at, value, end) {
         return None;
     }

@@ -5,7 +5,7 @@ ghost use Rattle.std.specs.Char.{is_ascii_digit};
 ghost use Rattle.std.specs.Float as Ieee;
 ghost use Rattle.lexical_digits.specs.State.{rule_of};
 ghost use Rattle.lexical_digits.specs.declared.skip.component.Component.TheVariants as components;
-ghost use Rattle.digit_literals.specs.Integers.{integer_at};
+ghost use Rattle.digit_integers.specs.Integers.{integer_at};
 ghost use Rattle.digit_floats.specs.Bytes.{stands, is_minus};
 ghost use Rattle.digit_floats.specs.Float.{plain_marks, read_at, parse_at};
 ghost use Rattle.digit_numbers.specs.declared.number.Number.TheVariants.{Integer, Float};

@@ -7,9 +7,7 @@ mod form;
 pub mod forms;
 mod hexadecimal;
 mod integer;
-mod items;
 pub mod laws;
-mod list;
 pub mod names;
 mod number;
 mod numbered;
@@ -23,8 +21,6 @@ pub use self::form::{
     AfterPoint, Exponents, Form, HexFloats, NameSign, Signs, Special, SpecialValue, Specials,
     Whole, is_form,
 };
-pub use self::items::{Item, Items, read_items};
-pub use self::list::{OfForm, read_list_of};
 pub use self::number::{Number, NumberError, parse_number_of, read_number_of};
 pub use self::numbered::form_of;
-pub use digit_literals::{expect_bytes, has_bytes};
+pub use digit_values::{expect_bytes, has_bytes};

@@ -5,7 +5,7 @@ ghost use Rattle.std.specs.Prelude.{IfOk, MatchOption, MatchResult};
 ghost use Rattle.std.specs.Float.{NotNan};
 ghost use Rattle.digit_numbers.specs.Forms.{IsForm};
 ghost use Rattle.digit_numbers.specs.Numbers.{hex_word_here, number_of_at, special_here, to_end};
-ghost use Rattle.digit_numbers.specs.Reads.{IsSign};
+ghost use Rattle.digit_numbers.specs.Reads.{IsSign, Reads};
 ghost use Rattle.digit_numbers.specs.Values.{integer_in, float_in, with_value, IsNoNan, none_at, position, message};
 
 use super::form::Form;
@@ -16,7 +16,7 @@ use super::short::read_short;
 use super::sign::{Sign, language_of, read_sign};
 use super::special::special_of;
 use digit_floats::{Float, round_integer};
-use digit_literals::Integer;
+use digit_integers::Integer;
 use std::error::Error;
 use std::fmt;
 
@@ -152,11 +152,7 @@ fn read_long<F: Float>(
     requires within { start ≤ length text.now }
     requires form { IsForm form }
     requires no_special { special_here form text.now start ≡ None }
-    ensures is { MatchResult result
-        (λ r. number_of_at form text.now start F.format ≡ Ok (with_value F.value r.0, r.1))
-        (λ error. number_of_at form text.now start F.format ≡ Err error) }
-    ensures no_nan { IfOk result (λ r. IsNoNan F.value r.0) }
-    ensures end { IfOk result (λ r. (start < r.1) × (r.1 ≤ length text.now)) }
+    ensures { Reads F.value text.now start (number_of_at form text.now start F.format) result }
 {
     let sign = read_sign(text, form, start);
     let language = language_of(form, sign.is_there);
@@ -180,11 +176,7 @@ fn read_rest<F: Float>(
     requires within { start ≤ length text.now }
     requires form { IsForm form }
     requires no_special { special_here form text.now start ≡ None }
-    ensures is { MatchResult result
-        (λ r. number_of_at form text.now start F.format ≡ Ok (with_value F.value r.0, r.1))
-        (λ error. number_of_at form text.now start F.format ≡ Err error) }
-    ensures no_nan { IfOk result (λ r. IsNoNan F.value r.0) }
-    ensures end { IfOk result (λ r. (start < r.1) × (r.1 ≤ length text.now)) }
+    ensures { Reads F.value text.now start (number_of_at form text.now start F.format) result }
 {
     match read_long::<F>(text, start, form) {
         Ok((number, end)) => Ok((number, end)),

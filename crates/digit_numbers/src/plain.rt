@@ -1,15 +1,14 @@
 //! The integer or decimal float at a position, after any sign, whatever its digits are.
 
-ghost use Rattle.std.specs.Prelude.{◌≡◌, ◌<◌, ◌≤◌, length, false, Ok, Err, IfOk, MatchResult};
+ghost use Rattle.std.specs.Prelude.{◌≡◌, ◌<◌, ◌≤◌, length, false, Ok, Err};
 ghost use Rattle.digit_numbers.specs.declared.number.Number.TheVariants.{Integer};
 ghost use Rattle.digit_numbers.specs.Forms.{IsForm, is_always_float};
 ghost use Rattle.digit_numbers.specs.Numbers.{is_float, plain_at};
-ghost use Rattle.digit_numbers.specs.Reads.{IsMantissaAt, IsSign};
-ghost use Rattle.digit_numbers.specs.Values.{with_value, IsNoNan};
+ghost use Rattle.digit_numbers.specs.Reads.{IsMantissaAt, IsSign, Reads};
 
 use super::float::{has_more_zeros, read_float, read_large, round_whole, zero_alone};
 use super::form::Form;
-use super::integer::{is_zero, read_few, read_integer};
+use super::integer::{integer_of_mantissa, is_zero, read_integer};
 use super::number::{Number, NumberError};
 use super::sign::{Sign, language_of};
 use digit_floats::{Float, Mantissa, read_mantissa};
@@ -29,28 +28,23 @@ pub fn read_digits(text: &[u8], form: Form, at: usize) -> Mantissa
 /// The number that digits are without a point and an exponent.
 #[inline(always)]
 #[tactic(auto, using(crate::proofs::Digits::wholes), unfolding(crate::specs::Numbers::plain_at))]
-fn read_whole<F: Float>(
+pub fn read_whole<F: Float>(
     text: &[u8],
     start: usize,
     form: Form,
     sign: Sign,
     mantissa: Mantissa,
 ) -> Result<(Number<F>, usize), NumberError>
-    requires within { start ≤ length text.now }
     requires form { IsForm form }
     requires sign { IsSign form text.now start sign }
     requires digits { IsMantissaAt form text.now mantissa }
     requires start { mantissa.start ≡ sign.end }
     requires no_float { is_float form text.now sign.end ≡ false }
-    ensures is { MatchResult result
-        (λ r. plain_at form text.now start F.format ≡ Ok (with_value F.value r.0, r.1))
-        (λ error. plain_at form text.now start F.format ≡ Err error) }
-    ensures no_nan { IfOk result (λ r. IsNoNan F.value r.0) }
-    ensures end { IfOk result (λ r. (start < r.1) × (r.1 ≤ length text.now)) }
+    ensures { Reads F.value text.now start (plain_at form text.now start F.format) result }
 {
     if form.whole.is_float() {
         if has_more_zeros(text, form, mantissa) {
-            let zero = zero_alone::<F>(text, sign.is_minus, sign.end);
+            let zero = zero_alone::<F>(sign.is_minus);
             return Ok((Number::Float(zero), sign.end + 1));
         }
         if mantissa.digits == mantissa.places {
@@ -60,10 +54,10 @@ fn read_whole<F: Float>(
         return Ok((Number::Float(x), mantissa.whole_end));
     }
     // this language and the one below are two, so that this one need not be in memory
-    if let Some(read) = read_few(text, language_of(form, sign.is_there), mantissa) {
+    if let Some(read) = integer_of_mantissa(text, language_of(form, sign.is_there), mantissa) {
         return Ok((integer_of(sign, read), read.end));
     }
-    read_other::<F>(text, start, form, sign)
+    read_any_integer::<F>(text, start, form, sign)
 }
 
 /// An integer with a sign.
@@ -82,22 +76,17 @@ pub fn integer_of<F: Float>(sign: Sign, read: Literal) -> Number<F>
 /// integer of the language.
 #[inline(always)]
 #[tactic(auto, using(crate::proofs::Digits::wholes), unfolding(crate::specs::Numbers::plain_at))]
-fn read_other<F: Float>(
+fn read_any_integer<F: Float>(
     text: &[u8],
     start: usize,
     form: Form,
     sign: Sign,
 ) -> Result<(Number<F>, usize), NumberError>
-    requires within { start ≤ length text.now }
     requires form { IsForm form }
     requires sign { IsSign form text.now start sign }
     requires exact { is_always_float form.whole ≡ false }
     requires no_float { is_float form text.now sign.end ≡ false }
-    ensures is { MatchResult result
-        (λ r. plain_at form text.now start F.format ≡ Ok (with_value F.value r.0, r.1))
-        (λ error. plain_at form text.now start F.format ≡ Err error) }
-    ensures no_nan { IfOk result (λ r. IsNoNan F.value r.0) }
-    ensures end { IfOk result (λ r. (start < r.1) × (r.1 ≤ length text.now)) }
+    ensures { Reads F.value text.now start (plain_at form text.now start F.format) result }
 {
     let at = sign.end;
     match read_integer(text, language_of(form, sign.is_there), at) {
@@ -129,14 +118,9 @@ pub fn read_plain<F: Float>(
     form: Form,
     sign: Sign,
 ) -> Result<(Number<F>, usize), NumberError>
-    requires within { start ≤ length text.now }
     requires form { IsForm form }
     requires sign { IsSign form text.now start sign }
-    ensures is { MatchResult result
-        (λ r. plain_at form text.now start F.format ≡ Ok (with_value F.value r.0, r.1))
-        (λ error. plain_at form text.now start F.format ≡ Err error) }
-    ensures no_nan { IfOk result (λ r. IsNoNan F.value r.0) }
-    ensures end { IfOk result (λ r. (start < r.1) × (r.1 ≤ length text.now)) }
+    ensures { Reads F.value text.now start (plain_at form text.now start F.format) result }
 {
     let mantissa = read_digits(text, form, sign.end);
     if let Some((x, end)) = read_float::<F>(text, form, sign.is_minus, mantissa) {

@@ -1,28 +1,27 @@
 //! The integer or decimal float at a position, after any sign, if it has few digits.
 
-ghost use Rattle.std.specs.Prelude.{◌≡◌, ◌<◌, ◌≤◌, length, false, Ok, None, IfSome};
+ghost use Rattle.std.specs.Prelude.{◌≡◌, ◌<◌, ◌≤◌, length, false, None, IfSome};
 ghost use Rattle.lexical_format.specs.Word.{separator};
 ghost use Rattle.lexical_digits.specs.Separators.{is_separator};
 ghost use Rattle.digit_floats.specs.Bytes.{stands, is_point, is_mark};
 ghost use Rattle.digit_floats.specs.Parts.{IsShort};
 ghost use Rattle.digit_numbers.specs.Forms.{IsForm};
 ghost use Rattle.digit_numbers.specs.Numbers.{plain_at};
-ghost use Rattle.digit_numbers.specs.Reads.{IsSign};
-ghost use Rattle.digit_numbers.specs.Values.{with_value, IsNoNan};
+ghost use Rattle.digit_numbers.specs.Reads.{IsRead, IsSign};
 
-use super::float::{has_short_zeros, read_short_pointed, read_short_power, round_short_whole};
+use super::float::{has_more_zeros, read_short_marked, read_short_pointed, round_short_whole};
 use super::form::Form;
-use super::integer::read_few;
+use super::integer::integer_of_mantissa;
 use super::number::Number;
 use super::plain::integer_of;
 use super::sign::{Sign, language_of};
 use digit_floats::{Float, Mantissa, has_mark, read_short_whole};
-use digit_literals::has_byte;
+use digit_values::has_byte;
 
 /// The digits of a number before a point, after any sign, if they are few.
 #[inline(always)]
 #[tactic(auto, using(crate::proofs::ShortNumbers::no_separator))]
-fn read_some(text: &[u8], form: Form, at: usize) -> Option<Mantissa>
+fn read_short_digits(text: &[u8], form: Form, at: usize) -> Option<Mantissa>
     requires form { IsForm form }
     requires within { at ≤ length text.now }
     ensures is { IfSome result (IsShort form.integers.decimal text.now) }
@@ -52,19 +51,17 @@ fn short_whole<F: Float>(
     requires some { 0 < whole.digits }
     requires point { stands (is_point form.marks.point) text.now whole.whole_end ≡ false }
     requires mark { stands (is_mark form.marks.exponent) text.now whole.whole_end ≡ false }
-    ensures is { IfSome result (λ r.
-        plain_at form text.now start F.format ≡ Ok (with_value F.value r.0, r.1)) }
-    ensures no_nan { IfSome result (λ r. IsNoNan F.value r.0) }
-    ensures end { IfSome result (λ r. (start < r.1) × (r.1 ≤ length text.now)) }
+    ensures is { IfSome result
+        (IsRead F.value text.now start (plain_at form text.now start F.format)) }
 {
     if form.whole.is_float() {
-        if has_short_zeros(text, form, whole) {
+        if has_more_zeros(text, form, whole) {
             return None;
         }
         let x = round_short_whole::<F>(text, form.integers.decimal, sign.is_minus, whole)?;
         return Some((Number::Float(x), whole.whole_end));
     }
-    let read = read_few(text, language_of(form, sign.is_there), whole)?;
+    let read = integer_of_mantissa(text, language_of(form, sign.is_there), whole)?;
     Some((integer_of(sign, read), read.end))
 }
 
@@ -79,26 +76,23 @@ pub fn read_short<F: Float>(
     form: Form,
     sign: Sign,
 ) -> Option<(Number<F>, usize)>
-    requires within { start ≤ length text.now }
     requires form { IsForm form }
     requires sign { IsSign form text.now start sign }
-    ensures is { IfSome result (λ r.
-        plain_at form text.now start F.format ≡ Ok (with_value F.value r.0, r.1)) }
-    ensures no_nan { IfSome result (λ r. IsNoNan F.value r.0) }
-    ensures end { IfSome result (λ r. (start < r.1) × (r.1 ≤ length text.now)) }
+    ensures is { IfSome result
+        (IsRead F.value text.now start (plain_at form text.now start F.format)) }
     ensures no_separator { IfSome result (λ _.
         stands (is_separator (separator form.integers.decimal)) text.now sign.end ≡ false) }
 {
     if form.other_mark.is_some() {
         return None;
     }
-    let whole = read_some(text, form, sign.end)?;
+    let whole = read_short_digits(text, form, sign.end)?;
     if has_byte(text, whole.whole_end, form.marks.point) {
         let (x, end) = read_short_pointed::<F>(text, form, sign.is_minus, whole)?;
         return Some((Number::Float(x), end));
     }
     if has_mark(text, whole.whole_end, form.marks.exponent) {
-        let (x, end) = read_short_power::<F>(text, form, sign.is_minus, whole)?;
+        let (x, end) = read_short_marked::<F>(text, form, sign.is_minus, whole)?;
         return Some((Number::Float(x), end));
     }
     short_whole::<F>(text, start, form, sign, whole)

@@ -9,6 +9,7 @@ ghost use Rattle.lexical_digits.specs.declared.skip.component.Component.TheVaria
 ghost use Rattle.lexical_digits.specs.Separators.{place};
 ghost use Rattle.lexical_digits.specs.State.{rule_of};
 ghost use Rattle.digit_numbers.specs.Forms.{IsForm};
+ghost use Rattle.digit_numbers.specs.Reads.{IsSpecialRead};
 ghost use Rattle.digit_numbers.specs.Specials.{begins, bytes_of, end_of, is_here, name_end};
 ghost use Rattle.digit_numbers.specs.Specials.{same_by, special_at, special_float};
 
@@ -181,10 +182,8 @@ fn read_special(
 ) -> Option<(Special, usize)>
     requires form { IsForm form }
     requires within { at ≤ length text.now }
-    ensures is { MatchOption result (special_at form text.now at is_signed is_minus ≡ None)
-        (λ r. special_at form text.now at is_signed is_minus ≡ Some r.0) }
-    ensures end { IfSome result (λ r. r.1 ≡ name_end form text.now at r.0) }
-    ensures within { IfSome result (λ r. (at < r.1) × (r.1 ≤ length text.now)) }
+    ensures { MatchOption result (special_at form text.now at is_signed is_minus ≡ None)
+        (IsSpecialRead form text.now at is_signed is_minus) }
 {
     let Some(specials) = form.specials else {
         return None;
@@ -210,10 +209,8 @@ fn special_in(
 ) -> Option<(Special, usize)>
     requires form { IsForm form }
     requires within { at ≤ length text.now }
-    ensures is { MatchOption result (special_at form text.now at is_signed is_minus ≡ None)
-        (λ r. special_at form text.now at is_signed is_minus ≡ Some r.0) }
-    ensures end { IfSome result (λ r. r.1 ≡ name_end form text.now at r.0) }
-    ensures within { IfSome result (λ r. (at < r.1) × (r.1 ≤ length text.now)) }
+    ensures { MatchOption result (special_at form text.now at is_signed is_minus ≡ None)
+        (IsSpecialRead form text.now at is_signed is_minus) }
 {
     match read_special(text, form, at, is_signed, is_minus) {
         Some((special, end)) => Some((special, end)),
@@ -233,10 +230,8 @@ pub fn special_of(
 ) -> Option<(Special, usize)>
     requires form { IsForm form }
     requires within { at ≤ length text.now }
-    ensures is { MatchOption result (special_at form text.now at is_signed is_minus ≡ None)
-        (λ r. special_at form text.now at is_signed is_minus ≡ Some r.0) }
-    ensures end { IfSome result (λ r. r.1 ≡ name_end form text.now at r.0) }
-    ensures within { IfSome result (λ r. (at < r.1) × (r.1 ≤ length text.now)) }
+    ensures { MatchOption result (special_at form text.now at is_signed is_minus ≡ None)
+        (IsSpecialRead form text.now at is_signed is_minus) }
 {
     match form.specials {
         Some(specials) if may_begin(text, form, specials, at) => {

@@ -11,7 +11,7 @@ use Rattle.lexical_digits.specs.Cursor.{holds_of}
 use Rattle.digit_literals.specs.declared.list.Gap.{Gap}
 use Rattle.digit_literals.specs.declared.list.ListEnd.TheVariants as lists
 use Rattle.digit_literals.specs.Lists.{Numbers, is_blank, has_separator, past_blanks, next_after, before, after_number, from_number, list_at}
-use Rattle.digit_literals.proofs.Passing.{one_passed}
+use Rattle.digit_values.proofs.Passing.{one_passed}
 use Rattle.digit_pieces.specs.Pieces.{full_past, is_of_blanks, next_start, after_of_whole, from_of_whole, whole_at}
 use Rattle.digit_pieces.proofs.Blanks.{led_more}
 use Rattle.digit_pieces.proofs.Fresh.{blank_here}

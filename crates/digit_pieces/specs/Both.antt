@@ -1,6 +1,6 @@
 -- Two numbers with a byte between them, as `3:4`.
 use Rattle.std.specs.Prelude.{ℕ, ◌+◌, ◌==◌, ◌||◌, Bool, false, if◌then◌else◌, List, Result, Ok, Err}
-use Rattle.digit_literals.specs.Numbers.{has_byte}
+use Rattle.digit_values.specs.Bytes.{has_byte}
 use Rattle.digit_pieces.specs.declared.kinds.both.BothError.{BothError}
 use Rattle.digit_pieces.specs.declared.kinds.both.BothError.TheVariants.{First, Between, Second}
 

@@ -1,6 +1,6 @@
 -- A number between two bytes, as `"1.50"`.
 use Rattle.std.specs.Prelude.{ℕ, ◌+◌, ◌==◌, ◌||◌, Bool, true, false, List, ◌++◌, codes, decimal, Option, Some, Result, Ok, Err}
-use Rattle.digit_literals.specs.Numbers.{has_byte}
+use Rattle.digit_values.specs.Bytes.{has_byte}
 use Rattle.digit_pieces.specs.declared.kinds.enclosed.BracketError.{BracketError}
 use Rattle.digit_pieces.specs.declared.kinds.enclosed.BracketError.TheVariants.{NoOpening, Number, NoClosing}
 

@@ -2,7 +2,7 @@
 
 ghost use Rattle.std.specs.Prelude.{◌≡◌, ℕ, Bool, ◌+◌, ◌^◌, ◌<◌, ◌≤◌, List, length, drop, Result, Ok, Err, IfOk, MatchResult};
 ghost use Rattle.digit_languages.specs.Follows.{AreSameBefore};
-ghost use Rattle.digit_pieces.specs.Moves.{IsFresh, outcome_later};
+ghost use Rattle.lexical_digits.specs.Moves.{IsFresh, outcome_later};
 
 /// A kind of numbers of a text, such as integers of a type by a format word. It says how a number
 /// is read, and which bytes one may have. Every other byte ends a number, and what follows such a

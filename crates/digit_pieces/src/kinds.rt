@@ -9,6 +9,7 @@ mod form_bytes;
 mod integers;
 mod of_form;
 mod of_language;
+mod prices;
 mod scaled;
 
 pub use self::both::{Both, BothError};
@@ -17,4 +18,5 @@ pub use self::floats::Floats;
 pub use self::integers::Integers;
 pub use self::of_form::OfForm;
 pub use self::of_language::OfLanguage;
+pub use self::prices::Prices;
 pub use self::scaled::Scaled;

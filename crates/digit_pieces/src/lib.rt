@@ -13,7 +13,7 @@ mod sure;
 pub use self::apart::is_apart;
 pub use self::kind::Kind;
 pub use self::kinds::{
-    Both, BothError, BracketError, Enclosed, Floats, Integers, OfForm, OfLanguage, Scaled,
+    Both, BothError, BracketError, Enclosed, Floats, Integers, OfForm, OfLanguage, Prices, Scaled,
 };
 pub use self::lists::{
     read_float_list_piece, read_list_piece, read_list_piece_of, read_scaled_list_piece,

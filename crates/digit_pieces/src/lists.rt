@@ -4,11 +4,11 @@ ghost use Rattle.std.specs.Prelude.{◌≤◌, length, IsTrue};
 ghost use Rattle.lexical_format.specs.Word.{is_supported};
 ghost use Rattle.lexical_digits.specs.State.{rule_of};
 ghost use Rattle.lexical_digits.specs.declared.skip.component.Component.TheVariants.{Integer};
-ghost use Rattle.digit_literals.specs.Errors.{literal_none_at};
-ghost use Rattle.digit_literals.specs.Numbers.{number_at};
+ghost use Rattle.digit_values.specs.Errors.{literal_none_at};
+ghost use Rattle.digit_integers.specs.Numbers.{number_at};
 ghost use Rattle.digit_floats.specs.Errors.{none_at as float_none_at};
 ghost use Rattle.digit_floats.specs.Float.{IsDecimal, plain_marks, read_at};
-ghost use Rattle.digit_floats.specs.Scaled.{none_at as scaled_none_at, read_scaled_at};
+ghost use Rattle.digit_amounts.specs.Scaled.{none_at as scaled_none_at, read_scaled_at};
 ghost use Rattle.digit_numbers.specs.Follows.{is_number_byte};
 ghost use Rattle.digit_numbers.specs.Forms.{IsForm};
 ghost use Rattle.digit_numbers.specs.Numbers.{number_of_at};
@@ -18,9 +18,12 @@ ghost use Rattle.digit_pieces.specs.Pieces.{piece_at, FillsPiece, IfAt};
 
 use super::kinds::{Floats, Integers, OfForm, Scaled};
 use super::piece::{PieceRead, read_piece};
-use digit_floats::{Float, FloatError, ScaledError};
-use digit_literals::{Gap, Integer, LiteralError};
+use digit_amounts::ScaledError;
+use digit_floats::{Float, FloatError};
+use digit_integers::Integer;
+use digit_literals::Gap;
 use digit_numbers::{Form, Number, NumberError};
+use digit_values::LiteralError;
 
 /// [`read_list`](digit_literals::read_list) of a piece of a text: [`read_piece`] of integers by a
 /// word. Requires that `start` is within the piece and the word is supported.
@@ -50,7 +53,7 @@ pub fn read_list_piece<T: Integer>(
     read_piece(Integers::<T>::new(word), text, start, gap, is_last, out)
 }
 
-/// [`read_float_list`](digit_floats::read_float_list) of a piece of a text: [`read_piece`] of
+/// [`read_float_list`](digit_lists::read_float_list) of a piece of a text: [`read_piece`] of
 /// floats by a word. Requires that `start` is within the piece, and that the word is supported and
 /// decimal.
 ///
@@ -80,7 +83,7 @@ pub fn read_float_list_piece<F: Float>(
     read_piece(Floats::<F>::new(word), text, start, gap, is_last, out)
 }
 
-/// [`read_list_of`](digit_numbers::read_list_of) of a piece of a text: [`read_piece`] of numbers by
+/// [`read_list_of`](digit_lists::read_list_of) of a piece of a text: [`read_piece`] of numbers by
 /// a form. Requires that `start` is within the piece, and that the form is one.
 #[inline(always)]
 pub fn read_list_piece_of<F: Float>(
@@ -105,7 +108,7 @@ pub fn read_list_piece_of<F: Float>(
 }
 
 /// The scaled numbers of a piece of a text: [`read_piece`] of decimal numbers in units of their
-/// last place, each as by [`read_scaled_from`](digit_floats::read_scaled_from). Requires that
+/// last place, each as by [`read_scaled_from`](digit_amounts::read_scaled_from). Requires that
 /// `start` is within the piece, that the word is supported and decimal, and that there are at most
 /// 38 places.
 ///

@@ -5,7 +5,7 @@ ghost use Rattle.lexical_format.specs.Word.{is_supported};
 
 use super::numbers::Bits;
 use super::work::{Step, Told, Work, none, run};
-use digit_floats::read_float_list;
+use digit_lists::read_float_list;
 use digit_literals::{COMMAS, Gap, ListEnd, WHITESPACE, read_list};
 use lexical_format::STANDARD;
 use lexical_format::words::PYTHON_LITERAL;

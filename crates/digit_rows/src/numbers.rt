@@ -3,9 +3,8 @@
 ghost use Rattle.std.specs.Prelude.{◌≤◌, length};
 
 use super::work::{Step, Told, Work, none, run};
-use digit_floats::{
-    read_decimal_from, read_exponent, read_float_from, read_mantissa, read_scaled_from,
-};
+use digit_amounts::read_scaled_from;
+use digit_floats::{read_decimal_from, read_exponent, read_float_from, read_mantissa};
 use digit_languages::languages::RUST;
 use digit_languages::read_literal;
 use digit_literals::{Integer, read_first_digits_from, read_number_from};

@@ -3,7 +3,8 @@
 use super::forms::value_of;
 use super::numbers::{Bits, past_field};
 use super::work::{Step, Told, Work, none, run};
-use digit_floats::{parse_float, parse_scaled};
+use digit_amounts::parse_scaled;
+use digit_floats::parse_float;
 use digit_literals::parse_number;
 use digit_numbers::{forms, parse_number_of};
 use lexical_format::STANDARD;

@@ -1,40 +1,71 @@
 -- What a reader gave, call after call.
-use Rattle.std.proofs.Common.{◌≡◌, ℕ, ◌+◌, ◌-◌, ◌<◌, List, [], ◌++◌, drop, length, ap, refl, ◌∙◌, sym, subst, arith, append_assoc, append-nil}
+use Rattle.std.proofs.Common.{◌≡◌, ℕ, ◌+◌, ◌-◌, ◌<◌, ◌≤◌, List, [], ◌++◌, drop, length, ap, refl, ◌∙◌, sym, subst, arith, append_assoc, append-nil}
 use Rattle.std.proofs.lemmas.List.{drop-drop, length-drop}
-use Rattle.std.specs.Prelude.{Option, None, Some, IfSome, IfNone, Result}
+use Rattle.std.specs.Prelude.{Bool, Option, None, Some, IfSome, IfNone, Result}
+use Rattle.digit_literals.specs.declared.list.Gap.{Gap}
+use Rattle.digit_pieces.specs.Pieces.{whole_at}
 use Rattle.digit_streams.specs.declared.stream.Ended.{Ended}
 use Rattle.digit_streams.specs.declared.stream.Ended.TheVariants as ended
 use Rattle.digit_streams.specs.declared.stream.StreamEnd.{StreamEnd}
 use Rattle.digit_streams.specs.declared.stream.StreamEnd.TheVariants.{Full, Over, Fault}
 use Rattle.digit_streams.specs.declared.stream.StreamError.{StreamError}
 use Rattle.digit_streams.specs.declared.stream.StreamError.TheVariants.{Number, NoRoom, Read, TooLong, Trailing}
-use Rattle.digit_streams.specs.Streams.{Gives, HasGiven, IsHere, IsPlace, StreamNumbers, UsesKnown, end_again, end_by, end_of_next, next_again, next_of, numbers_of_next, then_from}
+use Rattle.digit_streams.specs.Streams.{Gives, HasGiven, HasGivenFrom, IsHere, IsPlace, StreamNumbers, UsesKnown, end_again, end_by, end_of_next, next_again, next_of, numbers_of_next, stream_list, then_from}
 
 -- ---- the bytes
 
-no_bytes : (known bytes : Option (List ℕ)) → bytes ≡ known → UsesKnown 0 0 known bytes
-no_bytes None bytes e = tt
-no_bytes (Some text) None e = absurd cc
-no_bytes (Some text) (Some bytes) e =
+no_bytes : (at : ℕ) (known bytes : Option (List ℕ)) → bytes ≡ known → UsesKnown at at known bytes
+no_bytes at None bytes e = tt
+no_bytes at (Some text) None e = absurd cc
+no_bytes at (Some text) (Some bytes) e =
     let same : bytes ≡ text = cc in
-    record { onward = omega arith; within = omega arith; rest = same }
+    let none : at - at ≡ 0 = omega arith in
+    record { onward = omega arith; within = omega arith; rest = rw none same }
 
-more_bytes : (position at : ℕ) (known bytes rest : Option (List ℕ))
-    → UsesKnown 0 position known bytes → UsesKnown position at bytes rest
-    → UsesKnown 0 at known rest
-more_bytes position at None bytes rest first second = tt
-more_bytes position at (Some text) None rest first second = absurd first
-more_bytes position at (Some text) (Some bytes) None first second = absurd second
-more_bytes position at (Some text) (Some bytes) (Some rest) first second =
-    let left : length bytes ≡ length text - (position - 0) =
-    ap length first.rest ∙ length-drop (position - 0) text in
-    let sum : position - 0 + (at - position) ≡ at - 0 = omega (arith, second.onward) in
+pub more_bytes : (start position at : ℕ) (known bytes rest : Option (List ℕ))
+    → UsesKnown start position known bytes → UsesKnown position at bytes rest
+    → UsesKnown start at known rest
+more_bytes start position at None bytes rest first second = tt
+more_bytes start position at (Some text) None rest first second = absurd first
+more_bytes start position at (Some text) (Some bytes) None first second = absurd second
+more_bytes start position at (Some text) (Some bytes) (Some rest) first second =
+    let left : length bytes ≡ length text - (position - start) =
+    ap length first.rest ∙ length-drop (position - start) text in
+    let sum : position - start + (at - position) ≡ at - start =
+    omega (arith, first.onward, second.onward) in
     record {
       onward = omega (arith, first.onward, second.onward);
       within = omega (arith, first.within, first.onward, second.within, second.onward, left);
       rest = second.rest ∙ ap (drop (at - position)) first.rest
-          ∙ drop-drop (at - position) (position - 0) text ∙ ap (λ n. drop n text) sum;
+          ∙ drop-drop (at - position) (position - start) text ∙ ap (λ n. drop n text) sum;
     }
+
+-- positions in order, of a list that begins after a start
+abbrev Order : ℕ → ℕ → ℕ → Option (List ℕ) → Type 0
+Order start from position known = IfSome known (λ text. (start ≤ from) × (from ≤ position))
+
+order_here : (start at : ℕ) (known bytes : Option (List ℕ)) → UsesKnown start at known bytes
+    → Order start at at known
+order_here start at None bytes uses = tt
+order_here start at (Some text) None uses = absurd uses
+order_here start at (Some text) (Some bytes) uses = (uses.onward, omega arith)
+
+order_on : (start from position at : ℕ) (known bytes rest : Option (List ℕ))
+    → UsesKnown start position known bytes → UsesKnown position at bytes rest
+    → Order start from position known → Order start from at known
+order_on start from position at None bytes rest first second order = tt
+order_on start from position at (Some text) None rest first second order = absurd first
+order_on start from position at (Some text) (Some bytes) None first second order = absurd second
+order_on start from position at (Some text) (Some bytes) (Some rest) first second order =
+    (order.0, omega (arith, order.1, second.onward))
+
+-- with no room is no number
+pub none_yet : {A E : Type 0} (one : List ℕ → ℕ → Result (A × ℕ) E) (none_at : ℕ → E → Bool)
+    (later : ℕ → E → E) (gap : Gap) (position : ℕ) (text : List ℕ)
+    → stream_list one none_at later gap position text 0 ≡ ([], Full position)
+unfolding whole_at
+none_yet one none_at later gap position text =
+    let none : position + 0 ≡ position = omega arith in ap (λ n. ([], Full n)) none
 
 -- what `finish` says of a stream that was read to a position
 pub none_left : (position : ℕ) (text : List ℕ) (bytes : Option (List ℕ))
@@ -85,67 +116,111 @@ module _ {A E : Type 0} where
       (h.0, ap (λ l. numbers ++ l) h.1 ∙ sym (append_assoc numbers more h.0))
 
   module _ (list : ℕ → List ℕ → ℕ → StreamNumbers A E) where
-    start : (known : Option (List ℕ)) → ((text : List ℕ) → list 0 text 0 ≡ ([], Full 0))
-        → IfSome known (λ text. (room : ℕ) × Gives (list 0 text room) [] (Full 0))
-    start None none = tt
-    start (Some text) none = (0, none text)
+    begins : (start from : ℕ) (known : Option (List ℕ))
+        → ((text : List ℕ) → list from text 0 ≡ ([], Full from))
+        → IfSome known (λ text. (room : ℕ)
+        × Gives (list from (drop (from - start) text) room) [] (Full from))
+    begins start from None none = tt
+    begins start from (Some text) none = (0, none (drop (from - start) text))
+
+    -- of a list that begins here, nothing was given
+    pub given_here : (start at : ℕ) (known bytes : Option (List ℕ))
+        → ((text : List ℕ) → list at text 0 ≡ ([], Full at)) → UsesKnown start at known bytes
+        → HasGivenFrom start at list known [] (Full at) at bytes
+    given_here start at known bytes none uses = record {
+      order = order_here start at known bytes uses;
+      uses = uses;
+      gives = begins start at known none;
+      here = tt;
+    }
 
     -- a new reader gave nothing
-    pub given_none : (known bytes : Option (List ℕ)) (position : ℕ) (ended : Option (Ended E))
-        → ((text : List ℕ) → list 0 text 0 ≡ ([], Full 0))
-        → bytes ≡ known → position ≡ 0 → ended ≡ None
-        → HasGiven (list 0) known [] (end_by position ended) position bytes
-    given_none known bytes position ended none same first on = rw (on, first) (record {
-      uses = no_bytes known bytes same;
-      gives = start known none;
-      here = tt;
-    })
+    pub given_none : (known bytes : Option (List ℕ)) (position at : ℕ) (ended : Option (Ended E))
+        → ((text : List ℕ) → list at text 0 ≡ ([], Full at))
+        → bytes ≡ known → position ≡ at → ended ≡ None
+        → HasGivenFrom at at list known [] (end_by position ended) position bytes
+    given_none known bytes position at ended none same first on =
+        rw (on, first) (given_here at at known bytes none (no_bytes at known bytes same))
 
-    module _ (m : ℕ) (numbers more : List A) (end : StreamEnd E)
-        (on : (n : ℕ) (text : List ℕ) → list 0 text (n + m)
-        ≡ then_from (list 0 text n) (λ at. list at (drop (at - 0) text) m)) where
-      gives_on : (position : ℕ) (known bytes : Option (List ℕ)) → UsesKnown 0 position known bytes
-          → IfSome known (λ text. (room : ℕ) × Gives (list 0 text room) numbers (Full position))
+    -- the list from the start of the stream on
+    pub given_all : (known bytes : Option (List ℕ)) (numbers : List A) (end : StreamEnd E)
+        (position : ℕ) → HasGivenFrom 0 0 list known numbers end position bytes
+        → HasGiven (list 0) known numbers end position bytes
+    given_all known bytes numbers end position given =
+        record { uses = given.uses; gives = given.gives; here = given.here }
+
+    order_all : (position : ℕ) (known : Option (List ℕ)) → Order 0 0 position known
+    order_all position None = tt
+    order_all position (Some text) = (omega arith, omega arith)
+
+    pub given_from_all : (known bytes : Option (List ℕ)) (numbers : List A) (end : StreamEnd E)
+        (position : ℕ) → HasGiven (list 0) known numbers end position bytes
+        → HasGivenFrom 0 0 list known numbers end position bytes
+    given_from_all known bytes numbers end position given = record {
+      order = order_all position known;
+      uses = given.uses;
+      gives = given.gives;
+      here = given.here;
+    }
+
+    module _ (start from m : ℕ) (numbers more : List A) (end : StreamEnd E)
+        (on : (n : ℕ) (text : List ℕ) → list from text (n + m)
+        ≡ then_from (list from text n) (λ at. list at (drop (at - from) text) m)) where
+      abbrev room_for : Option (List ℕ) → List A → StreamEnd E → Type 0
+      room_for known numbers end = IfSome known (λ text. (room : ℕ)
+          × Gives (list from (drop (from - start) text) room) numbers end)
+
+      gives_on : (position : ℕ) (known bytes : Option (List ℕ))
+          → UsesKnown start position known bytes → Order start from position known
+          → room_for known numbers (Full position)
           → IfSome bytes (λ bytes. Gives (list position bytes m) more end)
-          → IfSome known (λ text. (room : ℕ) × Gives (list 0 text room) (numbers ++ more) end)
-      gives_on position None bytes uses so_far gives = tt
-      gives_on position (Some text) None uses so_far gives = absurd uses
-      gives_on position (Some text) (Some bytes) uses (n, first) gives = (
-        n + m,
-        rw (on n text, first)
-            (gives_both (list position (drop (position - 0) text) m) numbers more end
-            (rw uses.rest at gives)),
-      )
+          → room_for known (numbers ++ more) end
+      gives_on position None bytes uses order so_far gives = tt
+      gives_on position (Some text) None uses order so_far gives = absurd uses
+      gives_on position (Some text) (Some bytes) uses order (n, first) gives =
+          let sum : from - start + (position - from) ≡ position - start =
+          omega (arith, order.0, order.1) in
+          let rest : drop (position - from) (drop (from - start) text) ≡ bytes =
+          drop-drop (position - from) (from - start) text ∙ ap (λ k. drop k text) sum
+          ∙ sym uses.rest in (
+            n + m,
+            rw (on n (drop (from - start) text), first)
+                (gives_both (list position (drop (position - from) (drop (from - start) text)) m)
+                numbers more end (rw rest gives)),
+          )
 
     -- one more call of `next_number`
-    module _ {V : Type 0} (meaning : V → A) (before : List A) (position at : ℕ)
+    module _ {V : Type 0} (meaning : V → A) (before : List A) (start from position at : ℕ)
         (after : Option (Ended E)) (result : Option (Result V (StreamError E)))
-        (on : (n : ℕ) (text : List ℕ) → list 0 text (n + 1)
-        ≡ then_from (list 0 text n) (λ at. list at (drop (at - 0) text) 1)) where
+        (on : (n : ℕ) (text : List ℕ) → list from text (n + 1)
+        ≡ then_from (list from text n) (λ at. list at (drop (at - from) text) 1)) where
       abbrev IsGiven : Option (List ℕ) → Option (Result V (StreamError E)) → Type 0
-      IsGiven known result = IfSome known (λ text. (room : ℕ) × Gives (list 0 text room)
+      IsGiven known result = IfSome known (λ text. (room : ℕ)
+          × Gives (list from (drop (from - start) text) room)
           (before ++ numbers_of_next meaning result) (end_of_next result at after))
 
       gives_next : (ended : Option (Ended E)) (known bytes : Option (List ℕ))
-          → UsesKnown 0 position known bytes
-          → IfSome known (λ text. (room : ℕ) × Gives (list 0 text room) before
-          (end_by position ended))
+          → UsesKnown start position known bytes → Order start from position known
+          → IfSome known (λ text. (room : ℕ) × Gives (list from (drop (from - start) text) room)
+          before (end_by position ended))
           → IsHere (end_by position ended) position
           → IfNone ended (IfSome bytes (λ bytes. Gives (list position bytes 1)
           (numbers_of_next meaning result) (end_of_next result at after)))
           → IfSome ended (λ ended. result ≡ next_again ended)
           → IfSome ended (λ ended. at ≡ position) → IsGiven known result
-      gives_next None known bytes uses so_far here gives again still =
-          gives_on 1 before (numbers_of_next meaning result) (end_of_next result at after) on
-          position known bytes uses so_far gives
-      gives_next (Some (ended.Over over)) known bytes uses so_far here gives again still =
-          let none : IfSome known (λ text. (room : ℕ) × Gives (list 0 text room) (before ++ [])
-          (Over at)) = rw (append-nil before, still, ← here) so_far in
+      gives_next None known bytes uses order so_far here gives again still =
+          gives_on start from 1 before (numbers_of_next meaning result)
+          (end_of_next result at after) on position known bytes uses order so_far gives
+      gives_next (Some (ended.Over over)) known bytes uses order so_far here gives again still =
+          let none : IfSome known (λ text. (room : ℕ)
+          × Gives (list from (drop (from - start) text) room) (before ++ []) (Over at)) =
+          rw (append-nil before, still, ← here) so_far in
           subst (IsGiven known) (sym again) none
-      gives_next (Some (ended.Fault error)) known bytes uses so_far here gives again still =
+      gives_next (Some (ended.Fault error)) known bytes uses order so_far here gives again still =
           subst (IsGiven known) (sym again)
-          (subst (λ numbers. IfSome known (λ text. (room : ℕ) × Gives (list 0 text room) numbers
-          (Fault error))) (sym (append-nil before)) so_far)
+          (subst (λ numbers. IfSome known (λ text. (room : ℕ)
+          × Gives (list from (drop (from - start) text) room) numbers (Fault error)))
+          (sym (append-nil before)) so_far)
 
       here_next : (ended : Option (Ended E)) (capacity held : ℕ)
           → IsHere (end_by position ended) position
@@ -170,7 +245,7 @@ module _ {A E : Type 0} where
 
       pub given_next : (Apart : Type 0) (ended : Option (Ended E))
           (known bytes rest : Option (List ℕ)) (capacity held : ℕ)
-          → HasGiven (list 0) known before (end_by position ended) position bytes
+          → HasGivenFrom start from list known before (end_by position ended) position bytes
           → Apart
           → IfNone ended (IfSome bytes (λ bytes. Apart → Gives (list position bytes 1)
           (numbers_of_next meaning result) (end_of_next result at after)))
@@ -178,13 +253,14 @@ module _ {A E : Type 0} where
           → IfNone ended (IsPlace (end_of_next result at after) at capacity held)
           → IfSome ended (λ ended. result ≡ next_again ended)
           → IfSome ended (λ ended. at ≡ position)
-          → HasGiven (list 0) known (before ++ numbers_of_next meaning result)
+          → HasGivenFrom start from list known (before ++ numbers_of_next meaning result)
           (end_of_next result at after) at rest
       given_next Apart ended known bytes rest capacity held given apart gives uses place again
           still = record {
-            uses = more_bytes position at known bytes rest given.uses uses;
+            order = order_on start from position at known bytes rest given.uses uses given.order;
+            uses = more_bytes start position at known bytes rest given.uses uses;
             gives =
-                gives_next ended known bytes given.uses given.gives given.here
+                gives_next ended known bytes given.uses given.order given.gives given.here
                 (if_apart Apart apart ended bytes gives) again still;
             here = here_next ended capacity held given.here place again;
           }

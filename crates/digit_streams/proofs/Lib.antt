@@ -3,6 +3,7 @@ pub mod Ends
 pub mod Finished
 pub mod ForCallers
 pub mod Known
+pub mod Passed
 pub mod PiecesHeld
 pub mod Single
 pub mod Stuck

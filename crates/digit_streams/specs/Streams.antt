@@ -1,10 +1,11 @@
 -- Lists of numbers in a stream. Positions count bytes of the stream.
-use Rattle.std.specs.Prelude.{◌≡◌, ◌≢◌, Bool, false, ⊤, ℕ, ◌+◌, ◌-◌, ◌^◌, ◌≤◌, ◌⊎◌, if◌then◌else◌, List, [], ◌∷◌, ◌++◌, length, drop, Option, None, Some, IfSome, Result, Ok, Err}
+use Rattle.std.specs.Prelude.{◌≡◌, ◌≢◌, Bool, true, false, ⊤, ℕ, ◌+◌, ◌-◌, ◌^◌, ◌≤◌, ◌⊎◌, if◌then◌else◌, List, [], ◌∷◌, ◌++◌, length, drop, slice_get, Option, None, Some, IfSome, Result, Ok, Err}
 use Rattle.std.specs.declared.io.ErrorKind.TheVariants.{Interrupted}
 use Rattle.digit_literals.specs.declared.list.Gap.{Gap}
 use Rattle.digit_literals.specs.declared.list.ListEnd.{ListEnd}
 use Rattle.digit_literals.specs.declared.list.ListEnd.TheVariants as lists
-use Rattle.digit_literals.specs.Lists.{Numbers}
+use Rattle.digit_literals.specs.Lists.{Numbers, past_blanks}
+use Rattle.digit_literals.specs.Numbers.{has_byte}
 use Rattle.digit_pieces.specs.declared.piece.PieceEnd.{PieceEnd}
 use Rattle.digit_pieces.specs.declared.piece.PieceEnd.TheVariants as pieces
 use Rattle.digit_pieces.specs.Cuts.{sure_end}
@@ -374,11 +375,54 @@ IsHere (Full at) position = ⊤
 IsHere (Over at) position = at ≡ position
 IsHere (Fault error) position = IfTrailing error (λ at. ⊥)
 
--- What a reader gave of a stream, whose bytes are known or not: the numbers of a list up to an end.
--- It is at a position, and these bytes are left.
+-- What a reader gave of a stream, whose bytes from `start` on are known or not: the numbers of the
+-- list that begins at `from`, up to an end. It is at a position, and these bytes are left.
+pub record HasGivenFrom {A E : Type 0} (start from : ℕ)
+    (list : ℕ → List ℕ → ℕ → StreamNumbers A E) (known : Option (List ℕ)) (numbers : List A)
+    (end : StreamEnd E) (position : ℕ) (bytes : Option (List ℕ)) : Type 0 where
+  pub order : IfSome known (λ text. (start ≤ from) × (from ≤ position))
+  pub uses : UsesKnown start position known bytes
+  pub gives : IfSome known (λ text. (room : ℕ)
+      × Gives (list from (drop (from - start) text) room) numbers end)
+  pub here : IsHere end position
+
+-- the same of the list that begins at the start of the stream
 pub record HasGiven {A E : Type 0} (list : List ℕ → ℕ → StreamNumbers A E)
     (known : Option (List ℕ)) (numbers : List A) (end : StreamEnd E) (position : ℕ)
     (bytes : Option (List ℕ)) : Type 0 where
   pub uses : UsesKnown 0 position known bytes
   pub gives : IfSome known (λ text. (room : ℕ) × Gives (list text room) numbers end)
   pub here : IsHere end position
+
+-- From a position of a text on, a byte is looked for after blanks. The blanks are used, with the
+-- byte if it is found there: `end` is the position after them.
+pub record Passes (gap : Gap) (byte : ℕ) (text : List ℕ) (from : ℕ) (found : Bool) (end : ℕ)
+    : Type 0 where
+  pub is : has_byte text (past_blanks gap text from) byte ≡ found
+  pub to : end ≡ past_blanks gap text from + (if found then 1 else 0)
+
+-- the byte after the blanks that a text begins with, which are so many
+pub record IsNextByte (gap : Gap) (text : List ℕ) (count : ℕ) (next : Option ℕ) : Type 0 where
+  pub blanks : past_blanks gap text 0 ≡ count
+  pub is : slice_get text count ≡ next
+
+-- the first so many bytes of a text are blanks that it begins with
+abbrev pub SkipsBlanks : Gap → List ℕ → ℕ → Type 0
+SkipsBlanks gap text used = past_blanks gap text 0 ≡ used + past_blanks gap (drop used text) 0
+
+-- Why it isn't known which byte is next: the buffer has no place, or the reader failed, or a
+-- position is above `u64::MAX`, or nearly.
+abbrev pub IsNoByte : {E : Type 0} → StreamError E → (position capacity : ℕ) → (held : List ℕ)
+    → Type 0
+IsNoByte (Number error) position capacity held = ⊥
+IsNoByte (NoRoom at) position capacity held = (at ≡ position) × (capacity ≡ 0)
+IsNoByte (Read kind) position capacity held = (held ≡ []) × (kind ≢ Interrupted)
+IsNoByte TooLong position capacity held = 2 ^ 64 ≤ position + length held + 2
+IsNoByte (Trailing at) position capacity held = ⊥
+
+-- the end that is answered after a byte was looked for: none, if it was there
+abbrev pub ended_after : {E : Type 0} → Result Bool (StreamError E) → Option (Ended E)
+    → Option (Ended E)
+ended_after (Ok true) before = None
+ended_after (Ok false) before = before
+ended_after (Err error) before = before

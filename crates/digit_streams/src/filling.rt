@@ -1,10 +1,11 @@
 //! The numbers of a stream, whose bytes come by a window.
 
-ghost use Rattle.std.specs.Prelude.{◌≡◌, true, false, [], ◌-◌, ◌<◌, ◌≤◌, length, map, take, drop, IfOk, IfErr, IfSome, IsSome, ℕ};
+ghost use Rattle.std.specs.Prelude.{◌≡◌, true, false, [], ◌-◌, ◌<◌, ◌≤◌, length, map, take, drop, slice_get, IfOk, IfErr, IfSome, IsSome, ℕ};
 ghost use Rattle.std.specs.Io.KnownBytes.{Keeps, IsAtEnd};
+ghost use Rattle.digit_literals.specs.Lists.{past_blanks};
 ghost use Rattle.digit_pieces.specs.Texts.{IsApart};
 ghost use Rattle.digit_streams.specs.Windows.{unread, bytes_left};
-ghost use Rattle.digit_streams.specs.Streams.{Gives, GoesOn, HasReason, IfEndsFault, IfNoRoom, IsFailure, NeedsMore, IsPlace, StandsAfter, UsesKnown, stream_list, list_of_option};
+ghost use Rattle.digit_streams.specs.Streams.{Gives, GoesOn, HasReason, IfEndsFault, IfNoRoom, IsFailure, IsNextByte, IsNoByte, NeedsMore, IsPlace, SkipsBlanks, StandsAfter, UsesKnown, stream_list, list_of_option};
 
 use super::held::{Held, read_held_after, read_held_one};
 use super::stream::{StreamEnd, StreamError, StreamRead};
@@ -152,4 +153,47 @@ pub fn read_next<K: Kind, R: Read>(
         }
     }
     (None, StreamEnd::Fault(StreamError::TooLong))
+}
+
+/// Uses the blanks that are next: the byte after them, if there is one. That isn't used. `is_over`
+/// says that the reader is at its end.
+pub fn pass_blanks<R: Read, E: Copy>(
+    window: &mut Window<'_>,
+    reader: &mut R,
+    is_over: &mut bool,
+    gap: Gap,
+) -> Result<Option<u8>, StreamError<E>>
+    requires { is_over.old ≡ true → IsAtEnd (R.remaining reader.old) }
+    ensures over { is_over.new ≡ true → IsAtEnd (R.remaining reader.new) }
+    ensures uses { UsesKnown window.old.position window.new.position
+        (bytes_left window.old (R.remaining reader.old))
+        (bytes_left window.new (R.remaining reader.new)) }
+    ensures next { IfOk result (λ next.
+        IfSome (bytes_left window.old (R.remaining reader.old)) (λ text.
+        IsNextByte gap text (window.new.position - window.old.position) next)) }
+    ensures held { IfOk result (λ next. next ≡ slice_get (unread window.new) 0) }
+    ensures blanks { IfErr result (λ error.
+        IfSome (bytes_left window.old (R.remaining reader.old)) (λ text.
+        SkipsBlanks gap text (window.new.position - window.old.position))) }
+    ensures reason { IfErr result (λ error. IsNoByte error window.new.position
+        (length window.new.buffer.now) (unread window.new)) }
+    ensures capacity { length window.new.buffer.now ≡ length window.old.buffer.now }
+{
+    for turn in 0..u64::MAX {
+        let at = gap.past_blanks(window.unread(), 0);
+        if !window.pass(at) {
+            return Err(StreamError::TooLong);
+        }
+        if let Some(byte) = window.unread().first() {
+            return Ok(Some(*byte));
+        }
+        if *is_over {
+            return Ok(None);
+        }
+        match fill(window, reader) {
+            Ok(over) => *is_over = over,
+            Err(error) => return Err(error),
+        }
+    }
+    Err(StreamError::TooLong)
 }

@@ -1,6 +1,6 @@
 //! A reader of numbers.
 
-use super::filling::{fill, read_next, read_stream};
+use super::filling::{fill, pass_blanks, read_next, read_stream};
 use super::format::Format;
 use super::stream::{Ended, StreamEnd, StreamError, StreamRead, ended_by, next_of};
 use super::window::Window;
@@ -59,10 +59,10 @@ impl<'b, K: Kind, R: Read> Model for NumberReader<'b, K, R> {
 }
 
 impl<'b, K: Kind, R: Read> NumberReader<'b, K, R> {
-    ghost use Rattle.std.specs.Prelude.{◌≡◌, ◌-◌, ◌<◌, ◌≤◌, [], length, map, take, drop, None, Err, IfSome, IfNone, IfErr, OnOk, IsSome, ℕ, List, Option, ◌++◌};
+    ghost use Rattle.std.specs.Prelude.{◌≡◌, ◌-◌, ◌<◌, ◌≤◌, [], length, map, take, drop, None, Err, IfSome, IfNone, IfOk, IfErr, OnOk, IsSome, ℕ, List, Option, ◌++◌};
     ghost use Rattle.std.specs.Io.KnownBytes.{Keeps};
     ghost use Rattle.digit_pieces.specs.Texts.{IsApart};
-    ghost use Rattle.digit_streams.specs.Streams.{EndsSo, Gives, GoesOn, HasGiven, HasReason, IfEndsFault, IfFault, IfNoFault, IfNoRoom, IfNoRoomOfNext, IfTrailing, IsNext, IsPlace, IsPlaceOfNext, IsUnknown, NeedsMore, StandsAfter, UsesKnown, stream_list, numbers_of, numbers_of_next, end_by, end_of_next, ended_by, next_again, end_again, list_of_option};
+    ghost use Rattle.digit_streams.specs.Streams.{EndsSo, Gives, GoesOn, HasGiven, HasGivenFrom, HasReason, IfEndsFault, IfFault, IfNoFault, IfNoRoom, IfNoRoomOfNext, IfTrailing, IsNext, IsNoByte, IsPlace, IsPlaceOfNext, IsUnknown, NeedsMore, Passes, SkipsBlanks, StandsAfter, UsesKnown, stream_list, numbers_of, numbers_of_next, end_by, end_of_next, ended_after, ended_by, next_again, end_again, list_of_option};
 
     /// A reader of the numbers of a stream. Requires that the kind is valid.
     pub fn new(reader: R, buffer: &'b mut [u8], kind: K, gap: Gap) -> NumberReader<'b, K, R>
@@ -77,10 +77,33 @@ impl<'b, K: Kind, R: Read> NumberReader<'b, K, R> {
             HasGiven (list 0) (R.remaining reader) [] (end_by result.position result.ended)
             result.position result.bytes }
     {
+        NumberReader::new_at(reader, buffer, kind, gap, 0)
+    }
+
+    /// The same of a stream of which the reader gave some bytes before: positions count from
+    /// `offset` on, which is that of its next byte. Requires that the kind is valid.
+    pub fn new_at(
+        reader: R,
+        buffer: &'b mut [u8],
+        kind: K,
+        gap: Gap,
+        offset: u64,
+    ) -> NumberReader<'b, K, R>
+        requires { K.valid kind }
+        ensures kind { result.kind ≡ kind }
+        ensures gap { result.gap ≡ gap }
+        ensures position { result.position ≡ offset }
+        ensures capacity { result.capacity ≡ length buffer.old }
+        ensures bytes { result.bytes ≡ R.remaining reader }
+        ensures ended { result.ended ≡ None }
+        ensures given { HasGivenFrom offset offset (stream_list (K.number_at kind) K.none_at
+            K.error_later gap) (R.remaining reader) [] (end_by result.position result.ended)
+            result.position result.bytes }
+    {
         NumberReader {
             format: Format { kind, gap },
             reader,
-            window: Window::new(buffer),
+            window: Window::new(buffer, offset),
             is_over: false,
             ended: None,
         }
@@ -210,6 +233,15 @@ impl<'b, K: Kind, R: Read> NumberReader<'b, K, R> {
             HasGiven (list 0) known (before ++ numbers_of_next K.meaning result)
             (end_of_next result self.new.position self.new.ended) self.new.position
             self.new.bytes }
+        ensures given_from { (start from : ℕ) (known : Option (List ℕ)) (before : List K.Meaning) →
+            IsApart (K.has_byte self.old.kind) self.old.gap →
+            let list = stream_list (K.number_at self.old.kind) K.none_at K.error_later
+            self.old.gap in
+            HasGivenFrom start from list known before (end_by self.old.position self.old.ended)
+            self.old.position self.old.bytes →
+            HasGivenFrom start from list known (before ++ numbers_of_next K.meaning result)
+            (end_of_next result self.new.position self.new.ended) self.new.position
+            self.new.bytes }
         ensures ended { EndsSo result self.new.ended }
         ensures goes_on { IfNone self.old.ended (self.new.ended
             ≡ ended_by (end_of_next result self.new.position self.new.ended)) }
@@ -222,6 +254,55 @@ impl<'b, K: Kind, R: Read> NumberReader<'b, K, R> {
     {
         let (number, end) = self.read_one();
         next_of(number, end)
+    }
+
+    /// Uses the blanks of the gap that are next, and then `byte`, if it is next: whether it was, as
+    /// a bracket before or after the numbers. If it was, then a new list may begin after it, also
+    /// where one was over. If it wasn't, the list stays as it is, and
+    /// [`position`](NumberReader::position) is that of another byte, or of the stream's end.
+    ///
+    /// ```text
+    /// `[1, 2] x` by `Integers` and `COMMAS`: pass_byte(b'[') is Ok(true), and pass_byte(b']')
+    /// Ok(false); then 1, 2, None; pass_byte(b']') is Ok(true), and the position 6
+    /// `[ ]`: pass_byte(b'[') is Ok(true), and pass_byte(b']') Ok(true)
+    /// ```
+    ///
+    /// A buffer of one byte is enough. If the reader fails, the next call looks on from there. An
+    /// error of the numbers is answered again.
+    pub fn pass_byte(&mut self, byte: u8) -> Result<bool, StreamError<K::Error>>
+        ensures passes { IfOk result (λ is. IfSome self.old.bytes (λ bytes.
+            Passes self.old.gap byte bytes 0 is (self.new.position - self.old.position))) }
+        ensures given { (known : Option (List ℕ)) →
+            UsesKnown 0 self.old.position known self.old.bytes → IfOk result (λ is.
+            IfSome known (λ text. Passes self.old.gap byte text self.old.position is
+            self.new.position)) }
+        ensures given_from { (start : ℕ) (known : Option (List ℕ)) →
+            UsesKnown start self.old.position known self.old.bytes → IfOk result (λ is.
+            IfSome known (λ text. Passes self.old.gap byte text (self.old.position - start) is
+            (self.new.position - start))) }
+        ensures given_none { (start : ℕ) (known : Option (List ℕ)) →
+            UsesKnown start self.old.position known self.old.bytes →
+            let list = stream_list (K.number_at self.old.kind) K.none_at K.error_later
+            self.old.gap in
+            HasGivenFrom start self.new.position list known [] (end_by self.new.position None)
+            self.new.position self.new.bytes }
+        ensures blanks { IfNoFault self.old.ended (IfErr result (λ error.
+            IfSome self.old.bytes (λ bytes.
+            SkipsBlanks self.old.gap bytes (self.new.position - self.old.position)))) }
+        ensures reason { IfNoFault self.old.ended (IfErr result (λ error. IsNoByte error
+            self.new.position self.new.capacity self.new.held)) }
+        ensures uses { UsesKnown self.old.position self.new.position self.old.bytes
+            self.new.bytes }
+        ensures ended { self.new.ended ≡ ended_after result self.old.ended }
+        ensures again { IfSome self.old.ended (λ ended.
+            IfFault ended (λ error. result ≡ Err error)) }
+        ensures still { IfSome self.old.ended (λ ended.
+            IfFault ended (λ error. self.new.position ≡ self.old.position)) }
+        ensures kind { self.new.kind ≡ self.old.kind }
+        ensures gap { self.new.gap ≡ self.old.gap }
+        ensures capacity { self.new.capacity ≡ self.old.capacity }
+    {
+        self.find_byte(byte)
     }
 
     /// Whether the stream is at its end: nothing follows the bytes that were used. If something
@@ -262,6 +343,43 @@ impl<'b, K: Kind, R: Read> NumberReader<'b, K, R> {
             return Err(StreamError::Trailing(at));
         }
         Ok(())
+    }
+
+    /// Uses the blanks that are next, and then a byte, if it is next: whether it was.
+    fn find_byte(&mut self, byte: u8) -> Result<bool, StreamError<K::Error>>
+        ensures passes { IfOk result (λ is. IfSome self.old.bytes (λ bytes.
+            Passes self.old.gap byte bytes 0 is (self.new.position - self.old.position))) }
+        ensures blanks { IfNoFault self.old.ended (IfErr result (λ error.
+            IfSome self.old.bytes (λ bytes.
+            SkipsBlanks self.old.gap bytes (self.new.position - self.old.position)))) }
+        ensures reason { IfNoFault self.old.ended (IfErr result (λ error. IsNoByte error
+            self.new.position self.new.capacity self.new.held)) }
+        ensures uses { UsesKnown self.old.position self.new.position self.old.bytes
+            self.new.bytes }
+        ensures ended { self.new.ended ≡ ended_after result self.old.ended }
+        ensures again { IfSome self.old.ended (λ ended.
+            IfFault ended (λ error. result ≡ Err error)) }
+        ensures still { IfSome self.old.ended (λ ended.
+            IfFault ended (λ error. self.new.position ≡ self.old.position)) }
+        ensures kind { self.new.kind ≡ self.old.kind }
+        ensures gap { self.new.gap ≡ self.old.gap }
+        ensures capacity { self.new.capacity ≡ self.old.capacity }
+    {
+        if let Some(Ended::Fault(error)) = self.ended {
+            return Err(error);
+        }
+        let gap = self.format.gap;
+        match pass_blanks(&mut self.window, &mut self.reader, &mut self.is_over, gap) {
+            Ok(Some(next)) if next == byte => {
+                if !self.window.pass(1) {
+                    return Err(StreamError::TooLong);
+                }
+                self.ended = None;
+                Ok(true)
+            }
+            Ok(_) => Ok(false),
+            Err(error) => Err(error),
+        }
     }
 
     /// Reads the next number, if there is one, and why there are no more.

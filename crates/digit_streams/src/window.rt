@@ -58,17 +58,17 @@ pub struct Window<'b> {
 }
 
 impl<'b> Window<'b> {
-    /// A buffer of which nothing was read.
-    pub fn new(buffer: &'b mut [u8]) -> Window<'b>
+    /// A buffer of which nothing was read, at a position of the stream.
+    pub fn new(buffer: &'b mut [u8], position: u64) -> Window<'b>
         ensures unread { unread result ≡ [] }
-        ensures position { result.position ≡ 0 }
+        ensures position { result.position ≡ position }
         ensures capacity { length result.buffer.now ≡ length buffer.old }
     {
         Window {
             buffer,
             from: 0,
             to: 0,
-            position: 0,
+            position,
         }
     }
 

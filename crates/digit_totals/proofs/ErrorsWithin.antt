@@ -13,18 +13,18 @@ use Rattle.lexical_digits.specs.declared.skip.component.Component.TheVariants.{I
 use Rattle.lexical_digits.specs.Laws.Kept.{positions_end}
 use Rattle.lexical_digits.specs.State.{rule_of}
 use Rattle.lexical_digits.specs.Stop.{stop}
-use Rattle.digit_literals.specs.declared.LiteralError.{LiteralError}
-use Rattle.digit_literals.specs.declared.LiteralError.TheVariants as integers
-use Rattle.digit_literals.specs.Integers.{integer_at, first_over}
-use Rattle.digit_literals.proofs.ForCallers.{stop_within}
+use Rattle.digit_values.specs.declared.LiteralError.{LiteralError}
+use Rattle.digit_values.specs.declared.LiteralError.TheVariants as integers
+use Rattle.digit_integers.specs.Integers.{integer_at, first_over}
+use Rattle.digit_values.proofs.ForCallers.{stop_within}
 use Rattle.digit_floats.specs.declared.error.FloatError.{FloatError}
-use Rattle.digit_floats.specs.declared.scaled.ScaledError.{ScaledError}
+use Rattle.digit_amounts.specs.declared.scaled.ScaledError.{ScaledError}
 use Rattle.digit_floats.specs.declared.parts.Marks.{Marks}
 use Rattle.digit_floats.specs.Bytes.{stands, is_point, is_mark}
 use Rattle.digit_floats.specs.Errors as floats
 use Rattle.digit_floats.specs.Float.{past_sign, digits_end, fraction_end, exponent_end, mantissa_end, end_at, with_end, read_at}
-use Rattle.digit_floats.specs.Scaled as scaled
-use Rattle.digit_floats.specs.Scaled.{fitting, fault_after, fault, fault_at, scaled_at, read_scaled_at}
+use Rattle.digit_amounts.specs.Scaled as scaled
+use Rattle.digit_amounts.specs.Scaled.{fitting, fault_after, fault, fault_at, scaled_at, read_scaled_at}
 
 module _ (text : List ℕ) where
   -- ---- where digits end

@@ -38,17 +38,18 @@ module _ (separator : ℕ) where
       → fields_of separator line ≡ line ∷ []
   fields_none line h = one_field line (position_none separator line h)
 
+pub span_cons : (start m count : ℕ) (field : List ℕ) (fields : List (List ℕ))
+    → length field ≡ count
+    → nth_span start (suc m) (field ∷ fields) ≡ nth_span (start + (count + 1)) m fields
+span_cons start m count field fields e =
+    let more = sum_by-cons (λ f. length f + 1) field (take m fields) in
+    let same : start + length_of (field ∷ take m fields)
+    ≡ start + (count + 1) + length_of (take m fields) = omega (arith, more, e) in
+    rw same refl
+
 module _ (separator : ℕ) (line : List ℕ) (start : ℕ) (within : start ≤ length line) where
   abbrev rest : List ℕ
   rest = drop start line
-
-  span_cons : (m count : ℕ) (field : List ℕ) (fields : List (List ℕ)) → length field ≡ count
-      → nth_span start (suc m) (field ∷ fields) ≡ nth_span (start + (count + 1)) m fields
-  span_cons m count field fields e =
-      let more = sum_by-cons (λ f. length f + 1) field (take m fields) in
-      let same : start + length_of (field ∷ take m fields)
-      ≡ start + (count + 1) + length_of (take m fields) = omega (arith, more, e) in
-      rw same refl
 
   -- one field is passed
   pub next_span : (n i count : ℕ) → i < n → position (λ byte. byte == separator) rest ≡ Some count
@@ -59,7 +60,7 @@ module _ (separator : ℕ) (line : List ℕ) (start : ℕ) (within : start ≤ l
       let more : n - i ≡ suc (n - (i + 1)) = omega (arith, l) in
       let inside = position_within separator rest count h in
       rw (more, fields_at separator rest count h)
-      (span_cons (n - (i + 1)) count (take count rest) _
+      (span_cons start (n - (i + 1)) count (take count rest) _
       (grind (arith, length-take {A = ℕ}, inside))
       ∙ ap (λ bytes. nth_span (start + (count + 1)) (n - (i + 1)) (fields_of separator bytes))
       (drop-drop (count + 1) start line))

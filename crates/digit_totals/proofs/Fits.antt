@@ -3,16 +3,16 @@ use Rattle.std.proofs.Common.{◌≡◌, ℕ, ℤ, zero, suc, ◌-◌, ◌^◌, 
 use Rattle.std.proofs.lemmas.Bool.Decides.{nat_tests}
 use Rattle.lexical_digits.specs.State.{rule_of}
 use Rattle.lexical_digits.specs.declared.skip.component.Component.TheVariants.{Integer}
-use Rattle.digit_literals.specs.declared.LiteralError.{LiteralError}
-use Rattle.digit_literals.specs.declared.LiteralError.TheVariants as literal
-use Rattle.digit_literals.specs.declared.parse.ParseError.{ParseError}
-use Rattle.digit_literals.specs.declared.bytes.TheConstants.{BLANKS}
-use Rattle.digit_literals.specs.Bytes.{past_bytes}
-use Rattle.digit_literals.specs.Integers.{integer_at}
-use Rattle.digit_literals.specs.Numbers.{signed, is_negative_from, digits_from, most_from, number_at, to_end}
-use Rattle.digit_literals.proofs.Texts.{says_some}
-use Rattle.digit_floats.specs.declared.scaled.ScaledError.{ScaledError}
-use Rattle.digit_floats.specs.Scaled.{scaled_at, read_scaled_at, whole_of}
+use Rattle.digit_values.specs.declared.LiteralError.{LiteralError}
+use Rattle.digit_values.specs.declared.LiteralError.TheVariants as literal
+use Rattle.digit_integers.specs.declared.parse.ParseError.{ParseError}
+use Rattle.digit_values.specs.declared.bytes.TheConstants.{BLANKS}
+use Rattle.digit_values.specs.Bytes.{past_bytes}
+use Rattle.digit_integers.specs.Integers.{integer_at}
+use Rattle.digit_integers.specs.Numbers.{signed, is_negative_from, digits_from, most_from, number_at, to_end}
+use Rattle.digit_integers.proofs.Texts.{says_some}
+use Rattle.digit_amounts.specs.declared.scaled.ScaledError.{ScaledError}
+use Rattle.digit_amounts.specs.Scaled.{scaled_at, read_scaled_at, whole_of}
 use Rattle.digit_totals.specs.declared.options.Kind.{Kind}
 use Rattle.digit_totals.specs.declared.options.Kind.TheVariants.{Integers, Places}
 use Rattle.digit_totals.specs.declared.options.Options.{Options}

@@ -12,10 +12,10 @@ use Rattle.lexical_format.specs.Word.{bit}
 use Rattle.lexical_digits.specs.ByteSet.{accepts}
 use Rattle.lexical_digits.specs.Cursor.{holds_of}
 use Rattle.lexical_digits.specs.Laws.Terms.{gets, slice_get_past}
-use Rattle.digit_literals.specs.declared.bytes.TheConstants.{BLANKS}
+use Rattle.digit_values.specs.declared.bytes.TheConstants.{BLANKS}
 use Rattle.digit_literals.specs.declared.list.Gap.{Gap}
 use Rattle.digit_literals.specs.declared.list.TheConstants.{LINES}
-use Rattle.digit_literals.specs.Bytes.{past_bytes}
+use Rattle.digit_values.specs.Bytes.{past_bytes}
 use Rattle.digit_literals.specs.Lists.{is_blank, has_separator, past_blanks, next_after}
 use Rattle.digit_literals.proofs.Lists.{no_blank, separator_is_no_blank}
 use Rattle.digit_totals.specs.Lines.{IsFirstLine}

@@ -1,6 +1,7 @@
 pub mod Adding
 pub mod Bits
 pub mod Blocks
+pub mod CsvFields
 pub mod ErrorsWithin
 pub mod Fields
 pub mod FirstLine
@@ -8,6 +9,7 @@ pub mod FirstMark
 pub mod Fits
 pub mod FloatOrder
 pub mod FloatTexts
+pub mod Header
 pub mod InLine
 pub mod ListedLines
 pub mod Meaning

@@ -10,17 +10,17 @@ use Rattle.lexical_digits.specs.Separators.{class}
 use Rattle.lexical_digits.specs.State.{rule_of}
 use Rattle.lexical_digits.specs.declared.skip.component.Component.TheVariants.{Integer}
 use Rattle.lexical_digits.specs.declared.skip.rule.Class.TheVariants.{Other}
-use Rattle.digit_literals.specs.declared.LiteralError.{LiteralError}
-use Rattle.digit_literals.specs.declared.LiteralError.TheVariants.{Empty, Overflow}
+use Rattle.lexical_digits.proofs.Calls.BothSides.{moved_get}
+use Rattle.digit_values.specs.declared.LiteralError.{LiteralError}
+use Rattle.digit_values.specs.declared.LiteralError.TheVariants.{Empty, Overflow}
 use Rattle.digit_literals.specs.declared.list.ListEnd.{ListEnd}
 use Rattle.digit_literals.specs.declared.list.ListEnd.TheVariants.{Over, Fault}
 use Rattle.digit_literals.specs.declared.list.TheConstants.{LINES}
-use Rattle.digit_literals.specs.Errors.{literal_none_at}
+use Rattle.digit_values.specs.Errors.{literal_none_at}
 use Rattle.digit_literals.specs.Lists.{past_blanks, next_after, list_at}
-use Rattle.digit_literals.specs.Numbers.{number_at}
+use Rattle.digit_integers.specs.Numbers.{number_at}
+use Rattle.digit_integers.proofs.BothSides.{moved_number}
 use Rattle.digit_pieces.specs.Moves.{byte_before, outcome_later, literal_later}
-use Rattle.digit_pieces.specs.Laws.MovedIntegers.{moved_number}
-use Rattle.digit_pieces.specs.Laws.MovedStops.{moved_get}
 use Rattle.digit_totals.specs.declared.options.Kind.TheVariants.{Integers}
 use Rattle.digit_totals.specs.declared.options.Options.{Options}
 use Rattle.digit_totals.specs.declared.totals.Totals.{Totals}

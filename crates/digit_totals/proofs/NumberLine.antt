@@ -12,35 +12,36 @@ use Rattle.lexical_digits.specs.Stop.{stop}
 use Rattle.lexical_digits.specs.declared.skip.component.Component.{Component}
 use Rattle.lexical_digits.specs.declared.skip.component.Component.TheVariants.{Integer, Fraction, Exponent, Special}
 use Rattle.lexical_digits.specs.declared.skip.rule.Rule.{Rule}
+use Rattle.lexical_digits.proofs.Calls.BothSides.{AreSameFrom, from_start, zero_later}
 use Rattle.lexical_digits.proofs.Calls.WhatFollows.{same_as_cut, stop_upto}
 use Rattle.lexical_digits.specs.ByteSet.{accepts}
-use Rattle.digit_literals.specs.declared.LiteralError.{LiteralError}
-use Rattle.digit_literals.specs.declared.LiteralError.TheVariants as literal
-use Rattle.digit_literals.specs.declared.bytes.TheConstants.{BLANKS}
-use Rattle.digit_literals.specs.Bytes.{past_bytes}
-use Rattle.digit_literals.proofs.Passing.{none_passed}
+use Rattle.digit_values.specs.declared.LiteralError.{LiteralError}
+use Rattle.digit_values.specs.declared.LiteralError.TheVariants as literal
+use Rattle.digit_values.specs.declared.bytes.TheConstants.{BLANKS}
+use Rattle.digit_values.specs.Bytes.{past_bytes}
+use Rattle.digit_values.proofs.Passing.{none_passed}
 use Rattle.digit_literals.specs.declared.list.TheConstants.{LINES}
-use Rattle.digit_literals.specs.Integers.{integer_at}
+use Rattle.digit_integers.specs.Integers.{integer_at}
 use Rattle.digit_literals.specs.Lists.{past_blanks, next_after}
-use Rattle.digit_literals.specs.Numbers.{signed, with_sign, is_negative_from, digits_from, most_from, number_at, to_end}
-use Rattle.digit_literals.proofs.Between.{none_between}
-use Rattle.digit_literals.proofs.ForCallers.{all_is, stop_from, stop_within, value_of_both}
-use Rattle.digit_literals.proofs.Texts.{says_some, reads_more}
-use Rattle.digit_literals.proofs.WhatFollows.{same_number}
-use Rattle.digit_floats.specs.declared.scaled.ScaledError.{ScaledError}
-use Rattle.digit_floats.specs.Float.{digits_end, mantissa_end, plain_marks}
+use Rattle.digit_integers.specs.Numbers.{signed, with_sign, is_negative_from, digits_from, most_from, number_at, to_end}
+use Rattle.digit_values.proofs.Between.{none_between}
+use Rattle.digit_values.proofs.ForCallers.{all_is, stop_from, stop_within, value_of_both}
+use Rattle.digit_integers.proofs.Texts.{says_some, reads_more}
+use Rattle.digit_integers.proofs.WhatFollows.{same_number}
+use Rattle.digit_amounts.specs.declared.scaled.ScaledError.{ScaledError}
+use Rattle.digit_floats.specs.Float.{digits_end, mantissa_end}
 use Rattle.digit_floats.specs.Float as floats
 use Rattle.digit_floats.specs.Float.{fraction_digits}
 use Rattle.digit_floats.specs.declared.parts.Mantissa.{Mantissa}
 use Rattle.digit_floats.specs.Parts.{IsMantissa, integer_of, fraction_of}
 use Rattle.std.specs.Str.Parse.{digits_value}
-use Rattle.std.proofs.lemmas.List.{take_all, drop_all}
-use Rattle.digit_literals.specs.Significant.{significant, IsOfFirstDigits}
-use Rattle.digit_literals.proofs.Significant.{worth_same}
-use Rattle.digit_floats.specs.Follows.{HasNoMark, IsSameFloatUpTo}
-use Rattle.digit_floats.specs.Scaled as Scaled
-use Rattle.digit_floats.specs.Scaled.{first_value, is_exact, scaled_at, read_scaled_at}
-use Rattle.digit_floats.proofs.WhatFollows.{ends_upto, fraction_end_upto, same_scaled}
+use Rattle.std.proofs.lemmas.List.{take_all, take-take, drop_all}
+use Rattle.digit_values.specs.Significant.{significant, IsOfFirstDigits}
+use Rattle.digit_values.proofs.Significant.{worth_same}
+use Rattle.digit_amounts.specs.Scaled as Scaled
+use Rattle.digit_amounts.specs.Scaled.{first_value, is_exact, scaled_at, read_scaled_at}
+use Rattle.digit_floats.proofs.BothSides.{NoScaled, no_scaled, mantissa_upto}
+use Rattle.digit_amounts.proofs.WhatFollows.{same_scaled}
 use Rattle.digit_totals.specs.declared.fault.LineFault.{LineFault}
 use Rattle.digit_totals.specs.declared.options.Kind.TheVariants.{Integers, Places}
 use Rattle.digit_totals.specs.declared.options.Options.{Options}
@@ -292,38 +293,26 @@ module _ (word : ℕ) (low : (k : Component) → HasNoLowByte (rule_of word k)) 
   ends : end ≡ mantissa_end word text 46 from
   ends = scaled_end word text places limit from scaled.0 end scaled.1
 
-  low_ends : (q : ℕ) → q < length text → get_or text q 0 < 43 → IsSameFloatUpTo word plain_marks
-      text text q
+  low_ends : (q : ℕ) → q < length text → get_or text q 0 < 43
+      → NoScaled word 46 (slice_get text q)
   low_ends q inside l =
       let there : slice_get text q ≡ Some (get_or text q 0) = grind (arith, gets, inside) in
-      let none : HasNoMark plain_marks text q = record {
-        point = rw there (grind (arith, nat_tests, l));
-        mark = rw there (grind (arith, nat_tests, l));
-        sign = rw there (grind (arith, nat_tests, l));
-      } in
       record {
-        digits = λ k.
-            let class_is : Ends (rule_of word k) text q =
-            rw there (low k (get_or text q 0) l) in
-            record {
-              same = refl;
-              one_within = omega (arith, inside);
-              other_within = omega (arith, inside);
-              one_ends = class_is;
-              other_ends = class_is;
-            };
-        one_ends = none;
-        other_ends = none;
+        whole = rw there (low Integer (get_or text q 0) l);
+        part = rw there (low Fraction (get_or text q 0) l);
+        point = rw there (grind (arith, nat_tests, l));
+        sign = rw there (grind (arith, nat_tests, l));
       }
 
   decimal_stops : (q : ℕ) → from ≤ q → q < length text → get_or text q 0 < 43 → end ≤ q
   decimal_stops q onward inside l =
       let upto = low_ends q inside l in
+      let both =
+      from_start (NoScaled word 46) (no_scaled word 46) text text q refl upto upto in
       omega (
         arith,
         ends,
-        fraction_end_upto word plain_marks text text q upto (digits_end word text Integer from)
-            (ends_upto word plain_marks text text q upto Integer from onward),
+        mantissa_upto word 46 text 0 text q both from from (zero_later from) onward,
       )
 
   short_from : from ≤ place + 1
@@ -342,22 +331,18 @@ module _ (word : ℕ) (low : (k : Component) → HasNoLowByte (rule_of word k)) 
     abbrev decimal_alone : List ℕ
     decimal_alone = take feed text
 
-    decimal_cut : IsSameFloatUpTo word plain_marks decimal_alone text feed
+    decimal_cut : AreSameFrom (NoScaled word 46) decimal_alone 0 text feed
     decimal_cut =
-        let upto = low_ends feed s.within (omega (arith, s.mark)) in
         let past : slice_get decimal_alone feed ≡ None =
         slice_get_past decimal_alone feed (omega (arith, long text place end feed s)) in
-        record {
-          digits = λ k. same_as_cut (rule_of word k) text feed (omega (arith, s.within))
-              (upto.digits k).one_ends;
-          one_ends = record { point = rw past refl; mark = rw past refl; sign = rw past refl };
-          other_ends = upto.one_ends;
-        }
+        from_start (NoScaled word 46) (no_scaled word 46) decimal_alone text feed
+        (take-take feed feed text (omega arith)) (rw past (no_scaled word 46))
+        (low_ends feed s.within (omega (arith, s.mark)))
 
     pub same_decimal : read_scaled_at word decimal_alone 46 places (2 ^ 127) (2 ^ 127 - 1) place
         ≡ Ok (value, end)
     same_decimal =
-        same_scaled word plain_marks decimal_alone text feed decimal_cut places (2 ^ 127)
+        same_scaled word 46 decimal_alone text feed decimal_cut places (2 ^ 127)
         (2 ^ 127 - 1) place
         (omega (arith, s.some, s.order))
         ∙ is

@@ -2,7 +2,7 @@
 use Rattle.std.proofs.Common.{◌≡◌, ◌≢◌, ℕ, ◌+◌, ◌-◌, ◌<◌, ◌≤◌, ◌==◌, List, [], ◌∷◌, ◌++◌, All, length, take, drop, Some, None, Ok, Err, Result, refl, sym, ◌∙◌, ap, arith, append_assoc, append-nil, length-append, slice_range, subst, Bool, true, false, cond}
 use Rattle.std.proofs.Math.Seq.{take-add, drop-append_seam}
 use Rattle.std.proofs.lemmas.List.{length-take-le, drop-take}
-use Rattle.std.specs.Prelude.{Option, ⊤, nat_lt}
+use Rattle.std.specs.Prelude.{Option, ⊤, nat_lt, IfSome}
 use Rattle.std.specs.Io.KnownBytes.{Consumes, IsAtEnd}
 use Rattle.std.specs.List.{onto_first, position}
 use Rattle.std.proofs.lemmas.Bool.Decides.{nat_tests}
@@ -13,8 +13,8 @@ use Rattle.digit_totals.specs.declared.fault.LineFault.{LineFault}
 use Rattle.digit_totals.specs.declared.fault.LineFault.TheVariants.{Sum, LongLine}
 use Rattle.digit_totals.specs.declared.fault.NumberError.{NumberError}
 use Rattle.digit_totals.specs.Lines.{lines_of}
-use Rattle.digit_totals.specs.Outcome.{Continues, Reports, Sums, of_lines}
-use Rattle.digit_totals.specs.Report.{Adding, with_value, with_line, with_lines, continue, LeavesRest, EndsIn, MayEndIn}
+use Rattle.digit_totals.specs.Outcome.{Continues, SumsLines, with_front, of_lines}
+use Rattle.digit_totals.specs.Report.{Adding, with_value, with_line, with_lines, report_of, continue, LeavesRest, EndsIn, MayEndIn}
 
 -- ---- a line that is too long
 
@@ -96,9 +96,10 @@ module _ {T V : Type 0} (a : Adding T V) where
 
   -- ---- pieces
 
-  pub at_start : (x : Option (List ℕ)) (t : T) → t ≡ a.none → Continues a x x [] t
-  at_start None t e = tt
-  at_start (Some text) t e = rw e refl
+  pub at_start : (x : Option (List ℕ)) (bytes : List ℕ) (t : T) → t ≡ a.none
+      → Continues a (with_front bytes x) x bytes t
+  at_start None bytes t e = tt
+  at_start (Some text) bytes t e = rw e refl
 
   pub read_on : (x y z : Option (List ℕ)) (pending bytes more : List ℕ) (t : T)
       → Continues a x y pending t → Consumes y z bytes → more ≡ pending ++ bytes
@@ -118,29 +119,34 @@ module _ {T V : Type 0} (a : Adding T V) where
   add_on (Some text) None pending rest t u p leaves = absurd p
   add_on (Some text) (Some left) pending rest t u p leaves = p ∙ leaves left
 
+  -- the known bytes have this report, without a header
+  abbrev Gives : Option (List ℕ) → Result T LineFault → Type 0
+  Gives x report = IfSome x (λ text. report_of a text ≡ report)
+
   faults_at : (x y : Option (List ℕ)) (pending : List ℕ) (t : T) (fault : LineFault)
       → Continues a x y pending t → EndsIn a t pending fault
-      → Reports a x (Err fault)
+      → Gives x (Err fault)
   faults_at None y pending t fault p ends = tt
   faults_at (Some text) None pending t fault p ends = absurd p
   faults_at (Some text) (Some left) pending t fault p ends = p ∙ ends left
 
   pub faults : (x y : Option (List ℕ)) (pending : List ℕ) (t : T) (fault : LineFault)
       → Continues a x y pending t → EndsIn a t pending fault
-      → Sums a x (Err (Line fault))
+      → SumsLines a x (Err (Line fault))
   faults x y pending t fault p ends =
       (may_end t (lines_of (pending ++ [])) fault (ends []), faults_at x y pending t fault p ends)
 
   pub long_line : (x y : Option (List ℕ)) (pending : List ℕ) (t : T)
       → Continues a x y pending t → 65535 < length pending
-      → All (λ byte. byte ≢ 10) pending → Sums a x (Err (Line (LongLine (a.count_of t + 1))))
+      → All (λ byte. byte ≢ 10) pending
+      → SumsLines a x (Err (Line (LongLine (a.count_of t + 1))))
   long_line x y pending t p long whole =
       faults x y pending t (LongLine (a.count_of t + 1)) p
       (λ more. too_long t pending more long whole)
 
   at_end : (x y z : Option (List ℕ)) (pending : List ℕ) (t : T)
       (report : Result T LineFault) → Continues a x y pending t → Consumes y z []
-      → IsAtEnd z → report ≡ with_lines a t (lines_of pending) → Reports a x report
+      → IsAtEnd z → report ≡ with_lines a t (lines_of pending) → Gives x report
   at_end None y z pending t report p q end is = tt
   at_end (Some text) None z pending t report p q end is = absurd p
   at_end (Some text) (Some rest) None pending t report p q end is = absurd q
@@ -152,7 +158,7 @@ module _ {T V : Type 0} (a : Adding T V) where
   pub sums_end : (x y z : Option (List ℕ)) (pending : List ℕ) (t : T)
       (report : Result T LineFault) → Continues a x y pending t → Consumes y z []
       → IsAtEnd z → report ≡ with_lines a t (lines_of pending)
-      → Sums a x (of_lines report)
+      → SumsLines a x (of_lines report)
   sums_end x y z pending t (Ok u) p q end is = at_end x y z pending t (Ok u) p q end is
   sums_end x y z pending t (Err fault) p q end is =
       (may_end t (lines_of pending) fault (sym is), at_end x y z pending t (Err fault) p q end is)

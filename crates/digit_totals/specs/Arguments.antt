@@ -3,8 +3,8 @@ use Rattle.std.specs.Prelude.{ℕ, ℤ, pos, negsuc, ◌+◌, ◌-◌, ◌^◌, 
 use Rattle.lexical_format.specs.declared.TheConstants.{STANDARD}
 use Rattle.lexical_digits.specs.declared.skip.component.Component.TheVariants.{Integer}
 use Rattle.lexical_digits.specs.State.{rule_of}
-use Rattle.digit_literals.specs.Numbers.{number_at, to_end}
-use Rattle.digit_literals.specs.declared.parse.ParseError.{ParseError}
+use Rattle.digit_integers.specs.Numbers.{number_at, to_end}
+use Rattle.digit_integers.specs.declared.parse.ParseError.{ParseError}
 use Rattle.digit_totals.specs.declared.options.Column.{Column}
 use Rattle.digit_totals.specs.declared.options.Kind.{Kind}
 use Rattle.digit_totals.specs.declared.options.Kind.TheVariants.{Integers, Places}
@@ -15,7 +15,7 @@ use Rattle.digit_totals.specs.declared.arguments.Name.{Name}
 use Rattle.digit_totals.specs.declared.arguments.Name.TheVariants as names
 use Rattle.digit_totals.specs.declared.arguments.Settings.{Settings}
 use Rattle.digit_totals.specs.declared.arguments.UsageError.{UsageError}
-use Rattle.digit_totals.specs.declared.arguments.UsageError.TheVariants.{Unknown, Twice, NoValue, BadValue, NoColumn, FloatPlaces}
+use Rattle.digit_totals.specs.declared.arguments.UsageError.TheVariants.{Unknown, Twice, NoValue, BadValue, NoColumn, NoCsvColumn, FloatPlaces}
 
 -- ---- words
 
@@ -24,9 +24,11 @@ unfoldable pub name_of : List ℕ → Option Name
 name_of word =
     if bytes_eq word (codes "--column") then Some names.Column else
     if bytes_eq word (codes "--separator") then Some names.Separator else
+    if bytes_eq word (codes "--csv") then Some names.Csv else
     if bytes_eq word (codes "--places") then Some names.Places else
     if bytes_eq word (codes "--underscores") then Some names.Underscores else
     if bytes_eq word (codes "--floats") then Some names.Floats else
+    if bytes_eq word (codes "--header") then Some names.Header else
     if bytes_eq word (codes "--help") then Some names.Help else
     None
 
@@ -55,9 +57,11 @@ abbrev pub no_settings : Settings
 no_settings = record {
   column = None;
   separator = None;
+  csv = false;
   places = None;
   underscores = false;
   floats = false;
+  header = false;
   help = false;
   awaits = None;
 }
@@ -80,26 +84,32 @@ abbrev pub with_value : Settings → Name → ℕ → List ℕ → Result Settin
 with_value s names.Column n word = with_column s n (number_of 1 (2 ^ 64 - 1) word)
 with_value s names.Separator n word = with_separator s n (byte_of word)
 with_value s names.Places n word = with_places s n (number_of 0 38 word)
+with_value s names.Csv n word = Err (BadValue n)
 with_value s names.Underscores n word = Err (BadValue n)
 with_value s names.Floats n word = Err (BadValue n)
+with_value s names.Header n word = Err (BadValue n)
 with_value s names.Help n word = Err (BadValue n)
 
 -- whether an option was given before
 abbrev pub is_set : Settings → Name → Bool
 is_set s names.Column = is_some s.column
 is_set s names.Separator = is_some s.separator
+is_set s names.Csv = s.csv
 is_set s names.Places = is_some s.places
 is_set s names.Underscores = s.underscores
 is_set s names.Floats = s.floats
+is_set s names.Header = s.header
 is_set s names.Help = s.help
 
 -- with an option: one without a value is set, another waits for its value
 abbrev pub with_option : Settings → Name → Settings
 with_option s names.Column = record s { awaits = Some names.Column }
 with_option s names.Separator = record s { awaits = Some names.Separator }
+with_option s names.Csv = record s { csv = true }
 with_option s names.Places = record s { awaits = Some names.Places }
 with_option s names.Underscores = record s { underscores = true }
 with_option s names.Floats = record s { floats = true }
+with_option s names.Header = record s { header = true }
 with_option s names.Help = record s { help = true }
 
 -- word n, where an option may be
@@ -129,11 +139,12 @@ with_word s n word = by_awaits s.awaits s n word
 
 -- ---- what they ask for
 
-abbrev pub column_of : Option ℕ → Option ℕ → Result (Option Column) UsageError
-column_of None None = Ok None
-column_of None (Some byte) = Err NoColumn
-column_of (Some n) None = Ok (Some (record { number = n; separator = 44 }))
-column_of (Some n) (Some byte) = Ok (Some (record { number = n; separator = byte }))
+abbrev pub column_of : Option ℕ → Option ℕ → Bool → Result (Option Column) UsageError
+column_of None None csv = if csv then Err NoCsvColumn else Ok None
+column_of None (Some byte) csv = Err NoColumn
+column_of (Some n) None csv = Ok (Some (record { number = n; separator = 44; csv = csv }))
+column_of (Some n) (Some byte) csv =
+    Ok (Some (record { number = n; separator = byte; csv = csv }))
 
 abbrev pub kind_of : Option ℕ → Kind
 kind_of None = Integers
@@ -145,11 +156,16 @@ exact_sum s column = record {
   column = column;
   kind = kind_of s.places;
   underscores = s.underscores;
+  header = s.header;
 }
 
 -- a sum of floats, which have no number of places
 abbrev pub float_sum : Settings → Option Column → Option ℕ → Result Request UsageError
-float_sum s column None = Ok (Floats (record { column = column; underscores = s.underscores }))
+float_sum s column None = Ok (Floats (record {
+  column = column;
+  underscores = s.underscores;
+  header = s.header;
+}))
 float_sum s column (Some places) = Err FloatPlaces
 
 abbrev pub request_of : Settings → Option Column → Result Request UsageError
@@ -162,7 +178,7 @@ with_kind s (Err error) = Err error
 
 abbrev pub asked_by : Option Name → Settings → ℕ → Result Request UsageError
 asked_by None s n =
-    if s.help then Ok Help else with_kind s (column_of s.column s.separator)
+    if s.help then Ok Help else with_kind s (column_of s.column s.separator s.csv)
 asked_by (Some name) s n = Err (NoValue n)
 
 -- what the settings of n words ask for
@@ -187,8 +203,8 @@ asked words = read_from no_settings 0 words
 
 -- what is allowed
 unfoldable pub usage : List ℕ
-usage = codes
-    "usage: digit_sum [--column N [--separator C]] [--places N | --floats] [--underscores] [--help]\n"
+usage = codes "usage: digit_sum [--column N [--separator C] [--csv]] [--places N | --floats] "
+    ++ codes "[--underscores] [--header] [--help]\n"
 
 -- word n
 abbrev pub word_at : List (List ℕ) → ℕ → List ℕ
@@ -206,6 +222,7 @@ usage_error words (Twice n) = wrong_word words n (codes "was given before")
 usage_error words (NoValue n) = wrong_word words n (codes "has no value")
 usage_error words (BadValue n) = wrong_word words n (codes "is no such value")
 usage_error words NoColumn = codes "error: a separator without a column\n"
+usage_error words NoCsvColumn = codes "error: csv without a column\n"
 usage_error words FloatPlaces = codes "error: floats with places\n"
 
 abbrev pub usage_line : List (List ℕ) → UsageError → List ℕ
@@ -214,12 +231,13 @@ usage_line words error = usage_error words error ++ usage
 -- ---- what is written for `--help`
 
 unfoldable pub help : List ℕ
-help = codes "usage: digit_sum [--column N [--separator C]] [--places N | --floats] "
-    ++ codes "[--underscores] [--help]\n"
+help = usage
     ++ codes "Adds up the numbers of its input, one a line.\n"
     ++ codes "  --column N     the number is in column N, from 1, and not the whole line\n"
     ++ codes "  --separator C  the byte between two columns, \\t for a tab; otherwise a comma\n"
+    ++ codes "  --csv          quotes are read, as in RFC 4180; otherwise a column has none\n"
     ++ codes "  --places N     decimal numbers of at most N places, 0 to 38; otherwise integers\n"
     ++ codes "  --floats       floats: each number and each sum is the nearest one\n"
     ++ codes "  --underscores  one _ may be between two digits\n"
+    ++ codes "  --header       the first line is a header, and is passed\n"
     ++ codes "  --help         this text, and no sum\n"

@@ -1,21 +1,23 @@
 -- Why a field has no number: the position that an error holds, and the same error of its line.
 use Rattle.std.specs.Prelude.{ℕ, ◌+◌, Result, Ok, Err}
-use Rattle.digit_literals.specs.Errors as integers
-use Rattle.digit_literals.specs.declared.parse.ParseError.{ParseError}
-use Rattle.digit_literals.specs.declared.parse.ParseError.TheVariants as integer
-use Rattle.digit_floats.specs.Scaled as decimals
-use Rattle.digit_floats.specs.declared.scaled.ScaledError.{ScaledError}
-use Rattle.digit_floats.specs.declared.scaled.ScaledError.TheVariants as decimal
+use Rattle.digit_integers.specs.Errors as integers
+use Rattle.digit_integers.specs.declared.parse.ParseError.{ParseError}
+use Rattle.digit_integers.specs.declared.parse.ParseError.TheVariants as integer
+use Rattle.digit_amounts.specs.Scaled as decimals
+use Rattle.digit_amounts.specs.declared.scaled.ScaledError.{ScaledError}
+use Rattle.digit_amounts.specs.declared.scaled.ScaledError.TheVariants as decimal
 use Rattle.digit_floats.specs.Errors as floats
 use Rattle.digit_floats.specs.declared.error.FloatError.{FloatError}
 use Rattle.digit_floats.specs.declared.error.FloatError.TheVariants as float
 use Rattle.digit_totals.specs.declared.fault.NumberError.{NumberError}
-use Rattle.digit_totals.specs.declared.fault.NumberError.TheVariants.{Missing, Quoted, Integer, Decimal, Float}
+use Rattle.digit_totals.specs.declared.fault.NumberError.TheVariants.{Missing, Quoted, OpenQuotes, WrongQuote, Integer, Decimal, Float}
 
 -- the position that an error holds; that of a column has none
 abbrev pub position : NumberError → ℕ
 position Missing = 0
 position (Quoted column) = 0
+position OpenQuotes = 0
+position WrongQuote = 0
 position (Integer error) = integers.position error
 position (Decimal error) = decimals.position error
 position (Float error) = floats.position error
@@ -41,6 +43,8 @@ float_later by (float.Invalid at) = float.Invalid (by + at)
 abbrev pub later : ℕ → NumberError → NumberError
 later by Missing = Missing
 later by (Quoted column) = Quoted column
+later by OpenQuotes = OpenQuotes
+later by WrongQuote = WrongQuote
 later by (Integer error) = Integer (integer_later by error)
 later by (Decimal error) = Decimal (decimal_later by error)
 later by (Float error) = Float (float_later by error)

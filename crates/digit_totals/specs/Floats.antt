@@ -4,8 +4,8 @@ use Rattle.std.specs.Float.{float_zero, binary64}
 use Rattle.std.specs.Float.Ieee.{Float, add, lt}
 use Rattle.lexical_format.specs.declared.words.TheConstants.{PYTHON_LITERAL}
 use Rattle.lexical_format.specs.declared.TheConstants.{STANDARD}
-use Rattle.digit_literals.specs.declared.bytes.TheConstants.{BLANKS}
-use Rattle.digit_literals.specs.Bytes.{past_bytes}
+use Rattle.digit_values.specs.declared.bytes.TheConstants.{BLANKS}
+use Rattle.digit_values.specs.Bytes.{past_bytes}
 use Rattle.digit_floats.specs.declared.error.FloatError.{FloatError}
 use Rattle.digit_floats.specs.Float.{read_at, whole_of, plain_marks}
 use Rattle.digit_totals.specs.declared.options.FloatOptions.{FloatOptions}
@@ -74,7 +74,11 @@ adding options = record {
   count_of = λ t. t.count;
   plus = plus;
   fits = λ t value. true;
+  header = options.header;
 }
 
 abbrev pub report_of : FloatOptions → List ℕ → Result FloatTotals LineFault
 report_of options = Report.report_of (adding options)
+
+abbrev pub input_report : FloatOptions → List ℕ → Result FloatTotals LineFault
+input_report options = Report.input_report (adding options)

@@ -1,4 +1,5 @@
 pub mod Arguments
+pub mod CsvSearch
 pub mod ErrorKinds
 pub mod Errors
 pub mod Field

@@ -9,6 +9,11 @@ lines_of [] = []
 lines_of (byte ∷ bytes) =
     if byte == 10 then [] ∷ lines_of bytes else onto_first byte (lines_of bytes)
 
+-- what is after the first line of a text and its line feed
+abbrev pub after_line : List ℕ → List ℕ
+after_line [] = []
+after_line (byte ∷ bytes) = if byte == 10 then bytes else after_line bytes
+
 -- Whatever follows a text, this is its first line, and the other lines are those of the rest.
 abbrev pub IsFirstLine : List ℕ → List ℕ → List ℕ → Type 0
 IsFirstLine text line rest =

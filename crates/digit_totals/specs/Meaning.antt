@@ -6,7 +6,8 @@ use Rattle.digit_totals.specs.declared.totals.Totals.{Totals}
 use Rattle.digit_totals.specs.declared.totals.FloatTotals.{FloatTotals}
 use Rattle.digit_totals.specs.declared.fault.NumberError.{NumberError}
 use Rattle.digit_totals.specs.Lines.{lines_of}
-use Rattle.digit_totals.specs.Report.{most_bytes}
+use Rattle.digit_totals.specs.declared.fault.LineFault.{LineFault}
+use Rattle.digit_totals.specs.Report.{most_bytes, later}
 use Rattle.digit_totals.specs.Totals.{has_128_bits}
 
 -- ---- the lines, each with a value
@@ -58,6 +59,10 @@ module _ {V : Type 0} (value_of : List ℕ → Result V NumberError) where
     pub values : List V
     pub values_are : HaveValues (lines_of text) values
     pub totals_are : AreOf values t
+
+-- a fault of the lines after the first, which is told of a line later
+abbrev pub IsLater : {T : Type 0} → LineFault → Result T LineFault → Type 0
+IsLater fault report = (one : LineFault) × (fault ≡ later one) × (report ≡ Err one)
 
 -- ---- numbers
 

@@ -1,6 +1,6 @@
 -- What a run leaves in its reader and its writers, by what it answers. Nothing is said of a reader
 -- or a writer whose contract does not describe its bytes.
-use Rattle.std.specs.Prelude.{◌≡◌, ◌≢◌, ⊤, ℕ, ◌<◌, List, ◌++◌, length, Option, None, Some, Result, Ok, Err, IfSome}
+use Rattle.std.specs.Prelude.{◌≡◌, ◌≢◌, ⊤, ℕ, ◌<◌, ◌≤◌, ◌^◌, List, ◌++◌, length, Option, None, Some, Result, Ok, Err, IfSome}
 use Rattle.std.specs.Io.KnownBytes.{Appends, Keeps, IsAtEnd}
 use Rattle.std.specs.declared.io.ErrorKind.{ErrorKind}
 use Rattle.std.specs.declared.io.ErrorKind.TheVariants.{Interrupted}
@@ -11,8 +11,8 @@ use Rattle.digit_totals.specs.declared.options.Column.{Column}
 use Rattle.digit_totals.specs.declared.options.FloatOptions.{FloatOptions}
 use Rattle.digit_totals.specs.declared.options.Options.{Options}
 use Rattle.digit_totals.specs.Floats as Floats
-use Rattle.digit_totals.specs.Lines.{lines_of}
-use Rattle.digit_totals.specs.Report.{Adding, with_lines, report_of, MayEndIn}
+use Rattle.digit_totals.specs.Lines.{lines_of, after_line}
+use Rattle.digit_totals.specs.Report.{Adding, with_lines, report_of, input_report, line_of, later, MayEndIn}
 use Rattle.digit_totals.specs.Text.{IsLineOf, IsFloatLineOf, error_line, status_of}
 use Rattle.digit_totals.specs.Totals as Totals
 
@@ -24,7 +24,7 @@ of_lines (Err fault) = Err (Line fault)
 module _ {T V : Type 0} (a : Adding T V) where
   -- the report of the known bytes is this
   abbrev pub Reports : Option (List ℕ) → Result T LineFault → Type 0
-  Reports input report = IfSome input (λ text. report_of a text ≡ report)
+  Reports input report = IfSome input (λ text. input_report a text ≡ report)
 
   -- the report of the known bytes is a fault
   abbrev pub EndsWithFault : Option (List ℕ) → LineFault → Type 0
@@ -37,6 +37,14 @@ module _ {T V : Type 0} (a : Adding T V) where
   Sums input (Err (Read kind)) = kind ≢ Interrupted
   Sums input (Err fault) = ⊥
 
+  -- the same of lines without a header
+  abbrev pub SumsLines : Option (List ℕ) → Result T Fault → Type 0
+  SumsLines input (Ok totals) = IfSome input (λ text. report_of a text ≡ Ok totals)
+  SumsLines input (Err (Line fault)) =
+      MayEndIn a fault × IfSome input (λ text. report_of a text ≡ Err fault)
+  SumsLines input (Err (Read kind)) = kind ≢ Interrupted
+  SumsLines input (Err fault) = ⊥
+
   -- The totals so far, with the lines of what was read and is not among them, and of what is left,
   -- are those of all.
   abbrev pub Continues : (old new : Option (List ℕ)) → List ℕ → T → Type 0
@@ -44,6 +52,31 @@ module _ {T V : Type 0} (a : Adding T V) where
   Continues (Some text) None pending t = ⊥
   Continues (Some text) (Some rest) pending t =
       report_of a text ≡ with_lines a t (lines_of (pending ++ rest))
+
+-- known bytes with these before them
+abbrev pub with_front : List ℕ → Option (List ℕ) → Option (List ℕ)
+with_front front None = None
+with_front front (Some text) = Some (front ++ text)
+
+-- The first line of the known bytes was read, and these bytes after it.
+abbrev pub PassesLine : (old new : Option (List ℕ)) → List ℕ → Type 0
+PassesLine None new bytes = ⊤
+PassesLine (Some text) None bytes = ⊥
+PassesLine (Some text) (Some rest) bytes = after_line text ≡ bytes ++ rest
+
+-- the fault of a run, if its lines follow a header
+abbrev pub later_fault : Fault → Fault
+later_fault (Line fault) = Line (later fault)
+later_fault fault = fault
+
+-- that fault has a number of 128 bits
+abbrev pub MayBeLater : Fault → Type 0
+MayBeLater (Line fault) = line_of fault ≤ 2 ^ 127
+MayBeLater fault = ⊤
+
+abbrev pub sum_later : {A : Type 0} → Result A Fault → Result A Fault
+sum_later (Ok totals) = Ok totals
+sum_later (Err fault) = Err (later_fault fault)
 
 -- the known bytes grow by a prefix of `bytes`, and not by the whole
 pub record AppendsPart (old new : Option (List ℕ)) (bytes : List ℕ) : Type 0 where

@@ -4,7 +4,7 @@ use Rattle.std.specs.Prelude.{◌≡◌, ⊤, ℕ, ◌+◌, ◌≤◌, nat_lt, B
 use Rattle.digit_totals.specs.declared.fault.NumberError.{NumberError}
 use Rattle.digit_totals.specs.declared.fault.LineFault.{LineFault}
 use Rattle.digit_totals.specs.declared.fault.LineFault.TheVariants.{Number, Sum, LongLine}
-use Rattle.digit_totals.specs.Lines.{lines_of, EndsWith}
+use Rattle.digit_totals.specs.Lines.{lines_of, after_line, EndsWith}
 
 -- the most bytes of a line
 abbrev pub most_bytes : ℕ
@@ -21,6 +21,24 @@ pub record Adding (T V : Type 0) : Type 0 where
   -- with one number more, if the sum fits
   pub plus : T → V → T
   pub fits : T → V → Bool
+  -- whether the first line of an input is a header, which has no number
+  pub header : Bool
+
+-- the line that a fault names
+abbrev pub line_of : LineFault → ℕ
+line_of (Number n error) = n
+line_of (Sum n) = n
+line_of (LongLine n) = n
+
+-- a fault of the lines after a header, which is a line too
+abbrev pub later : LineFault → LineFault
+later (Number n error) = Number (n + 1) error
+later (Sum n) = Sum (n + 1)
+later (LongLine n) = LongLine (n + 1)
+
+abbrev pub report_later : {A : Type 0} → Result A LineFault → Result A LineFault
+report_later (Ok totals) = Ok totals
+report_later (Err fault) = Err (later fault)
 
 module _ {T V : Type 0} (a : Adding T V) where
   -- with the number of the next line; or that line's fault
@@ -49,6 +67,11 @@ module _ {T V : Type 0} (a : Adding T V) where
 
   abbrev pub report_of : List ℕ → Result T LineFault
   report_of text = with_lines a.none (lines_of text)
+
+  -- the report of an input: if its first line is a header, that of the lines after it
+  abbrev pub input_report : List ℕ → Result T LineFault
+  input_report text =
+      if a.header then report_later (report_of (after_line text)) else report_of text
 
   -- Whatever follows a text: the totals after its lines are those after the lines of the rest.
   abbrev pub LeavesRest : T → List ℕ → T → List ℕ → Type 0

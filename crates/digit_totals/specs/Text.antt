@@ -5,8 +5,8 @@ use Rattle.std.specs.Float.Ieee.{Float}
 use Rattle.std.specs.Float.Parse.{parse_float}
 use Rattle.std.specs.Fmt.{sign_text, signed_decimal}
 use Rattle.std.specs.Int.{is_negative}
-use Rattle.digit_literals.specs.Errors as integers
-use Rattle.digit_floats.specs.Scaled as decimals
+use Rattle.digit_integers.specs.Errors as integers
+use Rattle.digit_amounts.specs.Scaled as decimals
 use Rattle.digit_floats.specs.Errors as floats
 use Rattle.float_writers.specs.Write as writers
 use Rattle.float_writers.specs.declared.write.FloatLayout.TheVariants.{Plain}
@@ -97,6 +97,9 @@ abbrev pub message : NumberError → List ℕ
 message errors.Missing = codes "there is no such column"
 message (errors.Quoted column) =
     codes "column " ++ decimal column ++ codes " begins with a quote, and no quotes are read"
+message errors.OpenQuotes = codes "the line ends inside quotes, and no line feed is read there"
+message errors.WrongQuote =
+    codes "a quote neither begins nor ends a column, and is not doubled inside quotes"
 message (errors.Integer error) = integers.message error
 message (errors.Decimal error) = decimals.message error
 message (errors.Float error) = floats.message error

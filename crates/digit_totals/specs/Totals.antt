@@ -45,7 +45,11 @@ adding options = record {
   count_of = λ t. t.count;
   plus = plus;
   fits = λ t value. has_128_bits (t.sum +ℤ value);
+  header = options.header;
 }
 
 abbrev pub report_of : Options → List ℕ → Result Totals LineFault
 report_of options = Report.report_of (adding options)
+
+abbrev pub input_report : Options → List ℕ → Result Totals LineFault
+input_report options = Report.input_report (adding options)

@@ -4,12 +4,12 @@ use Rattle.lexical_format.specs.declared.words.TheConstants.{PYTHON_LITERAL}
 use Rattle.lexical_format.specs.declared.TheConstants.{STANDARD}
 use Rattle.lexical_digits.specs.declared.skip.component.Component.TheVariants.{Integer}
 use Rattle.lexical_digits.specs.State.{rule_of}
-use Rattle.digit_literals.specs.declared.parse.ParseError.{ParseError}
-use Rattle.digit_literals.specs.declared.bytes.TheConstants.{BLANKS}
-use Rattle.digit_literals.specs.Bytes.{past_bytes}
-use Rattle.digit_literals.specs.Numbers.{number_at, to_end}
-use Rattle.digit_floats.specs.declared.scaled.ScaledError.{ScaledError}
-use Rattle.digit_floats.specs.Scaled.{read_scaled_at, whole_of}
+use Rattle.digit_integers.specs.declared.parse.ParseError.{ParseError}
+use Rattle.digit_values.specs.declared.bytes.TheConstants.{BLANKS}
+use Rattle.digit_values.specs.Bytes.{past_bytes}
+use Rattle.digit_integers.specs.Numbers.{number_at, to_end}
+use Rattle.digit_amounts.specs.declared.scaled.ScaledError.{ScaledError}
+use Rattle.digit_amounts.specs.Scaled.{read_scaled_at, whole_of}
 use Rattle.digit_totals.specs.declared.options.Kind.{Kind}
 use Rattle.digit_totals.specs.declared.options.Kind.TheVariants.{Integers, Places}
 use Rattle.digit_totals.specs.declared.options.Options.{Options}

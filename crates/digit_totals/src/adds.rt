@@ -40,6 +40,10 @@ pub trait Adds: Copy {
     fn column(self) -> Option<Column>
         ensures { result ≡ column_of self };
 
+    /// Whether the first line of an input is a header, which has no number.
+    fn has_header(self) -> bool
+        ensures { result ≡ (adding self).header };
+
     /// The totals of no number.
     fn none(self) -> Self::Totals
         ensures is { result ≡ (adding self).none }
@@ -85,4 +89,8 @@ pub trait Adds: Copy {
     ) -> Result<Vec<u8, &A>, AllocError>
         requires { valid self }
         ensures { IfOk result (λ line. IsLine self totals line.items) };
+
+    // Totals count their numbers.
+    ghost counts: { (k : Self) (t : Self.Totals) (value : Value)
+        → (adding k).count_of ((adding k).plus t value) ≡ (adding k).count_of t + 1 };
 }

@@ -6,7 +6,7 @@ ghost use Rattle.digit_totals.specs.Value.{HasFewPlaces, MayServe};
 
 use super::options::{Column, FloatOptions, Kind, Options, Request};
 use super::search::find;
-use digit_literals::parse_number;
+use digit_integers::parse_number;
 use lexical_format::STANDARD;
 use std::alloc::{AllocError, Allocator};
 
@@ -15,9 +15,11 @@ use std::alloc::{AllocError, Allocator};
 pub enum Name {
     Column,
     Separator,
+    Csv,
     Places,
     Underscores,
     Floats,
+    Header,
     Help,
 }
 
@@ -34,6 +36,8 @@ pub enum UsageError {
     BadValue(usize),
     /// There is a separator, and no column.
     NoColumn,
+    /// Quotes are read, and there is no column.
+    NoCsvColumn,
     /// The numbers are floats, and have a number of places.
     FloatPlaces,
 }
@@ -43,9 +47,11 @@ pub enum UsageError {
 pub struct Settings {
     pub column: Option<usize>,
     pub separator: Option<u8>,
+    pub csv: bool,
     pub places: Option<usize>,
     pub underscores: bool,
     pub floats: bool,
+    pub header: bool,
     pub help: bool,
     /// The option whose value is the next argument.
     pub awaits: Option<Name>,
@@ -59,12 +65,16 @@ fn name_of(word: &[u8]) -> Option<Name>
         Some(Name::Column)
     } else if word == b"--separator".as_slice() {
         Some(Name::Separator)
+    } else if word == b"--csv".as_slice() {
+        Some(Name::Csv)
     } else if word == b"--places".as_slice() {
         Some(Name::Places)
     } else if word == b"--underscores".as_slice() {
         Some(Name::Underscores)
     } else if word == b"--floats".as_slice() {
         Some(Name::Floats)
+    } else if word == b"--header".as_slice() {
+        Some(Name::Header)
     } else if word == b"--help".as_slice() {
         Some(Name::Help)
     } else {
@@ -109,9 +119,11 @@ impl Settings {
         Settings {
             column: None,
             separator: None,
+            csv: false,
             places: None,
             underscores: false,
             floats: false,
+            header: false,
             help: false,
             awaits: None,
         }
@@ -138,7 +150,9 @@ impl Settings {
                 Some(places) => settings.places = Some(places),
                 None => return Err(UsageError::BadValue(n)),
             },
-            Name::Underscores | Name::Floats | Name::Help => return Err(UsageError::BadValue(n)),
+            Name::Csv | Name::Underscores | Name::Floats | Name::Header | Name::Help => {
+                return Err(UsageError::BadValue(n));
+            }
         }
         Ok(settings)
     }
@@ -150,9 +164,11 @@ impl Settings {
         match name {
             Name::Column => self.column.is_some(),
             Name::Separator => self.separator.is_some(),
+            Name::Csv => self.csv,
             Name::Places => self.places.is_some(),
             Name::Underscores => self.underscores,
             Name::Floats => self.floats,
+            Name::Header => self.header,
             Name::Help => self.help,
         }
     }
@@ -164,8 +180,10 @@ impl Settings {
     {
         let mut settings = self;
         match name {
+            Name::Csv => settings.csv = true,
             Name::Underscores => settings.underscores = true,
             Name::Floats => settings.floats = true,
+            Name::Header => settings.header = true,
             Name::Help => settings.help = true,
             _ => settings.awaits = Some(name),
         }
@@ -236,16 +254,28 @@ impl Settings {
 
     /// The column, if there is one.
     fn column(self) -> Result<Option<Column>, UsageError>
-        ensures { result ≡ Arguments.column_of self.column self.separator }
+        ensures { result ≡ Arguments.column_of self.column self.separator self.csv }
     {
+        let csv = self.csv;
         match (self.column, self.separator) {
-            (None, None) => Ok(None),
+            (None, None) => {
+                if csv {
+                    Err(UsageError::NoCsvColumn)
+                } else {
+                    Ok(None)
+                }
+            }
             (None, Some(_)) => Err(UsageError::NoColumn),
             (Some(number), None) => Ok(Some(Column {
                 number,
                 separator: b',',
+                csv,
             })),
-            (Some(number), Some(separator)) => Ok(Some(Column { number, separator })),
+            (Some(number), Some(separator)) => Ok(Some(Column {
+                number,
+                separator,
+                csv,
+            })),
         }
     }
 
@@ -268,11 +298,13 @@ impl Settings {
         ensures few { IfOk result MayServe }
     {
         let underscores = self.underscores;
+        let header = self.header;
         if !self.floats {
             return Ok(Request::Exact(Options {
                 column,
                 kind: self.kind(),
                 underscores,
+                header,
             }));
         }
         if self.places.is_some() {
@@ -281,6 +313,7 @@ impl Settings {
         Ok(Request::Floats(FloatOptions {
             column,
             underscores,
+            header,
         }))
     }
 
@@ -372,6 +405,7 @@ fn usage_error<'a, A: Allocator>(
         UsageError::NoValue(n) => wrong_word(alloc, words, n, "has no value"),
         UsageError::BadValue(n) => wrong_word(alloc, words, n, "is no such value"),
         UsageError::NoColumn => bytes_of(alloc, "error: a separator without a column\n"),
+        UsageError::NoCsvColumn => bytes_of(alloc, "error: csv without a column\n"),
         UsageError::FloatPlaces => bytes_of(alloc, "error: floats with places\n"),
     }
 }
@@ -381,23 +415,28 @@ fn usage_error<'a, A: Allocator>(
 fn usage() -> &'static str
     ensures { result.now ≡ Arguments.usage }
 {
-    "usage: digit_sum [--column N [--separator C]] [--places N | --floats] [--underscores] [--help]\n"
+    concat!(
+        "usage: digit_sum [--column N [--separator C] [--csv]] [--places N | --floats] ",
+        "[--underscores] [--header] [--help]\n",
+    )
 }
 
 /// What is written for `--help`.
-#[tactic(auto, unfolding(crate::specs::Arguments::help))]
+#[tactic(auto, unfolding(crate::specs::Arguments::help, crate::specs::Arguments::usage))]
 pub fn help() -> &'static str
     ensures { result.now ≡ Arguments.help }
 {
     concat!(
-        "usage: digit_sum [--column N [--separator C]] [--places N | --floats] ",
-        "[--underscores] [--help]\n",
+        "usage: digit_sum [--column N [--separator C] [--csv]] [--places N | --floats] ",
+        "[--underscores] [--header] [--help]\n",
         "Adds up the numbers of its input, one a line.\n",
         "  --column N     the number is in column N, from 1, and not the whole line\n",
         "  --separator C  the byte between two columns, \\t for a tab; otherwise a comma\n",
+        "  --csv          quotes are read, as in RFC 4180; otherwise a column has none\n",
         "  --places N     decimal numbers of at most N places, 0 to 38; otherwise integers\n",
         "  --floats       floats: each number and each sum is the nearest one\n",
         "  --underscores  one _ may be between two digits\n",
+        "  --header       the first line is a header, and is passed\n",
         "  --help         this text, and no sum\n",
     )
 }

@@ -11,6 +11,7 @@ use super::value::value_of;
 use std::alloc::{AllocError, Allocator};
 
 impl Adds for Options {
+    ghost use Rattle.std.proofs.Common.{refl};
     ghost use Rattle.std.specs.Prelude.{ℤ};
     ghost use Rattle.digit_totals.specs.Text as Text;
     ghost use Rattle.digit_totals.specs.Totals as sums;
@@ -30,6 +31,10 @@ impl Adds for Options {
 
     fn column(self) -> Option<Column> {
         self.column
+    }
+
+    fn has_header(self) -> bool {
+        self.header
     }
 
     fn none(self) -> Totals {
@@ -60,4 +65,6 @@ impl Adds for Options {
     fn line_of<A: Allocator>(self, alloc: &A, totals: Totals) -> Result<Vec<u8, &A>, AllocError> {
         line_of(alloc, self.kind, totals)
     }
+
+    ghost counts = { λ options t value. refl };
 }

@@ -1,11 +1,12 @@
 //! The reasons for which a run ends early.
 
-ghost use Rattle.std.specs.Prelude.{◌≡◌, ◌+◌, ◌^◌, ◌<◌};
+ghost use Rattle.std.specs.Prelude.{◌≡◌, ◌+◌, ◌^◌, ◌<◌, ◌≤◌};
 ghost use Rattle.digit_totals.specs.Errors as Errors;
 ghost use Rattle.digit_totals.specs.declared.fault.Fault.TheVariants.{Memory};
 
-use digit_floats::{FloatError, ScaledError};
-use digit_literals::ParseError;
+use digit_amounts::ScaledError;
+use digit_floats::FloatError;
+use digit_integers::ParseError;
 use std::alloc::AllocError;
 use std::io::ErrorKind;
 
@@ -16,6 +17,10 @@ pub enum NumberError {
     Missing,
     /// This column, or one before it, begins with a quote: a separator may be in quotes.
     Quoted(usize),
+    /// The line of CSV ends inside quotes: a line feed may be in them, and none is read.
+    OpenQuotes,
+    /// A quote of the line of CSV neither begins nor ends a field, and isn't doubled in quotes.
+    WrongQuote,
     /// It is no integer of 128 bits.
     Integer(ParseError),
     /// It is no decimal number of 128 bits with the places of the run.
@@ -32,7 +37,10 @@ impl NumberError {
         ensures { result ≡ Errors.later by self }
     {
         match self {
-            NumberError::Missing | NumberError::Quoted(_) => self,
+            NumberError::Missing
+            | NumberError::Quoted(_)
+            | NumberError::OpenQuotes
+            | NumberError::WrongQuote => self,
             NumberError::Integer(error) => NumberError::Integer(match error {
                 ParseError::Empty(at) => ParseError::Empty(by + at),
                 ParseError::Invalid(at) => ParseError::Invalid(by + at),
@@ -62,6 +70,22 @@ pub enum LineFault {
     Sum(u128),
     /// This line is longer than 65,535 bytes.
     LongLine(u128),
+}
+
+impl LineFault {
+    ghost use Rattle.digit_totals.specs.Report.{later, line_of};
+
+    /// The same fault of a line that is after a header.
+    pub fn later(self) -> LineFault
+        requires { line_of self ≤ 2 ^ 127 }
+        ensures { result ≡ later self }
+    {
+        match self {
+            LineFault::Number(line, error) => LineFault::Number(line + 1, error),
+            LineFault::Sum(line) => LineFault::Sum(line + 1),
+            LineFault::LongLine(line) => LineFault::LongLine(line + 1),
+        }
+    }
 }
 
 /// Why a run ended early. The fault of a line is of a type of its own, which has no [`ErrorKind`]:

@@ -1,12 +1,13 @@
 //! The place of a column in a line.
 
 ghost use Rattle.std.specs.Prelude.{◌≡◌, ◌+◌, ◌-◌, ◌<◌, ◌≤◌, ℕ, List, ◌∷◌, length, drop, slice_range, Some, Err, IfOk, MatchResult};
-ghost use Rattle.digit_totals.specs.Field.{fields_of, first_quoted, is_quoted, nth_span, span_in, unless_quoted};
+ghost use Rattle.digit_totals.specs.Field.{fields_of, first_quoted, is_quoted, nth_span, plain_span, span_in, unless_quoted};
 
+use super::csv::find_csv;
 use super::fault::NumberError;
 use super::options::Column;
 use super::search::find;
-use digit_literals::{BLANKS, has_byte, past_bytes};
+use digit_values::{BLANKS, has_byte, past_bytes};
 
 /// Whether a field begins with a quote, after any blanks.
 #[inline]
@@ -65,10 +66,10 @@ fn find_end(line: &[u8], separator: u8, start: usize) -> usize
     }
 }
 
-/// The start and the end of a column in a line, or why it isn't read.
+/// The start and the end of a column in a line without CSV, or why it isn't read.
 #[tactic(auto, using(crate::proofs::Fields::spans))]
-fn find_column(column: Column, line: &[u8]) -> Result<(usize, usize), NumberError>
-    ensures is { result ≡ span_in (Some column) line.now }
+fn find_plain(column: Column, line: &[u8]) -> Result<(usize, usize), NumberError>
+    ensures is { result ≡ plain_span column line.now }
     ensures within { IfOk result (λ span. (span.0 ≤ span.1) × (span.1 ≤ length line.now)) }
 {
     let before = column.number.saturating_sub(1);
@@ -91,7 +92,13 @@ pub fn find_span(column: Option<Column>, line: &[u8]) -> Result<(usize, usize), 
     ensures within { IfOk result (λ span. (span.0 ≤ span.1) × (span.1 ≤ length line.now)) }
 {
     match column {
-        Some(column) => find_column(column, line),
+        Some(column) => {
+            if column.csv {
+                find_csv(column, line)
+            } else {
+                find_plain(column, line)
+            }
+        }
         None => Ok((0, line.len())),
     }
 }

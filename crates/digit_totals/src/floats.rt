@@ -9,6 +9,7 @@ use super::value::float_of;
 use std::alloc::{AllocError, Allocator};
 
 impl Adds for FloatOptions {
+    ghost use Rattle.std.proofs.Common.{refl};
     ghost use Rattle.std.specs.Prelude.{⊤};
     ghost use Rattle.std.specs.Float.Ieee.{Float};
     ghost use Rattle.digit_totals.specs.Floats as sums;
@@ -28,6 +29,10 @@ impl Adds for FloatOptions {
 
     fn column(self) -> Option<Column> {
         self.column
+    }
+
+    fn has_header(self) -> bool {
+        self.header
     }
 
     fn none(self) -> FloatTotals {
@@ -68,4 +73,6 @@ impl Adds for FloatOptions {
     ) -> Result<Vec<u8, &A>, AllocError> {
         float_line(alloc, totals)
     }
+
+    ghost counts = { λ options t value. refl };
 }

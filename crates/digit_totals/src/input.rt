@@ -4,7 +4,7 @@ ghost use Rattle.std.specs.Prelude.{◌≡◌, ◌≢◌, ◌<◌, ◌≤◌, �
 ghost use Rattle.std.specs.Io.KnownBytes.{Consumes, IsAtEnd};
 ghost use Rattle.std.specs.declared.io.ErrorKind.TheVariants.{Interrupted};
 ghost use Rattle.digit_totals.specs.Lines.{lines_of};
-ghost use Rattle.digit_totals.specs.Outcome.{Sums, of_lines};
+ghost use Rattle.digit_totals.specs.Outcome.{Sums, SumsLines, PassesLine, MayBeLater, with_front, of_lines, sum_later};
 ghost use Rattle.digit_totals.specs.Report.{most_bytes, with_lines, LeavesRest, EndsIn};
 
 use super::adds::Adds;
@@ -127,24 +127,28 @@ fn of_lines<T: Copy>(added: Result<T, LineFault>) -> Result<T, Fault>
     }
 }
 
-/// The totals of the numbers of an input, a piece at a time.
-pub fn sum_input<K: Adds, R: Read>(options: K, reader: &mut R) -> Result<K::Totals, Fault>
-    requires { K.valid options }
-    ensures is { Sums (K.adding options) (R.remaining reader.old) result }
+/// The totals of the numbers of lines, a piece at a time. The first `start` bytes of the buffer are
+/// the first piece.
+#[inline(never)]
+fn sum_lines<K: Adds, R: Read>(
+    options: K,
+    reader: &mut R,
+    buffer: &mut [u8],
+    start: usize,
+) -> Result<K::Totals, Fault>
+    requires valid { K.valid options }
+    requires size { length buffer.old ≡ 65536 }
+    requires within { start ≤ 65536 }
+    ensures is { SumsLines (K.adding options)
+        (with_front (take start buffer.old) (R.remaining reader.old)) result }
     ensures end { OnOk result (IsAtEnd (R.remaining reader.new)) }
+    ensures line { IfErr result MayBeLater }
 {
-    let mut buffer = [0; SIZE];
     let mut totals = options.none();
     let mut filled = 0;
+    let mut end = start;
     for _ in 0..u64::MAX {
-        let count = match fill(reader, &mut buffer, filled) {
-            Ok(count) => count,
-            Err(kind) => return Err(Fault::Read(kind)),
-        };
-        if count == 0 {
-            return of_lines(add_last(options, totals, &buffer[..filled]));
-        }
-        match add_piece(options, totals, &mut buffer, filled, filled + count) {
+        match add_piece(options, totals, buffer, filled, end) {
             Ok(kept) => {
                 totals = kept.totals;
                 filled = kept.filled;
@@ -154,6 +158,70 @@ pub fn sum_input<K: Adds, R: Read>(options: K, reader: &mut R) -> Result<K::Tota
         if filled == SIZE {
             return Err(Fault::Line(LineFault::LongLine(options.count_of(totals) + 1)));
         }
+        let count = match fill(reader, buffer, filled) {
+            Ok(count) => count,
+            Err(kind) => return Err(Fault::Read(kind)),
+        };
+        if count == 0 {
+            return of_lines(add_last(options, totals, &buffer[..filled]));
+        }
+        end = filled + count;
     }
     Err(Fault::Read(ErrorKind::TimedOut))
+}
+
+/// Reads the first line of an input, of any length. The answer is how many bytes after it are in
+/// the buffer then, at its front.
+fn pass_line<R: Read>(reader: &mut R, buffer: &mut [u8]) -> Result<usize, ErrorKind>
+    requires { 0 < length buffer.old }
+    ensures passed { IfOk result (λ count. PassesLine (R.remaining reader.old)
+        (R.remaining reader.new) (take count buffer.new)) }
+    ensures within { IfOk result (λ count. count ≤ length buffer.new) }
+    ensures length { length buffer.new ≡ length buffer.old }
+    ensures retried { IfErr result (λ kind. kind ≢ Interrupted) }
+{
+    for _ in 0..u64::MAX {
+        let count = match fill(reader, buffer, 0) {
+            Ok(count) => count,
+            Err(kind) => return Err(kind),
+        };
+        if count == 0 {
+            return Ok(0);
+        }
+        match find(&buffer[..count], b'\n') {
+            Some(end) => {
+                keep(buffer, end + 1, count);
+                return Ok(count - (end + 1));
+            }
+            None => {}
+        }
+    }
+    Err(ErrorKind::TimedOut)
+}
+
+/// What a run answers, if its lines follow a header.
+fn later<T: Copy>(sum: Result<T, Fault>) -> Result<T, Fault>
+    requires { IfErr sum MayBeLater }
+    ensures { result ≡ sum_later sum }
+{
+    match sum {
+        Err(Fault::Line(fault)) => Err(Fault::Line(fault.later())),
+        _ => sum,
+    }
+}
+
+/// The totals of the numbers of an input, a piece at a time.
+pub fn sum_input<K: Adds, R: Read>(options: K, reader: &mut R) -> Result<K::Totals, Fault>
+    requires { K.valid options }
+    ensures is { Sums (K.adding options) (R.remaining reader.old) result }
+    ensures end { OnOk result (IsAtEnd (R.remaining reader.new)) }
+{
+    let mut buffer = [0; SIZE];
+    if options.has_header() {
+        return match pass_line(reader, &mut buffer) {
+            Ok(count) => later(sum_lines(options, reader, &mut buffer, count)),
+            Err(kind) => Err(Fault::Read(kind)),
+        };
+    }
+    sum_lines(options, reader, &mut buffer, 0)
 }

@@ -4,6 +4,7 @@
 
 pub mod adds;
 pub mod arguments;
+pub mod csv;
 pub mod engine;
 pub mod error_kind;
 pub mod exact;

@@ -13,7 +13,8 @@ ghost use Rattle.digit_totals.specs.Value.{HasFewPlaces, word_of};
 use super::adds::Added;
 use super::options::{Kind, Options};
 use super::totals::Totals;
-use digit_literals::{LINES, ListEnd, LiteralError, read_list};
+use digit_literals::{LINES, ListEnd, read_list};
+use digit_values::LiteralError;
 use lexical_format::STANDARD;
 use lexical_format::words::PYTHON_LITERAL;
 

@@ -6,6 +6,8 @@ pub struct Column {
     pub number: usize,
     /// The byte between two columns.
     pub separator: u8,
+    /// Whether quotes are read, as in RFC 4180.
+    pub csv: bool,
 }
 
 /// The kind of the numbers.
@@ -25,6 +27,8 @@ pub struct Options {
     pub kind: Kind,
     /// Whether one `_` may be between two digits.
     pub underscores: bool,
+    /// Whether the first line is a header, which has no number.
+    pub header: bool,
 }
 
 /// What a run adds up as floats.
@@ -34,6 +38,8 @@ pub struct FloatOptions {
     pub column: Option<Column>,
     /// As in [`Options`].
     pub underscores: bool,
+    /// As in [`Options`].
+    pub header: bool,
 }
 
 /// What the arguments ask for.

@@ -7,9 +7,9 @@ ghost use Rattle.lexical_digits.specs.declared.skip.component.Component.{Compone
 ghost use Rattle.lexical_digits.specs.declared.skip.component.Component.TheVariants.{Integer};
 ghost use Rattle.lexical_digits.specs.State.{rule_of};
 ghost use Rattle.digit_literals.specs.Lists.{past_blanks, next_after};
-ghost use Rattle.digit_literals.specs.Numbers.{is_negative_from, digits_from, signed};
+ghost use Rattle.digit_integers.specs.Numbers.{is_negative_from, digits_from, signed};
 ghost use Rattle.digit_floats.specs.Float.{IsDecimal};
-ghost use Rattle.digit_floats.specs.Scaled.{scaled_at, read_scaled_at};
+ghost use Rattle.digit_amounts.specs.Scaled.{scaled_at, read_scaled_at};
 ghost use Rattle.digit_totals.specs.declared.options.Kind.TheVariants.{Integers, Places};
 ghost use Rattle.digit_totals.specs.Lines.{EndsWith};
 ghost use Rattle.digit_totals.specs.Quick.{BeginsWith, HasNoLowByte};
@@ -22,7 +22,8 @@ use super::fault::LineFault;
 use super::options::{Kind, Options};
 use super::totals::Totals;
 use digit_floats::{read_short_fraction, read_short_whole};
-use digit_literals::{LINES, read_number_from};
+use digit_integers::read_number_from;
+use digit_literals::LINES;
 use lexical_format::STANDARD;
 use lexical_format::words::PYTHON_LITERAL;
 

@@ -237,6 +237,16 @@ fn message<A: Allocator>(alloc: &A, error: NumberError) -> Result<String<&A>, Al
         NumberError::Quoted(column) => {
             format!(in alloc; "column {column} begins with a quote, and no quotes are read")
         }
+        NumberError::OpenQuotes => {
+            String::from_str(
+                alloc,
+                "the line ends inside quotes, and no line feed is read there",
+            )
+        }
+        NumberError::WrongQuote => String::from_str(
+            alloc,
+            "a quote neither begins nor ends a column, and is not doubled inside quotes",
+        ),
         NumberError::Integer(error) => format!(in alloc; "{error}"),
         NumberError::Decimal(error) => format!(in alloc; "{error}"),
         NumberError::Float(error) => format!(in alloc; "{error}"),

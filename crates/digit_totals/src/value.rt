@@ -2,9 +2,9 @@
 
 ghost use Rattle.std.specs.Prelude.{◌≡◌, ◌+◌, ◌^◌, ◌<◌, ◌≤◌, length, IsTrue, IfErr, Ok, Err};
 ghost use Rattle.lexical_format.specs.Word.{is_supported};
-ghost use Rattle.digit_literals.specs.Errors as integers;
+ghost use Rattle.digit_integers.specs.Errors as integers;
 ghost use Rattle.digit_floats.specs.Float.{IsDecimal};
-ghost use Rattle.digit_floats.specs.Scaled as decimals;
+ghost use Rattle.digit_amounts.specs.Scaled as decimals;
 ghost use Rattle.digit_floats.specs.Errors as marks;
 ghost use Rattle.lexical_digits.specs.declared.skip.component.Component.{Component};
 ghost use Rattle.lexical_digits.specs.State.{rule_of};
@@ -17,10 +17,10 @@ ghost use Rattle.digit_totals.specs.Value.{HasFewPlaces};
 use super::fault::NumberError;
 use super::field::find_span;
 use super::options::{FloatOptions, Kind, Options};
-use digit_floats::{FloatError, ScaledError, read_float_from, read_scaled_from};
-use digit_literals::{
-    BLANKS, LiteralError, ParseError, parse_number, past_bytes, read_number_from,
-};
+use digit_amounts::{ScaledError, read_scaled_from};
+use digit_floats::{FloatError, read_float_from};
+use digit_integers::{ParseError, parse_number, read_number_from};
+use digit_values::{BLANKS, LiteralError, past_bytes};
 use lexical_format::STANDARD;
 use lexical_format::words::PYTHON_LITERAL;
 

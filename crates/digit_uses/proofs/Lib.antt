@@ -1,1 +1,2 @@
+pub mod Bracketed
 pub mod Summing

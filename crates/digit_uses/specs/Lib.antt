@@ -1,3 +1,4 @@
+pub mod Arrays
 pub mod Dates
 pub mod Durations
 pub mod Geometry

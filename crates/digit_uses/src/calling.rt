@@ -2,13 +2,6 @@
 #![tactic(auto, unfolding(digits::proofs::Literals::lexical_on_literals))]
 
 use digits::words::PYTHON_LITERAL;
-use digits::{ParseError, parse_number};
-
-/// The height that a text is: `-1_000` gives -1000, and `1_000m` gives `Invalid(5)`.
-pub fn parse_height(text: &[u8]) -> Result<i32, ParseError> {
-    parse_number::<i32>(text, PYTHON_LITERAL)
-}
-
 use digits::{LiteralError, expect_byte, read_number, read_number_from};
 
 /// The size that a text begins with, and where it ends: `1_920x1_080 px` gives `(1920, 1080, 11)`.
@@ -17,6 +10,13 @@ pub fn read_size(text: &[u8]) -> Result<(u32, u32, usize), LiteralError> {
     let start = expect_byte(text, end, b'x').map_err(LiteralError::Empty)?;
     let (height, end) = read_number_from::<u32>(text, PYTHON_LITERAL, start)?;
     Ok((width, height, end))
+}
+
+use digits::{ParseError, parse_number};
+
+/// The height that a text is: `-1_000` gives -1000, and `1_000m` gives `Invalid(5)`.
+pub fn parse_height(text: &[u8]) -> Result<i32, ParseError> {
+    parse_number::<i32>(text, PYTHON_LITERAL)
 }
 
 use digits::languages::RUST;
@@ -45,7 +45,49 @@ pub fn read_token(text: &[u8], start: usize) -> Result<(Number<f64>, usize), Num
     }
 }
 
-use digits::{COMMAS_IN_LINE, Integers, ListError, STANDARD, parse_list};
+use digits::{Integers, STANDARD, read_exactly, read_optional, read_scaled_from};
+
+/// A line of a CSV file.
+#[derive(Clone, Copy, Debug, PartialEq, Eq)]
+pub struct Entry {
+    pub year: u16,
+    pub month: u8,
+    pub day: u8,
+    pub cents: i64,
+    /// Its field may be empty.
+    pub count: Option<i32>,
+}
+
+/// The entry that a line is, or the position of its first fault: `2026-11-30,12.50,-3` has 1250
+/// cents, and in `2026-11-30,12.5x,-3` the fault is at 15.
+pub fn parse_entry(line: &[u8]) -> Result<Entry, usize> {
+    let (year, at) = read_exactly::<u16>(line, 0, 10, 4).map_err(|error| error.position())?;
+    let at = expect_byte(line, at, b'-')?;
+    let (month, at) = read_exactly::<u8>(line, at, 10, 2).map_err(|error| error.position())?;
+    let at = expect_byte(line, at, b'-')?;
+    let (day, at) = read_exactly::<u8>(line, at, 10, 2).map_err(|error| error.position())?;
+    let at = expect_byte(line, at, b',')?;
+    let amount = read_scaled_from::<i64>(line, STANDARD, at, b'.', 2);
+    let (cents, at) = amount.map_err(|error| error.position())?;
+    let at = expect_byte(line, at, b',')?;
+    let number = read_optional(Integers::<i32>::new(STANDARD), line, at);
+    let (count, end) = match number.map_err(|error| error.position())? {
+        Some((count, end)) => (Some(count), end),
+        None => (None, at),
+    };
+    if end < line.len() {
+        return Err(end);
+    }
+    Ok(Entry {
+        year,
+        month,
+        day,
+        cents,
+        count,
+    })
+}
+
+use digits::{COMMAS_IN_LINE, ListError, parse_list};
 
 /// How many numbers a line has, which are in the front of `row` then, or the first fault:
 /// `12, 7,305` has three.
@@ -55,7 +97,7 @@ pub fn parse_row(line: &[u8], row: &mut [u32]) -> Result<usize, ListError<Litera
     parse_list(Integers::<u32>::new(STANDARD), line, COMMAS_IN_LINE, row)
 }
 
-use digits::{ScaledError, read_scaled_from};
+use digits::ScaledError;
 
 /// The cents of a field of a line, exactly: `12.5` is 1250, and `12.345` is a fault at its `5`.
 pub fn cents_of_field(line: &[u8], from: usize, to: usize) -> Result<i64, ScaledError>
@@ -77,7 +119,44 @@ pub fn read_ports(text: &[u8], ports: &mut [u16]) -> ListRead<LiteralError> {
     read_list::<u16>(text, 0, STANDARD, COMMAS, ports)
 }
 
-use digits::{FloatError, Floats, LINES, NumberReader, StreamError};
+use digits::{FloatError, ListEnd, read_float_list};
+
+/// The sum of the floats that a text lists from `start` on, `1.5, 2, -3]`, however many they are,
+/// and where the list ends.
+pub fn sum_list(text: &[u8], start: usize) -> Result<(f64, usize), FloatError>
+    requires { start ≤ length text.now }
+    ensures end { IfOk result (λ read. read.1 ≤ length text.now) }
+{
+    let mut part = [0.0; 64];
+    let mut sum = 0.0;
+    let mut at = start;
+    for turn in 0..u64::MAX {
+        let read = read_float_list::<f64>(text, at, STANDARD, COMMAS, &mut part);
+        for number in &part[..read.count] {
+            sum += *number;
+        }
+        match read.end {
+            ListEnd::Full(next) => at = next,
+            ListEnd::Over(end) => return Ok((sum, end)),
+            ListEnd::Fault(error) => return Err(error),
+        }
+    }
+    // no text has so many numbers
+    Err(FloatError::Empty(at))
+}
+
+use digits::{ByteSet, Gap};
+
+/// One `;`, with any spaces and tabs around it: between the numbers of `12; 7;305`.
+pub const SEMICOLONS: Gap = Gap {
+    separators: ByteSet {
+        low: 1 << 0x3b,
+        high: 0,
+    },
+    ..COMMAS_IN_LINE
+};
+
+use digits::{Floats, LINES, NumberReader, StreamError};
 use std::io::Read;
 
 /// The sum of the floats of a stream, one in each line. An empty line is an error.
@@ -141,7 +220,7 @@ pub fn read_block(
     })
 }
 
-use digits::{FLOAT_ROOM, FloatLayout, MOST_ROOM, write_float, write_number, write_price};
+use digits::{FloatLayout, MOST_ROOM, write_float, write_number, write_price};
 
 /// The first texts: each call answers how many bytes it has.
 pub fn first_texts() {
@@ -161,57 +240,7 @@ pub fn write_grouped(number: i64, out: &mut [u8]) -> Result<usize, NoRoom> {
     write_number_by(number, layout, out)
 }
 
-ghost use Rattle.std.specs.Prelude.{◌≡◌, IsTrue};
-ghost use Rattle.std.specs.Float.{float_is_finite};
-
-use digits::parse_float;
-
-/// A float that was written and is read again: the same, bit by bit.
-pub fn write_and_read(x: f64) -> f64
-    requires { IsTrue (float_is_finite x) }
-    ensures { result ≡ x }
-{
-    let mut out = [0; FLOAT_ROOM];
-    match write_float(x, FloatLayout::Usual, &mut out) {
-        Ok(len) => match parse_float::<f64>(&out[..len], STANDARD) {
-            Ok(read) => read,
-            Err(_) => unreachable!(),
-        },
-        Err(_) => unreachable!(),
-    }
-}
-
-ghost use Rattle.std.specs.Prelude.{Ok, take};
-ghost use Rattle.std.specs.Float.{Float};
-ghost use Rattle.digits.specs.Words.{Number, binary64, fixed_text, float_in, number_of_at, number_to_end, with_value};
-
-use digits::forms::JSON;
-use digits::{parse_number_of, write_fixed};
-
-/// Why a number wasn't rounded.
-#[derive(Clone, Copy, Debug, PartialEq, Eq)]
-pub enum RoundError {
-    NoNumber(NumberError),
-    TooLarge,
-    NoRoom(NoRoom),
-}
-
-/// Writes the number of JSON that a text is, rounded to two places, and answers how many bytes that
-/// takes: `-12e-3` gives `-0.01`.
-pub fn round_json(text: &[u8], out: &mut [u8]) -> Result<usize, RoundError>
-    ensures { let read = number_to_end text.now (number_of_at JSON text.now 0 binary64) in
-        IfOk result (λ len. (number : Number Float)
-        × (read ≡ Ok (with_value (λ x. x) number))
-        × (take len out.new ≡ fixed_text (float_in binary64 (λ x. x) number) 2)) }
-{
-    let number = parse_number_of::<f64>(text, JSON).map_err(RoundError::NoNumber)?;
-    let x = number.to_float();
-    if !x.is_finite() {
-        return Err(RoundError::TooLarge);
-    }
-    write_fixed(x, 2, out).map_err(RoundError::NoRoom)
-}
-
+ghost use Rattle.std.specs.Prelude.{IsTrue};
 ghost use Rattle.digits.specs.Words.{is_supported};
 
 use digits::{
@@ -255,22 +284,6 @@ pub fn read_css(text: &[u8], start: usize) -> Result<(f64, usize), NumberError>
 {
     let (number, end) = read_number_of::<f64>(text, start, CSS)?;
     Ok((number.to_float(), end))
-}
-
-use digits::{Component, Rule, stop_from};
-use std::alloc::{AllocError, Global};
-
-/// The digits of the integer that a text begins with, at any length, without its separators.
-pub fn digits_of(alloc: Global, text: &[u8], word: u128) -> Result<Vec<u8>, AllocError>
-    requires { IsTrue (is_supported word) }
-{
-    let rule = Rule::of(word, Component::Integer);
-    let end = stop_from(text, word, Component::Integer, 0);
-    text[..end]
-        .iter()
-        .copied()
-        .filter(|byte| rule.is_digit(*byte))
-        .collect(alloc)
 }
 
 use digits::read_integer_from;

@@ -2,6 +2,7 @@
 #![tactic(auto)]
 
 pub mod amounts;
+pub mod arrays;
 pub mod calling;
 pub mod dates;
 pub mod durations;

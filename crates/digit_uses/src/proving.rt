@@ -147,3 +147,53 @@ pub fn read_token(text: &[u8], start: usize) -> Result<(Number<f64>, usize), Num
         Some(_) => Err(NumberError::Invalid(end)),
     }
 }
+
+ghost use Rattle.std.specs.Float.{float_is_finite};
+
+use digits::{FLOAT_ROOM, FloatLayout, write_float};
+
+/// A float that was written and is read again: the same, bit by bit.
+pub fn write_and_read(x: f64) -> f64
+    requires { IsTrue (float_is_finite x) }
+    ensures { result ≡ x }
+{
+    let mut out = [0; FLOAT_ROOM];
+    match write_float(x, FloatLayout::Usual, &mut out) {
+        Ok(len) => match parse_float::<f64>(&out[..len], STANDARD) {
+            Ok(read) => read,
+            Err(_) => unreachable!(),
+        },
+        Err(_) => unreachable!(),
+    }
+}
+
+ghost use Rattle.std.specs.Prelude.{take};
+ghost use Rattle.std.specs.Float.{Float};
+ghost use Rattle.digits.specs.Words.{Number, fixed_text, float_in, number_of_at, number_to_end};
+
+use digits::forms::JSON;
+use digits::{NoRoom, parse_number_of, write_fixed};
+
+/// Why a number wasn't rounded.
+#[derive(Clone, Copy, Debug, PartialEq, Eq)]
+pub enum RoundError {
+    NoNumber(NumberError),
+    TooLarge,
+    NoRoom(NoRoom),
+}
+
+/// Writes the number of JSON that a text is, rounded to two places, and answers how many bytes that
+/// takes: `-12e-3` gives `-0.01`.
+pub fn round_json(text: &[u8], out: &mut [u8]) -> Result<usize, RoundError>
+    ensures { let read = number_to_end text.now (number_of_at JSON text.now 0 binary64) in
+        IfOk result (λ len. (number : Number Float)
+        × (read ≡ Ok (with_value (λ x. x) number))
+        × (take len out.new ≡ fixed_text (float_in binary64 (λ x. x) number) 2)) }
+{
+    let number = parse_number_of::<f64>(text, JSON).map_err(RoundError::NoNumber)?;
+    let x = number.to_float();
+    if !x.is_finite() {
+        return Err(RoundError::TooLarge);
+    }
+    write_fixed(x, 2, out).map_err(RoundError::NoRoom)
+}

@@ -16,15 +16,15 @@ use Rattle.lexical_digits.specs.Separators.{is_digit, is_separator}
 use Rattle.lexical_digits.specs.State.{rule_of}
 use Rattle.lexical_digits.specs.Stop.{stop}
 use Rattle.lexical_digits.proofs.Rule.Supported.{supported_rule}
-use Rattle.digit_literals.specs.Numbers.{signed}
-use Rattle.digit_literals.specs.Written.{IsWrittenAt}
-use Rattle.digit_literals.proofs.ForCallers.{value_of_pieces}
-use Rattle.digit_literals.proofs.Written.{whole_written, first_written, later_written}
+use Rattle.digit_integers.specs.Numbers.{signed}
+use Rattle.digit_integers.specs.Written.{IsWrittenAt}
+use Rattle.digit_values.proofs.ForCallers.{value_of_pieces}
+use Rattle.digit_integers.proofs.Written.{whole_written, first_written, later_written}
 use Rattle.lexical_digits.specs.Cursor.{holds_of}
-use Rattle.digit_literals.specs.After.{digits_between}
+use Rattle.digit_values.specs.After.{digits_between}
 use Rattle.digit_floats.specs.Bytes.{stands, is_point}
 use Rattle.digit_floats.specs.Float.{digits_end, digits_from, fraction_digits, fraction_end, mantissa_end}
-use Rattle.digit_floats.specs.Scaled.{first_value, scaled_value, is_exact, scaled_to, scaled_at, read_scaled_at}
+use Rattle.digit_amounts.specs.Scaled.{first_value, scaled_value, is_exact, scaled_to, scaled_at, read_scaled_at}
 use Rattle.digit_writers.specs.Amounts.{fraction_text, magnitude_text, ReadsAmounts}
 use Rattle.digit_writers.specs.Digits.{last_decimals}
 use Rattle.digit_writers.specs.Layouts.{grouped, sign_of}

@@ -16,10 +16,10 @@ use Rattle.lexical_digits.specs.declared.skip.rule.Rule.{Rule}
 use Rattle.lexical_digits.specs.Separators.{is_digit, is_separator, IsSupported}
 use Rattle.lexical_digits.specs.State.{rule_of}
 use Rattle.lexical_digits.proofs.Rule.Supported.{supported_rule}
-use Rattle.digit_literals.specs.Integers.{integer_at}
-use Rattle.digit_literals.specs.Numbers.{number_at, signed}
-use Rattle.digit_literals.specs.Written.{IsWrittenAt}
-use Rattle.digit_literals.proofs.Written.{whole_written, later_written}
+use Rattle.digit_integers.specs.Integers.{integer_at}
+use Rattle.digit_integers.specs.Numbers.{number_at, signed}
+use Rattle.digit_integers.specs.Written.{IsWrittenAt}
+use Rattle.digit_integers.proofs.Written.{whole_written, later_written}
 use Rattle.decimal_writers.specs.declared.room.NoRoom.{NoRoom}
 use Rattle.digit_writers.specs.declared.layout.Layout.{Layout}
 use Rattle.digit_writers.specs.Digits.{last_digits}

@@ -18,17 +18,17 @@ use Rattle.lexical_digits.specs.Separators.{class, is_digit, is_separator}
 use Rattle.lexical_digits.specs.State.{rule_of}
 use Rattle.lexical_digits.specs.Stop.{stop}
 use Rattle.lexical_digits.proofs.Calls.FirstOther.{stop_is_first}
-use Rattle.digit_literals.specs.declared.LiteralError.{LiteralError}
-use Rattle.digit_literals.specs.declared.LiteralError.TheVariants.{Empty}
+use Rattle.digit_values.specs.declared.LiteralError.{LiteralError}
+use Rattle.digit_values.specs.declared.LiteralError.TheVariants.{Empty}
 use Rattle.digit_literals.specs.declared.list.Gap.{Gap}
 use Rattle.digit_literals.specs.declared.list.ListEnd.TheVariants.{Over}
-use Rattle.digit_literals.specs.Errors.{literal_none_at}
+use Rattle.digit_values.specs.Errors.{literal_none_at}
 use Rattle.digit_literals.specs.Lists.{Numbers, is_blank, has_separator, past_blanks, next_after, list_at}
-use Rattle.digit_literals.specs.Integers.{integer_at}
-use Rattle.digit_literals.specs.Numbers.{number_at}
-use Rattle.digit_literals.specs.Written.{IsWrittenAt}
+use Rattle.digit_integers.specs.Integers.{integer_at}
+use Rattle.digit_integers.specs.Numbers.{number_at}
+use Rattle.digit_integers.specs.Written.{IsWrittenAt}
 use Rattle.digit_literals.proofs.Lists.{no_blank, separator_is_no_blank}
-use Rattle.digit_literals.proofs.Written.{number_read}
+use Rattle.digit_integers.proofs.Written.{number_read}
 use Rattle.digit_lists.specs.Lists.{full_list, parsed}
 use Rattle.digit_pieces.specs.Cuts.{is_integer_byte}
 use Rattle.digit_writers.specs.Lists.{others_text, list_text, IsListReadBy}

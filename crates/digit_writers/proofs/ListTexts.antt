@@ -5,7 +5,7 @@ use Rattle.std.specs.Fmt.{sign_text, signed_decimal}
 use Rattle.std.specs.List.{splice}
 use Rattle.std.proofs.lemmas.List.{drop_more, drop-drop, drop_all, length-take-le}
 use Rattle.std.proofs.lemmas.List.Elements.{All-nil}
-use Rattle.digit_literals.specs.Numbers.{signed}
+use Rattle.digit_integers.specs.Numbers.{signed}
 use Rattle.digit_writers.specs.Layouts.{digit_count, sign_of}
 use Rattle.digit_writers.specs.Lists.{list_text, others_text, IsListSoFar}
 use Rattle.digit_writers.specs.Written.{IsOfType}

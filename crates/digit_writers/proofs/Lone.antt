@@ -8,13 +8,13 @@ use Rattle.lexical_digits.specs.declared.skip.rule.Rule.{Rule}
 use Rattle.lexical_digits.specs.Separators.{is_digit, is_separator, IsSupported}
 use Rattle.lexical_digits.specs.Stop.{stop}
 use Rattle.lexical_digits.proofs.Calls.FirstOther.{stop_is_first}
-use Rattle.digit_literals.specs.After.{digits_between}
-use Rattle.digit_literals.specs.Integers.{integer_at, value_to}
-use Rattle.digit_literals.specs.Written.{IsWrittenAt}
-use Rattle.digit_literals.proofs.Between.{none_between, no_more}
-use Rattle.digit_literals.proofs.Passed.{HasPassed, passed, byte_kept}
-use Rattle.digit_literals.proofs.Texts.{some_at}
-use Rattle.digit_literals.proofs.Written.{byte_at}
+use Rattle.digit_values.specs.After.{digits_between}
+use Rattle.digit_integers.specs.Integers.{integer_at, value_to}
+use Rattle.digit_integers.specs.Written.{IsWrittenAt}
+use Rattle.digit_values.proofs.Between.{none_between, no_more}
+use Rattle.digit_values.proofs.Passed.{HasPassed, passed, byte_kept}
+use Rattle.digit_integers.proofs.Texts.{some_at}
+use Rattle.digit_integers.proofs.Written.{byte_at}
 
 -- at a position of some bytes is a digit, or between two digits a separator that is dropped there
 abbrev pub IsLone : Rule → List ℕ → ℕ → Type 0

@@ -15,9 +15,9 @@ use Rattle.lexical_digits.specs.declared.skip.rule.Rule.{Rule}
 use Rattle.lexical_digits.specs.Separators.{is_digit, is_separator, IsSupported}
 use Rattle.lexical_digits.specs.State.{rule_of}
 use Rattle.lexical_digits.proofs.Rule.Supported.{supported_rule}
-use Rattle.digit_literals.specs.Numbers.{signed, digits_from}
-use Rattle.digit_lists.specs.Groups.{is_group, wrong_of, wrong_at}
-use Rattle.digit_lists.specs.Prices.{price_at, any_at, of_number, if_exact, if_grouped, places_at}
+use Rattle.digit_integers.specs.Numbers.{signed, digits_from}
+use Rattle.digit_amounts.specs.Groups.{is_group, wrong_of, wrong_at}
+use Rattle.digit_amounts.specs.Prices.{price_at, any_at, of_number, if_exact, if_grouped, places_at}
 use Rattle.decimal_writers.specs.declared.room.NoRoom.{NoRoom}
 use Rattle.digit_writers.specs.Amounts.{fraction_text, magnitude_text, ReadsPrices}
 use Rattle.digit_writers.specs.Layouts.{grouped, before, thousands, sign_of}

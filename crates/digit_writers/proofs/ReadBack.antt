@@ -5,7 +5,7 @@ use Rattle.std.specs.Char.{digit_value}
 use Rattle.std.specs.Fmt.{signed_decimal}
 use Rattle.std.specs.Str.Parse.{AllDigits, digits_value}
 use Rattle.std.proofs.lemmas.Fmt.{decimal_is_IsNumeral_wide}
-use Rattle.digit_literals.specs.declared.parse.ParseError.{ParseError}
+use Rattle.digit_integers.specs.declared.parse.ParseError.{ParseError}
 use Rattle.digit_writers.specs.declared.layout.Layout.{Layout}
 use Rattle.digit_writers.specs.Layouts.{laid_out, text_of, IsReadBy}
 use Rattle.digit_writers.specs.Written.{IsOfRadix, IsOfType, Reads}

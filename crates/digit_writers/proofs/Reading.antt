@@ -10,14 +10,14 @@ use Rattle.lexical_digits.specs.declared.skip.component.Component.TheVariants.{I
 use Rattle.lexical_digits.specs.declared.skip.rule.Rule.{Rule}
 use Rattle.lexical_digits.specs.Separators.{is_digit}
 use Rattle.lexical_digits.specs.State.{rule_of}
-use Rattle.digit_literals.specs.declared.LiteralError.{LiteralError}
-use Rattle.digit_literals.specs.declared.LiteralError.TheVariants as literal
-use Rattle.digit_literals.specs.After.{digits_between}
-use Rattle.digit_literals.specs.Integers.{integer_at}
-use Rattle.digit_literals.specs.Numbers.{to_end, signed, with_sign, digits_from, is_negative_from, most_from}
-use Rattle.digit_literals.proofs.ForCallers.{all_digits}
-use Rattle.digit_literals.proofs.Texts.{says_some}
-use Rattle.digit_literals.proofs.Written.{number_read, whole_written}
+use Rattle.digit_values.specs.declared.LiteralError.{LiteralError}
+use Rattle.digit_values.specs.declared.LiteralError.TheVariants as literal
+use Rattle.digit_values.specs.After.{digits_between}
+use Rattle.digit_integers.specs.Integers.{integer_at}
+use Rattle.digit_integers.specs.Numbers.{to_end, signed, with_sign, digits_from, is_negative_from, most_from}
+use Rattle.digit_values.proofs.ForCallers.{all_digits}
+use Rattle.digit_integers.proofs.Texts.{says_some}
+use Rattle.digit_integers.proofs.Written.{number_read, whole_written}
 use Rattle.digit_writers.specs.Written.{IsOfRadix, Reads, IsShortest}
 use Rattle.std.specs.List.{splice}
 use Rattle.digit_writers.proofs.Splices.{take_spliced}

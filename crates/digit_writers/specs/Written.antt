@@ -3,7 +3,7 @@ use Rattle.std.specs.Prelude.{◌≡◌, ℕ, ℤ, pos, negsuc, ◌^◌, ◌<◌
 use Rattle.lexical_format.specs.Word.{is_supported, mantissa_radix}
 use Rattle.lexical_digits.specs.declared.skip.component.Component.TheVariants.{Integer}
 use Rattle.lexical_digits.specs.State.{rule_of}
-use Rattle.digit_literals.specs.Numbers.{number_at, to_end}
+use Rattle.digit_integers.specs.Numbers.{number_at, to_end}
 
 -- digits of a radix are read by a word
 abbrev pub IsOfRadix : ℕ → ℕ → Type 0

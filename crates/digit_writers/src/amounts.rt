@@ -2,8 +2,8 @@
 
 ghost use Rattle.std.specs.Prelude.{◌≡◌, ℕ, ◌+◌, ◌/◌, ◌^◌, ◌<◌, ◌≤◌, false, true, length, take, drop, decimal, Ok, IfOk, IfErr};
 ghost use Rattle.std.specs.List.{splice};
-ghost use Rattle.digit_floats.specs.Scaled.{read_scaled_at};
-ghost use Rattle.digit_lists.specs.Prices.{price_at};
+ghost use Rattle.digit_amounts.specs.Scaled.{read_scaled_at};
+ghost use Rattle.digit_amounts.specs.Prices.{price_at};
 ghost use Rattle.digit_writers.specs.Amounts.{whole_text, fraction_text, magnitude_text, amount_text, ReadsAmounts, ReadsPrices};
 
 use super::by::{count_signs, put_sign};

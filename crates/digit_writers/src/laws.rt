@@ -6,9 +6,9 @@ ghost use Rattle.lexical_digits.specs.declared.skip.component.Component.TheVaria
 ghost use Rattle.lexical_digits.specs.State.{rule_of};
 ghost use Rattle.digit_literals.specs.declared.list.Gap.{Gap};
 ghost use Rattle.digit_literals.specs.declared.list.ListEnd.TheVariants.{Over};
-ghost use Rattle.digit_literals.specs.Errors.{literal_none_at};
+ghost use Rattle.digit_values.specs.Errors.{literal_none_at};
 ghost use Rattle.digit_literals.specs.Lists.{list_at};
-ghost use Rattle.digit_literals.specs.Numbers.{number_at};
+ghost use Rattle.digit_integers.specs.Numbers.{number_at};
 ghost use Rattle.digit_lists.specs.Lists.{full_list, parsed};
 ghost use Rattle.digit_writers.specs.declared.layout.Layout.{Layout};
 ghost use Rattle.digit_writers.specs.Layouts.{laid_out, IsReadBy};

@@ -7,8 +7,8 @@ ghost use Rattle.lexical_digits.specs.declared.skip.component.Component.TheVaria
 ghost use Rattle.lexical_digits.specs.State.{rule_of};
 ghost use Rattle.digit_literals.specs.declared.list.Gap.{Gap};
 ghost use Rattle.digit_literals.specs.declared.list.ListEnd.TheVariants.{Over};
-ghost use Rattle.digit_literals.specs.Errors.{literal_none_at};
-ghost use Rattle.digit_literals.specs.Numbers.{number_at};
+ghost use Rattle.digit_values.specs.Errors.{literal_none_at};
+ghost use Rattle.digit_integers.specs.Numbers.{number_at};
 ghost use Rattle.digit_lists.specs.Lists.{full_list, parsed};
 ghost use Rattle.digit_writers.specs.Lists.{IsListReadBy, list_text};
 ghost use Rattle.digit_writers.specs.Written.{IsOfType};

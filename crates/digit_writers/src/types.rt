@@ -3,9 +3,9 @@
 ghost use Rattle.std.specs.Prelude.{◌≡◌, ℕ, ◌<◌, ◌≤◌, true, if◌then◌else◌, ◌++◌, length, decimal};
 ghost use Rattle.std.specs.Fmt.{sign_text};
 ghost use Rattle.std.proofs.Common.{rules};
-ghost use Rattle.digit_literals.specs.Numbers.{signed};
+ghost use Rattle.digit_integers.specs.Numbers.{signed};
 
-use digit_literals::Integer;
+use digit_integers::Integer;
 
 /// The room that the longest text of any type takes: that of the least `i128`.
 pub const MOST_ROOM: usize = 40;

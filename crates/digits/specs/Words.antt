@@ -14,18 +14,20 @@ pub use Rattle.lexical_digits.specs.declared.skip.rule.Rule.{Rule}
 pub use Rattle.lexical_digits.specs.declared.skip.component.Component.{Component}
 pub use Rattle.lexical_digits.specs.declared.skip.component.Component.TheVariants.{Integer, Fraction, Exponent}
 -- integers
-pub use Rattle.digit_literals.specs.declared.LiteralError.{LiteralError}
-pub use Rattle.digit_literals.specs.declared.parse.ParseError.{ParseError}
+pub use Rattle.digit_values.specs.declared.LiteralError.{LiteralError}
+pub use Rattle.digit_integers.specs.declared.parse.ParseError.{ParseError}
 pub use Rattle.digit_languages.specs.declared.language.Language.{Language}
 pub use Rattle.digit_languages.specs.declared.literal.LanguageError.{LanguageError}
-pub use Rattle.digit_literals.specs.After.{digits_between}
-pub use Rattle.digit_literals.specs.Bytes.{expect_byte, expect_bytes, has_bytes}
-unfoldable pub use Rattle.digit_literals.specs.Bytes.{name_end, past_bytes}
-pub use Rattle.digit_literals.specs.Exactly.{at_most_at, exactly_at}
-unfoldable pub use Rattle.digit_literals.specs.Exactly.{counted_at}
-unfoldable pub use Rattle.digit_literals.specs.Integers.{integer_at}
-pub use Rattle.digit_literals.specs.Errors.{literal_none_at, literal_position, position as parse_position}
-pub use Rattle.digit_literals.specs.Numbers.{has_byte, number_at, signed, to_end}
+pub use Rattle.digit_values.specs.After.{digits_between}
+pub use Rattle.digit_values.specs.Bytes.{expect_byte, expect_bytes, has_bytes}
+unfoldable pub use Rattle.digit_values.specs.Bytes.{name_end, past_bytes}
+pub use Rattle.digit_integers.specs.Exactly.{at_most_at, exactly_at}
+unfoldable pub use Rattle.digit_integers.specs.Exactly.{counted_at}
+unfoldable pub use Rattle.digit_integers.specs.Integers.{integer_at}
+pub use Rattle.digit_values.specs.Errors.{literal_none_at, literal_position}
+pub use Rattle.digit_integers.specs.Errors.{position as parse_position}
+pub use Rattle.digit_values.specs.Bytes.{has_byte}
+pub use Rattle.digit_integers.specs.Numbers.{number_at, signed, to_end}
 pub use Rattle.digit_languages.specs.declared.literal.Literal.{Literal}
 pub use Rattle.digit_languages.specs.Literals.{literal_at, none_at as language_none_at, position as language_position, typed}
 pub use Rattle.digit_languages.specs.Words.{IsLanguage}
@@ -40,13 +42,13 @@ unfoldable pub use Rattle.digit_literals.specs.Lists.{list_at, past_blanks}
 pub use Rattle.digit_floats.specs.declared.decimal.Decimal.{Decimal}
 pub use Rattle.digit_floats.specs.declared.error.FloatError.{FloatError}
 pub use Rattle.digit_floats.specs.declared.parts.Marks.{Marks}
-pub use Rattle.digit_floats.specs.declared.scaled.ScaledError.{ScaledError}
+pub use Rattle.digit_amounts.specs.declared.scaled.ScaledError.{ScaledError}
 pub use Rattle.digit_floats.specs.Decimals.{read_decimal_at}
 pub use Rattle.digit_floats.specs.Errors.{none_at as float_none_at, position as float_position}
 pub use Rattle.digit_floats.specs.Float.{IsDecimal, parse_at, plain_marks, read_at}
-pub use Rattle.digit_floats.specs.Scaled.{none_at as scaled_none_at, position as scaled_position}
-pub use Rattle.digit_floats.specs.Scaled.{read_scaled_at, whole_of}
-unfoldable pub use Rattle.digit_floats.specs.Scaled.{scaled_at}
+pub use Rattle.digit_amounts.specs.Scaled.{none_at as scaled_none_at, position as scaled_position}
+pub use Rattle.digit_amounts.specs.Scaled.{read_scaled_at, whole_of}
+unfoldable pub use Rattle.digit_amounts.specs.Scaled.{scaled_at}
 -- numbers by a form
 pub use Rattle.digit_numbers.specs.declared.form.Form.{Form}
 pub use Rattle.digit_numbers.specs.declared.form.Special.{Special}
@@ -67,7 +69,7 @@ pub use Rattle.digit_pieces.specs.Cuts.{is_integer_byte, is_float_byte, is_scale
 unfoldable pub use Rattle.digit_pieces.specs.Cuts.{sure_end}
 pub use Rattle.digit_pieces.specs.Pieces.{FillsPiece, IfAt, and_full, and_more, as_piece, full_past, is_of_blanks, list_later}
 unfoldable pub use Rattle.digit_pieces.specs.Pieces.{piece_at, whole_at}
-pub use Rattle.digit_pieces.specs.Moves.{literal_later}
+pub use Rattle.digit_values.specs.Moves.{literal_later}
 pub use Rattle.digit_pieces.specs.Texts.{IsApart, list_of, piece_of}
 pub use Rattle.digit_pieces.specs.Apart.{IsShared, are_apart, is_between, is_pointed_byte, is_word_byte}
 unfoldable pub use Rattle.digit_pieces.specs.Texts.{read_pieces}
@@ -75,18 +77,20 @@ pub use Rattle.digit_blocks.specs.Blocks.{AreStarts, EndsApart, HasNoneAtEnd, Ha
 unfoldable pub use Rattle.digit_blocks.specs.Blocks.{blocks_at, joined, last_start}
 pub use Rattle.digit_streams.specs.declared.stream.StreamEnd.{StreamEnd}
 pub use Rattle.digit_streams.specs.declared.stream.StreamError.{StreamError}
-pub use Rattle.digit_streams.specs.Streams.{Gives, HasGiven, IfTrailing, IsNext, IsUnknown, StreamNumbers, end_by, stream_list}
+pub use Rattle.digit_streams.specs.Streams.{Gives, HasGiven, HasGivenFrom, IfTrailing, IsNext, IsNoByte, IsUnknown}
+pub use Rattle.digit_streams.specs.Streams.{Passes, SkipsBlanks, StreamNumbers, end_by, ended_after, stream_list}
 -- whole lists, enclosed lists, numbers that may be missing, and prices
 pub use Rattle.digit_lists.specs.declared.list.ListError.{ListError}
 pub use Rattle.digit_lists.specs.declared.enclosed.EnclosedError.{EnclosedError}
-pub use Rattle.digit_lists.specs.declared.prices.PriceError.{PriceError}
+pub use Rattle.digit_amounts.specs.declared.prices.PriceError.{PriceError}
 pub use Rattle.digit_lists.specs.Lists.{Holds, enclosed, full_list, inside, parsed}
 pub use Rattle.digit_lists.specs.Optional.{optional, with_meaning}
 pub use Rattle.digit_lists.specs.Empty.{both_is_empty, float_is_empty, language_is_empty, literal_is_empty}
 pub use Rattle.digit_lists.specs.Empty.{number_is_empty, scaled_is_empty}
-pub use Rattle.digit_lists.specs.Groups.{AreGroups, groups_at, wrong_at}
-pub use Rattle.digit_lists.specs.Prices.{exact_at, grouped_at, places_at, price_at}
-pub use Rattle.digit_lists.specs.Prices.{price_is_empty, price_none_at, price_position}
+pub use Rattle.digit_amounts.specs.Groups.{AreGroups, groups_at, wrong_at}
+pub use Rattle.digit_amounts.specs.Prices.{exact_at, grouped_at, places_at, price_at}
+pub use Rattle.digit_amounts.specs.Prices.{price_none_at, price_position}
+pub use Rattle.digit_lists.specs.Empty.{price_is_empty}
 -- numbers that are written
 pub use Rattle.decimal_writers.specs.declared.exponent.ExponentText.{ExponentText}
 pub use Rattle.decimal_writers.specs.declared.room.NoRoom.{NoRoom}

@@ -40,7 +40,7 @@ impl<S: FormSource> Kind for Parts<S> {
     ghost use Rattle.std.proofs.Props.{props};
     ghost use Rattle.digit_numbers.specs.Follows.{is_number_byte};
     ghost use Rattle.digit_pieces.specs.Laws.OfForm.{number_later_at, number_later_more, number_none_later};
-    ghost use Rattle.digit_pieces.specs.Moves.{number_later};
+    ghost use Rattle.digit_numbers.specs.Moves.{number_later};
     ghost use Rattle.digits.specs.Words.{IsForm, number_none_at, position};
     ghost use Rattle.digits_c.specs.declared.numbers.NumberParts as Written;
     ghost use Rattle.digits_c.specs.Laws.Parts as laws;

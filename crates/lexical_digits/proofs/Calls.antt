@@ -8,6 +8,7 @@ pub mod ChangesOwn
 pub mod DigitAtPlace
 pub mod Stops
 pub mod MoreFlags
+pub mod BothSides
 pub mod WhatFollows
 pub mod FirstOther
 pub mod Texts

@@ -1,6 +1,7 @@
 pub mod Separators
 pub mod Stop
 pub mod Follows
+pub mod Moves
 pub mod Texts
 pub mod State
 pub mod Cursor

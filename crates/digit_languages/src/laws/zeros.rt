@@ -3,8 +3,8 @@
 ghost use Rattle.std.specs.Prelude.{◌≡◌, ℕ, ◌+◌, ◌<◌, true, false, is_some, List, Ok, Err};
 ghost use Rattle.lexical_digits.specs.declared.skip.component.Component.TheVariants.{Integer};
 ghost use Rattle.lexical_digits.specs.State.{rule_of};
-ghost use Rattle.digit_literals.specs.Integers.{integer_at};
-ghost use Rattle.digit_literals.specs.Numbers.{has_byte};
+ghost use Rattle.digit_integers.specs.Integers.{integer_at};
+ghost use Rattle.digit_values.specs.Bytes.{has_byte};
 ghost use Rattle.digit_languages.specs.declared.language.FirstZero.TheVariants.{Plain, Octal, Alone, Zeros};
 ghost use Rattle.digit_languages.specs.declared.language.Language.{Language};
 ghost use Rattle.digit_languages.specs.declared.literal.LanguageError.TheVariants.{Zero};

@@ -4,12 +4,12 @@ ghost use Rattle.std.specs.Prelude.{◌≡◌, ℕ, ◌<◌, ◌≤◌, true, fa
 ghost use Rattle.lexical_digits.specs.ByteSet.{accepts};
 ghost use Rattle.lexical_digits.specs.Cursor.{holds_of};
 ghost use Rattle.lexical_digits.specs.declared.ops.ByteSet.{ByteSet};
-ghost use Rattle.digit_literals.specs.Bytes.{is_name_byte, name_end, past_bytes};
+ghost use Rattle.digit_values.specs.Bytes.{is_name_byte, name_end, past_bytes};
 ghost use Rattle.digit_literals.specs.declared.list.Gap.{Gap};
 ghost use Rattle.digit_literals.specs.Lists.{has_blank, past_blanks};
 
-/// [`past_bytes`](crate::past_bytes) passes each byte of its set, and after it none follows. So
-/// does [`name_end`](crate::name_end) with the bytes of a name, and
+/// [`past_bytes`](digit_values::past_bytes) passes each byte of its set, and after it none follows.
+/// So does [`name_end`](digit_values::name_end) with the bytes of a name, and
 /// [`past_blanks`](crate::Gap::past_blanks) with blanks. At the end of a text there is none.
 #[tactic(auto, using(crate::proofs::PassedAll::passed_bytes))]
 pub fn bytes_are_passed()

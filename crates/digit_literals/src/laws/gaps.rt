@@ -1,19 +1,14 @@
 //! What the constants say, byte by byte.
 
 ghost use Rattle.std.specs.Prelude.{◌==◌, ◌||◌, true, false};
-ghost use Rattle.digit_literals.specs.Gaps.{HasBytes, IsGap};
+ghost use Rattle.digit_literals.specs.Gaps.{IsGap};
 
-use crate::{BLANKS, COMMAS, COMMAS_IN_LINE, LINES, SPACES_IN_LINE, WHITESPACE};
-
-/// The bytes of [`BLANKS`]: tab, line feed, carriage return and space.
-#[tactic(auto, using(crate::proofs::EachByte::has_bytes))]
-pub fn blanks_are()
-    ensures { HasBytes BLANKS (λ b. b == 9 || b == 10 || b == 13 || b == 32) }
-{}
+use crate::{COMMAS, COMMAS_IN_LINE, LINES, SPACES_IN_LINE, WHITESPACE};
+pub use digit_values::laws::blanks_are;
 
 /// What each gap says: the bytes that separate, those that may be around a separator, whether the
 /// latter separate too, and whether a separator may be last.
-#[tactic(auto, using(crate::proofs::EachByte::has_bytes))]
+#[tactic(auto, using(digit_values::proofs::EachByte::has_bytes))]
 pub fn gaps_are()
     ensures commas { IsGap COMMAS (λ b. b == 44)
         (λ b. b == 9 || b == 10 || b == 13 || b == 32) false false }

@@ -3,14 +3,15 @@
 ghost use Rattle.std.specs.Prelude.{◌≡◌, ℕ, ◌+◌, List, length};
 ghost use Rattle.lexical_digits.specs.declared.skip.component.Component.TheVariants.{Integer};
 ghost use Rattle.lexical_digits.specs.State.{rule_of};
-ghost use Rattle.digit_literals.specs.Errors.{literal_none_at};
+ghost use Rattle.digit_values.specs.Errors.{literal_none_at};
 ghost use Rattle.digit_literals.specs.ListEnds.{EndSays};
 ghost use Rattle.digit_literals.specs.Lists.{list_at, and_then, Fills};
-ghost use Rattle.digit_literals.specs.declared.LiteralError.{LiteralError};
+ghost use Rattle.digit_values.specs.declared.LiteralError.{LiteralError};
 ghost use Rattle.digit_literals.specs.declared.list.ListRead.{ListRead};
-ghost use Rattle.digit_literals.specs.Numbers.{number_at};
+ghost use Rattle.digit_integers.specs.Numbers.{number_at};
 
-use crate::{Gap, Integer, Integers, ReadsOne};
+use crate::{Gap, Integers, ReadsOne};
+use digit_integers::Integer;
 
 /// A list of any numbers may be read by several calls. With room for `n` numbers, and then, where
 /// the slice was full, with room for `m`, they are the numbers with room for all; and the list ends

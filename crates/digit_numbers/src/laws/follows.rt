@@ -2,7 +2,7 @@
 
 ghost use Rattle.std.specs.Prelude.{◌≡◌, ℕ, ◌+◌, ◌<◌, ◌≤◌, ◌↔◌, true, false, List, length, take, Ok};
 ghost use Rattle.std.specs.Float.{Float, Format};
-ghost use Rattle.digit_literals.specs.Numbers.{has_byte};
+ghost use Rattle.digit_values.specs.Bytes.{has_byte};
 ghost use Rattle.digit_floats.specs.Bytes.{stands};
 ghost use Rattle.digit_languages.specs.Follows.{AreSameBefore};
 ghost use Rattle.digit_numbers.specs.Follows.{is_number_byte};

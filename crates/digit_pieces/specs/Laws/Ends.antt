@@ -11,17 +11,17 @@ use Rattle.lexical_digits.specs.declared.skip.component.Component.{Component}
 use Rattle.lexical_digits.specs.declared.skip.component.Component.TheVariants.{Integer, Fraction, Exponent}
 use Rattle.lexical_digits.specs.Stop.{stop}
 use Rattle.lexical_digits.proofs.Calls.FirstOther.{stop_is_first}
-use Rattle.digit_literals.specs.declared.LiteralError.{LiteralError}
-use Rattle.digit_literals.specs.Integers.{integer_at}
-use Rattle.digit_literals.specs.Numbers.{is_negative_from, digits_from, most_from, number_at, with_sign}
-use Rattle.digit_literals.proofs.Texts.{says_some}
+use Rattle.digit_values.specs.declared.LiteralError.{LiteralError}
+use Rattle.digit_integers.specs.Integers.{integer_at}
+use Rattle.digit_integers.specs.Numbers.{is_negative_from, digits_from, most_from, number_at, with_sign}
+use Rattle.digit_integers.proofs.Texts.{says_some}
 use Rattle.digit_floats.specs.declared.error.FloatError.{FloatError}
-use Rattle.digit_floats.specs.declared.scaled.ScaledError.{ScaledError}
+use Rattle.digit_amounts.specs.declared.scaled.ScaledError.{ScaledError}
 use Rattle.digit_floats.specs.declared.parts.Marks.{Marks}
 use Rattle.digit_floats.specs.Bytes.{stands, is_sign, is_point, is_mark}
 use Rattle.digit_floats.specs.Float.{past_sign, digits_end, fraction_end, exponent_end, mantissa_end, number_end, end_at, with_end, read_at}
-use Rattle.digit_floats.specs.Scaled as scaled
-use Rattle.digit_floats.specs.Scaled.{scaled_at, read_scaled_at}
+use Rattle.digit_amounts.specs.Scaled as scaled
+use Rattle.digit_amounts.specs.Scaled.{scaled_at, read_scaled_at}
 
 module _ (text : List ℕ) where
   -- a byte that passes is within the text

@@ -15,12 +15,12 @@ use Rattle.lexical_digits.specs.Laws.Kept.{positions_end}
 use Rattle.lexical_digits.specs.Separators.{is_kept, is_separator, kept_positions}
 use Rattle.lexical_digits.specs.State.{rule_of}
 use Rattle.lexical_digits.specs.Stop.{stop}
-use Rattle.digit_literals.specs.After.{digits_between}
-use Rattle.digit_literals.specs.Integers.{integer_at, value_to, first_over}
-use Rattle.digit_literals.specs.Numbers.{has_byte}
-use Rattle.digit_literals.specs.declared.LiteralError.{LiteralError}
-use Rattle.digit_literals.specs.declared.LiteralError.TheVariants as integers
-use Rattle.digit_literals.proofs.ForCallers.{stop_within}
+use Rattle.digit_values.specs.After.{digits_between}
+use Rattle.digit_integers.specs.Integers.{integer_at, value_to, first_over}
+use Rattle.digit_values.specs.Bytes.{has_byte}
+use Rattle.digit_values.specs.declared.LiteralError.{LiteralError}
+use Rattle.digit_values.specs.declared.LiteralError.TheVariants as integers
+use Rattle.digit_values.proofs.ForCallers.{stop_within}
 use Rattle.digit_floats.specs.Bytes.{stands, is_mark, is_point}
 use Rattle.digit_floats.specs.Float.{digits_end, past_sign, fraction_end, exponent_end}
 use Rattle.digit_languages.specs.declared.language.Language.{Language}

@@ -1,34 +1,36 @@
 -- A byte that no number has is neither a digit nor a separator of its rules, nor one of its marks.
-use Rattle.std.proofs.Common.{◌≡◌, ℕ, Bool, false, Option, None, Some, refl, arith}
+use Rattle.std.proofs.Common.{◌≡◌, ℕ, ◌+◌, false, Option, None, Some, refl, arith}
+use Rattle.std.specs.Prelude.{◌==◌}
 use Rattle.std.proofs.lemmas.Bool.{or_parts}
 use Rattle.std.proofs.lemmas.Bool.Decides.{nat_tests}
-use Rattle.lexical_digits.specs.Cursor.{holds_of}
 use Rattle.lexical_digits.specs.declared.skip.rule.Rule.{Rule}
-use Rattle.lexical_digits.specs.declared.skip.rule.Class.TheVariants.{Other}
 use Rattle.lexical_digits.specs.declared.skip.component.Component.TheVariants.{Integer, Fraction, Exponent}
-use Rattle.lexical_digits.specs.Separators.{class}
 use Rattle.lexical_digits.specs.State.{rule_of}
+use Rattle.lexical_digits.proofs.Calls.BothSides.{IsOther}
 use Rattle.digit_floats.specs.declared.parts.Marks.{Marks}
 use Rattle.digit_floats.specs.Bytes.{is_sign, is_point, is_mark}
+use Rattle.digit_floats.proofs.BothSides as floats
+use Rattle.digit_floats.proofs.BothSides.{NoScaled, NoFloat}
 use Rattle.digit_pieces.specs.Cuts.{is_of_rule, is_integer_byte, is_scaled_byte, is_float_byte}
+use Rattle.digit_languages.proofs.Before.{Fails}
+pub use Rattle.digit_languages.proofs.Before.{fails_of}
 
--- what fails a test fails one that passes no more
-pub fails_of : (p q : ℕ → Bool) → ((b : ℕ) → p b ≡ false → q b ≡ false) → (o : Option ℕ)
-    → holds_of p o ≡ false → holds_of q o ≡ false
-fails_of p q within None h = refl
-fails_of p q within (Some b) h = within b h
+-- a test of positions that are both so much later
+pub same_place : (by a b : ℕ) → (by + a == by + b) ≡ (a == b)
+same_place by a b = grind (arith, nat_tests)
 
 -- a byte that is neither a digit nor the separator, or none
-pub other_of : (rule : Rule) (o : Option ℕ) → holds_of (is_of_rule rule) o ≡ false
-    → class rule o ≡ Other
+pub other_of : (rule : Rule) (o : Option ℕ) → Fails (is_of_rule rule) o → IsOther rule o
 other_of rule None h = refl
 other_of rule (Some b) h = grind (arith, nat_tests)
 
 -- ---- of an integer
 
-pub none_of_integer : (least word b : ℕ) → is_integer_byte least word b ≡ false
-    → is_of_rule (rule_of word Integer) b ≡ false
-none_of_integer least word b h = (or_parts _ _ h).0
+pub no_integer : (least word : ℕ) (o : Option ℕ) → Fails (is_integer_byte least word) o
+    → IsOther (rule_of word Integer) o
+no_integer least word o h =
+    other_of (rule_of word Integer) o
+    (fails_of (is_integer_byte least word) _ (λ b none. (or_parts _ _ none).0) o h)
 
 -- ---- of a scaled number
 
@@ -46,6 +48,18 @@ none_of_scaled word point b h =
     let one = or_parts _ _ two.0 in
     record { whole = one.0; part = one.1; sign = two.1; point = three.1 }
 
+pub no_scaled : (word point : ℕ) (o : Option ℕ) → Fails (is_scaled_byte word point) o
+    → NoScaled word point o
+no_scaled word point None h = floats.no_scaled word point
+no_scaled word point (Some b) h =
+    let none = none_of_scaled word point b h in
+    record {
+      whole = other_of (rule_of word Integer) (Some b) none.whole;
+      part = other_of (rule_of word Fraction) (Some b) none.part;
+      point = none.point;
+      sign = none.sign;
+    }
+
 -- ---- of a float
 
 pub record IsNoFloat (word : ℕ) (marks : Marks) (b : ℕ) : Type 0 where
@@ -60,27 +74,13 @@ none_of_float word marks b h =
     let one = or_parts _ _ two.0 in
     record { scaled = one.0; power = one.1; mark = two.1 }
 
--- ---- the byte before a number, or after it
-
-module _ (o : Option ℕ) where
-  pub other_scaled_whole : (word point : ℕ) → holds_of (is_scaled_byte word point) o ≡ false
-      → class (rule_of word Integer) o ≡ Other
-  other_scaled_whole word point h =
-      other_of (rule_of word Integer) o
-      (fails_of _ _ (λ b n. (none_of_scaled word point b n).whole) o h)
-
-  pub other_scaled_part : (word point : ℕ) → holds_of (is_scaled_byte word point) o ≡ false
-      → class (rule_of word Fraction) o ≡ Other
-  other_scaled_part word point h =
-      other_of (rule_of word Fraction) o
-      (fails_of _ _ (λ b n. (none_of_scaled word point b n).part) o h)
-
-  pub none_scaled : (word : ℕ) (marks : Marks) → holds_of (is_float_byte word marks) o ≡ false
-      → holds_of (is_scaled_byte word marks.point) o ≡ false
-  none_scaled word marks h = fails_of _ _ (λ b n. (none_of_float word marks b n).scaled) o h
-
-  pub other_power : (word : ℕ) (marks : Marks) → holds_of (is_float_byte word marks) o ≡ false
-      → class (rule_of word Exponent) o ≡ Other
-  other_power word marks h =
-      other_of (rule_of word Exponent) o
-      (fails_of _ _ (λ b n. (none_of_float word marks b n).power) o h)
+pub no_float : (word : ℕ) (marks : Marks) (o : Option ℕ) → Fails (is_float_byte word marks) o
+    → NoFloat word marks o
+no_float word marks None h = floats.no_float word marks
+no_float word marks (Some b) h =
+    let none = none_of_float word marks b h in
+    record {
+      scaled = no_scaled word marks.point (Some b) none.scaled;
+      power = other_of (rule_of word Exponent) (Some b) none.power;
+      mark = none.mark;
+    }

@@ -4,14 +4,14 @@ use Rattle.std.specs.Prelude.{◌==◌, if◌then◌else◌, Result, Ok, Err}
 use Rattle.std.proofs.lemmas.Bool.{or_parts}
 use Rattle.std.proofs.lemmas.List.{length-take-le}
 use Rattle.lexical_digits.specs.Cursor.{holds_of}
-use Rattle.digit_literals.specs.Numbers.{has_byte}
+use Rattle.digit_values.specs.Bytes.{has_byte}
 use Rattle.digit_languages.specs.Follows.{AreSameBefore}
 use Rattle.digit_languages.proofs.Before.{same_as_cut, same_test, passes_before}
 use Rattle.digit_pieces.specs.declared.kinds.both.BothError.{BothError}
 use Rattle.digit_pieces.specs.declared.kinds.both.BothError.TheVariants.{First, Between, Second}
 use Rattle.digit_pieces.specs.Moves.{byte_before, IsFresh, outcome_later}
 use Rattle.digit_pieces.specs.Both.{with_second, after_first, both_at, is_byte_of_both, both_error_at, both_later, both_none_at}
-use Rattle.digit_pieces.specs.Laws.MovedStops.{moved_get}
+use Rattle.lexical_digits.proofs.Calls.BothSides.{moved_get}
 
 -- ---- fewer bytes
 

@@ -3,14 +3,14 @@ use Rattle.std.proofs.Common.{◌≡◌, ℕ, zero, suc, ◌+◌, ◌<◌, ◌�
 use Rattle.std.specs.Prelude.{◌==◌, Result, Ok, Err}
 use Rattle.std.proofs.lemmas.Bool.{or_parts}
 use Rattle.std.proofs.lemmas.List.{length-take-le}
-use Rattle.digit_literals.specs.Numbers.{has_byte}
+use Rattle.lexical_digits.proofs.Calls.BothSides.{moved_get}
+use Rattle.digit_values.specs.Bytes.{has_byte}
 use Rattle.digit_languages.specs.Follows.{AreSameBefore}
 use Rattle.digit_languages.proofs.Before.{same_as_cut, same_test, passes_before}
 use Rattle.digit_pieces.specs.declared.kinds.enclosed.BracketError.{BracketError}
 use Rattle.digit_pieces.specs.declared.kinds.enclosed.BracketError.TheVariants.{NoOpening, Number, NoClosing}
 use Rattle.digit_pieces.specs.Enclosed.{bracket_later, bracket_none_at, bracket_position, closed, enclosed_at, if_closed, if_opened, is_enclosed_byte}
-use Rattle.digit_pieces.specs.Laws.MovedStops.{moved_get, same_place}
-use Rattle.digit_pieces.specs.Laws.NoBytes.{fails_of}
+use Rattle.digit_pieces.specs.Laws.NoBytes.{fails_of, same_place}
 use Rattle.digit_pieces.specs.Moves.{byte_before, IsFresh, outcome_later}
 
 -- a byte that is there is one of the text

@@ -10,11 +10,11 @@ use Rattle.digit_numbers.specs.declared.number.NumberError.TheVariants.{Empty, O
 use Rattle.digit_numbers.specs.Follows.{is_number_byte}
 use Rattle.digit_numbers.specs.Numbers.{number_of_at}
 use Rattle.digit_numbers.specs.Values.{none_at, position}
+use Rattle.digit_numbers.proofs.BothSides.{moved_outcome}
 use Rattle.digit_numbers.proofs.WhatFollows.{outcome_same}
 use Rattle.digit_pieces.specs.Moves.{IsFresh, outcome_later, number_later}
 use Rattle.digit_pieces.specs.Laws.FormEnds as ends
-use Rattle.digit_pieces.specs.Laws.MovedStops.{same_place}
-use Rattle.digit_pieces.specs.Laws.MovedForms as moved
+use Rattle.digit_pieces.specs.Laws.NoBytes.{same_place}
 
 pub number_follows : (f : Form) (one other : List ℕ) (at start : ℕ) (format : Format)
     → AreSameBefore (is_number_byte f) one other at → start ≤ at
@@ -26,7 +26,8 @@ pub number_precedes : (f : Form) (text : List ℕ) (from at : ℕ) (format : For
     → from + at ≤ length text → IsFresh (is_number_byte f) text from
     → number_of_at f text (from + at) format
     ≡ outcome_later number_later from (number_of_at f (drop from text) at format)
-number_precedes = moved.number_precedes
+number_precedes f text from at format within fresh =
+    moved_outcome f text from at format within fresh
 
 pub number_ends : (f : Form) (text : List ℕ) (start : ℕ) (format : Format) (n : Number Float)
     (end : ℕ) → number_of_at f text start format ≡ Ok (n, end) → end ≤ length text

@@ -3,25 +3,25 @@ use Rattle.std.proofs.Common.{◌≡◌, ℕ, ◌+◌, ◌≤◌, List, length, 
 use Rattle.std.specs.Float.{Format}
 use Rattle.lexical_digits.specs.State.{rule_of}
 use Rattle.lexical_digits.specs.declared.skip.component.Component.TheVariants.{Integer}
-use Rattle.digit_literals.specs.Errors.{literal_none_at, literal_position}
-use Rattle.digit_literals.specs.Numbers.{number_at}
-use Rattle.digit_literals.specs.declared.LiteralError.{LiteralError}
-use Rattle.digit_literals.specs.declared.LiteralError.TheVariants as integers
+use Rattle.digit_values.specs.Errors.{literal_none_at, literal_position}
+use Rattle.digit_integers.specs.Numbers.{number_at}
+use Rattle.digit_values.specs.declared.LiteralError.{LiteralError}
+use Rattle.digit_values.specs.declared.LiteralError.TheVariants as integers
+use Rattle.digit_integers.proofs.BothSides.{moved_number}
+use Rattle.digit_floats.proofs.BothSides.{moved_float}
+use Rattle.digit_amounts.proofs.BothSides.{moved_scaled}
 use Rattle.digit_floats.specs.Errors.{none_at, position}
 use Rattle.digit_floats.specs.Float.{read_at}
-use Rattle.digit_floats.specs.Scaled.{read_scaled_at}
-use Rattle.digit_floats.specs.Scaled as scaled
+use Rattle.digit_amounts.specs.Scaled.{read_scaled_at}
+use Rattle.digit_amounts.specs.Scaled as scaled
 use Rattle.digit_floats.specs.declared.error.FloatError.{FloatError}
 use Rattle.digit_floats.specs.declared.error.FloatError.TheVariants as floats
 use Rattle.digit_floats.specs.declared.parts.Marks.{Marks}
-use Rattle.digit_floats.specs.declared.scaled.ScaledError.{ScaledError}
-use Rattle.digit_floats.specs.declared.scaled.ScaledError.TheVariants as errors
+use Rattle.digit_amounts.specs.declared.scaled.ScaledError.{ScaledError}
+use Rattle.digit_amounts.specs.declared.scaled.ScaledError.TheVariants as errors
 use Rattle.digit_pieces.specs.Cuts.{is_integer_byte, is_scaled_byte, is_float_byte}
 use Rattle.digit_pieces.specs.Moves.{byte_before, IsFresh, outcome_later, literal_later, float_later, scaled_later}
-use Rattle.digit_pieces.specs.Laws.NoBytes.{fails_of, other_of, none_of_integer, other_scaled_whole, other_scaled_part, none_scaled, other_power}
-use Rattle.digit_pieces.specs.Laws.MovedStops.{same_place}
-use Rattle.digit_pieces.specs.Laws.MovedIntegers.{moved_number}
-use Rattle.digit_pieces.specs.Laws.MovedFloats.{moved_float, moved_scaled}
+use Rattle.digit_pieces.specs.Laws.NoBytes.{no_integer, no_scaled, no_float, same_place}
 pub use Rattle.digit_pieces.specs.Laws.Following.{integer_follows, float_follows, scaled_follows}
 pub use Rattle.digit_pieces.specs.Laws.Ends.{integer_ends, float_ends, scaled_ends}
 
@@ -33,20 +33,16 @@ pub integer_precedes : (least most word : ℕ) (text : List ℕ) (from at : ℕ)
     ≡ outcome_later literal_later from
     (number_at least most (rule_of word Integer) (drop from text) at)
 integer_precedes least most word text from at within fresh =
-    let r = rule_of word Integer in
-    let o = byte_before text from in
-    moved_number r text from (omega arith)
-    (other_of r o (fails_of _ _ (none_of_integer least word) o fresh)) least most at
+    moved_number (rule_of word Integer) text from (omega arith)
+    (no_integer least word (byte_before text from) fresh) least most at
 
 pub float_precedes : (word : ℕ) (marks : Marks) (f : Format) (text : List ℕ) (from at : ℕ)
     → from + at ≤ length text → IsFresh (is_float_byte word marks) text from
     → read_at word text marks f (from + at)
     ≡ outcome_later float_later from (read_at word (drop from text) marks f at)
 float_precedes word marks f text from at within fresh =
-    let o = byte_before text from in
-    let none = none_scaled o word marks fresh in
-    moved_float word text from (omega arith) (other_scaled_whole o word marks.point none)
-    (other_scaled_part o word marks.point none) (other_power o word marks fresh) marks f at
+    moved_float word text from (omega arith) marks
+    (no_float word marks (byte_before text from) fresh) at f
 
 pub scaled_precedes : (word point places least most : ℕ) (text : List ℕ) (from at : ℕ)
     → from + at ≤ length text → IsFresh (is_scaled_byte word point) text from
@@ -54,9 +50,8 @@ pub scaled_precedes : (word point places least most : ℕ) (text : List ℕ) (fr
     ≡ outcome_later scaled_later from
     (read_scaled_at word (drop from text) point places least most at)
 scaled_precedes word point places least most text from at within fresh =
-    let o = byte_before text from in
-    moved_scaled word text from (omega arith) (other_scaled_whole o word point fresh)
-    (other_scaled_part o word point fresh) point places least most at
+    moved_scaled word text from (omega arith) point
+    (no_scaled word point (byte_before text from) fresh) places least most at
 
 -- ---- the position of an error
 

@@ -7,12 +7,12 @@ use Rattle.digit_languages.specs.declared.literal.LanguageError.{LanguageError}
 use Rattle.digit_languages.specs.declared.literal.LanguageError.TheVariants.{Empty, Overflow, Zero}
 use Rattle.digit_languages.specs.Follows.{AreSameBefore, is_literal_byte}
 use Rattle.digit_languages.specs.Literals.{literal_at, none_at, position, typed}
+use Rattle.digit_languages.proofs.BothSides.{moved_literal}
 use Rattle.digit_languages.proofs.WhatFollows.{same_literal}
 use Rattle.digit_pieces.specs.Languages.{language_later, read_later}
 use Rattle.digit_pieces.specs.Moves.{IsFresh, outcome_later}
 use Rattle.digit_pieces.specs.Laws.FormEnds.{EndsLow, literal_low}
-use Rattle.digit_pieces.specs.Laws.MovedLiterals as moved
-use Rattle.digit_pieces.specs.Laws.MovedStops.{same_place}
+use Rattle.digit_pieces.specs.Laws.NoBytes.{same_place}
 
 pub literal_follows : (l : Language) (most : ℕ) (one other : List ℕ) (at start : ℕ)
     → AreSameBefore (is_literal_byte l) one other at → start ≤ at
@@ -30,7 +30,7 @@ pub literal_precedes : (l : Language) (most : ℕ) (text : List ℕ) (from at : 
     → typed (literal_at l text (from + at) most)
     ≡ outcome_later language_later from (typed (literal_at l (drop from text) at most))
 literal_precedes l most text from at within fresh =
-    ap typed (moved.literal_precedes l text from at most (omega arith) fresh)
+    ap typed (moved_literal l text from (omega arith) fresh at most)
     ∙ typed_later from (literal_at l (drop from text) at most)
 
 ends_by : (text : List ℕ) (x : ℤ) (end : ℕ) (read : Result Literal LanguageError)

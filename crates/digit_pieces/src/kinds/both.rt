@@ -1,7 +1,7 @@
 //! Two numbers with a byte between them.
 
 use crate::kind::Kind;
-use digit_literals::has_byte;
+use digit_values::has_byte;
 
 /// Two numbers with one byte between them, such as `3:4`: the number of the first kind, the byte,
 /// and the number of the second kind. A number of this kind is a pair.

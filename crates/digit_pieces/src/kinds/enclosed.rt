@@ -1,7 +1,7 @@
 //! A number between two bytes.
 
 use crate::kind::Kind;
-use digit_literals::has_byte;
+use digit_values::has_byte;
 use std::error::Error;
 use std::fmt;
 

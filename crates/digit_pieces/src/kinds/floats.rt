@@ -1,11 +1,67 @@
 //! Floats of a type, by a format word.
 
+ghost use Rattle.std.specs.Prelude.{◌≡◌};
+
 use super::bytes::{is_mark, is_of_component, is_scaled_byte};
 use crate::kind::Kind;
-pub use digit_floats::Floats;
-use digit_floats::{Float, FloatError};
+use digit_floats::{Float, FloatError, read_float_from};
 use digit_literals::ReadsOne;
 use lexical_digits::skip::Component;
+use std::marker::PhantomData;
+
+/// The floats of a type by a format word, as [`read_float_from`](digit_floats::read_float_from)
+/// reads them: with the point `.` and the mark `e` or `E`.
+#[derive(Clone, Copy)]
+pub struct Floats<F: Float> {
+    /// The format word.
+    pub word: u128,
+    of: PhantomData<F>,
+}
+
+impl<F: Float> Floats<F> {
+    /// The floats of a type by a word.
+    #[inline(always)]
+    pub const fn new(word: u128) -> Floats<F>
+        ensures { result.word ≡ word }
+    {
+        Floats {
+            word,
+            of: PhantomData,
+        }
+    }
+}
+
+impl<F: Float> ReadsOne for Floats<F> {
+    ghost use Rattle.std.specs.Prelude.{IsTrue};
+    ghost use Rattle.std.specs.Float as Ieee;
+    ghost use Rattle.lexical_format.specs.Word.{is_supported};
+    ghost use Rattle.digit_floats.specs.Errors.{none_at as float_none_at};
+    ghost use Rattle.digit_floats.specs.Float.{IsDecimal, plain_marks, read_at};
+
+    type Number = F;
+
+    type Error = FloatError;
+
+    ghost Meaning = { Ieee.Float };
+
+    ghost meaning = { F.value };
+
+    ghost valid = { λ k. IsTrue (is_supported k.word) × IsDecimal k.word };
+
+    ghost number_at = { λ k text start. read_at k.word text plain_marks F.format start };
+
+    ghost none_at = { float_none_at };
+
+    #[inline(always)]
+    fn read_number(self, text: &[u8], start: usize) -> Result<(F, usize), FloatError> {
+        read_float_from::<F>(text, self.word, start)
+    }
+
+    #[inline(always)]
+    fn is_none_at(error: FloatError, place: usize) -> bool {
+        error.is_none_at(place)
+    }
+}
 
 impl<F: Float> Kind for Floats<F> {
     ghost use Rattle.std.proofs.Props.{props};
@@ -15,7 +71,7 @@ impl<F: Float> Kind for Floats<F> {
     ghost use Rattle.digit_floats.specs.Errors.{none_at as float_none_at, position};
     ghost use Rattle.digit_floats.specs.Float.{IsDecimal, plain_marks, read_at};
     ghost use Rattle.digit_pieces.specs.Cuts.{is_float_byte};
-    ghost use Rattle.digit_pieces.specs.Moves.{float_later};
+    ghost use Rattle.digit_floats.specs.Moves.{float_later};
     ghost use Rattle.digit_pieces.specs.Laws.OfKinds as laws;
 
     type Number = F;

@@ -2,8 +2,10 @@
 
 use super::bytes::{is_of_component, is_sign};
 use crate::kind::Kind;
+use digit_integers::Integer;
 pub use digit_literals::Integers;
-use digit_literals::{Integer, LiteralError, ReadsOne};
+use digit_literals::ReadsOne;
+use digit_values::LiteralError;
 use lexical_digits::skip::Component;
 
 impl<T: Integer> Kind for Integers<T> {
@@ -12,10 +14,10 @@ impl<T: Integer> Kind for Integers<T> {
     ghost use Rattle.lexical_format.specs.Word.{is_supported};
     ghost use Rattle.lexical_digits.specs.State.{rule_of};
     ghost use Rattle.lexical_digits.specs.declared.skip.component.Component.TheVariants as components;
-    ghost use Rattle.digit_literals.specs.Errors.{literal_none_at, literal_position};
-    ghost use Rattle.digit_literals.specs.Numbers as numbers;
+    ghost use Rattle.digit_values.specs.Errors.{literal_none_at, literal_position};
+    ghost use Rattle.digit_integers.specs.Numbers as numbers;
     ghost use Rattle.digit_pieces.specs.Cuts.{is_integer_byte};
-    ghost use Rattle.digit_pieces.specs.Moves.{literal_later};
+    ghost use Rattle.digit_values.specs.Moves.{literal_later};
     ghost use Rattle.digit_pieces.specs.Laws.OfKinds as laws;
 
     type Number = T;

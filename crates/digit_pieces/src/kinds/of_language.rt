@@ -4,8 +4,8 @@ ghost use Rattle.std.specs.Prelude.{◌≡◌};
 
 use super::form_bytes::is_literal_byte;
 use crate::kind::Kind;
+use digit_integers::Integer;
 use digit_languages::{Language, LanguageError, read_literal_as};
-use digit_literals::Integer;
 use std::marker::PhantomData;
 
 /// The integer literals of a language, as numbers of a type:
@@ -37,7 +37,7 @@ impl<T: Integer> Kind for OfLanguage<T> {
     ghost use Rattle.digit_languages.specs.Follows.{is_literal_byte};
     ghost use Rattle.digit_languages.specs.Literals.{literal_at, none_at as language_none_at, position, typed};
     ghost use Rattle.digit_languages.specs.Words.{IsLanguage};
-    ghost use Rattle.digit_pieces.specs.Languages.{language_later};
+    ghost use Rattle.digit_languages.specs.Moves.{language_later};
     ghost use Rattle.digit_pieces.specs.Laws.OfLanguage as laws;
 
     type Number = T;

@@ -4,12 +4,12 @@ ghost use Rattle.std.specs.Prelude.{◌≡◌};
 
 use super::bytes::is_scaled_byte;
 use crate::kind::Kind;
-use digit_floats::{ScaledError, read_scaled_from};
-use digit_literals::Integer;
+use digit_amounts::{ScaledError, read_scaled_from};
+use digit_integers::Integer;
 use std::marker::PhantomData;
 
 /// The decimal numbers by a format word, times ten to the power `places`, as exact integers of a
-/// type: with 2 places `12.5` is 1250. [`read_scaled_from`](digit_floats::read_scaled_from) reads
+/// type: with 2 places `12.5` is 1250. [`read_scaled_from`](digit_amounts::read_scaled_from) reads
 /// them.
 #[derive(Clone, Copy)]
 pub struct Scaled<T: Integer> {
@@ -44,9 +44,9 @@ impl<T: Integer> Kind for Scaled<T> {
     ghost use Rattle.std.specs.Prelude.{◌≡◌, ◌+◌, ◌≤◌, ◌<◌, ℤ, IsTrue};
     ghost use Rattle.lexical_format.specs.Word.{is_supported};
     ghost use Rattle.digit_floats.specs.Float.{IsDecimal};
-    ghost use Rattle.digit_floats.specs.Scaled.{none_at as scaled_none_at, position, read_scaled_at};
+    ghost use Rattle.digit_amounts.specs.Scaled.{none_at as scaled_none_at, position, read_scaled_at};
     ghost use Rattle.digit_pieces.specs.Cuts.{is_scaled_byte};
-    ghost use Rattle.digit_pieces.specs.Moves.{scaled_later};
+    ghost use Rattle.digit_amounts.specs.Moves.{scaled_later};
     ghost use Rattle.digit_pieces.specs.Laws.OfKinds as laws;
 
     type Number = T;

@@ -15,8 +15,9 @@ ghost use Rattle.digit_pieces.specs.Cuts.{is_float_byte, is_integer_byte, is_sca
 ghost use Rattle.digit_pieces.specs.Texts.{IsApart};
 
 use crate::kind::Kind;
+use digit_integers::Integer;
 use digit_languages::Language;
-use digit_literals::{Gap, Integer};
+use digit_literals::Gap;
 use digit_numbers::Form;
 
 /// Any kind: no byte between two numbers may be in one.
@@ -32,7 +33,7 @@ pub fn integers_are_apart<T: Integer>(word: u128, gap: Gap)
     ensures { IsApart (is_integer_byte T.MIN_MAGNITUDE word) gap }
 {}
 
-/// [`Floats`](digit_floats::Floats) by a word: no byte between two is a letter, a digit, a sign,
+/// [`Floats`](digit_pieces::Floats) by a word: no byte between two is a letter, a digit, a sign,
 /// the separator of the word or a point.
 pub fn floats_are_apart(word: u128, gap: Gap)
     requires { IsTrue (are_apart (is_pointed_byte word 46) gap) }
@@ -53,7 +54,7 @@ pub fn literals_are_apart(language: Language, gap: Gap)
     ensures { IsApart (is_literal_byte language) gap }
 {}
 
-/// [`OfForm`](digit_numbers::OfForm): no byte between two numbers may be in one by the form.
+/// [`OfForm`](digit_pieces::OfForm): no byte between two numbers may be in one by the form.
 pub fn numbers_are_apart(form: Form, gap: Gap)
     requires { IsTrue (are_apart (is_number_byte form) gap) }
     ensures { IsApart (is_number_byte form) gap }

@@ -4,15 +4,18 @@ ghost use Rattle.std.specs.Prelude.{◌≡◌, ℕ, ◌+◌, ◌≤◌, List, le
 ghost use Rattle.std.specs.Float.{Format};
 ghost use Rattle.lexical_digits.specs.declared.skip.rule.Rule.{Rule};
 ghost use Rattle.lexical_digits.specs.Stop.{stop};
-ghost use Rattle.digit_literals.specs.After.{digits_between};
-ghost use Rattle.digit_literals.specs.Integers.{integer_at};
-ghost use Rattle.digit_literals.specs.Numbers.{number_at};
+ghost use Rattle.digit_values.specs.After.{digits_between};
+ghost use Rattle.digit_integers.specs.Integers.{integer_at};
+ghost use Rattle.digit_integers.specs.Numbers.{number_at};
 ghost use Rattle.digit_floats.specs.declared.parts.Marks.{Marks};
 ghost use Rattle.digit_floats.specs.Float.{read_at};
 ghost use Rattle.digit_floats.specs.Decimals.{read_decimal_at};
-ghost use Rattle.digit_floats.specs.Scaled.{read_scaled_at};
+ghost use Rattle.digit_amounts.specs.Scaled.{read_scaled_at};
 ghost use Rattle.digit_pieces.specs.Cuts.{is_of_rule, is_float_byte, is_scaled_byte};
-ghost use Rattle.digit_pieces.specs.Moves.{IsFresh, outcome_later, literal_later, float_later, scaled_later};
+ghost use Rattle.lexical_digits.specs.Moves.{IsFresh, outcome_later};
+ghost use Rattle.digit_values.specs.Moves.{literal_later};
+ghost use Rattle.digit_floats.specs.Moves.{float_later};
+ghost use Rattle.digit_amounts.specs.Moves.{scaled_later};
 
 /// What is before a number makes no difference to it. Where the byte before a position, if there is
 /// one, is in no number, reading from there on answers what the text that begins there is read as:

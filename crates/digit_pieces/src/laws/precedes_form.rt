@@ -8,8 +8,9 @@ ghost use Rattle.digit_languages.specs.Follows.{is_literal_byte};
 ghost use Rattle.digit_languages.specs.Literals.{literal_at};
 ghost use Rattle.digit_numbers.specs.Follows.{is_number_byte};
 ghost use Rattle.digit_numbers.specs.Numbers.{number_of_at};
-ghost use Rattle.digit_pieces.specs.Languages.{read_later};
-ghost use Rattle.digit_pieces.specs.Moves.{IsFresh, outcome_later, number_later};
+ghost use Rattle.digit_languages.specs.Moves.{read_later};
+ghost use Rattle.lexical_digits.specs.Moves.{IsFresh, outcome_later};
+ghost use Rattle.digit_numbers.specs.Moves.{number_later};
 
 use digit_numbers::Form;
 

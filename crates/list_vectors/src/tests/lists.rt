@@ -1,17 +1,20 @@
 //! Tests: worked rows, by hand.
 
-use digit_floats::{FloatError, ScaledError};
+use digit_amounts::{
+    PriceError, ScaledError, read_exact_from, read_grouped_from, read_price_from, wrong_group,
+};
+use digit_floats::FloatError;
 use digit_languages::LanguageError;
 use digit_languages::languages::PYTHON;
 use digit_lists::laws::a_list_by_goes_on;
 use digit_lists::{
-    EnclosedError, ListError, NoNumber, PriceError, Prices, parse_list, read_enclosed,
-    read_exact_from, read_grouped_from, read_list_by, read_optional, read_price_from, wrong_group,
+    EnclosedError, ListError, NoNumber, parse_list, read_enclosed, read_list_by, read_optional,
 };
 use digit_literals::{COMMAS, COMMAS_IN_LINE, Gap, LINES, ListEnd, LiteralError, WHITESPACE};
 use digit_numbers::{Number, NumberError, forms};
 use digit_pieces::{
-    Both, BothError, Floats, Integers, Kind, OfForm, OfLanguage, PieceEnd, Scaled, read_piece,
+    Both, BothError, Floats, Integers, Kind, OfForm, OfLanguage, PieceEnd, Prices, Scaled,
+    read_piece,
 };
 use digit_streams::{NumberReader, StreamError};
 use lexical_format::words::PYTHON_LITERAL;

@@ -8,7 +8,9 @@
 //!   and one that is longer; what is answered again: `ends`
 //! - a number that is answered before the reader is asked again: `waits`
 //! - a caller: `uses`; the sum of a stream, which `digit_uses` proves: `sums`
+//! - lists in brackets, an offset, and the sum of an array: `arrays`
 
+mod arrays;
 mod ends;
 mod readers;
 mod rows;

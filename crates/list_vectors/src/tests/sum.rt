@@ -6,7 +6,7 @@ mod streams;
 mod totals;
 
 use digit_totals::engine::serve_arguments;
-use digit_totals::laws::{float_reports_say, reports_say};
+use digit_totals::laws::{float_reports_say, headers_say, reports_say};
 use std::alloc::Global;
 use std::io::Read;
 
@@ -29,6 +29,7 @@ impl Outcome {
 fn run_over<R: Read>(alloc: Global, words: &[&[u8]], reader: &mut R) -> Outcome {
     reports_say();
     float_reports_say();
+    headers_say();
     let mut written = Vec::new(alloc);
     let mut told = Vec::new(alloc);
     let status = serve_arguments(alloc, words, reader, &mut written, &mut told);

@@ -1,7 +1,8 @@
 //! The functions of the page CALLING.md that read a number, a token of JSON, a row of CSV
 //! and a number of CSS, and write a number. The expected values are worked out by hand.
 
-use digit_floats::{FloatError, ScaledError, read_float};
+use digit_amounts::ScaledError;
+use digit_floats::{FloatError, read_float};
 use digit_lists::ListError;
 use digit_literals::{LINES, ListEnd, LiteralError, ParseError, read_list};
 use digit_numbers::{Number, NumberError, forms, read_number_of};

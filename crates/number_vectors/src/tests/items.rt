@@ -7,11 +7,12 @@ ghost use Rattle.lexical_digits.specs.declared.skip.component.Component.TheVaria
 ghost use Rattle.lexical_format.specs.declared.TheConstants.{STANDARD};
 ghost use Rattle.digit_literals.specs.Errors.{literal_none_at, literal_position};
 ghost use Rattle.digit_literals.specs.Integers.{integer_at};
-ghost use Rattle.digit_literals.specs.declared.LiteralError.TheVariants.{Empty};
+ghost use Rattle.digit_values.specs.declared.LiteralError.TheVariants.{Empty};
 ghost use Rattle.digit_numbers.specs.Bytes.{expect_bytes};
 
+use digit_lists::{Item, read_items};
 use digit_literals::{COMMAS, Gap, ListEnd, LiteralError, WHITESPACE, read_integer_from};
-use digit_numbers::{Item, expect_bytes, read_items};
+use digit_numbers::expect_bytes;
 use lexical_format::STANDARD;
 
 /// The sides of a box, each up to 255.

@@ -2,9 +2,9 @@
 
 use super::{INTERNAL, UNFLAGGED, bytes_of};
 use crate::pieces::{parse_field, parse_line};
+use digit_amounts::laws::what_follows_changes_no_decimal;
 use digit_floats::laws::{
-    float_outcomes_say, what_follows_changes_no_decimal, what_follows_changes_no_float,
-    zeros_keep_their_sign,
+    float_outcomes_say, what_follows_changes_no_float, zeros_keep_their_sign,
 };
 use digit_languages::laws::what_follows_changes_no_literal;
 use digit_literals::laws::flags::more_flags_read_the_same;

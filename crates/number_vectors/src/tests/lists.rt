@@ -1,12 +1,13 @@
 //! Lists of numbers, digits whose number is known, and the ends of names.
 
-use digit_floats::{FloatError, read_float_list};
+use digit_floats::FloatError;
+use digit_lists::{read_float_list, read_list_of};
 use digit_literals::laws::lists::a_list_goes_on;
 use digit_literals::{
     COMMAS, COMMAS_IN_LINE, Gap, LINES, ListEnd, LiteralError, SPACES_IN_LINE, WHITESPACE,
     name_end, read_at_most, read_exactly, read_list,
 };
-use digit_numbers::{Number, forms, read_list_of};
+use digit_numbers::{Number, forms};
 use lexical_format::STANDARD;
 
 /// The numbers of a text, in four places that hold 7: these, how many were read, and why no more.

@@ -1,6 +1,6 @@
 //! Amounts of money in cents, by `digit_uses::money`.
 
-use digit_floats::ScaledError;
+use digit_amounts::ScaledError;
 use digit_uses::money::parse_cents;
 use lexical_format::words::PYTHON_LITERAL;
 

@@ -1,10 +1,10 @@
 use Rattle.std.proofs.Common.{length}
-use Rattle.digit_literals.specs.declared.LiteralError.TheVariants as integers
+use Rattle.digit_values.specs.declared.LiteralError.TheVariants as integers
 use Rattle.digit_floats.specs.declared.error.FloatError.TheVariants as floats
-use Rattle.digit_floats.specs.declared.scaled.ScaledError.TheVariants as scaled
+use Rattle.digit_amounts.specs.declared.scaled.ScaledError.TheVariants as scaled
 use Rattle.digit_numbers.specs.declared.number.NumberError.TheVariants as numbers
 use Rattle.digit_languages.specs.declared.literal.LanguageError.TheVariants as languages
-use Rattle.digit_lists.specs.declared.prices.PriceError.TheVariants as prices
+use Rattle.digit_amounts.specs.declared.prices.PriceError.TheVariants as prices
 use Rattle.digit_blocks.proofs.NoneAtEnd.{is_itself, price_none}
 use Rattle.digit_blocks.proofs.laws.kinds_have_none_at_the_end.Goals as goal
 

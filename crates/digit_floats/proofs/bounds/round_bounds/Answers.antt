@@ -15,11 +15,11 @@ returns-then-up-below g c n is =
     c.ranges.digits.fits
     (omega (arith, c.powers_of-up.ensures.up, c.powers_of-up.ensures.down)))
 
-pub returns-then-up-below-ge651 : goal.returns-then-up-below-ge651
-returns-then-up-below-ge651 g c n is =
+pub returns-then-up-below-ge-POWERS : goal.returns-then-up-below-ge-POWERS
+returns-then-up-below-ge-POWERS g c n is =
     let up : ℕ = (if c.args.down then 0 else c.args.power) in
     let below : ℕ = c.args.places + (if c.args.down then c.args.power else 0) in
-    c.signed-then-up-below-ge651.ensures _ _
+    c.signed-then-up-below-ge-POWERS.ensures _ _
     (c.infinity.ensures
     ∙ sym (infinite g.F.Float.format n c.args.digits c.args.cut up below is c.requires.digits
     (omega (arith, c.powers_of-up.ensures.up, c.powers_of-up.ensures.down))))

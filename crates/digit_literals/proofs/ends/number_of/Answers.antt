@@ -3,7 +3,7 @@ use Rattle.std.specs.Prelude.{if◌then◌else◌}
 use Rattle.lexical_digits.specs.declared.skip.component.Component.TheVariants.{Integer}
 use Rattle.lexical_digits.specs.State.{rule_of}
 use Rattle.digit_literals.proofs.ByEnds.{first_room, first_other, no_digit}
-use Rattle.digit_literals.proofs.Whole.{number_is_plain}
+use Rattle.digit_integers.proofs.Whole.{number_is_plain}
 use Rattle.digit_literals.proofs.ends.number_of.Goals as goal
 
 pub next_after_digits-requires-clause-within : goal.next_after_digits-requires-clause-within

@@ -1,8 +1,8 @@
 use Rattle.lexical_digits.specs.declared.skip.component.Component.TheVariants.{Integer}
 use Rattle.lexical_digits.specs.State.{rule_of}
-use Rattle.digit_literals.specs.Errors.{literal_none_at}
+use Rattle.digit_values.specs.Errors.{literal_none_at}
 use Rattle.digit_literals.specs.Lists.{SoFar}
-use Rattle.digit_literals.specs.Numbers.{number_at}
+use Rattle.digit_integers.specs.Numbers.{number_at}
 use Rattle.digit_literals.proofs.Lists.{turns_begin}
 use Rattle.digit_literals.proofs.list.read_list.Goals as goal
 use Rattle.digit_literals.proofs.list.read_list.Goals.{then-out-ge-MANY+then-is_by_ends+in-Ok, else-out-ge-MANY}

@@ -2,8 +2,8 @@ use Rattle.std.proofs.Common.{◌≡◌, length, refl, sym, ◌∙◌, arith}
 use Rattle.std.proofs.lemmas.List.{length-set}
 use Rattle.lexical_digits.specs.declared.skip.component.Component.TheVariants.{Integer}
 use Rattle.lexical_digits.specs.State.{rule_of}
-use Rattle.digit_literals.specs.Errors.{literal_none_at}
-use Rattle.digit_literals.specs.Numbers.{number_at}
+use Rattle.digit_values.specs.Errors.{literal_none_at}
+use Rattle.digit_integers.specs.Numbers.{number_at}
 use Rattle.digit_literals.proofs.Lists.{turns_full, turns_none, turns_next, turns_over}
 use Rattle.digit_literals.proofs.list.read_rest.Goals as goal
 

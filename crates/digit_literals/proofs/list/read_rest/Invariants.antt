@@ -1,9 +1,9 @@
 use Rattle.std.proofs.Common.{◌≡◌, ℕ, List, ◌≤◌, length}
 use Rattle.lexical_digits.specs.declared.skip.component.Component.TheVariants.{Integer}
 use Rattle.lexical_digits.specs.State.{rule_of}
-use Rattle.digit_literals.specs.Errors.{literal_none_at}
+use Rattle.digit_values.specs.Errors.{literal_none_at}
 use Rattle.digit_literals.specs.Lists.{SoFar}
-use Rattle.digit_literals.specs.Numbers.{number_at}
+use Rattle.digit_integers.specs.Numbers.{number_at}
 use Rattle.digit_literals.proofs.list.read_rest.Given as goal
 
 abbrev pub invariant-loop-count : goal.invariant-loop-count

@@ -1,4 +1,4 @@
-use Rattle.std.proofs.Common.{refl, ◌∙◌}
+use Rattle.std.proofs.Common.{◌∙◌, arith}
 use Rattle.lexical_digits.specs.State.{rule_of}
 use Rattle.lexical_digits.specs.declared.skip.component.Component.TheVariants.{Integer}
 use Rattle.digit_numbers.proofs.Decimals.{lone_zero, digits_are}
@@ -15,4 +15,6 @@ returns c =
     let w = c.whole_of-whole.ensures in
     let ends = c.if-end-mantissa.false ∙ c.requires.is.whole_end in
     rw (digits_are c.args.form.integers.decimal c.args.text.now c.args.mantissa.start
-    c.args.end ends) (rw (w.integer, w.fraction) at (c.decimal_of.ensures 0 refl))
+    c.args.end ends) (rw (w.integer, w.fraction) at
+    (rw c.none.ensures.negative at
+    (c.decimal_of.ensures 0 (omega (arith, c.none.ensures.value)))))

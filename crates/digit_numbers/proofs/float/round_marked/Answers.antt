@@ -3,8 +3,8 @@ use Rattle.digit_numbers.specs.Numbers.{whole_digits}
 use Rattle.digit_numbers.proofs.ShortNumbers.{powered_float}
 use Rattle.digit_numbers.proofs.float.round_marked.Goals as goal
 
-pub returns-in-Some-clause-is : goal.returns-in-Some-clause-is
-returns-in-Some-clause-is g c =
+pub returns-in-Some : goal.returns-in-Some
+returns-in-Some g c =
     let e = c.in-Some.ensures in
     let power = c.requires.power in
     let f = c.args.form in
@@ -16,9 +16,14 @@ returns-in-Some-clause-is g c =
     let whole : 0 < length (whole_digits f text m.start) =
     omega (arith, digits, places, c.requires.some) in
     let pointed = rw (is.whole_end, places) at c.requires.pointed in
-    let follows = rw is.ends at power.some in
-    let mark = rw is.ends at c.requires.mark in
+    let follows = rw is.end at power.some in
+    let mark = rw is.end at c.requires.mark in
     let allowed = rw places at (sym c.if-not-allow.ensures) in
-    rw (power.ends, is.ends) (powered_float f text m.start c.requires.one_mark whole pointed
-    c.requires.zeros
-    g.F.Float.format c.args.negative _ e.value allowed (λ _. follows) (λ _. mark))
+    record {
+      is = rw (power.is.end, is.end) (powered_float f text m.start c.requires.one_mark whole pointed
+          c.requires.zeros g.F.Float.format c.args.negative _ e.value allowed (λ _. follows)
+          (λ _. mark));
+      number = e.number;
+      onward = omega (arith, is.is.long, digits, c.requires.some, power.is.onward);
+      within = power.is.within;
+    }

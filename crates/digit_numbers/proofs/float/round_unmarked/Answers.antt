@@ -9,7 +9,7 @@ returns-in-Some-clause-value g c =
     let word = c.args.form.integers.decimal in
     let text = c.args.text.now in
     let parts = parts_at word text c.args.form.marks c.args.mantissa.start in
-    let none = rw c.requires.is.ends at c.requires.none in
+    let none = rw c.requires.is.end at c.requires.none in
     c.in-Some.ensures.value
     ∙ rw (c.requires.is.is.places, c.requires.is.integer, c.requires.is.fraction)
     (sym (nearest_alone g.F.Float.format c.args.negative parts

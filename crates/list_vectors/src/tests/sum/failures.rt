@@ -1,10 +1,11 @@
 //! Runs in which the reader or a writer fails, and long lines.
 
-use super::run_over;
 use super::streams::{ScriptedReader, ScriptedWriter, Turn, Turns};
+use super::{run_of, run_over};
 use digit_totals::engine::serve_arguments;
 use std::alloc::{AllocError, Global};
 use std::io::ErrorKind;
+use std::test::Fail;
 
 /// Passes all bytes.
 const ALL: Turn = Turn::Pass(usize::MAX);
@@ -184,4 +185,21 @@ fn a_line_may_have_65535_bytes(rt: HostRuntime) {
         5,
     );
     assert!(rt; adds_zeros(rt.alloc(), 65536, b"\n1\n", long) == Ok(true));
+}
+
+/// A header is read piece by piece, and the line after it is line 2.
+#[test]
+fn a_header_may_be_of_any_length(rt: HostRuntime) -> Result<(), Fail> {
+    let mut text = vec![in rt.alloc(); b'0'; 200000]?;
+    text.extend_from_slice(b"\n1\n")?;
+    let ended = run_of(rt.alloc(), &[b"--header"], text.as_slice());
+    assert!(rt; ended.is(b"count=1 sum=1 min=1 max=1\n", b"", 0));
+    let mut text = Vec::new(rt.alloc());
+    text.extend_from_slice(b"x\n")?;
+    for _ in 0..65536 {
+        text.push(b'0')?;
+    }
+    let ended = run_of(rt.alloc(), &[b"--header"], text.as_slice());
+    assert!(rt; ended.is(b"", b"error: line 2: the line is too long\n", 5));
+    Ok(())
 }

@@ -6,7 +6,7 @@ use std::alloc::{AllocError, Global};
 use std::test::Fail;
 
 /// The arguments of rows, the text, and what is written.
-static TOTALS: [(&[&[u8]], &[u8], &[u8]); 21] = [
+static TOTALS: [(&[&[u8]], &[u8], &[u8]); 33] = [
     (&[], b"", b"count=0 sum=0 min=- max=-\n"),
     (&[], b"7", b"count=1 sum=7 min=7 max=7\n"),
     (&[], b"1\n-2\n+3\n", b"count=3 sum=2 min=-2 max=3\n"),
@@ -96,6 +96,54 @@ static TOTALS: [(&[&[u8]], &[u8], &[u8]); 21] = [
         b"x;1_0.5\n",
         b"count=1 sum=10.5 min=10.5 max=10.5\n",
     ),
+    (
+        &[b"--header"],
+        b"2026\n1\n2\n",
+        b"count=2 sum=3 min=1 max=2\n",
+    ),
+    (&[b"--header"], b"", b"count=0 sum=0 min=- max=-\n"),
+    (&[b"--header"], b"2026", b"count=0 sum=0 min=- max=-\n"),
+    (&[b"--header"], b"\n7", b"count=1 sum=7 min=7 max=7\n"),
+    (
+        &[b"--header", b"--column=2", b"--places=2"],
+        b"name,price\ntea,1.50\nmilk,2.25\n",
+        b"count=2 sum=3.75 min=1.50 max=2.25\n",
+    ),
+    (
+        &[b"--csv", b"--column", b"2"],
+        b"\"a,3,b\",1\n",
+        b"count=1 sum=1 min=1 max=1\n",
+    ),
+    (
+        &[b"--csv", b"--column=2"],
+        b"\"say \"\"hi, 5\"\"\",7\r\nplain,\"8\"\r\n",
+        b"count=2 sum=15 min=7 max=8\n",
+    ),
+    (
+        &[b"--csv", b"--column=1", b"--separator=;"],
+        b"\" 4 \";x,\n5;\n",
+        b"count=2 sum=9 min=4 max=5\n",
+    ),
+    (
+        &[b"--csv", b"--column=3"],
+        b"\"\",,9\n",
+        b"count=1 sum=9 min=9 max=9\n",
+    ),
+    (
+        &[b"--csv", b"--column=3"],
+        b"\",\",\"\"\"\",\"-2\",\"x\"\n",
+        b"count=1 sum=-2 min=-2 max=-2\n",
+    ),
+    (
+        &[b"--header", b"--csv", b"--column=1", b"--places=1"],
+        b"\"n\"\r\n\"2.5\"\r\n",
+        b"count=1 sum=2.5 min=2.5 max=2.5\n",
+    ),
+    (
+        &[b"--csv", b"--column=1", b"--floats"],
+        b"\"0.5\",x\n",
+        b"count=1 sum=0.5 min=0.5 max=0.5\n",
+    ),
 ];
 
 #[test]
@@ -106,7 +154,7 @@ fn totals_are_written(rt: HostRuntime) {
 }
 
 /// The arguments of rows, the text, what is told, and the status.
-static FAULTS: [(&[&[u8]], &[u8], &[u8], u8); 20] = [
+static FAULTS: [(&[&[u8]], &[u8], &[u8], u8); 30] = [
     (
         &[],
         b"1\n\n2\n",
@@ -230,6 +278,66 @@ static FAULTS: [(&[&[u8]], &[u8], &[u8], u8); 20] = [
         b"error: line 1: the digit at 4 is after the last place\n",
         3,
     ),
+    (
+        &[b"--header"],
+        b"price\n1x\n",
+        b"error: line 2: the byte at 1 is no part of an integer\n",
+        3,
+    ),
+    (
+        &[b"--header", b"--column", b"2"],
+        b"name,price\ntea,1\nmilk\n",
+        b"error: line 3, column 2: there is no such column\n",
+        3,
+    ),
+    (
+        &[b"--header"],
+        b"x\n170141183460469231731687303715884105727\n1\n",
+        b"error: line 3: the sum leaves 128 bits\n",
+        4,
+    ),
+    (
+        &[b"--csv", b"--column", b"2"],
+        b"1,\"a\n",
+        b"error: line 1, column 2: the line ends inside quotes, and no line feed is read there\n",
+        3,
+    ),
+    (
+        &[b"--csv", b"--column", b"1"],
+        b"5,\"a\n6,b\"\n",
+        b"error: line 1, column 1: the line ends inside quotes, and no line feed is read there\n",
+        3,
+    ),
+    (
+        &[b"--csv", b"--column", b"2"],
+        b"5\",3\n",
+        b"error: line 1, column 2: a quote neither begins nor ends a column, and is not doubled inside quotes\n",
+        3,
+    ),
+    (
+        &[b"--csv", b"--column", b"2"],
+        b"1, \"2\"\n",
+        b"error: line 1, column 2: a quote neither begins nor ends a column, and is not doubled inside quotes\n",
+        3,
+    ),
+    (
+        &[b"--csv", b"--column", b"1"],
+        b"\"1\"2,3\n",
+        b"error: line 1, column 1: a quote neither begins nor ends a column, and is not doubled inside quotes\n",
+        3,
+    ),
+    (
+        &[b"--csv", b"--column", b"2"],
+        b"\"a\"\"b\",\"1\"\"2\"\n",
+        b"error: line 1, column 2: the byte at 9 is no part of an integer\n",
+        3,
+    ),
+    (
+        &[b"--csv", b"--column", b"3"],
+        b"\"a,b\",c\n",
+        b"error: line 1, column 3: there is no such column\n",
+        3,
+    ),
 ];
 
 #[test]
@@ -241,10 +349,10 @@ fn faults_are_told(rt: HostRuntime) {
 
 /// What is allowed, which follows each fault of the arguments.
 const USAGE: &[u8] =
-    b"usage: digit_sum [--column N [--separator C]] [--places N | --floats] [--underscores] [--help]\n";
+    b"usage: digit_sum [--column N [--separator C] [--csv]] [--places N | --floats] [--underscores] [--header] [--help]\n";
 
 /// The arguments of rows that ask for nothing, and what is told of them before [`USAGE`].
-static NO_REQUESTS: [(&[&[u8]], &[u8]); 17] = [
+static NO_REQUESTS: [(&[&[u8]], &[u8]); 21] = [
     (
         &[b"--float"],
         b"error: argument 1, `--float`, is no option\n",
@@ -298,6 +406,11 @@ static NO_REQUESTS: [(&[&[u8]], &[u8]); 17] = [
         &[b"--separator", b";"],
         b"error: a separator without a column\n",
     ),
+    (&[b"--csv"], b"error: csv without a column\n"),
+    (
+        &[b"--csv=1"],
+        b"error: argument 1, `--csv=1`, is no such value\n",
+    ),
     (
         &[b"--floats", b"--places", b"2"],
         b"error: floats with places\n",
@@ -309,6 +422,14 @@ static NO_REQUESTS: [(&[&[u8]], &[u8]); 17] = [
     (
         &[b"--floats", b"--floats"],
         b"error: argument 2, `--floats`, was given before\n",
+    ),
+    (
+        &[b"--header", b"--header"],
+        b"error: argument 2, `--header`, was given before\n",
+    ),
+    (
+        &[b"--header=1"],
+        b"error: argument 1, `--header=1`, is no such value\n",
     ),
 ];
 
@@ -425,8 +546,11 @@ pub const SIXTY: &[u8] =
 
 pub const SIXTY_TOTALS: &[u8] = b"count=12 sum=97391816 min=-1234 max=88888888\n";
 
+/// The same, where the first of their lines is a header.
+const HEADED_TOTALS: &[u8] = b"count=11 sum=97391815 min=-1234 max=88888888\n";
+
 /// Runs the program over the sixty bytes, of which `first` come at the first read.
-fn run_cut(alloc: Global, first: usize, then: usize) -> Outcome {
+fn run_cut(alloc: Global, words: &[&[u8]], first: usize, then: usize) -> Outcome {
     let mut reader = ScriptedReader {
         rest: SIXTY,
         again: &[],
@@ -435,13 +559,16 @@ fn run_cut(alloc: Global, first: usize, then: usize) -> Outcome {
             then: Turn::Pass(then),
         },
     };
-    run_over(alloc, &[], &mut reader)
+    run_over(alloc, words, &mut reader)
 }
 
 #[test]
 fn a_stream_may_break_anywhere(rt: HostRuntime) {
     for first in 1..SIXTY.len() {
-        assert!(rt; run_cut(rt.alloc(), first, usize::MAX).is(SIXTY_TOTALS, b"", 0));
-        assert!(rt; run_cut(rt.alloc(), first, 1).is(SIXTY_TOTALS, b"", 0));
+        for then in [1, usize::MAX] {
+            let header: [&[u8]; 1] = [b"--header"];
+            assert!(rt; run_cut(rt.alloc(), &[], first, then).is(SIXTY_TOTALS, b"", 0));
+            assert!(rt; run_cut(rt.alloc(), &header, first, then).is(HEADED_TOTALS, b"", 0));
+        }
     }
 }

@@ -1,6 +1,6 @@
 use Rattle.std.proofs.Common.{◌-◌, ◌^◌, arith, sym}
 use Rattle.digit_literals.proofs.ForCallers.{all_is, few_digits_fit}
-use Rattle.digit_literals.proofs.Texts.{says_some, says_none}
+use Rattle.digit_integers.proofs.Texts.{says_some, says_none}
 use Rattle.number_vectors.specs.Groups.{colons}
 use Rattle.number_vectors.proofs.groups.value_of.Goals as goal
 

@@ -1,6 +1,6 @@
 use Rattle.std.proofs.Common.{◌+◌, sym, arith}
 use Rattle.digit_literals.specs.Lists.{is_blank, past_blanks}
-use Rattle.digit_literals.proofs.Passing.{one_passed, first_and_others}
+use Rattle.digit_values.proofs.Passing.{one_passed, first_and_others}
 use Rattle.digit_literals.proofs.list.Gap.past_few_blanks.Goals as goal
 
 pub returns-clause-is : goal.returns-clause-is

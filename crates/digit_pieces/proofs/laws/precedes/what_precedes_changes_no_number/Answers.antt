@@ -1,9 +1,10 @@
--- The byte before is `Other` by each rule, so the lemmas on moved positions apply.
-use Rattle.digit_pieces.specs.Moves.{byte_before}
-use Rattle.digit_pieces.specs.Laws.MovedStops.{moved_between, moved_stop}
-use Rattle.digit_pieces.specs.Laws.MovedIntegers.{moved_integer, moved_number}
-use Rattle.digit_pieces.specs.Laws.MovedFloats.{moved_float, moved_read_decimal, moved_scaled}
-use Rattle.digit_pieces.specs.Laws.NoBytes.{other_of, other_scaled_whole, other_scaled_part, none_scaled, other_power}
+-- No number goes on with the byte before, so the lemmas on moved positions apply.
+use Rattle.lexical_digits.specs.Moves.{byte_before}
+use Rattle.lexical_digits.proofs.Calls.BothSides.{moved_stop}
+use Rattle.digit_integers.proofs.BothSides.{moved_between, moved_integer, moved_number}
+use Rattle.digit_floats.proofs.BothSides.{moved_float, moved_decimal}
+use Rattle.digit_amounts.proofs.BothSides.{moved_scaled}
+use Rattle.digit_pieces.specs.Laws.NoBytes.{other_of, no_scaled, no_float}
 use Rattle.digit_pieces.proofs.laws.precedes.what_precedes_changes_no_number.Goals as goal
 
 pub returns-clause-between : goal.returns-clause-between
@@ -24,20 +25,15 @@ returns-clause-number c = λ rule text from start least most within fresh.
 
 pub returns-clause-float : goal.returns-clause-float
 returns-clause-float c = λ word text marks f from start within fresh.
-    let o = byte_before text from in
-    let scaled = none_scaled o word marks fresh in
-    moved_float word text from within (other_scaled_whole o word marks.point scaled)
-    (other_scaled_part o word marks.point scaled) (other_power o word marks fresh) marks f start
+    moved_float word text from within marks (no_float word marks (byte_before text from) fresh)
+    start f
 
 pub returns-clause-decimal : goal.returns-clause-decimal
 returns-clause-decimal c = λ word text marks from start within fresh.
-    let o = byte_before text from in
-    let scaled = none_scaled o word marks fresh in
-    moved_read_decimal word text from within (other_scaled_whole o word marks.point scaled)
-    (other_scaled_part o word marks.point scaled) (other_power o word marks fresh) marks start
+    moved_decimal word text from within marks (no_float word marks (byte_before text from) fresh)
+    start
 
 pub returns-clause-scaled : goal.returns-clause-scaled
 returns-clause-scaled c = λ word text from start point places least most within fresh.
-    let o = byte_before text from in
-    moved_scaled word text from within (other_scaled_whole o word point fresh)
-    (other_scaled_part o word point fresh) point places least most start
+    moved_scaled word text from within point (no_scaled word point (byte_before text from) fresh)
+    places least most start

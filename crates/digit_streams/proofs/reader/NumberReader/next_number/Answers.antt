@@ -3,7 +3,7 @@ use Rattle.std.specs.Prelude.{IfSome}
 use Rattle.digit_pieces.specs.Texts.{IsApart}
 use Rattle.digit_streams.specs.Streams.{Gives, GoesOn, HasReason, IfEndsFault, IsPlace, end_of_next, ended_by, list_of_option, next_again, next_of, stream_list}
 use Rattle.digit_streams.proofs.Calls.{calls_go_on}
-use Rattle.digit_streams.proofs.Given.{given_next, told_again}
+use Rattle.digit_streams.proofs.Given.{given_all, given_from_all, given_next, told_again}
 use Rattle.digit_streams.proofs.Single.{ends_so, gives_next, next_end, none_list, none_then, numbers_are}
 use Rattle.digit_streams.proofs.reader.NumberReader.next_number.Goals as goal
 
@@ -49,8 +49,8 @@ returns-clause-end g c =
     new.ended read.ensures.full read.ensures.fault read.ensures.place read.ensures.ended)
     read.ensures.place)
 
-pub returns-clause-given : goal.returns-clause-given
-returns-clause-given g c = λ known before apart given.
+pub returns-clause-given_from : goal.returns-clause-given_from
+returns-clause-given_from g c = λ start from known before apart given.
     let k = g.K.Kind in
     let m = g.met.K.Kind in
     let reader = c.args.self.now in
@@ -71,10 +71,16 @@ returns-clause-given g c = λ known before apart given.
     let again : IfSome reader.ended (λ ended. c.next_of.result ≡ next_again ended) =
     rw c.next_of.ensures
     (told_again reader.ended read.result.0 read.result.1 read.ensures.again) in
-    given_next list k.meaning before reader.position new.position new.ended c.next_of.result
-    (λ n text. law text m.later_more 0 1 n) (IsApart (k.has_byte kind) reader.gap) reader.ended
-    known reader.bytes new.bytes new.capacity (length new.held) given apart
-    (returns-clause-list g c) read.ensures.uses (returns-clause-end g c) again read.ensures.still
+    given_next list k.meaning before start from reader.position new.position new.ended
+    c.next_of.result (λ n text. law text m.later_more from 1 n)
+    (IsApart (k.has_byte kind) reader.gap) reader.ended known reader.bytes new.bytes new.capacity
+    (length new.held) given apart (returns-clause-list g c) read.ensures.uses
+    (returns-clause-end g c) again read.ensures.still
+
+pub returns-clause-given : goal.returns-clause-given
+returns-clause-given g c = λ known before apart given.
+    let from_all = given_from_all _ known _ before _ _ given in
+    given_all _ known _ _ _ _ (returns-clause-given_from g c 0 0 known before apart from_all)
 
 pub returns-clause-reason : goal.returns-clause-reason
 returns-clause-reason g c =

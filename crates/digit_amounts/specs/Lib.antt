@@ -1,0 +1,4 @@
+pub mod Scaled
+pub mod Groups
+pub mod Prices
+pub mod Moves

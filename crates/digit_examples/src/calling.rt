@@ -1,0 +1,74 @@
+//! What CALLING.md says that its own functions and a stream answer.
+
+use digit_uses::calling::{Entry, SEMICOLONS, parse_entry, sum_list};
+use digits::{
+    COMMAS, FloatError, Integers, LINES, LiteralError, NumberReader, STANDARD, StreamError,
+    parse_list, parse_number,
+};
+
+/// A line with fields of several kinds.
+#[test]
+fn a_line(rt: HostRuntime) {
+    let entry = Entry {
+        year: 2026,
+        month: 11,
+        day: 30,
+        cents: 1250,
+        count: Some(-3),
+    };
+    let none = Entry {
+        count: None,
+        ..entry
+    };
+    assert!(rt; parse_entry(b"2026-11-30,12.50,-3") == Ok(entry));
+    assert!(rt; parse_entry(b"2026-11-30,12.50,") == Ok(none));
+    assert!(rt; parse_entry(b"2026-11-3,12.50,-3") == Err(9));
+    assert!(rt; parse_entry(b"2026-11-30,12.5x,-3") == Err(15));
+    assert!(rt; parse_entry(b"2026-11-30,12.505,-3") == Err(16));
+    assert!(rt; parse_entry(b"2026-11-30,12.50,-") == Err(18));
+    assert!(rt; parse_entry(b"2026-11-30,12.50,x") == Err(17));
+}
+
+/// A list of any length.
+#[test]
+fn a_list(rt: HostRuntime) {
+    assert!(rt; sum_list(b"1.5, 2, -3]", 0) == Ok((0.5, 10)));
+    assert!(rt; sum_list(b"[]", 1) == Err(FloatError::Empty(1)));
+    // 65 numbers, and so a second turn
+    let text = b"1,1,1,1,1,1,1,1,1,1,1,1,1,1,1,1,1,1,1,1,1,1,1,1,1,1,1,1,1,1,1,1,1,\
+        1,1,1,1,1,1,1,1,1,1,1,1,1,1,1,1,1,1,1,1,1,1,1,1,1,1,1,1,1,1,1,2";
+    assert!(rt; sum_list(text, 0) == Ok((66.0, 129)));
+}
+
+/// Separators of a line.
+#[test]
+fn separators(rt: HostRuntime) {
+    let kind = Integers::<u32>::new(STANDARD);
+    let mut row = [0; 3];
+    assert!(rt; parse_list(kind, b"12; 7;305", SEMICOLONS, &mut row) == Ok(3));
+    assert!(rt; parse_list(kind, b"12, 7,305\r", COMMAS, &mut row) == Ok(3));
+    let line = b"12\r".as_slice();
+    let line = line.strip_suffix(b"\r").unwrap_or(line);
+    assert!(rt; parse_number::<u32>(line, STANDARD) == Ok(12));
+}
+
+/// A stream with a line that is no number.
+#[test]
+fn a_bad_line(rt: HostRuntime) {
+    let mut buffer = [0; 64];
+    let kind = Integers::<i64>::new(STANDARD);
+    let stream = b"1\n2x\n3\n".as_slice();
+    let mut numbers = NumberReader::new(stream, &mut buffer, kind, LINES);
+    assert!(rt; numbers.next_number() == Some(Ok(1)));
+    assert!(rt; numbers.next_number() == Some(Ok(2)));
+    assert!(rt; numbers.next_number() == None);
+    assert!(rt; numbers.finish() == Err(StreamError::Trailing(3)));
+
+    let mut buffer = [0; 64];
+    let stream = b"1\n-\n".as_slice();
+    let mut numbers = NumberReader::new(stream, &mut buffer, kind, LINES);
+    assert!(rt; numbers.next_number() == Some(Ok(1)));
+    let fault = StreamError::Number(LiteralError::Empty(3));
+    assert!(rt; numbers.next_number() == Some(Err(fault)));
+    assert!(rt; numbers.position() == 2);
+}

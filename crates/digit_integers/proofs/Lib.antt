@@ -1,0 +1,13 @@
+pub mod Whole
+pub mod Hexadecimals
+pub mod Texts
+pub mod ForCallers
+pub mod InGroups
+pub mod Fresh
+pub mod MoreFlags
+pub mod BothSides
+pub mod WhatFollows
+pub mod Counts
+pub mod Written
+pub mod EightHexadecimal
+pub mod GroupOfThree

@@ -1,6 +1,0 @@
-use Rattle.std.proofs.Common.{arith}
-use Rattle.digit_literals.proofs.States.{by_state}
-use Rattle.digit_literals.proofs.component.read_digits_up_to.Goals as goal
-
-pub returns : goal.returns
-returns c = grind (arith, by_state)

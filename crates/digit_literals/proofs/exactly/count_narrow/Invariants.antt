@@ -1,5 +1,0 @@
-use Rattle.digit_literals.proofs.Counts.{CountsOn}
-use Rattle.digit_literals.proofs.exactly.count_narrow.Given as goal
-
-abbrev pub invariant-loop-count : goal.invariant-loop-count
-invariant-loop-count l = CountsOn l.radix l.bytes l.most l.value l.count

@@ -1,5 +1,0 @@
-use Rattle.digit_literals.proofs.HexadecimalWord.{number_is}
-use Rattle.digit_literals.proofs.hexadecimal.value_of.Goals as goal
-
-pub returns : goal.returns
-returns c = number_is c.args.digits c.requires

@@ -1,4 +1,0 @@
-use Rattle.digit_numbers.proofs.list.read_list_of.Goals as goal
-
-pub returns-clause-is : goal.returns-clause-is
-returns-clause-is g c = rw c.new.ensures at c.read_list_with.ensures.is

@@ -1,0 +1,10 @@
+pub mod Peeks
+pub mod Outcomes
+pub mod After
+pub mod Reads
+pub mod Rest
+pub mod Significant
+pub mod First
+pub mod Errors
+pub mod Moves
+pub mod Bytes

@@ -1,0 +1,3 @@
+pub mod Eight
+pub mod Hexadecimal
+pub mod Three
