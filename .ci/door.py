@@ -38,7 +38,7 @@ GROUPS = {
         "a comma, a line feed, or blanks",
         "A gap says what separates the numbers of a list. One of your own, such as for `;`, is a "
         "[`Gap { .. }`](#gap).", """
-        COMMAS COMMAS_IN_LINE LINES WHITESPACE SPACES_IN_LINE Gap BLANKS"""),
+        COMMAS COMMAS_IN_LINE LINES WHITESPACE SPACES_IN_LINE Gap BLANKS SPACES"""),
     "Numbers by a form": (
         "as JSON, TOML, C or `strtod` has them",
         "A form is the grammar of a number in JSON, TOML, C, Python or another language, or in a "
@@ -93,7 +93,7 @@ GROUPS = {
     "A form of your own": (
         "a grammar that has no name here",
         "Write one from a form that is close: `Form { needs_fraction: true, ..forms::FLOAT }`.", """
-        Form Signs Whole Marks Exponents AfterPoint HexFloats Specials Special SpecialValue names"""),
+        Form Signs Whole Marks Exponents AfterPoint HexFloats Specials Special SpecialValue NameSign names"""),
     "Digits, and the parts of a number": (
         "for a parser that puts a number together itself",
         "For a parser that puts a number together itself.", """
@@ -189,8 +189,8 @@ How to read an entry:
 - **Behind `//`** on the line of a call is its answer; a long one is on the next line, after \
 `// answers`. `rt ci` runs each example as a test. `?` in one takes the value out of the `Ok` or the `Some`.
 - **"Derives"** has the traits of a type: each error also has `Display` and `Error`, except `BothError`.
-- **The order of arguments:** `text` is the first, or the second where a kind is the first. Then comes \
-`start`; only a call for one number by a word has the word before it. `out` is the last.
+- **The order of arguments:** `text` is the first, or the second where a kind is the first; \
+`prefix_word` has the language before it. Then comes `start`; only a call for one number by a word has the word before it. `out` is the last.
 
 ## {INDEX}
 
@@ -297,9 +297,12 @@ class Door:
 
     @staticmethod
     def methods(item):
-        """The functions of an impl or a trait, each with what its first sentence says."""
+        """The constants and functions of an impl or a trait, each with its first sentence."""
         lines = []
         for member in item.inner:
+            if member.kind == "const" and member.is_public():
+                lines += [f"    /// {first_sentence(member.docs)}",
+                          f"    {member.head.removeprefix('pub ').partition(' = ')[0]};"]
             if (member.kind == "fn" and (item.kind == "trait" or member.is_public())
                     and member.name not in HIDDEN):
                 said = textwrap.wrap(plain(first_sentence(member.docs)), 92)

@@ -96,6 +96,7 @@ fn count_places(text: &[u8], word: u128, at: usize, point: u8) -> usize
 ///
 /// ```text
 /// of 2 places: `1.50;` Ok((150, 4)); `1.5;` Err(Places(3)); `1.500` Err(Places(5))
+/// `1.505` Err(Number(TooFine(4)))
 /// ```
 #[inline]
 pub fn read_exact_from<T: Integer>(

@@ -286,6 +286,7 @@ pub(super) fn sign_of<T: Integer>(text: &[u8], start: usize) -> (bool, usize)
 ///
 /// ```text
 /// `-1_234.5;` with internal `_`, as an `i64` of 2 places: Ok((-123450, 8))
+/// `12.` and `.5` of 2 places: Ok((1200, 3)) and Ok((50, 2)); `.`: Err(Empty(1))
 /// `0.125` of 2 places: Err(TooFine(4)); `0.1250` of 3 places: Ok((125, 6))
 /// ```
 #[inline]

@@ -31,6 +31,18 @@ fn an_amount(rt: HostRuntime) {
         Ok((-123450, 8))
     );
     assert_eq!(rt;
+        read_scaled_from::<i64>(b"12.", STANDARD, 0, b'.', 2),
+        Ok((1200, 3))
+    );
+    assert_eq!(rt;
+        read_scaled_from::<i64>(b".5", STANDARD, 0, b'.', 2),
+        Ok((50, 2))
+    );
+    assert_eq!(rt;
+        read_scaled_from::<i64>(b".", STANDARD, 0, b'.', 2),
+        Err(ScaledError::Empty(1))
+    );
+    assert_eq!(rt;
         read_scaled_from::<i64>(b"0.1250", STANDARD, 0, b'.', 3),
         Ok((125, 6))
     );
@@ -107,6 +119,10 @@ fn so_many_places(rt: HostRuntime) {
     assert_eq!(rt;
         read_exact_from::<i64>(b"1.500", STANDARD, 0, b'.', 2),
         Err(PriceError::Places(5))
+    );
+    assert_eq!(rt;
+        read_exact_from::<i64>(b"1.505", STANDARD, 0, b'.', 2),
+        Err(PriceError::Number(ScaledError::TooFine(4)))
     );
 }
 

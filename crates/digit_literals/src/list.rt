@@ -30,8 +30,8 @@ pub struct Gap {
     pub may_trail: bool,
 }
 
-/// Space and tab.
-const SPACES: ByteSet = ByteSet {
+/// Space and tab: the blanks within a line.
+pub const SPACES: ByteSet = ByteSet {
     low: (1 << 9) | (1 << 32),
     high: 0,
 };
