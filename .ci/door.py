@@ -115,13 +115,13 @@ HIDDEN = ("no_number",)
 TABLES = {"forms": " [A table of all](forms.md).",
           "words": " [What each reads](../RULES.md#words-with-names)."}
 
-# What a caller proves, in words. The head of the page tells those without a word.
+# What a caller proves, in words.
 CONDITIONS = {
-    "IsTrue (is_supported word)": "",
-    "IsDecimal word": "",
-    "start ≤ length text.now": "",
-    "at ≤ length text.now": "",
-    "places ≤ 38": "there are at most 38 places",
+    "IsTrue (is_supported word)": "the word is supported",
+    "IsDecimal word": "its radixes are 10",
+    "start ≤ length text.now": "start ≤ text.len()",
+    "at ≤ length text.now": "at ≤ text.len()",
+    "places ≤ 38": "places ≤ 38",
     "K.valid kind": "the kind is valid, as one of a supported word is",
     "IsForm form": "the form is valid, as each of `forms` is",
     "IsLanguage language": "the words of the language are supported, as those of each of `languages` are",
@@ -133,9 +133,9 @@ CONDITIONS = {
     "exponent_radix word ≡ 10": "the exponent's radix is 10",
     "before ≤ most": "`before` is at most `most`",
     "T.ROOM ≤ length out.old": "`out` has room for any number of the type, as `[0; MOST_ROOM]` has",
-    "IsTrue (is_supported kind.word)": "",
-    "IsDecimal kind.word": "",
-    "kind.places ≤ 38": "there are at most 38 places",
+    "IsTrue (is_supported kind.word)": "the kind's word is supported",
+    "IsDecimal kind.word": "its radixes are 10",
+    "kind.places ≤ 38": "places ≤ 38",
     "IsTrue (are_apart (K.has_byte kind) gap)": "no byte of the gap may be in a number",
     "IsTrue (are_apart (is_pointed_byte word 46) gap)": "no byte of the gap may be in a number",
     "IsTrue (are_apart (is_pointed_byte word point) gap)": "no byte of the gap may be in a number",
@@ -173,12 +173,9 @@ grammar, such as JSON's.
 - **An answer** of `parse_` is the number that the whole text is; of `read_` the number and the \
 position after it. An error holds the position of the fault. No call panics, and those that read \
 allocate nothing.
-- **You prove** that a word is supported and that a start is within the text, from 0 to \
-`text.len()`: nothing tests it when the program runs. For a constant word one attribute does it ([set up](../../CALLING.md#set-up)), and \
-a position that a call answered is within the text. Floats and amounts need a word whose radixes are \
-10. Where a call asks for more, `// you prove` says so. `byte_at`, `has_byte`, `expect_byte`, \
-`name_end`, `read_exactly` and `read_at_most` take any position; their neighbours `has_bytes`, \
-`expect_bytes` and `past_bytes` want one within the text.
+- **You prove** what stands behind `// you prove`: nothing tests it when the program runs. For a \
+constant word one attribute does it ([set up](../../CALLING.md#set-up)), and a position that a call \
+answered is within the text.
 
 [CALLING.md](../../CALLING.md) has a table by which you choose a call, and whole functions.
 
@@ -188,7 +185,8 @@ How to read an entry:
 [definitions]({WORDS}.md) and [signs]({CLAUSES}.md).
 - **Behind `//`** on the line of a call is its answer; a long one is on the next line, after \
 `// answers`. `rt ci` runs each example as a test. `?` in one takes the value out of the `Ok` or the `Some`.
-- **"Derives"** has the traits of a type: each error also has `Display` and `Error`, except `BothError`.
+- **"Derives"** has the traits of a type: each error also has `Display` and `Error`, except `BothError`. \
+Behind a variant of an error is how it is printed.
 - **The order of arguments:** `text` is the first, or the second where a kind is the first; \
 `prefix_word` has the language before it. Then comes `start`; only a call for one number by a word has the word before it. `out` is the last.
 
@@ -217,21 +215,21 @@ have are at the end of its page.
 TOLD = ("Requires ", "A position counts", "Takes no memory", "Not in lexical-util", "lexical-util's")
 # The half line of a name whose first clause says too little.
 HALVES = {
-    "read_wide_from": "The same up to 128 bits",
+    "read_wide_from": "The integer of up to 128 bits that begins at `start`, if it is at most `most`",
     "read_integer": "`read_number::<u64>` by another name",
     "is_form": "Whether numbers can be read by this form",
     "read_scaled_from": "The decimal number that begins at `start`, and where it ends",
-    "read_grouped_from": "The same with its whole digits in groups of three",
-    "read_exact_from": "The same with exactly `places` places",
-    "read_price_from": "The same with both, as prices have them",
-    "read_scaled_up_to": "The same without a sign, and up to a greatest value",
+    "read_grouped_from": "An amount whose whole digits are in groups of three: `1,234.5`",
+    "read_exact_from": "An amount with exactly `places` places: `12.50`",
+    "read_price_from": "An amount with groups of three and exactly `places` places: `1,234.50`",
+    "read_scaled_up_to": "An amount without a sign that is at most `most`",
     "read_decimal_from": "The digits and the power of a decimal number, before it is rounded",
-    "read_decimal_of": "The same of a number of a form",
+    "read_decimal_of": "The digits and the power of a number of a form, before it is rounded",
     "read_literal_as": "The integer literal that begins at `start`, as a number of a type",
-    "read_literal": "The same up to a greatest value, with its word and its digits' place",
+    "read_literal": "The literal that begins at `start`, if it is at most `most`, and its digits' place",
     "forms": "Forms by name",
-    "write_scaled": "Writes an amount, such as cents, with a point before its last digits",
-    "write_price": "The same with a byte between groups of three digits",
+    "write_scaled": "Writes an amount, such as cents, with a point before its last digits: `12.50`",
+    "write_price": "Writes an amount with a byte between groups of three digits: `1,234.50`",
     "read_list_piece": "`read_piece` of integers",
     "read_float_list_piece": "`read_piece` of floats",
     "read_list_piece_of": "`read_piece` of numbers of a form",
@@ -242,6 +240,14 @@ ROOM = 84
 MORE_HEAD = """\
 Readers of `u64` and of pieces by their own names, the parts of hexadecimal floats, and laws, which do \
 nothing when the program runs: each tells the prover that no byte between two numbers may be in one."""
+
+
+def printed(lines, name, display):
+    """The lines of an enum, with what its variants are printed as."""
+    texts = dict(re.findall(rf'{name}::(\w+)(?:\([^)]*\))? => (?:\{{\s*)?write!\(f, "(.*?)"', display))
+    found = (re.match(r"    (\w+)(?:\(.*\))?,$", line) for line in lines)
+    return [f"{line} // \"{texts[m[1]]}\"" if m and m[1] in texts else line
+            for m, line in zip(found, lines)]
 
 
 def names():
@@ -293,7 +299,8 @@ class Door:
                 if condition not in CONDITIONS:
                     self.lost.append(f"CONDITIONS of .ci/door.py has no `{condition}` of {item.name}")
                 said.append(CONDITIONS.get(condition, ""))
-        return [f"// you prove: {it}" for it in dict.fromkeys(filter(None, said))]
+        lines = textwrap.wrap(", ".join(dict.fromkeys(filter(None, said))), 84)
+        return [f"// {'   ' if n else 'you prove:'} {it}" for n, it in enumerate(lines)]
 
     @staticmethod
     def methods(item):
@@ -325,6 +332,10 @@ class Door:
         for impl in library.impls.get(id(item), []):
             calls = [] if impl.trait else self.methods(impl)
             head += ["", impl.head + " {", *calls, "}"] if calls else []
+            if impl.trait == "From":
+                head += ["", impl.head]
+            elif impl.trait == "Display":
+                head = printed(head, item.name, impl.text)
         return head
 
     def example(self, name):
@@ -396,7 +407,8 @@ class Door:
     def types(self, item):
         """Links to the types of a signature."""
         named = dict.fromkeys(f"`{it}`" for it in re.findall(r"(?<!::)\b[A-Z]\w+", item.head))
-        links = [f"[{it}](#{self.slugs[it]})" for it in named if it in self.slugs]
+        links = [f"[{it}](#{self.slugs[it]})" if it in self.slugs else f"[{it}]({self.page_of(it[1:-1])})"
+                 for it in named if it in self.slugs or it[1:-1] in self.items]
         return f" Types: {', '.join(links)}." if links else ""
 
     @staticmethod
@@ -408,9 +420,19 @@ class Door:
         return said + (f", and those after a prefix, as `{apart[0]}` and `{apart[1]}`." if apart else ".")
 
     def to_here(self, text):
-        """A text whose links to items of this page lead to their entries."""
-        return re.sub(r"\]\((\w+\.md#[^)]*)\)", lambda m: f"](#{self.here[m[1]]})"
+        """A text whose links to items of this page lead to their entries, and whose words of contracts
+        and pages are links."""
+        text = re.sub(r"\]\((\w+\.md#[^)]*)\)", lambda m: f"](#{self.here[m[1]]})"
                       if m[1] in self.here else m[0], text)
+        text = re.sub(r"(?<!\[)`(\w+)`(?!\])", lambda m: self.word(m[1]) or m[0], text)
+        return re.sub(r"\bdocs/(\w+\.md)", r"[\1](../\1)", text)
+
+    def word(self, name):
+        """A link to the definition of a word of contracts, unless it is an item too."""
+        module, there = self.words.get(name, ("", ""))
+        crate = module.split(".")[1] if module and name not in self.items else ""
+        definition = crate in self.libraries and self.libraries[crate].words.get((module, there))
+        return f"[`{name}`]({crate}.md#{anchor_of(definition)})" if definition else ""
 
     def first(self):
         """The calls of the first block, as an example has them."""

@@ -126,6 +126,12 @@ def above(sides, column):
     return mine, mine - same
 
 
+def more_by(column):
+    """How many instructions a call from C takes more, over all that is counted."""
+    more = [it[1] for sides in Figures("counts.txt").rows.values() if (it := above(sides, column))]
+    return f"{min(more):.0f} to {max(more):.0f}"
+
+
 def door():
     """What docs/SPEED.md has between its comments on calls from C."""
     rows = Figures("counts.txt").rows
@@ -133,10 +139,7 @@ def door():
     for name in DOOR_ROWS:
         found = [above(rows[name], column) for column in DOOR]
         body.append([name, *(f"{it[0]:.0f} (+{it[1]:.0f})" if it else "–" for it in found)])
-    spans = {}
-    for column in DOOR:
-        more = [it[1] for sides in rows.values() if (it := above(sides, column))]
-        spans[column] = f"{min(more):.0f} to {max(more):.0f}"
+    spans = {column: more_by(column) for column in DOOR}
     text = table("Instructions for a number; in brackets how many more than of the same call in "
                  "Rattle, which the compiler puts into the caller's loop:",
                  ["What is read", *DOOR], body)

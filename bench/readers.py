@@ -1,6 +1,6 @@
 """What README.md and the head of docs/SPEED.md say of the times beside other readers."""
 from cases import table
-from peers import LIBRARY, READ, Figures, slower_run
+from peers import LIBRARY, READ, Figures, more_by, slower_run
 from written import lost, span as span_of_writing
 
 # The rows that README.md shows, by what it calls them.
@@ -75,19 +75,20 @@ def beside():
 def readme(most_of_groups):
     """What README.md has between its comments."""
     machine = Figures("times.txt").head.split("; ")[1]
-    lines = table("**A number that is a whole text:** nanoseconds for one, here and by the fastest other "
-                  f"reader that does the same work. This library is the fastest in {fastest()} rows of "
-                  "the picture; the last rows here are those where it isn't:",
+    lines = table("**A number that is a whole text,** read from Rattle by a constant word: nanoseconds for "
+                  "one, here and by the fastest other reader that does the same work. This library is the "
+                  f"fastest in {fastest()} rows of the picture; the last rows here are those where it "
+                  "isn't:",
                   ["What is read", "Here", "The next one", "Ratio"], beside())
     return "\n".join(lines) + f"""
 Timed on: {machine}. [SPEED.md](docs/SPEED.md#beside-other-readers) has every row, and how it was measured.
 
-**You gain** also where you write a float: {span_of_writing("f")} times the instructions of the best \
-other writer.
-
-**It is even** where you also need the end of a number, as a lexer does: a `u64` takes \
+- **As fast as others:** where you also need the end of a number, as a lexer does. A `u64` takes \
 {span('u64', READ)} times as long as by the fastest other reader, an `f64` {span('f64', READ)} times.
-
-**You lose** with floats in groups, which take up to {most_of_groups} times the instructions of std on \
-the same text without separators, with iterators ([where you lose](docs/SPEED.md#where-you-lose)), and \
-when you write {lost()} ([every row](docs/SPEED.md#writing))."""
+- **Slower from C:** a call takes {more_by('constant word')} instructions more than in Rattle \
+([every row](docs/SPEED.md#from-c)).
+- **Slower:** floats in groups, which take up to {most_of_groups} times the instructions of std on the \
+same text without separators; [iterators](docs/SPEED.md#where-you-lose).
+- **Writing floats:** {span_of_writing("f")} times the instructions of the best other writer \
+([every row](docs/SPEED.md#writing)).
+- **Slower to write:** {lost()}."""

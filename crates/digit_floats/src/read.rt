@@ -88,6 +88,7 @@ fn read_float_rest<F: Float>(
 /// they are refused as `Empty`: a word says nothing about them.
 ///
 /// ```text
+/// D is a digit: [+-]? (D+ (. D*)? | . D+) ([eE] [+-]? D+)?
 /// by `STANDARD`: `x=1.5e3,` from 2: Ok((1500.0, 7)); `1.5.2` from 0: Ok((1.5, 3))
 /// ```
 #[inline(always)]

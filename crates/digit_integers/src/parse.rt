@@ -11,7 +11,7 @@ use std::fmt;
 #[derive(Clone, Copy, Debug, PartialEq, Eq)]
 pub enum ParseError {
     /// The text ends at this position, where a digit has to be: the empty text, or a sign alone.
-    /// After `?` on a [`LiteralError`] a byte that is no digit may be there.
+    /// If `?` made it of a [`LiteralError`], another byte may be there.
     Empty(usize),
     /// The byte at this position is no part of the number: no digit, and no separator that the word
     /// drops there.

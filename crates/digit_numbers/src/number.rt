@@ -184,14 +184,14 @@ fn read_rest<F: Float>(
     }
 }
 
-/// The number of a form that begins at `start`, and the position after it. After any sign it is
-/// the form's special value there, if there is one, or a hexadecimal float. Otherwise it is the
-/// longest prefix of the rest of the text that is an integer or a decimal float. A form may forbid
-/// more digits after a first `0`. Where they follow, the number is that `0` alone: of `01` JSON
-/// reads `0`, and ends at 1. Python does so with `001`, although `00` is a number there. A point or
-/// an exponent that is no part of a number ends it: `1.` and `1e` of JSON are `1`. A number never
-/// begins with a separator: of `0_7` of Python none begins at 1. Requires that `start` is within
+/// The longest number of the form at `start`, and the position after it. What follows is left: of
+/// `01`, `1.` and `1e` JSON reads the first digit, and ends at 1. Requires that `start` is within
 /// the text, and that the form is one ([`is_form`](crate::is_form)).
+///
+/// After any sign it is the form's special value there, if there is one, or a hexadecimal float,
+/// or else the longest integer or decimal float. A form may forbid more digits after a first `0`;
+/// then the number is that `0` alone. Python does so with `001`, although `00` is a number there.
+/// A number never begins with a separator: of `0_7` of Python none begins at 1.
 ///
 /// ```text
 /// of JSON, `-1.5e3,`: Float(-1500.0), 6      `01`: Integer 0, 1      `.5`: Err(Empty(0))

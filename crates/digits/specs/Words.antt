@@ -100,6 +100,7 @@ pub use Rattle.decimal_writers.specs.Scientific.{mark_text, rounded, scientific_
 pub use Rattle.decimal_writers.specs.Value.{IsOfFloats}
 pub use Rattle.digit_writers.specs.declared.layout.Layout.{Layout}
 pub use Rattle.digit_writers.specs.Layouts.{IsReadBy, laid_out}
+pub use Rattle.digit_writers.specs.Amounts.{ReadsAmounts, ReadsPrices}
 pub use Rattle.digit_writers.specs.Lists.{IsSeparatorOf, IsListReadBy, list_text}
 unfoldable pub use Rattle.digit_writers.specs.Lists.{others_text}
 pub use Rattle.digit_writers.specs.Written.{IsOfRadix, IsShortest, Reads}
