@@ -187,8 +187,8 @@ How to read an entry:
 `// answers`. `rt ci` runs each example as a test. `?` in one takes the value out of the `Ok` or the `Some`.
 - **"Derives"** has the traits of a type: each error also has `Display` and `Error`, except `BothError`. \
 Behind a variant of an error is how it is printed.
-- **The order of arguments:** `text` is the first, or the second where a kind is the first; \
-`prefix_word` has the language before it. Then comes `start`; only a call for one number by a word has the word before it. `out` is the last.
+- **The order of arguments:** one number by a word is `(text, word, start, ..)`, everything else that is \
+read `(text, start, ..)`. A kind, and in `prefix_word` the language, goes before `text`. `out` is last.
 
 ## {INDEX}
 

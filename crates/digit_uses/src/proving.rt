@@ -113,16 +113,27 @@ ghost use Rattle.digits.specs.Words.{has_byte};
 
 use digits::{expect_byte, read_number, read_number_from};
 
+/// Why a text begins with no size.
+#[derive(Clone, Copy, Debug, PartialEq, Eq)]
+pub enum SizeError {
+    /// The width or the height is no number.
+    Side(LiteralError),
+    /// There is no `x` at this position.
+    NoX(usize),
+}
+
 /// The size that a text begins with, and where it ends: `1_920x1_080 px` gives `(1920, 1080, 11)`.
-pub fn read_size(text: &[u8]) -> Result<(u32, u32, usize), LiteralError>
+pub fn read_size(text: &[u8]) -> Result<(u32, u32, usize), SizeError>
     ensures { let r = rule_of PYTHON_LITERAL Integer in IfOk result (λ size. (end : ℕ)
         × (integer_at r text.now 0 (2 ^ 32 - 1) ≡ Ok (size.0, end))
         × (has_byte text.now end 120 ≡ true)
         × (integer_at r text.now (end + 1) (2 ^ 32 - 1) ≡ Ok (size.1, size.2))) }
 {
-    let (width, end) = read_number::<u32>(text, PYTHON_LITERAL)?;
-    let start = expect_byte(text, end, b'x').map_err(LiteralError::Empty)?;
-    let (height, end) = read_number_from::<u32>(text, PYTHON_LITERAL, start)?;
+    let number = read_number::<u32>(text, PYTHON_LITERAL);
+    let (width, end) = number.map_err(SizeError::Side)?;
+    let start = expect_byte(text, end, b'x').map_err(SizeError::NoX)?;
+    let number = read_number_from::<u32>(text, PYTHON_LITERAL, start);
+    let (height, end) = number.map_err(SizeError::Side)?;
     Ok((width, height, end))
 }
 

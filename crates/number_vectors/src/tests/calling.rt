@@ -7,7 +7,7 @@ use digit_lists::ListError;
 use digit_literals::{LINES, ListEnd, LiteralError, ParseError, read_list};
 use digit_numbers::{Number, NumberError, forms, read_number_of};
 use digit_uses::calling::{
-    cents_of_field, parse_height, parse_row, read_css, read_mask, read_ports, read_size,
+    SizeError, cents_of_field, parse_height, parse_row, read_css, read_mask, read_ports, read_size,
     read_token, write_grouped,
 };
 use lexical_format::STANDARD;
@@ -32,8 +32,8 @@ fn a_height_is_a_whole_text(rt: HostRuntime) {
 #[test]
 fn a_size_is_two_numbers(rt: HostRuntime) {
     assert!(rt; read_size(b"1_920x1_080 px") == Ok((1920, 1080, 11)));
-    assert!(rt; read_size(b"1_920,1_080") == Err(LiteralError::Empty(5)));
-    assert!(rt; read_size(b"1x") == Err(LiteralError::Empty(2)));
+    assert!(rt; read_size(b"1_920,1_080") == Err(SizeError::NoX(5)));
+    assert!(rt; read_size(b"1x") == Err(SizeError::Side(LiteralError::Empty(2))));
     assert!(rt; read_mask(b"0xff_u8") == Ok((255, 5)));
 }
 
