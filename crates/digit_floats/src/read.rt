@@ -81,14 +81,13 @@ fn read_float_rest<F: Float>(
     }
 }
 
-/// The float that begins at a position of a text, and the position after it: an optional sign,
-/// digits with an optional point before, among or after them, and an optional exponent after `e` or
-/// `E`; what is too large is infinite, and what is too small is 0. Requires that the word is
-/// supported, and that its mantissa and exponent are decimal. `inf` and `nan` are no digits, so
-/// they are refused as `Empty`: a word says nothing about them.
+/// The float that begins at a position of a text, and the position after it:
+/// `[+-]? (D+ (. D*)? | . D+) ([eE] [+-]? D+)?`, where `D` is a digit. What is too large is
+/// infinite, and what is too small is 0. Requires that the word is supported, and that its mantissa
+/// and exponent are decimal. `inf` and `nan` are no digits, so they are refused as `Empty`: a word
+/// says nothing about them.
 ///
 /// ```text
-/// D is a digit: [+-]? (D+ (. D*)? | . D+) ([eE] [+-]? D+)?
 /// by `STANDARD`: `x=1.5e3,` from 2: Ok((1500.0, 7)); `1.5.2` from 0: Ok((1.5, 3))
 /// ```
 #[inline(always)]
@@ -183,9 +182,9 @@ pub fn parse_float_from<F: Float>(text: &[u8], word: u128, start: usize) -> Resu
     Ok(x)
 }
 
-/// The float nearest to the number that a whole text is: an optional sign, digits with an optional
-/// point before, among or after them, and an optional exponent after `e` or `E`; what is too large
-/// is infinite, what is too small is 0, and `inf` and `nan` are refused. Requires that the word is
+/// The float nearest to the number that a whole text is:
+/// `[+-]? (D+ (. D*)? | . D+) ([eE] [+-]? D+)?`, where `D` is a digit. What is too large is
+/// infinite, what is too small is 0, and `inf` and `nan` are refused. Requires that the word is
 /// supported, and that its mantissa and exponent are decimal.
 ///
 /// ```text
