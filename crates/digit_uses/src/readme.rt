@@ -15,7 +15,7 @@ pub fn first_reads() {
     let large = parse_number::<u16>(b"70000", STANDARD); // Err(Overflow(4)): with the digit at 4
     let stray = parse_number::<i32>(b"12x", STANDARD); // Err(Invalid(2)): the `x`
     let rate = parse_float::<f64>(b"1.5e3", STANDARD); // Ok(1500.0)
-    let cents = parse_scaled::<i64>(b"12.5", STANDARD, b'.', 2); // Ok(1250): in units of the 2nd place
+    let cents = parse_scaled::<i64>(b"12.5", STANDARD, b'.', 2); // Ok(1250): hundredths
     let port = read_number::<u16>(b"8080/tcp", STANDARD); // Ok((8080, 4)): the number, and its end
     let mask = read_literal_as::<u8>(b"0xff_u8", 0, RUST); // Ok((255, 5))
     let json = parse_number_of::<f64>(b"-1.5e3", forms::JSON); // Ok(Number::Float(-1500.0))
