@@ -60,9 +60,10 @@ def read_by(it):
     """How many languages have literals, and how many languages and data formats a form."""
     constants = re.findall(r"pub const (\w+): Language", read("crates/digit_languages/src/languages.rt"))
     others = {"TOML", "JSON_NUMBER", "DIGITS", "HEX_DIGITS"}
-    there = [len({*constants} - others), *map(len, list(forms().values())[:2])]
-    for line, m in it.find("README.md", r"literals of (\d+) languages, and numbers by (\d+) grammars "
-                           r"of source code and (\d+) of data"):
+    each = [len(it) for it in list(forms().values())[:3]]
+    there = [len({*constants} - others), sum(each), *each]
+    for line, m in it.find("README.md", r"literals of (\d+) languages, and numbers by (\d+) grammars: "
+                           r"(\d+) of source code, (\d+) of data formats such as JSON, and (\d+) of "):
         it.compare("README.md", line, "the number of languages and formats", list(map(int, m.groups())),
                    there)
 

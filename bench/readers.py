@@ -75,10 +75,9 @@ def beside():
 def readme(most_of_groups):
     """What README.md has between its comments."""
     machine = Figures("times.txt").head.split("; ")[1]
-    lines = table("**A number that is a whole text,** read from Rattle by a constant word: nanoseconds for "
-                  "one, here and by the fastest other reader that does the same work. This library is the "
-                  f"fastest in {fastest()} rows of the picture; the last rows here are those where it "
-                  "isn't:",
+    lines = table("Nanoseconds to parse one number that is the whole text, from Rattle and by a constant "
+                  "word, beside the fastest other library that does the same work. This library is the "
+                  f"fastest in {fastest()} cases of the picture below; the last rows are the others:",
                   ["What is read", "Here", "The next one", "Ratio"], beside())
     return "\n".join(lines) + f"""
 Timed on: {machine}. [SPEED.md](docs/SPEED.md#beside-other-readers) has every row, and how it was measured.
@@ -91,4 +90,4 @@ Timed on: {machine}. [SPEED.md](docs/SPEED.md#beside-other-readers) has every ro
 same text without separators; [iterators](docs/SPEED.md#where-you-lose).
 - **Writing floats:** {span_of_writing("f")} times the instructions of the best other writer \
 ([every row](docs/SPEED.md#writing)).
-- **Slower to write:** {lost()}."""
+- **Slower to write,** by instructions: {lost()}."""

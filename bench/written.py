@@ -103,7 +103,7 @@ def span(start, peer=None):
 def lost():
     """What README.md says is dearer to write than by others."""
     return f"""\
-`%.6e`, up to {span("%.6e").split()[-1]} times; large numbers by `%.2f`, up to \
+`%.6e` (`write_scientific`), up to {span("%.6e").split()[-1]} times those of C++'s `to_chars`; large numbers by `%.2f`, up to \
 {span("%.2f").split()[-1]}; integers of up to four digits, {span("u64, 1 to 4")}"""
 
 

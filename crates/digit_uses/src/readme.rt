@@ -1,22 +1,19 @@
 //! The first block of the page README.md. `.ci/pages` compares the two.
 
-use digits::languages::RUST; // `0b`, `0o`, `0x`, and `_` among the digits
+// The first line of your lib.rt: the prover then accepts the library's constants.
+#![tactic(auto, unfolding(digits::proofs::Literals::lexical_on_literals))]
+
 use digits::words::PYTHON_LITERAL; // one `_` between two digits
 use digits::{
-    STANDARD, forms, parse_float, parse_number, parse_number_of, parse_scaled, read_literal_as,
-    read_number,
+    STANDARD, forms, parse_float, parse_number, parse_number_of, parse_scaled, read_number,
 };
 
-// Lets the prover compute that the constants are valid. A crate of yours has it once, at its head.
-#[tactic(auto, unfolding(digits::proofs::Literals::lexical_on_literals))]
 pub fn first_reads() {
-    let height = parse_number::<i32>(b"-1000", STANDARD); // Ok(-1000)
     let debt = parse_number::<i32>(b"-1_000", PYTHON_LITERAL); // Ok(-1000)
     let large = parse_number::<u16>(b"70000", STANDARD); // Err(Overflow(4)): with the digit at 4
     let stray = parse_number::<i32>(b"12x", STANDARD); // Err(Invalid(2)): the `x`
     let rate = parse_float::<f64>(b"1.5e3", STANDARD); // Ok(1500.0)
     let cents = parse_scaled::<i64>(b"12.5", STANDARD, b'.', 2); // Ok(1250): hundredths
     let port = read_number::<u16>(b"8080/tcp", STANDARD); // Ok((8080, 4)): the number, and its end
-    let mask = read_literal_as::<u8>(b"0xff_u8", 0, RUST); // Ok((255, 5))
     let json = parse_number_of::<f64>(b"-1.5e3", forms::JSON); // Ok(Number::Float(-1500.0))
 }
