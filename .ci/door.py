@@ -173,9 +173,11 @@ grammar, such as JSON's.
 - **An answer** of `parse_` is the number that the whole text is; of `read_` the number and the \
 position after it. An error holds the position of the fault. No call panics, and those that read \
 allocate nothing.
-- **You prove** what stands behind `// you prove`: nothing tests it when the program runs. For a \
-constant word one attribute does it ([set up](../../CALLING.md#set-up)), and a position that a call \
-answered is within the text.
+- **You prove** what stands behind `// you prove`: nothing tests it when the program runs, and \
+`rt check` refuses your function if the prover can't see it. For a constant word one attribute does \
+it ([set up](../../CALLING.md#set-up)), and a position that a call answered is within the text. What \
+only run time knows you test before the call: `if !is_supported(word) {{ return .. }}`, \
+`if start > text.len() {{ return .. }}`.
 
 [CALLING.md](../../CALLING.md) has a table by which you choose a call, and whole functions.
 
@@ -386,7 +388,7 @@ class Door:
         library, item = self.libraries[crate], self.item(crate, name)
         first, *parts = self.text(name, item).split("\n\n")
         if not item:
-            first += TABLES.get(name) or self.constants(library.crate.modules[(path,)].source)
+            first += self.constants(library.crate.modules[(path,)].source) + TABLES.get(name, "")
         elif item.kind == "fn":
             first += self.types(item)
         else:

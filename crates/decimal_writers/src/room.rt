@@ -6,8 +6,9 @@ ghost use Rattle.decimal_writers.specs.Room.{message};
 use std::error::Error;
 use std::fmt;
 
-/// The most bytes that [`write_exponent`](crate::write_exponent) and
-/// [`write_usual`](crate::write_usual) write of the shortest decimal of a float.
+/// A slice of so many bytes has room for the shortest decimal of any float by
+/// [`write_usual`](crate::write_usual) and [`write_exponent`](crate::write_exponent), and so by
+/// `write_float` in `Usual` and `Exponent`.
 pub const FLOAT_ROOM: usize = 24;
 
 /// The slice is shorter than the text, and nothing was written.

@@ -91,9 +91,10 @@ fn read_head<T: Integer>(text: &[u8], rule: Rule, start: usize) -> Head
 /// type has a sign, and then an integer. Requires that `start` is within the text and the word is
 /// supported.
 ///
-/// [`Empty`](LiteralError::Empty) holds the first kept byte after the sign, which is no digit, or
-/// the end of the text; [`Overflow`](LiteralError::Overflow) the first digit with which the type
-/// has no such number.
+/// [`Empty`](LiteralError::Empty) holds the position after any sign where a digit has to be.
+/// Another byte is there, also a separator that the word doesn't drop, or the text ends.
+/// [`Overflow`](LiteralError::Overflow) holds that of the first digit with which the type has no
+/// such number.
 ///
 /// ```text
 /// `8080:65536`, `read_number_from::<u16>` from 5: Err(Overflow(9))

@@ -346,11 +346,13 @@ pub fn read_list_with<R: ReadsOne>(
 /// The front of the slice has the numbers that were read, its rest isn't touched. Takes no memory.
 /// Requires that `start` is within the text and the word is supported.
 ///
-/// Blanks before the first number are passed. A list that fills the slice and has no separator
-/// after its last number is [`Over`](ListEnd::Over), not [`Full`](ListEnd::Full). From the position
-/// of `Full` the next call goes on: the two read what one would
-/// ([`a_list_goes_on`](crate::laws::lists::a_list_goes_on)). No number at all is a
-/// [`Fault`](ListEnd::Fault) at `start`, past any blanks, unless the gap is one that `may_trail`.
+/// [`Full(at)`](ListEnd::Full) says that the slice is full: the next call goes on from `at`, and
+/// the two read what one would ([`a_list_goes_on`](crate::laws::lists::a_list_goes_on)).
+/// [`Over(at)`](ListEnd::Over) says that the list ended well: `at` is the first byte after it. A
+/// list that just fills the slice, and has no separator after its last number, ends so too.
+/// [`Fault(error)`](ListEnd::Fault) says that a number had to be there, as after a comma; a list
+/// without numbers is a fault, too, unless the gap is one that `may_trail`. Blanks before the first
+/// number are passed.
 ///
 /// ```text
 /// `1, 2 ,3]` with COMMAS, into 3 places: count 3, Over(7)

@@ -1,6 +1,13 @@
 //! The blocks of the page CALLING.md, in its order. `.ci/pages` compares the two.
 #![tactic(auto, unfolding(digits::proofs::Literals::lexical_on_literals))]
 
+use digits::{ParseError, parse_number};
+
+/// The height that a text is: `-1_000` gives -1000, and `1_000m` gives `Invalid(5)`.
+pub fn parse_height(text: &[u8]) -> Result<i32, ParseError> {
+    parse_number::<i32>(text, PYTHON_LITERAL)
+}
+
 use digits::words::PYTHON_LITERAL;
 use digits::{LiteralError, expect_byte, read_number, read_number_from};
 
@@ -23,13 +30,6 @@ pub fn read_size(text: &[u8]) -> Result<(u32, u32, usize), SizeError> {
     Ok((width, height, end))
 }
 
-use digits::{ParseError, parse_number};
-
-/// The height that a text is: `-1_000` gives -1000, and `1_000m` gives `Invalid(5)`.
-pub fn parse_height(text: &[u8]) -> Result<i32, ParseError> {
-    parse_number::<i32>(text, PYTHON_LITERAL)
-}
-
 use digits::languages::RUST;
 use digits::{LanguageError, read_literal_as};
 
@@ -39,9 +39,16 @@ pub fn read_mask(text: &[u8]) -> Result<(u16, usize), LanguageError> {
     read_literal_as::<u16>(text, 0, RUST)
 }
 
+use digits::{NumberError, forms, parse_number_of};
+
+/// The number of JSON that a text is, as a float: `-1.5e3` is -1500.0, and `01` is `Invalid(1)`.
+pub fn parse_amount(text: &[u8]) -> Result<f64, NumberError> {
+    Ok(parse_number_of::<f64>(text, forms::JSON)?.to_float())
+}
+
 ghost use Rattle.std.specs.Prelude.{◌<◌, ◌≤◌, length, IfOk};
 
-use digits::{Number, NumberError, byte_at, forms, read_number_of};
+use digits::{Number, byte_at, read_number_of};
 
 /// The token of a number of JSON at `start`, and where it ends: of `-1.5e3,` it is -1500.0, and
 /// ends at 6. Of `01` the fault is at 1.

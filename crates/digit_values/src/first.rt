@@ -86,9 +86,9 @@ pub fn read_first_digits(
 }
 
 /// Reads the first digits of a component that begins at `start` by [`read_first_digits`], and
-/// answers where its digits end. Positions count from the start of the text: the byte before
-/// `start` is the left side of a separator there. Requires that `start` is within the text, the
-/// word is supported, and `before` is at most `most`.
+/// answers where its digits end. Positions count from the start of the text. If a separator is at
+/// `start`, the byte before it is its left side. Requires that `start` is within the text, the word
+/// is supported, and `before` is at most `most`.
 ///
 /// ```text
 /// `1.98_76e` with internal `_`, the fraction from 2, up to 99: 98 of 4 digits, of which 2 are

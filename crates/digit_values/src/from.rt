@@ -39,8 +39,8 @@ pub fn count_digits(text: &[u8], word: u128) -> Result<usize, usize>
 }
 
 /// Where the digits of a component end that begin at `start`: at the first byte that is neither a
-/// digit nor a separator that the word drops there, or at the end of the text. The byte before
-/// `start` is the left side of a separator there. Requires that `start` is within the text and the
+/// digit nor a separator that the word drops there, or at the end of the text. If a separator is at
+/// `start`, the byte before it is its left side. Requires that `start` is within the text and the
 /// word is supported.
 ///
 /// ```text
