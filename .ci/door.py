@@ -5,6 +5,7 @@ import itertools
 import re
 import textwrap
 
+import forms
 import shown
 import sources
 from clauses import PAGE as CLAUSES, SAID
@@ -177,7 +178,9 @@ allocate nothing.
 `rt check` refuses your function if the prover can't see it. For a constant word one attribute does \
 it ([set up](../../CALLING.md#set-up)), and a position that a call answered is within the text. What \
 only run time knows you test before the call: `if !is_supported(word) {{ return .. }}`, \
-`if start > text.len() {{ return .. }}`.
+`if start > text.len() {{ return .. }}`. A word has a radix for its digits, and one for its exponent: \
+"its radixes are 10" is a test of [`NumberFormat::new(word)`](#numberformat). [All \
+conditions](../PROMISES.md#conditions), and how each is met.
 
 [CALLING.md](../../CALLING.md) has a table by which you choose a call, and whole functions.
 
@@ -185,6 +188,7 @@ How to read an entry:
 
 - **Its heading leads to its contract**, which says what a call answers of every text, by \
 [definitions]({WORDS}.md) and [signs]({CLAUSES}.md).
+- **An example** shows its imports from `{DOOR}::words` and `{DOOR}::languages` only; all else is in `{DOOR}`.
 - **Behind `//`** on the line of a call is its answer; a long one is on the next line, after \
 `// answers`. `rt ci` runs each example as a test. `?` in one takes the value out of the `Ok` or the `Some`.
 - **"Derives"** has the traits of a type: each error also has `Display` and `Error`, except `BothError`. \
@@ -217,6 +221,9 @@ have are at the end of its page.
 TOLD = ("Requires ", "A position counts", "Takes no memory", "Not in lexical-util", "lexical-util's")
 # The half line of a name whose first clause says too little.
 HALVES = {
+    "read_number_from": "The integer at `start` as an `i32`, a `u64` or another type, with its sign",
+    "parse_number_from": "The integer that a text is from `start` on to its end",
+    "read_integer_from": "The integer without a sign at `start`, as a `u64` that is at most `most`",
     "read_wide_from": "The integer of up to 128 bits that begins at `start`, if it is at most `most`",
     "read_integer": "`read_number::<u64>` by another name",
     "is_form": "Whether numbers can be read by this form",
@@ -416,6 +423,11 @@ class Door:
     @staticmethod
     def constants(source):
         """The constants of a module; of those that are named for one prefix of a language the first."""
+        if source.path == forms.FORMS:
+            code, *others = forms.forms().values()
+            data, calls = (", ".join(f"`{it}`" for it in part) for part in others[:2])
+            return (f" There are {len(code)} of source code, for data {data}, and for functions {calls}; "
+                    "`LITERAL` and `FLOAT` are to build on.")
         names_of = [it.name for it in source.items if it.kind == "const" and it.is_public()]
         apart = [it for it in names_of if re.search(r"_(HEX|OCTAL|BINARY)(_LITERAL)?$", it)]
         said = f" They are {', '.join(f'`{it}`' for it in names_of if it not in apart)}"

@@ -57,15 +57,10 @@ def counted(it):
 
 
 def read_by(it):
-    """How many languages have literals, and how many languages and data formats a form."""
-    constants = re.findall(r"pub const (\w+): Language", read("crates/digit_languages/src/languages.rt"))
-    others = {"TOML", "JSON_NUMBER", "DIGITS", "HEX_DIGITS"}
-    each = [len(it) for it in list(forms().values())[:3]]
-    there = [len({*constants} - others), sum(each), *each]
-    for line, m in it.find("README.md", r"literals of (\d+) languages, and numbers by (\d+) grammars: "
-                           r"(\d+) of source code, (\d+) of data formats such as JSON, and (\d+) of "):
-        it.compare("README.md", line, "the number of languages and formats", list(map(int, m.groups())),
-                   there)
+    """How many languages, data formats and functions have a form."""
+    there = sum(len(it) for it in list(forms().values())[:3])
+    for line, m in it.find("README.md", r"one of \[(\d+) grammars\]"):
+        it.compare("README.md", line, "the number of named forms", int(m[1]), there)
 
 
 def bound(it):

@@ -189,10 +189,9 @@ def pages():
     for name, text in (("answer", answer()), ("peers", peers()), ("door", door()),
                        ("writing", writers()), ("table", speed(cases)), ("lost", lost(cases))):
         speeds = between(speeds, name, text)
-    groups = f"{most_of(cases, 'x: I', 'Constant', 'Filter'):.2f}"
     return {"docs/SPEED.md": speeds,
             "docs/PERF.md": between(read("docs/PERF.md"), "aims", aims()),
-            "README.md": between(read("README.md"), "speed", readme(groups)),
+            "README.md": between(read("README.md"), "speed", readme()),
             "c/README.md": between(read("c/README.md"), "costs", costs()),
             "docs/speed.svg": svg(cases),
             "docs/times.svg": of_times({row: (ratio, ratios(side=READ).get(row))

@@ -72,22 +72,21 @@ def beside():
                f"{mine / other:.2f}"]
 
 
-def readme(most_of_groups):
+def readme():
     """What README.md has between its comments."""
     machine = Figures("times.txt").head.split("; ")[1]
     lines = table("Nanoseconds to parse one number that is the whole text, from Rattle and by a constant "
                   "word, beside the fastest other library that does the same work. This library is the "
-                  f"fastest in {fastest()} cases of the picture below; the last rows are the others:",
+                  f"fastest in {fastest()} cases of the picture; the table has four of them, and last "
+                  "those where it isn't:",
                   ["What is read", "Here", "The next one", "Ratio"], beside())
     return "\n".join(lines) + f"""
 Timed on: {machine}. [SPEED.md](docs/SPEED.md#beside-other-readers) has every row, and how it was measured.
 
-- **As fast as others:** where you also need the end of a number, as a lexer does. A `u64` takes \
-{span('u64', READ)} times as long as by the fastest other reader, an `f64` {span('f64', READ)} times.
-- **Slower from C:** a call takes {more_by('constant word')} instructions more than in Rattle \
-([every row](docs/SPEED.md#from-c)).
-- **Slower:** floats in groups, which take up to {most_of_groups} times the instructions of std on the \
-same text without separators; [iterators](docs/SPEED.md#where-you-lose).
-- **Writing floats:** {span_of_writing("f")} times the instructions of the best other writer \
-([every row](docs/SPEED.md#writing)).
-- **Slower to write,** by instructions: {lost()}."""
+If you also need the end of a number, as a lexer does, expect a draw: {span('u64', READ)} times the time \
+of the fastest other reader for a `u64`, {span('f64', READ)} times for an `f64`. Writing a float takes \
+{span_of_writing("f")} times the instructions of the best other writer.
+
+**Slower than others:** each call [from C](docs/SPEED.md#from-c), which takes {more_by('constant word')} \
+instructions more than in Rattle; floats in groups and iterators ([where you lose](docs/SPEED.md#where-you-lose)); \
+and {lost()} ([writing](docs/SPEED.md#writing))."""

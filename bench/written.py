@@ -103,8 +103,9 @@ def span(start, peer=None):
 def lost():
     """What README.md says is dearer to write than by others."""
     return f"""\
-`%.6e` (`write_scientific`), up to {span("%.6e").split()[-1]} times those of C++'s `to_chars`; large numbers by `%.2f`, up to \
-{span("%.2f").split()[-1]}; integers of up to four digits, {span("u64, 1 to 4")}"""
+what you write with a fixed number of places or in up to four digits: `%.6e` by up to \
+{span("%.6e").split()[-1]} times the instructions of C++'s `to_chars`, large numbers by `%.2f` \
+{span("%.2f").split()[-1]}, short integers {span("u64, 1 to 4")}"""
 
 
 def writers():

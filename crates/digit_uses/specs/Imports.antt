@@ -28,7 +28,7 @@ use Rattle.digits.specs.Words.{StreamError}
 use Rattle.digits.specs.Words.{Number, NumberError, ParseError, ScaledError, Special, Specials}
 use Rattle.digit_uses.specs.declared.points.PointError.{PointError}
 use Rattle.digit_uses.specs.declared.points.PointError.TheVariants.{NoColon}
-use Rattle.digit_uses.specs.declared.calling.TheConstants.{CSS}
+use Rattle.digit_uses.specs.declared.calling.TheConstants.{COMMA_FLOATS}
 
 abbrev pub constants : List ℕ × Gap × ByteSet × Language × Form × Specials × Marks × Special
 constants =
@@ -48,4 +48,4 @@ abbrev pub lists : ListError ℕ × EnclosedError ℕ × PriceError
 lists = (no_room 0, NoOpening 0, Group 0)
 
 abbrev pub own : PointError × Form
-own = (NoColon 0, CSS)
+own = (NoColon 0, COMMA_FLOATS)

@@ -287,20 +287,23 @@ pub fn underscores(radix: u8) -> Option<u128>
     if is_supported(word) { Some(word) } else { None }
 }
 
-use digits::Form;
+use digits::{Form, Marks};
 
-/// Numbers of CSS: `+.5e3`, and no `5.`.
-pub const CSS: Form = Form {
-    needs_fraction: true,
+/// Floats with a comma in place of the point: `1,5e3`.
+pub const COMMA_FLOATS: Form = Form {
+    marks: Marks {
+        point: b',',
+        exponent: b'e',
+    },
     ..forms::FLOAT
 };
 
-/// The number of CSS that begins at `start`, and where it ends: of `1.5em` 1.5, and 3.
-pub fn read_css(text: &[u8], start: usize) -> Result<(f64, usize), NumberError>
+/// The float that begins at `start`, and where it ends: `1,5e3;` gives 1500.0 and 5.
+pub fn read_comma_float(text: &[u8], start: usize) -> Result<(f64, usize), NumberError>
     requires { start ≤ length text.now }
     ensures end { IfOk result (λ read. (start < read.1) × (read.1 ≤ length text.now)) }
 {
-    let (number, end) = read_number_of::<f64>(text, start, CSS)?;
+    let (number, end) = read_number_of::<f64>(text, start, COMMA_FLOATS)?;
     Ok((number.to_float(), end))
 }
 

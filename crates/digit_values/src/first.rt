@@ -86,8 +86,8 @@ pub fn read_first_digits(
 }
 
 /// Reads the first digits of a component that begins at `start` by [`read_first_digits`], and
-/// answers where its digits end. Positions count from the start of the text. If a separator is at
-/// `start`, the byte before it is its left side. Requires that `start` is within the text, the word
+/// answers where its digits end. Positions count from the start of the text. A separator at
+/// `start` is judged with the byte before it. Requires that `start` is within the text, the word
 /// is supported, and `before` is at most `most`.
 ///
 /// ```text

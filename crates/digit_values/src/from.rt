@@ -39,9 +39,9 @@ pub fn count_digits(text: &[u8], word: u128) -> Result<usize, usize>
 }
 
 /// Where the digits of a component end that begin at `start`: at the first byte that is neither a
-/// digit nor a separator that the word drops there, or at the end of the text. If a separator is at
-/// `start`, the byte before it is its left side. Requires that `start` is within the text and the
-/// word is supported.
+/// digit nor a separator that the word drops there, or at the end of the text. A separator at
+/// `start` is judged with the byte before it: in `1_0` the `_` at 1 has a digit on its left.
+/// Requires that `start` is within the text and the word is supported.
 ///
 /// ```text
 /// `1.5_0e7` with internal `_` in the fraction: the fraction from 2 ends at 5

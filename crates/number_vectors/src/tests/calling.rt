@@ -1,5 +1,5 @@
 //! The functions of the page CALLING.md that read a number, a token of JSON, a row of CSV
-//! and a number of CSS, and write a number. The expected values are worked out by hand.
+//! and a float with a comma, and write a number. The expected values are worked out by hand.
 
 use digit_amounts::ScaledError;
 use digit_floats::{FloatError, read_float};
@@ -7,7 +7,7 @@ use digit_lists::ListError;
 use digit_literals::{LINES, ListEnd, LiteralError, ParseError, read_list};
 use digit_numbers::{Number, NumberError, forms, read_number_of};
 use digit_uses::calling::{
-    SizeError, cents_of_field, parse_amount, parse_height, parse_row, read_css, read_mask,
+    SizeError, cents_of_field, parse_amount, parse_height, parse_row, read_comma_float, read_mask,
     read_ports, read_size, read_token, write_grouped,
 };
 use lexical_format::STANDARD;
@@ -140,11 +140,11 @@ fn a_field_has_cents(rt: HostRuntime) {
 }
 
 #[test]
-fn a_number_of_css_needs_a_fraction_after_a_point(rt: HostRuntime) {
-    assert!(rt; read_css(b"1.5em", 0) == Ok((1.5, 3)));
-    assert!(rt; read_css(b"+.5e3", 0) == Ok((500.0, 5)));
-    assert!(rt; read_css(b"5.", 0) == Ok((5.0, 1)));
-    assert!(rt; read_css(b"em", 0) == Err(NumberError::Empty(0)));
+fn a_form_of_ones_own_has_a_comma(rt: HostRuntime) {
+    assert!(rt; read_comma_float(b"1,5e3;", 0) == Ok((1500.0, 5)));
+    assert!(rt; read_comma_float(b"-,5", 0) == Ok((-0.5, 3)));
+    assert!(rt; read_comma_float(b"1.5", 0) == Ok((1.0, 1)));
+    assert!(rt; read_comma_float(b"em", 0) == Err(NumberError::Empty(0)));
 }
 
 #[test]
