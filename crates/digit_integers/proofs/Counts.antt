@@ -1,9 +1,11 @@
 -- One turn of a loop that counts digits.
-use Rattle.std.proofs.Common.{◌≡◌, ℕ, suc, ◌+◌, ◌*◌, ◌<◌, ◌≤◌, List, [], ◌∷◌, length, drop, slice_index, refl, arith}
-use Rattle.std.specs.Prelude.{nat_le, scan, true, false, Some, None}
+use Rattle.std.proofs.Common.{◌≡◌, ℕ, ℤ, suc, ◌+◌, ◌-◌, ◌*◌, ◌^◌, ◌<◌, ◌≤◌, List, [], ◌∷◌, length, drop, slice_index, refl, sym, ◌∙◌, arith, inl, inr}
+use Rattle.std.specs.Prelude.{Bool, nat_le, nat_lt, scan, true, false, Option, Some, None, pos, unsigned_abs}
 use Rattle.std.specs.Char.{digit_value}
-use Rattle.std.specs.Str.Parse.{digits_value, digits_value_after}
+use Rattle.std.specs.Str.Parse.{AllDigits, digits_value, digits_value_after}
+use Rattle.std.proofs.lemmas.Bool.{cases_lt}
 use Rattle.std.proofs.lemmas.Bool.Decides.{nat_tests}
+use Rattle.std.proofs.lemmas.Int.Digits.{digits_value-lt}
 use Rattle.std.proofs.lemmas.List.{drop_more, drop_all}
 use Rattle.std.proofs.lemmas.List.Sums.{take_while-cons}
 use Rattle.lexical_format.specs.Digits.{digit_of_radix, is_digit_of_radix}
@@ -133,5 +135,52 @@ module _ (radix : ℕ) where
               is = rw next (rw led at on.is);
               fits = fits;
             }
+
+  -- ---- so many digits are below a power of the radix
+
+  -- at most all of some digits fit
+  fitting_within : (most value : ℕ) (digits : List ℕ)
+      → fitting radix most value digits ≤ length digits
+  fitting_within most value [] = omega arith
+  fitting_within most value (byte ∷ digits) =
+      let next : ℕ = value * radix + digit_value byte in
+      elim (cases_lt most next) [
+        | inl l ↦ omega (arith, fits_none most value byte digits l)
+        | inr l ↦
+            omega (arith, fits_one most value byte digits l, fitting_within most next digits)
+      ]
+
+  -- those that lead some bytes are digits
+  lead_all : (bytes : List ℕ) → AllDigits radix (leading_digits radix bytes)
+  lead_all [] = tt
+  lead_all (byte ∷ bytes) = by (digit_of_radix radix byte) refl (lead_all bytes)
+    where
+      by : (digit : Option ℕ) → digit_of_radix radix byte ≡ digit
+          → AllDigits radix (leading_digits radix bytes)
+          → AllDigits radix (leading_digits radix (byte ∷ bytes))
+      by None is all = rw (leads_none byte bytes is) tt
+      by (Some digit) is all =
+          let low : digit_value byte < radix =
+          grind (arith, nat_tests, value_is radix byte digit is, is) in
+          rw (leads byte digit bytes is) (low, all)
+
+  pub counted_below : (bytes : List ℕ) (most value count : ℕ) (is_too_large : Bool)
+      → is_too_large ≡ false → IsCounted radix bytes most value count is_too_large
+      → value < radix ^ count
+  counted_below bytes most value count is_too_large fits counted =
+      let all : nat_lt count (length (leading_digits radix bytes)) ≡ false =
+      sym counted.too_large ∙ fits in
+      let within = fitting_within most 0 (leading_digits radix bytes) in
+      let same : count ≡ length (leading_digits radix bytes) =
+      grind (arith, nat_tests, all, counted.counts, within) in
+      rw (counted.is fits, same)
+      (digits_value-lt radix (leading_digits radix bytes) (lead_all bytes))
+
+-- a number of so many digits
+pub number_below : (radix value count start : ℕ) (z : ℤ) → z ≡ pos value → value < radix ^ count
+    → unsigned_abs z < radix ^ (start + count - start)
+number_below radix value count start z is low =
+    let all : start + count - start ≡ count = omega arith in
+    rw (is, all) low
 
 pub ruleset turns = (counts_begin, counts_all, counts_other, counts_over, counts_next)

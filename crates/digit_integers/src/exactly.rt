@@ -1,6 +1,6 @@
 //! Digits whose number is known, such as those of a date, an escape or a colour.
 
-ghost use Rattle.std.specs.Prelude.{◌≡◌, ◌+◌, ◌<◌, ◌≤◌, length, take, drop, false, Ok, Err, IfOk, IfErr, MatchResult};
+ghost use Rattle.std.specs.Prelude.{◌≡◌, ◌+◌, ◌-◌, ◌^◌, ◌<◌, ◌≤◌, unsigned_abs, length, take, drop, false, Ok, Err, IfOk, IfErr, MatchResult};
 ghost use Rattle.digit_values.specs.Errors.{literal_position};
 ghost use Rattle.digit_integers.specs.Exactly.{counted_at, exactly_at, at_most_at, IsCounted};
 ghost use Rattle.digit_integers.specs.Numbers.{with_sign};
@@ -127,6 +127,8 @@ fn read_counted<T: Integer>(
     ensures is { let read = with_sign false (counted_at radix text.now start few many T.MAX) in
         MatchResult result (λ r. read ≡ Ok (T.number r.0, r.1)) (λ error. read ≡ Err error) }
     ensures end { IfOk result (λ r. (start + few ≤ r.1) × (r.1 ≤ start + many)) }
+    ensures below { IfOk result (λ r.
+        unsigned_abs (T.number r.0) < radix ^ (r.1 - start)) }
     ensures within { start ≤ length text.now → IfOk result (λ r. r.1 ≤ length text.now) }
     ensures fault { IfErr result (λ error. start ≤ literal_position error) }
     ensures fault_within { start ≤ length text.now →
@@ -147,9 +149,13 @@ fn read_counted<T: Integer>(
 /// sign, no separator, and what follows them isn't looked at. Digits are those of the radix, with
 /// letters of either case; it isn't asked to be supported.
 ///
+/// The number is below `radix` to the power `n`: two decimal digits are at most 99. With an `n` of 0
+/// it is 0, and ends at `start`, also where that is after the end of the text. Radix 1 has the digit
+/// `0` alone, so its numbers are 0; radix 0 has no digit.
+///
 /// [`Empty`](LiteralError::Empty) holds the first of the `n` bytes that is no digit, or the end of
 /// the text; [`Overflow`](LiteralError::Overflow) the first digit with which the type has no such
-/// number. No digit is 0, at any `start`.
+/// number.
 ///
 /// ```text
 /// `2026-11-25`: `read_exactly::<u16>` from 0, radix 10, 4 digits: Ok((2026, 4))
@@ -166,6 +172,7 @@ pub fn read_exactly<T: Integer>(
     ensures is { let read = exactly_at radix text.now start n T.MAX in
         MatchResult result (λ r. read ≡ Ok (T.number r.0, r.1)) (λ error. read ≡ Err error) }
     ensures end { IfOk result (λ r. r.1 ≡ start + n) }
+    ensures below { IfOk result (λ r. unsigned_abs (T.number r.0) < radix ^ n) }
     ensures within { start ≤ length text.now → IfOk result (λ r. r.1 ≤ length text.now) }
     ensures fault { IfErr result (λ error. start ≤ literal_position error) }
     ensures fault_within { start ≤ length text.now →

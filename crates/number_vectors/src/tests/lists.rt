@@ -5,7 +5,7 @@ use digit_lists::{read_float_list, read_list_of};
 use digit_literals::laws::lists::a_list_goes_on;
 use digit_literals::{
     COMMAS, COMMAS_IN_LINE, Gap, LINES, ListEnd, LiteralError, SPACES_IN_LINE, WHITESPACE,
-    name_end, read_at_most, read_exactly, read_list,
+    expect_byte, name_end, read_at_most, read_exactly, read_list,
 };
 use digit_numbers::{Number, forms};
 use lexical_format::STANDARD;
@@ -145,8 +145,19 @@ fn lists_of_floats_and_of_a_form(rt: HostRuntime) {
     assert!(rt; numbers[2] == Number::Float(0.5));
 }
 
+/// The minutes of a day at a time such as `07:05`. Two digits are below 100, so no sum is above the
+/// greatest `u16`: that is proved without a line.
+fn minutes_of(time: &[u8]) -> Option<u16> {
+    let (hours, at) = read_exactly::<u16>(time, 0, 10, 2).ok()?;
+    let at = expect_byte(time, at, b':').ok()?;
+    let (minutes, _) = read_exactly::<u16>(time, at, 10, 2).ok()?;
+    Some(hours * 60 + minutes)
+}
+
 #[test]
 fn digits_whose_number_is_known(rt: HostRuntime) {
+    assert_eq!(rt; minutes_of(b"07:05"), Some(425));
+    assert_eq!(rt; minutes_of(b"7:05"), None);
     let date = b"2026-11-25T7:05";
     assert!(rt; read_exactly::<u16>(date, 0, 10, 4) == Ok((2026, 4)));
     assert!(rt; read_exactly::<u8>(date, 8, 10, 2) == Ok((25, 10)));
@@ -156,6 +167,9 @@ fn digits_whose_number_is_known(rt: HostRuntime) {
     assert!(rt; read_exactly::<u32>(b"u00E9", 1, 16, 4) == Ok((233, 5)));
     assert!(rt; read_exactly::<u128>(b"18446744073709551616", 0, 10, 20) == Ok((1 << 64, 20)));
     assert!(rt; read_exactly::<i8>(b"128", 9, 10, 0) == Ok((0, 9)));
+    assert!(rt; read_exactly::<u8>(b"000", 0, 1, 3) == Ok((0, 3)));
+    assert!(rt; read_exactly::<u8>(b"01", 0, 1, 2) == Err(LiteralError::Empty(1)));
+    assert!(rt; read_exactly::<u8>(b"0", 0, 0, 1) == Err(LiteralError::Empty(0)));
     assert!(rt; read_at_most::<u8>(date, 11, 10, 2) == Ok((7, 12)));
     assert!(rt; read_at_most::<i8>(b"128", 0, 10, 2) == Ok((12, 2)));
     assert!(rt; read_at_most::<u8>(b"x", 0, 10, 2) == Err(LiteralError::Empty(0)));
