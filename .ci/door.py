@@ -122,6 +122,8 @@ CONDITIONS = {
     "IsDecimal word": "its radixes are 10",
     "start ≤ length text.now": "start ≤ text.len()",
     "at ≤ length text.now": "at ≤ text.len()",
+    "end ≤ length text.now": "end ≤ text.len()",
+    "(b : ℕ) → b < 256 → F.pre test b": "the closure may be called on every byte",
     "places ≤ 38": "places ≤ 38",
     "K.valid kind": "the kind is valid, as one of a supported word is",
     "IsForm form": "the form is valid, as each of `forms` is",
@@ -179,8 +181,9 @@ allocate nothing.
 it ([set up](../../CALLING.md#set-up)), and a position that a call answered is within the text. What \
 only run time knows you test before the call: `if !is_supported(word) {{ return .. }}`, \
 `if start > text.len() {{ return .. }}`. A word has a radix for its digits, and one for its exponent: \
-"its radixes are 10" is a test of [`NumberFormat::new(word)`](#numberformat). [All \
-conditions](../PROMISES.md#conditions), and how each is met.
+for "its radixes are 10" test that `mantissa_radix()` and `exponent_radix()` of \
+[`NumberFormat::new(word)`](#numberformat) are 10. [All conditions](../PROMISES.md#conditions), and \
+how each is met.
 
 [CALLING.md](../../CALLING.md) has a table by which you choose a call, and whole functions.
 
@@ -197,6 +200,8 @@ Behind a variant of an error is how it is printed.
 read `(text, start, ..)`. A kind, and in `prefix_word` the language, goes before `text`. `out` is last.
 
 ## {INDEX}
+
+SECTIONS
 
 """
 
@@ -221,6 +226,8 @@ have are at the end of its page.
 TOLD = ("Requires ", "A position counts", "Takes no memory", "Not in lexical-util", "lexical-util's")
 # The half line of a name whose first clause says too little.
 HALVES = {
+    "parse_number_of": "The number that a whole text is by a form, such as `forms::JSON`",
+    "parse_float_from": "The float that a text is from `start` on to its end",
     "read_number_from": "The integer at `start` as an `i32`, a `u64` or another type, with its sign",
     "parse_number_from": "The integer that a text is from `start` on to its end",
     "read_integer_from": "The integer without a sign at `start`, as a `u64` that is at most `most`",
@@ -311,8 +318,7 @@ class Door:
         lines = textwrap.wrap(", ".join(dict.fromkeys(filter(None, said))), 84)
         return [f"// {'   ' if n else 'you prove:'} {it}" for n, it in enumerate(lines)]
 
-    @staticmethod
-    def methods(item):
+    def methods(self, item):
         """The constants and functions of an impl or a trait, each with its first sentence."""
         lines = []
         for member in item.inner:
@@ -324,6 +330,7 @@ class Door:
                 said = textwrap.wrap(plain(first_sentence(member.docs)), 92)
                 lines += [f"    /// {line}" for line in said]
                 lines += filled(signature_of(member).removeprefix("pub ") + ";", "    ", "        ")
+                lines += [f"    {it}" for it in self.conditions(member)] if item.kind == "impl" else []
         return lines
 
     def declared(self, library, item):
@@ -491,7 +498,8 @@ class Door:
         have = names()
         self.lost += [f"GROUPS of .ci/door.py has no {it}" for it in self.items if it not in have]
         self.lost += [f"GROUPS of .ci/door.py: {DOOR} has no {it}" for it in have if it not in self.items]
-        lines = [HEAD.replace("LINES", "\n".join(self.first())), *self.index()]
+        lines = [HEAD.replace("LINES", "\n".join(self.first())).replace("SECTIONS", " · ".join(
+            f"[{group}](#{self.slugs[group]})" for group in GROUPS)), *self.index()]
         for group, (_, use, names_of) in GROUPS.items():
             entries = [it for it in names_of.split() if it in self.items]
             lines += [f"## {group}", "", use, "", *itertools.chain(*map(self.lines_of, entries))]

@@ -77,8 +77,8 @@ def readme():
     machine = Figures("times.txt").head.split("; ")[1]
     lines = table("Nanoseconds to parse one number that is the whole text, from Rattle and by a constant "
                   "word, beside the fastest other library that does the same work. This library is the "
-                  f"fastest in {fastest()} cases of the picture; the table has four of them, and last "
-                  "those where it isn't:",
+                  f"fastest in {fastest()} cases of the picture. The first four rows are examples of these, "
+                  "the last rows are the others:",
                   ["What is read", "Here", "The next one", "Ratio"], beside())
     return "\n".join(lines) + f"""
 Timed on: {machine}. [SPEED.md](docs/SPEED.md#beside-other-readers) has every row, and how it was measured.

@@ -147,11 +147,11 @@ fn read_counted<T: Integer>(
 
 /// The number of exactly `n` digits that begin at `start`, and where they end, at `start + n`: no
 /// sign, no separator, and what follows them isn't looked at. Digits are those of the radix, with
-/// letters of either case; it isn't asked to be supported.
+/// letters of either case. Any radix may be given.
 ///
-/// The number is below `radix` to the power `n`: two decimal digits are at most 99. With an `n` of 0
-/// it is 0, and ends at `start`, also where that is after the end of the text. Radix 1 has the digit
-/// `0` alone, so its numbers are 0; radix 0 has no digit.
+/// The number is below `radix` to the power `n`: two decimal digits are at most 99. With an `n` of
+/// 0 it is 0, and ends at `start`, also where that is after the end of the text. Radix 1 has the
+/// digit `0` alone, so its numbers are 0; radix 0 has no digit.
 ///
 /// [`Empty`](LiteralError::Empty) holds the first of the `n` bytes that is no digit, or the end of
 /// the text; [`Overflow`](LiteralError::Overflow) the first digit with which the type has no such

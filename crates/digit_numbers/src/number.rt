@@ -226,7 +226,8 @@ pub fn read_number_of<F: Float>(
     read_rest::<F>(text, start, form)
 }
 
-/// The number of a form that a text is, as by [`read_number_of`].
+/// The number that a whole text is by a form, as by [`read_number_of`]: an integer or a float. A
+/// byte after it is [`Invalid`](NumberError::Invalid).
 #[inline(always)]
 pub fn parse_number_of<F: Float>(text: &[u8], form: Form) -> Result<Number<F>, NumberError>
     requires { IsForm form }

@@ -248,6 +248,16 @@ pub fn first_texts() {
     let price = write_price(123450i64, b'.', 2, b',', &mut out); // Ok(8): `1,234.50`
 }
 
+use std::io::Write;
+
+/// Writes a number and a line feed.
+pub fn put_line<W: Write>(number: i64, to: &mut W) -> std::io::Result<()> {
+    let mut out = [0; MOST_ROOM];
+    let end = write_number(number, &mut out);
+    to.write_all(&out[..end])?;
+    to.write_all(b"\n")
+}
+
 use digits::{Layout, NoRoom, write_number_by};
 
 /// Writes a number with `,` between groups of three digits: `-1,234,567`.
