@@ -61,6 +61,7 @@ fn an_array_with_a_fault(rt: HostRuntime) {
 }
 
 #[test]
+#[tactic(auto, unfolding(lexical_format::proofs::OnLiterals::lexical_on_literals))]
 fn two_arrays_and_what_follows(rt: HostRuntime) {
     let turns = [Turn::Pass(1), Turn::Wait];
     let mut buffer = [0; 4];
@@ -90,6 +91,7 @@ fn two_arrays_and_what_follows(rt: HostRuntime) {
 }
 
 #[test]
+#[tactic(auto, unfolding(lexical_format::proofs::OnLiterals::lexical_on_literals))]
 fn a_fault_stays(rt: HostRuntime) {
     let mut buffer = [0; 8];
     let kind = Integers::<u64>::new(STANDARD);
