@@ -9,8 +9,8 @@ mod list;
 mod one;
 
 pub use self::list::{
-    COMMAS, COMMAS_IN_LINE, Gap, LINES, ListEnd, ListRead, SPACES_IN_LINE, WHITESPACE, read_list,
-    read_list_with,
+    COMMAS, COMMAS_IN_LINE, Gap, LINES, ListEnd, ListRead, SPACES_IN_LINE, WHITESPACE,
+    is_list_by_ends, read_list, read_list_with,
 };
 pub use self::one::{Integers, ReadsOne};
 pub use digit_integers::{
