@@ -207,12 +207,16 @@ module _ (gap : Gap) (text : List ℕ) (cut last : ℕ) (within : cut < length t
     rest_before room x (numbers, lists.Full at) = refl
     rest_before room x (numbers, lists.Over at) = by (at == cut)
       where
-        by : (is : Bool) → (if is then ((x ∷ numbers)
-            ++ (of_piece (suc room - suc (length numbers)) (cut + 1)).0,
-            (of_piece (suc room - suc (length numbers)) (cut + 1)).1)
+        by : (is : Bool) → (if is then (
+          (x ∷ numbers)
+              ++ (of_piece (suc room - suc (length numbers)) (cut + 1)).0,
+          (of_piece (suc room - suc (length numbers)) (cut + 1)).1,
+        )
             else (x ∷ numbers, Over at))
-            ≡ and_others x (if is then (numbers ++ (of_piece (room - length numbers) (cut + 1)).0,
-            (of_piece (room - length numbers) (cut + 1)).1) else (numbers, Over at))
+            ≡ and_others x (if is then (
+              numbers ++ (of_piece (room - length numbers) (cut + 1)).0,
+              (of_piece (room - length numbers) (cut + 1)).1,
+            ) else (numbers, Over at))
         by true =
             let left : suc room - suc (length numbers) ≡ room - length numbers = omega arith in
             rw left refl
@@ -307,13 +311,17 @@ module _ (gap : Gap) (text : List ℕ) (cut last : ℕ) (within : cut < length t
     module _ (start : ℕ) (low : start ≤ last) (read : ListRead E) (old new : List V)
         (fills : Fills value (of_front (length old) start) read old new) where
       and_over : (room : ℕ) (list : Numbers A E) → list.1 ≡ lists.Over cut
-          → and_rest room list ≡ (list.0 ++ (of_piece (room - length list.0) (cut + 1)).0,
-          (of_piece (room - length list.0) (cut + 1)).1)
+          → and_rest room list ≡ (
+            list.0 ++ (of_piece (room - length list.0) (cut + 1)).0,
+            (of_piece (room - length list.0) (cut + 1)).1,
+          )
       and_over room (numbers, end) is = rw (is, same_is cut) refl
 
       over_is : read.end ≡ lists.Over cut → of_piece (length old) start
-          ≡ (map value (take read.count new) ++ (of_piece (length old - read.count) (cut + 1)).0,
-          (of_piece (length old - read.count) (cut + 1)).1)
+          ≡ (
+            map value (take read.count new) ++ (of_piece (length old - read.count) (cut + 1)).0,
+            (of_piece (length old - read.count) (cut + 1)).1,
+          )
       over_is is =
           rw (fills.numbers, fills.count)
           (by_front (length old) start low

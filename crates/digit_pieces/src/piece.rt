@@ -276,7 +276,8 @@ pub fn read_piece<K: Kind>(
     let mut at = start;
     let mut from = 0;
     if !gap.blanks_separate && kind.is_list_faster(text, start, gap, out.len()) {
-        match read_front(kind, text, start, sure, gap, out) {
+        // a copy, so that the gap goes to memory here alone
+        match read_front(kind, text, start, sure, Gap { ..gap }, out) {
             Ok(went) => {
                 at = went.at;
                 from = went.count;
