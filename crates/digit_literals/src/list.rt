@@ -292,9 +292,9 @@ fn read_rest<T: Integer>(
 }
 
 /// The numbers from `start` on, read into a slice: each as `reads` reads it, with what `gap` says
-/// between two of them. Every list over a slice but [`read_list`] is a call of it, and ends as that
-/// does. It is for the crates above this one. Requires that `reads` is valid and `start` is within
-/// the text.
+/// between two of them. A list over a slice is a call of it, but for [`read_list`] and the
+/// `read_list` of a `Kind` of `digit_pieces`, which end as it does. It is for the crates above this
+/// one. Requires that `reads` is valid and `start` is within the text.
 #[inline(always)]
 #[tactic(auto, using(crate::proofs::Lists::turns))]
 pub fn read_list_with<R: ReadsOne>(

@@ -3,7 +3,7 @@ use Rattle.std.proofs.Common.{◌≡◌, ℕ, zero, suc, ◌+◌, ◌-◌, ◌<�
 use Rattle.std.specs.Prelude.{⊤, slice_get, Option, Some, None, Result, Ok, Err, IfOk, IfErr, ◌&&◌, ◌||◌, ◌==◌, nat_lt, if◌then◌else◌}
 use Rattle.std.proofs.lemmas.Bool.{cases_lt}
 use Rattle.std.proofs.lemmas.Bool.Decides.{nat_tests}
-use Rattle.std.proofs.lemmas.List.{append_assoc, length-append, length-take-le, take-append-drop, take_all}
+use Rattle.std.proofs.lemmas.List.{length-take-le, take-append-drop, take_all}
 use Rattle.std.proofs.lemmas.Option.{slice_get_past}
 use Rattle.lexical_digits.specs.ByteSet.{accepts}
 use Rattle.lexical_digits.specs.Cursor.{holds_of}
@@ -16,10 +16,9 @@ use Rattle.digit_literals.specs.Lists as of_lists
 use Rattle.digit_literals.specs.Lists.{Numbers, Fills, is_blank, has_blank, has_separator, past_blanks, next_after, before, list_at}
 use Rattle.digit_literals.proofs.PassedAll.{no_blank_past}
 use Rattle.digit_languages.specs.Follows.{AreSameBefore}
-use Rattle.digit_pieces.specs.declared.piece.PieceEnd.{PieceEnd}
-use Rattle.digit_pieces.specs.declared.piece.PieceEnd.TheVariants.{More, Full, Over, Fault}
+use Rattle.digit_pieces.specs.declared.piece.PieceEnd.TheVariants.{Full, Over, Fault}
 use Rattle.digit_pieces.specs.Cuts.{sure_end, PartsNumbers}
-use Rattle.digit_pieces.specs.Pieces.{PieceNumbers, SoFar, FillsPiece, of_list, and_others, is_of_blanks, is_sure, is_parted, next_start, after_number, from_number, piece_at}
+use Rattle.digit_pieces.specs.Pieces.{PieceNumbers, SoFar, FillsPiece, of_list, and_others, is_of_blanks, is_sure, is_parted, after_number, from_number, piece_at}
 use Rattle.digit_pieces.proofs.AsLists.{start_is}
 use Rattle.digit_pieces.proofs.Blanks.{get_front, blanks_within, blanks_onward, blanks_same, blanks_stop, separator_within}
 use Rattle.digit_pieces.proofs.SureEnds.{sure_last}
@@ -44,10 +43,6 @@ number_low one none_at later has are text start end at x from within other is =
     let low = are.ends front start end x (omega (arith, n))
     (sym (are.follows text front at start upto from) ∙ is) in
     omega (arith, n, low)
-
-either : (s a : Bool) → s ≡ true → s || a ≡ true
-either true a is = refl
-either false a is = absurd cc
 
 pub or_else : (s a : Bool) → a ≡ true → s || a ≡ true
 or_else true a is = refl
@@ -198,7 +193,7 @@ module _ (gap : Gap) (text : List ℕ) (cut last : ℕ) (within : cut < length t
     and_rest room (numbers, lists.Full at) = (numbers, Full at)
     and_rest room (numbers, lists.Over at) =
         if at == cut
-        then (numbers ++ (of_piece (room - length numbers) (cut + 1)).0, (of_piece (room - length numbers) (cut + 1)).1)
+        then (let rest = of_piece (room - length numbers) (cut + 1) in (numbers ++ rest.0, rest.1))
         else (numbers, Over at)
     and_rest room (numbers, lists.Fault error) = (numbers, Fault error)
 

@@ -1,12 +1,12 @@
 -- A separator that was found backward, with blanks alone before it so far.
-use Rattle.std.proofs.Common.{◌≡◌, ℕ, zero, suc, ◌+◌, ◌-◌, ◌<◌, ◌≤◌, Bool, true, false, List, length, slice_index, refl, arith, inl, inr}
-use Rattle.std.specs.Prelude.{slice_get, Option, Some, None, IfSome, is_some, not, ◌&&◌}
+use Rattle.std.proofs.Common.{◌≡◌, ℕ, suc, ◌<◌, ◌≤◌, Bool, true, false, List, length, slice_index, arith, inl, inr}
+use Rattle.std.specs.Prelude.{slice_get, Option, Some, None, IfSome, is_some}
 use Rattle.std.proofs.lemmas.Bool.{cases_lt}
 use Rattle.lexical_digits.specs.ByteSet.{accepts}
 use Rattle.lexical_digits.specs.Cursor.{holds_of}
 use Rattle.lexical_digits.specs.Laws.Terms.{gets}
 use Rattle.digit_literals.specs.declared.list.Gap.{Gap}
-use Rattle.digit_literals.specs.Lists.{is_blank, has_blank, has_separator}
+use Rattle.digit_literals.specs.Lists.{has_blank, has_separator}
 use Rattle.digit_pieces.specs.Cuts.{PartsNumbers}
 
 pub record IsFound (has : ℕ → Bool) (gap : Gap) (text : List ℕ) (from at : ℕ) : Type 0 where
@@ -16,17 +16,6 @@ pub record IsFound (has : ℕ → Bool) (gap : Gap) (text : List ℕ) (from at :
   pub blanks : (i : ℕ) → from ≤ i → i < at → has_blank gap text i ≡ true
 
 module _ (has : ℕ → Bool) (gap : Gap) (text : List ℕ) where
-  -- a separator
-  pub found_here : (at : ℕ) → at < length text
-      → accepts gap.separators (slice_index text at) ≡ true → has (slice_index text at) ≡ false
-      → IsFound has gap text at at
-  found_here at within separates other = record {
-    upto = omega arith;
-    separator = grind (arith, gets, separates);
-    other = grind (arith, gets, other);
-    blanks = λ i from l. absurd (omega (arith, from, l));
-  }
-
   -- a blank before it
   pub found_on : (from : ℕ) (found : Option ℕ) → IfSome found (IsFound has gap text (suc from))
       → from < length text → accepts gap.separators (slice_index text from) ≡ false

@@ -1,5 +1,4 @@
 -- The last separator so far, with blanks alone before it.
-use Rattle.std.proofs.Common.{ℕ}
 use Rattle.std.specs.Prelude.{IfSome}
 use Rattle.digit_pieces.proofs.Found.{IsFound}
 use Rattle.digit_pieces.proofs.piece.last_separator.Given as goal

@@ -1,4 +1,3 @@
-use Rattle.std.proofs.Common.{sym}
 use Rattle.digit_pieces.specs.Pieces.{SoFar}
 use Rattle.digit_pieces.proofs.Turns.{turns_begin}
 use Rattle.digit_pieces.proofs.piece.read_piece.Goals as goal

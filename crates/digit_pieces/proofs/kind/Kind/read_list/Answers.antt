@@ -1,5 +1,5 @@
 use Rattle.std.proofs.Common.{refl, sym, arith}
-use Rattle.digit_literals.proofs.Lists.{turns_begin, turns_full, turns_none, turns_next, turns_over}
+use Rattle.digit_literals.proofs.Lists.{turns_none, turns_next, turns_over}
 use Rattle.digit_pieces.proofs.kind.Kind.read_list.Goals as goal
 
 pub returns-in-Err-clause-is : goal.returns-in-Err-clause-is
