@@ -80,27 +80,6 @@ impl<K: Kind> ReadsOne for OfKind<K> {
     }
 }
 
-/// A list as its kind reads it. The body isn't inlined, so that the usual way stays small.
-#[inline(never)]
-fn read_list_apart<K: Kind>(
-    kind: K,
-    text: &[u8],
-    start: usize,
-    gap: Gap,
-    out: &mut [K::Number],
-) -> ListRead<K::Error>
-    requires valid { K.valid kind }
-    requires within { start ≤ length text.now }
-    ensures is { let list = list_at (K.number_at kind text.now) K.none_at gap text.now
-        (length out.old) start in
-        Fills K.meaning list result out.old out.new }
-    ensures count { result.count ≤ length out.old }
-    ensures full { IfFull result.end (λ at. (start ≤ at) × (at ≤ length text.now)) }
-    ensures over { IfOver result.end (λ at. (start ≤ at) × (at ≤ length text.now)) }
-{
-    kind.read_list(text, start, gap, out)
-}
-
 /// The numbers of a kind from `start` on, read into a slice, with what `gap` says between two of
 /// them: [`read_list`](digit_literals::read_list) of any kind of numbers, which ends as that does.
 /// Requires that the kind is valid and that `start` is within the text.
@@ -125,9 +104,6 @@ pub fn read_list_by<K: Kind>(
     ensures full { IfFull result.end (λ at. (start ≤ at) × (at ≤ length text.now)) }
     ensures over { IfOver result.end (λ at. (start ≤ at) × (at ≤ length text.now)) }
 {
-    if kind.is_list_faster(text, start, gap, out.len()) {
-        return read_list_apart(kind, text, start, gap, out);
-    }
     read_list_with(OfKind { kind }, text, start, gap, out)
 }
 
