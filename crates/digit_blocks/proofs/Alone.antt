@@ -1,23 +1,21 @@
 -- A block that may end where it ends asks for more only there.
-use Rattle.std.proofs.Common.{◌≡◌, ℕ, zero, suc, ◌+◌, ◌-◌, ◌<◌, ◌≤◌, Bool, true, false, List, [], ◌∷◌, length, drop, take, take_while, refl, sym, ◌∙◌, arith, inl, inr, length-drop}
+use Rattle.std.proofs.Common.{◌≡◌, ℕ, zero, suc, ◌-◌, ◌<◌, ◌≤◌, Bool, true, false, List, [], length, refl, arith, inl, inr}
 use Rattle.std.specs.Prelude.{⊤, slice_get, Option, Some, None, Result, Ok, Err, IfOk, ◌&&◌, ◌||◌, nat_lt, if◌then◌else◌}
 use Rattle.std.proofs.lemmas.Bool.{cases_Bool, cases_lt}
 use Rattle.std.proofs.lemmas.Bool.Decides.{nat_tests}
-use Rattle.std.proofs.lemmas.List.{take_all, length-take-le}
-use Rattle.std.proofs.lemmas.Option.{slice_get_past}
 use Rattle.lexical_digits.specs.ByteSet.{accepts}
 use Rattle.lexical_digits.specs.Cursor.{holds_of}
 use Rattle.lexical_digits.specs.Laws.Terms.{gets}
 use Rattle.digit_literals.specs.declared.list.Gap.{Gap}
 use Rattle.digit_literals.specs.declared.list.ListEnd.TheVariants as lists
 use Rattle.digit_literals.specs.Lists.{is_blank, past_blanks}
-use Rattle.digit_languages.specs.Follows.{AreSameBefore}
 use Rattle.digit_pieces.specs.Cuts.{sure_end}
 use Rattle.digit_pieces.specs.Pieces.{PieceNumbers, of_list, is_of_blanks, is_parted, next_start, after_number, from_number, piece_at}
 use Rattle.digit_pieces.specs.declared.piece.PieceEnd.{PieceEnd}
 use Rattle.digit_pieces.specs.declared.piece.PieceEnd.TheVariants.{More, Full, Over, Fault}
 use Rattle.digit_pieces.specs.Texts.{IsApart}
-use Rattle.digit_pieces.proofs.Blanks.{led_passing, led_other, get_rest, blanks_within}
+use Rattle.digit_pieces.proofs.Blanks.{blanks_stop, blanks_within}
+use Rattle.digit_pieces.proofs.ByLists.{number_low}
 use Rattle.digit_pieces.proofs.SureEnds.{sure_last, sure_within}
 use Rattle.digit_pieces.proofs.Moved.{start_within}
 use Rattle.digit_pieces.proofs.Theorem.{AreNumbers}
@@ -29,31 +27,6 @@ AsksAt n (More at) = at ≡ n
 AsksAt n (Full at) = ⊤
 AsksAt n (Over at) = ⊤
 AsksAt n (Fault error) = ⊤
-
--- how many pass at the front: none from a byte on that doesn't
-led_stops : (p : ℕ → Bool) (xs : List ℕ) (i : ℕ) → i < length xs
-    → holds_of p (slice_get xs i) ≡ false → length (take_while p xs) ≤ i
-led_stops p [] i within fails = absurd (omega arith)
-led_stops p (x ∷ xs) zero within fails = omega (arith, led_other p x xs fails)
-led_stops p (x ∷ xs) (suc i) within fails = elim (cases_Bool (p x)) [
-  | inl is ↦ omega (arith, led_passing p x xs is, led_stops p xs i (omega arith) fails)
-  | inr is ↦ omega (arith, led_other p x xs is)
-]
-
--- blanks end before a byte that is none
-pub blanks_stop : (gap : Gap) (text : List ℕ) (at last : ℕ) → at ≤ last → last < length text
-    → holds_of (is_blank gap) (slice_get text last) ≡ false → past_blanks gap text at ≤ last
-unfolding past_blanks
-blanks_stop gap text at last from within fails =
-    let i : ℕ = last - at in
-    let e : at + i ≡ last = omega arith in
-    let there : holds_of (is_blank gap) (slice_get (drop at text) i) ≡ false =
-    rw (get_rest text at i, e) fails in
-    omega (
-      arith,
-      led_stops (is_blank gap) (drop at text) i
-          (omega (arith, length-drop at text)) there,
-    )
 
 -- ---- the byte with which a block may end
 
@@ -108,24 +81,6 @@ in_no_number has gap apart (Some byte) is = elim (cases_Bool (has byte)) [
 module _ {A E : Type 0} (one : List ℕ → ℕ → Result (A × ℕ) E) (none_at : ℕ → E → Bool)
     (later : ℕ → E → E) (has : ℕ → Bool) (gap : Gap)
     (are : AreNumbers one none_at later has) (apart : IsApart has gap) where
-  -- a number ends before a byte that is in none
-  pub number_low : (text : List ℕ) (start end at : ℕ) (x : A) → start ≤ at → at < length text
-      → holds_of has (slice_get text at) ≡ false → one text start ≡ Ok (x, end) → end ≤ at
-  number_low text start end at x from within other is =
-      let n : length (take at text) ≡ at = length-take-le at text (omega arith) in
-      let front : List ℕ = take at text in
-      let past : slice_get front at ≡ None = slice_get_past front at (omega (arith, n)) in
-      let upto : AreSameBefore has text front at = record {
-        same = sym (take_all at front (omega (arith, n)));
-        one_within = omega arith;
-        other_within = omega (arith, n);
-        one_ends = other;
-        other_ends = rw past refl;
-      } in
-      let low = are.ends front start end x (omega (arith, n))
-      (sym (are.follows text front at start upto from) ∙ is) in
-      omega (arith, n, low)
-
   module _ (block : List ℕ) (ends : EndsApart gap block) where
     abbrev of_block : ℕ → ℕ → PieceNumbers A E
     of_block room at = piece_at (one block) none_at gap block (sure_end has block) false room at
@@ -158,7 +113,9 @@ module _ {A E : Type 0} (one : List ℕ → ℕ → Result (A × ℕ) E) (none_a
         e = omega arith
 
         low : end ≤ last
-        low = number_low block start end last x (omega arith) (omega arith) (last_other last e) is
+        low =
+            number_low one none_at later has are block start end last x (omega arith) (omega arith)
+            (last_other last e) is
 
         stops : is_of_blanks gap ≡ false → past_blanks gap block end < length block
         stops mixed =

@@ -10,7 +10,7 @@ mod one;
 
 pub use self::list::{
     COMMAS, COMMAS_IN_LINE, Gap, LINES, ListEnd, ListRead, SPACES, SPACES_IN_LINE, WHITESPACE,
-    read_list, read_list_with,
+    is_list_by_ends, read_list, read_list_with,
 };
 pub use self::one::{Integers, ReadsOne};
 pub use digit_integers::{

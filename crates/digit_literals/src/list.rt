@@ -292,9 +292,9 @@ fn read_rest<T: Integer>(
 }
 
 /// The numbers from `start` on, read into a slice: each as `reads` reads it, with what `gap` says
-/// between two of them. Every list over a slice but [`read_list`] is a call of it, and ends as that
-/// does. It is for the crates above this one. Requires that `reads` is valid and `start` is within
-/// the text.
+/// between two of them. A list over a slice is a call of it, but for [`read_list`] and the
+/// `read_list` of a `Kind` of `digit_pieces`, which end as it does. It is for the crates above this
+/// one. Requires that `reads` is valid and `start` is within the text.
 #[inline(always)]
 #[tactic(auto, using(crate::proofs::Lists::turns))]
 pub fn read_list_with<R: ReadsOne>(
@@ -391,4 +391,14 @@ pub fn read_list<T: Integer>(
         }
     }
     read_rest(text, at, word, gap, out, from)
+}
+
+/// Whether [`read_list`] begins to read a list by its ends, into a slice of so many places. That is
+/// about twice as fast as one number after the other. No answer depends on it: it is for the crates
+/// above this one, which choose a way by it. Requires that `start` is within the text.
+#[inline(always)]
+pub fn is_list_by_ends(text: &[u8], start: usize, word: u128, gap: Gap, room: usize) -> bool
+    requires { start ≤ length text.now }
+{
+    room >= MANY && is_by_ends(text, word, gap, start)
 }

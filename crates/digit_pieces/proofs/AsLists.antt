@@ -158,7 +158,7 @@ module _ {A E : Type 0} (one : ℕ → Result (A × ℕ) E) (none_at : ℕ → E
 
   -- with separators they are the same
   module _ (separated : is_of_blanks gap ≡ false) where
-    start_is : (end : ℕ) → next_start gap text end ≡ next_after gap text end
+    pub start_is : (end : ℕ) → next_start gap text end ≡ next_after gap text end
     start_is end = by (is_of_blanks gap) (nat_lt end (past_blanks gap text end)) separated
       where
         by : (is more : Bool) → is ≡ false

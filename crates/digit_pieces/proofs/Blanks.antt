@@ -1,5 +1,5 @@
 -- What is between two numbers, in a text that goes on, and in one whose first bytes are gone.
-use Rattle.std.proofs.Common.{◌≡◌, ℕ, zero, suc, ◌+◌, ◌<◌, ◌≤◌, Bool, true, false, List, [], ◌∷◌, ◌++◌, length, drop, take_while, refl, ap, arith, length-drop, inl, inr}
+use Rattle.std.proofs.Common.{◌≡◌, ℕ, zero, suc, ◌+◌, ◌-◌, ◌<◌, ◌≤◌, Bool, true, false, List, [], ◌∷◌, ◌++◌, length, drop, take_while, refl, ap, arith, length-drop, inl, inr}
 use Rattle.std.specs.Prelude.{Result, Ok, IfOk, ◌&&◌, ◌||◌, nat_lt, if◌then◌else◌, slice_get}
 use Rattle.std.proofs.lemmas.Bool.{cases_Bool, cases_lt}
 use Rattle.std.proofs.lemmas.Bool.Decides.{nat_tests}
@@ -8,7 +8,7 @@ use Rattle.std.proofs.lemmas.List.Sums.{take_while-cons}
 use Rattle.lexical_digits.specs.ByteSet.{accepts}
 use Rattle.lexical_digits.specs.Cursor.{holds_of}
 use Rattle.digit_literals.specs.declared.list.Gap.{Gap}
-use Rattle.digit_literals.specs.Lists.{is_blank, has_separator, past_blanks, next_after}
+use Rattle.digit_literals.specs.Lists.{is_blank, has_blank, has_separator, past_blanks, next_after}
 use Rattle.digit_pieces.specs.Pieces.{is_of_blanks, is_parted, next_start}
 
 -- ---- how many pass at the front of a list
@@ -52,6 +52,16 @@ module _ (p : ℕ → Bool) where
         (omega (arith, led_other x (xs ++ ys) is))
   ]
 
+  -- none from a byte on that doesn't pass
+  pub led_stops : (xs : List ℕ) (i : ℕ) → i < length xs
+      → holds_of p (slice_get xs i) ≡ false → led xs ≤ i
+  led_stops [] i within fails = absurd (omega arith)
+  led_stops (x ∷ xs) zero within fails = omega (arith, led_other x xs fails)
+  led_stops (x ∷ xs) (suc i) within fails = elim (cases_Bool (p x)) [
+    | inl is ↦ omega (arith, led_passing x xs is, led_stops xs i (omega arith) fails)
+    | inr is ↦ omega (arith, led_other x xs is)
+  ]
+
 -- ---- bytes of a text
 
 -- those of its front
@@ -79,6 +89,21 @@ module _ (gap : Gap) where
   pub blanks_onward : (text : List ℕ) (at : ℕ) → at ≤ past_blanks gap text at
   unfolding past_blanks
   blanks_onward text at = omega arith
+
+  -- blanks end before a byte that is none
+  pub blanks_stop : (text : List ℕ) (at last : ℕ) → at ≤ last → last < length text
+      → has_blank gap text last ≡ false → past_blanks gap text at ≤ last
+  unfolding past_blanks
+  blanks_stop text at last from within fails =
+      let i : ℕ = last - at in
+      let e : at + i ≡ last = omega arith in
+      let there : holds_of (is_blank gap) (slice_get (drop at text) i) ≡ false =
+      rw (get_rest text at i, e) fails in
+      omega (
+        arith,
+        led_stops (is_blank gap) (drop at text) i
+            (omega (arith, length-drop at text)) there,
+      )
 
   -- a fact of where the next number may be
   pub start_if : (P : ℕ → Type 0) (text : List ℕ) (end : ℕ)

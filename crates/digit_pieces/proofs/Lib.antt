@@ -1,7 +1,10 @@
 pub mod AsLists
 pub mod Blanks
+pub mod ByLists
 pub mod Cut
+pub mod Found
 pub mod Fresh
+pub mod Gives
 pub mod GoesOn
 pub mod Moved
 pub mod NameBytes

@@ -1,4 +1,5 @@
 -- One turn of a loop that reads a piece into a slice.
+pub use Rattle.digit_pieces.specs.Pieces.{SoFar}
 use Rattle.std.proofs.Common.{◌≡◌, ℕ, suc, ◌+◌, ◌-◌, ◌<◌, ◌≤◌, List, [], ◌∷◌, ◌++◌, map, length, take, drop, refl, sym, ◌∙◌, arith}
 use Rattle.std.specs.Prelude.{Bool, true, false, Result, Ok, Err, set}
 use Rattle.std.proofs.lemmas.List.{take_more_set, drop-set-lt, drop-drop, length-set, map-append, append_assoc, length-map, length-take-le, append-nil}
@@ -61,15 +62,10 @@ module _ {V A E : Type 0} (value : V → A) (one : ℕ → Result (A × ℕ) E) 
 
   -- ---- a loop
 
-  -- before the turn with this index, which begins here: the slice has the first numbers, the text
-  -- from here on the others
-  pub record SoFar (start i at : ℕ) (old new : List V) : Type 0 where
-    pub numbers : map value (take i new) ++ (of (length old - i) at).0 ≡ (of (length old) start).0
-    pub end : (of (length old - i) at).1 ≡ (of (length old) start).1
-    pub rest : drop i new ≡ drop i old
-    pub same_length : length new ≡ length old
+  abbrev So : ℕ → ℕ → ℕ → List V → List V → Type 0
+  So = SoFar value one none_at gap text sure is_last
 
-  pub turns_begin : (start : ℕ) (old : List V) → SoFar start 0 start old old
+  pub turns_begin : (start : ℕ) (old : List V) → So start 0 start old old
   turns_begin start old = let none : length old - 0 ≡ length old = omega arith in record {
     numbers = rw none refl;
     end = rw none refl;
@@ -92,7 +88,7 @@ module _ {V A E : Type 0} (value : V → A) (one : ℕ → Result (A × ℕ) E) 
         same_length = same;
       }
 
-  module _ (start i at : ℕ) (old new : List V) (so : SoFar start i at old new) where
+  module _ (start i at : ℕ) (old new : List V) (so : So start i at old new) where
     -- the slice is full
     pub turns_full : i ≡ length old
         → FillsPiece value (of (length old) start) (record { count = i; end = Full at }) old new
@@ -160,7 +156,7 @@ module _ {V A E : Type 0} (value : V → A) (one : ℕ → Result (A × ℕ) E) 
         -- a number, and a separator after it
         pub turns_next : (end next : ℕ) → surely (past_blanks gap text at) ≡ true
             → one (past_blanks gap text at) ≡ Ok (value x, end) → parted end ≡ true
-            → next_start gap text end ≡ Ok next → SoFar start (i + 1) next old (set new i x)
+            → next_start gap text end ≡ Ok next → So start (i + 1) next old (set new i x)
         turns_next end next here is apart more =
             let room' : ℕ = length old - (i + 1) in
             record {

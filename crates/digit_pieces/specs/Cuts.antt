@@ -1,9 +1,12 @@
 -- Which bytes a number of a kind may have. Every other byte ends it.
-use Rattle.std.specs.Prelude.{ℕ, Bool, ◌&&◌, ◌||◌, nat_lt, List, length, reverse, take_while, ◌-◌}
+use Rattle.std.specs.Prelude.{◌≡◌, ℕ, ◌<◌, ◌≤◌, Bool, true, false, ◌&&◌, ◌||◌, nat_lt, List, length, reverse, slice_get, take_while, ◌-◌}
+use Rattle.lexical_digits.specs.Cursor.{holds_of}
 use Rattle.lexical_digits.specs.declared.skip.component.Component.TheVariants.{Integer, Fraction, Exponent}
 use Rattle.lexical_digits.specs.declared.skip.rule.Rule.{Rule}
 use Rattle.lexical_digits.specs.Separators.{is_digit, is_separator}
 use Rattle.lexical_digits.specs.State.{rule_of}
+use Rattle.digit_literals.specs.declared.list.Gap.{Gap}
+use Rattle.digit_literals.specs.Lists.{has_blank, has_separator}
 use Rattle.digit_floats.specs.declared.parts.Marks.{Marks}
 use Rattle.digit_floats.specs.Bytes.{is_sign, is_point, is_mark}
 
@@ -31,3 +34,15 @@ is_float_byte word marks byte =
 -- the position after the last byte of a text that doesn't pass
 unfoldable pub sure_end : (ℕ → Bool) → List ℕ → ℕ
 sure_end p text = length text - length (take_while p (reverse text))
+
+-- A separator that no number has. Before it is a byte of a number, after which come blanks alone:
+-- a byte from `start` on that is no blank and separates nothing.
+pub record PartsNumbers (has : ℕ → Bool) (gap : Gap) (text : List ℕ) (start at : ℕ) : Type 0 where
+  pub separator : has_separator gap text at ≡ true
+  pub other : holds_of has (slice_get text at) ≡ false
+  pub last : ℕ
+  pub onward : start ≤ last
+  pub before : last < at
+  pub no_separator : has_separator gap text last ≡ false
+  pub no_blank : has_blank gap text last ≡ false
+  pub blanks : (i : ℕ) → last < i → i < at → has_blank gap text i ≡ true

@@ -131,6 +131,19 @@ pub record FillsPiece {V A E : Type 0} (value : V → A) (list : PieceNumbers A 
   pub rest : drop read.count new ≡ drop read.count old
   pub same_length : length new ≡ length old
 
+-- Of loops that no caller sees: before the turn with this index, which begins here, the slice has
+-- the first numbers, and the piece from here on the others. No public clause uses this word.
+module _ {V A E : Type 0} (value : V → A) (one : ℕ → Result (A × ℕ) E) (none_at : ℕ → E → Bool)
+    (gap : Gap) (text : List ℕ) (sure : ℕ) (is_last : Bool) where
+  pub record SoFar (start i at : ℕ) (old new : List V) : Type 0 where
+    pub numbers : map value (take i new)
+        ++ (piece_at one none_at gap text sure is_last (length old - i) at).0
+        ≡ (piece_at one none_at gap text sure is_last (length old) start).0
+    pub end : (piece_at one none_at gap text sure is_last (length old - i) at).1
+        ≡ (piece_at one none_at gap text sure is_last (length old) start).1
+    pub rest : drop i new ≡ drop i old
+    pub same_length : length new ≡ length old
+
 -- a fact for one end, with its position
 abbrev pub IfAt : {E : Type 0} → PieceEnd E → (ℕ → Type 0) → Type 0
 IfAt (More at) P = P at

@@ -1,8 +1,8 @@
 //! Laws of numbers in a text that comes in pieces.
 
-ghost use Rattle.std.specs.Prelude.{◌≡◌, ℕ, ◌+◌, Bool, true, false, List, ◌++◌};
+ghost use Rattle.std.specs.Prelude.{◌≡◌, ℕ, ◌+◌, ◌<◌, ◌≤◌, Bool, true, false, List, [], ◌∷◌, ◌++◌, length, take, slice_index, Ok};
 ghost use Rattle.std.specs.List.{concat};
-ghost use Rattle.digit_literals.specs.Lists.{list_at};
+ghost use Rattle.digit_literals.specs.Lists.{is_blank, list_at, past_blanks};
 ghost use Rattle.digit_pieces.specs.Cuts.{sure_end};
 ghost use Rattle.digit_pieces.specs.Pieces.{and_full, as_piece, full_past, is_of_blanks, piece_at, whole_at};
 ghost use Rattle.digit_pieces.specs.Texts.{IsApart, list_of, read_pieces};
@@ -58,4 +58,23 @@ pub fn a_piece_goes_on<K: Kind>(kind: K, text: &[u8], gap: Gap)
         let of = piece_at (K.number_at kind text.now) K.none_at gap text.now
         (sure_end (K.has_byte kind) text.now) is_last in
         of (n + m) start ≡ and_full (of n start) (of m) }
+{}
+
+/// When the number at the start of a piece is given: as soon as a byte follows it that no number
+/// has, and that is no blank. Where blanks alone separate, a blank is such a byte too. `last` is
+/// its position.
+pub fn a_number_is_given<K: Kind>(kind: K, text: &[u8], gap: Gap)
+    ensures before { (is_last : Bool) (room start end last : ℕ) (x : K.Meaning) →
+        K.number_at kind text.now (past_blanks gap text.now start) ≡ Ok (x, end) →
+        past_blanks gap text.now start ≤ last → end ≤ last → last < length text.now →
+        K.has_byte kind (slice_index text.now last) ≡ false →
+        is_blank gap (slice_index text.now last) ≡ false →
+        take 1 (piece_at (K.number_at kind text.now) K.none_at gap text.now
+        (sure_end (K.has_byte kind) text.now) is_last (room + 1) start).0 ≡ x ∷ [] }
+    ensures blanks { (is_last : Bool) (room start end last : ℕ) (x : K.Meaning) →
+        K.number_at kind text.now (past_blanks gap text.now start) ≡ Ok (x, end) →
+        past_blanks gap text.now start ≤ last → end ≤ last → last < length text.now →
+        K.has_byte kind (slice_index text.now last) ≡ false → is_of_blanks gap ≡ true →
+        take 1 (piece_at (K.number_at kind text.now) K.none_at gap text.now
+        (sure_end (K.has_byte kind) text.now) is_last (room + 1) start).0 ≡ x ∷ [] }
 {}

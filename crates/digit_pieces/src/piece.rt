@@ -1,12 +1,13 @@
 //! Lists of numbers in a piece of a text, which are read into a slice.
 
-ghost use Rattle.std.specs.Prelude.{◌≡◌, ◌<◌, ◌≤◌, length, IfOk, IfErr};
-ghost use Rattle.digit_pieces.specs.Cuts.{sure_end};
-ghost use Rattle.digit_pieces.specs.Pieces.{of_list, is_of_blanks, is_sure, is_parted, next_start, piece_at, FillsPiece, IfAt};
+ghost use Rattle.std.specs.Prelude.{◌≡◌, ℕ, Bool, List, ◌<◌, ◌≤◌, length, false, IfSome, IfOk, IfErr};
+ghost use Rattle.digit_pieces.specs.Cuts.{sure_end, PartsNumbers};
+ghost use Rattle.digit_pieces.specs.Pieces.{of_list, is_of_blanks, is_sure, is_parted, next_start, piece_at, FillsPiece, IfAt, SoFar};
 
 use super::kind::Kind;
 use super::sure::sure_end;
 use digit_literals::{Gap, ListEnd};
+use digit_values::accepts;
 
 /// Why a piece of a text was read no further.
 #[derive(Clone, Copy, Debug, PartialEq, Eq)]
@@ -89,42 +90,120 @@ fn next_start(gap: Gap, text: &[u8], end: usize) -> Result<usize, usize>
     }
 }
 
-/// The numbers of a kind from `start` on, in a piece of a text, read into a slice, with what `gap`
-/// says between two of them. `is_last` says that nothing follows the piece. If something may, then
-/// a number that touches the end of the piece is left, with the blanks after it, since what follows
-/// may go on with it: the end is [`More`](PieceEnd::More). Where blanks alone separate, one blank
-/// after a number is enough, and [`Full`](PieceEnd::Full) is after it. Otherwise the piece is read
-/// and ends as a list does ([`read_list`](digit_literals::read_list)). Requires that the kind is
-/// valid and that `start` is within the text. Takes no memory.
-///
-/// So the numbers of a text can be read piece by piece, each piece after what was left of those
-/// before it ([`pieces_give_the_list`](crate::laws::pieces_give_the_list)).
-///
-/// ```text
-/// floats of `1.5,-2` with COMMAS: count 1, More(4); then of `-2e3`, the last: -2000, Over(4)
-/// ```
-#[inline(always)]
-#[tactic(auto, using(crate::proofs::Turns::turns))]
-pub fn read_piece<K: Kind>(
+/// How many bytes are looked at for the last separator of a piece.
+const NEAR: usize = 64;
+
+/// The last separator of a piece that is in no number and follows one, if it is among the last
+/// bytes before `sure`. From `start` on the numbers before it are the same, whatever follows it.
+fn last_separator<K: Kind>(
     kind: K,
     text: &[u8],
     start: usize,
+    sure: usize,
+    gap: Gap,
+) -> Option<usize>
+    requires { sure ≤ length text.now }
+    ensures { IfSome result (PartsNumbers (K.has_byte kind) gap text.now start) }
+{
+    let low = start.max(sure.saturating_sub(NEAR));
+    let mut found = None;
+    for at in (low..sure).rev() {
+        let byte = text[at];
+        if accepts(gap.separators, byte) {
+            if kind.has_byte(byte) {
+                return None;
+            }
+            found = Some(at);
+        } else if !accepts(gap.blanks, byte) && found.is_some() {
+            return found;
+        }
+    }
+    None
+}
+
+/// How far a piece was read as a list.
+#[derive(Clone, Copy)]
+struct Went {
+    /// How many numbers are in the slice.
+    count: usize,
+    /// Where the next one may be.
+    at: usize,
+}
+
+/// Reads a piece as a list up to its last separator, if it has one: how many numbers are in the
+/// slice, and where the next one may be; or why there are no more. It is code of its own, since
+/// what is inlined must be small.
+#[inline(never)]
+fn read_front<K: Kind>(
+    kind: K,
+    text: &[u8],
+    start: usize,
+    sure: usize,
+    gap: Gap,
+    out: &mut [K::Number],
+) -> Result<Went, PieceRead<K::Error>>
+    requires valid { K.valid kind }
+    requires within { start ≤ length text.now }
+    requires sure { sure ≡ sure_end (K.has_byte kind) text.now }
+    requires separators { gap.blanks_separate ≡ false }
+    ensures so { (is_last : Bool) → IfOk result (λ went.
+        SoFar K.meaning (K.number_at kind text.now) K.none_at gap text.now sure is_last start
+        went.count went.at out.old out.new) }
+    ensures fills { (is_last : Bool) → IfErr result (λ read.
+        FillsPiece K.meaning (piece_at (K.number_at kind text.now) K.none_at gap text.now sure
+        is_last (length out.old) start) read out.old out.new) }
+    ensures onward { IfOk result (λ went. start ≤ went.at) }
+    ensures within { IfOk result (λ went. went.at ≤ length text.now) }
+    ensures room { IfOk result (λ went. went.count ≤ length out.old) }
+    ensures count { IfErr result (λ read. read.count ≤ length out.old) }
+    ensures at { IfErr result (λ read.
+        IfAt read.end (λ at. (start ≤ at) × (at ≤ length text.now))) }
+    ensures length { length out.new ≡ length out.old }
+{
+    let Some(cut) = last_separator(kind, text, start, sure, gap) else {
+        return Ok(Went {
+            count: 0,
+            at: start,
+        });
+    };
+    let read = kind.read_list(&text[..cut], start, gap, out);
+    let count = read.count;
+    let end = match read.end {
+        ListEnd::Over(at) if at == cut => return Ok(Went { count, at: cut + 1 }),
+        ListEnd::Over(at) => PieceEnd::Over(at),
+        ListEnd::Full(at) => PieceEnd::Full(at),
+        ListEnd::Fault(error) => PieceEnd::Fault(error),
+    };
+    Err(PieceRead { count, end })
+}
+
+/// Reads the numbers of a piece from `begin` on one by one. `from` are in the slice.
+#[inline(always)]
+#[tactic(auto, using(crate::proofs::Turns::turns))]
+fn read_rest<K: Kind>(
+    kind: K,
+    text: &[u8],
+    begin: usize,
+    sure: usize,
     gap: Gap,
     is_last: bool,
     out: &mut [K::Number],
+    from: usize,
 ) -> PieceRead<K::Error>
     requires valid { K.valid kind }
-    requires within { start ≤ length text.now }
-    ensures is { let sure = sure_end (K.has_byte kind) text.now in
-        let read = piece_at (K.number_at kind text.now) K.none_at gap text.now sure is_last
-        (length out.old) start in
-        FillsPiece K.meaning read result out.old out.new }
+    requires within { begin ≤ length text.now }
+    requires room { from ≤ length out.old }
+    ensures fills { (start : ℕ) (old : List K.Number)
+        → SoFar K.meaning (K.number_at kind text.now) K.none_at gap text.now sure is_last start
+        from begin old out.old
+        → FillsPiece K.meaning (piece_at (K.number_at kind text.now) K.none_at gap text.now sure
+        is_last (length old) start) result old out.new }
     ensures count { result.count ≤ length out.old }
-    ensures at { IfAt result.end (λ at. (start ≤ at) × (at ≤ length text.now)) }
+    ensures at { IfAt result.end (λ at. (begin ≤ at) × (at ≤ length text.now)) }
+    ensures length { length out.new ≡ length out.old }
 {
-    let sure = sure_end(kind, text);
-    let mut at = start;
-    for count in 0..out.len() {
+    let mut at = begin;
+    for count in from..out.len() {
         let place = gap.past_blanks(text, at);
         if !is_sure(is_last, sure, place) {
             let end = PieceEnd::More(place);
@@ -156,4 +235,55 @@ pub fn read_piece<K: Kind>(
         count: out.len(),
         end: PieceEnd::Full(at),
     }
+}
+
+/// The numbers of a kind from `start` on, in a piece of a text, read into a slice, with what `gap`
+/// says between two of them. `is_last` says that nothing follows the piece. If something may, then
+/// a number that touches the end of the piece is left, with the blanks after it, since what follows
+/// may go on with it: the end is [`More`](PieceEnd::More). A number is given as soon as a byte
+/// follows it that no number may have and that is no blank
+/// ([`a_number_is_given`](crate::laws::a_number_is_given)). Where blanks alone separate, one blank
+/// after a number is enough, and [`Full`](PieceEnd::Full) is after it. Otherwise the piece is read
+/// and ends as a list does ([`read_list`](digit_literals::read_list)). Requires that the kind is
+/// valid and that `start` is within the text. Takes no memory.
+///
+/// So the numbers of a text can be read piece by piece, each piece after what was left of those
+/// before it ([`pieces_give_the_list`](crate::laws::pieces_give_the_list)).
+///
+/// ```text
+/// floats of `1.5,-2` with COMMAS: count 1, More(4); then of `-2e3`, the last: -2000, Over(4)
+/// ```
+#[inline(always)]
+#[tactic(auto, using(crate::proofs::Turns::turns))]
+pub fn read_piece<K: Kind>(
+    kind: K,
+    text: &[u8],
+    start: usize,
+    gap: Gap,
+    is_last: bool,
+    out: &mut [K::Number],
+) -> PieceRead<K::Error>
+    requires valid { K.valid kind }
+    requires within { start ≤ length text.now }
+    ensures is { let sure = sure_end (K.has_byte kind) text.now in
+        let read = piece_at (K.number_at kind text.now) K.none_at gap text.now sure is_last
+        (length out.old) start in
+        FillsPiece K.meaning read result out.old out.new }
+    ensures count { result.count ≤ length out.old }
+    ensures at { IfAt result.end (λ at. (start ≤ at) × (at ≤ length text.now)) }
+{
+    let sure = sure_end(kind, text);
+    let mut at = start;
+    let mut from = 0;
+    if !gap.blanks_separate && kind.is_list_faster(text, start, gap, out.len()) {
+        // a copy, so that the gap goes to memory here alone
+        match read_front(kind, text, start, sure, Gap { ..gap }, out) {
+            Ok(went) => {
+                at = went.at;
+                from = went.count;
+            }
+            Err(read) => return read,
+        }
+    }
+    read_rest(kind, text, at, sure, gap, is_last, out, from)
 }

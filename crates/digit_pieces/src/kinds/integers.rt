@@ -4,7 +4,7 @@ use super::bytes::{is_of_component, is_sign};
 use crate::kind::Kind;
 use digit_integers::Integer;
 pub use digit_literals::Integers;
-use digit_literals::ReadsOne;
+use digit_literals::{Gap, ListRead, ReadsOne, is_list_by_ends, read_list};
 use digit_values::LiteralError;
 use lexical_digits::skip::Component;
 
@@ -69,6 +69,22 @@ impl<T: Integer> Kind for Integers<T> {
     #[inline(always)]
     fn is_none_at(error: LiteralError, place: usize) -> bool {
         error.is_none_at(place)
+    }
+
+    #[inline(always)]
+    fn is_list_faster(self, text: &[u8], start: usize, gap: Gap, room: usize) -> bool {
+        is_list_by_ends(text, start, self.word, gap, room)
+    }
+
+    #[inline(always)]
+    fn read_list(
+        self,
+        text: &[u8],
+        start: usize,
+        gap: Gap,
+        out: &mut [T],
+    ) -> ListRead<LiteralError> {
+        read_list::<T>(text, start, self.word, gap, out)
     }
 
     ghost follows = { λ k one other at start valid upto from.

@@ -129,6 +129,29 @@ fn a_row_of_each_kind(rt: HostRuntime) {
     assert!(rt; read.count == 2 && read.end == ListEnd::Over(4) && three == [1, 2, 0]);
 }
 
+/// A list of a kind that is read by its ends, into 64 places.
+#[test]
+#[tactic(auto, unfolding(lexical_format::proofs::OnLiterals::lexical_on_literals))]
+fn long_lists_of_a_kind(rt: HostRuntime) {
+    let text =
+        b"100000000000000001,200000000000000002,300000000000000003,400000000000000004,500000000000000005,6]";
+    let kind = Integers::<i64>::new(STANDARD);
+    let mut out = [0; 64];
+    let read = read_list_by(kind, text, 0, COMMAS, &mut out);
+    assert!(rt;
+        read.count == 6 && read.end == ListEnd::Over(96),
+        "{read:?}"
+    );
+    assert!(rt; out[0] == 100_000_000_000_000_001 && out[5] == 6 && out[6] == 0);
+    let row = parse_list(kind, &text[..94], COMMAS, &mut out);
+    assert!(rt;
+        row == Ok(5) && out[4] == 500_000_000_000_000_005,
+        "{row:?}"
+    );
+    let row = parse_list(kind, text, COMMAS, &mut out);
+    assert!(rt; row == Err(ListError::Invalid(96)), "{row:?}");
+}
+
 /// A text, and its list by JSON's grammar from 1 on, of up to two numbers.
 type Array = (
     &'static [u8],

@@ -6,7 +6,9 @@ use digit_floats::FloatError;
 use digit_languages::languages::RUST;
 use digit_literals::{COMMAS, Gap, LINES, LiteralError, SPACES_IN_LINE, WHITESPACE};
 use digit_numbers::{Number, forms};
-use digit_pieces::laws::{a_piece_goes_on, a_text_is_a_list, pieces_give_the_list};
+use digit_pieces::laws::{
+    a_number_is_given, a_piece_goes_on, a_text_is_a_list, pieces_give_the_list,
+};
 use digit_pieces::{
     Both, BothError, Floats, Integers, Kind, OfForm, OfLanguage, PieceEnd, Scaled,
     read_float_list_piece, read_list_piece, read_list_piece_of, read_piece, read_scaled_list_piece,
@@ -73,6 +75,119 @@ fn pieces_that_are_not_the_last(rt: HostRuntime) {
     }
 }
 
+/// A piece, what is between its numbers, whether it is the last, how many of its integers are read
+/// into 64 places, and why no more. They are read as a list up to the last separator.
+type LongRow = (&'static [u8], Gap, bool, usize, PieceEnd<LiteralError>);
+
+static LONG_ROWS: [LongRow; 13] = [
+    (
+        b"100000000000000001,200000000000000002,300000000000000003,400000000000000004,500000000000000005,6",
+        COMMAS,
+        false,
+        5,
+        PieceEnd::More(95),
+    ),
+    (
+        b"100000000000000001,200000000000000002,300000000000000003,400000000000000004,500000000000000005,6",
+        COMMAS,
+        true,
+        6,
+        PieceEnd::Over(96),
+    ),
+    (
+        b"100000000000000001,200000000000000002,300000000000000003,400000000000000004,500000000000000005",
+        COMMAS,
+        false,
+        4,
+        PieceEnd::More(76),
+    ),
+    (
+        b"100000000000000001,200000000000000002,300000000000000003,400000000000000004,500000000000000005",
+        COMMAS,
+        true,
+        5,
+        PieceEnd::Over(94),
+    ),
+    (
+        b"100000000000000001,200000000000000002,300000000000000003,400000000000000004,500000000000000005]",
+        COMMAS,
+        false,
+        5,
+        PieceEnd::Over(94),
+    ),
+    (
+        b"100000000000000001,200000000000000002,300000000000000003,400000000000000004,500000000000000005,",
+        COMMAS,
+        false,
+        5,
+        PieceEnd::More(95),
+    ),
+    (
+        b"100000000000000001,200000000000000002,300000000000000003,400000000000000004,500000000000000005,",
+        COMMAS,
+        true,
+        5,
+        PieceEnd::Fault(LiteralError::Empty(95)),
+    ),
+    (
+        b"100000000000000001,200000000000000002,300000000000000003,400000000000000004,500000000000000005 , ",
+        COMMAS,
+        false,
+        5,
+        PieceEnd::More(97),
+    ),
+    (
+        b"100000000000000001,200000000000000002,300000000000000003,400000000000000004,500000000000000005,,7,",
+        COMMAS,
+        false,
+        5,
+        PieceEnd::Fault(LiteralError::Empty(95)),
+    ),
+    (
+        b"100000000000000001,200000000000000002,300000000000000003,400000000000000004,500000000000000005x,7,",
+        COMMAS,
+        false,
+        5,
+        PieceEnd::Over(94),
+    ),
+    (
+        b"100000000000000001\n200000000000000002\n300000000000000003\n400000000000000004\n500000000000000005\n\n7\n",
+        LINES,
+        false,
+        5,
+        PieceEnd::Over(95),
+    ),
+    (
+        b"100000000000000001\n200000000000000002\n300000000000000003\n400000000000000004\n500000000000000005\r\n6",
+        LINES,
+        false,
+        5,
+        PieceEnd::More(96),
+    ),
+    (
+        b"100000000000000001,9999999999999999999,300000000000000003,400000000000000004,500000000000000005,",
+        COMMAS,
+        false,
+        1,
+        PieceEnd::Fault(LiteralError::Overflow(37)),
+    ),
+];
+
+#[test]
+#[tactic(auto, unfolding(lexical_format::proofs::OnLiterals::lexical_on_literals))]
+fn long_pieces(rt: HostRuntime) {
+    for &(piece, gap, is_last, count, end) in &LONG_ROWS {
+        let mut out = [0; 64];
+        let read = read_list_piece::<i64>(piece, 0, STANDARD, gap, is_last, &mut out);
+        assert!(rt;
+            read.count == count && read.end == end,
+            "{piece:?}: {read:?}"
+        );
+        assert!(rt; out[0] == 100_000_000_000_000_001);
+        assert!(rt; out[1] == 200_000_000_000_000_002 || count == 1);
+    }
+}
+
 #[test]
 #[tactic(auto, unfolding(lexical_format::proofs::OnLiterals::lexical_on_literals))]
 fn a_piece_of_each_kind(rt: HostRuntime) {
@@ -116,6 +231,7 @@ fn a_full_slice_waits_for_no_blank(rt: HostRuntime) {
         );
     }
     assert!(rt; two == [3, 2]);
+    a_number_is_given(kind, b"1 2", WHITESPACE);
     a_piece_goes_on(kind, b"1 2", WHITESPACE);
     a_text_is_a_list(kind, b"1 2", WHITESPACE);
     pieces_give_the_list(kind, WHITESPACE);
