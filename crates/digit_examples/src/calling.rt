@@ -62,7 +62,7 @@ fn a_bad_line(rt: HostRuntime) {
     assert!(rt; numbers.next_number() == Some(Ok(1)));
     assert!(rt; numbers.next_number() == Some(Ok(2)));
     assert!(rt; numbers.next_number() == None);
-    assert!(rt; numbers.finish() == Err(StreamError::Trailing(3)));
+    assert!(rt; numbers.finish() == Err(StreamError::Trailing(3, Some(LiteralError::Empty(3)))));
 
     let mut buffer = [0; 64];
     let stream = b"1\n-\n".as_slice();

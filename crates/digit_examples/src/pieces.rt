@@ -149,7 +149,10 @@ fn what_follows_a_stream(rt: HostRuntime) {
     let mut numbers = NumberReader::new(stream, &mut buffer, kind, LINES);
     assert_eq!(rt; numbers.next_number(), Some(Ok(1)));
     assert_eq!(rt; numbers.next_number(), None);
-    assert_eq!(rt; numbers.finish(), Err(StreamError::Trailing(2)));
+    assert_eq!(rt;
+        numbers.finish(),
+        Err(StreamError::Trailing(2, Some(LiteralError::Empty(2))))
+    );
 }
 
 /// Shows `NumberReader::read_into`, `NumberReader::position`, `NumberReader::unread`.

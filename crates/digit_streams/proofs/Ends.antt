@@ -90,7 +90,7 @@ module _ {A E : Type 0} (one : List ℕ → ℕ → Result (A × ℕ) E) (none_a
   reason_end (Fault (NoRoom at)) position text place = tt
   reason_end (Fault (Read kind)) position text place = absurd place
   reason_end (Fault TooLong) position text place = place
-  reason_end (Fault (Trailing at)) position text place = absurd place
+  reason_end (Fault (Trailing at why)) position text place = absurd place
 
   pub reason_failed : (error : StreamError E) (position : ℕ) (text : List ℕ) → IsFailure error
       → IsLeft one none_at has gap text
@@ -99,7 +99,7 @@ module _ {A E : Type 0} (one : List ℕ → ℕ → Result (A × ℕ) E) (none_a
   reason_failed (NoRoom at) position text is left = tt
   reason_failed (Read kind) position text is left = (is, left)
   reason_failed TooLong position text is left = absurd is
-  reason_failed (Trailing at) position text is left = absurd is
+  reason_failed (Trailing at why) position text is left = absurd is
 
 -- ---- where the list goes on
 
@@ -135,7 +135,7 @@ module _ {A E : Type 0} (list : ℕ → List ℕ → ℕ → StreamNumbers A E) 
         are = refl;
         on = rw (still, counted) (h apart);
       }) goes
-  stands_end more (Fault (Trailing i)) Long place still goes = absurd place
+  stands_end more (Fault (Trailing i why)) Long place still goes = absurd place
 
   pub stands_failed : (error : StreamError E) → IsFailure error
       → IfSome text (λ whole. Apart → GoesOn (list from whole room) numbers
@@ -148,7 +148,7 @@ module _ {A E : Type 0} (list : ℕ → List ℕ → ℕ → StreamNumbers A E) 
   stands_failed (Read kind) is goes =
       some_then text _ _ (λ whole h apart. rw counted (h apart)) goes
   stands_failed TooLong is goes = absurd is
-  stands_failed (Trailing i) is goes = absurd is
+  stands_failed (Trailing i why) is goes = absurd is
 
   pub stands_long : IfSome text (λ whole. Apart → GoesOn (list from whole room) numbers
       (list to (drop (to - from) whole) (room - count)))

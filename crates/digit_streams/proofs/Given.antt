@@ -97,7 +97,7 @@ here (Fault (Number error)) position capacity held place = tt
 here (Fault (NoRoom at)) position capacity held place = tt
 here (Fault (Read kind)) position capacity held place = tt
 here (Fault TooLong) position capacity held place = tt
-here (Fault (Trailing at)) position capacity held place = absurd place
+here (Fault (Trailing at why)) position capacity held place = absurd place
 
 module _ {A E : Type 0} where
   -- what a call gives, after numbers for which the room was full
@@ -112,7 +112,7 @@ module _ {A E : Type 0} where
       (h.0, ap (λ l. numbers ++ l) h.1 ∙ sym (append_assoc numbers more h.0))
   gives_both list numbers more (Fault TooLong) h =
       (h.0, ap (λ l. numbers ++ l) h.1 ∙ sym (append_assoc numbers more h.0))
-  gives_both list numbers more (Fault (Trailing at)) h =
+  gives_both list numbers more (Fault (Trailing at why)) h =
       (h.0, ap (λ l. numbers ++ l) h.1 ∙ sym (append_assoc numbers more h.0))
 
   module _ (list : ℕ → List ℕ → ℕ → StreamNumbers A E) where

@@ -3,8 +3,10 @@ pub mod Ends
 pub mod Finished
 pub mod ForCallers
 pub mod Known
+pub mod Messages
 pub mod Passed
 pub mod PiecesHeld
+pub mod Reasons
 pub mod Single
 pub mod Stuck
 pub mod SureHere

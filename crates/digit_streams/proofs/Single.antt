@@ -49,7 +49,7 @@ module _ {A E : Type 0} where
   gives_one list x (Fault (NoRoom at)) short h = h.1 ∙ ap (λ l. x ∷ l) (short x h.0 h.1)
   gives_one list x (Fault (Read kind)) short h = h.1 ∙ ap (λ l. x ∷ l) (short x h.0 h.1)
   gives_one list x (Fault TooLong) short h = h.1 ∙ ap (λ l. x ∷ l) (short x h.0 h.1)
-  gives_one list x (Fault (Trailing at)) short h = h.1 ∙ ap (λ l. x ∷ l) (short x h.0 h.1)
+  gives_one list x (Fault (Trailing at why)) short h = h.1 ∙ ap (λ l. x ∷ l) (short x h.0 h.1)
 
   short_after : (one : List ℕ → ℕ → Result (A × ℕ) E) (none_at : ℕ → E → Bool) (later : ℕ → E → E)
       (gap : Gap) (position : ℕ) (text : List ℕ) (ended : Option (Ended E))
@@ -67,7 +67,7 @@ module _ {A E : Type 0} where
   next_is meaning list None (Fault (NoRoom at)) full short h = tt
   next_is meaning list None (Fault (Read kind)) full short h = tt
   next_is meaning list None (Fault TooLong) full short h = tt
-  next_is meaning list None (Fault (Trailing at)) full short h = tt
+  next_is meaning list None (Fault (Trailing at why)) full short h = tt
 
   -- a number that is given is the list's only one
   pub gives_next : {V : Type 0} (meaning : V → A) (one : List ℕ → ℕ → Result (A × ℕ) E)

@@ -178,8 +178,8 @@ module _ {A E : Type 0} (one : List ℕ → ℕ → Result (A × ℕ) E) (none_a
       place fits uses is = tt
   no_room errors.TooLong filled held old is_last room from to position capacity numbers same
       place fits uses is = tt
-  no_room (errors.Trailing at) filled held old is_last room from to position capacity numbers same
-      place fits uses is = tt
+  no_room (errors.Trailing at why) filled held old is_last room from to position capacity numbers
+      same place fits uses is = tt
 
 -- a buffer holds at most its length
 pub unread_fits : (w : Window) → length (unread w) ≤ length w.buffer.now

@@ -84,7 +84,7 @@ module _ {A E : Type 0} where
       (two.0, rw (one, two.1) (sym (append_assoc numbers more two.0)))
   goes_on_twice list numbers others more (held.End (Fault TooLong)) rest one two =
       (two.0, rw (one, two.1) (sym (append_assoc numbers more two.0)))
-  goes_on_twice list numbers others more (held.End (Fault (Trailing at))) rest one two =
+  goes_on_twice list numbers others more (held.End (Fault (Trailing at why))) rest one two =
       (two.0, rw (one, two.1) (sym (append_assoc numbers more two.0)))
 
   -- where there are others, these are the first
@@ -95,7 +95,7 @@ module _ {A E : Type 0} where
   first_are list numbers others (NoRoom at) one is = (others.0, ap (λ l. l.0) one)
   first_are list numbers others (Read kind) one is = (others.0, ap (λ l. l.0) one)
   first_are list numbers others TooLong one is = absurd is
-  first_are list numbers others (Trailing at) one is = absurd is
+  first_are list numbers others (Trailing at why) one is = absurd is
 
   module _ (list : ℕ → List ℕ → ℕ → StreamNumbers A E) (Apart : Type 0) (from at to : ℕ)
       (room before left : ℕ) (numbers more : List A) (end : Held E) (old new : List ℕ)

@@ -1,5 +1,6 @@
 -- Errors of a stream: after which of them a call goes on, and what is printed of one.
 use Rattle.std.specs.Prelude.{Bool, true, false, ℕ, List, ◌++◌, codes, decimal, Option, None, Some}
+use Rattle.std.specs.Fmt.{◌++?◌}
 use Rattle.std.specs.declared.io.ErrorKind.{ErrorKind}
 use Rattle.std.specs.declared.io.ErrorKind.TheVariants.{WouldBlock, TimedOut}
 use Rattle.digit_streams.specs.declared.stream.StreamError.{StreamError}
@@ -17,7 +18,7 @@ may_go_on (Number error) = false
 may_go_on (NoRoom at) = false
 may_go_on (Read kind) = may_try_again kind
 may_go_on TooLong = false
-may_go_on (Trailing at) = false
+may_go_on (Trailing at why) = false
 
 -- what is printed of an error, where it is known; `output` says it of a number's error
 abbrev pub stream_message : {E : Type 0} → (E → Option (List ℕ)) → StreamError E
@@ -28,5 +29,7 @@ stream_message output (NoRoom at) =
 stream_message output (Read kind) = None
 stream_message output TooLong =
     Some (codes "a position is above " ++ decimal 18446744073709551615)
-stream_message output (Trailing at) =
+stream_message output (Trailing at None) =
     Some (codes "the byte at " ++ decimal at ++ codes " follows the numbers")
+stream_message output (Trailing at (Some error)) =
+    Some (codes "the byte at " ++ decimal at ++ codes " follows the numbers: ") ++? output error

@@ -1,5 +1,5 @@
 -- Lists of numbers in a stream. Positions count bytes of the stream.
-use Rattle.std.specs.Prelude.{◌≡◌, ◌≢◌, Bool, true, false, ⊤, ℕ, ◌+◌, ◌-◌, ◌^◌, ◌≤◌, ◌⊎◌, if◌then◌else◌, List, [], ◌∷◌, ◌++◌, length, drop, slice_get, Option, None, Some, IfSome, Result, Ok, Err}
+use Rattle.std.specs.Prelude.{◌≡◌, ◌≢◌, Bool, true, false, ⊤, ℕ, ◌+◌, ◌-◌, ◌^◌, ◌≤◌, ◌⊎◌, nat_lt, if◌then◌else◌, List, [], ◌∷◌, ◌++◌, length, drop, slice_get, Option, None, Some, IfSome, Result, Ok, Err}
 use Rattle.std.specs.declared.io.ErrorKind.TheVariants.{Interrupted}
 use Rattle.digit_literals.specs.declared.list.Gap.{Gap}
 use Rattle.digit_literals.specs.declared.list.ListEnd.{ListEnd}
@@ -9,7 +9,7 @@ use Rattle.digit_literals.specs.Numbers.{has_byte}
 use Rattle.digit_pieces.specs.declared.piece.PieceEnd.{PieceEnd}
 use Rattle.digit_pieces.specs.declared.piece.PieceEnd.TheVariants as pieces
 use Rattle.digit_pieces.specs.Cuts.{sure_end}
-use Rattle.digit_pieces.specs.Pieces.{PieceNumbers, piece_at, whole_at}
+use Rattle.digit_pieces.specs.Pieces.{PieceNumbers, is_sure, piece_at, whole_at}
 use Rattle.digit_streams.specs.Errors.{may_go_on}
 use Rattle.digit_streams.specs.declared.stream.StreamEnd.{StreamEnd}
 use Rattle.digit_streams.specs.declared.stream.StreamEnd.TheVariants.{Full, Over, Fault}
@@ -69,6 +69,8 @@ pub record Stream (K E : Type 0) : Type 0 where
   pub bytes : Option (List ℕ)
   -- the length of the buffer
   pub capacity : ℕ
+  -- whether the reader said that it is at its end
+  pub is_over : Bool
   -- an end that is answered again
   pub ended : Option (Ended E)
 
@@ -89,7 +91,7 @@ IsFailure (Number error) = ⊥
 IsFailure (NoRoom at) = ⊤
 IsFailure (Read kind) = kind ≢ Interrupted
 IsFailure TooLong = ⊥
-IsFailure (Trailing at) = ⊥
+IsFailure (Trailing at why) = ⊥
 
 -- These numbers and this end are those of a list. Where the reader failed, or the buffer is too
 -- small, the numbers are the first of the list.
@@ -100,7 +102,7 @@ Gives list numbers (Fault (Number error)) = list ≡ (numbers, Fault (Number err
 Gives list numbers (Fault (NoRoom at)) = BeginsWith list.0 numbers
 Gives list numbers (Fault (Read kind)) = BeginsWith list.0 numbers
 Gives list numbers (Fault TooLong) = BeginsWith list.0 numbers
-Gives list numbers (Fault (Trailing at)) = BeginsWith list.0 numbers
+Gives list numbers (Fault (Trailing at why)) = BeginsWith list.0 numbers
 
 -- a list has these numbers, and then others
 abbrev pub GoesOn : {A E : Type 0} → StreamNumbers A E → List A → StreamNumbers A E → Type 0
@@ -134,7 +136,7 @@ IsPlace (Fault (Number error)) position capacity held = ⊤
 IsPlace (Fault (NoRoom at)) position capacity held = (at ≡ position) × (capacity ≤ held)
 IsPlace (Fault (Read kind)) position capacity held = ⊤
 IsPlace (Fault TooLong) position capacity held = ⊤
-IsPlace (Fault (Trailing at)) position capacity held = ⊥
+IsPlace (Fault (Trailing at why)) position capacity held = ⊥
 
 -- the numbers of the bytes that a buffer holds, as many as there is room for
 abbrev pub held_piece : {A E : Type 0} → (List ℕ → ℕ → Result (A × ℕ) E) → (ℕ → E → Bool)
@@ -161,7 +163,7 @@ IfNoRoom (Fault (Number error)) P = ⊤
 IfNoRoom (Fault (NoRoom at)) P = P
 IfNoRoom (Fault (Read kind)) P = ⊤
 IfNoRoom (Fault TooLong) P = ⊤
-IfNoRoom (Fault (Trailing at)) P = ⊤
+IfNoRoom (Fault (Trailing at why)) P = ⊤
 
 -- These bytes are what was left of a piece that was read: no number in them was sure.
 abbrev pub IsLeft : {A E : Type 0} → (List ℕ → ℕ → Result (A × ℕ) E) → (ℕ → E → Bool)
@@ -199,7 +201,7 @@ HasReason one none_at error_at has gap (Fault (Read kind)) position text =
     (kind ≢ Interrupted) × IsLeft one none_at has gap text
 HasReason one none_at error_at has gap (Fault TooLong) position text =
     IsTooLong one none_at error_at has gap position text
-HasReason one none_at error_at has gap (Fault (Trailing at)) position text = ⊥
+HasReason one none_at error_at has gap (Fault (Trailing at why)) position text = ⊥
 
 -- Where a piece ends. It has no reason of a reader; a position may be too large, if `Long`.
 abbrev pub IsHeldPlace : {E : Type 0} → Held E → ℕ → Type 0 → Type 0
@@ -210,7 +212,7 @@ IsHeldPlace (held.End (Fault (Number error))) position Long = ⊤
 IsHeldPlace (held.End (Fault (NoRoom at))) position Long = ⊥
 IsHeldPlace (held.End (Fault (Read kind))) position Long = ⊥
 IsHeldPlace (held.End (Fault TooLong)) position Long = Long
-IsHeldPlace (held.End (Fault (Trailing at))) position Long = ⊥
+IsHeldPlace (held.End (Fault (Trailing at why))) position Long = ⊥
 
 -- a fact, if a piece ends with an error
 abbrev pub IfHeldFault : {E : Type 0} → Held E → Type 0 → Type 0
@@ -243,7 +245,7 @@ StandsAfter list numbers (Fault (Number error)) others = ComeAgain list numbers 
 StandsAfter list numbers (Fault (NoRoom at)) others = GoesOn list numbers (others (length numbers))
 StandsAfter list numbers (Fault (Read kind)) others = GoesOn list numbers (others (length numbers))
 StandsAfter list numbers (Fault TooLong) others = ComeAgain list numbers others
-StandsAfter list numbers (Fault (Trailing at)) others = ⊤
+StandsAfter list numbers (Fault (Trailing at why)) others = ⊤
 
 -- a fact, if there is an error
 abbrev pub IfEndsFault : {E : Type 0} → StreamEnd E → Type 0 → Type 0
@@ -261,7 +263,7 @@ IsNext meaning list (Some (Err (Number error))) = list ≡ ([], Fault (Number er
 IsNext meaning list (Some (Err (NoRoom at))) = ⊤
 IsNext meaning list (Some (Err (Read kind))) = ⊤
 IsNext meaning list (Some (Err TooLong)) = ⊤
-IsNext meaning list (Some (Err (Trailing at))) = ⊤
+IsNext meaning list (Some (Err (Trailing at why))) = ⊤
 
 -- the same of what `next_number` answers
 abbrev pub IsPlaceOfNext : {V E : Type 0} → Option (Result V (StreamError E))
@@ -347,7 +349,36 @@ IfTrailing (Number error) P = ⊤
 IfTrailing (NoRoom at) P = ⊤
 IfTrailing (Read kind) P = ⊤
 IfTrailing TooLong P = ⊤
-IfTrailing (Trailing at) P = P at
+IfTrailing (Trailing at why) P = P at
+
+-- a fact of why no number begins where a stream goes on after its numbers
+abbrev pub IfReason : {E : Type 0} → StreamError E → (Option E → Type 0) → Type 0
+IfReason (Number error) P = ⊤
+IfReason (NoRoom at) P = ⊤
+IfReason (Read kind) P = ⊤
+IfReason TooLong P = ⊤
+IfReason (Trailing at why) P = P why
+
+-- why there is no number of a text that begins at a position of the stream: its error with its
+-- position in the stream, if that is at most `u64::MAX`
+abbrev pub why_none : {A E : Type 0} → (E → ℕ) → (ℕ → E → E) → ℕ → Result (A × ℕ) E → Option E
+why_none error_at later position (Ok number) = None
+why_none error_at later position (Err error) =
+    if nat_lt (position + error_at error) (2 ^ 64) then Some (later position error) else None
+
+-- why no number begins at the front of such a text, past its blanks
+abbrev pub reason_of : {A E : Type 0} → (List ℕ → ℕ → Result (A × ℕ) E) → (E → ℕ) → (ℕ → E → E)
+    → Gap → ℕ → List ℕ → Option E
+reason_of one error_at later gap position text =
+    why_none error_at later position (one text (past_blanks gap text 0))
+
+-- The same of the bytes that a buffer holds, if it stays, whatever follows them: the reader is at
+-- its end, or a byte there ends every number.
+abbrev pub reason_held : {A E : Type 0} → (List ℕ → ℕ → Result (A × ℕ) E) → (E → ℕ)
+    → (ℕ → E → E) → (ℕ → Bool) → Gap → ℕ → List ℕ → Bool → Option E
+reason_held one error_at later has gap position text is_last =
+    if is_sure is_last (sure_end has text) (past_blanks gap text 0)
+    then reason_of one error_at later gap position text else None
 
 -- Why it isn't known whether a stream goes on after its numbers: the buffer holds nothing, and has
 -- no place, or the reader failed. No other error is answered, but for `Trailing`.
@@ -357,7 +388,7 @@ IsUnknown (Number error) position capacity held = ⊥
 IsUnknown (NoRoom at) position capacity held = (at ≡ position) × (capacity ≡ 0)
 IsUnknown (Read kind) position capacity held = (held ≡ []) × (kind ≢ Interrupted)
 IsUnknown TooLong position capacity held = ⊥
-IsUnknown (Trailing at) position capacity held = ⊤
+IsUnknown (Trailing at why) position capacity held = ⊤
 
 -- a fact of the error that is answered again
 abbrev pub IfFault : {E : Type 0} → Ended E → (StreamError E → Type 0) → Type 0
@@ -418,7 +449,7 @@ IsNoByte (Number error) position capacity held = ⊥
 IsNoByte (NoRoom at) position capacity held = (at ≡ position) × (capacity ≡ 0)
 IsNoByte (Read kind) position capacity held = (held ≡ []) × (kind ≢ Interrupted)
 IsNoByte TooLong position capacity held = 2 ^ 64 ≤ position + length held + 2
-IsNoByte (Trailing at) position capacity held = ⊥
+IsNoByte (Trailing at why) position capacity held = ⊥
 
 -- the end that is answered after a byte was looked for: none, if it was there
 abbrev pub ended_after : {E : Type 0} → Result Bool (StreamError E) → Option (Ended E)

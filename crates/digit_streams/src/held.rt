@@ -4,9 +4,9 @@ ghost use Rattle.std.specs.Prelude.{◌≡◌, ℕ, List, true, [], None, ◌+�
 ghost use Rattle.digit_pieces.specs.Texts.{IsApart};
 ghost use Rattle.digit_pieces.specs.Pieces.{IfAt};
 ghost use Rattle.digit_streams.specs.Windows.{unread};
-ghost use Rattle.digit_streams.specs.Streams.{AsksFor, Uses, IfHeldFault, IsHeldPlace, IsTooLong, ReadsOn, stream_list, held_of, reach, used, list_of_option};
+ghost use Rattle.digit_streams.specs.Streams.{AsksFor, Uses, IfHeldFault, IsHeldPlace, IsTooLong, ReadsOn, stream_list, held_of, reach, reason_held, used, list_of_option};
 
-use super::one::read_one;
+use super::one::{error_in, read_one};
 use super::stream::{StreamEnd, StreamError};
 use super::window::Window;
 use digit_literals::Gap;
@@ -168,4 +168,23 @@ pub fn read_held_one<K: Kind>(
             (read.number, Held::End(end))
         }
     }
+}
+
+/// Why no number begins in what a window holds, past its blanks. `is_last` says that the reader is
+/// at its end. `None` if a number begins there, or may, or if the position of the error is above
+/// `u64::MAX`.
+pub fn reason_held<K: Kind>(
+    window: &Window<'_>,
+    kind: K,
+    gap: Gap,
+    is_last: bool,
+) -> Option<K::Error>
+    requires { K.valid kind }
+    ensures { result ≡ reason_held (K.number_at kind) K.error_at K.error_later (K.has_byte kind)
+        gap window.now.position (unread window.now) is_last }
+{
+    let error = error_in(kind, gap, window.unread(), is_last)?;
+    let position = window.position();
+    position.checked_add(K::error_at(error) as u64)?;
+    Some(K::error_later(error, position as usize))
 }

@@ -1,6 +1,8 @@
 //! The next number of a piece of a text.
 
-ghost use Rattle.std.specs.Prelude.{◌≡◌, true, ℕ, None, ◌<◌, ◌≤◌, length, nat_lt, IsSome, IfOk, IfErr};
+ghost use Rattle.std.specs.Prelude.{◌≡◌, true, ℕ, None, ◌<◌, ◌≤◌, if◌then◌else◌, length, nat_lt, IsSome, IfOk, IfErr};
+ghost use Rattle.std.specs.Result.{result_err};
+ghost use Rattle.digit_literals.specs.Lists.{past_blanks};
 ghost use Rattle.digit_pieces.specs.Cuts.{sure_end};
 ghost use Rattle.digit_pieces.specs.Pieces.{IfAt, is_of_blanks, is_sure, is_parted, next_start, of_list, piece_at};
 ghost use Rattle.digit_streams.specs.Streams.{list_of_option};
@@ -46,6 +48,20 @@ fn is_sure<K: Kind>(kind: K, text: &[u8], is_last: bool, place: usize, end: usiz
     ensures { result ≡ is_sure is_last (sure_end (K.has_byte kind) text.now) place }
 {
     is_last || ends_at(kind, text, end) || has_end(kind, text, place)
+}
+
+/// Why no number begins in a piece, past its blanks. `None` if one begins there, or may.
+pub fn error_in<K: Kind>(kind: K, gap: Gap, text: &[u8], is_last: bool) -> Option<K::Error>
+    requires { K.valid kind }
+    ensures { let place = past_blanks gap text.now 0 in
+        result ≡ (if is_sure is_last (sure_end (K.has_byte kind) text.now) place
+        then result_err (K.number_at kind text.now place) else None) }
+{
+    let place = gap.past_blanks(text, 0);
+    match kind.read_number(text, place) {
+        Ok(_) => None,
+        Err(error) => is_sure(kind, text, is_last, place, place).then_some(error),
+    }
 }
 
 /// Whether blanks alone separate.

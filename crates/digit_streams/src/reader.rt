@@ -2,6 +2,7 @@
 
 use super::filling::{fill, pass_blanks, read_next, read_stream};
 use super::format::Format;
+use super::held::reason_held;
 use super::stream::{Ended, StreamEnd, StreamError, StreamRead, ended_by, next_of};
 use super::window::Window;
 use digit_literals::Gap;
@@ -16,7 +17,7 @@ use std::marker::Model;
 ///
 /// ```text
 /// `1.5\n-2e3\n` by `Floats` and `LINES`: Some(Ok(1.5)), Some(Ok(-2000.0)), None; Ok(())
-/// `1\nx` by `Integers` and `LINES`: Some(Ok(1)), None; Err(Trailing(2))
+/// `1\nx` by `Integers` and `LINES`: Some(Ok(1)), None; Err(Trailing(2, Some(Empty(2))))
 /// ```
 ///
 /// Give it `&mut reader` to read on from the reader later: it has given the bytes before the
@@ -27,7 +28,8 @@ use std::marker::Model;
 ///
 /// A number has to fit the buffer, with the blanks after it and the byte that ends them, or one
 /// blank where blanks alone separate; at the end of the stream too, one byte more than the number.
-/// Otherwise there is [`NoRoom`](StreamError::NoRoom). It is answered as soon as that byte is read.
+/// Otherwise a call answers [`NoRoom`](StreamError::NoRoom). A call answers a number as soon as it
+/// has read that byte.
 #[derive(Drop)]
 pub struct NumberReader<'b, K: Kind, R: Read> {
     format: Format<K>,
@@ -52,6 +54,7 @@ impl<'b, K: Kind, R: Read> Model for NumberReader<'b, K, R> {
       held = unread r.window;
       bytes = bytes_left r.window (R.remaining r.reader);
       capacity = length r.window.buffer.now;
+      is_over = r.is_over;
       ended = r.ended;
     } };
 
@@ -62,7 +65,7 @@ impl<'b, K: Kind, R: Read> NumberReader<'b, K, R> {
     ghost use Rattle.std.specs.Prelude.{◌≡◌, ◌-◌, ◌<◌, ◌≤◌, [], length, map, take, drop, None, Err, IfSome, IfNone, IfOk, IfErr, OnOk, IsSome, ℕ, List, Option, ◌++◌};
     ghost use Rattle.std.specs.Io.KnownBytes.{Keeps};
     ghost use Rattle.digit_pieces.specs.Texts.{IsApart};
-    ghost use Rattle.digit_streams.specs.Streams.{EndsSo, Gives, GoesOn, HasGiven, HasGivenFrom, HasReason, IfEndsFault, IfFault, IfNoFault, IfNoRoom, IfNoRoomOfNext, IfTrailing, IsNext, IsNoByte, IsPlace, IsPlaceOfNext, IsUnknown, NeedsMore, Passes, SkipsBlanks, StandsAfter, UsesKnown, stream_list, numbers_of, numbers_of_next, end_by, end_of_next, ended_after, ended_by, next_again, end_again, list_of_option};
+    ghost use Rattle.digit_streams.specs.Streams.{EndsSo, Gives, GoesOn, HasGiven, HasGivenFrom, HasReason, IfEndsFault, IfFault, IfNoFault, IfNoRoom, IfNoRoomOfNext, IfReason, IfTrailing, IsNext, IsNoByte, IsPlace, IsPlaceOfNext, IsUnknown, NeedsMore, Passes, SkipsBlanks, StandsAfter, UsesKnown, stream_list, numbers_of, numbers_of_next, end_by, end_of_next, ended_after, ended_by, next_again, end_again, list_of_option, reason_held, reason_of};
 
     /// A reader of the numbers of a stream. Requires that the kind is valid.
     pub fn new(reader: R, buffer: &'b mut [u8], kind: K, gap: Gap) -> NumberReader<'b, K, R>
@@ -109,9 +112,9 @@ impl<'b, K: Kind, R: Read> NumberReader<'b, K, R> {
         }
     }
 
-    /// The position in the stream of the first byte that was not used yet: after the numbers that
-    /// were read, and after the separator that follows them, or one blank where blanks alone
-    /// separate. After the error [`Number`](StreamError::Number) of
+    /// The position in the stream of the first byte that no call has used yet: after the numbers
+    /// that the calls gave, and after the separator that follows them, or one blank where blanks
+    /// alone separate. After the error [`Number`](StreamError::Number) of
     /// [`read_into`](NumberReader::read_into) some numbers that it gave may follow this position.
     pub fn position(&self) -> u64
         ensures { result ≡ self.now.position }
@@ -128,11 +131,11 @@ impl<'b, K: Kind, R: Read> NumberReader<'b, K, R> {
     }
 
     /// Reads numbers into a slice, until it is full, the list is over, or no number is where one
-    /// has to be. The front of the slice has the numbers that were read, its rest isn't touched.
+    /// has to be. It writes the numbers into the front of the slice, and leaves its rest as it is.
     ///
     /// If the list was over, or there was an error, then each later call answers that again. But
     /// after [`Read`](StreamError::Read) of `WouldBlock` or `TimedOut` the next call goes on, and
-    /// no byte is lost.
+    /// loses no byte.
     pub fn read_into(&mut self, out: &mut [K::Number]) -> StreamRead<K::Error>
         ensures list { IfSome self.old.bytes (λ bytes.
             IsApart (K.has_byte self.old.kind) self.old.gap →
@@ -190,7 +193,7 @@ impl<'b, K: Kind, R: Read> NumberReader<'b, K, R> {
     ///
     /// If the list was over, or there was an error, then each later call answers that again. But
     /// after [`Read`](StreamError::Read) of `WouldBlock` or `TimedOut` the next call goes on, and
-    /// no byte is lost.
+    /// loses no byte.
     pub fn next_number(&mut self) -> Option<Result<K::Number, StreamError<K::Error>>>
         ensures next { IfSome self.old.bytes (λ bytes.
             IsApart (K.has_byte self.old.kind) self.old.gap →
@@ -267,8 +270,8 @@ impl<'b, K: Kind, R: Read> NumberReader<'b, K, R> {
     /// `[ ]`: pass_byte(b'[') is Ok(true), and pass_byte(b']') Ok(true)
     /// ```
     ///
-    /// A buffer of one byte is enough. If the reader fails, the next call looks on from there. An
-    /// error of the numbers is answered again.
+    /// A buffer of one byte is enough. If the reader fails, the next call looks on from there.
+    /// After an error of the numbers it answers that again.
     pub fn pass_byte(&mut self, byte: u8) -> Result<bool, StreamError<K::Error>>
         ensures passes { IfOk result (λ is. IfSome self.old.bytes (λ bytes.
             Passes self.old.gap byte bytes 0 is (self.new.position - self.old.position))) }
@@ -305,17 +308,35 @@ impl<'b, K: Kind, R: Read> NumberReader<'b, K, R> {
         self.find_byte(byte)
     }
 
-    /// Whether the stream is at its end: nothing follows the bytes that were used. If something
-    /// does, the error is [`Trailing`](StreamError::Trailing) with the position. After an error,
-    /// that is answered again. Call it after the last number: a list is over where no number
-    /// begins, as at a letter, or by [`LINES`](digit_literals::LINES) at an empty line. Where
-    /// blanks alone separate, the blanks at the end are used as
-    /// [`next_number`](NumberReader::next_number) answers `None`.
+    /// Whether the stream is at its end: nothing follows the bytes that the calls used. If
+    /// something does, the error is [`Trailing`](StreamError::Trailing), with the position and the
+    /// reason why no number begins there. After an error it answers that again. Call it after the
+    /// last number: a list is over where no number begins, as at a letter, or by
+    /// [`LINES`](digit_literals::LINES) at an empty line. Where blanks alone separate,
+    /// [`next_number`](NumberReader::next_number) uses the blanks at the end before it answers
+    /// `None`.
+    ///
+    /// ```text
+    /// `1.50` by `Enclosed` in `"` and `LINES`: None; Err(Trailing(0, Some(NoOpening(0))))
+    /// `1 2` by `Integers` and `COMMAS`: Some(Ok(1)), None; Err(Trailing(2, None))
+    /// ```
+    ///
+    /// What follows in the stream can't change the reason. It is `None` if a number begins there,
+    /// or may: it touches the end of what the buffer holds, as the `-` of `1 -` does, and more
+    /// bytes may come.
     pub fn finish(&mut self) -> Result<(), StreamError<K::Error>>
         ensures ok { OnOk result (IfSome self.old.bytes (λ bytes. bytes ≡ [])) }
         ensures trailing { IfNoFault self.old.ended (IfErr result (λ error. IfTrailing error (λ at.
             (at ≡ self.old.position)
             × IfSome self.old.bytes (λ bytes. 0 < length bytes)))) }
+        ensures reason { IfNoFault self.old.ended (IfErr result (λ error. IfReason error (λ why.
+            why ≡ reason_held (K.number_at self.old.kind) K.error_at K.error_later
+            (K.has_byte self.old.kind) self.old.gap self.old.position self.new.held
+            self.new.is_over))) }
+        ensures stays { IfNoFault self.old.ended (IfErr result (λ error. IfReason error (λ why.
+            IfSome why (λ told. IfSome self.old.bytes (λ bytes.
+            why ≡ reason_of (K.number_at self.old.kind) K.error_at K.error_later self.old.gap
+            self.old.position bytes))))) }
         ensures unknown { IfNoFault self.old.ended (IfErr result (λ error. IsUnknown error
             self.old.position self.old.capacity self.old.held)) }
         ensures again { IfSome self.old.ended (λ ended.
@@ -332,7 +353,7 @@ impl<'b, K: Kind, R: Read> NumberReader<'b, K, R> {
         }
         let at = self.window.position();
         if !self.window.unread().is_empty() {
-            return Err(StreamError::Trailing(at));
+            return Err(StreamError::Trailing(at, self.reason()));
         }
         if self.is_over {
             return Ok(());
@@ -340,9 +361,23 @@ impl<'b, K: Kind, R: Read> NumberReader<'b, K, R> {
         let is_over = fill(&mut self.window, &mut self.reader)?;
         self.is_over = is_over;
         if !is_over {
-            return Err(StreamError::Trailing(at));
+            return Err(StreamError::Trailing(at, self.reason()));
         }
         Ok(())
+    }
+
+    /// Why no number begins in what the buffer holds, past its blanks. `None` if a number begins
+    /// there, or may, or if the position of the error is above `u64::MAX`.
+    fn reason(&self) -> Option<K::Error>
+        ensures reason { result ≡ reason_held (K.number_at self.now.kind) K.error_at K.error_later
+            (K.has_byte self.now.kind) self.now.gap self.now.position self.now.held
+            self.now.is_over }
+        ensures stays { IfSome result (λ told. IfSome self.now.bytes (λ bytes.
+            result ≡ reason_of (K.number_at self.now.kind) K.error_at K.error_later self.now.gap
+            self.now.position bytes)) }
+    {
+        let (kind, gap) = (self.format.kind, self.format.gap);
+        reason_held(&self.window, kind, gap, self.is_over)
     }
 
     /// Uses the blanks that are next, and then a byte, if it is next: whether it was.

@@ -21,9 +21,12 @@ pub enum StreamError<E> {
     Read(ErrorKind),
     /// A position is above `u64::MAX`, or may be: the stream has `u64::MAX` - 1 bytes or more.
     TooLong,
-    /// The numbers are over, and the stream goes on at this position. Only
-    /// `finish` answers it.
-    Trailing(u64),
+    /// The numbers are over, and the stream goes on at this position. The second is why no number
+    /// begins there, past the blanks of the gap, with its position in the stream. It is `None` if a
+    /// number begins there, as where only its separator is missing; if one may, since the buffer
+    /// holds no byte that ends it; or if the error's position is above `u64::MAX`. Only `finish`
+    /// answers it.
+    Trailing(u64, Option<E>),
 }
 
 impl<E: fmt::Display> fmt::Display for StreamError<E> {
@@ -35,14 +38,17 @@ impl<E: fmt::Display> fmt::Display for StreamError<E> {
             StreamError::NoRoom(at) => write!(f, "the buffer has no room for the number at {at}"),
             StreamError::Read(kind) => write!(f, "the reader failed: {kind}"),
             StreamError::TooLong => write!(f, "a position is above {}", u64::MAX),
-            StreamError::Trailing(at) => write!(f, "the byte at {at} follows the numbers"),
+            StreamError::Trailing(at, None) => write!(f, "the byte at {at} follows the numbers"),
+            StreamError::Trailing(at, Some(error)) => {
+                write!(f, "the byte at {at} follows the numbers: {error}")
+            }
         }
     }
 }
 
 impl<E: Error> Error for StreamError<E> {}
 
-/// Why numbers of a stream were read no further. Positions count bytes of the stream from 0.
+/// Why a call read no more numbers of a stream. Positions count bytes of the stream from 0.
 #[derive(Clone, Copy, Debug, PartialEq, Eq)]
 pub enum StreamEnd<E> {
     /// The slice is full. The next number may begin at this position, which is after a separator;
@@ -55,10 +61,10 @@ pub enum StreamEnd<E> {
     Fault(StreamError<E>),
 }
 
-/// What was read of a stream.
+/// What a call read of a stream.
 #[derive(Clone, Copy, Debug, PartialEq, Eq)]
 pub struct StreamRead<E> {
-    /// How many numbers were written into the slice.
+    /// How many numbers it wrote into the slice.
     pub count: usize,
     /// Why there are no more.
     pub end: StreamEnd<E>,
@@ -102,7 +108,7 @@ fn may_go_on<E: Copy>(error: StreamError<E>) -> bool
         StreamError::Number(_)
         | StreamError::NoRoom(_)
         | StreamError::TooLong
-        | StreamError::Trailing(_) => false,
+        | StreamError::Trailing(_, _) => false,
     }
 }
 

@@ -6,7 +6,8 @@ ghost use Rattle.digit_streams.specs.Windows.{unread};
 
 use std::io::{ErrorKind, Read};
 
-/// One read; one that is interrupted is tried again. After `u64::MAX` of these it is `TimedOut`.
+/// One read. It reads again after one that was interrupted; after `u64::MAX` of these it answers
+/// `TimedOut`.
 fn read_once<R: Read>(reader: &mut R, buffer: &mut [u8]) -> Result<usize, ErrorKind>
     ensures within { IfOk result (λ count. count ≤ length buffer.new) }
     ensures bytes { MatchResult result

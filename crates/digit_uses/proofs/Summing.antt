@@ -24,7 +24,7 @@ at_fault (Some text) numbers (Number error) position bytes given =
 at_fault (Some text) numbers (NoRoom at) position bytes given = tt
 at_fault (Some text) numbers (Read kind) position bytes given = tt
 at_fault (Some text) numbers TooLong position bytes given = tt
-at_fault (Some text) numbers (Trailing at) position bytes given = absurd given.here
+at_fault (Some text) numbers (Trailing at why) position bytes given = absurd given.here
 
 -- the list is over, and nothing follows it
 pub at_end : (known : Option (List ℕ)) (numbers : List ℤ) (sum : ℤ) (position : ℕ)
@@ -54,7 +54,7 @@ before_end (Some text) numbers position capacity held bytes (Number error) given
 before_end (Some text) numbers position capacity held bytes (NoRoom at) given trails unknown = tt
 before_end (Some text) numbers position capacity held bytes (Read kind) given trails unknown = tt
 before_end (Some text) numbers position capacity held bytes TooLong given trails unknown = tt
-before_end (Some text) numbers position capacity held bytes (Trailing at) given trails unknown =
+before_end (Some text) numbers position capacity held bytes (Trailing at why) given trails unknown =
     let (same, some) = trails in
     let adds : AddsUp text (Over at) (sum_of numbers) = record {
       room = given.gives.0;

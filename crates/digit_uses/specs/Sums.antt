@@ -31,4 +31,4 @@ IsSum text (Err (Number error)) = (sum : ℤ) × AddsUp text (Fault (Number erro
 IsSum text (Err (NoRoom at)) = ⊤
 IsSum text (Err (Read kind)) = ⊤
 IsSum text (Err TooLong) = ⊤
-IsSum text (Err (Trailing at)) = ((sum : ℤ) × AddsUp text (Over at) sum) × (at < length text)
+IsSum text (Err (Trailing at why)) = ((sum : ℤ) × AddsUp text (Over at) sum) × (at < length text)

@@ -12,7 +12,7 @@ use digits::{
 use std::io::Read;
 
 /// The sum of the integers of a stream, one in each line: of `1\n-2\n` it is -1, and `1\n2x` gives
-/// `Trailing(3)`. A buffer of 64 bytes is enough, if no line has more than 63.
+/// `Trailing(3, Some(Empty(3)))`. A buffer of 64 bytes is enough, if no line has more than 63.
 #[tactic(auto, unfolding(digits::proofs::Literals::lexical_on_literals))]
 pub fn sum_of<R: Read + Drop>(
     stream: R,

@@ -77,8 +77,8 @@ pub use Rattle.digit_blocks.specs.Blocks.{AreStarts, EndsApart, HasNoneAtEnd, Ha
 unfoldable pub use Rattle.digit_blocks.specs.Blocks.{blocks_at, joined, last_start}
 pub use Rattle.digit_streams.specs.declared.stream.StreamEnd.{StreamEnd}
 pub use Rattle.digit_streams.specs.declared.stream.StreamError.{StreamError}
-pub use Rattle.digit_streams.specs.Streams.{Gives, HasGiven, HasGivenFrom, IfTrailing, IsNext, IsNoByte, IsUnknown}
-pub use Rattle.digit_streams.specs.Streams.{Passes, SkipsBlanks, StreamNumbers, end_by, ended_after, stream_list}
+pub use Rattle.digit_streams.specs.Streams.{Gives, HasGiven, HasGivenFrom, IfReason, IfTrailing, IsNext, IsNoByte, IsUnknown}
+pub use Rattle.digit_streams.specs.Streams.{Passes, SkipsBlanks, StreamNumbers, end_by, ended_after, reason_held, reason_of, stream_list}
 -- whole lists, enclosed lists, numbers that may be missing, and prices
 pub use Rattle.digit_lists.specs.declared.list.ListError.{ListError}
 pub use Rattle.digit_lists.specs.declared.enclosed.EnclosedError.{EnclosedError}

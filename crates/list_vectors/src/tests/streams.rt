@@ -6,6 +6,7 @@
 //!   read before each piece, into slices of 1 to 4 places and number by number: `rows`
 //! - a reader that fails in mid-stream, and what was read before; a number as long as the buffer,
 //!   and one that is longer; what is answered again: `ends`
+//! - why no number begins where a stream goes on: `reasons`
 //! - a number that is answered before the reader is asked again: `waits`
 //! - a caller: `uses`; the sum of a stream, which `digit_uses` proves: `sums`
 //! - lists in brackets, an offset, and the sum of an array: `arrays`
@@ -13,6 +14,7 @@
 mod arrays;
 mod ends;
 mod readers;
+mod reasons;
 mod rows;
 mod sums;
 mod uses;

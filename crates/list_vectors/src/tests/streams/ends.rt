@@ -177,8 +177,16 @@ fn errors_are_told(rt: HostRuntime) {
     );
     let failed = told(alloc, StreamError::Read(ErrorKind::NotFound));
     assert_eq!(rt; failed.as_str(), "the reader failed: entity not found");
-    let more = told(alloc, StreamError::Trailing(7));
+    let more = told(alloc, StreamError::Trailing(7, None));
     assert_eq!(rt; more.as_str(), "the byte at 7 follows the numbers");
+    let reason = told(
+        alloc,
+        StreamError::Trailing(7, Some(LiteralError::Empty(8))),
+    );
+    assert_eq!(rt;
+        reason.as_str(),
+        "the byte at 7 follows the numbers: there is no digit at 8"
+    );
     let long = told(alloc, StreamError::TooLong);
     assert_eq!(rt; long.as_str(), "a position is above 18446744073709551615");
 }

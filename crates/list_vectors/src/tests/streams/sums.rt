@@ -70,7 +70,7 @@ fn bytes_after_a_sum(rt: HostRuntime) {
     for (text, at) in trailing {
         assert_eq!(rt;
             sum(text, &turns, &mut [0; 8]),
-            Err(StreamError::Trailing(at))
+            Err(StreamError::Trailing(at, Some(LiteralError::Empty(at as usize))))
         );
     }
 }

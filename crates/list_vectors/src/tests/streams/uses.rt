@@ -51,9 +51,10 @@ fn a_sum(rt: HostRuntime) {
     assert_eq!(rt; sum_of(b"12\n 18446744073709551616".as_slice()), Err(fault));
     assert_eq!(rt;
         sum_of(b"1 2 ] 3".as_slice()),
-        Err(StreamError::Trailing(4))
+        Err(StreamError::Trailing(4, Some(LiteralError::Empty(4))))
     );
-    assert_eq!(rt; sum_of(b"x".as_slice()), Err(StreamError::Trailing(0)));
+    let trailing = StreamError::Trailing(0, Some(LiteralError::Empty(0)));
+    assert_eq!(rt; sum_of(b"x".as_slice()), Err(trailing));
     let first = first_of(
         b"12 3",
         &mut [0; 4],
