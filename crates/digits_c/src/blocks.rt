@@ -8,8 +8,8 @@ use super::lists::gap_of;
 use digits::block_start;
 
 /// The first position from `at` on where a block of a list may begin, by the byte between two
-/// numbers: where the text begins, or after such a byte. If there is none, and from a position after
-/// the end of the text on, it is the length.
+/// numbers: where the text begins, or after such a byte. If there is none, or if `at` is after the
+/// end of the text, it is the length.
 #[unsafe(no_mangle)]
 pub extern "C" fn digits_block_start(text: &[u8], at: usize, between: u8) -> usize
     ensures within { result ≤ length text.now }

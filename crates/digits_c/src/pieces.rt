@@ -175,8 +175,8 @@ pub extern "C" fn digits_read_f64_piece(
     read_floats::<f64>(text, start, between, is_last, numbers, count)
 }
 
-/// The decimal numbers of a list in a piece of a text, each times ten to the power `places`, as many
-/// as there is room for. The point is `.`.
+/// The decimal numbers of a list in a piece of a text, each times ten to the power `places`, as
+/// many as the slice has room for. The point is `.`.
 #[unsafe(no_mangle)]
 pub extern "C" fn digits_read_scaled_i64_piece(
     text: &[u8],
