@@ -633,17 +633,16 @@ digits_outcome digits_keep(void *text, size_t room, size_t *length, digits_outco
  * CSV, a block may begin there.
  *
  *     // of four blocks the one with the number i, from 0
- *     const size_t next = i < 3 ? length / 4 * (i + 1) : length;
  *     const size_t begin = digits_block_start(text, length, length / 4 * i, '\n');
- *     const size_t end = digits_block_start(text, length, next, '\n');
+ *     const size_t end = i == 3 ? length : digits_block_start(text, length, length / 4 * (i + 1), '\n');
  *     const bool is_last = end == length;
  *
  * It is read by digits_read_i64_piece(text + begin, end - begin, 0, '\n', is_last, ..), and on from `at`
- * while that is DIGITS_FULL. A block that begins at `length` isn't read, unless the text is empty. Each
- * but the last one ends with DIGITS_MORE at its end, unless the list ends in it: there is its end, or
- * its fault, at `begin` and the position in the block, and what later blocks have doesn't count. So the
- * numbers of the blocks in their order are those of the whole text, if `between` is no byte that a
- * number may have.
+ * while that is DIGITS_FULL. Each block but the last one ends with DIGITS_MORE, at its end, unless the
+ * list ends in it. So go through the blocks in their order, up to the first that ends otherwise: their
+ * numbers are those of the list, which ends there, or has its fault there, at `begin` and the position
+ * in the block. What later blocks have doesn't count. This holds if `between` is no byte that a number
+ * may have.
  */
 
 DIGITS_USED

@@ -675,8 +675,6 @@ static digits_outcome sum_of_blocks(const char *text, size_t length, size_t cut,
     for (i = 0; i < 2 && list.status == DIGITS_MORE; i++) {
         const size_t begin = starts[i], end = starts[i + 1];
 
-        if (begin == length && length > 0)
-            break;
         list.at = 0;
         do {
             int64_t number = 0;
