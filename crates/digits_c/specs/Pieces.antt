@@ -93,7 +93,7 @@ kept_outcome list kept room =
 pub record Keeps (list : Outcome) (old new : List ℕ) (count kept : ℕ) (outcome : Outcome)
     : Type 0 where
   pub all : kept ≡ count - list.at
-  pub bytes : take kept new ≡ drop list.at (take count old)
+  pub bytes : take kept new ≡ take kept (drop list.at old)
   pub rest : drop kept new ≡ drop kept old
   pub ends : outcome ≡ kept_outcome list kept (length old)
 
