@@ -2,7 +2,7 @@
 
 ghost use Rattle.std.specs.Prelude.{◌≡◌, ◌≤◌, ◌^◌, ◌-◌, length, pos};
 ghost use Rattle.std.specs.Float.{binary64};
-ghost use Rattle.digit_lists.specs.Lists.{full_end};
+ghost use Rattle.digit_lists.specs.Lists.{after_full, full_end};
 ghost use Rattle.digits.specs.Words.{IfFull, IsForm, form_of};
 ghost use Rattle.digits_c.specs.Lists.{Fills, to_end};
 ghost use Rattle.digits_c.specs.Lists.{whole_integers, whole_floats, whole_numbers, whole_numbers_by};
@@ -31,15 +31,13 @@ impl Outcome {
     }
 }
 
-/// Why a list ends that has filled its places up to a position: a number is there, past any blanks,
-/// or none is.
+/// Why a list ends that has filled its places, where the next number may be.
 #[inline(never)]
-fn after_full<K: Kind>(kind: K, text: &[u8], gap: Gap, at: usize) -> ListEnd<K::Error>
+fn after_full<K: Kind>(kind: K, text: &[u8], gap: Gap, place: usize) -> ListEnd<K::Error>
     requires valid { K.valid kind }
-    requires within { at ≤ length text.now }
-    ensures { result ≡ full_end (K.number_at kind text.now) K.none_at gap text.now (Full at) }
+    requires within { place ≤ length text.now }
+    ensures { result ≡ after_full K.none_at gap place (K.number_at kind text.now place) }
 {
-    let place = gap.past_blanks(text, at);
     match kind.read_number(text, place) {
         Ok(_) => ListEnd::Full(place),
         Err(error) => gap.no_number(place, K::is_none_at(error, place), error),
@@ -54,7 +52,7 @@ fn full_end<K: Kind>(kind: K, text: &[u8], gap: Gap, end: ListEnd<K::Error>) -> 
     ensures { result ≡ full_end (K.number_at kind text.now) K.none_at gap text.now end }
 {
     match end {
-        ListEnd::Full(at) => after_full(kind, text, gap, at),
+        ListEnd::Full(at) => after_full(kind, text, gap, gap.past_blanks(text, at)),
         _ => end,
     }
 }
