@@ -21,6 +21,7 @@
  * .._by            the same by a format word: separators, or another radix
  * .._list          reads numbers with a byte between two of them
  * .._piece         the same of a text that comes in pieces
+ * digits_keep      keeps of a piece what has to come again
  * digits_write_..  writes the text of a number; .._of as a language or a data format has it
  *
  * A blank is no part of a number, and no call that reads or parses one skips blanks. The calls for
@@ -62,8 +63,8 @@
  * - call a digits_read_.. only at a start before digits_sure_end(text, length), by a form before
  *   digits_sure_end_of(text, length, form): what it answers there stays, whatever follows.
  *
- * From there on keep the bytes: move them to the front, and read on with what follows them behind
- * them. A digits_parse_.. needs the whole text.
+ * From there on keep the bytes: move them to the front, as digits_keep does after a piece, and read
+ * on with what follows them behind them. A digits_parse_.. needs the whole text.
  *
  *
  * What a caller owes
@@ -74,6 +75,8 @@
  *   call by NULL crashes.
  * - `out` points to `room` bytes of one object, which nothing else reads or writes during the call.
  *   They needn't be set. If `room` is 0, `out` may be NULL.
+ * - Of digits_keep `text` points to `room` bytes of one object, which nothing else reads or writes
+ *   during the call. The first `*length` are set, and `length` isn't part of them.
  * - Floats are rounded to the nearest, and none is flushed to zero, as by default: no fesetround to
  *   another direction, and no program linked with -ffast-math.
  *
@@ -171,6 +174,7 @@ typedef struct digits_number {
 #define DIGITS_MORE 13 /* More of the text is needed, from this position on */
 #define DIGITS_OTHER_BYTE 14 /* Another byte is there, or the text ends */
 #define DIGITS_CLOSED 15 /* The list has no number, and ends here */
+#define DIGITS_TOO_LONG 16 /* A number is too long for the room of the text */
 
 /* What a number's kind is. */
 #define DIGITS_NONE 0 /* There is no number */
@@ -198,6 +202,7 @@ static inline const char *digits_message(uint32_t status)
     case DIGITS_MORE: return "more of the text is needed";
     case DIGITS_OTHER_BYTE: return "another byte than the one that has to be there";
     case DIGITS_CLOSED: return "a list without a number";
+    case DIGITS_TOO_LONG: return "a number that is too long for the room of the text";
     default: return "no status of this library";
     }
 }
@@ -469,6 +474,40 @@ digits_outcome digits_read_number_list(const void *text, size_t length, size_t s
                                        uint8_t between, digits_number *numbers, size_t room,
                                        size_t *count);
 
+/* The same of a whole text, which has to be one list. Blanks may be before the first number and after
+ * the last one. By ' ' and '\n' the list may be empty.
+ *
+ *     by ','                             by ' '
+ *     " 1, 2 "   2 numbers               " 1  2\n"   2 numbers
+ *     "1,"       DIGITS_EMPTY at 2       "1 "        1 number
+ *     "1,2]"     DIGITS_INVALID at 3     "1 2 ]"     DIGITS_INVALID at 4
+ *     ""         DIGITS_EMPTY at 0       ""          no number
+ *
+ * DIGITS_OK       the text is a list of `count` numbers; `at` is `length`
+ * DIGITS_INVALID  the list is over before the text: the byte at `at` is no part of it
+ * DIGITS_FULL     there is no more room, and one number more is at `at`
+ * Any other       no number is where one has to be, by this fault at `at`
+ *
+ * After a fault, too, `count` numbers were written: those before it.
+ */
+
+DIGITS_CALL(6)
+digits_outcome digits_parse_i64_list(const void *text, size_t length, uint8_t between,
+                                     int64_t *numbers, size_t room, size_t *count);
+DIGITS_CALL(6)
+digits_outcome digits_parse_u64_list(const void *text, size_t length, uint8_t between,
+                                     uint64_t *numbers, size_t room, size_t *count);
+DIGITS_CALL(6)
+digits_outcome digits_parse_f64_list(const void *text, size_t length, uint8_t between,
+                                     double *numbers, size_t room, size_t *count);
+
+/* By a DIGITS_FORM_... DIGITS_BAD_FORM: no such form. */
+
+DIGITS_CALL(7)
+digits_outcome digits_parse_number_list(const void *text, size_t length, uint32_t form,
+                                        uint8_t between, digits_number *numbers, size_t room,
+                                        size_t *count);
+
 /* ---- blanks, and bytes around a list ----
  *
  * Blanks are spaces, tabs, line feeds and carriage returns.
@@ -530,20 +569,18 @@ digits_outcome digits_open_list(const void *text, size_t length, size_t start, u
  *     digits_outcome list;
  *     do {
  *         const size_t more = fread(text + length, 1, sizeof text - length, file);
- *         const bool is_last = more == 0;
- *         size_t at = 0;
  *         length += more;
+ *         list.at = 0;
  *         do {
- *             list = digits_read_f64_piece(text, length, at, ',', is_last, numbers, 64, &count);
+ *             list = digits_read_f64_piece(text, length, list.at, ',', more == 0, numbers, 64,
+ *                                          &count);
  *             use(numbers, count);
- *             at = list.at;
  *         } while (list.status == DIGITS_FULL);
- *         length -= at;
- *         memmove(text, text + at, length);
- *     } while (list.status == DIGITS_MORE && length < sizeof text);
+ *         list = digits_keep(text, sizeof text, &length, list);
+ *     } while (list.status == DIGITS_MORE);
  *
- * After it DIGITS_OK says that the list is over, and DIGITS_MORE that a number with the blanks
- * around it is longer than the place for the text.
+ * After it DIGITS_OK says that the list is over, and at the front of `text` are `length` bytes that
+ * follow it. DIGITS_TOO_LONG is what digits_keep answers, below.
  *
  * DIGITS_MORE  more of the text is needed: the bytes from `at` on have to come again, with what
  *              follows them
@@ -559,6 +596,14 @@ DIGITS_CALL(8)
 digits_outcome digits_read_f64_piece(const void *text, size_t length, size_t start, uint8_t between,
                                      bool is_last, double *numbers, size_t room, size_t *count);
 
+/* The same of decimal numbers as integers, exactly: each times ten to the power `places`, as
+ * digits_read_scaled_i64 reads them. DIGITS_BAD_PLACES: more than 38 places. */
+
+DIGITS_CALL(9)
+digits_outcome digits_read_scaled_i64_piece(const void *text, size_t length, size_t start,
+                                            size_t places, uint8_t between, bool is_last,
+                                            int64_t *numbers, size_t room, size_t *count);
+
 /* The same by a DIGITS_FORM_... DIGITS_BAD_FORM: no such form. */
 
 DIGITS_CALL(9)
@@ -566,10 +611,50 @@ digits_outcome digits_read_number_piece(const void *text, size_t length, size_t 
                                         uint32_t form, uint8_t between, bool is_last,
                                         digits_number *numbers, size_t room, size_t *count);
 
-/* Up to where a piece is sure: what a digits_read_.. without a word answers at a start before this
- * position stays, whatever follows the piece. It is after the last byte that no number has, or 0.
- * The second serves calls by a form, and is 0 if there is no such form; the third those by a word,
- * and is 0 if the word isn't supported. The point is '.'. */
+/* What is kept of a piece, which is the first `*length` of the `room` bytes of `text`: those from
+ * `list.at` on are moved to the front, and `*length` is set to their number. The answer is `list`, but
+ * for two cases:
+ *
+ * DIGITS_TOO_LONG   in place of DIGITS_MORE: the bytes that are kept fill the room, so nothing more can
+ *                   be read. A number, with the blanks around it, is as long as the room, or longer
+ * DIGITS_BAD_START  `list.at` is after `*length`, or `*length` is above `room`; nothing is moved
+ *
+ * `at` stays what it was, a position in the piece. */
+
+DIGITS_USED
+digits_outcome digits_keep(void *text, size_t room, size_t *length, digits_outcome list);
+
+/* ---- blocks of a text, which are read by themselves ----
+ *
+ * A text that is a list may be cut into blocks, and each block read by itself, in any order, on any
+ * thread or machine. The answer is the first position from `at` on where a block may begin: 0, or
+ * after `between`, by ' ' after a blank; if there is none, `length`. So the number in which a text is
+ * cut belongs to the block that it begins in. No quotes are known: where `between` is in quotes, as in
+ * CSV, a block may begin there.
+ *
+ *     // of four blocks the one with the number i, from 0
+ *     const size_t begin = digits_block_start(text, length, length / 4 * i, '\n');
+ *     const size_t end = i == 3 ? length : digits_block_start(text, length, length / 4 * (i + 1), '\n');
+ *     const bool is_last = end == length;
+ *
+ * It is read by digits_read_i64_piece(text + begin, end - begin, 0, '\n', is_last, ..), and on from `at`
+ * while that is DIGITS_FULL. Each block but the last one ends with DIGITS_MORE, at its end, unless the
+ * list ends in it. So go through the blocks in their order, up to the first that ends otherwise: their
+ * numbers are those of the list, which ends there, or has its fault there, at `begin` and the position
+ * in the block. What later blocks have doesn't count. This holds if `between` is no byte that a number
+ * may have.
+ */
+
+DIGITS_USED
+size_t digits_block_start(const void *text, size_t length, size_t at, uint8_t between);
+
+/* ---- up to where a piece is sure ----
+ *
+ * What a digits_read_.. without a word answers at a start before this position stays, whatever
+ * follows the piece. It is after the last byte that no number has, or 0. The second serves calls by a
+ * form, and is 0 if there is no such form; the third those by a word, and is 0 if the word isn't
+ * supported. The point is '.'.
+ */
 
 DIGITS_USED
 size_t digits_sure_end(const void *text, size_t length);

@@ -206,6 +206,7 @@ struct [[nodiscard]] list {
     bool is_over() const noexcept { return status == DIGITS_OK; }
     bool is_full() const noexcept { return status == DIGITS_FULL; }
     bool is_more() const noexcept { return status == DIGITS_MORE; }
+    bool is_too_long() const noexcept { return status == DIGITS_TOO_LONG; }
     const char *message() const noexcept { return digits_message(status); }
 };
 
@@ -218,6 +219,7 @@ struct list_calls;
     template <>                                                                                     \
     struct list_calls<type> {                                                                       \
         static constexpr auto list = digits_read_##name##_list;                                     \
+        static constexpr auto whole = digits_parse_##name##_list;                                   \
         static constexpr auto piece = digits_read_##name##_piece;                                   \
     };
 DIGITS_CALLS(int64_t, i64)
@@ -252,6 +254,22 @@ inline list read_list(std::string_view text, std::size_t start, std::uint32_t fo
     static_assert(sizeof(number) == sizeof(digits_number));
     return detail::fill(digits_read_number_list, text, start, form,
                         static_cast<std::uint8_t>(between), numbers, room);
+}
+
+/// The numbers of a whole text, which has to be one list. T is int64_t, uint64_t or double.
+template <typename T>
+list parse_list(std::string_view text, char between, T *numbers, std::size_t room) noexcept
+{
+    return detail::fill(detail::list_calls<T>::whole, text, static_cast<std::uint8_t>(between),
+                        numbers, room);
+}
+
+/// By a DIGITS_FORM_..; the places may also be a digits::number each.
+inline list parse_list(std::string_view text, std::uint32_t form, char between,
+                       digits_number *numbers, std::size_t room) noexcept
+{
+    return detail::fill(digits_parse_number_list, text, form, static_cast<std::uint8_t>(between),
+                        numbers, room);
 }
 
 // ---- blanks, and bytes around a list ----
@@ -303,6 +321,33 @@ inline list read_piece(std::string_view text, std::size_t start, std::uint32_t f
 {
     return detail::fill(digits_read_number_piece, text, start, form,
                         static_cast<std::uint8_t>(between), is_last, numbers, room);
+}
+
+/// Decimal numbers as integers, exactly: each times ten to the power `places`.
+inline list read_scaled_piece(std::string_view text, std::size_t start, std::size_t places,
+                              char between, bool is_last, std::int64_t *numbers,
+                              std::size_t room) noexcept
+{
+    return detail::fill(digits_read_scaled_i64_piece, text, start, places,
+                        static_cast<std::uint8_t>(between), is_last, numbers, room);
+}
+
+/// Moves what has to come again to the front of the room of a piece, and sets the length to what is
+/// kept. Where that fills the room, a list that asked for more is too long for it.
+template <typename Room>
+list keep(Room &&room, std::size_t &length, list read) noexcept
+{
+    static_assert(sizeof *std::data(room) == 1, "a room is bytes");
+    const digits_outcome kept =
+        digits_keep(std::data(room), std::size(room), &length, {read.at, read.status});
+    return {read.count, kept.at, kept.status};
+}
+
+/// The first position from `at` on where a block of a list may begin that is read by itself.
+[[nodiscard]] inline std::size_t block_start(std::string_view text, std::size_t at,
+                                             char between) noexcept
+{
+    return digits_block_start(text.data(), text.size(), at, static_cast<std::uint8_t>(between));
 }
 
 /// Up to where a piece is sure: for calls without a word.

@@ -492,6 +492,123 @@ static void pieces(void)
     CHECK(count == 0);
 }
 
+/* Lists that are the whole text, and why others aren't. */
+static void whole_lists(void)
+{
+    digits_number numbers[3] = {{7, 7, 7, 7, true}, {7, 7, 7, 7, true}, {7, 7, 7, 7, true}};
+    int64_t i64[3] = {7, 7, 7};
+    uint64_t u64[3] = {7, 7, 7};
+    double f64[3] = {7, 7, 7};
+    size_t count = 7;
+
+    IS(digits_parse_i64_list(TEXT(" 1, -2 "), ',', i64, 3, &count), DIGITS_OK, 7);
+    CHECK(count == 2 && i64[0] == 1 && i64[1] == -2 && i64[2] == 7);
+    IS(digits_parse_i64_list(TEXT("3,4]"), ',', i64, 3, &count), DIGITS_INVALID, 3);
+    CHECK(count == 2 && i64[0] == 3 && i64[1] == 4 && i64[2] == 7);
+    IS(digits_parse_i64_list(TEXT("1 2"), ',', i64, 3, &count), DIGITS_INVALID, 2);
+    CHECK(count == 1);
+    IS(digits_parse_i64_list(TEXT("1,"), ',', i64, 3, &count), DIGITS_EMPTY, 2);
+    CHECK(count == 1);
+    IS(digits_parse_i64_list(TEXT("1;x"), ';', i64, 3, &count), DIGITS_EMPTY, 2);
+    IS(digits_parse_i64_list(TEXT(""), ',', i64, 3, &count), DIGITS_EMPTY, 0);
+    CHECK(count == 0);
+    IS(digits_parse_i64_list(TEXT("1, 2,\t3"), ',', i64, 2, &count), DIGITS_FULL, 6);
+    CHECK(count == 2 && i64[0] == 1 && i64[1] == 2 && i64[2] == 7);
+    IS(digits_parse_i64_list(TEXT("1, 2,\t3"), ',', i64, 3, &count), DIGITS_OK, 7);
+    CHECK(count == 3 && i64[2] == 3);
+    IS(digits_parse_i64_list(TEXT("1,2,x"), ',', i64, 2, &count), DIGITS_EMPTY, 4);
+    CHECK(count == 2);
+    IS(digits_parse_i64_list(TEXT("1,2,9223372036854775808"), ',', i64, 2, &count), DIGITS_OVERFLOW, 22);
+    IS(digits_parse_i64_list(NULL, 0, ',', NULL, 0, &count), DIGITS_EMPTY, 0);
+    CHECK(count == 0);
+    IS(digits_parse_u64_list(TEXT("1\r\n2\n"), '\n', u64, 2, &count), DIGITS_OK, 5);
+    CHECK(count == 2 && u64[0] == 1 && u64[1] == 2 && u64[2] == 7);
+    IS(digits_parse_u64_list(TEXT("1\n2\n3"), '\n', u64, 2, &count), DIGITS_FULL, 4);
+    IS(digits_parse_u64_list(TEXT("1\n\n2"), '\n', u64, 3, &count), DIGITS_INVALID, 2);
+    CHECK(count == 1);
+    IS(digits_parse_u64_list(TEXT("1,-2"), ',', u64, 3, &count), DIGITS_EMPTY, 2);
+    IS(digits_parse_u64_list(TEXT("18446744073709551616"), ',', u64, 3, &count), DIGITS_OVERFLOW, 19);
+    IS(digits_parse_u64_list(NULL, 0, '\n', NULL, 0, &count), DIGITS_OK, 0);
+    IS(digits_parse_f64_list(TEXT("1.5 -2e3\t"), ' ', f64, 2, &count), DIGITS_OK, 9);
+    CHECK(count == 2 && f64[0] == 1.5 && f64[1] == -2000.0 && f64[2] == 7.0);
+    IS(digits_parse_f64_list(TEXT("1.5 -2e3 x"), ' ', f64, 2, &count), DIGITS_INVALID, 9);
+    IS(digits_parse_f64_list(TEXT(" "), ' ', f64, 0, &count), DIGITS_OK, 1);
+    CHECK(count == 0);
+    IS(digits_parse_f64_list(TEXT("1|1e"), '|', f64, 3, &count), DIGITS_EMPTY_EXPONENT, 4);
+    CHECK(count == 1 && f64[0] == 1.0);
+    IS(digits_parse_number_list(TEXT("1, 2.5"), DIGITS_FORM_JSON, ',', numbers, 3, &count), DIGITS_OK, 6);
+    CHECK(count == 2 && numbers[0].low == 1 && numbers[1].value == 2.5 && numbers[2].kind == 7);
+    IS(digits_parse_number_list(TEXT("1,01"), DIGITS_FORM_JSON, ',', numbers, 3, &count),
+       DIGITS_INVALID, 3);
+    CHECK(count == 2 && numbers[1].low == 0 && numbers[2].kind == 7);
+    IS(digits_parse_number_list(TEXT("1_0 2 -inf"), DIGITS_FORM_TOML, ' ', numbers, 2, &count),
+       DIGITS_FULL, 6);
+    CHECK(count == 2 && numbers[0].low == 10);
+    IS(digits_parse_number_list(TEXT("1"), 1000, ',', numbers, 3, &count), DIGITS_BAD_FORM, 0);
+    CHECK(count == 0);
+    IS(digits_parse_number_list(NULL, 0, DIGITS_FORM_JSON, ',', NULL, 0, &count), DIGITS_EMPTY, 0);
+}
+
+/* Decimal numbers as integers, of a piece. */
+static void scaled_pieces(void)
+{
+    int64_t cents[3] = {7, 7, 7};
+    size_t count = 7;
+
+    IS(digits_read_scaled_i64_piece(TEXT("1.5, -20 ,3.2"), 0, 2, ',', false, cents, 3, &count),
+       DIGITS_MORE, 10);
+    CHECK(count == 2 && cents[0] == 150 && cents[1] == -2000 && cents[2] == 7);
+    IS(digits_read_scaled_i64_piece(TEXT("3.25]"), 0, 2, ',', false, cents, 3, &count), DIGITS_OK, 4);
+    CHECK(count == 1 && cents[0] == 325 && cents[1] == -2000);
+    IS(digits_read_scaled_i64_piece(TEXT("3.2"), 0, 2, ',', true, cents, 3, &count), DIGITS_OK, 3);
+    CHECK(count == 1 && cents[0] == 320);
+    IS(digits_read_scaled_i64_piece(TEXT("x1\n2\n3\n"), 1, 1, '\n', false, cents, 2, &count),
+       DIGITS_FULL, 5);
+    CHECK(count == 2 && cents[0] == 10 && cents[1] == 20);
+    IS(digits_read_scaled_i64_piece(TEXT("1,0.125,"), 0, 2, ',', false, cents, 3, &count),
+       DIGITS_TOO_FINE, 6);
+    CHECK(count == 1 && cents[0] == 100);
+    IS(digits_read_scaled_i64_piece(TEXT("0.12"), 0, 1, ',', false, cents, 3, &count), DIGITS_MORE, 0);
+    IS(digits_read_scaled_i64_piece(TEXT("92233720368547758.08,"), 0, 2, ',', false, cents, 3, &count),
+       DIGITS_OVERFLOW, 19);
+    IS(digits_read_scaled_i64_piece(TEXT("1;x"), 0, 0, ';', false, cents, 3, &count), DIGITS_EMPTY, 2);
+    IS(digits_read_scaled_i64_piece(TEXT("1"), 2, 39, ',', false, cents, 3, &count), DIGITS_BAD_PLACES, 2);
+    CHECK(count == 0);
+    IS(digits_read_scaled_i64_piece(TEXT("1"), 2, 38, ',', false, cents, 3, &count), DIGITS_BAD_START, 2);
+    IS(digits_read_scaled_i64_piece(TEXT("0,"), 0, 38, ',', false, cents, 3, &count), DIGITS_MORE, 2);
+    CHECK(count == 1 && cents[0] == 0);
+    IS(digits_read_scaled_i64_piece(NULL, 0, 0, 2, ',', false, NULL, 0, &count), DIGITS_FULL, 0);
+}
+
+/* What is kept of a piece, and where that fills the room. */
+static void kept(void)
+{
+    const digits_outcome more = {2, DIGITS_MORE}, none = {0, DIGITS_MORE};
+    const digits_outcome over = {0, DIGITS_OK}, fault = {3, DIGITS_EMPTY};
+    char text[8] = {'1', ',', '2', '3', '*', '*', '*', '*'};
+    size_t length = 4;
+
+    IS(digits_keep(text, 8, &length, more), DIGITS_MORE, 2);
+    CHECK(length == 2 && memcmp(text, "2323****", 8) == 0);
+    IS(digits_keep(text, 8, &length, none), DIGITS_MORE, 0);
+    CHECK(length == 2 && memcmp(text, "2323****", 8) == 0);
+    IS(digits_keep(text, 2, &length, none), DIGITS_TOO_LONG, 0);
+    CHECK(length == 2 && memcmp(text, "2323****", 8) == 0);
+    IS(digits_keep(text, 2, &length, over), DIGITS_OK, 0);
+    IS(digits_keep(text, 8, &length, fault), DIGITS_BAD_START, 3);
+    CHECK(length == 2);
+    IS(digits_keep(text, 1, &length, none), DIGITS_BAD_START, 0);
+    CHECK(length == 2 && memcmp(text, "2323****", 8) == 0);
+    length = 8;
+    memcpy(text, "1,2,x;34", 8);
+    IS(digits_keep(text, 8, &length, fault), DIGITS_EMPTY, 3);
+    CHECK(length == 5 && memcmp(text, ",x;34;34", 8) == 0);
+    length = 0;
+    IS(digits_keep(NULL, 0, &length, none), DIGITS_TOO_LONG, 0);
+    IS(digits_keep(NULL, 0, &length, over), DIGITS_OK, 0);
+    CHECK(length == 0);
+}
+
 /* A read as of a socket: three bytes at most, and none at the end. */
 static size_t receive(const char **stream, char *text, size_t room)
 {
@@ -513,19 +630,16 @@ static digits_outcome sum_of_stream(const char *stream, double *sum)
     *sum = 0;
     do {
         const size_t more = receive(&stream, text + length, sizeof text - length);
-        const bool is_last = more == 0;
-        size_t at = 0;
 
         length += more;
+        list.at = 0;
         do {
-            list = digits_read_f64_piece(text, length, at, ',', is_last, numbers, 2, &count);
+            list = digits_read_f64_piece(text, length, list.at, ',', more == 0, numbers, 2, &count);
             for (i = 0; i < count; i++)
                 *sum += numbers[i];
-            at = list.at;
         } while (list.status == DIGITS_FULL);
-        length -= at;
-        memmove(text, text + at, length);
-    } while (list.status == DIGITS_MORE && length < sizeof text);
+        list = digits_keep(text, sizeof text, &length, list);
+    } while (list.status == DIGITS_MORE);
     list.at = length;
     return list;
 }
@@ -538,8 +652,82 @@ static void streams(void)
     CHECK(sum == 13046.5);
     IS(sum_of_stream("1,23]", &sum), DIGITS_OK, 1);
     CHECK(sum == 24.0);
-    IS(sum_of_stream("1,12345678901234567890,2", &sum), DIGITS_MORE, 16);
+    IS(sum_of_stream("1,12345678901234567890,2", &sum), DIGITS_TOO_LONG, 16);
     CHECK(sum == 1.0);
+    IS(sum_of_stream("1,1234567890123456", &sum), DIGITS_TOO_LONG, 16);
+    CHECK(sum == 1.0);
+    IS(sum_of_stream("1,123456789012345,2", &sum), DIGITS_OK, 0);
+    CHECK(sum == 123456789012348.0);
+    IS(sum_of_stream("1,123456789012345", &sum), DIGITS_OK, 0);
+    CHECK(sum == 123456789012346.0);
+}
+
+/* The sum of the integers of a text, which is cut at a position into two blocks; and the end of the
+ * list. */
+static digits_outcome sum_of_blocks(const char *text, size_t length, size_t cut, char between, int64_t *sum)
+{
+    const size_t start = digits_block_start(text, length, cut, (uint8_t)between);
+    const size_t starts[3] = {0, start, length};
+    digits_outcome list = {0, DIGITS_MORE};
+    int i;
+
+    *sum = 0;
+    for (i = 0; i < 2 && list.status == DIGITS_MORE; i++) {
+        const size_t begin = starts[i], end = starts[i + 1];
+
+        list.at = 0;
+        do {
+            int64_t number = 0;
+            size_t count;
+
+            list = digits_read_i64_piece(text + begin, end - begin, list.at, (uint8_t)between,
+                                         end == length, &number, 1, &count);
+            if (count == 1)
+                *sum += number;
+        } while (list.status == DIGITS_FULL);
+        list.at += begin;
+    }
+    return list;
+}
+
+/* Where a block may begin; and blocks that are cut anywhere. */
+static void blocks(void)
+{
+    static const char text[] = "12, 345 ,6";
+    static const char lines[] = "12\n345\r\n-6\n";
+    const size_t length = sizeof text - 1;
+    int64_t sum = 7;
+    size_t cut;
+
+    CHECK(digits_block_start(TEXT("12,345,6"), 0, ',') == 0);
+    CHECK(digits_block_start(TEXT("12,345,6"), 1, ',') == 3);
+    CHECK(digits_block_start(TEXT("12,345,6"), 3, ',') == 3);
+    CHECK(digits_block_start(TEXT("12,345,6"), 4, ',') == 7);
+    CHECK(digits_block_start(TEXT("12,345,6"), 7, ',') == 7);
+    CHECK(digits_block_start(TEXT("12,345,6"), 8, ',') == 8);
+    CHECK(digits_block_start(TEXT("12,345,6"), 9, ',') == 8);
+    CHECK(digits_block_start(TEXT("12,345,6"), SIZE_MAX, ',') == 8);
+    CHECK(digits_block_start(TEXT("12,345,6"), 1, ';') == 8);
+    CHECK(digits_block_start(TEXT("1 \n 2"), 1, '\n') == 3);
+    CHECK(digits_block_start(TEXT("1 \n 2"), 1, ' ') == 2);
+    CHECK(digits_block_start(TEXT("1 \n 2"), 3, ' ') == 3);
+    CHECK(digits_block_start(TEXT("12\t3"), 1, ' ') == 3);
+    CHECK(digits_block_start(TEXT("1\xff" "2"), 1, 0xff) == 2);
+    CHECK(digits_block_start(NULL, 0, 0, ',') == 0);
+    CHECK(digits_block_start(NULL, 0, 1, ',') == 0);
+    for (cut = 0; cut <= length; cut++) {
+        IS(sum_of_blocks(text, length, cut, ',', &sum), DIGITS_OK, length);
+        CHECK(sum == 363);
+        IS(sum_of_blocks(TEXT("12,345,x,7"), cut, ',', &sum), DIGITS_EMPTY, 7);
+        CHECK(sum == 357);
+        IS(sum_of_blocks(TEXT("12 345\n 6"), cut, ' ', &sum), DIGITS_OK, 9);
+        CHECK(sum == 363);
+    }
+    for (cut = 0; cut < sizeof lines; cut++) {
+        IS(sum_of_blocks(TEXT(lines), cut, '\n', &sum), DIGITS_OK, 11);
+        CHECK(sum == 351);
+    }
+    IS(sum_of_blocks(TEXT(""), 0, ',', &sum), DIGITS_EMPTY, 0);
 }
 
 /* Up to where a piece is sure: after the last byte that no number has. */
@@ -809,7 +997,11 @@ int main(void)
     bytes();
     arrays();
     pieces();
+    whole_lists();
+    scaled_pieces();
+    kept();
     streams();
+    blocks();
     sure_ends();
     no_digits();
     not_a_number();

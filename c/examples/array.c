@@ -21,6 +21,10 @@ int main(void)
     double sum = 0;
     digits_outcome list = digits_open_list(text, length, 0, '[', ']');
 
+    if (length == sizeof text && getchar() != EOF) {
+        fprintf(stderr, "more than %zu bytes\n", sizeof text);
+        return 1;
+    }
     if (list.status == DIGITS_OK) {
         do {
             digits_number numbers[64];

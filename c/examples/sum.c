@@ -1,9 +1,9 @@
 /* Sums the floats of a file, or of standard input, with blanks or ends of lines between them. At no
- * time more than 4 KiB of the text are in memory. */
+ * time more than 4 KiB of the text are in memory, and a number, with the blanks around it, has to be
+ * shorter. */
 #include "digits.h"
 
 #include <stdio.h>
-#include <string.h>
 
 /* Adds the numbers of a piece of the text, up to where it may be cut: that is the outcome's `at`. */
 static digits_outcome add(const char *text, size_t length, bool is_last, double *sum)
@@ -32,14 +32,13 @@ int main(int words, char **word)
         perror(word[1]);
         return 1;
     }
-    while (list.status == DIGITS_MORE && length < sizeof text) {
+    while (list.status == DIGITS_MORE) {
         const size_t more = fread(text + length, 1, sizeof text - length, file);
 
         length += more;
         list = add(text, length, more == 0, &sum);
         before += list.at;
-        length -= list.at;
-        memmove(text, text + list.at, length);
+        list = digits_keep(text, sizeof text, &length, list);
     }
     if (ferror(file)) {
         perror("reading");

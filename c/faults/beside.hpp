@@ -495,6 +495,33 @@ void lists(const char *name, List list, Read read, const char *text, const strin
         check(bytes_of(numbers[i]) == bytes_of(wanted[i]), name);
 }
 
+// A whole text as a list, beside the list at its start, and one number more where that was full.
+template <typename T, typename Parse, typename List>
+void whole_lists(const char *name, Parse parse, List list, const char *text, const string &copy,
+                 uint64_t choice)
+{
+    const auto between = static_cast<uint8_t>(",; \n_-\t"[choice % 8]); // a zero too
+    const size_t room = (choice >> 13) % 6, length = copy.size();
+    T numbers[8], wanted[8], other;
+    std::memset(numbers, 0x5a, sizeof numbers);
+    std::memset(wanted, 0x5a, sizeof wanted);
+    size_t count = 99, wanted_count = 99, more = 99;
+    const digits_outcome given = parse(text, length, between, numbers, room, &count);
+    digits_outcome end = list(text, length, 0, between, wanted, room, &wanted_count);
+    if (end.status == DIGITS_FULL) {
+        const digits_outcome next = list(text, length, end.at, between, &other, 1, &more);
+        while (more == 1 && end.at < length && copy[end.at] != 0 &&
+               std::strchr(" \t\r\n", copy[end.at]) != nullptr)
+            end.at++; // no number begins with a blank
+        end = more == 1 ? digits_outcome{end.at, DIGITS_FULL} : next;
+    }
+    if (end.status == DIGITS_OK && end.at < length)
+        end.status = DIGITS_INVALID;
+    check(count == wanted_count && given.at == end.at && given.status == end.status, name);
+    for (size_t i = 0; i < 8; i++)
+        check(bytes_of(numbers[i]) == bytes_of(wanted[i]), name);
+}
+
 // The same of numbers by a form.
 inline void lists_of_a_form(const char *text, const string &copy, size_t start, uint64_t choice)
 {
@@ -506,7 +533,12 @@ inline void lists_of_a_form(const char *text, const string &copy, size_t start, 
     const auto read = [form](const char *text, size_t length, size_t start, digits_number *number) {
         return digits_read_number(text, length, start, form, number);
     };
+    const auto parse = [form](const char *text, size_t length, uint8_t between,
+                              digits_number *numbers, size_t room, size_t *count) {
+        return digits_parse_number_list(text, length, form, between, numbers, room, count);
+    };
     lists<digits_number>("a list by a form", list, read, text, copy, start, choice);
+    whole_lists<digits_number>("a whole list by a form", parse, list, text, copy, choice);
 }
 
 // Blanks and single bytes.
@@ -598,6 +630,12 @@ inline void all(const string &copy, size_t start, uint64_t choice)
     lists<int64_t>("a list of i64", digits_read_i64_list, digits_read_i64, text, copy, start, choice);
     lists<uint64_t>("a list of u64", digits_read_u64_list, digits_read_u64, text, copy, start, choice);
     lists<double>("a list of f64", digits_read_f64_list, digits_read_f64, text, copy, start, choice);
+    whole_lists<int64_t>("a whole list of i64", digits_parse_i64_list, digits_read_i64_list, text, copy,
+                         choice);
+    whole_lists<uint64_t>("a whole list of u64", digits_parse_u64_list, digits_read_u64_list, text, copy,
+                          choice);
+    whole_lists<double>("a whole list of f64", digits_parse_f64_list, digits_read_f64_list, text, copy,
+                        choice);
     lists_of_a_form(text, copy, start, choice);
     bytes(text, copy, start, choice);
     edges(text, length, 1 + (choice >> 40) % 9000);

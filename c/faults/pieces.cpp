@@ -1,6 +1,7 @@
 // Random lists, cut by chance into pieces of 1 to 40 bytes: read piece by piece they give what they
-// give whole, the numbers, the end and the status. And what a read answers before the sure end of a
-// piece is what it answers in the whole text: pieces NUMBER [SEED].
+// give whole, the numbers, the end and the status; so they do in blocks that are read by themselves.
+// And what a read answers before the sure end of a piece is what it answers in the whole text:
+// pieces NUMBER [SEED].
 #include "digits.hpp"
 
 #include <algorithm>
@@ -106,31 +107,133 @@ static void both(const char *name, const string &text, List list_call, Piece pie
     check(one.numbers == cut.numbers && one.at == before && one.status == cut.status, name);
 }
 
+// The same through a room of few bytes, which what is kept may fill.
+static void through_a_room(const string &text, uint8_t between)
+{
+    list one{{}, 0, 0}, cut{{}, 0, 0};
+    whole<int64_t>(one, 1 + below(6), [&](size_t at, int64_t *to, size_t room, size_t *count) {
+        return digits_read_i64_list(text.data(), text.size(), at, between, to, room, count);
+    });
+    std::vector<char> bytes(1 + below(40));
+    size_t length = 0, before = 0, read = 0;
+    digits_outcome end;
+    do {
+        // none comes where no room is left: it isn't the end of the text
+        const size_t more = std::min({bytes.size() - length, text.size() - read, 1 + below(9)});
+        check(more > 0 || read == text.size(), "a room");
+        std::copy_n(text.begin() + static_cast<std::ptrdiff_t>(read), more,
+                    bytes.begin() + static_cast<std::ptrdiff_t>(length));
+        read += more;
+        length += more;
+        cut.at = 0;
+        whole<int64_t>(cut, 1 + below(6), [&](size_t at, int64_t *to, size_t room, size_t *count) {
+            return digits_read_i64_piece(bytes.data(), length, at, between, more == 0, to, room, count);
+        });
+        const string left(bytes.begin() + static_cast<std::ptrdiff_t>(cut.at),
+                          bytes.begin() + static_cast<std::ptrdiff_t>(length));
+        end = digits_keep(bytes.data(), bytes.size(), &length, {cut.at, cut.status});
+        check(length == left.size() && left == string(bytes.data(), length), "what is kept");
+        check(end.at == cut.at, "the position of what is kept");
+        before += cut.at;
+    } while (end.status == DIGITS_MORE);
+    if (end.status == DIGITS_TOO_LONG) {
+        check(length == bytes.size() && cut.status == DIGITS_MORE, "a full room");
+        check(cut.numbers.size() <= one.numbers.size() &&
+                  std::equal(cut.numbers.begin(), cut.numbers.end(), one.numbers.begin()),
+              "the numbers before a full room");
+    } else {
+        check(one.numbers == cut.numbers && one.at == before && one.status == end.status,
+              "a list through a room");
+    }
+}
+
+// ---- blocks that are read by themselves ----
+
+static bool may_end(char byte, uint8_t between)
+{
+    return between == ' ' ? std::strchr(" \t\r\n", byte) != nullptr && byte != 0
+                          : static_cast<uint8_t>(byte) == between;
+}
+
+static size_t start_of_block(const string &text, size_t at, uint8_t between)
+{
+    while (at > 0 && at < text.size() && !may_end(text[at - 1], between))
+        at++;
+    return std::min(at, text.size());
+}
+
+template <typename T, typename List, typename Piece>
+static void blocks(const char *name, const string &text, uint8_t between, List list_call,
+                   Piece piece_call)
+{
+    list one{{}, 0, 0}, cut{{}, 0, 0};
+    whole<T>(one, 1 + below(6), [&](size_t at, T *to, size_t room, size_t *count) {
+        return list_call(text.data(), text.size(), at, to, room, count);
+    });
+    size_t begin = 0;
+    do {
+        const size_t at = begin + 1 + below(30);
+        const size_t end = digits_block_start(text.data(), text.size(), at, between);
+        check(end == start_of_block(text, at, between), "the start of a block");
+        const std::vector<char> block(text.begin() + static_cast<std::ptrdiff_t>(begin),
+                                      text.begin() + static_cast<std::ptrdiff_t>(end));
+        cut.at = 0;
+        whole<T>(cut, 1 + below(6), [&](size_t at, T *to, size_t room, size_t *count) {
+            return piece_call(block.data(), block.size(), at, end == text.size(), to, room, count);
+        });
+        check(cut.status != DIGITS_MORE || cut.at == block.size(), "the end of a block");
+        cut.at += begin;
+        begin = end;
+    } while (cut.status == DIGITS_MORE);
+    check(one.numbers == cut.numbers && one.at == cut.at && one.status == cut.status, name);
+}
+
+// ---- lists of each kind ----
+
 template <typename T>
 static void lists(const char *name, const string &text, uint8_t between)
 {
-    both<T>(name, text,
-            [=](const char *text, size_t length, size_t at, T *to, size_t room, size_t *count) {
-                return calls<T>::list(text, length, at, between, to, room, count);
-            },
-            [=](const char *text, size_t length, size_t at, bool is_last, T *to, size_t room,
-                size_t *count) {
-                return calls<T>::piece(text, length, at, between, is_last, to, room, count);
-            });
+    const auto list_call = [=](const char *text, size_t length, size_t at, T *to, size_t room,
+                               size_t *count) {
+        return calls<T>::list(text, length, at, between, to, room, count);
+    };
+    const auto piece_call = [=](const char *text, size_t length, size_t at, bool is_last, T *to,
+                                size_t room, size_t *count) {
+        return calls<T>::piece(text, length, at, between, is_last, to, room, count);
+    };
+    both<T>(name, text, list_call, piece_call);
+    blocks<T>(name, text, between, list_call, piece_call);
 }
 
 static void lists_of(uint32_t form, const string &text, uint8_t between)
 {
     using T = digits_number;
-    both<T>("a list by a form", text,
-            [=](const char *text, size_t length, size_t at, T *to, size_t room, size_t *count) {
-                return digits_read_number_list(text, length, at, form, between, to, room, count);
-            },
-            [=](const char *text, size_t length, size_t at, bool is_last, T *to, size_t room,
-                size_t *count) {
-                return digits_read_number_piece(text, length, at, form, between, is_last, to, room,
-                                                count);
-            });
+    const auto list_call = [=](const char *text, size_t length, size_t at, T *to, size_t room,
+                               size_t *count) {
+        return digits_read_number_list(text, length, at, form, between, to, room, count);
+    };
+    const auto piece_call = [=](const char *text, size_t length, size_t at, bool is_last, T *to,
+                                size_t room, size_t *count) {
+        return digits_read_number_piece(text, length, at, form, between, is_last, to, room, count);
+    };
+    both<T>("a list by a form", text, list_call, piece_call);
+    // by these two a comma may be in a number
+    if (between != ',' || (form != DIGITS_FORM_STR2DOUBLE && form != DIGITS_FORM_CSHARP_PARSE))
+        blocks<T>("a list by a form", text, between, list_call, piece_call);
+}
+
+static void lists_of_places(size_t places, const string &text, uint8_t between)
+{
+    const auto piece_call = [=](const char *text, size_t length, size_t at, bool is_last, int64_t *to,
+                                size_t room, size_t *count) {
+        return digits_read_scaled_i64_piece(text, length, at, places, between, is_last, to, room, count);
+    };
+    const auto list_call = [=](const char *text, size_t length, size_t at, int64_t *to, size_t room,
+                               size_t *count) {
+        return piece_call(text, length, at, true, to, room, count);
+    };
+    both<int64_t>("a list of scaled numbers", text, list_call, piece_call);
+    blocks<int64_t>("a list of scaled numbers", text, between, list_call, piece_call);
 }
 
 // ---- up to where a piece is sure ----
@@ -233,6 +336,8 @@ int main(int count, char **words)
         lists<int64_t>("a list of i64", text_now, between);
         lists<uint64_t>("a list of u64", text_now, between);
         lists<double>("a list of f64", text_now, between);
+        lists_of_places(below(5), text_now, between);
+        through_a_room(text_now, between);
         if (between != 0xff) // some forms look for a name after a point, whose bytes may be such
             lists_of(form, text_now, between);
         sure_ends(text_now, form);

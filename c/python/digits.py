@@ -28,6 +28,7 @@ import array
 import collections
 import ctypes
 import errno
+import io
 import os
 from ctypes import POINTER, byref, c_bool, c_double, c_float, c_int, c_int32, c_int64, c_size_t
 from ctypes import c_ssize_t, c_uint8, c_uint32, c_uint64, c_void_p
@@ -53,6 +54,7 @@ FULL = 12  # The list goes on, and there is no more room for its numbers
 MORE = 13  # More of the text is needed, from this position on
 OTHER_BYTE = 14  # Another byte is there, or the text ends
 CLOSED = 15  # The list has no number, and ends here
+TOO_LONG = 16  # A number is too long for the room of the text
 
 # What a number's kind is.
 NONE = 0  # There is no number
@@ -308,6 +310,7 @@ MESSAGES = {
     MORE: "more of the text is needed",
     OTHER_BYTE: "another byte than the one that has to be there",
     CLOSED: "a list without a number",
+    TOO_LONG: "a number that is too long for the room of the text",
 }
 
 
@@ -315,21 +318,32 @@ MESSAGES = {
 
 
 def _library():
+    """The library, and the words in which a message names it."""
     here = os.path.dirname(os.path.abspath(__file__))
     folders = [os.path.normpath(os.path.join(here, folder)) for folder in ("../out", "../../lib")]
     if "DIGITS_LIB" in os.environ:
         folders = [os.environ["DIGITS_LIB"]]
     for folder in folders:
-        if os.path.exists(os.path.join(folder, "libdigits.so")):
-            return ctypes.CDLL(os.path.join(folder, "libdigits.so"))
+        path = os.path.join(folder, "libdigits.so")
+        if os.path.exists(path):
+            return ctypes.CDLL(path), path
     try:
-        return ctypes.CDLL("libdigits.so.0")
+        return ctypes.CDLL("libdigits.so.0"), "the libdigits.so.0 of the system"
     except OSError as error:
         raise OSError(f"no libdigits.so in {' or '.join(folders)}, and none of the system: `make -C c` "
                       "makes it, and DIGITS_LIB may name its folder") from error
 
 
-_LIBRARY = _library()
+_LIBRARY, _LIBRARY_NAME = _library()
+
+
+def _in_library(name):
+    """A call of the library. Each that this file names is in a library that was made with it."""
+    try:
+        return getattr(_LIBRARY, f"digits_{name}")
+    except AttributeError:
+        raise OSError(f"{_LIBRARY_NAME} has no digits_{name}: it is older than {__file__}. `make -C c` "
+                      "makes it anew, and DIGITS_LIB may name the folder of another") from None
 
 
 class _Outcome(ctypes.Structure):
@@ -365,7 +379,7 @@ _release.argtypes, _release.restype = [POINTER(_Buffer)], None
 
 def _function(name, *types, gives=_Outcome):
     """A call of the library, which takes a text and arguments of these types."""
-    function = getattr(_LIBRARY, f"digits_{name}")
+    function = _in_library(name)
     function.argtypes = [c_void_p, c_size_t, *types]
     function.restype = gives
 
@@ -495,71 +509,123 @@ def parse_number(text, form=FORM_JSON):
 
 
 class _Lists:
-    """The calls for lists of a type, and for pieces of one. `code` is the type's letter in array; by
-    a form there is none, and numbers are gathered in a list."""
+    """Lists of a type. `code` is its letter in array; by a form there is none, and numbers are gathered
+    in a list."""
 
-    def __init__(self, name, given, code=None):
+    def __init__(self, given, code=None):
         self.given, self.code = given, code
-        form = [] if code else [c_uint32]
-        to = [POINTER(given), c_size_t, POINTER(c_size_t)]
-        self.list = _function(f"read_{name}_list", c_size_t, *form, c_uint8, *to)
-        self.piece = _function(f"read_{name}_piece", c_size_t, *form, c_uint8, c_bool, *to)
+
+    def function(self, name, *types):
+        """A call of the library that fills places with numbers, and takes arguments of these types
+        before them."""
+        return _function(name, *types, POINTER(self.given), c_size_t, POINTER(c_size_t))
+
+    def fill(self, function, text, room, *told):
+        """The numbers that a call gives with so much room, and its outcome."""
+        places, count = (self.given * room)(), c_size_t()
+        outcome = function(text, *told, places, room, byref(count))
+        if self.code:
+            numbers = array.array(self.code)
+            numbers.frombytes(memoryview(places).cast("B")[: count.value * numbers.itemsize])
+        else:
+            numbers = list(map(_value, places[: count.value]))
+        return numbers, outcome
 
     def read(self, function, text, start, *told):
         """The numbers from a start on, and why there are no more: OK or MORE."""
-        numbers, count = array.array(self.code) if self.code else [], c_size_t()
-        room = min(4096, len(memoryview(text)) // 2 + 1)
-        places = (self.given * room)()
-        while True:
-            outcome = function(text, start, *told, places, room, byref(count))
-            if self.code:
-                numbers.frombytes(memoryview(places).cast("B")[: count.value * numbers.itemsize])
-            else:
-                numbers += map(_value, places[: count.value])
-            if outcome.status in (OK, MORE):
-                return numbers, outcome
-            if outcome.status != FULL:
-                raise Fault(outcome.status, outcome.at, numbers)
-            start = outcome.at
+        numbers, outcome = self.fill(function, text, min(4096, _most_numbers(text)), start, *told)
+        while outcome.status == FULL:
+            more, outcome = self.fill(function, text, 4096, outcome.at, *told)
+            numbers += more
+        if outcome.status not in (OK, MORE):
+            raise Fault(outcome.status, outcome.at, numbers)
+        return numbers, outcome
+
+    def parse(self, function, text, *told):
+        """The numbers of a whole text."""
+        numbers, outcome = self.fill(function, text, _most_numbers(text), *told)
+        if outcome.status != OK:
+            raise Fault(outcome.status, outcome.at, numbers)
+        return numbers
+
+
+def _length(text):
+    """How many bytes a text has."""
+    return memoryview(text).nbytes
+
+
+def _most_numbers(text):
+    """How many numbers a text may list, which has a byte between two."""
+    return _length(text) // 2 + 1
 
 
 def _list_calls(name, code, given):
-    calls = _Lists(name, given, code)
+    """The calls for lists of a type."""
+    lists = _Lists(given, code)
+    of_list = lists.function(f"read_{name}_list", c_size_t, c_uint8)
+    of_text = lists.function(f"parse_{name}_list", c_uint8)
+    of_piece = lists.function(f"read_{name}_piece", c_size_t, c_uint8, c_bool)
 
     def read_list(text, start=0, between=b","):
         """The numbers of a list at a start, as an array, and where it ends. `between` is the byte
         between two numbers, blanks may be around it; b" " stands for any blanks, b"\\n" for a line
         feed, which may follow the last number too."""
-        numbers, outcome = calls.read(calls.list, text, start, ord(between))
+        numbers, outcome = lists.read(of_list, text, start, ord(between))
         return numbers, outcome.at
+
+    def parse_list(text, between=b","):
+        """The numbers of a whole text, which has to be one list, as an array. A list that is over
+        before the text is a fault, INVALID."""
+        return lists.parse(of_text, text, ord(between))
 
     def read_piece(text, start, between, is_last):
         """The numbers of a list in a piece of a text, as an array, where it ends, and whether more of
         the text is needed: then the bytes from there on have to come again, with what follows.
         `is_last` says that nothing follows, as where a read gave no bytes: one of a socket often
         gives fewer than it may."""
-        numbers, outcome = calls.read(calls.piece, text, start, ord(between), is_last)
+        numbers, outcome = lists.read(of_piece, text, start, ord(between), is_last)
         return numbers, outcome.at, outcome.status == MORE
 
-    read_list.__name__, read_piece.__name__ = f"read_{name}_list", f"read_{name}_piece"
-    return read_list, read_piece
+    for call in (read_list, parse_list, read_piece):
+        call.__name__ = call.__name__.replace("_", f"_{name}_")
+    return read_list, parse_list, read_piece
 
 
-read_i64_list, read_i64_piece = _list_calls("i64", "q", c_int64)
-read_u64_list, read_u64_piece = _list_calls("u64", "Q", c_uint64)
-read_f64_list, read_f64_piece = _list_calls("f64", "d", c_double)
-_of_form = _Lists("number", _Number)
+read_i64_list, parse_i64_list, read_i64_piece = _list_calls("i64", "q", c_int64)
+read_u64_list, parse_u64_list, read_u64_piece = _list_calls("u64", "Q", c_uint64)
+read_f64_list, parse_f64_list, read_f64_piece = _list_calls("f64", "d", c_double)
+
+_scaled = _Lists(c_int64, "q")
+_read_scaled_piece = _scaled.function("read_scaled_i64_piece", c_size_t, c_size_t, c_uint8, c_bool)
+
+
+def read_scaled_piece(text, start, between, is_last, places):
+    """The decimal numbers of a list in a piece of a text, each times ten to the power `places`, as
+    read_i64_piece answers them."""
+    numbers, outcome = _scaled.read(_read_scaled_piece, text, start, places, ord(between), is_last)
+    return numbers, outcome.at, outcome.status == MORE
+
+
+_of_form = _Lists(_Number)
+_read_number_list = _of_form.function("read_number_list", c_size_t, c_uint32, c_uint8)
+_parse_number_list = _of_form.function("parse_number_list", c_uint32, c_uint8)
+_read_number_piece = _of_form.function("read_number_piece", c_size_t, c_uint32, c_uint8, c_bool)
 
 
 def read_number_list(text, start=0, between=b",", form=FORM_JSON):
     """The ints and floats of a list at a start, each by a FORM_.., and where it ends."""
-    numbers, outcome = _of_form.read(_of_form.list, text, start, form, ord(between))
+    numbers, outcome = _of_form.read(_read_number_list, text, start, form, ord(between))
     return numbers, outcome.at
+
+
+def parse_number_list(text, between=b",", form=FORM_JSON):
+    """The ints and floats of a whole text, which has to be one list, each by a FORM_..."""
+    return _of_form.parse(_parse_number_list, text, form, ord(between))
 
 
 def read_number_piece(text, start, between, is_last, form=FORM_JSON):
     """The same of a piece of a text, as read_i64_piece answers it."""
-    numbers, outcome = _of_form.read(_of_form.piece, text, start, form, ord(between), is_last)
+    numbers, outcome = _of_form.read(_read_number_piece, text, start, form, ord(between), is_last)
     return numbers, outcome.at, outcome.status == MORE
 
 
@@ -592,6 +658,40 @@ def open_list(text, start=0, opening=b"[", closing=b"]"):
     return outcome.at, outcome.status == CLOSED
 
 
+# ---- blocks of a text, which are read by themselves ----
+
+_block_start = _function("block_start", c_size_t, c_uint8, gives=c_size_t)
+
+
+def block_start(text, at, between=b","):
+    """The first position from one on where a block of a list may begin that is read by itself: 0, or
+    after the byte between two numbers, by b" " after a blank; if there is none, the length."""
+    return _block_start(text, at, ord(between))
+
+
+def blocks(text, size, between=b","):
+    """Yields where each block of a list begins and ends: a text is cut wherever a block has `size`
+    bytes, and the number that is cut belongs to the block that it begins in. A block is read by itself,
+    by a thread, a process or another machine; the one that ends with the text is the last. Their
+    numbers in order, up to the first block that asks for no more, are the list.
+
+    >>> text = b"12,345,6"
+    >>> for begin, end in blocks(text, 4):
+    ...     print(read_i64_piece(text[begin:end], 0, b",", end == len(text)))
+    (array('q', [12, 345]), 7, True)
+    (array('q', [6]), 1, False)
+    """
+    if size < 1:
+        raise ValueError("a block has at least one byte")
+    begin, length = 0, _length(text)
+    while begin < length or length == 0:
+        end = block_start(text, begin + size, between)
+        yield begin, end
+        if end == length:
+            break
+        begin = end
+
+
 # ---- a text that comes in pieces ----
 
 _sure_end = _function("sure_end", gives=c_size_t)
@@ -615,24 +715,35 @@ def _block(file, size):
         # before the end a file that doesn't wait gives b"" here, and None there
         block = file.read1(size) or file.read(1)
     if isinstance(block, str):
-        raise TypeError("the file gives text, not bytes: open it with mode 'rb', or take its buffer")
+        raise TypeError(_TEXT)
     if block is None:
         raise BlockingIOError(errno.EAGAIN, "the file has no bytes yet, and doesn't wait for them")
     return block
+
+
+_TEXT = "the file gives text, not bytes: open it with mode 'rb', or take its buffer"
 
 
 def numbers_of(file, between=b" ", read_piece=read_f64_piece, size=1 << 16):
     """Yields the numbers of a file, or of whatever else reads bytes, which is one list. A number comes
     as soon as the bytes are there that end it. Where the list is over and the file is not, there is a
     fault. Only a block of some `size` bytes is in memory, or what one number takes. `read_piece` is
-    one of the calls above, of a form other than JSON functools.partial(read_number_piece, form=..).
-    The position of a fault counts from where the file was. A file that doesn't wait for its bytes is a
-    BlockingIOError where it has none.
+    one of the calls above, of a form other than JSON functools.partial(read_number_piece, form=..), of
+    cents functools.partial(read_scaled_piece, places=2). The position of a fault counts from where the
+    file was. A file that doesn't wait for its bytes is a BlockingIOError where it has none.
 
     >>> import io
     >>> sum(numbers_of(io.BytesIO(b"1.5 2\\n-3e1"), size=4))
     -26.5
     """
+    if isinstance(file, io.TextIOBase):
+        raise TypeError(_TEXT)
+    if not hasattr(file, "read"):
+        raise TypeError(f"{file!r:.60} is no file: pass one that is open for bytes, as open(name, 'rb') is")
+    return _numbers_of(file, between, read_piece, size)
+
+
+def _numbers_of(file, between, read_piece, size):
     text, before, is_more = b"", 0, True
     while is_more:
         block = _block(file, size)
@@ -654,7 +765,7 @@ def numbers_of(file, between=b" ", read_piece=read_f64_piece, size=1 << 16):
 def _writer(name, *types, most=64):
     """A call that writes into places, and answers how many bytes it wrote: what it gives is these
     bytes, or none where there is no text. `most` places hold each text."""
-    function = getattr(_LIBRARY, f"digits_write_{name}")
+    function = _in_library(f"write_{name}")
     function.argtypes = [c_void_p, c_size_t, *types]
     function.restype = c_size_t
 

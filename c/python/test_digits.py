@@ -8,6 +8,7 @@ import math
 import mmap
 import os
 import random
+import shutil
 import signal
 import struct
 import subprocess
@@ -88,6 +89,55 @@ class Calls(unittest.TestCase):
             digits.read_number_list(b"1,2,x")
         self.assertEqual(caught.exception.numbers, [1, 2])
 
+    def test_whole_lists(self):
+        numbers = digits.parse_i64_list(b" 1, -2 ")
+        self.assertEqual((numbers.tolist(), numbers.typecode), ([1, -2], "q"))
+        many = list(range(10000))
+        text = "\n".join(map(str, many)).encode()
+        self.assertEqual(digits.parse_u64_list(text, b"\n").tolist(), many)
+        self.assertEqual(digits.parse_u64_list(b"1 " * 9 + b"1", b" ").tolist(), [1] * 10)
+        self.assertEqual(digits.parse_f64_list(bytearray(b"1.5 -2e3 "), b" ").tolist(), [1.5, -2000.0])
+        self.assertEqual(digits.parse_i64_list(b"", b"\n").tolist(), [])
+        self.fails(digits.EMPTY, 0, digits.parse_i64_list, b"")
+        with self.assertRaises(digits.Fault) as caught:
+            digits.parse_i64_list(b"1,2]")
+        fault = caught.exception
+        self.assertEqual((fault.status, fault.at, fault.numbers.tolist()), (digits.INVALID, 3, [1, 2]))
+        self.assertEqual(digits.parse_number_list(b"1, 2.5,1e2"), [1, 2.5, 100.0])
+        self.assertEqual(digits.parse_number_list(b"1_0 -inf", b" ", digits.FORM_TOML),
+                         [10, float("-inf")])
+        self.fails(digits.INVALID, 3, digits.parse_number_list, b"1,01")
+        self.assertEqual(digits.parse_i64_list.__name__, "parse_i64_list")
+
+    def test_scaled_pieces(self):
+        numbers, at, is_more = digits.read_scaled_piece(b"1.5, -20 ,3.2", 0, b",", False, 2)
+        self.assertEqual((numbers.tolist(), at, is_more), ([150, -2000], 10, True))
+        self.fails(digits.TOO_FINE, 4, digits.read_scaled_piece, b"0.125", 0, b",", True, 2)
+        self.fails(digits.BAD_PLACES, 0, digits.read_scaled_piece, b"1", 0, b",", True, 39)
+        cents = functools.partial(digits.read_scaled_piece, places=2)
+        text = "\n".join(f"{n // 100}.{n % 100:02}" for n in range(5000)).encode()
+        for size in (1, 7, 4096):
+            read = digits.numbers_of(io.BytesIO(text), b"\n", cents, size)
+            self.assertEqual(list(read), list(range(5000)))
+
+    def test_blocks(self):
+        starts = [digits.block_start(b"12,345,6", at) for at in (0, 1, 3, 4, 8, 9)]
+        self.assertEqual(starts, [0, 3, 3, 7, 8, 8])
+        self.assertEqual(list(digits.blocks(b"12,345,6", 1)), [(0, 3), (3, 7), (7, 8)])
+        self.assertEqual(list(digits.blocks(b"1 2\n3 ", 2, b" ")), [(0, 2), (2, 4), (4, 6)])
+        self.assertEqual(list(digits.blocks(b"12,345,6", 99)), [(0, 8)])
+        self.assertEqual(list(digits.blocks(b"", 1)), [(0, 0)])
+        self.assertRaises(ValueError, next, digits.blocks(b"1", 0))
+        many = list(range(5000))
+        text = "\n".join(map(str, many)).encode()
+        for size in (1, 1000, len(text)):
+            numbers = []
+            for begin, end in digits.blocks(text, size, b"\n"):
+                part, at, is_more = digits.read_i64_piece(text[begin:end], 0, b"\n", end == len(text))
+                numbers += part
+                self.assertEqual((begin + at, is_more), (end, end < len(text)))
+            self.assertEqual(numbers, many)
+
     def test_bytes(self):
         self.assertEqual(digits.past_blanks(b"\t \n1"), 3)
         self.assertEqual(digits.expect_byte(b"1 :2", 1, b":"), 3)
@@ -152,16 +202,46 @@ class Calls(unittest.TestCase):
                     next(numbers)
 
     def test_a_file_of_text(self):
-        with self.assertRaisesRegex(TypeError, "open it with mode 'rb'"):
-            next(digits.numbers_of(io.StringIO("1 2")))
+        class Text:  # a file of a kind of its own
+            def read(self, _size):
+                return "1 2"
+
+        words = "the file gives text, not bytes: open it with mode 'rb'"
+        with tempfile.NamedTemporaryFile() as there:
+            there.write(b"\xff 1")  # no text at all
+            there.flush()
+            with open(there.name, encoding="utf8") as file, self.assertRaisesRegex(TypeError, words):
+                digits.numbers_of(file)
+        with self.assertRaisesRegex(TypeError, words):
+            digits.numbers_of(io.StringIO("1 2"))
+        with self.assertRaisesRegex(TypeError, words):
+            next(digits.numbers_of(Text()))
+        with self.assertRaisesRegex(TypeError, r"'floats.txt' is no file: pass one that is open for"):
+            digits.numbers_of("floats.txt")
+
+    def imports(self, folder):
+        """What an import says that takes the library of a folder, and its status."""
+        ran = subprocess.run([sys.executable, "-B", "-c", "import digits"], capture_output=True,
+                             cwd=os.path.dirname(digits.__file__), encoding="utf8", check=False,
+                             env={**os.environ, "DIGITS_LIB": folder})
+        return ran.returncode, ran.stderr
 
     def test_no_library(self):
         with tempfile.TemporaryDirectory() as folder:
-            ran = subprocess.run([sys.executable, "-c", "import digits"], capture_output=True,
-                                 cwd=os.path.dirname(digits.__file__), encoding="utf8", check=False,
-                                 env={**os.environ, "DIGITS_LIB": folder})
-        if ran.returncode:  # the system may have one
-            self.assertIn(f"no libdigits.so in {folder}, and none of the system", ran.stderr)
+            status, said = self.imports(folder)
+        if status:  # the system may have one
+            self.assertIn(f"OSError: no libdigits.so in {folder}, and none of the system: "
+                          "`make -C c` makes it, and DIGITS_LIB may name its folder", said)
+
+    @unittest.skipUnless(shutil.which("cc"), "there is no C compiler")
+    def test_an_older_library(self):
+        with tempfile.TemporaryDirectory() as folder:
+            path = os.path.join(folder, "libdigits.so")
+            subprocess.run(["cc", "-shared", "-o", path, "-x", "c", os.devnull], check=True)
+            status, said = self.imports(folder)
+        self.assertEqual(status, 1)
+        self.assertRegex(said, rf"OSError: {path} has no digits_\w+: it is older than .*digits.py. "
+                               "`make -C c` makes it anew")
 
     def test_writes(self):
         self.assertEqual(digits.write_i64(-(2**63)), b"-9223372036854775808")

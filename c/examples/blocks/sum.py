@@ -20,19 +20,11 @@ sys.path.insert(0, PYTHON)
 import digits  # noqa: E402
 
 
-def block_start(text, at):
-    """The first position from one on where a block may begin: after a line feed, or else the end."""
-    if at == 0:
-        return 0
-    found = text.find(b"\n", at - 1)
-    return len(text) if found < 0 else found + 1
-
-
 def read_block(path, begin, end):
     """How many numbers a block has, their sum, and the fault that ends the list in it: its status and
     its position in the file. Both ends of the block may be anywhere."""
     with open(path, "rb") as file, mmap.mmap(file.fileno(), 0, access=mmap.ACCESS_READ) as text:
-        begin, end = block_start(text, begin), block_start(text, end)
+        begin, end = (digits.block_start(text, at, b"\n") for at in (begin, end))
         is_last = end == len(text)
         with memoryview(text) as all_bytes, all_bytes[begin:end] as block:
             try:

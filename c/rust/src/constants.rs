@@ -39,6 +39,8 @@ pub mod statuses {
     pub const OTHER_BYTE: Status = Status(14);
     /// The list has no number, and ends here.
     pub const CLOSED: Status = Status(15);
+    /// A number is too long for the room of the text.
+    pub const TOO_LONG: Status = Status(16);
 }
 
 /// What a number's kind is.

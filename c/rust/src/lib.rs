@@ -90,6 +90,7 @@ impl fmt::Display for Fault {
             statuses::MORE => "more of the text is needed",
             statuses::OTHER_BYTE => "another byte than the one that has to be there",
             statuses::CLOSED => "a list without a number",
+            statuses::TOO_LONG => "a number that is too long for the room of the text",
             Status(status) => return write!(f, "status {status} at byte {}", self.at),
         };
         write!(f, "{what} at byte {}", self.at)
@@ -460,6 +461,14 @@ fn list((count, Outcome { at, status }): (usize, Outcome)) -> List {
     List { count, end }
 }
 
+/// What a call of a whole list answered.
+fn whole_list((count, Outcome { at, status }): (usize, Outcome)) -> Result<usize, Fault> {
+    match status {
+        statuses::OK => Ok(count),
+        status => Err(Fault { status, at }),
+    }
+}
+
 /// What a call of a piece answered.
 fn piece((count, Outcome { at, status }): (usize, Outcome)) -> Piece {
     let end = match status {
@@ -472,10 +481,11 @@ fn piece((count, Outcome { at, status }): (usize, Outcome)) -> Piece {
 }
 
 mod sealed_list {
-    use super::{List, Piece};
+    use super::{Fault, List, Piece};
 
     pub trait Calls: Sized {
         fn read_list(text: &[u8], start: usize, between: u8, numbers: &mut [Self]) -> List;
+        fn parse_list(text: &[u8], between: u8, numbers: &mut [Self]) -> Result<usize, Fault>;
         fn read_piece(
             text: &[u8],
             start: usize,
@@ -490,11 +500,15 @@ mod sealed_list {
 pub trait ListValue: sealed_list::Calls {}
 
 macro_rules! list_values {
-    ($($type:ty: $read_list:ident $read_piece:ident;)*) => {$(
+    ($($type:ty: $read_list:ident $parse_list:ident $read_piece:ident;)*) => {$(
         extern "C" {
             fn $read_list(
                 text: *const u8, length: usize, start: usize, between: u8, numbers: *mut $type,
                 room: usize, count: *mut usize,
+            ) -> Outcome;
+            fn $parse_list(
+                text: *const u8, length: usize, between: u8, numbers: *mut $type, room: usize,
+                count: *mut usize,
             ) -> Outcome;
             fn $read_piece(
                 text: *const u8, length: usize, start: usize, between: u8, is_last: bool,
@@ -508,6 +522,15 @@ macro_rules! list_values {
             fn read_list(text: &[u8], start: usize, between: u8, numbers: &mut [Self]) -> List {
                 list(fill(text, numbers, |t, n, to, room, count| unsafe {
                     $read_list(t, n, start, between, to, room, count)
+                }))
+            }
+            fn parse_list(
+                text: &[u8],
+                between: u8,
+                numbers: &mut [Self],
+            ) -> Result<usize, Fault> {
+                whole_list(fill(text, numbers, |t, n, to, room, count| unsafe {
+                    $parse_list(t, n, between, to, room, count)
                 }))
             }
             fn read_piece(
@@ -528,15 +551,19 @@ macro_rules! list_values {
 }
 
 list_values! {
-    i64: digits_read_i64_list digits_read_i64_piece;
-    u64: digits_read_u64_list digits_read_u64_piece;
-    f64: digits_read_f64_list digits_read_f64_piece;
+    i64: digits_read_i64_list digits_parse_i64_list digits_read_i64_piece;
+    u64: digits_read_u64_list digits_parse_u64_list digits_read_u64_piece;
+    f64: digits_read_f64_list digits_parse_f64_list digits_read_f64_piece;
 }
 
 extern "C" {
     fn digits_read_number_list(
         text: *const u8, length: usize, start: usize, form: Form, between: u8, numbers: *mut Number,
         room: usize, count: *mut usize,
+    ) -> Outcome;
+    fn digits_parse_number_list(
+        text: *const u8, length: usize, form: Form, between: u8, numbers: *mut Number, room: usize,
+        count: *mut usize,
     ) -> Outcome;
     fn digits_read_number_piece(
         text: *const u8, length: usize, start: usize, form: Form, between: u8, is_last: bool,
@@ -567,6 +594,30 @@ pub fn read_number_list(
     // SAFETY: as of all calls by `fill`.
     list(fill(text, numbers, |t, n, to, room, count| unsafe {
         digits_read_number_list(t, n, start, form, between, to, room, count)
+    }))
+}
+
+/// The numbers of a whole text, which has to be one list: how many they are. `INVALID` is a list that
+/// is over before the text, and `FULL` one with a number more, at this position, than the slice has
+/// room for. After a fault, too, the numbers before it are at the front of the slice.
+pub fn parse_list<T: ListValue>(
+    text: &[u8],
+    between: u8,
+    numbers: &mut [T],
+) -> Result<usize, Fault> {
+    T::parse_list(text, between, numbers)
+}
+
+/// The same of numbers of a form.
+pub fn parse_number_list(
+    text: &[u8],
+    form: Form,
+    between: u8,
+    numbers: &mut [Number],
+) -> Result<usize, Fault> {
+    // SAFETY: as of all calls by `fill`.
+    whole_list(fill(text, numbers, |t, n, to, room, count| unsafe {
+        digits_parse_number_list(t, n, form, between, to, room, count)
     }))
 }
 
@@ -617,6 +668,12 @@ pub fn open_list(text: &[u8], start: usize, opening: u8, closing: u8) -> Result<
 // ---- a text that comes in pieces ----
 
 extern "C" {
+    fn digits_read_scaled_i64_piece(
+        text: *const u8, length: usize, start: usize, places: usize, between: u8, is_last: bool,
+        numbers: *mut i64, room: usize, count: *mut usize,
+    ) -> Outcome;
+    fn digits_keep(text: *mut u8, room: usize, length: *mut usize, list: Outcome) -> Outcome;
+    fn digits_block_start(text: *const u8, length: usize, at: usize, between: u8) -> usize;
     fn digits_sure_end(text: *const u8, length: usize) -> usize;
     fn digits_sure_end_of(text: *const u8, length: usize, form: Form) -> usize;
     fn digits_sure_end_by(text: *const u8, length: usize, word: Word) -> usize;
@@ -648,6 +705,42 @@ pub fn read_number_piece(
     piece(fill(text, numbers, |t, n, to, room, count| unsafe {
         digits_read_number_piece(t, n, start, form, between, is_last, to, room, count)
     }))
+}
+
+/// The same of decimal numbers as integers, exactly: each times ten to the power `places`.
+pub fn read_scaled_piece(
+    text: &[u8],
+    start: usize,
+    places: usize,
+    between: u8,
+    is_last: bool,
+    numbers: &mut [i64],
+) -> Piece {
+    // SAFETY: as of all calls by `fill`.
+    piece(fill(text, numbers, |t, n, to, room, count| unsafe {
+        digits_read_scaled_i64_piece(t, n, start, places, between, is_last, to, room, count)
+    }))
+}
+
+/// Moves the bytes from `at` on of a piece, which is the first `length` bytes of a room, to the front
+/// of the room, as where a piece asked for [`More`](PieceEnd::More), and gives their number.
+/// `TOO_LONG`: they fill the room, so nothing more can be read.
+pub fn keep(room: &mut [u8], length: usize, at: usize) -> Result<usize, Fault> {
+    let (mut kept, more) = (length, Outcome { at, status: statuses::MORE });
+    // SAFETY: the room has this length, and the place for the number of bytes is none of it.
+    match unsafe { digits_keep(room.as_mut_ptr(), room.len(), &mut kept, more) } {
+        Outcome { status: statuses::MORE, .. } => Ok(kept),
+        Outcome { at, status } => Err(Fault { status, at }),
+    }
+}
+
+/// The first position from `at` on where a block of a list may begin that is read by itself: where
+/// the text begins, or after `between`, by b' ' after a blank; or the length. So a text may be cut
+/// anywhere: the number that is cut belongs to the block that it begins in. [`read_piece`] reads a
+/// block; the one that ends where the text ends is the last.
+pub fn block_start(text: &[u8], at: usize, between: u8) -> usize {
+    // SAFETY: the text has this length.
+    unsafe { digits_block_start(text.as_ptr(), text.len(), at, between) }
 }
 
 /// Up to where a piece is sure: what a `read` without a word answers at a start before this position

@@ -130,6 +130,45 @@ fn pieces() {
 }
 
 #[test]
+fn whole_lists() {
+    let mut numbers = [7i64; 2];
+    assert_eq!(parse_list(b" 1, -2 ", b',', &mut numbers), Ok(2));
+    assert_eq!(numbers, [1, -2]);
+    assert_eq!(parse_list(b"3 4 x", b' ', &mut numbers), fault(statuses::INVALID, 4));
+    assert_eq!(numbers, [3, 4]);
+    assert_eq!(parse_list::<u64>(b"1,2, 3", b',', &mut [7, 7]), fault(statuses::FULL, 5));
+    assert_eq!(parse_list::<f64>(b"1;", b';', &mut [7.0, 7.0]), fault(statuses::EMPTY, 2));
+    let mut of_form = [Number::default(); 2];
+    assert_eq!(parse_number_list(b"1,2.5", forms::JSON, b',', &mut of_form), Ok(2));
+    assert_eq!((of_form[0].as_u64(), of_form[1].to_f64()), (Some(1), 2.5));
+}
+
+#[test]
+fn scaled_pieces() {
+    let mut cents = [7; 2];
+    let piece = read_scaled_piece(b"1.5;-2;3", 0, 2, b';', false, &mut cents);
+    assert_eq!((piece, cents), (Piece { count: 2, end: PieceEnd::Full(7) }, [150, -200]));
+    let piece = read_scaled_piece(b"1.5;-2;3", 7, 39, b';', false, &mut cents);
+    let fault = Fault { status: statuses::BAD_PLACES, at: 7 };
+    assert_eq!(piece, Piece { count: 0, end: PieceEnd::Fault(fault) });
+}
+
+#[test]
+fn kept() {
+    let mut room = *b"1,23";
+    assert_eq!(keep(&mut room, 4, 2), Ok(2));
+    assert_eq!(&room, b"2323");
+    assert_eq!(keep(&mut room[..2], 2, 0), fault(statuses::TOO_LONG, 0));
+    assert_eq!(keep(&mut room, 2, 3), fault(statuses::BAD_START, 3));
+}
+
+#[test]
+fn blocks() {
+    let starts = [0, 1, 3, 4, 8, 9].map(|at| block_start(b"12,345,6", at, b','));
+    assert_eq!(starts, [0, 3, 3, 7, 8, 8]);
+}
+
+#[test]
 fn a_fault_is_an_error() {
     let fault: Box<dyn std::error::Error> = parse::<i32>(b"10x").unwrap_err().into();
     assert_eq!(fault.to_string(), "a byte that is no part of the number at byte 2");

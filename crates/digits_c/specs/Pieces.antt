@@ -1,20 +1,21 @@
 -- Lists of numbers in a piece of a text, as C has them.
-use Rattle.std.specs.Prelude.{ℕ, ℤ, ◌^◌, Bool, nat_lt, if◌then◌else◌, List, [], length, Option, None, Some, Result}
+use Rattle.std.specs.Prelude.{◌≡◌, ℕ, ℤ, ◌-◌, ◌^◌, ◌==◌, Bool, true, false, ◌&&◌, ◌||◌, nat_lt, if◌then◌else◌, List, [], length, take, drop, Option, None, Some, Result}
 use Rattle.std.specs.Float.{Float, Format}
 use Rattle.digit_numbers.specs.Follows.{is_number_byte}
-use Rattle.digit_pieces.specs.Cuts.{is_float_byte, is_integer_byte, sure_end}
+use Rattle.digit_pieces.specs.Cuts.{is_float_byte, is_integer_byte, is_scaled_byte, sure_end}
 use Rattle.digit_pieces.specs.Pieces.{piece_at}
 use Rattle.digit_pieces.specs.declared.piece.PieceEnd.{PieceEnd}
 use Rattle.digit_pieces.specs.declared.piece.PieceEnd.TheVariants.{More, Full, Over, Fault}
-use Rattle.digits.specs.Words.{Form, literal_none_at, float_none_at, number_none_at}
+use Rattle.digits.specs.Words.{Form, literal_none_at, float_none_at, number_none_at, scaled_none_at}
 use Rattle.digits.specs.Words.{Integer, STANDARD, is_supported, number_at, plain_marks, read_at, rule_of}
+use Rattle.digits.specs.Words.{read_scaled_at}
 use Rattle.digits_c.specs.declared.numbers.NumberParts.{NumberParts}
 use Rattle.digits_c.specs.declared.outcome.Outcome.{Outcome}
-use Rattle.digits_c.specs.declared.outcome.TheConstants.{BAD_FORM, BAD_START, FULL, MORE}
+use Rattle.digits_c.specs.declared.outcome.TheConstants.{BAD_FORM, BAD_PLACES, BAD_START, FULL, MORE, TOO_LONG}
 use Rattle.digits_c.specs.Calls.{is_decimal}
 use Rattle.digits_c.specs.Lists.{gap_of}
 use Rattle.digits_c.specs.Numbers.{parts_at}
-use Rattle.digits_c.specs.Outcomes.{done, fault, literal_fault, float_fault, number_fault}
+use Rattle.digits_c.specs.Outcomes.{done, fault, literal_fault, float_fault, number_fault, scaled_fault}
 
 -- why a piece was read no further
 abbrev pub end_of : {E : Type 0} → (E → Outcome) → PieceEnd E → Outcome
@@ -45,6 +46,13 @@ module _ (text : List ℕ) (start between : ℕ) (is_last : Bool) (room : ℕ) w
       piece_by float_fault float_none_at (is_float_byte STANDARD plain_marks)
       (read_at STANDARD text plain_marks f)
 
+  -- decimal numbers, times ten to the power `places`
+  abbrev pub scaled_in : ℕ → ℕ → ℕ → List ℤ × Outcome
+  scaled_in least most places =
+      if nat_lt 38 places then ([], fault BAD_PLACES start)
+      else piece_by scaled_fault scaled_none_at (is_scaled_byte STANDARD 46)
+      (read_scaled_at STANDARD text 46 places least most)
+
   abbrev pub numbers_in : Form → List NumberParts × Outcome
   numbers_in form =
       piece_by number_fault number_none_at (is_number_byte form) (parts_at form text)
@@ -68,3 +76,29 @@ module _ (text : List ℕ) where
   abbrev pub sure_of : Option Form → ℕ
   sure_of None = 0
   sure_of (Some form) = sure_end (is_number_byte form) text
+
+-- ---- what is kept of a piece, which is at the front of a room
+
+-- whether a position is after a piece of so many bytes, or the piece is longer than the room
+abbrev pub is_beyond : ℕ → ℕ → ℕ → Bool
+is_beyond at count room = nat_lt count at || nat_lt room count
+
+-- the outcome where so many bytes are kept: if they fill the room, no more of the text has place
+abbrev pub kept_outcome : Outcome → ℕ → ℕ → Outcome
+kept_outcome list kept room =
+    if (list.status == MORE) && (kept == room) then fault TOO_LONG list.at else list
+
+-- The bytes of a piece from where it was read no further are at the front of the room, as many as
+-- `kept`, and what is behind them is what it was.
+pub record Keeps (list : Outcome) (old new : List ℕ) (count kept : ℕ) (outcome : Outcome)
+    : Type 0 where
+  pub all : kept ≡ count - list.at
+  pub bytes : take kept new ≡ take kept (drop list.at old)
+  pub rest : drop kept new ≡ drop kept old
+  pub ends : outcome ≡ kept_outcome list kept (length old)
+
+-- the same, unless there are no such bytes: then nothing is moved
+abbrev pub KeepsUnless : Bool → Outcome → List ℕ → List ℕ → ℕ → ℕ → Outcome → Type 0
+KeepsUnless true list old new count kept outcome =
+    (new ≡ old) × (kept ≡ count) × (outcome ≡ fault BAD_START list.at)
+KeepsUnless false list old new count kept outcome = Keeps list old new count kept outcome

@@ -98,6 +98,7 @@ pub fn statuses_say()
     ensures more { statuses.MORE ≡ 13 }
     ensures other_byte { statuses.OTHER_BYTE ≡ 14 }
     ensures closed { statuses.CLOSED ≡ 15 }
+    ensures too_long { statuses.TOO_LONG ≡ 16 }
 {}
 
 /// The number of each kind.

@@ -8,9 +8,11 @@
 
 ghost use Rattle.std.specs.Prelude.{◌≡◌};
 
+mod blocks;
 mod bytes;
 mod floats;
 mod integers;
+mod keep;
 mod laws;
 mod lists;
 mod literals;
@@ -20,6 +22,7 @@ mod parts;
 mod pieces;
 mod scaled;
 mod source;
+mod whole_lists;
 mod word;
 mod write;
 mod write_floats;

@@ -52,7 +52,7 @@ pub(super) fn gap_of(byte: u8) -> Gap
 impl Outcome {
     /// Of a list of integers.
     #[inline(always)]
-    fn of_integers(end: ListEnd<LiteralError>) -> Outcome
+    pub(super) fn of_integers(end: ListEnd<LiteralError>) -> Outcome
         ensures { result ≡ end_of literal_fault end }
     {
         match end {
@@ -64,7 +64,7 @@ impl Outcome {
 
     /// Of a list of floats.
     #[inline(always)]
-    fn of_floats(end: ListEnd<FloatError>) -> Outcome
+    pub(super) fn of_floats(end: ListEnd<FloatError>) -> Outcome
         ensures { result ≡ end_of float_fault end }
     {
         match end {
@@ -76,7 +76,7 @@ impl Outcome {
 
     /// Of a list of numbers by a form.
     #[inline(always)]
-    fn of_numbers(end: ListEnd<NumberError>) -> Outcome
+    pub(super) fn of_numbers(end: ListEnd<NumberError>) -> Outcome
         ensures { result ≡ end_of number_fault end }
     {
         match end {

@@ -47,6 +47,8 @@ pub const MORE: u32 = 13;
 pub const OTHER_BYTE: u32 = 14;
 /// The list has no number, and ends here.
 pub const CLOSED: u32 = 15;
+/// A number is too long for the room of the text.
+pub const TOO_LONG: u32 = 16;
 
 impl Outcome {
     /// Of a number that ends here.

@@ -7,18 +7,19 @@ ghost use Rattle.digits.specs.Words.{IsForm, STANDARD, form_of, plain_marks};
 ghost use Rattle.digits_c.specs.Calls.{word_of};
 ghost use Rattle.digits_c.specs.Lists.{Fills};
 ghost use Rattle.digits_c.specs.Pieces.{end_of, integers_in, floats_in, numbers_in, numbers_in_by};
-ghost use Rattle.digits_c.specs.Pieces.{sure_by, sure_of};
-ghost use Rattle.digits_c.specs.Outcomes.{literal_fault, float_fault, number_fault};
+ghost use Rattle.digits_c.specs.Pieces.{scaled_in, sure_by, sure_of};
+ghost use Rattle.digits_c.specs.Outcomes.{literal_fault, float_fault, number_fault, scaled_fault};
 
 use super::lists::gap_of;
 use super::numbers::NumberParts;
-use super::outcome::{BAD_FORM, BAD_START, FULL, MORE, Outcome};
+use super::outcome::{BAD_FORM, BAD_PLACES, BAD_START, FULL, MORE, Outcome};
 use super::parts::Parts;
 use super::source::{FormSource, Json};
 use super::word::{Word, is_decimal};
-use digit_pieces::{Floats, Integers, OfForm, PieceEnd, read_piece, sure_end};
+use digit_pieces::{Floats, Integers, OfForm, PieceEnd, Scaled, read_piece, sure_end};
 use digits::{
-    Float, FloatError, Integer, LiteralError, NumberError, STANDARD, form_of, is_supported,
+    Float, FloatError, Integer, LiteralError, NumberError, STANDARD, ScaledError, form_of,
+    is_supported,
 };
 
 impl Outcome {
@@ -45,6 +46,19 @@ impl Outcome {
             PieceEnd::Full(at) => Outcome::fault(FULL, at),
             PieceEnd::Over(at) => Outcome::done(at),
             PieceEnd::Fault(error) => Outcome::of_float(error),
+        }
+    }
+
+    /// Of a piece of a list of scaled numbers.
+    #[inline(always)]
+    fn of_scaled_piece(end: PieceEnd<ScaledError>) -> Outcome
+        ensures { result ≡ end_of scaled_fault end }
+    {
+        match end {
+            PieceEnd::More(at) => Outcome::fault(MORE, at),
+            PieceEnd::Full(at) => Outcome::fault(FULL, at),
+            PieceEnd::Over(at) => Outcome::done(at),
+            PieceEnd::Fault(error) => Outcome::of_scaled(error),
         }
     }
 
@@ -159,6 +173,35 @@ pub extern "C" fn digits_read_f64_piece(
         Fills (λ x. x) list count.new numbers.old numbers.new result }
 {
     read_floats::<f64>(text, start, between, is_last, numbers, count)
+}
+
+/// The decimal numbers of a list in a piece of a text, each times ten to the power `places`, as
+/// many as the slice has room for. The point is `.`.
+#[unsafe(no_mangle)]
+pub extern "C" fn digits_read_scaled_i64_piece(
+    text: &[u8],
+    start: usize,
+    places: usize,
+    between: u8,
+    is_last: bool,
+    numbers: &mut [i64],
+    count: &mut usize,
+) -> Outcome
+    ensures { let room = length numbers.old in
+        let list = scaled_in text.now start between is_last room (2 ^ 63) (2 ^ 63 - 1) places in
+        Fills (λ n. n) list count.new numbers.old numbers.new result }
+{
+    *count = 0;
+    if places > 38 {
+        return Outcome::fault(BAD_PLACES, start);
+    }
+    if start > text.len() {
+        return Outcome::fault(BAD_START, start);
+    }
+    let kind = Scaled::<i64>::new(STANDARD, b'.', places);
+    let piece = read_piece(kind, text, start, gap_of(between), is_last, numbers);
+    *count = piece.count;
+    Outcome::of_scaled_piece(piece.end)
 }
 
 /// The numbers of a list by a form in a piece of a text, as many as there are places.
