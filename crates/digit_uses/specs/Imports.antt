@@ -1,5 +1,5 @@
 -- Each import line of docs/PROVING.md, "Names in specs/". What it imports is used once.
-use Rattle.std.specs.Prelude.{ℕ, Bool, List, [], ◌∷◌}
+use Rattle.std.specs.Prelude.{◌≡◌, ℕ, ◌+◌, Bool, List, [], ◌∷◌}
 use Rattle.digits.specs.Constants.{STANDARD, COMMAS, BLANKS}
 use Rattle.digits.specs.Formats.{PYTHON_LITERAL}
 use Rattle.digits.specs.Languages.{RUST}
@@ -21,10 +21,11 @@ use Rattle.digits.specs.StreamErrors.{NoRoom}
 use Rattle.digits.specs.ListErrors.{NoRoom as no_room}
 use Rattle.digits.specs.EnclosedErrors.{NoOpening}
 use Rattle.digits.specs.PriceErrors.{Group}
+use Rattle.digits.specs.KindLaws.{literal_later_at}
 use Rattle.digits.specs.Words.{Gap, LiteralError, is_supported}
 use Rattle.digits.specs.Words.{ByteSet, FloatError, Form, Language, LanguageError, ListEnd, Marks}
 use Rattle.digits.specs.Words.{EnclosedError, ListError, PieceEnd, PriceError, StreamEnd}
-use Rattle.digits.specs.Words.{StreamError}
+use Rattle.digits.specs.Words.{StreamError, literal_later, literal_position}
 use Rattle.digits.specs.Words.{Number, NumberError, ParseError, ScaledError, Special, Specials}
 use Rattle.digit_uses.specs.declared.points.PointError.{PointError}
 use Rattle.digit_uses.specs.declared.points.PointError.TheVariants.{NoColon}
@@ -49,3 +50,7 @@ lists = (no_room 0, NoOpening 0, Group 0)
 
 abbrev pub own : PointError × Form
 own = (NoColon 0, COMMA_FLOATS)
+
+abbrev pub law : (by : ℕ) (e : LiteralError)
+    → literal_position (literal_later by e) ≡ by + literal_position e
+law = literal_later_at

@@ -7,6 +7,7 @@ pub mod calling;
 pub mod dates;
 pub mod durations;
 pub mod geometry;
+pub mod kinds;
 pub mod lexer;
 pub mod lists;
 pub mod literal;

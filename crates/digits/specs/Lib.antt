@@ -1,5 +1,7 @@
 pub mod Constants
 pub mod Words
+-- the laws of integers, floats and scaled numbers, for a `Kind` of one's own
+pub use Rattle.digit_pieces.specs.Laws.OfKinds as KindLaws
 -- the constants of modules and types, and the variants of answers and errors, for a file of specs/
 pub use Rattle.lexical_format.specs.declared.words.TheConstants as Formats
 pub use Rattle.digit_values.specs.declared.bytes.TheConstants as Bytes

@@ -73,6 +73,9 @@ pub use Rattle.digit_values.specs.Moves.{literal_later}
 pub use Rattle.digit_pieces.specs.Texts.{IsApart, list_of, piece_of}
 pub use Rattle.digit_pieces.specs.Apart.{IsShared, are_apart, is_between, is_pointed_byte, is_word_byte}
 unfoldable pub use Rattle.digit_pieces.specs.Texts.{read_pieces}
+-- what a `Kind` promises
+pub use Rattle.digit_languages.specs.Follows.{AreSameBefore}
+pub use Rattle.digit_pieces.specs.Moves.{IsFresh, outcome_later}
 pub use Rattle.digit_blocks.specs.Blocks.{AreStarts, EndsApart, HasNoneAtEnd, HaveRoom, IsStart, as_list, block_of, piece_later, reach}
 unfoldable pub use Rattle.digit_blocks.specs.Blocks.{blocks_at, joined, last_start}
 pub use Rattle.digit_streams.specs.declared.stream.StreamEnd.{StreamEnd}

@@ -9,6 +9,7 @@
 //! - why no number begins where a stream goes on: `reasons`
 //! - a number that is answered before the reader is asked again: `waits`
 //! - a caller: `uses`; the sum of a stream, which `digit_uses` proves: `sums`
+//! - streams by a seed, beside the list of the whole text: `seeds`
 //! - lists in brackets, an offset, and the sum of an array: `arrays`
 
 mod arrays;
@@ -16,6 +17,7 @@ mod ends;
 mod readers;
 mod reasons;
 mod rows;
+mod seeds;
 mod sums;
 mod uses;
 mod waits;

@@ -3,10 +3,12 @@
 ghost use Rattle.digit_pieces.specs.Texts.{IsApart};
 ghost use Rattle.digit_streams.specs.Streams.{IsNext, stream_list};
 
-use digit_literals::{Gap, LiteralError, WHITESPACE};
+use digit_lists::read_list_by;
+use digit_literals::{COMMAS, Gap, LINES, ListEnd, LiteralError, WHITESPACE};
 use digit_pieces::{Integers, Kind};
 use digit_streams::laws::first_two;
 use digit_streams::{NumberReader, StreamError};
+use digit_uses::kinds::UpTo;
 use lexical_format::STANDARD;
 use std::io::Read;
 
@@ -69,4 +71,24 @@ fn a_sum(rt: HostRuntime) {
         WHITESPACE,
     );
     assert_eq!(rt; two, Some((12, 3)));
+}
+
+/// A kind of numbers of a caller's own, in a stream and in a list.
+#[test]
+#[tactic(auto, unfolding(lexical_format::proofs::OnLiterals::lexical_on_literals))]
+fn a_kind_of_ones_own(rt: HostRuntime) {
+    let percents = UpTo {
+        word: STANDARD,
+        most: 100,
+    };
+    let mut buffer = [0; 8];
+    let stream = b"70\n100\n101\n".as_slice();
+    let mut numbers = NumberReader::new(stream, &mut buffer, percents, LINES);
+    assert_eq!(rt; numbers.next_number(), Some(Ok(70)));
+    assert_eq!(rt; numbers.next_number(), Some(Ok(100)));
+    let fault = StreamError::Number(LiteralError::Overflow(9));
+    assert_eq!(rt; numbers.next_number(), Some(Err(fault)));
+    let mut out = [0; 4];
+    let read = read_list_by(percents, b"7, 100]", 0, COMMAS, &mut out);
+    assert!(rt; out[..2] == [7, 100] && read.end == ListEnd::Over(6));
 }
