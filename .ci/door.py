@@ -114,7 +114,9 @@ FOR_LIBRARY = ("Integer", "Float", "Written")
 HIDDEN = ("no_number",)
 # The modules whose constants have a table elsewhere.
 TABLES = {"forms": " [A table of all](forms.md).",
-          "words": " [What each reads](../RULES.md#words-with-names)."}
+          "words": " `PYTHON_LITERAL` reads `1_000`, `CXX14_LITERAL` `1'000`; none reads `1,000`: "
+                   "[write such a word](../../CALLING.md#a-word-of-your-own). "
+                   "[What each reads](../RULES.md#words-with-names)."}
 
 # What a caller proves, in words.
 CONDITIONS = {
@@ -135,7 +137,8 @@ CONDITIONS = {
     "IsHexadecimal word": "the mantissa's radix is 16",
     "exponent_radix word ≡ 10": "the exponent's radix is 10",
     "before ≤ most": "`before` is at most `most`",
-    "T.ROOM ≤ length out.old": "`out` has room for any number of the type, as `[0; MOST_ROOM]` has",
+    "T.ROOM ≤ length out.old": "`out` has room for any number of the type: 11 bytes for `i32`, 20 for `i64` and `u64`, "
+                            "40 for `i128` and all others (`MOST_ROOM`)",
     "IsTrue (is_supported kind.word)": "the kind's word is supported",
     "IsDecimal kind.word": "its radixes are 10",
     "kind.places ≤ 38": "places ≤ 38",
@@ -177,13 +180,15 @@ grammar, such as JSON's.
 position after it. An error holds the position of the fault. No call panics, and those that read \
 allocate nothing.
 - **You prove** what stands behind `// you prove`: nothing tests it when the program runs, and \
-`rt check` refuses your function if the prover can't see it. For a constant word one attribute does \
-it ([set up](../../CALLING.md#set-up)), and a position that a call answered is within the text. What \
-only run time knows you test before the call: `if !is_supported(word) {{ return .. }}`, \
-`if start > text.len() {{ return .. }}`. A word has a radix for its digits, and one for its exponent: \
-for "its radixes are 10" test that `mantissa_radix()` and `exponent_radix()` of \
-[`NumberFormat::new(word)`](#numberformat) are 10. [All conditions](../PROMISES.md#conditions), and \
-how each is met.
+`rt check` refuses your function if the prover can't see it. [All conditions](../PROMISES.md#conditions); \
+the commonest are met so:
+
+| Condition | By a constant, or what a call answered | By what only run time knows |
+|---|---|---|
+| the word is supported | one attribute lets the prover compute it ([set up](../../CALLING.md#set-up)) | `if !is_supported(word) {{ return .. }}` |
+| its radixes are 10, for digits and exponent | the same attribute | test `mantissa_radix()` and `exponent_radix()` of [`NumberFormat::new(word)`](#numberformat) |
+| the form is valid | the same attribute | `if !is_form(form) {{ return .. }}` |
+| start ≤ text.len() | a position that a call answered is within its text | `if start > text.len() {{ return .. }}` |
 
 [CALLING.md](../../CALLING.md) has a table by which you choose a call, and whole functions.
 

@@ -77,9 +77,9 @@ def readme():
     machine = Figures("times.txt").head.split("; ")[1]
     lines = table("Nanoseconds to parse one number that is the whole text, from Rattle and by a constant "
                   "word, beside the fastest other library that does the same work. This library is the "
-                  f"fastest in {fastest()} cases of the picture. The first four rows are examples of these, "
-                  "the last rows are the others:",
-                  ["What is read", "Here", "The next one", "Ratio"], beside())
+                  f"fastest in {fastest()} cases of the picture: here are four of these, and last the cases that "
+                  "it loses:",
+                  ["What is read", "Here", "The fastest other", "Ratio"], beside())
     return "\n".join(lines) + f"""
 Timed on: {machine}. [SPEED.md](docs/SPEED.md#beside-other-readers) has every row, and how it was measured.
 
@@ -87,6 +87,8 @@ If you also need the end of a number, as a lexer does, expect a draw: {span('u64
 of the fastest other reader for a `u64`, {span('f64', READ)} times for an `f64`. Writing a float takes \
 {span_of_writing("f")} times the instructions of the best other writer.
 
-**Slower than others:** each call [from C](docs/SPEED.md#from-c), which takes {more_by('constant word')} \
-instructions more than in Rattle; floats in groups and iterators ([where you lose](docs/SPEED.md#where-you-lose)); \
-and {lost()} ([writing](docs/SPEED.md#writing))."""
+**Slower than others:**
+
+- each call [from C](docs/SPEED.md#from-c): {more_by('constant word')} instructions more than from Rattle
+- floats in groups, and iterators ([how much](docs/SPEED.md#where-you-lose))
+{lost()}"""

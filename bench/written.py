@@ -103,9 +103,10 @@ def span(start, peer=None):
 def lost():
     """What README.md says is dearer to write than by others."""
     return f"""\
-what you write with a fixed number of places or in up to four digits: `%.6e` by up to \
-{span("%.6e").split()[-1]} times the instructions of C++'s `to_chars`, large numbers by `%.2f` \
-{span("%.2f").split()[-1]}, short integers {span("u64, 1 to 4")}"""
+- `write_scientific`, as `%.6e`: up to {span("%.6e").split()[-1]} times the instructions of C++'s \
+`to_chars` ([every row](docs/SPEED.md#writing))
+- `write_fixed`, as `%.2f`, of large numbers: {span("%.2f").split()[-1]} times
+- `write_number` of up to four digits: {span("u64, 1 to 4")} times"""
 
 
 def writers():

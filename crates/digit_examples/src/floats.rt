@@ -1,5 +1,6 @@
 //! The nearest floats.
 
+use digits::words::PYTHON_LITERAL;
 use digits::{
     FloatError, STANDARD, parse_float, parse_float_from, read_float, read_float_from, round_integer,
 };
@@ -8,6 +9,7 @@ use digits::{
 #[test]
 fn a_whole_text(rt: HostRuntime) {
     assert_eq!(rt; parse_float::<f64>(b"-1.5e3", STANDARD), Ok(-1500.0));
+    assert_eq!(rt; parse_float::<f64>(b"1_234.5", PYTHON_LITERAL), Ok(1234.5));
     assert_eq!(rt; parse_float::<f64>(b".5", STANDARD), Ok(0.5));
     assert_eq!(rt; parse_float::<f64>(b"1e999", STANDARD), Ok(f64::INFINITY));
     assert_eq!(rt;

@@ -82,10 +82,10 @@ fn read_float_rest<F: Float>(
 }
 
 /// The float that begins at a position of a text, and the position after it:
-/// `[+-]? (D+ (. D*)? | . D+) ([eE] [+-]? D+)?`, where `D` is a digit. What is too large is
-/// infinite, and what is too small is 0. Requires that the word is supported, and that its mantissa
-/// and exponent are decimal. `inf` and `nan` are no digits, so they are refused as `Empty`: a word
-/// says nothing about them.
+/// `[+-]? (D+ (. D*)? | . D+) ([eE] [+-]? D+)?`, where `D` is a digit, and separators that the word
+/// drops may be among them. What is too large is infinite, and what is too small is 0. Requires
+/// that the word is supported, and that its mantissa and exponent are decimal. `inf` and `nan` are
+/// no digits, so they are refused as `Empty`: a word says nothing about them.
 ///
 /// ```text
 /// by `STANDARD`: `x=1.5e3,` from 2: Ok((1500.0, 7)); `1.5.2` from 0: Ok((1.5, 3))
@@ -183,9 +183,10 @@ pub fn parse_float_from<F: Float>(text: &[u8], word: u128, start: usize) -> Resu
 }
 
 /// The float nearest to the number that a whole text is:
-/// `[+-]? (D+ (. D*)? | . D+) ([eE] [+-]? D+)?`, where `D` is a digit. What is too large is
-/// infinite, what is too small is 0, and `inf` and `nan` are refused. Requires that the word is
-/// supported, and that its mantissa and exponent are decimal.
+/// `[+-]? (D+ (. D*)? | . D+) ([eE] [+-]? D+)?`, where `D` is a digit, and separators that the word
+/// drops may be among them. What is too large is infinite, what is too small is 0, and `inf` and
+/// `nan` are refused. Requires that the word is supported, and that its mantissa and exponent are
+/// decimal.
 ///
 /// ```text
 /// by `STANDARD`: `-1.5e3`: Ok(-1500.0); `.5`: Ok(0.5); `1e999`: Ok(inf)

@@ -91,8 +91,8 @@ fn read_head<T: Integer>(text: &[u8], rule: Rule, start: usize) -> Head
 /// type has a sign, and then an integer. Requires that `start` is within the text and the word is
 /// supported.
 ///
-/// [`Empty`](LiteralError::Empty) holds the position after any sign where a digit has to be.
-/// Another byte is there, also a separator that the word doesn't drop, or the text ends.
+/// [`Empty(at)`](LiteralError::Empty) says that no digit is at `at`, after the sign if there is
+/// one: the text ends, or another byte is there, such as a separator that the word doesn't drop.
 /// [`Overflow`](LiteralError::Overflow) holds that of the first digit with which the type has no
 /// such number.
 ///

@@ -39,6 +39,19 @@ pub fn read_mask(text: &[u8]) -> Result<(u16, usize), LanguageError> {
     read_literal_as::<u16>(text, 0, RUST)
 }
 
+use digits::{BLANKS, STANDARD, past_bytes};
+
+/// The number that a text is, with any blanks around it: ` 12\r\n` gives 12.
+pub fn parse_trimmed(text: &[u8]) -> Result<i32, ParseError> {
+    let start = past_bytes(text, 0, BLANKS);
+    let (number, end) = read_number_from::<i32>(text, STANDARD, start)?;
+    let rest = past_bytes(text, end, BLANKS);
+    if rest < text.len() {
+        return Err(ParseError::Invalid(rest));
+    }
+    Ok(number)
+}
+
 use digits::{NumberError, forms, parse_number_of};
 
 /// The number of JSON that a text is, as a float: `-1.5e3` is -1500.0, and `01` is `Invalid(1)`.
@@ -63,7 +76,7 @@ pub fn read_token(text: &[u8], start: usize) -> Result<(Number<f64>, usize), Num
     }
 }
 
-use digits::{Integers, STANDARD, read_exactly, read_optional, read_scaled_from};
+use digits::{Integers, read_exactly, read_optional, read_scaled_from};
 
 /// A line of a CSV file.
 #[derive(Clone, Copy, Debug, PartialEq, Eq)]

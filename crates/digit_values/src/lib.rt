@@ -63,8 +63,8 @@ impl LiteralError {
         }
     }
 
-    /// Whether it says that no number begins at a position: no digit is there. A sign without a
-    /// digit begins one, and so does a number that is too large.
+    /// Whether no number begins at a position, as at `x`. Where one begins and is at fault, as `-;`
+    /// or one that is too large, it is `false`.
     #[inline(always)]
     pub fn is_none_at(&self, place: usize) -> bool
         ensures { result ≡ literal_none_at place self.now }

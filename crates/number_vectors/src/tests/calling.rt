@@ -7,8 +7,8 @@ use digit_lists::ListError;
 use digit_literals::{LINES, ListEnd, LiteralError, ParseError, read_list};
 use digit_numbers::{Number, NumberError, forms, read_number_of};
 use digit_uses::calling::{
-    SizeError, cents_of_field, parse_amount, parse_height, parse_row, read_comma_float, read_mask,
-    read_ports, read_size, read_token, write_grouped,
+    SizeError, cents_of_field, parse_amount, parse_height, parse_row, parse_trimmed,
+    read_comma_float, read_mask, read_ports, read_size, read_token, write_grouped,
 };
 use lexical_format::STANDARD;
 
@@ -35,6 +35,8 @@ fn a_size_is_two_numbers(rt: HostRuntime) {
     assert!(rt; read_size(b"1_920,1_080") == Err(SizeError::NoX(5)));
     assert!(rt; read_size(b"1x") == Err(SizeError::Side(LiteralError::Empty(2))));
     assert!(rt; read_mask(b"0xff_u8") == Ok((255, 5)));
+    assert!(rt; parse_trimmed(b" 12\r\n") == Ok(12));
+    assert!(rt; parse_trimmed(b"12 x") == Err(ParseError::Invalid(3)));
     assert!(rt; parse_amount(b"-1.5e3") == Ok(-1500.0));
     assert!(rt; parse_amount(b"01") == Err(NumberError::Invalid(1)));
 }
