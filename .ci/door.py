@@ -233,7 +233,7 @@ TOLD = ("Requires ", "A position counts", "Takes no memory", "Not in lexical-uti
 HALVES = {
     "parse_number_of": "The number that a whole text is by a form, such as `forms::JSON`",
     "parse_float_from": "The float that a text is from `start` on to its end",
-    "read_number_from": "The integer at `start` as an `i32`, a `u64` or another type, with its sign",
+    "read_number_from": "The integer at `start`, with its sign, and the position after it",
     "parse_number_from": "The integer that a text is from `start` on to its end",
     "read_integer_from": "The integer without a sign at `start`, as a `u64` that is at most `most`",
     "read_wide_from": "The integer of up to 128 bits that begins at `start`, if it is at most `most`",
@@ -241,7 +241,7 @@ HALVES = {
     "is_form": "Whether numbers can be read by this form",
     "read_scaled_from": "The decimal number that begins at `start`, and where it ends",
     "read_grouped_from": "An amount whose whole digits are in groups of three: `1,234.5`",
-    "read_exact_from": "An amount with exactly `places` places: `12.50`",
+    "read_exact_from": "An amount with exactly `places` places: `12.50`; `12.5` is a fault",
     "read_price_from": "An amount with groups of three and exactly `places` places: `1,234.50`",
     "read_scaled_up_to": "An amount without a sign that is at most `most`",
     "read_decimal_from": "The digits and the power of a decimal number, before it is rounded",

@@ -103,8 +103,8 @@ def span(start, peer=None):
 def lost():
     """What README.md says is dearer to write than by others."""
     return f"""\
-- `write_scientific`, as `%.6e`: up to {span("%.6e").split()[-1]} times the instructions of C++'s \
-`to_chars` ([every row](docs/SPEED.md#writing))
+- `write_scientific`, as `%.6e`: {span("%.6e")} times the instructions of C++'s `to_chars`, the most \
+for very large and very small numbers ([every row](docs/SPEED.md#writing))
 - `write_fixed`, as `%.2f`, of large numbers: {span("%.2f").split()[-1]} times
 - `write_number` of up to four digits: {span("u64, 1 to 4")} times"""
 

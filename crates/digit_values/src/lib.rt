@@ -41,8 +41,8 @@ use lexical_digits::iterator::DigitsIter;
 use std::error::Error;
 use std::fmt;
 
-/// Why there is no integer. Literals of a language have an error of their own, `LanguageError`. A
-/// position counts bytes from the start of the buffer, from 0.
+/// Why a call by a word found no integer. Literals of a language have an error of their own,
+/// `LanguageError`. A position counts bytes from the start of the buffer, from 0.
 #[derive(Clone, Copy, Debug, PartialEq, Eq)]
 pub enum LiteralError {
     /// No digit is at this position, where one has to be: another byte is there, or the text ends.
