@@ -17,9 +17,12 @@ fn a_whole_text(rt: HostRuntime) {
         parse_number_of::<f64>(b"01", forms::JSON),
         Err(NumberError::Invalid(1))
     );
-    let twelve = parse_number_of::<f64>(b"12", forms::JSON).unwrap();
-    assert_eq!(rt; twelve.as_integer::<i64>(), Some(12));
-    assert_eq!(rt; twelve.to_float(), 12.0);
+    let twelve = parse_number_of::<f64>(b"12", forms::JSON);
+    assert_eq!(rt;
+        twelve.map(|number| number.as_integer::<i64>()),
+        Ok(Some(12))
+    );
+    assert_eq!(rt; twelve.map(|number| number.to_float()), Ok(12.0));
 }
 
 /// Shows `read_number_of`.
