@@ -15,8 +15,6 @@ CALLER = "my_parser"
 # The pages whose blocks of these languages are parts of proved files, and the crate that has these.
 SHOWN = {"docs/IMPLEMENTING.md": ("crates/digit_vectors", ("rust", "antt")),
          "docs/PROVING.md": (USES, ("antt",)), "CALLING.md": (USES, ("antt",))}
-# The blocks of Rust that are parts of another file of digit_uses.
-PARTS = {"CALLING.md": ("impl Item for", f"{USES}/src/points.rt")}
 # What pages show of other languages: the mark of its blocks, the file whose examples are run, how a line
 # has a call and its answer, and how the file has them.
 DOORS = ("README.md", "c/README.md")
@@ -40,12 +38,6 @@ def blocks_of(page, language):
         elif block is not None:
             block[1].append(line)
     return found
-
-
-def own_blocks(page):
-    """The blocks of Rust of a page that a caller pastes, without those of PARTS."""
-    start = PARTS.get(page, ("",))[0]
-    return [it for it in blocks_of(page, "rust") if not start or not it[1][0].startswith(start)]
 
 
 def imports_of(rows):
@@ -150,13 +142,20 @@ def first_run(faults):
         faults.append(f"README.md:1: the run of digit_hello doesn't print what {path} has")
 
 
+def contract(faults):
+    """The contract that README shows is as the source has it."""
+    path = "crates/digit_integers/src/number.rt"
+    shown = [it for it in blocks_of("README.md", "text") if it[1][0].startswith("pub fn")]
+    for first, block in shown:
+        if "\n".join(block) + "\n{\n" not in read(path):
+            faults.append(f"README.md:{first}: {path} has another `{block[0]}`")
+    if not shown:
+        faults.append("README.md:1: no contract is shown")
+
+
 def parts(faults):
     """Each paragraph of the blocks of Rust and antt of these pages is in a file of the crate."""
     count = 0
-    for page, (start, path) in PARTS.items():
-        for first, block in blocks_of(page, "rust"):
-            if block[0].startswith(start) and flat("\n".join(block)) not in flat(read(path)):
-                faults.append(f"{page}:{first}: {path} has another `{block[0]}`")
     for page, (crate, languages) in SHOWN.items():
         texts = [flat(read(path)) for path in files_below(crate, (".rt", ".antt"))]
         for language in languages:
@@ -181,10 +180,11 @@ def check():
     answers(faults)
     others(faults)
     first_run(faults)
+    contract(faults)
     for page in PAGES:
         by_the_door(page, faults)
     for page, module in PAGES.items():
-        path, blocks = f"{USES}/src/{module}.rt", own_blocks(page)
+        path, blocks = f"{USES}/src/{module}.rt", blocks_of(page, "rust")
         here = [line for first, block in blocks for line in code(block, first)]
         there = code(read(path).split("\n"), 1)
         if page in ALONE:

@@ -82,7 +82,7 @@ GROUPS = {
     "Streams": (
         "a file or a socket of any length",
         "The numbers of a file or a socket, of any length, through a buffer that you lend.", """
-        NumberReader StreamError StreamRead StreamEnd is_apart"""),
+        fold_stream FoldError NumberReader EnclosedFoldError StreamError StreamRead StreamEnd is_apart"""),
     "Pieces and blocks of a text": (
         "a text in parts",
         "A text that comes in parts, or is cut into blocks that are read by themselves.", """
@@ -102,18 +102,22 @@ GROUPS = {
         round_parts decimal_of Component Rule"""),
 }
 
+# The forms that the table of the page tells, beside what all are for.
+FIRST_FORMS = ("JSON", "JSON_FLOATS", "RUST_PARSE", "STRTOD", "LITERAL", "FLOAT")
+
 # What only the page of its library has, and the heading of the table that leads there.
 MORE = """
     read_integer read_list_piece read_float_list_piece read_list_piece_of read_scaled_list_piece
     wrong_group form_of read_hex_mantissa HexMantissa read_hex_float_from round_hex AnyFloat WrittenFloat
     integers_are_apart floats_are_apart scaled_are_apart literals_are_apart numbers_are_apart
-    both_are_apart any_are_apart""".split()
+    both_are_apart enclosed_are_apart any_are_apart""".split()
 ELSEWHERE = "On the crates' pages only"
 # The traits whose methods a caller doesn't need, and a call that serves the library alone.
 FOR_LIBRARY = ("Integer", "Float", "Written")
 HIDDEN = ("no_number",)
 # The modules whose constants have a table elsewhere.
 TABLES = {"forms": " [A table of all](forms.md).",
+          "languages": " [Their separators, and what a first `0` says](../RULES.md#prefixes-and-a-first-0).",
           "words": " `PYTHON_LITERAL` reads `1_000`, `CXX14_LITERAL` `1'000`; none reads `1,000`: "
                    "[write such a word](../../CALLING.md#a-word-of-your-own). "
                    "[What each reads](../RULES.md#words-with-names)."}
@@ -125,6 +129,7 @@ CONDITIONS = {
     "start ≤ length text.now": "start ≤ text.len()",
     "at ≤ length text.now": "at ≤ text.len()",
     "end ≤ length text.now": "end ≤ text.len()",
+    "F.IsAlwaysCallable step": "the step may be called on every value and number",
     "(b : ℕ) → b < 256 → F.pre test b": "the closure may be called on every byte",
     "places ≤ 38": "places ≤ 38",
     "K.valid kind": "the kind is valid, as one of a supported word is",
@@ -137,8 +142,9 @@ CONDITIONS = {
     "IsHexadecimal word": "the mantissa's radix is 16",
     "exponent_radix word ≡ 10": "the exponent's radix is 10",
     "before ≤ most": "`before` is at most `most`",
-    "T.ROOM ≤ length out.old": "`out` has room for any number of the type: 11 bytes for `i32`, 20 for `i64` and `u64`, "
-                            "40 for `i128` and all others (`MOST_ROOM`)",
+    "T.ROOM ≤ length out.old": "`out` has room for any number of the type: 3 bytes for `u8`, 4 `i8`, 5 `u16`, 6 `i16`, "
+                            "10 `u32`, 11 `i32`, 20 `u64`, `i64`, `usize` and `isize`, 39 `u128`, 40 `i128`; "
+                            "`MOST_ROOM` for all",
     "IsTrue (is_supported kind.word)": "the kind's word is supported",
     "IsDecimal kind.word": "its radixes are 10",
     "kind.places ≤ 38": "places ≤ 38",
@@ -150,6 +156,9 @@ CONDITIONS = {
     "IsTrue (are_apart (is_number_byte form) gap)": "no byte of the gap may be in a number",
     "IsApart (A.has_byte first) gap": "no byte of the gap may be in a number of the first kind",
     "is_between gap between ≡ false": "the byte between the two isn't of the gap",
+    "IsApart (K.has_byte kind) gap": "no byte of the gap may be in a number of the kind",
+    "is_between gap opening ≡ false": "the byte before a number isn't of the gap",
+    "is_between gap closing ≡ false": "the byte after a number isn't of the gap",
     "IsApart (B.has_byte second) gap": "no byte of the gap may be in a number of the second kind",
 }
 
@@ -177,18 +186,26 @@ LINES
 [Others have names](#words), and you can make your own. A [form](#numbers-by-a-form) is a whole \
 grammar, such as JSON's.
 - **An answer** of `parse_` is the number that the whole text is; of `read_` the number and the \
-position after it. An error holds the position of the fault. No call panics, and those that read \
-allocate nothing.
+position after it. The error of a number holds the position of its fault. No call panics or \
+allocates.
 - **You prove** what stands behind `// you prove`: nothing tests it when the program runs, and \
 `rt check` refuses your function if the prover can't see it. [All conditions](../PROMISES.md#conditions); \
-the commonest are met so:
+this is how you meet them:
 
 | Condition | By a constant, or what a call answered | By what only run time knows |
 |---|---|---|
 | the word is supported | one attribute lets the prover compute it ([set up](../../CALLING.md#set-up)) | `if !is_supported(word) {{ return .. }}` |
 | its radixes are 10, for digits and exponent | the same attribute | test `mantissa_radix()` and `exponent_radix()` of [`NumberFormat::new(word)`](#numberformat) |
 | the form is valid | the same attribute | `if !is_form(form) {{ return .. }}` |
-| start ≤ text.len() | a position that a call answered is within its text | `if start > text.len() {{ return .. }}` |
+| start, at, end ≤ text.len() | a position that a call answered is within its text, if its own start is | `if start > text.len() {{ return .. }}` |
+| the words of the language are supported | the same attribute | `if !is_language(language) {{ return .. }}` |
+| the kind is valid | the same attribute, for its word, form or language | the test of its word, form or language |
+| places ≤ 38 | a literal | `if places > 38 {{ return .. }}` |
+| `x` is finite | test a constant, too | `if !x.is_finite() {{ return .. }}` |
+| `before` is at most `most` | 0, or a value that was read up to `most` | `if before > most {{ return .. }}` |
+| the mantissa is one of this text | what `read_mantissa` answered of it | |
+| a closure, or a step, may be called on every byte, or value and number | one that can't panic: `byte.is_ascii_digit()`, `sum.checked_add(number)`, a sum of floats; `rt check` refuses the `+` of integers | |
+| `out` has room for any number of the type | `[0; MOST_ROOM]` | `if out.len() < MOST_ROOM {{ return .. }}` |
 
 [CALLING.md](../../CALLING.md) has a table by which you choose a call, and whole functions.
 
@@ -259,7 +276,7 @@ HALVES = {
 # How long the half line of a name may be.
 ROOM = 84
 MORE_HEAD = """\
-Readers of `u64` and of pieces by their own names, the parts of hexadecimal floats, and laws, which do \
+They are in `digits`, too: traits of the floats that are written, `f64` and `f32`, readers of `u64` and of pieces by their own names, the parts of hexadecimal floats, and laws, which do \
 nothing when the program runs: each tells the prover that no byte between two numbers may be in one."""
 
 
@@ -350,9 +367,12 @@ class Door:
                     "    /* ghost members and laws */", "}"]
         head = declaration_of(library.crate, item)
         head[0] = re.sub(r"^#\[derive\(.*?\)\] |pub ", "", head[0])
-        for impl in library.impls.get(id(item), []):
-            calls = [] if impl.trait else self.methods(impl)
-            head += ["", impl.head + " {", *calls, "}"] if calls else []
+        impls, blocks = library.impls.get(id(item), []), {}
+        for impl in sorted((it for it in impls if not it.trait), key=lambda it: " fn new(" not in it.text):
+            blocks.setdefault(impl.head, []).extend(self.methods(impl))
+        for impl_head, calls in blocks.items():
+            head += ["", impl_head + " {", *calls, "}"] if calls else []
+        for impl in impls:
             if impl.trait == "From":
                 head += ["", impl.head]
             elif impl.trait == "Display":
@@ -407,15 +427,16 @@ class Door:
         library, item = self.libraries[crate], self.item(crate, name)
         first, *parts = self.text(name, item).split("\n\n")
         if not item:
-            first += self.constants(library.crate.modules[(path,)].source) + TABLES.get(name, "")
+            first += TABLES.get(name, "")
         elif item.kind == "fn":
             first += self.types(item)
         else:
             first += self.derives(item)
         blocks = [line for code in (self.code(library, item), self.example(name)) if code
                   for line in ("", "```rust", *code, "```")]
+        table = [] if item else self.constants(library.crate.modules[(path,)].source)
         text = "\n\n".join([first, *parts])
-        return [f"### [`{name}`]({self.page_of(name)})", "", self.to_here(text), *blocks, ""]
+        return [f"### [`{name}`]({self.page_of(name)})", "", self.to_here(text), *table, *blocks, ""]
 
     @staticmethod
     def derives(item):
@@ -434,16 +455,19 @@ class Door:
 
     @staticmethod
     def constants(source):
-        """The constants of a module; of those that are named for one prefix of a language the first."""
+        """A table of the constants of a module: each with what it is; many by what they are for."""
+        consts = {it.name: plain(first_sentence(it.docs)).rstrip(".") for it in source.items
+                  if it.kind == "const" and it.is_public()}
+        heads, rows = ("Name", "What it is"), [(f"`{name}`", told) for name, told in consts.items()]
         if source.path == forms.FORMS:
-            code, *others = forms.forms().values()
-            data, calls = (", ".join(f"`{it}`" for it in part) for part in others[:2])
-            return (f" There are {len(code)} of source code, for data {data}, and for functions {calls}; "
-                    "`LITERAL` and `FLOAT` are to build on.")
-        names_of = [it.name for it in source.items if it.kind == "const" and it.is_public()]
-        apart = [it for it in names_of if re.search(r"_(HEX|OCTAL|BINARY)(_LITERAL)?$", it)]
-        said = f" They are {', '.join(f'`{it}`' for it in names_of if it not in apart)}"
-        return said + (f", and those after a prefix, as `{apart[0]}` and `{apart[1]}`." if apart else ".")
+            parts = zip(("source code", "data", "functions of a library"), forms.forms().values())
+            first = [(f"`{name}`", consts[name]) for name in FIRST_FORMS]
+            return [*rows_of(("Name", "What it reads"), first), "", "These are all forms of a language, a format or a function; `LITERAL` and `FLOAT` are of none, "
+                    "you write your own from them:",
+                    *rows_of(("For", "Names"), [(use, listed(found)) for use, found in parts])]
+        elif any(it.endswith("_HEX_LITERAL") for it in consts):
+            heads, rows = ("Names", "What they read"), list(by_prefix(consts))
+        return rows_of(heads, rows)
 
     def to_here(self, text):
         """A text whose links to items of this page lead to their entries, and whose words of contracts
@@ -511,6 +535,38 @@ class Door:
         lines += [f"## {ELSEWHERE}", "", MORE_HEAD, "", "| Name | What it is |", "|---|---|",
                   *self.rows(MORE)]
         return text_of("\n".join(lines).split("\n"))
+
+
+def listed(names_of):
+    return ", ".join(f"`{it}`" for it in names_of)
+
+
+def rows_of(heads, rows):
+    """A table of two columns."""
+    return ["", f"| {' | '.join(heads)} |", "|---|---|", *(f"| {' | '.join(it)} |" for it in rows)]
+
+
+def by_prefix(words):
+    """The words of languages, by the prefixes after which a language has others: what their names are,
+    and the languages."""
+    kinds, found = ("", "_HEX", "_OCTAL", "_BINARY"), {}
+    for name in words:
+        m = re.fullmatch(r"([A-Z0-9]+?)(?:_(?:HEX|OCTAL|BINARY))?(_LITERAL)?", name)
+        if m and (m[2] or m[1] == "TOML"):
+            found.setdefault((m[1], m[2] or ""), []).append(name)
+    groups = {}
+    for (language, end), names_of in found.items():
+        has = tuple(kind for kind in kinds if f"{language}{kind}{end}" in names_of)
+        groups.setdefault((has, end), []).append(language)
+    bare = [it for it in words if not any(it in group for group in found.values())]
+    yield from ((f"`{it}`", words[it]) for it in bare)
+    for (has, end), languages in groups.items():
+        one = languages[0] if len(languages) == 1 else "X"
+        radixes = ", ".join({"": "10", "_HEX": "16", "_OCTAL": "8", "_BINARY": "2"}[kind] for kind in has)
+        whose = f"of X, which is one of {listed(languages)}" if one == "X" else f"of {one.capitalize()}" \
+            if end else f"of {one}"
+        yield (", ".join(f"`{one}{kind}{end}`" for kind in has),
+               f"digits of radix {radixes} {whose}, with its separators")
 
 
 def half_of(sentence):

@@ -6,7 +6,7 @@ from written import lost, span as span_of_writing
 # The rows that README.md shows, by what it calls them.
 SHOWN = {
     "16 digits of a `u64`": "u64, 16 digits",
-    "8 to 20 digits in groups, as `12_345_678`": "grouped u64, 8 to 20 digits",
+    "integers of 8 to 20 digits in groups, as `12_345_678`": "grouped u64, 8 to 20 digits",
     "coordinates, as `-12.3456`": "f64, coordinates",
     "numbers of JSON": "JSON, mixed",
 }
@@ -77,18 +77,23 @@ def readme():
     machine = Figures("times.txt").head.split("; ")[1]
     lines = table("Nanoseconds to parse one number that is the whole text, from Rattle and by a constant "
                   "word, beside the fastest other library that does the same work. This library is the "
-                  f"fastest in {fastest()} cases of the picture: here are four of these, and last the cases that "
-                  "it loses:",
+                  f"fastest in {fastest()} cases of the picture. The first four rows are such cases, the last ones are "
+                  "those that it loses. A ratio below 1 means that this library is faster. The picture "
+                  "leaves out what is listed below as slower, and numbers that are read with their end.",
                   ["What is read", "Here", "The fastest other", "Ratio"], beside())
     return "\n".join(lines) + f"""
-Timed on: {machine}. [SPEED.md](docs/SPEED.md#beside-other-readers) has every row, and how it was measured.
+From plain Rust, C and C++ a call takes {more_by('constant word')} instructions more, since the \
+compiler can't put it into its caller's loop. One that is given a word, as `parse_by` above, takes \
+{more_by('word as argument')} more ([which](docs/SPEED.md#from-c)). From Python comes what Python takes \
+for a call. Timed on a machine that calls itself {machine}: go by the ratios. [SPEED.md](docs/SPEED.md#beside-other-readers) has \
+every row, how it was measured, and what a word costs that only run time knows.
 
 If you also need the end of a number, as a lexer does, expect a draw: {span('u64', READ)} times the time \
-of the fastest other reader for a `u64`, {span('f64', READ)} times for an `f64`. Writing a float takes \
-{span_of_writing("f")} times the instructions of the best other writer.
+of the fastest other reader for a `u64`, {span('f64', READ)} times for an `f64`. Writing the shortest \
+text of a float takes {span_of_writing("f")} times the instructions of the best other writer; with a \
+given number of places it takes more, as below.
 
-**Slower than others:**
+**Slower than others,** besides the last two rows:
 
-- each call [from C](docs/SPEED.md#from-c): {more_by('constant word')} instructions more than from Rattle
-- floats in groups, and iterators ([how much](docs/SPEED.md#where-you-lose))
+- floats in groups, and iterators over the digits of one number ([how much](docs/SPEED.md#where-you-lose))
 {lost()}"""

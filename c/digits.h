@@ -49,7 +49,7 @@
  *     digits_read_..                                 EMPTY  EMPTY  EMPTY    EMPTY    1
  *     digits_parse_.. of an integer                  EMPTY  EMPTY  INVALID  INVALID  INVALID
  *     digits_parse_.. of a float, of a scaled
- *     number, of JSON or a form                      EMPTY  EMPTY  EMPTY    EMPTY    INVALID
+ *     number or a price, of JSON or a form           EMPTY  EMPTY  EMPTY    EMPTY    INVALID
  *
  *
  * A text that comes in pieces
@@ -61,7 +61,8 @@
  *
  * - read a list by digits_read_.._piece, which stops in time, and answers DIGITS_MORE, or
  * - call a digits_read_.. only at a start before digits_sure_end(text, length), by a form before
- *   digits_sure_end_of(text, length, form): what it answers there stays, whatever follows.
+ *   digits_sure_end_of(text, length, form), by a word or of a price before
+ *   digits_sure_end_by(text, length, word): what it answers there stays, whatever follows.
  *
  * From there on keep the bytes: move them to the front, as digits_keep does after a piece, and read
  * on with what follows them behind them. A digits_parse_.. needs the whole text.
@@ -175,6 +176,8 @@ typedef struct digits_number {
 #define DIGITS_OTHER_BYTE 14 /* Another byte is there, or the text ends */
 #define DIGITS_CLOSED 15 /* The list has no number, and ends here */
 #define DIGITS_TOO_LONG 16 /* A number is too long for the room of the text */
+#define DIGITS_GROUP 17 /* The group of digits at this position isn't of three */
+#define DIGITS_PLACES 18 /* The number that ends at this position has fewer or more places */
 
 /* What a number's kind is. */
 #define DIGITS_NONE 0 /* There is no number */
@@ -203,6 +206,8 @@ static inline const char *digits_message(uint32_t status)
     case DIGITS_OTHER_BYTE: return "another byte than the one that has to be there";
     case DIGITS_CLOSED: return "a list without a number";
     case DIGITS_TOO_LONG: return "a number that is too long for the room of the text";
+    case DIGITS_GROUP: return "a group of digits that isn't of three";
+    case DIGITS_PLACES: return "fewer or more places than were asked for";
     default: return "no status of this library";
     }
 }
@@ -358,6 +363,47 @@ digits_outcome digits_read_scaled_i64_by(const void *text, size_t length, size_t
 DIGITS_CALL(6)
 digits_outcome digits_parse_scaled_i64_by(const void *text, size_t length, size_t places,
                                           digits_word word, uint8_t point, int64_t *number);
+
+/* ---- prices ----
+ *
+ * The same with exactly `places` places, and with `separator` between groups of three digits of the
+ * integer: of 2 places, by ',' and '.', `1,234.50` is 123450, and `999.99` is 99999. By 0 there are no
+ * groups: `1234.50`. What digits_write_price_i64 writes is read back by the same `places`, `separator`
+ * and `point`, if `separator` is no digit, and `point` neither a digit nor `separator`.
+ *
+ * DIGITS_EMPTY       no digit; `at` is where the digits end
+ * DIGITS_OVERFLOW    the type hasn't the number with the digit at `at`
+ * DIGITS_TOO_FINE    the digit at `at` is the first after the last place that is no zero
+ * DIGITS_GROUP       the group of digits at `at` hasn't three, or as the first one not one to three:
+ *                    `12,34.50` at 3, `1234.50` at 0
+ * DIGITS_PLACES      the number that ends at `at` has fewer or more places: `1,234.5` at 7, `1.500` at 5
+ * DIGITS_INVALID     of digits_parse_..: the byte at `at` is no part of the number
+ * DIGITS_BAD_WORD    `separator` is a digit; `at` is the start
+ * DIGITS_BAD_PLACES  more than 38 places; `at` is the start
+ *
+ * Groups are looked at first: of 2 places `12,34` is DIGITS_GROUP at 3.
+ *
+ * In a piece of a text read before digits_sure_end_by(text, length, word), if `point` is '.'. The word
+ * is DIGITS_MAKE_WORD(10, separator, DIGITS_FLAG_INTEGER_INTERNAL).
+ */
+
+DIGITS_CALL(7)
+digits_outcome digits_read_price_i64(const void *text, size_t length, size_t start, size_t places,
+                                     uint8_t separator, uint8_t point, int64_t *number);
+DIGITS_CALL(6)
+digits_outcome digits_parse_price_i64(const void *text, size_t length, size_t places,
+                                      uint8_t separator, uint8_t point, int64_t *number);
+
+/* The same by a word: groups are between the separators that it drops. DIGITS_BAD_WORD: it isn't
+ * supported or not decimal. */
+
+DIGITS_CALL(7)
+digits_outcome digits_read_price_i64_by(const void *text, size_t length, size_t start,
+                                        size_t places, digits_word word, uint8_t point,
+                                        int64_t *number);
+DIGITS_CALL(6)
+digits_outcome digits_parse_price_i64_by(const void *text, size_t length, size_t places,
+                                         digits_word word, uint8_t point, int64_t *number);
 
 /* ---- integer literals of a language ----
  *
@@ -604,6 +650,15 @@ digits_outcome digits_read_scaled_i64_piece(const void *text, size_t length, siz
                                             size_t places, uint8_t between, bool is_last,
                                             int64_t *numbers, size_t room, size_t *count);
 
+/* The same of prices, as digits_read_price_i64 reads them: by ';' `1,234.50; 0.99`. `between` is
+ * another byte than `separator`. DIGITS_BAD_WORD: `separator` is a digit. */
+
+DIGITS_CALL(11)
+digits_outcome digits_read_price_i64_piece(const void *text, size_t length, size_t start,
+                                           size_t places, uint8_t separator, uint8_t point,
+                                           uint8_t between, bool is_last, int64_t *numbers,
+                                           size_t room, size_t *count);
+
 /* The same by a DIGITS_FORM_... DIGITS_BAD_FORM: no such form. */
 
 DIGITS_CALL(9)
@@ -650,10 +705,10 @@ size_t digits_block_start(const void *text, size_t length, size_t at, uint8_t be
 
 /* ---- up to where a piece is sure ----
  *
- * What a digits_read_.. without a word answers at a start before this position stays, whatever
- * follows the piece. It is after the last byte that no number has, or 0. The second serves calls by a
- * form, and is 0 if there is no such form; the third those by a word, and is 0 if the word isn't
- * supported. The point is '.'.
+ * What a digits_read_.. without a word or a separator answers at a start before this position stays,
+ * whatever follows the piece. It is after the last byte that no number has, or 0. The second serves
+ * calls by a form, and is 0 if there is no such form; the third those by a word, and prices by the word
+ * that has their separator, and is 0 if the word isn't supported. The point is '.'.
  */
 
 DIGITS_USED
@@ -702,7 +757,8 @@ size_t digits_write_u64_grouped(void *out, size_t room, uint64_t value, uint8_t 
  * with as many places reads it as -1250. Of more than 38 places there is no text.
  *
  * A price has `separator` between groups of three digits of its integer, or none by 0, and `point`
- * before its places: 123450 of 2 places by ',' and '.' is `1,234.50`, and by 0 and ',' `1234,50`. */
+ * before its places: 123450 of 2 places by ',' and '.' is `1,234.50`, and by 0 and ',' `1234,50`.
+ * digits_read_price_i64 reads it. */
 
 DIGITS_USED
 size_t digits_write_scaled_i64(void *out, size_t room, int64_t value, size_t places);

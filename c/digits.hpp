@@ -158,6 +158,38 @@ inline result<std::int64_t> parse_scaled(std::string_view text, std::size_t plac
                                             static_cast<std::uint8_t>(point));
 }
 
+// ---- prices: exactly so many places, and groups of three digits, or by 0 none ----
+
+inline result<std::int64_t> read_price(std::string_view text, std::size_t start, std::size_t places,
+                                       char separator, char point = '.') noexcept
+{
+    return detail::answer<int64_t, int64_t>(digits_read_price_i64, text, start, places,
+                                            static_cast<std::uint8_t>(separator),
+                                            static_cast<std::uint8_t>(point));
+}
+
+inline result<std::int64_t> read_price(std::string_view text, std::size_t start, std::size_t places,
+                                       word by, char point = '.') noexcept
+{
+    return detail::answer<int64_t, int64_t>(digits_read_price_i64_by, text, start, places, by,
+                                            static_cast<std::uint8_t>(point));
+}
+
+inline result<std::int64_t> parse_price(std::string_view text, std::size_t places, char separator,
+                                        char point = '.') noexcept
+{
+    return detail::answer<int64_t, int64_t>(digits_parse_price_i64, text, places,
+                                            static_cast<std::uint8_t>(separator),
+                                            static_cast<std::uint8_t>(point));
+}
+
+inline result<std::int64_t> parse_price(std::string_view text, std::size_t places, word by,
+                                        char point = '.') noexcept
+{
+    return detail::answer<int64_t, int64_t>(digits_parse_price_i64_by, text, places, by,
+                                            static_cast<std::uint8_t>(point));
+}
+
 // ---- integer literals of a language: a DIGITS_LANGUAGE_.. ----
 
 inline result<digits_literal> read_literal(std::string_view text, std::size_t start,
@@ -332,6 +364,16 @@ inline list read_scaled_piece(std::string_view text, std::size_t start, std::siz
                         static_cast<std::uint8_t>(between), is_last, numbers, room);
 }
 
+/// Prices, with a separator between groups of three digits, or by 0 without groups.
+inline list read_price_piece(std::string_view text, std::size_t start, std::size_t places,
+                             char separator, char point, char between, bool is_last,
+                             std::int64_t *numbers, std::size_t room) noexcept
+{
+    return detail::fill(digits_read_price_i64_piece, text, start, places,
+                        static_cast<std::uint8_t>(separator), static_cast<std::uint8_t>(point),
+                        static_cast<std::uint8_t>(between), is_last, numbers, room);
+}
+
 /// Moves what has to come again to the front of the room of a piece, and sets the length to what is
 /// kept. Where that fills the room, a list that asked for more is too long for it.
 template <typename Room>
@@ -472,7 +514,7 @@ template <typename Places>
     return detail::text(places, digits_write_scaled_i64, value, decimals);
 }
 
-/// The same in groups of three digits, by 0 in none, and with another point.
+/// The same in groups of three digits, by 0 in none, and with another point: a price.
 template <typename Places>
 [[nodiscard]] std::string_view write_price(Places &&places, std::int64_t value,
                                            std::size_t decimals, char separator,

@@ -171,6 +171,94 @@ static void scaled(void)
     CHECK(cents == 35);
 }
 
+static void prices(void)
+{
+    static const digits_word comma = DIGITS_MAKE_INIT(10, ',', DIGITS_FLAG_INTEGER_INTERNAL);
+    int64_t cents = 7;
+
+    IS(digits_read_price_i64(TEXT("1,234.50 EUR"), 0, 2, ',', '.', &cents), DIGITS_OK, 8);
+    CHECK(cents == 123450);
+    IS(digits_read_price_i64(TEXT("12,34.50"), 0, 2, ',', '.', &cents), DIGITS_GROUP, 3);
+    CHECK(cents == 0);
+    IS(digits_read_price_i64(TEXT("-0.99"), 0, 2, ',', '.', &cents), DIGITS_OK, 5);
+    CHECK(cents == -99);
+    IS(digits_read_price_i64(TEXT("1,234.5"), 0, 2, ',', '.', &cents), DIGITS_PLACES, 7);
+    CHECK(cents == 0);
+    IS(digits_read_price_i64(TEXT("1,234"), 0, 2, ',', '.', &cents), DIGITS_PLACES, 5);
+    IS(digits_read_price_i64(TEXT("1,234.500"), 0, 2, ',', '.', &cents), DIGITS_PLACES, 9);
+    IS(digits_read_price_i64(TEXT("1,234.505"), 0, 2, ',', '.', &cents), DIGITS_TOO_FINE, 8);
+    IS(digits_read_price_i64(TEXT("1234.50"), 0, 2, ',', '.', &cents), DIGITS_GROUP, 0);
+    IS(digits_read_price_i64(TEXT("1,2345.00"), 0, 2, ',', '.', &cents), DIGITS_GROUP, 2);
+    IS(digits_read_price_i64(TEXT("12,34"), 0, 2, ',', '.', &cents), DIGITS_GROUP, 3);
+    IS(digits_read_price_i64(TEXT(".50"), 0, 2, ',', '.', &cents), DIGITS_GROUP, 0);
+    IS(digits_read_price_i64(TEXT("1,,234.50"), 0, 2, ',', '.', &cents), DIGITS_PLACES, 1);
+    IS(digits_read_price_i64(TEXT("x=+1.234.567,00;"), 2, 2, '.', ',', &cents), DIGITS_OK, 15);
+    CHECK(cents == 123456700);
+    IS(digits_read_price_i64(TEXT("1'000"), 0, 0, '\'', '.', &cents), DIGITS_OK, 5);
+    CHECK(cents == 1000);
+    IS(digits_read_price_i64(TEXT("1234.50"), 0, 2, 0, '.', &cents), DIGITS_OK, 7);
+    CHECK(cents == 123450);
+    IS(digits_read_price_i64(TEXT(".50"), 0, 2, 0, '.', &cents), DIGITS_OK, 3);
+    CHECK(cents == 50);
+    IS(digits_read_price_i64(TEXT("1,234.50"), 0, 2, 0, '.', &cents), DIGITS_PLACES, 1);
+    IS(digits_read_price_i64(TEXT("92,233,720,368,547,758.07"), 0, 2, ',', '.', &cents), DIGITS_OK, 25);
+    CHECK(cents == INT64_MAX);
+    IS(digits_read_price_i64(TEXT("92,233,720,368,547,758.08"), 0, 2, ',', '.', &cents),
+       DIGITS_OVERFLOW, 24);
+    IS(digits_read_price_i64(TEXT("-92,233,720,368,547,758.08"), 0, 2, ',', '.', &cents),
+       DIGITS_OK, 26);
+    CHECK(cents == INT64_MIN);
+    IS(digits_read_price_i64(TEXT("-92,233,720,368,547,758.09"), 0, 2, ',', '.', &cents),
+       DIGITS_OVERFLOW, 25);
+    IS(digits_read_price_i64(TEXT(""), 0, 2, ',', '.', &cents), DIGITS_EMPTY, 0);
+    IS(digits_read_price_i64(TEXT("1.00"), 5, 2, ',', '.', &cents), DIGITS_BAD_START, 5);
+    IS(digits_read_price_i64(TEXT("1.00"), 5, 39, ',', '.', &cents), DIGITS_BAD_PLACES, 5);
+    IS(digits_read_price_i64(TEXT("1.00"), 5, 39, '7', '.', &cents), DIGITS_BAD_WORD, 5);
+    IS(digits_parse_price_i64(TEXT("1,234.50"), 2, ',', '.', &cents), DIGITS_OK, 8);
+    CHECK(cents == 123450);
+    IS(digits_parse_price_i64(TEXT("1,234.50 "), 2, ',', '.', &cents), DIGITS_INVALID, 8);
+    CHECK(cents == 0);
+    IS(digits_parse_price_i64(TEXT("1,234.5 "), 2, ',', '.', &cents), DIGITS_PLACES, 7);
+    IS(digits_parse_price_i64(TEXT("1,"), 0, ',', '.', &cents), DIGITS_INVALID, 1);
+    IS(digits_parse_price_i64(TEXT("1"), 39, ',', '.', &cents), DIGITS_BAD_PLACES, 0);
+    IS(digits_parse_price_i64(TEXT("1"), 2, '0', '.', &cents), DIGITS_BAD_WORD, 0);
+    IS(digits_read_price_i64_by(TEXT("$1,234.50"), 1, 2, comma, '.', &cents), DIGITS_OK, 9);
+    CHECK(cents == 123450);
+    IS(digits_read_price_i64_by(TEXT("1234.50"), 0, 2, DIGITS_WORD_STANDARD, '.', &cents),
+       DIGITS_GROUP, 0);
+    IS(digits_read_price_i64_by(TEXT("1.00"), 0, 2, DIGITS_WORD_OCTAL, '.', &cents),
+       DIGITS_BAD_WORD, 0);
+    IS(digits_parse_price_i64_by(TEXT("1_234,5"), 1, python, ',', &cents), DIGITS_OK, 7);
+    CHECK(cents == 12345);
+    IS(digits_parse_price_i64_by(TEXT("1_234,5"), 2, python, ',', &cents), DIGITS_PLACES, 7);
+    IS(digits_parse_price_i64_by(TEXT("1"), 0, DIGITS_MAKE_WORD(1, 0, 0), '.', &cents),
+       DIGITS_BAD_WORD, 0);
+}
+
+/* What is written as a price is read as one. */
+static void prices_back(void)
+{
+    static const int64_t values[] = {0, 1, -1, 99, -100, 99999, 100000, -123456789, INT64_MAX, INT64_MIN};
+    static const uint8_t bytes[][2] = {{',', '.'}, {'.', ','}, {' ', ','}, {0, ','}, {0, '.'}, {200, '-'}};
+    size_t i, j, places;
+
+    for (i = 0; i < sizeof values / sizeof values[0]; i++)
+        for (j = 0; j < sizeof bytes / sizeof bytes[0]; j++)
+            for (places = 0; places <= 38; places++) {
+                const uint8_t separator = bytes[j][0], point = bytes[j][1];
+                char text[64];
+                int64_t back = 7;
+                size_t end = digits_write_price_i64(text, 63, values[i], places, separator, point);
+
+                CHECK(end > 0);
+                IS(digits_parse_price_i64(text, end, places, separator, point, &back), DIGITS_OK, end);
+                CHECK(back == values[i]);
+                text[end] = ';';
+                IS(digits_read_price_i64(text, 64, 0, places, separator, point, &back), DIGITS_OK, end);
+                CHECK(back == values[i]);
+            }
+}
+
 static void literals(void)
 {
     digits_literal literal;
@@ -580,6 +668,43 @@ static void scaled_pieces(void)
     IS(digits_read_scaled_i64_piece(NULL, 0, 0, 2, ',', false, NULL, 0, &count), DIGITS_FULL, 0);
 }
 
+/* Prices, of a piece. */
+static void price_pieces(void)
+{
+    int64_t cents[3] = {7, 7, 7};
+    size_t count = 7;
+
+    IS(digits_read_price_i64_piece(TEXT("1,234.50; -0.99 ;2.0"), 0, 2, ',', '.', ';', false, cents, 3,
+                                   &count),
+       DIGITS_MORE, 17);
+    CHECK(count == 2 && cents[0] == 123450 && cents[1] == -99 && cents[2] == 7);
+    IS(digits_read_price_i64_piece(TEXT("2.0"), 0, 2, ',', '.', ';', true, cents, 3, &count),
+       DIGITS_PLACES, 3);
+    CHECK(count == 0);
+    IS(digits_read_price_i64_piece(TEXT("2.00"), 0, 2, ',', '.', ';', true, cents, 3, &count),
+       DIGITS_OK, 4);
+    CHECK(count == 1 && cents[0] == 200);
+    IS(digits_read_price_i64_piece(TEXT("1,23"), 0, 0, ',', '.', ';', false, cents, 3, &count),
+       DIGITS_MORE, 0);
+    IS(digits_read_price_i64_piece(TEXT("1;1,23;"), 0, 0, ',', '.', ';', false, cents, 3, &count),
+       DIGITS_GROUP, 4);
+    CHECK(count == 1 && cents[0] == 1);
+    IS(digits_read_price_i64_piece(TEXT("1.234,50\n2\n"), 0, 2, '.', ',', '\n', false, cents, 1, &count),
+       DIGITS_FULL, 9);
+    CHECK(count == 1 && cents[0] == 123450);
+    IS(digits_read_price_i64_piece(TEXT("1234.50;"), 0, 2, 0, '.', ';', false, cents, 3, &count),
+       DIGITS_MORE, 8);
+    CHECK(count == 1 && cents[0] == 123450);
+    IS(digits_read_price_i64_piece(TEXT("1"), 2, 38, ',', '.', ';', false, cents, 3, &count),
+       DIGITS_BAD_START, 2);
+    CHECK(count == 0);
+    IS(digits_read_price_i64_piece(TEXT("1"), 2, 39, ',', '.', ';', false, cents, 3, &count),
+       DIGITS_BAD_PLACES, 2);
+    IS(digits_read_price_i64_piece(TEXT("1"), 2, 39, '7', '.', ';', false, cents, 3, &count),
+       DIGITS_BAD_WORD, 2);
+    IS(digits_read_price_i64_piece(NULL, 0, 0, 2, ',', '.', ';', false, NULL, 0, &count), DIGITS_FULL, 0);
+}
+
 /* What is kept of a piece, and where that fills the room. */
 static void kept(void)
 {
@@ -770,6 +895,9 @@ static void no_digits(void)
         IS(digits_read_scaled_i64(text, length, 0, 2, &i64), DIGITS_EMPTY, at);
         IS(digits_parse_scaled_i64(text, length, 2, &i64), DIGITS_EMPTY, at);
         IS(digits_parse_scaled_i64_by(text, length, 2, python, '.', &i64), DIGITS_EMPTY, at);
+        IS(digits_read_price_i64(text, length, 0, 2, ',', '.', &i64), DIGITS_EMPTY, at);
+        IS(digits_parse_price_i64(text, length, 2, 0, '.', &i64), DIGITS_EMPTY, at);
+        IS(digits_parse_price_i64_by(text, length, 2, python, '.', &i64), DIGITS_EMPTY, at);
         IS(digits_read_json(text, length, 0, &number), DIGITS_EMPTY, at);
         IS(digits_parse_json(text, length, &number), DIGITS_EMPTY, at);
         IS(digits_parse_number(text, length, DIGITS_FORM_TOML, &number), DIGITS_EMPTY, at);
@@ -813,6 +941,7 @@ static void edges(void)
     IS(digits_parse_f64(NULL, 0, &f64), DIGITS_EMPTY, 0);
     IS(digits_parse_f64_by(NULL, 0, DIGITS_WORD_RUST_LITERAL, &f64), DIGITS_EMPTY, 0);
     IS(digits_read_scaled_i64(NULL, 0, 0, 2, &i64), DIGITS_EMPTY, 0);
+    IS(digits_read_price_i64(NULL, 0, 0, 2, ',', '.', &i64), DIGITS_EMPTY, 0);
     IS(digits_read_literal(NULL, 0, 0, DIGITS_LANGUAGE_GO, &literal), DIGITS_EMPTY, 0);
     IS(digits_read_json(NULL, 0, 0, &number), DIGITS_EMPTY, 0);
     IS(digits_read_number(NULL, 0, 0, DIGITS_FORM_YAML, &number), DIGITS_EMPTY, 0);
@@ -985,9 +1114,13 @@ int main(void)
     CHECK(!digits_is_supported(DIGITS_MAKE_WORD(37, 0, 0)));
     CHECK(!digits_is_supported(DIGITS_MAKE_WORD(16, 'f', 0)));
     CHECK(strcmp(digits_message(DIGITS_EMPTY), "no digit") == 0);
+    CHECK(strcmp(digits_message(DIGITS_GROUP), "a group of digits that isn't of three") == 0);
+    CHECK(strcmp(digits_message(DIGITS_PLACES), "fewer or more places than were asked for") == 0);
     integers();
     floats();
     scaled();
+    prices();
+    prices_back();
     literals();
     numbers();
     values();
@@ -999,6 +1132,7 @@ int main(void)
     pieces();
     whole_lists();
     scaled_pieces();
+    price_pieces();
     kept();
     streams();
     blocks();

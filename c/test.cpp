@@ -89,6 +89,15 @@ int main()
     CHECK(is(digits::read_scaled("$1,234.50", 1, 2, commas), int64_t{123450}, 9));
     CHECK(is(digits::parse_scaled("3,5", 1, DIGITS_WORD_STANDARD, ','), int64_t{35}, 3));
     CHECK(fails(digits::parse_scaled("0.125", 2), DIGITS_TOO_FINE, 4));
+    CHECK(is(digits::read_price("1,234.50 EUR", 0, 2, ','), int64_t{123450}, 8));
+    CHECK(is(digits::read_price("$1.234,50", 1, 2, '.', ','), int64_t{123450}, 9));
+    CHECK(is(digits::read_price("$1,234.50", 1, 2, commas), int64_t{123450}, 9));
+    CHECK(fails(digits::read_price("12,34.50", 0, 2, commas, '.'), DIGITS_GROUP, 3));
+    CHECK(is(digits::parse_price("1234,50", 2, 0, ','), int64_t{123450}, 7));
+    CHECK(fails(digits::parse_price("1,234.5", 2, ','), DIGITS_PLACES, 7));
+    CHECK(is(digits::parse_price("1_234.5", 1, underscores), int64_t{12345}, 7));
+    char room[26];
+    CHECK(digits::parse_price(digits::write_price(room, INT64_MIN, 2, ','), 2, ',').value == INT64_MIN);
     const auto literal = digits::read_literal("0xff_u8", 0, DIGITS_LANGUAGE_RUST);
     CHECK(literal && literal->low == 255 && literal->radix == 16 && literal.at == 5);
     CHECK(is(digits::read_literal_u64("017", 0, DIGITS_LANGUAGE_JAVA), uint64_t{15}, 3));
@@ -128,6 +137,8 @@ int main()
     CHECK(json.is_more() && json.count == 1 && json.at == 2 && of_form[0].as_u64() == 1u);
     const auto cents = digits::read_scaled_piece("1.5;-2;3", 0, 2, ';', false, numbers, 2);
     CHECK(cents.is_full() && cents.at == 7 && numbers[0] == 150 && numbers[1] == -200);
+    const auto prices = digits::read_price_piece("1,000.50;-2.00;3", 0, 2, ',', '.', ';', false, numbers, 2);
+    CHECK(prices.is_full() && prices.at == 15 && numbers[0] == 100050 && numbers[1] == -200);
     CHECK(digits::parse_list("1, 2.5", ',', column, 3).is_over() && column[1] == 2.5);
     const auto too_many = digits::parse_list("1 2 3", ' ', numbers, 2);
     CHECK(too_many.is_full() && too_many.count == 2 && too_many.at == 4);

@@ -299,6 +299,41 @@ inline answer grouped(const string &text, size_t start)
     return read;
 }
 
+// A price of two places: by the cents without the separators of its integer, and by its groups.
+inline answer price(const string &text, size_t start, char separator)
+{
+    const size_t first = past_sign(text, start);
+    string plain = text.substr(0, first);
+    std::vector<size_t> positions, groups{first};
+    for (size_t at = 0; at < first; at++)
+        positions.push_back(at);
+    size_t at = first;
+    for (; at < text.size(); at++) {
+        const bool is_between = at > 0 && at + 1 < text.size() && is_digit(text[at - 1]) &&
+                                is_digit(text[at + 1]);
+        if (text[at] == separator && is_between) {
+            groups.push_back(at + 1);
+        } else if (is_digit(text[at])) {
+            plain += text[at];
+            positions.push_back(at);
+        } else
+            break;
+    }
+    groups.push_back(at + 1);
+    const size_t point = plain.size();
+    answer read = cents(plain + text.substr(at), start);
+    const size_t end = read.at;
+    read.at = end < point ? positions[end] : end - point + at;
+    for (size_t i = 0; i + 1 < groups.size() && read.status == DIGITS_OK; i++) {
+        const size_t digits = groups[i + 1] - groups[i] - 1;
+        if (digits > 3 || digits < (i == 0 ? 1 : 3))
+            return {string(8, '\0'), groups[i], DIGITS_GROUP};
+    }
+    if (read.status == DIGITS_OK && end != point + 3) // a point and two digits
+        return {string(8, '\0'), read.at, DIGITS_PLACES};
+    return read;
+}
+
 // ---- all calls ----
 
 template <typename T>
@@ -427,6 +462,8 @@ inline void others(const char *text, const string &copy, size_t start, uint64_t 
     is_place(call<double>(digits_read_f64_by, text, length, start, word));
     is_place(call<float>(digits_read_f32_by, text, length, start, word));
     is_place(call<int64_t>(digits_read_scaled_i64_by, text, length, start, places, word, point));
+    is_place(call<int64_t>(digits_read_price_i64_by, text, length, start, places, word, point));
+    is_place(call<int64_t>(digits_read_price_i64, text, length, start, places, uint8_t{0}, point));
     is_place(call<digits_literal>(digits_read_literal, text, length, start, language));
     is_place(call<uint64_t>(digits_read_literal_u64, text, length, start, language));
     const answer number = call<digits_number>(digits_read_number, text, length, start, form);
@@ -573,6 +610,7 @@ inline void edges(const char *text, size_t length, size_t beyond)
     is(call<int64_t>(digits_read_i64, text, length, start));
     is(call<double>(digits_read_f64, text, length, start));
     is(call<int64_t>(digits_read_scaled_i64, text, length, start, size_t{2}));
+    is(call<int64_t>(digits_read_price_i64, text, length, start, size_t{2}, uint8_t{','}, uint8_t{'.'}));
     is(call<digits_literal>(digits_read_literal, text, length, start, DIGITS_LANGUAGE_GO));
     is(call<digits_number>(digits_read_json, text, length, start));
     is(call<digits_number>(digits_read_number, text, length, start, DIGITS_FORM_YAML));
@@ -623,6 +661,21 @@ inline void all(const string &copy, size_t start, uint64_t choice)
     const answer scaled_0 = call<int64_t>(digits_read_scaled_i64, text, length, size_t{0}, size_t{2});
     same(call<int64_t>(digits_parse_scaled_i64, text, length, size_t{2}),
          whole(scaled_0, copy, true), "whole cents");
+    for (const char separator : {',', '_'}) {
+        const auto byte = static_cast<uint8_t>(separator);
+        const digits_word word = DIGITS_MAKE_WORD(10, byte, DIGITS_FLAG_INTEGER_INTERNAL);
+        const uint8_t point = '.';
+        const answer at_start = price(copy, start, separator);
+        const answer whole_price = whole(price(copy, 0, separator), copy, true);
+        same(call<int64_t>(digits_read_price_i64, text, length, start, size_t{2}, byte, point),
+             at_start, "a price");
+        same(call<int64_t>(digits_read_price_i64_by, text, length, start, size_t{2}, word, point),
+             at_start, "a price by a word");
+        same(call<int64_t>(digits_parse_price_i64, text, length, size_t{2}, byte, point), whole_price,
+             "a whole price");
+        same(call<int64_t>(digits_parse_price_i64_by, text, length, size_t{2}, word, point), whole_price,
+             "a whole price by a word");
+    }
     const digits_word underscores = DIGITS_MAKE_WORD(10, '_', DIGITS_FLAG_INTEGER_INTERNAL);
     same(call<int64_t>(digits_read_i64_by, text, length, start, underscores), grouped(copy, start),
          "an i64 with separators");

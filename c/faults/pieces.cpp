@@ -236,6 +236,21 @@ static void lists_of_places(size_t places, const string &text, uint8_t between)
     blocks<int64_t>("a list of scaled numbers", text, between, list_call, piece_call);
 }
 
+static void lists_of_prices(size_t places, const string &text, uint8_t between, uint8_t separator)
+{
+    const auto piece_call = [=](const char *text, size_t length, size_t at, bool is_last, int64_t *to,
+                                size_t room, size_t *count) {
+        return digits_read_price_i64_piece(text, length, at, places, separator, '.', between, is_last,
+                                           to, room, count);
+    };
+    const auto list_call = [=](const char *text, size_t length, size_t at, int64_t *to, size_t room,
+                               size_t *count) {
+        return piece_call(text, length, at, true, to, room, count);
+    };
+    both<int64_t>("a list of prices", text, list_call, piece_call);
+    blocks<int64_t>("a list of prices", text, between, list_call, piece_call);
+}
+
 // ---- up to where a piece is sure ----
 
 template <typename T, typename Call, typename... Rest>
@@ -280,6 +295,8 @@ static void sure_ends(const string &text, uint32_t form)
         stays<double>("an f64 by a word", digits_read_f64_by, text, length, start, word);
         stays<int64_t>("a scaled number by a word", digits_read_scaled_i64_by, text, length, start,
                        below(5), word, uint8_t{'.'});
+        stays<int64_t>("a price by a word", digits_read_price_i64_by, text, length, start, below(5),
+                       word, uint8_t{'.'});
     }
 }
 
@@ -306,6 +323,8 @@ static string number()
     case 5: return names[below(7)];
     case 6: return bytes("0123456789+-._eExinfa", below(8));
     case 7: return bytes("0123456789", 60 + below(60));
+    case 8: return bytes("0123456789", 1 + below(3)) + bytes("_", 1) + bytes("0123456789", 3) + "." +
+                   bytes("0123456789", below(4));
     default: return bytes("123456789", 1) + bytes("0123456789", below(5));
     }
 }
@@ -337,6 +356,7 @@ int main(int count, char **words)
         lists<uint64_t>("a list of u64", text_now, between);
         lists<double>("a list of f64", text_now, between);
         lists_of_places(below(5), text_now, between);
+        lists_of_prices(below(4), text_now, between, static_cast<uint8_t>("_'\0"[below(3)]));
         through_a_room(text_now, between);
         if (between != 0xff) // some forms look for a name after a point, whose bytes may be such
             lists_of(form, text_now, between);

@@ -22,7 +22,7 @@ static std::string number()
     const uint64_t bits = source();
     double value;
     std::memcpy(&value, &bits, sizeof value);
-    switch (below(9)) {
+    switch (below(10)) {
     case 0: return bytes("0123456789", below(42));
     case 1: return bytes("0123456789", 1 + below(5)) + "." + bytes("0123456789", below(20));
     case 2: return bytes("0123456789", 1 + below(24)) + "e" + bytes("+-0123456789", 1) +
@@ -40,6 +40,12 @@ static std::string number()
         return printed;
     case 6: return bytes("0123456789_", 1 + below(20));
     case 7: return bytes("0", below(30)) + bytes("0123456789", below(30));
+    case 8: { // a price, mostly
+        std::string price = bytes("0123456789", 1 + below(3));
+        for (size_t groups = below(7); groups > 0; groups--)
+            price += bytes(",,,_", 1) + bytes("0123456789", below(9) ? 3 : below(5));
+        return price + bytes("...,", below(9) > 0) + bytes("0123456789", below(5) ? 2 : below(4));
+    }
     default: return "0" + bytes("xXbBoOuz", 1) + bytes("0123456789abcdefABCDEF_.pP+-", below(20));
     }
 }

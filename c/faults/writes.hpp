@@ -154,6 +154,13 @@ inline void written_integers(uint64_t bits, uint64_t choice)
            places > 38 ? ""
                        : amount(text, places, static_cast<char>(byte), static_cast<char>(point)),
            more, digits_write_price_i64, i64, places, byte, point);
+    const auto is_apart = [](uint8_t one) { return !is_digit(static_cast<char>(one)); };
+    if (places <= 38 && is_apart(byte) && is_apart(point) && (byte != point || byte == 0)) {
+        char price[64];
+        const size_t end = digits_write_price_i64(price, sizeof price, i64, places, byte, point);
+        const digits_outcome back = digits_parse_price_i64(price, end, places, byte, point, &again);
+        check(back.status == DIGITS_OK && again == i64, "a price that is read back");
+    }
 }
 
 // A float, of which `read` of the C library is the reader.

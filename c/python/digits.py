@@ -55,6 +55,8 @@ MORE = 13  # More of the text is needed, from this position on
 OTHER_BYTE = 14  # Another byte is there, or the text ends
 CLOSED = 15  # The list has no number, and ends here
 TOO_LONG = 16  # A number is too long for the room of the text
+GROUP = 17  # The group of digits at this position isn't of three
+PLACES = 18  # The number that ends at this position has fewer or more places
 
 # What a number's kind is.
 NONE = 0  # There is no number
@@ -311,6 +313,8 @@ MESSAGES = {
     OTHER_BYTE: "another byte than the one that has to be there",
     CLOSED: "a list without a number",
     TOO_LONG: "a number that is too long for the room of the text",
+    GROUP: "a group of digits that isn't of three",
+    PLACES: "fewer or more places than were asked for",
 }
 
 
@@ -468,6 +472,31 @@ def parse_scaled(text, places, word=WORD_STANDARD, point=b"."):
     return _parse_scaled(text, places, _halves(word), ord(point))[0].value
 
 
+# ---- prices ----
+
+_read_price = _call("read_price_i64", c_int64, c_size_t, c_size_t, c_uint8, c_uint8)
+_read_price_by = _call("read_price_i64_by", c_int64, c_size_t, c_size_t, _Word, c_uint8)
+_parse_price = _call("parse_price_i64", c_int64, c_size_t, c_uint8, c_uint8)
+_parse_price_by = _call("parse_price_i64_by", c_int64, c_size_t, _Word, c_uint8)
+
+
+def read_price(text, start, places, separator=b",", point=b".", word=None):
+    """The price at a start times ten to the power `places`, and where it ends. It has exactly so many
+    places, and groups of three digits, or none by b""; by a word the separators are the word's."""
+    if word is None:
+        value, end = _read_price(text, start, places, ord(separator or b"\0"), ord(point))
+    else:
+        value, end = _read_price_by(text, start, places, _halves(word), ord(point))
+    return value.value, end
+
+
+def parse_price(text, places, separator=b",", point=b".", word=None):
+    """The price that a text is times ten to the power `places`."""
+    if word is None:
+        return _parse_price(text, places, ord(separator or b"\0"), ord(point))[0].value
+    return _parse_price_by(text, places, _halves(word), ord(point))[0].value
+
+
 # ---- integer literals of a language ----
 
 Literal = collections.namedtuple("Literal", "value digits radix")
@@ -603,6 +632,18 @@ def read_scaled_piece(text, start, between, is_last, places):
     """The decimal numbers of a list in a piece of a text, each times ten to the power `places`, as
     read_i64_piece answers them."""
     numbers, outcome = _scaled.read(_read_scaled_piece, text, start, places, ord(between), is_last)
+    return numbers, outcome.at, outcome.status == MORE
+
+
+_read_price_piece = _scaled.function("read_price_i64_piece", c_size_t, c_size_t, c_uint8, c_uint8, c_uint8,
+                                     c_bool)
+
+
+def read_price_piece(text, start, between, is_last, places, separator=b",", point=b"."):
+    """The prices of a list in a piece of a text, as read_price reads them and read_i64_piece answers
+    them."""
+    numbers, outcome = _scaled.read(_read_price_piece, text, start, places, ord(separator or b"\0"),
+                                    ord(point), ord(between), is_last)
     return numbers, outcome.at, outcome.status == MORE
 
 

@@ -49,6 +49,19 @@ class Calls(unittest.TestCase):
         self.assertEqual(digits.parse_scaled(b"3,5", 1, point=b","), 35)
         self.fails(digits.TOO_FINE, 4, digits.parse_scaled, b"0.125", 2)
 
+    def test_prices(self):
+        commas = digits.make_word(10, ord(","), digits.FLAG_INTEGER_INTERNAL)
+        self.assertEqual(digits.read_price(b"1,234.50 EUR", 0, 2), (123450, 8))
+        self.assertEqual(digits.read_price(b"$1,234.50", 1, 2, word=commas), (123450, 9))
+        self.assertEqual(digits.parse_price(b"1.234,50", 2, b".", b","), 123450)
+        self.assertEqual(digits.parse_price(b"1234,50", 2, b"", b","), 123450)
+        self.assertEqual(digits.parse_price(b"1,234.5", 1, word=commas), 12345)
+        self.fails(digits.GROUP, 3, digits.parse_price, b"12,34.50", 2)
+        self.fails(digits.PLACES, 7, digits.parse_price, b"1,234.5", 2)
+        self.fails(digits.BAD_WORD, 0, digits.parse_price, b"1", 2, b"7")
+        self.fails(digits.BAD_WORD, 0, digits.parse_price, b"1", 2, b",", b".",
+                   digits.WORD_OCTAL)
+
     def test_literals(self):
         self.assertEqual(digits.read_literal(b"0xff_u8", 0, digits.LANGUAGE_RUST),
                          ((255, 2, 16), 5))
@@ -119,6 +132,16 @@ class Calls(unittest.TestCase):
         for size in (1, 7, 4096):
             read = digits.numbers_of(io.BytesIO(text), b"\n", cents, size)
             self.assertEqual(list(read), list(range(5000)))
+
+    def test_price_pieces(self):
+        numbers, at, is_more = digits.read_price_piece(b"1,000.50; -2.00 ;3.2", 0, b";", False, 2)
+        self.assertEqual((numbers.tolist(), at, is_more), ([100050, -200], 17, True))
+        self.fails(digits.GROUP, 0, digits.read_price_piece, b"1000.50", 0, b";", True, 2)
+        prices = functools.partial(digits.read_price_piece, places=2)
+        text = "\n".join(f"{n // 100:,}.{n % 100:02}" for n in range(0, 500000, 77)).encode()
+        for size in (1, 7, 4096):
+            read = digits.numbers_of(io.BytesIO(text), b"\n", prices, size)
+            self.assertEqual(list(read), list(range(0, 500000, 77)))
 
     def test_blocks(self):
         starts = [digits.block_start(b"12,345,6", at) for at in (0, 1, 3, 4, 8, 9)]
@@ -292,6 +315,7 @@ class Calls(unittest.TestCase):
             self.assertEqual(digits.write_grouped(n, b"_").decode(), f"{n:_}")
             self.assertEqual(digits.write_price(n, 2).decode(),
                              f"{decimal.Decimal(n).scaleb(-2):,.2f}")
+            self.assertEqual(digits.parse_price(digits.write_price(n, 2), 2), n)
 
     def test_texts(self):
         text = b"  1234;"

@@ -41,6 +41,10 @@ pub mod statuses {
     pub const CLOSED: Status = Status(15);
     /// A number is too long for the room of the text.
     pub const TOO_LONG: Status = Status(16);
+    /// The group of digits at this position isn't of three.
+    pub const GROUP: Status = Status(17);
+    /// The number that ends at this position has fewer or more places.
+    pub const PLACES: Status = Status(18);
 }
 
 /// What a number's kind is.

@@ -91,6 +91,8 @@ impl fmt::Display for Fault {
             statuses::OTHER_BYTE => "another byte than the one that has to be there",
             statuses::CLOSED => "a list without a number",
             statuses::TOO_LONG => "a number that is too long for the room of the text",
+            statuses::GROUP => "a group of digits that isn't of three",
+            statuses::PLACES => "fewer or more places than were asked for",
             Status(status) => return write!(f, "status {status} at byte {}", self.at),
         };
         write!(f, "{what} at byte {}", self.at)
@@ -251,6 +253,71 @@ pub fn parse_scaled_by(text: &[u8], places: usize, word: Word, point: u8) -> Res
     // SAFETY: as of all calls by `answer`.
     whole(answer(text, |t, n, value| unsafe {
         digits_parse_scaled_i64_by(t, n, places, word, point, value)
+    }))
+}
+
+// ---- prices ----
+
+extern "C" {
+    fn digits_read_price_i64(
+        text: *const u8, length: usize, start: usize, places: usize, separator: u8, point: u8,
+        value: *mut i64,
+    ) -> Outcome;
+    fn digits_read_price_i64_by(
+        text: *const u8, length: usize, start: usize, places: usize, word: Word, point: u8,
+        value: *mut i64,
+    ) -> Outcome;
+    fn digits_parse_price_i64(
+        text: *const u8, length: usize, places: usize, separator: u8, point: u8, value: *mut i64,
+    ) -> Outcome;
+    fn digits_parse_price_i64_by(
+        text: *const u8, length: usize, places: usize, word: Word, point: u8, value: *mut i64,
+    ) -> Outcome;
+}
+
+/// The price that begins at a start times ten to the power `places`, and where it ends: of 2 places,
+/// by `,` and `.`, `1,234.50` is 123450. It has exactly so many places, and a separator between
+/// groups of three digits, or by 0 no groups.
+pub fn read_price(
+    text: &[u8],
+    start: usize,
+    places: usize,
+    separator: u8,
+    point: u8,
+) -> Result<(i64, usize), Fault> {
+    // SAFETY: as of all calls by `answer`.
+    answer(text, |t, n, value| unsafe {
+        digits_read_price_i64(t, n, start, places, separator, point, value)
+    })
+}
+
+/// The same by a word: groups are between the separators that it drops.
+pub fn read_price_by(
+    text: &[u8],
+    start: usize,
+    places: usize,
+    word: Word,
+    point: u8,
+) -> Result<(i64, usize), Fault> {
+    // SAFETY: as of all calls by `answer`.
+    answer(text, |t, n, value| unsafe {
+        digits_read_price_i64_by(t, n, start, places, word, point, value)
+    })
+}
+
+/// The price that a text is times ten to the power `places`.
+pub fn parse_price(text: &[u8], places: usize, separator: u8, point: u8) -> Result<i64, Fault> {
+    // SAFETY: as of all calls by `answer`.
+    whole(answer(text, |t, n, value| unsafe {
+        digits_parse_price_i64(t, n, places, separator, point, value)
+    }))
+}
+
+/// The same by a word.
+pub fn parse_price_by(text: &[u8], places: usize, word: Word, point: u8) -> Result<i64, Fault> {
+    // SAFETY: as of all calls by `answer`.
+    whole(answer(text, |t, n, value| unsafe {
+        digits_parse_price_i64_by(t, n, places, word, point, value)
     }))
 }
 
@@ -672,6 +739,10 @@ extern "C" {
         text: *const u8, length: usize, start: usize, places: usize, between: u8, is_last: bool,
         numbers: *mut i64, room: usize, count: *mut usize,
     ) -> Outcome;
+    fn digits_read_price_i64_piece(
+        text: *const u8, length: usize, start: usize, places: usize, separator: u8, point: u8,
+        between: u8, is_last: bool, numbers: *mut i64, room: usize, count: *mut usize,
+    ) -> Outcome;
     fn digits_keep(text: *mut u8, room: usize, length: *mut usize, list: Outcome) -> Outcome;
     fn digits_block_start(text: *const u8, length: usize, at: usize, between: u8) -> usize;
     fn digits_sure_end(text: *const u8, length: usize) -> usize;
@@ -719,6 +790,26 @@ pub fn read_scaled_piece(
     // SAFETY: as of all calls by `fill`.
     piece(fill(text, numbers, |t, n, to, room, count| unsafe {
         digits_read_scaled_i64_piece(t, n, start, places, between, is_last, to, room, count)
+    }))
+}
+
+/// The same of prices, as of [`read_price`].
+#[allow(clippy::too_many_arguments)]
+pub fn read_price_piece(
+    text: &[u8],
+    start: usize,
+    places: usize,
+    separator: u8,
+    point: u8,
+    between: u8,
+    is_last: bool,
+    numbers: &mut [i64],
+) -> Piece {
+    // SAFETY: as of all calls by `fill`.
+    piece(fill(text, numbers, |t, n, to, room, count| unsafe {
+        digits_read_price_i64_piece(
+            t, n, start, places, separator, point, between, is_last, to, room, count,
+        )
     }))
 }
 

@@ -41,6 +41,23 @@ fn scaled() {
 }
 
 #[test]
+fn prices() {
+    let commas = Word::new(10, b',', flags::INTEGER_INTERNAL);
+    assert_eq!(read_price(b"1,234.50 EUR", 0, 2, b',', b'.'), Ok((123450, 8)));
+    assert_eq!(read_price(b"12,34.50", 0, 2, b',', b'.'), fault(statuses::GROUP, 3));
+    assert_eq!(read_price_by(b"$1,234.50", 1, 2, commas, b'.'), Ok((123450, 9)));
+    assert_eq!(parse_price(b"1234,50", 2, 0, b','), Ok(123450));
+    assert_eq!(parse_price(b"1,234.5", 2, b',', b'.'), fault(statuses::PLACES, 7));
+    assert_eq!(parse_price(b"1", 2, b'7', b'.'), fault(statuses::BAD_WORD, 0));
+    assert_eq!(parse_price_by(b"1,234", 0, words::OCTAL, b'.'), fault(statuses::BAD_WORD, 0));
+    let mut places = [0; 26];
+    let text = write_price(i64::MIN, 2, b',', b'.', &mut places).unwrap();
+    assert_eq!(parse_price(text, 2, b',', b'.'), Ok(i64::MIN));
+    let none = Fault { status: statuses::GROUP, at: 3 };
+    assert_eq!(none.to_string(), "a group of digits that isn't of three at byte 3");
+}
+
+#[test]
 fn literals() {
     let mask = Literal { value: 255, digits: 2, radix: 16 };
     assert_eq!(read_literal(b"0xff_u8", 0, languages::RUST), Ok((mask, 5)));
@@ -150,6 +167,16 @@ fn scaled_pieces() {
     assert_eq!((piece, cents), (Piece { count: 2, end: PieceEnd::Full(7) }, [150, -200]));
     let piece = read_scaled_piece(b"1.5;-2;3", 7, 39, b';', false, &mut cents);
     let fault = Fault { status: statuses::BAD_PLACES, at: 7 };
+    assert_eq!(piece, Piece { count: 0, end: PieceEnd::Fault(fault) });
+}
+
+#[test]
+fn price_pieces() {
+    let mut cents = [7; 2];
+    let piece = read_price_piece(b"1,000.50;-2.00;3", 0, 2, b',', b'.', b';', false, &mut cents);
+    assert_eq!((piece, cents), (Piece { count: 2, end: PieceEnd::Full(15) }, [100050, -200]));
+    let piece = read_price_piece(b"1.5;", 0, 2, b',', b'.', b';', false, &mut cents);
+    let fault = Fault { status: statuses::PLACES, at: 3 };
     assert_eq!(piece, Piece { count: 0, end: PieceEnd::Fault(fault) });
 }
 

@@ -1,18 +1,11 @@
 //! Where a block begins.
 
 ghost use Rattle.std.specs.Prelude.{◌≡◌, ◌≤◌, ◌<◌, ◌⊎◌, ℕ, length};
-ghost use Rattle.digit_pieces.specs.Pieces.{is_of_blanks};
 ghost use Rattle.digit_blocks.specs.Blocks.{IsStart, ends_of};
 
 use digit_literals::Gap;
+use digit_pieces::is_of_blanks;
 use lexical_digits::ops::ByteSet;
-
-/// Whether blanks alone separate.
-fn is_of_blanks(gap: Gap) -> bool
-    ensures { result ≡ is_of_blanks gap }
-{
-    gap.blanks_separate && gap.separators.low == 0 && gap.separators.high == 0
-}
 
 /// The bytes with which a block may end: those that separate; where blanks alone separate, these.
 fn ends_of(gap: Gap) -> ByteSet

@@ -1,9 +1,10 @@
 //! What CALLING.md says that its own functions and a stream answer.
 
-use digit_uses::calling::{Entry, SEMICOLONS, parse_entry, sum_list};
+use digit_uses::calling::{Entry, SEMICOLONS, first_above, parse_entry, sum_list, sum_of};
+use digit_uses::proving;
 use digits::{
-    COMMAS, FloatError, Integers, LINES, LiteralError, NumberReader, STANDARD, StreamError,
-    parse_list, parse_number,
+    COMMAS, FloatError, FoldError, Integers, LINES, LiteralError, NumberReader, STANDARD,
+    StreamError, parse_list, parse_number,
 };
 
 /// A line with fields of several kinds.
@@ -29,15 +30,37 @@ fn a_line(rt: HostRuntime) {
     assert!(rt; parse_entry(b"2026-11-30,12.50,x") == Err(17));
 }
 
-/// A list of any length.
+/// 65 numbers, and so a second turn.
+static MANY: &[u8] = b"1,1,1,1,1,1,1,1,1,1,1,1,1,1,1,1,1,1,1,1,1,1,1,1,1,1,1,1,1,1,1,1,1,\
+    1,1,1,1,1,1,1,1,1,1,1,1,1,1,1,1,1,1,1,1,1,1,1,1,1,1,1,1,1,1,1,2";
+
+/// A list of any length, through a buffer.
 #[test]
 fn a_list(rt: HostRuntime) {
     assert!(rt; sum_list(b"1.5, 2, -3]", 0) == Ok((0.5, 10)));
-    assert!(rt; sum_list(b"[]", 1) == Err(FloatError::Empty(1)));
-    // 65 numbers, and so a second turn
-    let text = b"1,1,1,1,1,1,1,1,1,1,1,1,1,1,1,1,1,1,1,1,1,1,1,1,1,1,1,1,1,1,1,1,1,\
-        1,1,1,1,1,1,1,1,1,1,1,1,1,1,1,1,1,1,1,1,1,1,1,1,1,1,1,1,1,1,1,2";
-    assert!(rt; sum_list(text, 0) == Ok((66.0, 129)));
+    let error = StreamError::Number(FloatError::Empty(1));
+    assert!(rt; sum_list(b"[]", 1) == Err(FoldError::Stream(error)));
+    assert!(rt; sum_list(MANY, 0) == Ok((66.0, 129)));
+}
+
+/// The same through an array.
+#[test]
+fn a_list_in_an_array(rt: HostRuntime) {
+    assert!(rt; proving::sum_list(b"1.5, 2, -3]", 0) == Ok((0.5, 10)));
+    assert!(rt; proving::sum_list(b"[]", 1) == Err(FloatError::Empty(1)));
+    assert!(rt; proving::sum_list(MANY, 0) == Ok((66.0, 129)));
+}
+
+/// A stream, by a fold and by a loop.
+#[test]
+fn a_stream(rt: HostRuntime) {
+    assert!(rt; sum_of(b"1.5\n-2\n".as_slice()) == Ok(-0.5));
+    assert!(rt; first_above(b"1\n2.5\n3\nx".as_slice(), 2.0) == Ok(Some(2.5)));
+    let sure = StreamError::Trailing(1, Some(FloatError::Empty(1)));
+    assert!(rt; first_above(b"3x".as_slice(), 2.0) == Err(sure));
+    assert!(rt; first_above(b"1\n2.5\n".as_slice(), 3.0) == Ok(None));
+    let trailing = StreamError::Trailing(2, Some(FloatError::Empty(2)));
+    assert!(rt; first_above(b"1\nx".as_slice(), 3.0) == Err(trailing));
 }
 
 /// Separators of a line.

@@ -1,10 +1,11 @@
 //! A text that comes in pieces, and a stream.
 
 use digits::{
-    Both, COMMAS, FloatError, Floats, INTEGER_INTERNAL_DIGIT_SEPARATOR, Integers, LINES,
-    LiteralError, Number, NumberReader, PieceEnd, STANDARD, Scaled, StreamEnd, StreamError,
-    block_start, end_in_text, forms, is_apart, read_float_list_piece, read_list_piece,
-    read_list_piece_of, read_piece, read_scaled_list_piece, sure_end,
+    Both, COMMAS, EnclosedFoldError, FloatError, Floats, FoldError,
+    INTEGER_INTERNAL_DIGIT_SEPARATOR, Integers, LINES, LiteralError, Number, NumberReader,
+    PieceEnd, STANDARD, Scaled, StreamEnd, StreamError, block_start, end_in_text, fold_stream,
+    forms, is_apart, read_float_list_piece, read_list_piece, read_list_piece_of, read_piece,
+    read_scaled_list_piece, sure_end,
 };
 
 /// Shows `read_list_piece`.
@@ -130,6 +131,7 @@ fn what_separates_is_in_no_number(rt: HostRuntime) {
 /// Shows `NumberReader`.
 #[test]
 fn a_stream(rt: HostRuntime) {
+    // one number after the other
     let mut buffer = [0; 64];
     let kind = Floats::<f64>::new(STANDARD);
     let stream = b"1.5\n-2e3\n".as_slice();
@@ -143,6 +145,7 @@ fn a_stream(rt: HostRuntime) {
 /// Shows `NumberReader`, `NumberReader::finish`.
 #[test]
 fn what_follows_a_stream(rt: HostRuntime) {
+    // what follows the list
     let mut buffer = [0; 64];
     let kind = Integers::<u64>::new(STANDARD);
     let stream = b"1\nx".as_slice();
@@ -158,6 +161,7 @@ fn what_follows_a_stream(rt: HostRuntime) {
 /// Shows `NumberReader::read_into`, `NumberReader::position`, `NumberReader::unread`.
 #[test]
 fn a_stream_into_a_slice(rt: HostRuntime) {
+    // into a slice
     let mut buffer = [0; 64];
     let kind = Integers::<u64>::new(STANDARD);
     let stream = b"1,2;3".as_slice();
@@ -173,6 +177,7 @@ fn a_stream_into_a_slice(rt: HostRuntime) {
 /// Shows `NumberReader::new_at`, `NumberReader::pass_byte`.
 #[test]
 fn a_list_in_brackets(rt: HostRuntime) {
+    // a list in brackets, of a stream of which some bytes were read before
     let mut buffer = [0; 64];
     let kind = Integers::<u64>::new(STANDARD);
     // 100 bytes of the stream were read before
@@ -186,4 +191,57 @@ fn a_list_in_brackets(rt: HostRuntime) {
     assert_eq!(rt; numbers.next_number(), None);
     assert_eq!(rt; numbers.pass_byte(b']'), Ok(true));
     assert_eq!(rt; numbers.position(), 106);
+}
+
+/// Shows `fold_stream`.
+#[test]
+fn the_sum_of_a_stream(rt: HostRuntime) {
+    let mut buffer = [0; 64];
+    let kind = Integers::<u8>::new(STANDARD);
+    let add = |sum: u8, number: u8| sum.checked_add(number);
+    let stream = b"1\n20\n".as_slice();
+    assert_eq!(rt;
+        fold_stream(stream, &mut buffer, kind, LINES, 0, add),
+        Ok(21)
+    );
+    // 200 + 100 is no `u8`: the step answered `None` at the 100, and the next number may begin at 8
+    let add = |sum: u8, number: u8| sum.checked_add(number);
+    let stream = b"200\n100\n7\n".as_slice();
+    let sum = fold_stream(stream, &mut buffer, kind, LINES, 0, add);
+    assert_eq!(rt; sum, Err(FoldError::Stopped(8)));
+    let add = |sum: u8, number: u8| sum.checked_add(number);
+    let stream = b"1\n2x".as_slice();
+    let fault = StreamError::Trailing(3, Some(LiteralError::Empty(3)));
+    let sum = fold_stream(stream, &mut buffer, kind, LINES, 0, add);
+    assert_eq!(rt; sum, Err(FoldError::Stream(fault)));
+}
+
+/// Shows `NumberReader::fold_numbers`.
+#[test]
+fn the_greatest_number_of_a_stream(rt: HostRuntime) {
+    // one value of all numbers, by a fold
+    let mut buffer = [0; 64];
+    let kind = Integers::<u32>::new(STANDARD);
+    let stream = b"3, 12, 5; x".as_slice();
+    let mut numbers = NumberReader::new(stream, &mut buffer, kind, COMMAS);
+    let greatest = numbers.fold_numbers(0, |most: u32, number: u32| Some(most.max(number)));
+    assert_eq!(rt; greatest, Ok(12));
+    assert_eq!(rt; numbers.pass_byte(b';'), Ok(true));
+}
+
+/// Shows `NumberReader::fold_enclosed`.
+#[test]
+fn the_sums_of_arrays(rt: HostRuntime) {
+    // arrays, by a fold
+    let mut buffer = [0; 64];
+    let kind = Integers::<u32>::new(STANDARD);
+    let stream = b"[1, 2] [ ] [3;".as_slice();
+    let mut numbers = NumberReader::new(stream, &mut buffer, kind, COMMAS);
+    let add = |sum: u32, number: u32| sum.checked_add(number);
+    assert_eq!(rt; numbers.fold_enclosed(b'[', b']', 0, add), Ok(3));
+    let add = |sum: u32, number: u32| sum.checked_add(number);
+    assert_eq!(rt; numbers.fold_enclosed(b'[', b']', 0, add), Ok(0));
+    let add = |sum: u32, number: u32| sum.checked_add(number);
+    let sum = numbers.fold_enclosed(b'[', b']', 0, add);
+    assert_eq!(rt; sum, Err(EnclosedFoldError::NoClosing(13)));
 }

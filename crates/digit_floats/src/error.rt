@@ -10,7 +10,8 @@ use std::fmt;
 /// Why there is no float. A position counts bytes from the start of the text, from 0.
 #[derive(Clone, Copy, Debug, PartialEq, Eq)]
 pub enum FloatError {
-    /// Neither integer nor fraction has a digit; they end here.
+    /// Neither integer nor fraction has a digit. The position is after a sign and a point, if there
+    /// are any: of `inf` it is 0, of `-.` 2.
     Empty(usize),
     /// No digit follows the mark of an exponent; one would be here.
     EmptyExponent(usize),

@@ -8,7 +8,7 @@ ghost use Rattle.std.specs.Float.Parse.{parse_float as std_float};
 
 use super::powers::{ten_to_f32, ten_to_f64};
 
-/// `f64` and `f32`.
+/// A type of floats that are read: `f64` and `f32`.
 pub trait Float: Copy {
     /// The format, in std's word.
     ghost format: { Format };

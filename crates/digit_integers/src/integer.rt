@@ -43,10 +43,9 @@ pub fn read_integer(text: &[u8], word: u128) -> Result<(u64, usize), LiteralErro
     read_integer_from(text, word, 0, u64::MAX)
 }
 
-/// The value of the integer that begins at `start`, if it is at most `most`, and where the integer
-/// ends. It is read as by [`read_integer`], and positions count from the start of the text. A
-/// separator at `start` is judged with the byte before it. Requires that `start` is within
-/// the text and the word is supported.
+/// The integer that begins at `start`, without a sign, as a `u64` of at most `most`, and where it
+/// ends. Positions count from the start of the text. A separator at `start` is judged with the byte
+/// before it. Requires that `start` is within the text and the word is supported.
 ///
 /// [`Overflow`](LiteralError::Overflow) holds the first digit with which the value is above `most`.
 ///

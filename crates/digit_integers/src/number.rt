@@ -93,8 +93,8 @@ fn read_head<T: Integer>(text: &[u8], rule: Rule, start: usize) -> Head
 ///
 /// [`Empty(at)`](LiteralError::Empty) says that no digit is at `at`, after the sign if there is
 /// one: the text ends, or another byte is there, such as a separator that the word doesn't drop.
-/// [`Overflow`](LiteralError::Overflow) holds that of the first digit with which the type has no
-/// such number.
+/// [`Overflow`](LiteralError::Overflow) holds the position of the first digit with which the type
+/// has no such number.
 ///
 /// ```text
 /// `8080:65536`, `read_number_from::<u16>` from 5: Err(Overflow(9))

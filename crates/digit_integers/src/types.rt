@@ -3,7 +3,7 @@
 ghost use Rattle.std.specs.Prelude.{◌≡◌, ℕ, ℤ, ◌^◌, ◌-◌, ◌≤◌, pos, if◌then◌else◌};
 ghost use Rattle.digit_integers.specs.Numbers.{signed};
 
-/// A type of integers: `u8` to `u128`, `i8` to `i128`, `usize` and `isize`.
+/// A type of integers that are read: `u8` to `u128`, `i8` to `i128`, `usize` and `isize`.
 pub trait Integer: Copy {
     /// The greatest number.
     const MAX: u128;

@@ -19,9 +19,9 @@ use digit_words::powers::ten_to;
 use lexical_digits::skip::{Component, Rule};
 use lexical_format::char_to_digit_const;
 
-/// The value of the integer that begins at `start`, if it is at most `most`, and where the integer
-/// ends: [`read_integer_from`] for up to 128 bits. A value of at most 64 bits is read by that.
-/// Requires that `start` is within the text and the word is supported.
+/// The integer that begins at `start`, without a sign, as a `u128` of at most `most`, and where it
+/// ends: [`read_integer_from`] for up to 128 bits, which is faster for up to 64. Requires that
+/// `start` is within the text and the word is supported.
 ///
 /// [`Overflow`](LiteralError::Overflow) holds the first digit with which the value is above `most`.
 ///

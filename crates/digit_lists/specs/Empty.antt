@@ -14,6 +14,8 @@ use Rattle.digit_languages.specs.declared.literal.LanguageError.{LanguageError}
 use Rattle.digit_languages.specs.declared.literal.LanguageError.TheVariants as languages
 use Rattle.digit_pieces.specs.declared.kinds.both.BothError.{BothError}
 use Rattle.digit_pieces.specs.declared.kinds.both.BothError.TheVariants.{First, Between, Second}
+use Rattle.digit_pieces.specs.declared.kinds.enclosed.BracketError.{BracketError}
+use Rattle.digit_pieces.specs.declared.kinds.enclosed.BracketError.TheVariants as brackets
 
 abbrev pub literal_is_empty : LiteralError → Bool
 literal_is_empty (integers.Empty at) = true
@@ -50,3 +52,9 @@ abbrev pub both_is_empty : {D E : Type 0} → (D → Bool) → BothError D E →
 both_is_empty first (First error) = first error
 both_is_empty first (Between at) = false
 both_is_empty first (Second error) = false
+
+-- of a number between two bytes: the first byte isn't there
+abbrev pub bracket_is_empty : {E : Type 0} → BracketError E → Bool
+bracket_is_empty (brackets.NoOpening at) = true
+bracket_is_empty (brackets.Number error) = false
+bracket_is_empty (brackets.NoClosing at) = false

@@ -6,7 +6,7 @@ use digit_amounts::{PriceError, ScaledError};
 use digit_floats::FloatError;
 use digit_languages::LanguageError;
 use digit_numbers::NumberError;
-use digit_pieces::BothError;
+use digit_pieces::{BothError, BracketError};
 use digit_values::LiteralError;
 
 /// The trait of errors of one number: where the fault is, and whether no number was there. The
@@ -23,7 +23,8 @@ pub trait NoNumber: Copy {
         ensures { result ≡ fault_at self };
 
     /// Whether it says that there is no digit, or by a form no number. Of two numbers: whether the
-    /// error of the first says so.
+    /// error of the first says so. Of a number between two bytes: whether the first of these isn't
+    /// there.
     fn is_empty(self) -> bool
         ensures { result ≡ is_empty self };
 }
@@ -146,6 +147,28 @@ impl<D: NoNumber, E: NoNumber> NoNumber for BothError<D, E> {
             BothError::First(error) => error.is_empty(),
             BothError::Between(_) | BothError::Second(_) => false,
         }
+    }
+}
+
+impl<E: NoNumber> NoNumber for BracketError<E> {
+    ghost use Rattle.digit_pieces.specs.Enclosed.{bracket_position};
+    ghost use Rattle.digit_lists.specs.Empty.{bracket_is_empty};
+
+    ghost fault_at = { bracket_position E.fault_at };
+
+    ghost is_empty = { bracket_is_empty };
+
+    #[inline(always)]
+    fn fault_at(self) -> usize {
+        match self {
+            BracketError::Number(error) => error.fault_at(),
+            BracketError::NoOpening(at) | BracketError::NoClosing(at) => at,
+        }
+    }
+
+    #[inline(always)]
+    fn is_empty(self) -> bool {
+        matches!(self, BracketError::NoOpening(_))
     }
 }
 

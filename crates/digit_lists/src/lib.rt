@@ -15,6 +15,6 @@ pub use self::enclosed::{EnclosedError, read_enclosed};
 pub use self::error::NoNumber;
 pub use self::floats::read_float_list;
 pub use self::items::{Item, Items, read_items};
-pub use self::list::{ListError, parse_list, read_list_by};
+pub use self::list::{ListError, after_full, parse_list, read_list_by};
 pub use self::of_form::read_list_of;
 pub use self::optional::read_optional;

@@ -107,18 +107,19 @@ pub fn read_list_by<K: Kind>(
     read_list_with(OfKind { kind }, text, start, gap, out)
 }
 
-/// Why a list ends that has filled its slice, where the next number may be.
-#[inline(always)]
-fn after_full<K: Kind>(kind: K, text: &[u8], gap: Gap, place: usize) -> ListEnd<K::Error>
+/// Why a list ends that has filled its slice, where the next number may be. It is for the crates
+/// above this one. It is code of its own, since few lists fill their slice and go on.
+#[inline(never)]
+pub fn after_full<K: Kind>(kind: K, text: &[u8], gap: Gap, at: usize) -> ListEnd<K::Error>
     requires valid { K.valid kind }
-    requires within { place ≤ length text.now }
-    ensures is { result ≡ after_full K.none_at gap place (K.number_at kind text.now place) }
-    ensures full { IfFull result (λ at. at ≡ place) }
-    ensures over { IfOver result (λ at. at ≡ place) }
+    requires within { at ≤ length text.now }
+    ensures is { result ≡ after_full K.none_at gap at (K.number_at kind text.now at) }
+    ensures full { IfFull result (λ place. place ≡ at) }
+    ensures over { IfOver result (λ place. place ≡ at) }
 {
-    match kind.read_number(text, place) {
-        Ok(_) => ListEnd::Full(place),
-        Err(error) => gap.no_number(place, K::is_none_at(error, place), error),
+    match kind.read_number(text, at) {
+        Ok(_) => ListEnd::Full(at),
+        Err(error) => gap.no_number(at, K::is_none_at(error, at), error),
     }
 }
 

@@ -45,11 +45,11 @@ pub trait ReadsOne: Copy {
         ensures { result ≡ none_at place error };
 }
 
-/// The integers of a type by a format word, as
+/// The integers of a type by a word, as
 /// [`read_number_from`](digit_integers::read_number_from) reads them.
 #[derive(Clone, Copy)]
 pub struct Integers<T: Integer> {
-    /// The format word.
+    /// The word.
     pub word: u128,
     of: PhantomData<T>,
 }

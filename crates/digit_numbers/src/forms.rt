@@ -20,7 +20,7 @@ use lexical_format::{
     INTEGER_INTERNAL_DIGIT_SEPARATOR, INTEGER_TRAILING_DIGIT_SEPARATOR, STANDARD,
 };
 
-/// The shortest form of source code: decimal digits without a sign, with a point or an exponent if
+/// The simplest form of source code: decimal digits without a sign, with a point or an exponent if
 /// they are a float. Other forms are written from it: `Form { needs_fraction: true, ..LITERAL }`.
 pub const LITERAL: Form = Form {
     signs: Signs::Absent,
@@ -38,7 +38,7 @@ pub const LITERAL: Form = Form {
     hex_floats: HexFloats::Absent,
 };
 
-/// The shortest form of data: the same with a sign, and every number is a float.
+/// The simplest form of data: the same with a sign, and every number is a float.
 pub const FLOAT: Form = Form {
     signs: Signs::Either,
     whole: Whole::Float,

@@ -30,7 +30,7 @@ pub const ANY_CASE: Specials = Specials {
     any_case: true,
 };
 
-/// `inf`, `infinity`, `nan`, in any case. No sign is before `nan`.
+/// `inf`, `infinity`, `nan`, in any case, without a sign before `nan`.
 pub const ANY_CASE_UNSIGNED_NAN: Specials = Specials {
     names: [
         INF,
@@ -45,7 +45,7 @@ pub const ANY_CASE_UNSIGNED_NAN: Specials = Specials {
     any_case: true,
 };
 
-/// `.inf`, `.Inf`, `.INF`, `.nan`, `.NaN`, `.NAN`. No sign is before the last three.
+/// `.inf`, `.Inf`, `.INF`, `.nan`, `.NaN`, `.NAN`, without a sign before the last three.
 pub const YAML_NAMES: Specials = Specials {
     names: [
         DOT_INF,
@@ -96,7 +96,7 @@ pub const ONLY_INFINITY: Specials = Specials {
     any_case: false,
 };
 
-/// `INF`, `NaN`. Before the first a minus may be, and before the second no sign.
+/// `INF`, `NaN`, with a minus or no sign before the first, and no sign before the second.
 pub const XML_NAMES: Specials = Specials {
     names: [
         XML_INF,
@@ -111,7 +111,7 @@ pub const XML_NAMES: Specials = Specials {
     any_case: false,
 };
 
-/// `Infinity`, `NaN`, with the same signs.
+/// `Infinity`, `NaN`, with a sign or without one before both.
 pub const CSHARP_NAMES: Specials = Specials {
     names: [
         CSHARP_INFINITY,

@@ -27,8 +27,9 @@ pub enum Number<F> {
         /// Whether a minus is before it: also of `-0`.
         negative: bool,
         magnitude: u128,
-        /// The word by which its digits were read. It has their radix. Of a `0` that begins no
-        /// literal, such as that of `0x`, it is the decimal word.
+        /// The word by which its digits were read. It has their radix, so `0xff` and `255` are
+        /// not equal by `==`: compare what `as_integer` answers. If only the `0` of `0x` is a
+        /// number, it is the decimal word.
         word: u128,
     },
     /// The nearest float. `-0.0` is the negative zero, and what is too large is infinite.
@@ -190,8 +191,10 @@ fn read_rest<F: Float>(
 ///
 /// After any sign it is the form's special value there, if there is one, or a hexadecimal float,
 /// or else the longest integer or decimal float. A form may forbid more digits after a first `0`;
-/// then the number is that `0` alone. Python does so with `001`, although `00` is a number there.
-/// A number never begins with a separator: of `0_7` of Python none begins at 1.
+/// then the number is that `0` alone: of `01` JSON reads it, and of `001` Python the `0` at 0. A
+/// number never begins with a separator: in `0_7` of Python none begins at 1. An integer has up to
+/// 128 bits. A larger one is [`Overflow`](NumberError::Overflow), or by a form with
+/// `Whole::LargeIsFloat`, such as `forms::JSON`, the nearest float.
 ///
 /// ```text
 /// of JSON, `-1.5e3,`: Float(-1500.0), 6      `01`: Integer 0, 1      `.5`: Err(Empty(0))

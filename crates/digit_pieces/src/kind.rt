@@ -1,13 +1,13 @@
 //! A kind of numbers: how one is read from a text, and which bytes it may have.
 
-ghost use Rattle.std.specs.Prelude.{◌≡◌, ℕ, Bool, ◌+◌, ◌^◌, ◌<◌, ◌≤◌, List, length, drop, Result, Ok, Err, IfOk, MatchResult};
+ghost use Rattle.std.specs.Prelude.{◌≡◌, ℕ, Bool, ◌+◌, ◌^◌, ◌<◌, ◌≤◌, List, length, drop, Result, Ok, Err, IfSome, IfNone, IfOk, MatchResult};
 ghost use Rattle.digit_languages.specs.Follows.{AreSameBefore};
 ghost use Rattle.digit_literals.specs.Lists.{list_at, Fills, IfFull, IfOver};
 ghost use Rattle.lexical_digits.specs.Moves.{IsFresh, outcome_later};
 
-use digit_literals::{Gap, ListEnd, ListRead};
+use digit_literals::{Gap, ListRead};
 
-/// A kind of numbers of a text, such as integers of a type by a format word. It says how a number
+/// A kind of numbers of a text, such as integers of a type by a word. It says how a number
 /// is read, and which bytes one may have. Every other byte ends a number, and what follows such a
 /// byte makes no difference, nor does what is before one.
 pub trait Kind: Copy {
@@ -78,51 +78,30 @@ pub trait Kind: Copy {
         false
     }
 
-    /// The numbers from `start` on, read into a slice, with what `gap` says between two of them. A
-    /// kind whose lists are read faster than one number after the other has a body of its own.
+    /// The numbers from `start` on, read into a slice, with what `gap` says between two of them, if
+    /// the kind has a faster way than one number after the other. If not, it is `None`, and nothing
+    /// is written.
     #[inline(always)]
-    #[tactic(auto, using(digit_literals::proofs::Lists::turns))]
     fn read_list(
         self,
         text: &[u8],
         start: usize,
         gap: Gap,
         out: &mut [Self::Number],
-    ) -> ListRead<Self::Error>
+    ) -> Option<ListRead<Self::Error>>
         requires valid { valid self }
         requires within { start ≤ length text.now }
         ensures is { let list = list_at (number_at self text.now) none_at gap text.now
             (length out.old) start in
-            Fills meaning list result out.old out.new }
-        ensures count { result.count ≤ length out.old }
-        ensures full { IfFull result.end (λ at. (start ≤ at) × (at ≤ length text.now)) }
-        ensures over { IfOver result.end (λ at. (start ≤ at) × (at ≤ length text.now)) }
+            IfSome result (λ read. Fills meaning list read out.old out.new) }
+        ensures none { IfNone result (out.new ≡ out.old) }
+        ensures count { IfSome result (λ read. read.count ≤ length out.old) }
+        ensures full { IfSome result (λ read.
+            IfFull read.end (λ at. (start ≤ at) × (at ≤ length text.now))) }
+        ensures over { IfSome result (λ read.
+            IfOver read.end (λ at. (start ≤ at) × (at ≤ length text.now))) }
     {
-        let mut at = start;
-        for count in 0..out.len() {
-            let place = gap.past_blanks(text, at);
-            let (number, end) = match self.read_number(text, place) {
-                Ok(read) => read,
-                Err(error) => {
-                    let end = gap.no_number(place, Self::is_none_at(error, place), error);
-                    return ListRead { count, end };
-                }
-            };
-            out[count] = number;
-            match gap.next_after(text, end) {
-                Ok(next) => at = next,
-                Err(over) => {
-                    return ListRead {
-                        count: count + 1,
-                        end: ListEnd::Over(over),
-                    };
-                }
-            }
-        }
-        ListRead {
-            count: out.len(),
-            end: ListEnd::Full(at),
-        }
+        None
     }
 
     // What follows a byte that no number has makes no difference.

@@ -3,6 +3,7 @@
 #![tactic(auto)]
 
 mod apart;
+mod gaps;
 mod kind;
 mod kinds;
 pub mod laws;
@@ -11,6 +12,7 @@ mod piece;
 mod sure;
 
 pub use self::apart::is_apart;
+pub use self::gaps::{is_of_blanks, is_parted, next_start, of_list};
 pub use self::kind::Kind;
 pub use self::kinds::{
     Both, BothError, BracketError, Enclosed, Floats, Integers, OfForm, OfLanguage, Prices, Scaled,

@@ -1,9 +1,10 @@
 //! Lists of numbers in a piece of a text, which are read into a slice.
 
-ghost use Rattle.std.specs.Prelude.{◌≡◌, ℕ, Bool, List, ◌<◌, ◌≤◌, length, false, IfSome, IfOk, IfErr};
+ghost use Rattle.std.specs.Prelude.{◌≡◌, ℕ, Bool, List, ◌≤◌, length, false, IfSome, IfOk, IfErr};
 ghost use Rattle.digit_pieces.specs.Cuts.{sure_end, PartsNumbers};
-ghost use Rattle.digit_pieces.specs.Pieces.{of_list, is_of_blanks, is_sure, is_parted, next_start, piece_at, FillsPiece, IfAt, SoFar};
+ghost use Rattle.digit_pieces.specs.Pieces.{is_sure, piece_at, FillsPiece, IfAt, SoFar};
 
+use super::gaps::{is_parted, next_start, of_list};
 use super::kind::Kind;
 use super::sure::sure_end;
 use digit_literals::{Gap, ListEnd};
@@ -34,60 +35,12 @@ pub struct PieceRead<E> {
     pub end: PieceEnd<E>,
 }
 
-/// The end of a list as that of a piece.
-#[inline(always)]
-fn of_list<E: Copy>(end: ListEnd<E>) -> PieceEnd<E>
-    ensures { result ≡ of_list end }
-{
-    match end {
-        ListEnd::Full(at) => PieceEnd::Full(at),
-        ListEnd::Over(at) => PieceEnd::Over(at),
-        ListEnd::Fault(error) => PieceEnd::Fault(error),
-    }
-}
-
 /// Whether the outcome at a position is the same, whatever follows the piece.
 #[inline(always)]
 fn is_sure(is_last: bool, sure: usize, at: usize) -> bool
     ensures { result ≡ is_sure is_last sure at }
 {
     is_last || at < sure
-}
-
-/// Whether a gap has no separator but blanks.
-#[inline(always)]
-fn is_of_blanks(gap: Gap) -> bool
-    ensures { result ≡ is_of_blanks gap }
-{
-    gap.blanks_separate && gap.separators.low == 0 && gap.separators.high == 0
-}
-
-/// Whether it is known what follows the number that ends at `end`: a separator, or the end of the
-/// list.
-#[inline(always)]
-fn is_parted(gap: Gap, text: &[u8], is_last: bool, end: usize) -> bool
-    requires { end ≤ length text.now }
-    ensures { result ≡ is_parted gap text.now is_last end }
-{
-    is_last || is_of_blanks(gap) && end < text.len() || gap.past_blanks(text, end) < text.len()
-}
-
-/// Where the next number may be, after the number that ends at a position: as by
-/// [`Gap::next_after`], but that one blank is enough where blanks alone separate. Requires that the
-/// position is within the text.
-#[inline(always)]
-fn next_start(gap: Gap, text: &[u8], end: usize) -> Result<usize, usize>
-    requires { end ≤ length text.now }
-    ensures is { result ≡ next_start gap text.now end }
-    ensures onward { IfOk result (λ next. end < next) }
-    ensures within { IfOk result (λ next. next ≤ length text.now) }
-    ensures over { IfErr result (λ over. (end ≤ over) × (over ≤ length text.now)) }
-{
-    if is_of_blanks(gap) && end < gap.past_blanks(text, end) {
-        Ok(end + 1)
-    } else {
-        gap.next_after(text, end)
-    }
 }
 
 /// How many bytes are looked at for the last separator of a piece.
@@ -160,13 +113,16 @@ fn read_front<K: Kind>(
         IfAt read.end (λ at. (start ≤ at) × (at ≤ length text.now))) }
     ensures length { length out.new ≡ length out.old }
 {
-    let Some(cut) = last_separator(kind, text, start, sure, gap) else {
-        return Ok(Went {
-            count: 0,
-            at: start,
-        });
+    let none = Went {
+        count: 0,
+        at: start,
     };
-    let read = kind.read_list(&text[..cut], start, gap, out);
+    let Some(cut) = last_separator(kind, text, start, sure, gap) else {
+        return Ok(none);
+    };
+    let Some(read) = kind.read_list(&text[..cut], start, gap, out) else {
+        return Ok(none);
+    };
     let count = read.count;
     let end = match read.end {
         ListEnd::Over(at) if at == cut => return Ok(Went { count, at: cut + 1 }),

@@ -14,7 +14,8 @@ use Rattle.digit_streams.specs.Streams.{Gives, HasGiven, HasGivenFrom, IsHere, I
 
 -- ---- the bytes
 
-no_bytes : (at : ℕ) (known bytes : Option (List ℕ)) → bytes ≡ known → UsesKnown at at known bytes
+pub no_bytes : (at : ℕ) (known bytes : Option (List ℕ)) → bytes ≡ known
+    → UsesKnown at at known bytes
 no_bytes at None bytes e = tt
 no_bytes at (Some text) None e = absurd cc
 no_bytes at (Some text) (Some bytes) e =

@@ -1,6 +1,9 @@
 pub mod Calls
+pub mod Enclosing
 pub mod Ends
 pub mod Finished
+pub mod Folding
+pub mod Folds
 pub mod ForCallers
 pub mod Known
 pub mod Messages

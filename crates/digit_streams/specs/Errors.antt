@@ -3,6 +3,10 @@ use Rattle.std.specs.Prelude.{Bool, true, false, ℕ, List, ◌++◌, codes, dec
 use Rattle.std.specs.Fmt.{◌++?◌}
 use Rattle.std.specs.declared.io.ErrorKind.{ErrorKind}
 use Rattle.std.specs.declared.io.ErrorKind.TheVariants.{WouldBlock, TimedOut}
+use Rattle.digit_streams.specs.declared.enclosed.EnclosedFoldError.{EnclosedFoldError}
+use Rattle.digit_streams.specs.declared.enclosed.EnclosedFoldError.TheVariants as enclosed
+use Rattle.digit_streams.specs.declared.fold.FoldError.{FoldError}
+use Rattle.digit_streams.specs.declared.fold.FoldError.TheVariants as folds
 use Rattle.digit_streams.specs.declared.stream.StreamError.{StreamError}
 use Rattle.digit_streams.specs.declared.stream.StreamError.TheVariants.{Number, NoRoom, Read, TooLong, Trailing}
 
@@ -33,3 +37,16 @@ stream_message output (Trailing at None) =
     Some (codes "the byte at " ++ decimal at ++ codes " follows the numbers")
 stream_message output (Trailing at (Some error)) =
     Some (codes "the byte at " ++ decimal at ++ codes " follows the numbers: ") ++? output error
+
+abbrev pub fold_message : {E : Type 0} → (E → Option (List ℕ)) → FoldError E → Option (List ℕ)
+fold_message output (folds.Stopped at) =
+    Some (codes "the numbers before " ++ decimal at ++ codes " have no value")
+fold_message output (folds.Stream error) = stream_message output error
+
+abbrev pub enclosed_fold_message : {E : Type 0} → (E → Option (List ℕ)) → EnclosedFoldError E
+    → Option (List ℕ)
+enclosed_fold_message output (enclosed.NoOpening at) =
+    Some (codes "no list begins at " ++ decimal at)
+enclosed_fold_message output (enclosed.NoClosing at) =
+    Some (codes "the list isn't closed at " ++ decimal at)
+enclosed_fold_message output (enclosed.Fold error) = fold_message output error

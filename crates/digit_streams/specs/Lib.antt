@@ -1,3 +1,5 @@
+pub mod Enclosed
 pub mod Errors
+pub mod Folds
 pub mod Streams
 pub mod Windows

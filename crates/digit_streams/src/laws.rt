@@ -1,6 +1,8 @@
 //! Laws of numbers in a stream.
 
-ghost use Rattle.std.specs.Prelude.{◌≡◌, ℕ, List, [], ◌∷◌, ◌+◌, ◌-◌, drop, IfSome};
+ghost use Rattle.std.specs.Prelude.{◌≡◌, false, ℕ, List, [], ◌∷◌, ◌+◌, ◌-◌, drop, IfSome};
+ghost use Rattle.digit_pieces.specs.Apart.{is_between};
+ghost use Rattle.digit_pieces.specs.Enclosed.{is_enclosed_byte};
 ghost use Rattle.digit_pieces.specs.Texts.{IsApart};
 ghost use Rattle.digit_streams.specs.Streams.{stream_list, then_from};
 
@@ -42,3 +44,12 @@ pub fn first_two<K: Kind>(
         _ => None,
     }
 }
+
+/// [`Enclosed`](digit_pieces::Enclosed): what holds of the numbers, and of the two bytes around
+/// each, holds of the numbers with these bytes.
+pub fn enclosed_are_apart<K: Kind>(opening: u8, kind: K, closing: u8, gap: Gap)
+    requires kind { IsApart (K.has_byte kind) gap }
+    requires opening { is_between gap opening ≡ false }
+    requires closing { is_between gap closing ≡ false }
+    ensures { IsApart (is_enclosed_byte opening (K.has_byte kind) closing) gap }
+{}

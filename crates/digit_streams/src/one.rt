@@ -1,14 +1,14 @@
 //! The next number of a piece of a text.
 
-ghost use Rattle.std.specs.Prelude.{◌≡◌, true, ℕ, None, ◌<◌, ◌≤◌, if◌then◌else◌, length, nat_lt, IsSome, IfOk, IfErr};
+ghost use Rattle.std.specs.Prelude.{◌≡◌, true, ℕ, None, ◌<◌, ◌≤◌, if◌then◌else◌, length, nat_lt, IsSome};
 ghost use Rattle.std.specs.Result.{result_err};
 ghost use Rattle.digit_literals.specs.Lists.{past_blanks};
 ghost use Rattle.digit_pieces.specs.Cuts.{sure_end};
-ghost use Rattle.digit_pieces.specs.Pieces.{IfAt, is_of_blanks, is_sure, is_parted, next_start, of_list, piece_at};
+ghost use Rattle.digit_pieces.specs.Pieces.{IfAt, is_sure, piece_at};
 ghost use Rattle.digit_streams.specs.Streams.{list_of_option};
 
-use digit_literals::{Gap, ListEnd};
-use digit_pieces::{Kind, PieceEnd};
+use digit_literals::Gap;
+use digit_pieces::{Kind, PieceEnd, is_parted, next_start, of_list};
 
 /// The next number of a piece, if there is one, and why no more was read.
 #[derive(Clone, Copy)]
@@ -61,46 +61,6 @@ pub fn error_in<K: Kind>(kind: K, gap: Gap, text: &[u8], is_last: bool) -> Optio
     match kind.read_number(text, place) {
         Ok(_) => None,
         Err(error) => is_sure(kind, text, is_last, place, place).then_some(error),
-    }
-}
-
-/// Whether blanks alone separate.
-fn is_of_blanks(gap: Gap) -> bool
-    ensures { result ≡ is_of_blanks gap }
-{
-    gap.blanks_separate && gap.separators.low == 0 && gap.separators.high == 0
-}
-
-/// Whether it stays what follows the number that ends at a position.
-fn is_parted(gap: Gap, text: &[u8], is_last: bool, end: usize) -> bool
-    requires { end ≤ length text.now }
-    ensures { result ≡ is_parted gap text.now is_last end }
-{
-    is_last || is_of_blanks(gap) && end < text.len() || gap.past_blanks(text, end) < text.len()
-}
-
-/// Where the next number may be, after the number that ends at a position.
-fn next_start(gap: Gap, text: &[u8], end: usize) -> Result<usize, usize>
-    requires { end ≤ length text.now }
-    ensures is { result ≡ next_start gap text.now end }
-    ensures within { IfOk result (λ next. next ≤ length text.now) }
-    ensures over { IfErr result (λ over. over ≤ length text.now) }
-{
-    if is_of_blanks(gap) && end < gap.past_blanks(text, end) {
-        Ok(end + 1)
-    } else {
-        gap.next_after(text, end)
-    }
-}
-
-/// The end of a list as that of a piece.
-fn of_list<E: Copy>(end: ListEnd<E>) -> PieceEnd<E>
-    ensures { result ≡ of_list end }
-{
-    match end {
-        ListEnd::Full(at) => PieceEnd::Full(at),
-        ListEnd::Over(at) => PieceEnd::Over(at),
-        ListEnd::Fault(error) => PieceEnd::Fault(error),
     }
 }
 

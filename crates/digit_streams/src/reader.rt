@@ -20,16 +20,28 @@ use std::marker::Model;
 /// `1\nx` by `Integers` and `LINES`: Some(Ok(1)), None; Err(Trailing(2, Some(Empty(2))))
 /// ```
 ///
-/// Give it `&mut reader` to read on from the reader later: it has given the bytes before the
-/// position and those of [`unread`](NumberReader::unread).
+/// **The numbers are those of the whole stream**, however the reader cuts it into pieces, if no
+/// byte that may be between two numbers may be in one: test that by
+/// [`is_apart`](digit_pieces::is_apart). Nothing refuses another kind or gap, and with it a number
+/// may be split.
 ///
-/// The numbers are those of the whole stream, however the reader cuts it into pieces. The premise
-/// is that no byte that may be between two numbers may be in one.
+/// **A number comes** as soon as the first byte after it is read that is no blank of the gap. A
+/// separator is no blank: by `LINES` the line feed is enough, by `COMMAS` it isn't. Where blanks
+/// alone separate, as by `WHITESPACE`, the first blank is enough.
 ///
-/// A number has to fit the buffer, with the blanks after it and the byte that ends them, or one
-/// blank where blanks alone separate; at the end of the stream too, one byte more than the number.
-/// Otherwise a call answers [`NoRoom`](StreamError::NoRoom). A call answers a number as soon as it
-/// has read that byte.
+/// **The buffer** has to hold the longest number, the blanks up to that byte, and that byte, also
+/// at the end of the stream. Otherwise a call answers [`NoRoom`](StreamError::NoRoom).
+///
+/// **An error stays:** each later call answers it again. But after
+/// [`Read`](StreamError::Read) of `WouldBlock` or `TimedOut` the next call goes on; after
+/// `Interrupted` the call itself reads again. After `None` each call of `next_number` answers
+/// `None`.
+///
+/// **A number is sure** once the next one came, or `finish` answered `Ok`: of a line `2x` you get
+/// 2, and then `None`.
+///
+/// **To use the reader later**, give a `&mut reader`. It then stands after the bytes of
+/// [`unread`](NumberReader::unread): use those first.
 #[derive(Drop)]
 pub struct NumberReader<'b, K: Kind, R: Read> {
     format: Format<K>,

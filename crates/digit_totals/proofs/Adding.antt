@@ -1,16 +1,12 @@
 -- Lines that are added one by one.
-use Rattle.std.proofs.Common.{◌≡◌, ◌≢◌, ℕ, All, Result, List, [], ◌+◌, ◌++◌, length, ◌<◌, ◌≤◌, take, refl, sym, ◌∙◌, ap, arith, Ok, Err, take-append-drop, append_assoc, drop}
+use Rattle.std.proofs.Common.{◌≡◌, ◌≢◌, ℕ, All, Result, List, ◌+◌, ◌++◌, length, ◌<◌, ◌≤◌, take, refl, sym, ◌∙◌, ap, arith, Ok, Err, take-append-drop, append_assoc, drop}
 use Rattle.std.proofs.lemmas.Bool.Decides.{nat_tests}
-use Rattle.std.proofs.lemmas.List.{length-take-le, length-drop, drop-append-le}
 use Rattle.digit_totals.specs.declared.fault.LineFault.{LineFault}
 use Rattle.digit_totals.specs.Lines.{lines_of, IsFirstLine, EndsWith}
-use Rattle.digit_totals.specs.Report.{Adding, with_value, with_line, with_lines, continue, LeavesRest, EndsIn, Leaves}
+use Rattle.digit_totals.specs.Report.{Adding, with_value, with_line, with_lines, continue, LeavesRest, Leaves}
 use Rattle.digit_totals.proofs.FirstLine.{one_line}
 
 -- ---- the end of a text
-
-pub ends_with_all : (text : List ℕ) → EndsWith text text
-ends_with_all text = ([], refl)
 
 pub ends_with_drop : (text : List ℕ) (n : ℕ) → EndsWith text (drop n text)
 ends_with_drop text n = (take n text, sym (take-append-drop n text))
@@ -23,15 +19,6 @@ ends_with_rest text middle rest (front, e) (more, f) =
 -- ---- lines
 
 module _ {T V : Type 0} (a : Adding T V) where
-  -- none of them
-  pub leaves_all : (t : T) (text : List ℕ) → Leaves a t text t text
-  leaves_all t text = record {
-    leaves = λ more. refl;
-    room = omega arith;
-    shorter = omega arith;
-    suffix = ends_with_all text;
-  }
-
   -- some, and then others
   pub leaves_more : (t u v : T) (text middle rest : List ℕ) → Leaves a t text u middle
       → Leaves a u middle v rest → Leaves a t text v rest
@@ -42,41 +29,6 @@ module _ {T V : Type 0} (a : Adding T V) where
     suffix = ends_with_rest text middle rest one.suffix other.suffix;
   }
 
-  -- of a text those of its front
-  pub leaves_front : (t u : T) (text : List ℕ) (n m : ℕ) → n ≤ length text → m ≤ n
-      → Leaves a t (take n text) u (drop m (take n text)) → Leaves a t text u (drop m text)
-  leaves_front t u text n m within order one =
-      let long = length-take-le n text within in
-      let rest : drop m (take n text) ++ drop n text ≡ drop m text =
-      sym (drop-append-le m (take n text) (drop n text) (omega (arith, order, long)))
-      ∙ ap (drop m) (take-append-drop n text) in
-      record {
-        leaves = λ more.
-            ap (λ xs. with_lines a t (lines_of xs))
-            (ap (λ xs. xs ++ more) (sym (take-append-drop n text))
-            ∙ append_assoc (take n text) (drop n text) more)
-            ∙ one.leaves (drop n text ++ more)
-            ∙ ap (λ xs. with_lines a u (lines_of xs))
-            (sym (append_assoc (drop m (take n text)) (drop n text) more)
-            ∙ ap (λ xs. xs ++ more) rest);
-        room = omega (
-          arith,
-          one.room,
-          long,
-          length-drop m (take n text),
-          length-drop m text,
-          order,
-          within,
-        );
-        shorter = omega (arith, length-drop m text);
-        suffix = ends_with_drop text m;
-      }
-
-  -- some, and then a fault
-  pub then_fails : (t u : T) (text rest : List ℕ) → Leaves a t text u rest → (fault : LineFault)
-      → EndsIn a u rest fault → EndsIn a t text fault
-  then_fails t u text rest one fault then = λ more. one.leaves more ∙ then more
-
   module _ (t : T) (text line rest : List ℕ) (first : IsFirstLine text line rest)
       (short : length line ≤ 65535) where
     same_line : with_line a t line ≡ with_value a t (a.value_of line)
@@ -86,11 +38,6 @@ module _ {T V : Type 0} (a : Adding T V) where
     pub one_added : (u : T) → with_value a t (a.value_of line) ≡ Ok u
         → LeavesRest a t text u rest
     one_added u is = λ more.
-        let e = first more in rw (e, same_line, is) refl
-
-    pub one_fails : (fault : LineFault) → with_value a t (a.value_of line) ≡ Err fault
-        → EndsIn a t text fault
-    one_fails fault is = λ more.
         let e = first more in rw (e, same_line, is) refl
 
     pub one_leaves : (u : T) → with_value a t (a.value_of line) ≡ Ok u

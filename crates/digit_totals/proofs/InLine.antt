@@ -10,14 +10,17 @@ use Rattle.std.proofs.lemmas.List.Elements.{All-from_get_or}
 use Rattle.std.proofs.lemmas.List.Sums.{take_while-cons}
 use Rattle.lexical_format.specs.Word.{bit}
 use Rattle.lexical_digits.specs.ByteSet.{accepts}
+use Rattle.lexical_digits.specs.declared.ops.ByteSet.{ByteSet}
 use Rattle.lexical_digits.specs.Cursor.{holds_of}
 use Rattle.lexical_digits.specs.Laws.Terms.{gets, slice_get_past}
 use Rattle.digit_values.specs.declared.bytes.TheConstants.{BLANKS}
 use Rattle.digit_literals.specs.declared.list.Gap.{Gap}
 use Rattle.digit_literals.specs.declared.list.TheConstants.{LINES}
 use Rattle.digit_values.specs.Bytes.{past_bytes}
-use Rattle.digit_literals.specs.Lists.{is_blank, has_separator, past_blanks, next_after}
+use Rattle.digit_literals.specs.Lists.{is_blank, has_blank, has_separator, past_blanks, next_after}
 use Rattle.digit_literals.proofs.Lists.{no_blank, separator_is_no_blank}
+use Rattle.digit_values.proofs.Passing.{none_passed, one_passed}
+use Rattle.digit_totals.specs.Field.{is_quoted}
 use Rattle.digit_totals.specs.Lines.{IsFirstLine}
 use Rattle.digit_totals.proofs.FirstLine.{first_joined}
 
@@ -139,6 +142,15 @@ module _ (gap : Gap) (text : List ℕ) (at : ℕ) where
       omega (arith, l, m) in
       rw (get_or-drop at text (q - at) 0, there) at
       (passed (is_blank gap) (drop at text) (q - at) inside)
+
+-- a byte that is passed
+pub byte_passed : (set : ByteSet) (text : List ℕ) (at : ℕ) → at < past_bytes text at set
+    → accepts set (get_or text at 0) ≡ true
+unfolding past_bytes
+byte_passed set text at l =
+    let none : at + 0 ≡ at = omega arith in
+    rw (get_or-drop at text 0 0, none) at
+    (passed (accepts set) (drop at text) 0 (omega (arith, l)))
 
 -- ---- the line
 
@@ -268,13 +280,50 @@ small_blanks byte l =
       no_bit BLANKS.high (byte - 128) some,
     )
 
-pub begins_plain : (text : List ℕ) → 0 < length text → 32 < get_or text 0 0
-    → past_blanks LINES text 0 ≡ 0
-begins_plain text some l =
-    let is : slice_get text 0 ≡ Some (get_or text 0 0) = grind (arith, gets, some) in
-    let none : accepts BLANKS (get_or text 0 0) ≡ false =
-    small_blanks (get_or text 0 0) (omega (arith, l)) in
-    no_blank LINES text 0 (grind (arith, nat_tests, is, none))
+-- no quote begins a field whose first byte is after it
+pub no_quote : (field : List ℕ) → 0 < length field → 34 < get_or field 0 0
+    → is_quoted field ≡ false
+unfolding past_bytes
+no_quote field some l =
+    let is : slice_get field 0 ≡ Some (get_or field 0 0) = grind (arith, gets, some) in
+    let none : accepts BLANKS (get_or field 0 0) ≡ false =
+    small_blanks (get_or field 0 0) (omega (arith, l)) in
+    let count = none_passed (accepts BLANKS) field 0 (rw is none) in
+    let at : past_bytes field 0 BLANKS ≡ 0 = omega (arith, count) in
+    rw (at, is) (grind (arith, nat_tests, l))
+
+-- no digit is a blank
+pub no_digit_blank : (byte : ℕ) → 48 ≤ byte → byte < 58 → is_blank LINES byte ≡ false
+no_digit_blank byte low high = grind (arith, nat_tests, small_blanks byte (omega (arith, low)))
+
+pub begins_plain : (text : List ℕ) (at : ℕ) → at < length text → 32 < get_or text at 0
+    → past_blanks LINES text at ≡ at
+begins_plain text at some l =
+    let is : slice_get text at ≡ Some (get_or text at 0) = grind (arith, gets, some) in
+    let none : accepts BLANKS (get_or text at 0) ≡ false =
+    small_blanks (get_or text at 0) (omega (arith, l)) in
+    no_blank LINES text at (grind (arith, nat_tests, is, none))
+
+one_blank : (text : List ℕ) (at : ℕ) → has_blank LINES text at ≡ true
+    → has_blank LINES text (at + 1) ≡ false → past_blanks LINES text at ≡ at + 1
+unfolding past_blanks
+one_blank text at here next =
+    omega (
+      arith,
+      one_passed (is_blank LINES) text at here,
+      none_passed (is_blank LINES) text (at + 1) next,
+    )
+
+-- after one blank
+pub begins_later : (text : List ℕ) (at : ℕ) → at + 1 < length text → get_or text at 0 ≡ 32
+    → 32 < get_or text (at + 1) 0 → past_blanks LINES text at ≡ at + 1
+begins_later text at some blank l =
+    let is : slice_get text at ≡ Some 32 = grind (arith, gets, some, blank) in
+    let next : slice_get text (at + 1) ≡ Some (get_or text (at + 1) 0) =
+    grind (arith, gets, some) in
+    let none : accepts BLANKS (get_or text (at + 1) 0) ≡ false =
+    small_blanks (get_or text (at + 1) 0) (omega (arith, l)) in
+    one_blank text at (rw is refl) (grind (arith, nat_tests, next, none))
 
 pub feeds_plain : (text : List ℕ) (end : ℕ) → end < length text → get_or text end 0 ≡ 10
     → next_after LINES text end ≡ Ok (end + 1)
@@ -284,6 +333,16 @@ feeds_plain text end within mark =
     let same = separator_is_no_blank LINES text end here in
     rw same (grind (arith, nat_tests, here))
 
-pub ruleset begins = (begins_plain, blanks_within)
+-- after a carriage return
+pub feeds_later : (text : List ℕ) (end : ℕ) → end + 1 < length text → get_or text end 0 ≡ 13
+    → get_or text (end + 1) 0 ≡ 10 → next_after LINES text end ≡ Ok (end + 2)
+feeds_later text end within back mark =
+    let byte : slice_get text end ≡ Some 13 = grind (arith, gets, within, back) in
+    let next : slice_get text (end + 1) ≡ Some 10 = grind (arith, gets, within, mark) in
+    let same = one_blank text end (rw byte refl) (rw next refl) in
+    let last : end + 2 ≡ end + 1 + 1 = omega arith in
+    rw (same, last, next) refl
 
-pub ruleset feeds = (feeds_plain)
+pub ruleset begins = (begins_plain, begins_later, blanks_within, onward)
+
+pub ruleset feeds = (feeds_plain, feeds_later)

@@ -1,6 +1,8 @@
+pub mod AddedSums
 pub mod Adding
 pub mod Bits
 pub mod Blocks
+pub mod ColumnLine
 pub mod CsvFields
 pub mod ErrorsWithin
 pub mod Fields
@@ -11,10 +13,11 @@ pub mod FloatOrder
 pub mod FloatTexts
 pub mod Header
 pub mod InLine
-pub mod ListedLines
+pub mod LinesByEnds
 pub mod Meaning
 pub mod NumberLine
 pub mod OnWords
 pub mod Order
 pub mod Pieces
+pub mod SumsOf
 pub mod Words

@@ -42,16 +42,11 @@ use Rattle.digit_amounts.specs.Scaled as Scaled
 use Rattle.digit_amounts.specs.Scaled.{first_value, is_exact, scaled_at, read_scaled_at}
 use Rattle.digit_floats.proofs.BothSides.{NoScaled, no_scaled, mantissa_upto}
 use Rattle.digit_amounts.proofs.WhatFollows.{same_scaled}
-use Rattle.digit_totals.specs.declared.fault.LineFault.{LineFault}
 use Rattle.digit_totals.specs.declared.options.Kind.TheVariants.{Integers, Places}
 use Rattle.digit_totals.specs.declared.options.Options.{Options}
-use Rattle.digit_totals.specs.declared.totals.Totals.{Totals}
-use Rattle.digit_totals.specs.Lines.{IsFirstLine, EndsWith}
-use Rattle.digit_totals.specs.Quick.{HasNoLowByte, BeginsWith}
-use Rattle.digit_totals.specs.Report.{with_value, Leaves, EndsIn}
-use Rattle.digit_totals.specs.Totals.{adding}
+use Rattle.digit_totals.specs.Lines.{IsFirstLine}
+use Rattle.digit_totals.specs.Quick.{HasNoLowByte, BeginsWith, FirstIs}
 use Rattle.digit_totals.specs.Value.{word_of, number_in, value_of, integer_in}
-use Rattle.digit_totals.proofs.Adding.{one_leaves, one_fails}
 use Rattle.digit_totals.proofs.InLine.{no_high_blank, StandsInLine, stands, ends_line, blanks_before, blanks_after, long, first_line}
 
 -- ---- bytes
@@ -381,25 +376,10 @@ plain_value : (options : Options) (word : ℕ) (line : List ℕ) (value : ℤ)
 plain_value options word line value none same is =
     rw (none, same, all_is line, is) refl
 
-module _ (options : Options) (word : ℕ) (none : options.column ≡ None)
-    (same : word_of options ≡ word) (t : Totals) (text rest : List ℕ) (value : ℤ)
-    (begins : BeginsWith word options.kind text value rest) (short : length text ≤ 65536) where
-  value_is : value_of options begins.0 ≡ Ok value
-  value_is = plain_value options word begins.0 value none same begins.1
-
-  pub quick_leaves : (u : Totals) → with_value (adding options) t (Ok value) ≡ Ok u
-      → u.count ≡ t.count + 1 → length rest < length text → EndsWith text rest
-      → Leaves (adding options) t text u rest
-  quick_leaves u is count shorter suffix =
-      one_leaves (adding options) t text begins.0 rest begins.2
-      (omega (arith, short, begins.3)) u
-      (ap (with_value (adding options) t) value_is ∙ is) count shorter suffix
-
-  pub quick_fails : (fault : LineFault) → with_value (adding options) t (Ok value) ≡ Err fault
-      → EndsIn (adding options) t text fault
-  quick_fails fault is =
-      one_fails (adding options) t text begins.0 rest begins.2
-      (omega (arith, short, begins.3)) fault
-      (ap (with_value (adding options) t) value_is ∙ is)
+pub line_is : (options : Options) (word : ℕ) (text rest : List ℕ) (value : ℤ)
+    → options.column ≡ None → word_of options ≡ word
+    → BeginsWith word options.kind text value rest → FirstIs options text value rest
+line_is options word text rest value none same begins =
+    (begins.0, plain_value options word begins.0 value none same begins.1, begins.2, begins.3)
 
 pub ruleset no_low_bytes = (standard_has_none, python_has_none)

@@ -10,6 +10,7 @@ pub mod Outcome
 pub mod Program
 pub mod Quick
 pub mod Report
+pub mod Sums
 pub mod Text
 pub mod Totals
 pub mod Value

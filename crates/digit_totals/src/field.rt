@@ -9,11 +9,15 @@ use super::options::Column;
 use super::search::find;
 use digit_values::{BLANKS, has_byte, past_bytes};
 
-/// Whether a field begins with a quote, after any blanks.
-#[inline]
+/// Whether a field begins with a quote, after any blanks. Most begin with a later byte.
+#[inline(always)]
+#[tactic(auto, using(crate::proofs::InLine::no_quote))]
 fn is_quoted(field: &[u8]) -> bool
     ensures { result ≡ is_quoted field.now }
 {
+    if !field.is_empty() && field[0] > b'"' {
+        return false;
+    }
     has_byte(field, past_bytes(field, 0, BLANKS), b'"')
 }
 

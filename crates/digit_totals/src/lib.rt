@@ -4,7 +4,10 @@
 
 pub mod adds;
 pub mod arguments;
+pub mod around;
+pub mod column;
 pub mod csv;
+pub mod decimal;
 pub mod engine;
 pub mod error_kind;
 pub mod exact;

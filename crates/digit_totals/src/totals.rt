@@ -1,8 +1,8 @@
 //! The totals of the numbers so far.
 
-ghost use Rattle.std.specs.Prelude.{◌≡◌, ◌^◌, ◌<◌, ◌+◌, IfOk, IfSome};
+ghost use Rattle.std.specs.Prelude.{◌≡◌, ◌^◌, ◌<◌, ◌≤◌, ◌+◌, true, IfOk};
 ghost use Rattle.digit_totals.specs.Floats as floats;
-ghost use Rattle.digit_totals.specs.Quick.{AddsUp};
+ghost use Rattle.digit_totals.specs.Sums.{IsFar, IsNear, no_sums, with_one, joined};
 ghost use Rattle.digit_totals.specs.Totals.{no_numbers, with_number};
 
 use super::fault::LineFault;
@@ -52,38 +52,76 @@ impl Totals {
     }
 }
 
-/// So far from the ends of 128 bits is a sum before which no sums of a list are looked at.
+/// So far from the ends of 128 bits is a sum to which [`Sums`] are added.
 const FAR: i128 = 1 << 126;
 
-/// The most numbers of a list.
-pub const MOST: usize = 65536;
+/// The sums of some numbers of 64 bits.
+#[derive(Clone, Copy, Debug, PartialEq, Eq)]
+pub struct Sums {
+    pub count: usize,
+    pub sum: i128,
+    /// The least number, or `i64::MAX`.
+    pub least: i64,
+    /// The greatest number, or `i64::MIN`.
+    pub greatest: i64,
+}
+
+impl Sums {
+    /// Of no number.
+    pub fn new() -> Sums
+        ensures { result ≡ no_sums }
+    {
+        Sums {
+            count: 0,
+            sum: 0,
+            least: i64::MAX,
+            greatest: i64::MIN,
+        }
+    }
+
+    /// With one number more.
+    #[inline(always)]
+    pub fn plus(self, value: i64) -> Sums
+        requires few { self.count < 65536 }
+        requires near { IsNear self.count self.sum }
+        ensures is { result ≡ with_one self value }
+        ensures count { result.count ≡ self.count + 1 }
+        ensures near { IsNear result.count result.sum }
+    {
+        Sums {
+            count: self.count + 1,
+            sum: self.sum + i128::from(value),
+            least: self.least.min(value),
+            greatest: self.greatest.max(value),
+        }
+    }
+}
 
 impl Totals {
-    /// With the numbers of lines one after the other, if there are at most [`MOST`], and the sum
-    /// before them is far from the ends of 128 bits: then each sum has 128 bits.
-    #[inline(always)]
-    pub fn plus_all(self, values: &[i64]) -> Option<Totals>
-        requires { self.count < 2 ^ 127 }
-        ensures { IfSome result (AddsUp self values.now) }
+    /// Whether the sum is far from the ends of 128 bits.
+    pub fn is_far(self) -> bool
+        ensures { result ≡ true → IsFar self }
     {
-        if values.len() > MOST || self.sum < -FAR || self.sum > FAR {
-            return None;
+        -FAR <= self.sum && self.sum <= FAR
+    }
+
+    /// With the numbers of some sums.
+    pub fn with_sums(self, sums: Sums) -> Totals
+        requires far { IsFar self }
+        requires room { self.count ≤ 2 ^ 127 }
+        requires few { sums.count ≤ 65536 }
+        requires near { IsNear sums.count sums.sum }
+        ensures { result ≡ joined self sums }
+    {
+        if sums.count == 0 {
+            return self;
         }
-        let mut sum = self.sum;
-        let mut least = self.least;
-        let mut greatest = self.greatest;
-        for number in values {
-            let value = i128::from(*number);
-            sum += value;
-            least = least.min(value);
-            greatest = greatest.max(value);
+        Totals {
+            count: self.count + sums.count as u128,
+            sum: self.sum + sums.sum,
+            least: self.least.min(i128::from(sums.least)),
+            greatest: self.greatest.max(i128::from(sums.greatest)),
         }
-        Some(Totals {
-            count: self.count + values.len() as u128,
-            sum,
-            least,
-            greatest,
-        })
     }
 }
 

@@ -16,16 +16,19 @@ use Rattle.digits.specs.NumberErrors.{Overflow}
 use Rattle.digits.specs.Numbers.{Float}
 use Rattle.digits.specs.ListEnds.{Over}
 use Rattle.digits.specs.PieceEnds.{More}
+use Rattle.digits.specs.BracketErrors.{NoOpening as no_opening}
 use Rattle.digits.specs.StreamEnds.{Full}
 use Rattle.digits.specs.StreamErrors.{NoRoom}
+use Rattle.digits.specs.FoldErrors.{Stopped}
+use Rattle.digits.specs.EnclosedFoldErrors.{NoClosing}
 use Rattle.digits.specs.ListErrors.{NoRoom as no_room}
 use Rattle.digits.specs.EnclosedErrors.{NoOpening}
 use Rattle.digits.specs.PriceErrors.{Group}
 use Rattle.digits.specs.KindLaws.{literal_later_at}
 use Rattle.digits.specs.Words.{Gap, LiteralError, is_supported}
 use Rattle.digits.specs.Words.{ByteSet, FloatError, Form, Language, LanguageError, ListEnd, Marks}
-use Rattle.digits.specs.Words.{EnclosedError, ListError, PieceEnd, PriceError, StreamEnd}
-use Rattle.digits.specs.Words.{StreamError, literal_later, literal_position}
+use Rattle.digits.specs.Words.{BracketError, EnclosedError, ListError, PieceEnd, PriceError, StreamEnd}
+use Rattle.digits.specs.Words.{EnclosedFoldError, FoldError, StreamError, literal_later, literal_position}
 use Rattle.digits.specs.Words.{Number, NumberError, ParseError, ScaledError, Special, Specials}
 use Rattle.digit_uses.specs.declared.points.PointError.{PointError}
 use Rattle.digit_uses.specs.declared.points.PointError.TheVariants.{NoColon}
@@ -42,11 +45,12 @@ errors = (Empty 0, Invalid 0, Zero 0, EmptyExponent 0, TooFine 0, Overflow 0)
 abbrev pub answers : Number ℕ × ListEnd ℕ × Bool
 answers = (Float 0, Over 0, is_supported STANDARD)
 
-abbrev pub pieces : PieceEnd ℕ × StreamEnd ℕ × StreamError ℕ
-pieces = (More 0, Full 0, NoRoom 0)
+abbrev pub pieces : PieceEnd ℕ × StreamEnd ℕ × StreamError ℕ × FoldError ℕ
+    × EnclosedFoldError ℕ
+pieces = (More 0, Full 0, NoRoom 0, Stopped 0, NoClosing 0)
 
-abbrev pub lists : ListError ℕ × EnclosedError ℕ × PriceError
-lists = (no_room 0, NoOpening 0, Group 0)
+abbrev pub lists : ListError ℕ × EnclosedError ℕ × PriceError × BracketError ℕ
+lists = (no_room 0, NoOpening 0, Group 0, no_opening 0)
 
 abbrev pub own : PointError × Form
 own = (NoColon 0, COMMA_FLOATS)

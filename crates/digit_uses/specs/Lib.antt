@@ -7,6 +7,7 @@ pub mod Lexer
 pub mod Lists
 pub mod Literal
 pub mod Points
+pub mod Quotes
 pub mod Settings
 pub mod Sums
 pub mod Tokens

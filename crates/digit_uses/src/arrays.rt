@@ -1,12 +1,15 @@
 //! The sum of an array of integers of a stream, such as a file or a socket, or where its fault is:
 //! of the whole array, however it comes in pieces.
 //!
-//! Proof by hand: 78 lines, an invariant and the answers of five goals.
+//! Proof by hand: 14 lines, the answers of two goals.
 
-ghost use Rattle.digit_uses.specs.Arrays.{IsArraySum};
+ghost use Rattle.std.specs.Prelude.{◌≡◌};
+ghost use Rattle.digits.specs.Words.{unstopped};
+ghost use Rattle.digit_uses.specs.Arrays.{IsArraySum, fold_error};
 
 use digits::{
-    COMMAS, Integers, LiteralError, NumberReader, STANDARD, StreamError, integers_are_apart,
+    COMMAS, EnclosedFoldError, FoldError, Integers, LiteralError, NumberReader, STANDARD,
+    StreamError, integers_are_apart,
 };
 use std::io::Read;
 
@@ -33,28 +36,23 @@ pub fn sum_of_array<R: Read + Drop>(stream: R, buffer: &mut [u8]) -> Result<i128
     let kind = Integers::<i64>::new(STANDARD);
     integers_are_apart::<i64>(STANDARD, COMMAS);
     let mut numbers = NumberReader::new(stream, buffer, kind, COMMAS);
-    match numbers.pass_byte(b'[') {
-        Ok(true) => {}
-        Ok(false) => return Err(SumError::NoOpening(numbers.position())),
-        Err(error) => return Err(SumError::Stream(error)),
+    let add = |sum: i128, number: i64| sum.checked_add(i128::from(number));
+    match numbers.fold_enclosed(b'[', b']', 0, add) {
+        Ok(sum) => Ok(sum),
+        Err(error) => Err(why(error)),
     }
-    match numbers.pass_byte(b']') {
-        Ok(true) => return Ok(0),
-        Ok(false) => {}
-        Err(error) => return Err(SumError::Stream(error)),
-    }
-    let mut sum = 0;
-    for turn in 0..u64::MAX {
-        match numbers.next_number() {
-            Some(Ok(number)) => sum += i128::from(number),
-            Some(Err(StreamError::Number(error))) => return Err(SumError::Number(error)),
-            Some(Err(error)) => return Err(SumError::Stream(error)),
-            None => match numbers.pass_byte(b']') {
-                Ok(true) => return Ok(sum),
-                Ok(false) => return Err(SumError::NoClosing(numbers.position())),
-                Err(error) => return Err(SumError::Stream(error)),
-            },
+}
+
+/// Why there is no sum. No sum of `i64` stops before the stream is too long.
+fn why(error: EnclosedFoldError<LiteralError>) -> SumError
+    ensures { fold_error result ≡ unstopped error }
+{
+    match error {
+        EnclosedFoldError::NoOpening(at) => SumError::NoOpening(at),
+        EnclosedFoldError::NoClosing(at) => SumError::NoClosing(at),
+        EnclosedFoldError::Fold(FoldError::Stream(StreamError::Number(error))) => {
+            SumError::Number(error)
         }
+        EnclosedFoldError::Fold(error) => SumError::Stream(error.stream_error()),
     }
-    Err(SumError::Stream(StreamError::TooLong))
 }

@@ -150,30 +150,19 @@ pub fn read_ports(text: &[u8], ports: &mut [u16]) -> ListRead<LiteralError> {
     read_list::<u16>(text, 0, STANDARD, COMMAS, ports)
 }
 
-use digits::{FloatError, ListEnd, read_float_list};
+use digits::{FloatError, Floats, FoldError, NumberReader};
 
 /// The sum of the floats that a text lists from `start` on, `1.5, 2, -3]`, however many they are,
 /// and where the list ends.
-pub fn sum_list(text: &[u8], start: usize) -> Result<(f64, usize), FloatError>
+pub fn sum_list(text: &[u8], start: usize) -> Result<(f64, u64), FoldError<FloatError>>
     requires { start ≤ length text.now }
-    ensures end { IfOk result (λ read. read.1 ≤ length text.now) }
 {
-    let mut part = [0.0; 64];
-    let mut sum = 0.0;
-    let mut at = start;
-    for turn in 0..u64::MAX {
-        let read = read_float_list::<f64>(text, at, STANDARD, COMMAS, &mut part);
-        for number in &part[..read.count] {
-            sum += *number;
-        }
-        match read.end {
-            ListEnd::Full(next) => at = next,
-            ListEnd::Over(end) => return Ok((sum, end)),
-            ListEnd::Fault(error) => return Err(error),
-        }
-    }
-    // no text has so many numbers
-    Err(FloatError::Empty(at))
+    let mut buffer = [0; 512];
+    let kind = Floats::<f64>::new(STANDARD);
+    let rest = &text[start..];
+    let mut numbers = NumberReader::new_at(rest, &mut buffer, kind, COMMAS, start as u64);
+    let sum = numbers.fold_numbers(0.0, |sum: f64, number: f64| Some(sum + number))?;
+    Ok((sum, numbers.position()))
 }
 
 use digits::{ByteSet, Gap};
@@ -187,22 +176,43 @@ pub const SEMICOLONS: Gap = Gap {
     ..COMMAS_IN_LINE
 };
 
-use digits::{Floats, LINES, NumberReader, StreamError};
+use digits::{LINES, fold_stream};
 use std::io::Read;
 
 /// The sum of the floats of a stream, one in each line. An empty line is an error.
-pub fn sum_of<R: Read + Drop>(stream: R) -> Result<f64, StreamError<FloatError>> {
+pub fn sum_of<R: Read + Drop>(stream: R) -> Result<f64, FoldError<FloatError>> {
+    let mut buffer = [0; 4096];
+    let kind = Floats::<f64>::new(STANDARD);
+    let add = |sum: f64, number: f64| Some(sum + number);
+    fold_stream(stream, &mut buffer, kind, LINES, 0.0, add)
+}
+
+use digits::StreamError;
+
+/// The first float of a stream that is above a limit, if there is one; one float in each line.
+pub fn first_above<R: Read + Drop>(
+    stream: R,
+    limit: f64,
+) -> Result<Option<f64>, StreamError<FloatError>> {
     let mut buffer = [0; 4096];
     let mut numbers = NumberReader::new(stream, &mut buffer, Floats::<f64>::new(STANDARD), LINES);
-    let mut sum = 0.0;
+    let mut found = None;
     for _ in 0..u64::MAX {
         match numbers.next_number() {
-            Some(number) => sum += number?,
+            Some(number) => {
+                let number = number?;
+                if found.is_some() {
+                    return Ok(found);
+                }
+                if number > limit {
+                    found = Some(number);
+                }
+            }
             None => break,
         }
     }
     numbers.finish()?;
-    Ok(sum)
+    Ok(found)
 }
 
 use digits::{Both, BothError, PieceRead, read_piece};

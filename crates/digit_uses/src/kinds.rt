@@ -4,7 +4,7 @@
 
 use digits::{Integers, Kind, LiteralError, read_integer_from};
 
-/// Integers from 0 to `most`, without a sign, by a format word: of percentages it is 100.
+/// Integers from 0 to `most`, without a sign, by a word: of percentages it is 100.
 #[derive(Clone, Copy, Debug)]
 pub struct UpTo {
     pub word: u128,

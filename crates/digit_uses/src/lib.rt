@@ -15,6 +15,7 @@ pub mod loops;
 pub mod money;
 pub mod points;
 pub mod proving;
+pub mod quotes;
 pub mod readme;
 pub mod settings;
 pub mod sums;

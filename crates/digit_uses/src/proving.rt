@@ -60,7 +60,35 @@ pub fn parse_row(line: &[u8], row: &mut [u32]) -> Result<usize, ListError<Litera
     parse_list(Integers::<u32>::new(STANDARD), line, COMMAS_IN_LINE, row)
 }
 
-ghost use Rattle.std.specs.Prelude.{ℕ, ◌≤◌, IfOk, IfErr};
+ghost use Rattle.std.specs.Prelude.{◌≤◌, IfOk};
+
+use digits::{ListEnd, read_float_list};
+
+/// The sum of the floats that a text lists from `start` on, `1.5, 2, -3]`, however many they are,
+/// and where the list ends.
+pub fn sum_list(text: &[u8], start: usize) -> Result<(f64, usize), FloatError>
+    requires { start ≤ length text.now }
+    ensures end { IfOk result (λ read. read.1 ≤ length text.now) }
+{
+    let mut part = [0.0; 64];
+    let mut sum = 0.0;
+    let mut at = start;
+    for turn in 0..u64::MAX {
+        let read = read_float_list::<f64>(text, at, STANDARD, COMMAS, &mut part);
+        for number in &part[..read.count] {
+            sum += *number;
+        }
+        match read.end {
+            ListEnd::Full(next) => at = next,
+            ListEnd::Over(end) => return Ok((sum, end)),
+            ListEnd::Fault(error) => return Err(error),
+        }
+    }
+    // no text has so many numbers
+    Err(FloatError::Empty(at))
+}
+
+ghost use Rattle.std.specs.Prelude.{ℕ, IfErr};
 ghost use Rattle.digits.specs.Words.{integer_at};
 
 use digits::read_integer_from;

@@ -10,7 +10,7 @@ use digits::{
 
 pub fn first_reads() {
     let debt = parse_number::<i32>(b"-1_000", PYTHON_LITERAL); // Ok(-1000)
-    let large = parse_number::<u16>(b"70000", STANDARD); // Err(Overflow(4)): by the digit at 4
+    let large = parse_number::<u16>(b"70000", STANDARD); // Err(Overflow(4)): 7000 would fit
     let stray = parse_number::<i32>(b"12x", STANDARD); // Err(Invalid(2)): the `x`
     let rate = parse_float::<f64>(b"1.5e3", STANDARD); // Ok(1500.0)
     let cents = parse_scaled::<i64>(b"12.5", STANDARD, b'.', 2); // Ok(1250): hundredths

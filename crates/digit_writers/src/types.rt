@@ -7,10 +7,11 @@ ghost use Rattle.digit_integers.specs.Numbers.{signed};
 
 use digit_integers::Integer;
 
-/// The room that the longest text of any type takes: that of the least `i128`.
+/// The room that the longest text of any type of integers takes: that of the least `i128`.
 pub const MOST_ROOM: usize = 40;
 
-/// A type of integers that are written: `u8` to `u128`, `i8` to `i128`, `usize` and `isize`.
+/// A type of integers that are written: each [`Integer`](digit_integers::Integer) is one. Bound a
+/// type by it if you write its numbers.
 pub trait Written: Integer {
     /// The room that the longest text of the type takes, as 4 of `i8`: `-128`. It is at most
     /// [`MOST_ROOM`].

@@ -20,8 +20,11 @@ pub use Rattle.digit_floats.specs.declared.error.FloatError.TheVariants as Float
 pub use Rattle.digit_amounts.specs.declared.scaled.ScaledError.TheVariants as ScaledErrors
 pub use Rattle.digit_numbers.specs.declared.number.NumberError.TheVariants as NumberErrors
 pub use Rattle.digit_pieces.specs.declared.piece.PieceEnd.TheVariants as PieceEnds
+pub use Rattle.digit_pieces.specs.declared.kinds.enclosed.BracketError.TheVariants as BracketErrors
 pub use Rattle.digit_streams.specs.declared.stream.StreamEnd.TheVariants as StreamEnds
 pub use Rattle.digit_streams.specs.declared.stream.StreamError.TheVariants as StreamErrors
+pub use Rattle.digit_streams.specs.declared.fold.FoldError.TheVariants as FoldErrors
+pub use Rattle.digit_streams.specs.declared.enclosed.EnclosedFoldError.TheVariants as EnclosedFoldErrors
 pub use Rattle.digit_lists.specs.declared.list.ListError.TheVariants as ListErrors
 pub use Rattle.digit_lists.specs.declared.enclosed.EnclosedError.TheVariants as EnclosedErrors
 pub use Rattle.digit_amounts.specs.declared.prices.PriceError.TheVariants as PriceErrors

@@ -70,6 +70,10 @@ unfoldable pub use Rattle.digit_pieces.specs.Cuts.{sure_end}
 pub use Rattle.digit_pieces.specs.Pieces.{FillsPiece, IfAt, and_full, and_more, as_piece, full_past, is_of_blanks, list_later}
 unfoldable pub use Rattle.digit_pieces.specs.Pieces.{piece_at, whole_at}
 pub use Rattle.digit_values.specs.Moves.{literal_later}
+pub use Rattle.digit_floats.specs.Moves.{float_later}
+pub use Rattle.digit_amounts.specs.Moves.{scaled_later}
+pub use Rattle.digit_pieces.specs.declared.kinds.enclosed.BracketError.{BracketError}
+pub use Rattle.digit_pieces.specs.Enclosed.{bracket_later, bracket_none_at, bracket_position, enclosed_at, is_enclosed_byte}
 pub use Rattle.digit_pieces.specs.Texts.{IsApart, list_of, piece_of}
 pub use Rattle.digit_pieces.specs.Apart.{IsShared, are_apart, is_between, is_pointed_byte, is_word_byte}
 unfoldable pub use Rattle.digit_pieces.specs.Texts.{read_pieces}
@@ -80,6 +84,10 @@ pub use Rattle.digit_blocks.specs.Blocks.{AreStarts, EndsApart, HasNoneAtEnd, Ha
 unfoldable pub use Rattle.digit_blocks.specs.Blocks.{blocks_at, joined, last_start}
 pub use Rattle.digit_streams.specs.declared.stream.StreamEnd.{StreamEnd}
 pub use Rattle.digit_streams.specs.declared.stream.StreamError.{StreamError}
+pub use Rattle.digit_streams.specs.declared.fold.FoldError.{FoldError}
+pub use Rattle.digit_streams.specs.declared.enclosed.EnclosedFoldError.{EnclosedFoldError}
+pub use Rattle.digit_streams.specs.Enclosed.{Brackets, FoldsEnclosed, GivesEnclosed, ReadsEnclosed, StepsEnclosed, unstopped}
+pub use Rattle.digit_streams.specs.Folds.{Folded, FoldsText, IfStopped, Makes, ReadsText, Steps, end_of_fold, stream_error}
 pub use Rattle.digit_streams.specs.Streams.{Gives, HasGiven, HasGivenFrom, IfReason, IfTrailing, IsNext, IsNoByte, IsUnknown}
 pub use Rattle.digit_streams.specs.Streams.{Passes, SkipsBlanks, StreamNumbers, end_by, ended_after, reason_held, reason_of, stream_list}
 -- whole lists, enclosed lists, numbers that may be missing, and prices
@@ -91,7 +99,7 @@ pub use Rattle.digit_lists.specs.Optional.{optional, with_meaning}
 pub use Rattle.digit_lists.specs.Empty.{both_is_empty, float_is_empty, language_is_empty, literal_is_empty}
 pub use Rattle.digit_lists.specs.Empty.{number_is_empty, scaled_is_empty}
 pub use Rattle.digit_amounts.specs.Groups.{AreGroups, groups_at, wrong_at}
-pub use Rattle.digit_amounts.specs.Prices.{exact_at, grouped_at, places_at, price_at}
+pub use Rattle.digit_amounts.specs.Prices.{exact_at, grouped_at, places_at, price_at, price_by, price_later}
 pub use Rattle.digit_amounts.specs.Prices.{price_none_at, price_position}
 pub use Rattle.digit_lists.specs.Empty.{price_is_empty}
 -- numbers that are written

@@ -1,5 +1,5 @@
 -- What is read before the sure end of a text stays, whatever follows it.
-use Rattle.std.proofs.Common.{◌≡◌, ℕ, suc, ◌-◌, ◌<◌, ◌≤◌, Bool, true, false, List, ◌++◌, length, length-append, refl, ap, arith}
+use Rattle.std.proofs.Common.{◌≡◌, ℕ, ℤ, suc, ◌-◌, ◌<◌, ◌≤◌, Bool, true, false, List, ◌++◌, length, length-append, refl, ap, arith}
 use Rattle.std.specs.Prelude.{◌&&◌, ◌||◌, nat_lt, ◌^◌, if◌then◌else◌, slice_get, Option, Some, None, Result, Err}
 use Rattle.std.specs.Float.{Format, binary64}
 use Rattle.std.proofs.lemmas.Bool.{and_parts, or_from, or_parts}
@@ -7,6 +7,7 @@ use Rattle.std.proofs.lemmas.Bool.Decides.{nat_tests}
 use Rattle.lexical_digits.specs.State.{rule_of}
 use Rattle.lexical_digits.specs.declared.skip.component.Component.TheVariants.{Integer}
 use Rattle.digit_languages.specs.Follows.{AreSameBefore}
+use Rattle.digit_amounts.specs.Prices.{price_by}
 use Rattle.digit_floats.specs.Bytes.{is_sign}
 use Rattle.digit_floats.specs.Float.{IsDecimal}
 use Rattle.digit_floats.specs.declared.parts.Marks.{Marks}
@@ -15,13 +16,14 @@ use Rattle.digit_pieces.specs.Cuts.{is_float_byte, is_integer_byte, is_of_rule, 
 use Rattle.digit_pieces.specs.Laws.NoBytes.{fails_of, none_of_float, none_of_scaled}
 use Rattle.digit_pieces.specs.Laws.OfForm.{number_follows}
 use Rattle.digit_pieces.specs.Laws.OfKinds.{integer_follows, float_follows, scaled_follows}
+use Rattle.digit_pieces.specs.Laws.OfPrices.{price_follows}
 use Rattle.digit_pieces.proofs.SureEnds.{sure_same, sure_within}
 use Rattle.digits.specs.Words.{Form, STANDARD, is_supported, number_at, number_of_at, plain_marks, read_at, read_scaled_at}
 use Rattle.digits_c.specs.declared.outcome.Outcome.{Outcome}
 use Rattle.digits_c.specs.declared.outcome.TheConstants.{BAD_PLACES}
-use Rattle.digits_c.specs.Calls.{by_word, by_places, float_from, integer_from, is_decimal, or_fault, scaled_from, within}
+use Rattle.digits_c.specs.Calls.{by_word, by_places, float_from, integer_from, is_decimal, or_fault, price_from, scaled_from, within}
 use Rattle.digits_c.specs.Numbers.{in_parts, number_by}
-use Rattle.digits_c.specs.Outcomes.{fault, float_fault, literal_fault, number_fault, scaled_fault}
+use Rattle.digits_c.specs.Outcomes.{fault, float_fault, literal_fault, number_fault, price_fault, scaled_fault}
 use Rattle.digits_c.specs.Pieces.{is_byte_by, sure_by, sure_of}
 
 decimal_is : (word : ℕ) → is_decimal word ≡ true → IsDecimal word
@@ -121,23 +123,46 @@ module _ (text more : List ℕ) (start : ℕ) where
         (float_follows word plain_marks f (text ++ more) text s.at start
         (upto (is_float_byte word plain_marks) (less (and_parts _ _ serves).1)) s.before)))
 
+    -- what is read by a decimal word with so many places
+    amount_after : (least most places : ℕ) (first second : Result (ℤ × ℕ) Outcome)
+        → (is_decimal word ≡ true → first ≡ second)
+        → by_word (is_supported word && is_decimal word) start
+        (by_places least most word (text ++ more) 46 places start
+        (within (text ++ more) start first))
+        ≡ by_word (is_supported word && is_decimal word) start
+        (by_places least most word text 46 places start (within text start second))
+    amount_after least most places first second same =
+        served (is_supported word && is_decimal word)
+        (by_places least most word (text ++ more) 46 places start
+        (within (text ++ more) start first))
+        (by_places least most word text 46 places start (within text start second)) (λ serves.
+        ap (λ r. if nat_lt 38 places then Err (fault BAD_PLACES start) else r)
+        (within_same first second s.here (same (and_parts _ _ serves).1)))
+
     scaled_after : (least most places : ℕ) → (is_decimal word ≡ true
         → (b : ℕ) → p b ≡ false → is_scaled_byte word 46 b ≡ false)
         → scaled_from least most word (text ++ more) 46 places start
         ≡ scaled_from least most word text 46 places start
     scaled_after least most places less =
-        let first = or_fault scaled_fault
-        (read_scaled_at word (text ++ more) 46 places least most start) in
-        let second = or_fault scaled_fault (read_scaled_at word text 46 places least most start) in
-        served (is_supported word && is_decimal word)
-        (by_places least most word (text ++ more) 46 places start
-        (within (text ++ more) start first))
-        (by_places least most word text 46 places start (within text start second)) (λ serves.
-        let decimal : is_decimal word ≡ true = (and_parts _ _ serves).1 in
-        ap (λ r. if nat_lt 38 places then Err (fault BAD_PLACES start) else r)
-        (within_same first second s.here (ap (or_fault scaled_fault)
+        amount_after least most places
+        (or_fault scaled_fault (read_scaled_at word (text ++ more) 46 places least most start))
+        (or_fault scaled_fault (read_scaled_at word text 46 places least most start)) (λ decimal.
+        ap (or_fault scaled_fault)
         (scaled_follows word 46 places least most (decimal_is word decimal) (text ++ more) text
-        s.at start (upto (is_scaled_byte word 46) (less decimal)) s.before))))
+        s.at start (upto (is_scaled_byte word 46) (less decimal)) s.before))
+
+    price_after : (is_grouped : Bool) (least most places : ℕ) → (is_decimal word ≡ true
+        → (b : ℕ) → p b ≡ false → is_scaled_byte word 46 b ≡ false)
+        → price_from is_grouped least most word (text ++ more) 46 places start
+        ≡ price_from is_grouped least most word text 46 places start
+    price_after is_grouped least most places less =
+        amount_after least most places
+        (or_fault price_fault
+        (price_by true is_grouped word (text ++ more) 46 places least most start))
+        (or_fault price_fault (price_by true is_grouped word text 46 places least most start))
+        (λ decimal. ap (or_fault price_fault)
+        (price_follows true is_grouped word 46 places least most (decimal_is word decimal)
+        (text ++ more) text s.at start (upto (is_scaled_byte word 46) (less decimal)) s.before))
 
   -- ---- without a word
 
@@ -209,6 +234,13 @@ module _ (text more : List ℕ) (start : ℕ) where
           scaled_after word (is_byte_by word) (sure_is before) least most places
           (λ decimal b none. (none_of_float word plain_marks b (no_float decimal b none)).scaled)
 
+      pub price_stays_by : (is_grouped : Bool) (least most places : ℕ)
+          → price_from is_grouped least most word (text ++ more) 46 places start
+          ≡ price_from is_grouped least most word text 46 places start
+      price_stays_by is_grouped least most places =
+          price_after word (is_byte_by word) (sure_is before) is_grouped least most places
+          (λ decimal b none. (none_of_float word plain_marks b (no_float decimal b none)).scaled)
+
   -- ---- by a form
 
   pub number_stays : (form : Option Form) → start < sure_of text form
@@ -225,4 +257,4 @@ module _ (text more : List ℕ) (start : ℕ) where
 -- to be named in an attribute
 pub ruleset stays = (integer_stays, float_stays, scaled_stays)
 
-pub ruleset stays_by = (integer_stays_by, float_stays_by, scaled_stays_by)
+pub ruleset stays_by = (integer_stays_by, float_stays_by, scaled_stays_by, price_stays_by)

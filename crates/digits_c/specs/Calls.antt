@@ -1,12 +1,13 @@
 -- What each call reads: a function of the text and the other arguments.
-use Rattle.std.specs.Prelude.{ℕ, ℤ, Bool, ◌+◌, ◌*◌, ◌^◌, ◌==◌, ◌&&◌, nat_lt, if◌then◌else◌, List, length, Result, Ok, Err}
+use Rattle.std.specs.Prelude.{ℕ, ℤ, Bool, ◌+◌, ◌*◌, ◌^◌, ◌==◌, ◌&&◌, true, nat_lt, if◌then◌else◌, List, length, Result, Ok, Err}
 use Rattle.std.specs.Float.{Float, Format}
 use Rattle.lexical_format.specs.Word.{mantissa_radix, exponent_radix}
+use Rattle.digit_amounts.specs.Prices.{price_by}
 use Rattle.digits.specs.Words.{Integer, is_supported, rule_of, number_at, to_end, read_at, parse_at, plain_marks, read_scaled_at, whole_of}
 use Rattle.digits_c.specs.declared.outcome.Outcome.{Outcome}
-use Rattle.digits_c.specs.declared.outcome.TheConstants.{BAD_START, BAD_WORD, BAD_PLACES}
+use Rattle.digits_c.specs.declared.outcome.TheConstants.{BAD_START, BAD_WORD, BAD_PLACES, INVALID}
 use Rattle.digits_c.specs.declared.word.Word.{Word}
-use Rattle.digits_c.specs.Outcomes.{fault, literal_fault, parse_fault, float_fault, scaled_fault}
+use Rattle.digits_c.specs.Outcomes.{fault, literal_fault, parse_fault, float_fault, scaled_fault, price_fault}
 
 -- a word by its halves
 abbrev pub word_of : Word → ℕ
@@ -26,6 +27,11 @@ abbrev pub whole_or_fault : {T E : Type 0} → List ℕ → (E → Outcome) → 
     Result (T × ℕ) Outcome
 whole_or_fault text fault_of (Ok value) = Ok (value, length text)
 whole_or_fault text fault_of (Err error) = Err (fault_of error)
+
+-- what was read of a text, which has to end with it
+abbrev pub all_of : {T : Type 0} → List ℕ → Result (T × ℕ) Outcome → Result (T × ℕ) Outcome
+all_of text (Ok read) = if read.1 == length text then Ok read else Err (fault INVALID read.1)
+all_of text (Err refused) = Err refused
 
 -- what is read if the start is in the text
 abbrev pub within : {T : Type 0} → List ℕ → ℕ → Result T Outcome → Result T Outcome
@@ -74,3 +80,19 @@ module _ (least most word : ℕ) (text : List ℕ) (point places : ℕ) where
       by_word (is_supported word && is_decimal word) 0 (by_places 0
       (whole_or_fault text scaled_fault
       (whole_of text (read_scaled_at word text point places least most 0))))
+
+-- the word by which a price has its groups: decimal, and a separator between two digits of an
+-- integer is dropped
+abbrev pub groups_word : ℕ → ℕ
+groups_word between = 10 * 2 ^ 104 + 2 ^ 32 + between * 2 ^ 64
+
+module _ (is_grouped : Bool) (least most word : ℕ) (text : List ℕ) (point places : ℕ) where
+  -- a price: a decimal number with exactly so many places, and maybe in groups of three digits
+  abbrev pub price_from : ℕ → Result (ℤ × ℕ) Outcome
+  price_from start =
+      by_word (is_supported word && is_decimal word) start
+      (by_places least most word text point places start (within text start
+      (or_fault price_fault (price_by true is_grouped word text point places least most start))))
+
+  abbrev pub whole_price : Result (ℤ × ℕ) Outcome
+  whole_price = all_of text (price_from 0)

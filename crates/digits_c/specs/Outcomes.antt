@@ -1,14 +1,15 @@
 -- What a call answers: where the number ends, or what is at fault.
 use Rattle.std.specs.Prelude.{◌≡◌, ℕ, ℤ, Bool, true, false, pos, Option, None, Some, Result, Ok, Err}
-use Rattle.digits.specs.Words.{LiteralError, ParseError, FloatError, ScaledError, LanguageError, NumberError}
+use Rattle.digits.specs.Words.{LiteralError, ParseError, FloatError, ScaledError, PriceError, LanguageError, NumberError}
 use Rattle.digits.specs.LiteralErrors as literals
 use Rattle.digits.specs.ParseErrors as wholes
 use Rattle.digits.specs.FloatErrors as floats
 use Rattle.digits.specs.ScaledErrors as scaled
+use Rattle.digits.specs.PriceErrors as prices
 use Rattle.digits.specs.LanguageErrors as languages
 use Rattle.digits.specs.NumberErrors as numbers
 use Rattle.digits_c.specs.declared.outcome.Outcome.{Outcome}
-use Rattle.digits_c.specs.declared.outcome.TheConstants.{OK, EMPTY, OVERFLOW, INVALID, EMPTY_EXPONENT, FIRST_ZERO, TOO_FINE}
+use Rattle.digits_c.specs.declared.outcome.TheConstants.{OK, EMPTY, OVERFLOW, INVALID, EMPTY_EXPONENT, FIRST_ZERO, TOO_FINE, GROUP, PLACES}
 
 abbrev pub done : ℕ → Outcome
 done end = record { at = end; status = OK }
@@ -37,6 +38,11 @@ scaled_fault (scaled.Empty at) = fault EMPTY at
 scaled_fault (scaled.TooLarge at) = fault OVERFLOW at
 scaled_fault (scaled.TooFine at) = fault TOO_FINE at
 scaled_fault (scaled.Invalid at) = fault INVALID at
+
+abbrev pub price_fault : PriceError → Outcome
+price_fault (prices.Number none) = scaled_fault none
+price_fault (prices.Group at) = fault GROUP at
+price_fault (prices.Places at) = fault PLACES at
 
 abbrev pub language_fault : LanguageError → Outcome
 language_fault (languages.Empty at) = fault EMPTY at

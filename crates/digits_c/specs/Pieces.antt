@@ -1,21 +1,22 @@
 -- Lists of numbers in a piece of a text, as C has them.
 use Rattle.std.specs.Prelude.{◌≡◌, ℕ, ℤ, ◌-◌, ◌^◌, ◌==◌, Bool, true, false, ◌&&◌, ◌||◌, nat_lt, if◌then◌else◌, List, [], length, take, drop, Option, None, Some, Result}
 use Rattle.std.specs.Float.{Float, Format}
+use Rattle.digit_amounts.specs.Prices.{price_by}
 use Rattle.digit_numbers.specs.Follows.{is_number_byte}
 use Rattle.digit_pieces.specs.Cuts.{is_float_byte, is_integer_byte, is_scaled_byte, sure_end}
 use Rattle.digit_pieces.specs.Pieces.{piece_at}
 use Rattle.digit_pieces.specs.declared.piece.PieceEnd.{PieceEnd}
 use Rattle.digit_pieces.specs.declared.piece.PieceEnd.TheVariants.{More, Full, Over, Fault}
-use Rattle.digits.specs.Words.{Form, literal_none_at, float_none_at, number_none_at, scaled_none_at}
+use Rattle.digits.specs.Words.{Form, literal_none_at, float_none_at, number_none_at, price_none_at, scaled_none_at}
 use Rattle.digits.specs.Words.{Integer, STANDARD, is_supported, number_at, plain_marks, read_at, rule_of}
 use Rattle.digits.specs.Words.{read_scaled_at}
 use Rattle.digits_c.specs.declared.numbers.NumberParts.{NumberParts}
 use Rattle.digits_c.specs.declared.outcome.Outcome.{Outcome}
-use Rattle.digits_c.specs.declared.outcome.TheConstants.{BAD_FORM, BAD_PLACES, BAD_START, FULL, MORE, TOO_LONG}
-use Rattle.digits_c.specs.Calls.{is_decimal}
+use Rattle.digits_c.specs.declared.outcome.TheConstants.{BAD_FORM, BAD_PLACES, BAD_START, BAD_WORD, FULL, MORE, TOO_LONG}
+use Rattle.digits_c.specs.Calls.{groups_word, is_decimal}
 use Rattle.digits_c.specs.Lists.{gap_of}
 use Rattle.digits_c.specs.Numbers.{parts_at}
-use Rattle.digits_c.specs.Outcomes.{done, fault, literal_fault, float_fault, number_fault, scaled_fault}
+use Rattle.digits_c.specs.Outcomes.{done, fault, literal_fault, float_fault, number_fault, price_fault, scaled_fault}
 
 -- why a piece was read no further
 abbrev pub end_of : {E : Type 0} → (E → Outcome) → PieceEnd E → Outcome
@@ -52,6 +53,16 @@ module _ (text : List ℕ) (start between : ℕ) (is_last : Bool) (room : ℕ) w
       if nat_lt 38 places then ([], fault BAD_PLACES start)
       else piece_by scaled_fault scaled_none_at (is_scaled_byte STANDARD 46)
       (read_scaled_at STANDARD text 46 places least most)
+
+  -- prices with exactly so many places, in groups of three digits if there is a separator
+  abbrev pub prices_in : ℕ → ℕ → ℕ → ℕ → ℕ → List ℤ × Outcome
+  prices_in least most separator point places =
+      let word = groups_word separator in
+      if is_supported word && is_decimal word
+      then if nat_lt 38 places then ([], fault BAD_PLACES start)
+      else piece_by price_fault price_none_at (is_scaled_byte word point)
+      (price_by true (nat_lt 0 separator) word text point places least most)
+      else ([], fault BAD_WORD start)
 
   abbrev pub numbers_in : Form → List NumberParts × Outcome
   numbers_in form =

@@ -1,11 +1,11 @@
 //! What calls in a row answer, what stays of an answer if the text goes on, and what statuses and
 //! kinds are by number: functions whose contract is a law. None is exported.
 
-ghost use Rattle.std.specs.Prelude.{◌≡◌, ℕ, ◌^◌, ◌-◌, ◌<◌, List, ◌++◌};
+ghost use Rattle.std.specs.Prelude.{◌≡◌, ℕ, Bool, ◌^◌, ◌-◌, ◌<◌, List, ◌++◌};
 ghost use Rattle.std.specs.Float.{Format};
 ghost use Rattle.digit_pieces.specs.Cuts.{is_float_byte, sure_end};
 ghost use Rattle.digits.specs.Words.{STANDARD, form_of, plain_marks};
-ghost use Rattle.digits_c.specs.Calls.{float_from, integer_from, scaled_from, word_of};
+ghost use Rattle.digits_c.specs.Calls.{float_from, integer_from, price_from, scaled_from, word_of};
 ghost use Rattle.digits_c.specs.Numbers.{integer_by, no_parts, number_by};
 ghost use Rattle.digits_c.specs.Outcomes.{Answers, AnswersIf};
 ghost use Rattle.digits_c.specs.Pieces.{sure_by, sure_of};
@@ -65,6 +65,10 @@ pub fn reads_stay_by(text: &[u8], word: Word) -> usize
     ensures scaled { (least most places : ℕ) (more : List ℕ) (start : ℕ) → start < result →
         scaled_from least most (word_of word) (text.now ++ more) 46 places start
         ≡ scaled_from least most (word_of word) text.now 46 places start }
+    ensures prices { (is_grouped : Bool) (least most places : ℕ) (more : List ℕ) (start : ℕ) →
+        start < result →
+        price_from is_grouped least most (word_of word) (text.now ++ more) 46 places start
+        ≡ price_from is_grouped least most (word_of word) text.now 46 places start }
 {
     digits_sure_end_by(text, word)
 }
@@ -99,6 +103,8 @@ pub fn statuses_say()
     ensures other_byte { statuses.OTHER_BYTE ≡ 14 }
     ensures closed { statuses.CLOSED ≡ 15 }
     ensures too_long { statuses.TOO_LONG ≡ 16 }
+    ensures group { statuses.GROUP ≡ 17 }
+    ensures places { statuses.PLACES ≡ 18 }
 {}
 
 /// The number of each kind.

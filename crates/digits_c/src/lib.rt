@@ -20,6 +20,7 @@ mod numbers;
 mod outcome;
 mod parts;
 mod pieces;
+mod prices;
 mod scaled;
 mod source;
 mod whole_lists;

@@ -1,9 +1,11 @@
 //! What a call answers: where the number ends, or what is at fault.
 
 ghost use Rattle.std.specs.Prelude.{◌≡◌};
-ghost use Rattle.digits_c.specs.Outcomes.{done, fault, literal_fault, parse_fault, float_fault, scaled_fault, language_fault, number_fault};
+ghost use Rattle.digits_c.specs.Outcomes.{done, fault, literal_fault, parse_fault, float_fault, scaled_fault, price_fault, language_fault, number_fault};
 
-use digits::{FloatError, LanguageError, LiteralError, NumberError, ParseError, ScaledError};
+use digits::{
+    FloatError, LanguageError, LiteralError, NumberError, ParseError, PriceError, ScaledError,
+};
 
 /// Where a number ends, or what is at fault.
 #[repr(C)]
@@ -49,6 +51,10 @@ pub const OTHER_BYTE: u32 = 14;
 pub const CLOSED: u32 = 15;
 /// A number is too long for the room of the text.
 pub const TOO_LONG: u32 = 16;
+/// The group of digits at this position isn't of three.
+pub const GROUP: u32 = 17;
+/// The number that ends at this position has fewer or more places.
+pub const PLACES: u32 = 18;
 
 impl Outcome {
     /// Of a number that ends here.
@@ -112,6 +118,18 @@ impl Outcome {
             ScaledError::TooLarge(at) => Outcome::fault(OVERFLOW, at),
             ScaledError::TooFine(at) => Outcome::fault(TOO_FINE, at),
             ScaledError::Invalid(at) => Outcome::fault(INVALID, at),
+        }
+    }
+
+    /// Of a price that wasn't read.
+    #[inline(always)]
+    pub fn of_price(error: PriceError) -> Outcome
+        ensures { result ≡ price_fault error }
+    {
+        match error {
+            PriceError::Number(none) => Outcome::of_scaled(none),
+            PriceError::Group(at) => Outcome::fault(GROUP, at),
+            PriceError::Places(at) => Outcome::fault(PLACES, at),
         }
     }
 

@@ -1,25 +1,27 @@
 //! Lists of numbers in a text that comes in pieces, into places of the caller.
 
-ghost use Rattle.std.specs.Prelude.{◌≡◌, ◌^◌, ◌-◌, length, pos};
+ghost use Rattle.std.specs.Prelude.{◌≡◌, ◌^◌, ◌-◌, length, nat_lt, pos, true};
 ghost use Rattle.std.specs.Float.{binary64};
 ghost use Rattle.digit_pieces.specs.Cuts.{is_float_byte, sure_end};
 ghost use Rattle.digits.specs.Words.{IsForm, STANDARD, form_of, plain_marks};
-ghost use Rattle.digits_c.specs.Calls.{word_of};
+ghost use Rattle.digits_c.specs.Calls.{groups_word, word_of};
 ghost use Rattle.digits_c.specs.Lists.{Fills};
 ghost use Rattle.digits_c.specs.Pieces.{end_of, integers_in, floats_in, numbers_in, numbers_in_by};
-ghost use Rattle.digits_c.specs.Pieces.{scaled_in, sure_by, sure_of};
-ghost use Rattle.digits_c.specs.Outcomes.{literal_fault, float_fault, number_fault, scaled_fault};
+ghost use Rattle.digits_c.specs.Pieces.{prices_in, scaled_in, sure_by, sure_of};
+ghost use Rattle.digits_c.specs.Outcomes.{literal_fault, float_fault, number_fault};
+ghost use Rattle.digits_c.specs.Outcomes.{price_fault, scaled_fault};
 
 use super::lists::gap_of;
 use super::numbers::NumberParts;
-use super::outcome::{BAD_FORM, BAD_PLACES, BAD_START, FULL, MORE, Outcome};
+use super::outcome::{BAD_FORM, BAD_PLACES, BAD_START, BAD_WORD, FULL, MORE, Outcome};
 use super::parts::Parts;
+use super::prices::groups_word;
 use super::source::{FormSource, Json};
 use super::word::{Word, is_decimal};
-use digit_pieces::{Floats, Integers, OfForm, PieceEnd, Scaled, read_piece, sure_end};
+use digit_pieces::{Floats, Integers, OfForm, PieceEnd, Prices, Scaled, read_piece, sure_end};
 use digits::{
-    Float, FloatError, Integer, LiteralError, NumberError, STANDARD, ScaledError, form_of,
-    is_supported,
+    Float, FloatError, Integer, LiteralError, NumberError, PriceError, STANDARD, ScaledError,
+    form_of, is_supported,
 };
 
 impl Outcome {
@@ -59,6 +61,19 @@ impl Outcome {
             PieceEnd::Full(at) => Outcome::fault(FULL, at),
             PieceEnd::Over(at) => Outcome::done(at),
             PieceEnd::Fault(error) => Outcome::of_scaled(error),
+        }
+    }
+
+    /// Of a piece of a list of prices.
+    #[inline(always)]
+    fn of_price_piece(end: PieceEnd<PriceError>) -> Outcome
+        ensures { result ≡ end_of price_fault end }
+    {
+        match end {
+            PieceEnd::More(at) => Outcome::fault(MORE, at),
+            PieceEnd::Full(at) => Outcome::fault(FULL, at),
+            PieceEnd::Over(at) => Outcome::done(at),
+            PieceEnd::Fault(error) => Outcome::of_price(error),
         }
     }
 
@@ -202,6 +217,57 @@ pub extern "C" fn digits_read_scaled_i64_piece(
     let piece = read_piece(kind, text, start, gap_of(between), is_last, numbers);
     *count = piece.count;
     Outcome::of_scaled_piece(piece.end)
+}
+
+/// Prices by a separator, or by 0 without groups.
+#[inline(always)]
+fn prices_of<T: Integer>(separator: u8, point: u8, places: usize) -> Prices<T>
+    ensures word { result.word ≡ groups_word separator }
+    ensures point { result.point ≡ point }
+    ensures places { result.places ≡ places }
+    ensures is_exact { result.is_exact ≡ true }
+    ensures is_grouped { result.is_grouped ≡ nat_lt 0 separator }
+{
+    if separator > 0 {
+        Prices::<T>::new(groups_word(separator), point, places)
+    } else {
+        Prices::<T>::exact(groups_word(separator), point, places)
+    }
+}
+
+/// The prices of a list in a piece of a text, each times ten to the power `places`, as many as the
+/// slice has room for. They have a separator between groups of three digits, or with 0 no groups.
+#[unsafe(no_mangle)]
+pub extern "C" fn digits_read_price_i64_piece(
+    text: &[u8],
+    start: usize,
+    places: usize,
+    separator: u8,
+    point: u8,
+    between: u8,
+    is_last: bool,
+    numbers: &mut [i64],
+    count: &mut usize,
+) -> Outcome
+    ensures { let room = length numbers.old in
+        let list = prices_in text.now start between is_last room (2 ^ 63) (2 ^ 63 - 1) separator
+        point places in
+        Fills (λ n. n) list count.new numbers.old numbers.new result }
+{
+    *count = 0;
+    let kind = prices_of::<i64>(separator, point, places);
+    if !is_supported(kind.word) || !is_decimal(kind.word) {
+        return Outcome::fault(BAD_WORD, start);
+    }
+    if places > 38 {
+        return Outcome::fault(BAD_PLACES, start);
+    }
+    if start > text.len() {
+        return Outcome::fault(BAD_START, start);
+    }
+    let piece = read_piece(kind, text, start, gap_of(between), is_last, numbers);
+    *count = piece.count;
+    Outcome::of_price_piece(piece.end)
 }
 
 /// The numbers of a list by a form in a piece of a text, as many as there are places.

@@ -2,7 +2,7 @@
 
 ghost use Rattle.std.specs.Prelude.{◌≡◌, ◌≤◌, ◌^◌, ◌-◌, length, pos};
 ghost use Rattle.std.specs.Float.{binary64};
-ghost use Rattle.digit_lists.specs.Lists.{after_full, full_end};
+ghost use Rattle.digit_lists.specs.Lists.{full_end};
 ghost use Rattle.digits.specs.Words.{IfFull, IsForm, form_of};
 ghost use Rattle.digits_c.specs.Lists.{Fills, to_end};
 ghost use Rattle.digits_c.specs.Lists.{whole_integers, whole_floats, whole_numbers, whole_numbers_by};
@@ -12,6 +12,7 @@ use super::numbers::NumberParts;
 use super::outcome::{BAD_FORM, INVALID, OK, Outcome};
 use super::parts::Parts;
 use super::source::{FormSource, Json};
+use digit_lists::after_full;
 use digits::{
     Float, Floats, Gap, Integer, Integers, Kind, ListEnd, STANDARD, form_of, read_float_list,
     read_list, read_list_by,
@@ -28,19 +29,6 @@ impl Outcome {
         } else {
             self
         }
-    }
-}
-
-/// Why a list ends that has filled its places, where the next number may be.
-#[inline(never)]
-fn after_full<K: Kind>(kind: K, text: &[u8], gap: Gap, place: usize) -> ListEnd<K::Error>
-    requires valid { K.valid kind }
-    requires within { place ≤ length text.now }
-    ensures { result ≡ after_full K.none_at gap place (K.number_at kind text.now place) }
-{
-    match kind.read_number(text, place) {
-        Ok(_) => ListEnd::Full(place),
-        Err(error) => gap.no_number(place, K::is_none_at(error, place), error),
     }
 }
 

@@ -51,7 +51,8 @@ fn parts_of(bits: u64, hidden: u64, first: u64) -> Parts
     }
 }
 
-/// `f64` and `f32`.
+/// A type of floats that are written, `f64` and `f32`: the half of [`AnyFloat`](crate::AnyFloat)
+/// for floats that are finite.
 pub trait WrittenFloat: Float {
     /// Whether a float is above zero, and not the infinity.
     fn is_above_zero(self) -> bool

@@ -56,7 +56,8 @@ impl fmt::Display for FloatTextError {
 
 impl Error for FloatTextError {}
 
-/// `f64` and `f32`: what kind of float one is.
+/// A type of floats that any call writes: `f64` and `f32`. Bound a type by it if you write its
+/// floats.
 pub trait AnyFloat: WrittenFloat {
     /// Whether it is not a number.
     fn is_not_a_number(self) -> bool

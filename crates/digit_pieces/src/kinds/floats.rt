@@ -1,4 +1,4 @@
-//! Floats of a type, by a format word.
+//! Floats of a type, by a word.
 
 ghost use Rattle.std.specs.Prelude.{◌≡◌};
 
@@ -9,11 +9,11 @@ use digit_literals::ReadsOne;
 use lexical_digits::skip::Component;
 use std::marker::PhantomData;
 
-/// The floats of a type by a format word, as [`read_float_from`](digit_floats::read_float_from)
+/// The floats of a type by a word, as [`read_float_from`](digit_floats::read_float_from)
 /// reads them: with the point `.` and the mark `e` or `E`.
 #[derive(Clone, Copy)]
 pub struct Floats<F: Float> {
-    /// The format word.
+    /// The word.
     pub word: u128,
     of: PhantomData<F>,
 }

@@ -1,4 +1,4 @@
-//! Integers of a type, by a format word.
+//! Integers of a type, by a word.
 
 use super::bytes::{is_of_component, is_sign};
 use crate::kind::Kind;
@@ -83,8 +83,8 @@ impl<T: Integer> Kind for Integers<T> {
         start: usize,
         gap: Gap,
         out: &mut [T],
-    ) -> ListRead<LiteralError> {
-        read_list::<T>(text, start, self.word, gap, out)
+    ) -> Option<ListRead<LiteralError>> {
+        Some(read_list::<T>(text, start, self.word, gap, out))
     }
 
     ghost follows = { λ k one other at start valid upto from.

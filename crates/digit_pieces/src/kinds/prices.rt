@@ -10,11 +10,11 @@ use digit_amounts::{
 use digit_integers::Integer;
 use std::marker::PhantomData;
 
-/// The decimal numbers by a format word, in units of their last place, as integers of a type, with
+/// The decimal numbers by a word, in units of their last place, as integers of a type, with
 /// an exact number of places, with groups of three digits, or with both.
 #[derive(Clone, Copy)]
 pub struct Prices<T: Integer> {
-    /// The format word.
+    /// The word.
     pub word: u128,
     /// The byte between integer and fraction.
     pub point: u8,

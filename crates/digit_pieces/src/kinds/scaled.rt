@@ -1,4 +1,4 @@
-//! Decimal numbers in units of their last place, by a format word.
+//! Decimal numbers in units of their last place, by a word.
 
 ghost use Rattle.std.specs.Prelude.{◌≡◌};
 
@@ -8,12 +8,12 @@ use digit_amounts::{ScaledError, read_scaled_from};
 use digit_integers::Integer;
 use std::marker::PhantomData;
 
-/// The decimal numbers by a format word, times ten to the power `places`, as exact integers of a
+/// The decimal numbers by a word, times ten to the power `places`, as exact integers of a
 /// type: with 2 places `12.5` is 1250. [`read_scaled_from`](digit_amounts::read_scaled_from) reads
 /// them.
 #[derive(Clone, Copy)]
 pub struct Scaled<T: Integer> {
-    /// The format word.
+    /// The word.
     pub word: u128,
     /// The byte between integer and fraction.
     pub point: u8,

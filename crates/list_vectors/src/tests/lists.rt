@@ -13,8 +13,8 @@ use digit_lists::{
 use digit_literals::{COMMAS, COMMAS_IN_LINE, Gap, LINES, ListEnd, LiteralError, WHITESPACE};
 use digit_numbers::{Number, NumberError, forms};
 use digit_pieces::{
-    Both, BothError, Floats, Integers, Kind, OfForm, OfLanguage, PieceEnd, Prices, Scaled,
-    read_piece,
+    Both, BothError, BracketError, Enclosed, Floats, Integers, Kind, OfForm, OfLanguage, PieceEnd,
+    Prices, Scaled, read_piece,
 };
 use digit_streams::{NumberReader, StreamError};
 use lexical_format::words::PYTHON_LITERAL;
@@ -206,6 +206,35 @@ fn a_vector_with_blanks_between(rt: HostRuntime) {
     assert!(rt; read == Ok((0, 2)));
     let read = read_enclosed(kind, b"(", 9, b'(', WHITESPACE, b')', &mut out);
     assert!(rt; read == Err(EnclosedError::NoOpening(9)));
+}
+
+/// Prices in quotes: a whole text, a field that may be empty, and an array.
+#[test]
+#[tactic(auto, unfolding(lexical_format::proofs::OnLiterals::lexical_on_literals))]
+fn prices_in_quotes(rt: HostRuntime) {
+    let quoted = Enclosed {
+        opening: b'"',
+        kind: Scaled::<i64>::new(STANDARD, b'.', 2),
+        closing: b'"',
+    };
+    let mut cents = [0; 2];
+    let read = read_enclosed(
+        quoted,
+        b"[\"1.50\", \"2\"]",
+        0,
+        b'[',
+        COMMAS,
+        b']',
+        &mut cents,
+    );
+    assert!(rt; read == Ok((2, 13)) && cents == [150, 200], "{read:?}");
+    let read = parse_list(quoted, b"\"1.50\",\"2.x\"", COMMAS, &mut cents);
+    let error = ListError::Number(BracketError::NoClosing(10));
+    assert!(rt; read == Err(error) && error.position() == 10, "{read:?}");
+    let error = BracketError::Number(ScaledError::TooFine(5));
+    assert!(rt; read_optional(quoted, b"\"1.505\"", 0) == Err(error));
+    assert!(rt; error.fault_at() == 5 && !error.is_empty());
+    assert!(rt; read_optional(quoted, b",", 0) == Ok(None));
 }
 
 #[test]

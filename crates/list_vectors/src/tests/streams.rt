@@ -11,9 +11,11 @@
 //! - a caller: `uses`; the sum of a stream, which `digit_uses` proves: `sums`
 //! - streams by a seed, beside the list of the whole text: `seeds`
 //! - lists in brackets, an offset, and the sum of an array: `arrays`
+//! - what steps make of the numbers, of a whole stream, in brackets, and call after call: `folds`
 
 mod arrays;
 mod ends;
+mod folds;
 mod readers;
 mod reasons;
 mod rows;

@@ -42,7 +42,7 @@ returns-in-Over-clause-so g c = λ is_last.
           m.ends kind text start end x c.requires.valid within is;
       none_later = m.none_later;
     }) c.args.text.now c.args.start c.in-Some.cut c.in-Some.ensures c.requires.separators is_last
-    c.read_list-read.result c.args.out.now c.read_list-read.new.out c.read_list-read.ensures.is
+    c.in-Some-read_list.read c.args.out.now c.read_list.new.out c.in-Some-read_list.ensures.is
     (rw e at c.in-Over.is))
 
 pub returns-clause-fills : goal.returns-clause-fills
@@ -61,8 +61,8 @@ returns-clause-fills g c = λ is_last.
           m.ends kind text start end x c.requires.valid within is;
       none_later = m.none_later;
     }) c.args.text.now c.args.start c.in-Some.cut c.in-Some.ensures c.requires.separators is_last
-    c.read_list-read.result c.args.out.now c.read_list-read.new.out
-    c.read_list-read.ensures.is in
+    c.in-Some-read_list.read c.args.out.now c.read_list.new.out
+    c.in-Some-read_list.ensures.is in
     rw c.requires.sure
     (elim c.match-read.branch [
       | in-Over-2 w ↦
