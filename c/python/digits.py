@@ -81,8 +81,8 @@ EXPONENT_SIGNED = 0  # As C's %e: with a sign and two digits at least, 1.5e+00
 EXPONENT_SHORT = 1  # Short: 1.5e0
 
 # Forms: docs/reference/digit_numbers.md.
-FORM_LITERAL = 0  # The shortest form of source code: decimal digits without a sign, with a point or an exponent if they are a float
-FORM_FLOAT = 1  # The shortest form of data: the same with a sign, and every number is a float
+FORM_LITERAL = 0  # The simplest form of source code: decimal digits without a sign, with a point or an exponent if they are a float
+FORM_FLOAT = 1  # The simplest form of data: the same with a sign, and every number is a float
 FORM_RUST = 2  # Rust's source code
 FORM_C89 = 3  # C's source code before C99, and C++'s before C++14
 FORM_C99 = 4  # C's source code from C99 up to C18, and Objective-C's

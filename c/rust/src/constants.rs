@@ -99,9 +99,9 @@ pub mod exponents {
 pub mod forms {
     use crate::Form;
 
-    /// The shortest form of source code: decimal digits without a sign, with a point or an exponent if they are a float.
+    /// The simplest form of source code: decimal digits without a sign, with a point or an exponent if they are a float.
     pub const LITERAL: Form = Form(0);
-    /// The shortest form of data: the same with a sign, and every number is a float.
+    /// The simplest form of data: the same with a sign, and every number is a float.
     pub const FLOAT: Form = Form(1);
     /// Rust's source code.
     pub const RUST: Form = Form(2);
