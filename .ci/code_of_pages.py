@@ -137,7 +137,7 @@ def first_run(faults):
     """What README shows of digit_hello is what `rt ci` finds that it prints."""
     path = "crates/digit_hello/stdout"
     page = read("README.md")
-    shown = re.search(r"digit_hello && rt try\)\n(.*?)^interpreter:", page, re.S | re.M)
+    shown = re.search(r"digit_hello && rt try\)\n```\n.*?^```text\n(.*?)^```", page, re.S | re.M)
     if not shown or shown[1] != read(path):
         faults.append(f"README.md:1: the run of digit_hello doesn't print what {path} has")
 

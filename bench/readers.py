@@ -1,19 +1,5 @@
 """What README.md and the head of docs/SPEED.md say of the times beside other readers."""
-from cases import table
 from peers import LIBRARY, READ, Figures, more_by, slower_run
-from written import lost, span as span_of_writing
-
-# The rows that README.md shows, by what it calls them.
-SHOWN = {
-    "16 digits of a `u64`": "u64, 16 digits",
-    "integers of 8 to 20 digits in groups, as `12_345_678`": "grouped u64, 8 to 20 digits",
-    "coordinates, as `-12.3456`": "f64, coordinates",
-    "numbers of JSON": "JSON, mixed",
-}
-# What README.md calls the readers.
-READERS = {"from_chars": "C++'s `from_chars`", "std": "Rust's std",
-           "simdjson, the array": "simdjson over an array", "lexical-core, format": "lexical-core"}
-
 
 def rows():
     return Figures("times.txt").rows
@@ -62,38 +48,17 @@ long as the next one{f", in the other rows {others}" if slower else ""}.
 can't put it into its caller's loop."""
 
 
-def beside():
-    """The rows that README.md shows, and those in which another reader is faster."""
-    slower = [row for row, ratio in ratios().items() if ratio > 1]
-    named = {row: words for words, row in SHOWN.items()}
-    for row in [*SHOWN.values(), *slower]:
-        mine, (other, side) = slower_run(row, rows()[row])
-        yield [named.get(row, row), f"{mine:.1f}", f"{other:.1f}, {READERS.get(side, side)}",
-               f"{mine / other:.2f}"]
-
-
 def readme():
-    """What README.md has between its comments."""
-    machine = Figures("times.txt").head.split("; ")[1]
-    lines = table("Nanoseconds to parse one number that is the whole text, from Rattle and by a constant "
-                  "word, beside the fastest other library that does the same work. This library is the "
-                  f"fastest in {fastest()} cases of the picture. The first four rows are such cases, the last ones are "
-                  "those that it loses. A ratio below 1 means that this library is faster. The picture "
-                  "leaves out what is listed below as slower, and numbers that are read with their end.",
-                  ["What is read", "Here", "The fastest other", "Ratio"], beside())
-    return "\n".join(lines) + f"""
-From plain Rust, C and C++ a call takes {more_by('constant word')} instructions more, since the \
-compiler can't put it into its caller's loop. One that is given a word, as `parse_by` above, takes \
-{more_by('word as argument')} more ([which](docs/SPEED.md#from-c)). From Python comes what Python takes \
-for a call. Timed on a machine that calls itself {machine}: go by the ratios. [SPEED.md](docs/SPEED.md#beside-other-readers) has \
-every row, how it was measured, and what a word costs that only run time knows.
+    """What README.md has between its comments: what is gained, and when time is lost."""
+    found = ratios().values()
+    return f"""\
+**You gain** where the number is the whole text: it takes {min(found):.2f} to {max(found):.2f} times as long as \
+by the fastest other reader that does the same work, and in {fastest()} rows of [SPEED.md](docs/SPEED.md) less; \
+the least with groups, as `12_345_678`, and with long integers.
 
-If you also need the end of a number, as a lexer does, expect a draw: {span('u64', READ)} times the time \
-of the fastest other reader for a `u64`, {span('f64', READ)} times for an `f64`. Writing the shortest \
-text of a float takes {span_of_writing("f")} times the instructions of the best other writer; with a \
-given number of places it takes more, as below.
+**You draw** where you also need the end of the number, as a lexer does: {span('u64', READ)} times for a `u64`, \
+and {span('f64', READ)} times for an `f64`. From Rust and C each call takes {more_by('constant word')} instructions \
+more than from Rattle.
 
-**Slower than others,** besides the last two rows:
-
-- floats in groups, and iterators over the digits of one number ([how much](docs/SPEED.md#where-you-lose))
-{lost()}"""
+**You lose** with floats in groups, with iterators over digits ([how much](docs/SPEED.md#where-you-lose)), and when \
+you write integers of up to four digits, `%.2f` or `%.6e` ([every row](docs/SPEED.md#writing))."""

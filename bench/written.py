@@ -91,34 +91,6 @@ def from_c(rows):
     return f" From C a call takes {min(more):.0f} to {max(more):.0f} more." if more else ""
 
 
-def span(start, peer=None):
-    """The least and the greatest ratio to a peer, by default to the best that does the same work, in
-    the rows whose names begin so."""
-    ratios = [sides[LIBRARY][0] / (sides[peer][0] if peer else best_of(row, sides, False)[0])
-              for row, sides in Figures("written-counts.txt").rows.items() if row.startswith(start)]
-    least, most = f"{min(ratios):.1f}", f"{max(ratios):.1f}"
-    return most if least == most else f"{least} to {most}"
-
-
-def slower(*starts):
-    """How many times the time of the fastest writer that does the same work the rows take whose names
-    begin so."""
-    found = [float(time(row, sides).split()[0]) for row, sides in Figures("written-times.txt").rows.items()
-             if row.startswith(starts)]
-    least, most = f"{min(found):.1f}", f"{max(found):.1f}"
-    return most if least == most else f"{least} to {most}"
-
-
-def lost():
-    """What README.md says is dearer to write than by others."""
-    return f"""\
-- `write_scientific`, as `%.6e`: {span("%.6e")} times the instructions of C++'s `to_chars`, the most \
-for very large and very small numbers ([every row](docs/SPEED.md#writing))
-- `write_fixed`, as `%.2f`, of numbers up to 1e22: {span("%.2f").split()[-1]} times the instructions of `to_chars`
-- `write_number` of up to four digits: {span("u64, 1 to 4")} times the instructions of lexical-core, and \
-{slower("u64, 3 digits", "u64, 1 to 4")} times its time"""
-
-
 def writers():
     """What docs/SPEED.md has between its comments on writing."""
     counts, times = Figures("written-counts.txt"), Figures("written-times.txt")

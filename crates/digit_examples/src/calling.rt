@@ -1,7 +1,8 @@
 //! What CALLING.md says that its own functions and a stream answer.
 
-use digit_uses::calling::{Entry, SEMICOLONS, first_above, parse_entry, sum_list, sum_of};
+use digit_uses::calling::{Entry, SEMICOLONS, first_above, parse_entry, sum_of};
 use digit_uses::proving;
+use digit_uses::sums::sum_list;
 use digits::{
     COMMAS, FloatError, FoldError, Integers, LINES, LiteralError, NumberReader, STANDARD,
     StreamError, parse_list, parse_number,

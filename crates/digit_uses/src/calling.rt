@@ -1,6 +1,7 @@
 //! The blocks of the page CALLING.md, in its order. `.ci/pages` compares the two.
 #![tactic(auto, unfolding(digits::proofs::Literals::lexical_on_literals))]
 
+use digits::words::PYTHON_LITERAL;
 use digits::{ParseError, parse_number};
 
 /// The height that a text is: `-1_000` gives -1000, and `1_000m` gives `Invalid(5)`.
@@ -8,7 +9,6 @@ pub fn parse_height(text: &[u8]) -> Result<i32, ParseError> {
     parse_number::<i32>(text, PYTHON_LITERAL)
 }
 
-use digits::words::PYTHON_LITERAL;
 use digits::{LiteralError, expect_byte, read_number, read_number_from};
 
 /// Why a text begins with no size.
@@ -30,15 +30,6 @@ pub fn read_size(text: &[u8]) -> Result<(u32, u32, usize), SizeError> {
     Ok((width, height, end))
 }
 
-use digits::languages::RUST;
-use digits::{LanguageError, read_literal_as};
-
-/// The literal of Rust that a text begins with, and where its digits end: `0xff_u8` gives 255, and
-/// 5, where the suffix begins.
-pub fn read_mask(text: &[u8]) -> Result<(u16, usize), LanguageError> {
-    read_literal_as::<u16>(text, 0, RUST)
-}
-
 use digits::{BLANKS, STANDARD, past_bytes};
 
 /// The number that a text is, with any blanks around it: ` 12\r\n` gives 12.
@@ -52,6 +43,38 @@ pub fn parse_trimmed(text: &[u8]) -> Result<i32, ParseError> {
     Ok(number)
 }
 
+use digits::languages::RUST;
+use digits::{LanguageError, read_literal_as};
+
+/// The literal of Rust that a text begins with, and where its digits end: `0xff_u8` gives 255, and
+/// 5, where the suffix begins.
+pub fn read_mask(text: &[u8]) -> Result<(u16, usize), LanguageError> {
+    read_literal_as::<u16>(text, 0, RUST)
+}
+
+ghost use Rattle.std.specs.Prelude.{◌≤◌, length, IfOk};
+
+use digits::read_integer_from;
+
+/// Why there is no percentage.
+#[derive(Clone, Copy, Debug, PartialEq, Eq)]
+pub enum PercentError {
+    NoDigit(usize),
+    Above100(usize),
+}
+
+/// The percentage that begins at `start`, and where it ends: `1_00%` gives `(100, 4)`.
+pub fn read_percent(line: &[u8], start: usize) -> Result<(u8, usize), PercentError>
+    requires { start ≤ length line.now }
+    ensures { IfOk result (λ percent. percent.1 ≤ length line.now) }
+{
+    match read_integer_from(line, PYTHON_LITERAL, start, 100) {
+        Ok((percent, end)) => Ok((percent as u8, end)),
+        Err(LiteralError::Empty(at)) => Err(PercentError::NoDigit(at)),
+        Err(LiteralError::Overflow(at)) => Err(PercentError::Above100(at)),
+    }
+}
+
 use digits::{NumberError, forms, parse_number_of};
 
 /// The number of JSON that a text is, as a float: `-1.5e3` is -1500.0, and `01` is `Invalid(1)`.
@@ -59,7 +82,7 @@ pub fn parse_amount(text: &[u8]) -> Result<f64, NumberError> {
     Ok(parse_number_of::<f64>(text, forms::JSON)?.to_float())
 }
 
-ghost use Rattle.std.specs.Prelude.{◌<◌, ◌≤◌, length, IfOk};
+ghost use Rattle.std.specs.Prelude.{◌<◌};
 
 use digits::{Number, byte_at, read_number_of};
 
@@ -128,41 +151,12 @@ pub fn parse_row(line: &[u8], row: &mut [u32]) -> Result<usize, ListError<Litera
     parse_list(Integers::<u32>::new(STANDARD), line, COMMAS_IN_LINE, row)
 }
 
-use digits::ScaledError;
-
-/// The cents of a field of a line, exactly: `12.5` is 1250, and `12.345` is a fault at its `5`.
-pub fn cents_of_field(line: &[u8], from: usize, to: usize) -> Result<i64, ScaledError>
-    requires order { from ≤ to }
-    requires within { to ≤ length line.now }
-{
-    let (cents, end) = read_scaled_from::<i64>(&line[..to], STANDARD, from, b'.', 2)?;
-    if end < to {
-        return Err(ScaledError::Invalid(end));
-    }
-    Ok(cents)
-}
-
 use digits::{COMMAS, ListRead, read_list};
 
 /// The ports that a text lists, `80, 443;`, in the front of a slice: how many they are, and why
 /// there are no more.
 pub fn read_ports(text: &[u8], ports: &mut [u16]) -> ListRead<LiteralError> {
     read_list::<u16>(text, 0, STANDARD, COMMAS, ports)
-}
-
-use digits::{FloatError, Floats, FoldError, NumberReader};
-
-/// The sum of the floats that a text lists from `start` on, `1.5, 2, -3]`, however many they are,
-/// and where the list ends.
-pub fn sum_list(text: &[u8], start: usize) -> Result<(f64, u64), FoldError<FloatError>>
-    requires { start ≤ length text.now }
-{
-    let mut buffer = [0; 512];
-    let kind = Floats::<f64>::new(STANDARD);
-    let rest = &text[start..];
-    let mut numbers = NumberReader::new_at(rest, &mut buffer, kind, COMMAS, start as u64);
-    let sum = numbers.fold_numbers(0.0, |sum: f64, number: f64| Some(sum + number))?;
-    Ok((sum, numbers.position()))
 }
 
 use digits::{ByteSet, Gap};
@@ -176,7 +170,7 @@ pub const SEMICOLONS: Gap = Gap {
     ..COMMAS_IN_LINE
 };
 
-use digits::{LINES, fold_stream};
+use digits::{FloatError, Floats, FoldError, LINES, fold_stream};
 use std::io::Read;
 
 /// The sum of the floats of a stream, one in each line. An empty line is an error.
@@ -187,7 +181,7 @@ pub fn sum_of<R: Read + Drop>(stream: R) -> Result<f64, FoldError<FloatError>> {
     fold_stream(stream, &mut buffer, kind, LINES, 0.0, add)
 }
 
-use digits::StreamError;
+use digits::{NumberReader, StreamError};
 
 /// The first float of a stream that is above a limit, if there is one; one float in each line.
 pub fn first_above<R: Read + Drop>(
@@ -213,52 +207,6 @@ pub fn first_above<R: Read + Drop>(
     }
     numbers.finish()?;
     Ok(found)
-}
-
-use digits::{Both, BothError, PieceRead, read_piece};
-
-/// The points of a block, as `3:4, 5:6`, in the front of a slice: how many they are, and why there
-/// are no more. `is_last` says that no block follows.
-pub fn read_pairs(
-    block: &[u8],
-    is_last: bool,
-    points: &mut [(u16, u16)],
-) -> PieceRead<BothError<LiteralError, LiteralError>> {
-    let side = Integers::<u16>::new(STANDARD);
-    let point = Both {
-        first: side,
-        between: b':',
-        second: side,
-    };
-    read_piece(point, block, 0, COMMAS, is_last, points)
-}
-
-ghost use Rattle.std.specs.Prelude.{IfSome};
-
-use digits::{block_start, end_in_text};
-
-/// The heights of a block of a text, one in each line, in the front of a slice: how many they are,
-/// and why there are no more, by positions of the text. The block is cut at two positions, which
-/// may be anywhere.
-pub fn read_block(
-    text: &[u8],
-    from: usize,
-    to: usize,
-    heights: &mut [i32],
-) -> Option<PieceRead<LiteralError>>
-    requires order { from ≤ to }
-    requires within { to ≤ length text.now }
-    ensures { IfSome result (λ read. read.count ≤ length heights.old) }
-{
-    let start = block_start(text, from, LINES);
-    let end = block_start(text, to.max(start), LINES);
-    let kind = Integers::<i32>::new(STANDARD);
-    let is_last = end == text.len();
-    let read = read_piece(kind, &text[start..end], 0, LINES, is_last, heights);
-    Some(PieceRead {
-        count: read.count,
-        end: end_in_text::<Integers<i32>>(read.end, start)?,
-    })
 }
 
 use digits::{FloatLayout, MOST_ROOM, write_float, write_number, write_price};
@@ -291,16 +239,23 @@ pub fn write_grouped(number: i64, out: &mut [u8]) -> Result<usize, NoRoom> {
     write_number_by(number, layout, out)
 }
 
-ghost use Rattle.std.specs.Prelude.{IsTrue};
+use digits::INTEGER_INTERNAL_DIGIT_SEPARATOR;
+
+/// Radix 10, and `,` between two digits: `1,234`.
+pub const COMMA_DIGITS: u128 = (10 << 104) | (0x2c << 64) | INTEGER_INTERNAL_DIGIT_SEPARATOR;
+
+/// Radix 16, and `'` between two digits: `ff'ff`.
+pub const APOSTROPHES: u128 = (16 << 104) | (0x27 << 64) | INTEGER_INTERNAL_DIGIT_SEPARATOR;
+
+/// The count that a text is: `1,234` gives 1234.
+pub fn parse_count(text: &[u8]) -> Result<u64, ParseError> {
+    parse_number::<u64>(text, COMMA_DIGITS)
+}
+
+ghost use Rattle.std.specs.Prelude.{IfSome, IsTrue};
 ghost use Rattle.digits.specs.Words.{is_supported};
 
-use digits::{
-    DECIMAL, DigitSeparatorFlags, INTEGER_INTERNAL_DIGIT_SEPARATOR, NO_FLAGS, NumberFormatBuilder,
-    is_supported,
-};
-
-/// Radix 16, and `'` between digits.
-pub const APOSTROPHES: u128 = (16 << 104) | (0x27 << 64) | INTEGER_INTERNAL_DIGIT_SEPARATOR;
+use digits::{DECIMAL, DigitSeparatorFlags, NO_FLAGS, NumberFormatBuilder, is_supported};
 
 /// The word with `_` between the digits of a radix, if there is one.
 pub fn underscores(radix: u8) -> Option<u128>
@@ -331,32 +286,7 @@ pub const COMMA_FLOATS: Form = Form {
     ..forms::FLOAT
 };
 
-/// The float that begins at `start`, and where it ends: `1,5e3;` gives 1500.0 and 5.
-pub fn read_comma_float(text: &[u8], start: usize) -> Result<(f64, usize), NumberError>
-    requires { start ≤ length text.now }
-    ensures end { IfOk result (λ read. (start < read.1) × (read.1 ≤ length text.now)) }
-{
-    let (number, end) = read_number_of::<f64>(text, start, COMMA_FLOATS)?;
-    Ok((number.to_float(), end))
-}
-
-use digits::read_integer_from;
-
-/// Why there is no percentage.
-#[derive(Clone, Copy, Debug, PartialEq, Eq)]
-pub enum PercentError {
-    NoDigit(usize),
-    Above100(usize),
-}
-
-/// The percentage that begins at `start`, and where it ends: `1_00%` gives `(100, 4)`.
-pub fn read_percent(line: &[u8], start: usize) -> Result<(u8, usize), PercentError>
-    requires { start ≤ length line.now }
-    ensures { IfOk result (λ percent. percent.1 ≤ length line.now) }
-{
-    match read_integer_from(line, PYTHON_LITERAL, start, 100) {
-        Ok((percent, end)) => Ok((percent as u8, end)),
-        Err(LiteralError::Empty(at)) => Err(PercentError::NoDigit(at)),
-        Err(LiteralError::Overflow(at)) => Err(PercentError::Above100(at)),
-    }
+/// The float that a text is: `1,5e3` gives 1500.0.
+pub fn parse_comma_float(text: &[u8]) -> Result<f64, NumberError> {
+    Ok(parse_number_of::<f64>(text, COMMA_FLOATS)?.to_float())
 }

@@ -3,6 +3,7 @@
 
 pub mod amounts;
 pub mod arrays;
+pub mod blocks;
 pub mod calling;
 pub mod dates;
 pub mod durations;

@@ -7,9 +7,10 @@ use digit_lists::ListError;
 use digit_literals::{LINES, ListEnd, LiteralError, ParseError, read_list};
 use digit_numbers::{Number, NumberError, forms, read_number_of};
 use digit_uses::calling::{
-    SizeError, cents_of_field, parse_amount, parse_height, parse_row, parse_trimmed,
-    read_comma_float, read_mask, read_ports, read_size, read_token, write_grouped,
+    SizeError, parse_amount, parse_comma_float, parse_count, parse_height, parse_row,
+    parse_trimmed, read_mask, read_ports, read_size, read_token, write_grouped,
 };
+use digit_uses::money::cents_of_field;
 use lexical_format::STANDARD;
 
 #[test]
@@ -143,10 +144,18 @@ fn a_field_has_cents(rt: HostRuntime) {
 
 #[test]
 fn a_form_of_ones_own_has_a_comma(rt: HostRuntime) {
-    assert!(rt; read_comma_float(b"1,5e3;", 0) == Ok((1500.0, 5)));
-    assert!(rt; read_comma_float(b"-,5", 0) == Ok((-0.5, 3)));
-    assert!(rt; read_comma_float(b"1.5", 0) == Ok((1.0, 1)));
-    assert!(rt; read_comma_float(b"em", 0) == Err(NumberError::Empty(0)));
+    assert!(rt; parse_comma_float(b"1,5e3") == Ok(1500.0));
+    assert!(rt; parse_comma_float(b"1,5e3;") == Err(NumberError::Invalid(5)));
+    assert!(rt; parse_comma_float(b"-,5") == Ok(-0.5));
+    assert!(rt; parse_comma_float(b"1.5") == Err(NumberError::Invalid(1)));
+    assert!(rt; parse_comma_float(b"em") == Err(NumberError::Empty(0)));
+}
+
+#[test]
+fn a_word_of_ones_own_has_commas(rt: HostRuntime) {
+    assert!(rt; parse_count(b"1,234") == Ok(1234));
+    assert!(rt; parse_count(b"1,2,3") == Ok(123));
+    assert!(rt; parse_count(b"1,234,") == Err(ParseError::Invalid(5)));
 }
 
 #[test]
