@@ -1,5 +1,11 @@
 """What README.md and the head of docs/SPEED.md say of the times beside other readers."""
 from peers import LIBRARY, READ, Figures, more_by, slower_run
+from written import times
+
+# How the names of rows begin that read an integer, or a float.
+INTEGERS = ("u64", "i32", "hexadecimal", "grouped u64")
+FLOATS = ("f64", "f32")
+
 
 def rows():
     return Figures("times.txt").rows
@@ -15,6 +21,12 @@ def ratios(start="", side=LIBRARY):
 
 def span(start, side):
     found = ratios(start, side).values()
+    return f"{min(found):.2f} to {max(found):.2f}"
+
+
+def span_of(starts):
+    """The same of the rows whose names begin with one of several words."""
+    found = [it for start in starts for it in ratios(start).values()]
     return f"{min(found):.2f} to {max(found):.2f}"
 
 
@@ -50,15 +62,19 @@ can't put it into its caller's loop."""
 
 def readme():
     """What README.md has between its comments: what is gained, and when time is lost."""
-    found = ratios().values()
+    of_json = span("JSON", LIBRARY)
     return f"""\
-**You gain** where the number is the whole text: it takes {min(found):.2f} to {max(found):.2f} times as long as \
-by the fastest other reader that does the same work, and in {fastest()} rows of [SPEED.md](docs/SPEED.md) less; \
-the least with groups, as `12_345_678`, and with long integers.
+**You gain** when you parse from Rattle: an integer takes {span_of(INTEGERS)} times as long as by the fastest \
+other reader that does the same work, a float {span_of(FLOATS)} times, and a number of JSON {of_json} times. \
+To write `%.2f` of a price takes {times('%.2f, prices', '%.2f, 3 digits')} times as long as by the fastest writer.
 
-**You draw** where you also need the end of the number, as a lexer does: {span('u64', READ)} times for a `u64`, \
-and {span('f64', READ)} times for an `f64`. From Rust and C each call takes {more_by('constant word')} instructions \
-more than from Rattle.
+**You draw** when you also need the end of the number, as a lexer does ({span('u64', READ)} times for a `u64`, \
+{span('f64', READ)} for an `f64`), when you call from Rust or C, where a call takes {more_by('constant word')} \
+instructions more, and one that is given a word {more_by('word as argument')}, and when you write the shortest \
+text of a float ({times('f64, ', 'f32, ')} times).
 
-**You lose** with floats in groups, with iterators over digits ([how much](docs/SPEED.md#where-you-lose)), and when \
-you write integers of up to four digits, `%.2f` or `%.6e` ([every row](docs/SPEED.md#writing))."""
+**You lose** when you write an integer of up to four digits ({times('u64, 3 digits', 'u64, 1 to 4')} times), \
+`%.2f` of numbers up to 1e22 ({times('%.2f, in [0, 1e22)')} times) or `%.6e` \
+({times('%.6e')} times), and when you loop over digits by an iterator ([how much](docs/SPEED.md#where-you-lose)).
+
+[SPEED.md](docs/SPEED.md) has every row, and how to call so that it is fast."""

@@ -91,6 +91,15 @@ def from_c(rows):
     return f" From C a call takes {min(more):.0f} to {max(more):.0f} more." if more else ""
 
 
+def times(*starts):
+    """The least and the greatest ratio of the time to that of the fastest writer that does the same
+    work, in the rows whose names begin so."""
+    found = [time(row, sides).split()[0] for row, sides in Figures("written-times.txt").rows.items()
+             if row.startswith(starts)]
+    least, most = (f"{it(map(float, found)):.1f}" for it in (min, max))
+    return most if least == most else f"{least} to {most}"
+
+
 def writers():
     """What docs/SPEED.md has between its comments on writing."""
     counts, times = Figures("written-counts.txt"), Figures("written-times.txt")

@@ -4,8 +4,9 @@ use digit_uses::calling::{Entry, SEMICOLONS, first_above, parse_entry, sum_of};
 use digit_uses::proving;
 use digit_uses::sums::sum_list;
 use digits::{
-    COMMAS, FloatError, FoldError, Integers, LINES, LiteralError, NumberReader, STANDARD,
-    StreamError, parse_list, parse_number,
+    COMMAS, FloatError, FoldError, Integers, LINES, LiteralError, NumberError, NumberReader,
+    ParseError, STANDARD, StreamError, forms, parse_float, parse_list, parse_number,
+    parse_number_of, read_float, read_number_of,
 };
 
 /// A line with fields of several kinds.
@@ -95,4 +96,80 @@ fn a_bad_line(rt: HostRuntime) {
     let fault = StreamError::Number(LiteralError::Empty(3));
     assert!(rt; numbers.next_number() == Some(Err(fault)));
     assert!(rt; numbers.position() == 2);
+}
+
+/// The float that a text is by a form.
+#[tactic(auto, unfolding(digits::proofs::Literals::lexical_on_literals))]
+fn json(text: &[u8]) -> Result<f64, NumberError> {
+    Ok(parse_number_of::<f64>(text, forms::JSON)?.to_float())
+}
+
+/// The float that a text is by another form.
+#[tactic(auto, unfolding(digits::proofs::Literals::lexical_on_literals))]
+fn rust(text: &[u8]) -> Result<f64, NumberError> {
+    Ok(parse_number_of::<f64>(text, forms::RUST_PARSE)?.to_float())
+}
+
+/// What four calls make of a text.
+type Row = (
+    &'static [u8],
+    Result<i32, ParseError>,
+    Result<f64, FloatError>,
+    Result<f64, NumberError>,
+    Result<f64, NumberError>,
+);
+
+/// Texts of which the calls make other numbers.
+static SURPRISES: [Row; 7] = [
+    (b"01", Ok(1), Ok(1.0), Err(NumberError::Invalid(1)), Ok(1.0)),
+    (b"+1", Ok(1), Ok(1.0), Err(NumberError::Empty(0)), Ok(1.0)),
+    (
+        b".5",
+        Err(ParseError::Invalid(0)),
+        Ok(0.5),
+        Err(NumberError::Empty(0)),
+        Ok(0.5),
+    ),
+    (
+        b"5.",
+        Err(ParseError::Invalid(1)),
+        Ok(5.0),
+        Err(NumberError::Invalid(1)),
+        Ok(5.0),
+    ),
+    (
+        b"1e5",
+        Err(ParseError::Invalid(1)),
+        Ok(1e5),
+        Ok(1e5),
+        Ok(1e5),
+    ),
+    (
+        b"1e999",
+        Err(ParseError::Invalid(1)),
+        Ok(f64::INFINITY),
+        Ok(f64::INFINITY),
+        Ok(f64::INFINITY),
+    ),
+    (
+        b"inf",
+        Err(ParseError::Invalid(0)),
+        Err(FloatError::Empty(0)),
+        Err(NumberError::Empty(0)),
+        Ok(f64::INFINITY),
+    ),
+];
+
+/// The table of surprises.
+#[test]
+fn surprises(rt: HostRuntime) {
+    for (text, integer, float, of_json, of_rust) in &SURPRISES {
+        assert!(rt; parse_number::<i32>(text, STANDARD) == *integer, "{text:?}");
+        assert!(rt; parse_float::<f64>(text, STANDARD) == *float, "{text:?}");
+        assert!(rt; json(text) == *of_json, "{text:?}");
+        assert!(rt; rust(text) == *of_rust, "{text:?}");
+    }
+    assert!(rt; read_float::<f64>(b"1em", STANDARD) == Err(FloatError::EmptyExponent(2)));
+    let read = read_number_of::<f64>(b"1em", 0, forms::CSS);
+    assert!(rt; read.map(|(number, end)| (number.to_float(), end)) == Ok((1.0, 1)));
 }

@@ -195,6 +195,7 @@ pub fn first_above<R: Read + Drop>(
         match numbers.next_number() {
             Some(number) => {
                 let number = number?;
+                // Only now the number before this one is sure.
                 if found.is_some() {
                     return Ok(found);
                 }
