@@ -13,107 +13,195 @@ from layout import (anchor_of, declaration_of, filled, first_sentence, signature
                     use_of)
 from sources import DOOR, dedent, slug_of
 
-# Each group of the page: what it has, in the index and at its head, and its names, in the order of the
-# page.
+# Each section of the page: the table of its calls, a text, and its names in the order of the page. A name
+# of TABLED has no entry: where the text has it first, it is a link.
 GROUPS = {
-    "Integers": (
-        "`-1_000`",
-        "A `parse_` call takes a whole text. A `read_` call reads the number at the start, or with "
-        "`_from` at a position, and answers the number and the position after it.", """
-        parse_number read_number read_number_from parse_number_from ParseError LiteralError
-        read_integer_from read_wide_from read_exactly read_at_most count_digits Integer"""),
-    "Floats": (
-        "`-1.5e3`",
-        "The float nearest to a decimal number, of two as near the one whose last bit is 0. A type is "
-        "`f64` or `f32`. To read `inf` and `nan` too, go by a [form](#numbers-by-a-form), as "
-        "`forms::RUST_PARSE`.", """
-        parse_float read_float read_float_from parse_float_from FloatError round_integer Float"""),
-    "Lists": (
-        "`80, 443`, into a slice",
-        "Many numbers of a text, into the front of a slice that you lend. A `read_` call goes on as far "
-        "as there are numbers, and says why it stopped; `parse_list` takes a whole text. Each skips the "
-        "blanks of its [gap](#between-two-numbers).", """
-        read_list read_float_list read_list_of ListRead ListEnd parse_list ListError read_enclosed
-        EnclosedError read_list_by read_items"""),
-    "Between two numbers": (
-        "a comma, a line feed, or blanks",
-        "A gap says what separates the numbers of a list. One of your own, such as for `;`, is a "
-        "[`Gap { .. }`](#gap).", """
-        COMMAS COMMAS_IN_LINE LINES WHITESPACE SPACES_IN_LINE Gap BLANKS SPACES"""),
-    "Numbers by a form": (
-        "as JSON, TOML, C or `strtod` has them",
-        "A form is the grammar of a number in JSON, TOML, C, Python or another language, or in a "
-        "function such as `strtod` ([a table of all](forms.md)).", """
-        parse_number_of read_number_of Number NumberError forms is_form"""),
-    "Decimal numbers and prices": (
-        "`12.50` as 1250, exactly",
-        "`12.50` as the integer 1250, exactly, and no float on the way.", """
-        parse_scaled read_scaled_from ScaledError read_scaled_up_to read_grouped_from read_exact_from
-        read_price_from PriceError read_decimal_from read_decimal_of Decimal"""),
-    "Literals of a language": (
-        "`0xff`",
-        "Integers of source code, such as `0xff`, with their prefix.", """
-        read_literal_as read_literal Literal LanguageError languages prefix_word Language FirstZero
-        is_language"""),
-    "Words": (
-        "radix, separator, and where one may be",
-        "A word is a `u128` that says how digits are written: their radix, their separator, and where "
-        "one may be. Take one with a name ([what each reads](../RULES.md#words-with-names)), write it from "
-        "its parts, or make it with the builder.", """
+    "Integers": ("""
+        parse_number | Reads a whole text: `-1_000`
+        parse_number_from | … from `start` on: `x=-12` at 2
+        read_number | Reads the integer at the front: `8080/tcp`
+        read_number_from | … at `start`: `8080:443` at 5
+        read_integer_from | … without a sign, up to a limit of yours, as a `u64`
+        read_wide_from | … as a `u128`
+        read_exactly | Reads exactly `n` digits: the `2026` of a date
+        read_at_most | Reads one to `n` digits: the `7` of `7:05`
+        count_digits | Counts the digits of a text""", """
+        The first four read a sign if the type has one: `-1` and `+1` are an `i32`, and no `u32`. The types
+        are `u8` to `u128`, `i8` to `i128`, `usize` and `isize`.""", """
+        parse_number parse_number_from read_number read_number_from read_integer_from read_wide_from
+        read_exactly read_at_most count_digits Integer ParseError LiteralError"""),
+    "Floats": ("""
+        parse_float parse_float_from | Read a whole text, or from `start` on to its end
+        read_float read_float_from | Read the float at the front, or at `start`, and return where it ends
+        round_integer | Rounds an integer to the nearest float""", """
+        `-1.5e3` is -1500.0. The grammar, where `D` is a digit:
+
+        ```text
+        [+-]? (D+ (. D*)? | . D+) ([eE] [+-]? D+)?
+        ```
+
+        You get the nearest `f64` or `f32`, of two as near the one whose last bit is 0. What is too large is
+        infinite, and what is too small is 0. Separators that the word drops may be among the digits. `inf`
+        and `nan` are refused: `forms::RUST_PARSE` [reads them](#numbers-by-a-form).""", """
+        parse_float parse_float_from read_float read_float_from round_integer Float FloatError"""),
+    "Numbers by a form": ("""
+        parse_number_of | Reads a whole text: `-1.5e3` of JSON
+        read_number_of | Reads the longest number at `start`
+        forms | All forms by name
+        is_form | Tests a form of your own""", "", """
+        parse_number_of read_number_of forms is_form Number NumberError"""),
+    "Amounts and prices": ("""
+        parse_scaled | Reads a whole text: `12.5` is 1250 cents
+        read_scaled_from | Reads the amount at `start`
+        read_scaled_up_to | … without a sign, up to a limit of yours
+        read_exact_from | … with exactly so many places: `12.50`, not `12.5`
+        read_grouped_from | … in groups of three: `1,234.5`
+        read_price_from | … with both: `1,234.50`
+        read_decimal_from read_decimal_of | Read digits and a power of ten, before rounding""", """
+        An amount is an integer in units of its last place, exactly: no float is on the way.""", """
+        parse_scaled read_scaled_from read_scaled_up_to read_exact_from read_grouped_from read_price_from
+        read_decimal_from read_decimal_of Decimal ScaledError PriceError"""),
+    "Literals of a language": ("""
+        read_literal_as | Reads a literal as a number of a type: `0xff`
+        read_literal | … with its word, and where its digits begin
+        prefix_word | The word of the digits after a prefix
+        languages | All languages by name
+        is_language | Tests a language of your own""", "", """
+        read_literal_as read_literal prefix_word languages is_language Literal Language FirstZero
+        LanguageError"""),
+    "Bytes between numbers": ("""
+        byte_at has_byte has_bytes | Look at a position
+        expect_byte expect_bytes | Return the position after a byte or bytes, or an error
+        past_bytes | Passes blanks, or any other set
+        name_end | Where a suffix ends: the `px` of `10px`""", "", """
+        byte_at has_byte has_bytes expect_byte expect_bytes past_bytes name_end ByteSet"""),
+    "Lists": ("""
+        read_list read_float_list read_list_of | Read integers, floats, numbers of a form
+        read_list_by read_items | … of any kind, or values of your own
+        parse_list | Reads a whole text as a list
+        read_enclosed | Reads a list in brackets: `[1, 2]`""", """
+        ```rust
+        let mut ports = [0u16; 4];
+        let read = read_list(b"80, 443;", 0, STANDARD, COMMAS, &mut ports);
+        (read.count, read.end) // (2, ListEnd::Over(7))
+        ```
+
+        The numbers go into the front of a slice that you lend. `COMMAS` is a [gap](#gaps): what is between
+        two numbers. `count` says how many came, and `end` why no more:
+
+        | `end` | It says | What you do |
+        |---|---|---|
+        | `Over(at)` | the list ended well, and `at` is the first byte that isn't of it | go on at `at`, or compare it with `text.len()` |
+        | `Full(at)` | the slice is full, and the next number may begin at `at` | call again from `at` |
+        | `Fault(error)` | a number has to be here, as after a comma, and is none | report it |
+
+        Blanks of the gap are skipped. After a fault the front of the slice has the numbers before it. By
+        `LINES` and other gaps that may trail, a separator may be last, and a list may be empty.""", """
+        read_list read_float_list read_list_of read_list_by read_items parse_list read_enclosed ListRead
+        ListEnd ListError EnclosedError"""),
+    "Gaps": ("", """
+        | Gap | Between two numbers is | A separator may be last | It reads |
+        |---|---|---|---|
+        | `COMMAS` | one comma, with any blanks around it | no | `1, 2 ,3` |
+        | `COMMAS_IN_LINE` | one comma, with spaces and tabs around it | no | a line of CSV |
+        | `LINES` | one line feed, with other blanks around it | yes | `1\n2\n` |
+        | `WHITESPACE` | one blank or more | yes | `1 2\n3\n` |
+        | `SPACES_IN_LINE` | one space or tab, or more | yes | `1 2 3` |
+
+        `BLANKS` are space, tab, line feed and carriage return. `SPACES` are space and tab. For another
+        separator, such as `;`, write a [`Gap`](#gap).""", """
+        COMMAS COMMAS_IN_LINE LINES WHITESPACE SPACES_IN_LINE BLANKS SPACES Gap"""),
+    "Kinds of numbers": ("""
+        Integers Floats OfForm OfLanguage | Integers, floats, numbers of a form, literals
+        Scaled Prices | `12.5`; `1,234.50`
+        Both Enclosed | `3:4`; `"1.50"`
+        read_optional | Reads one number of a kind, which may be missing""", """
+        A kind is a value that says which numbers a list, a piece or a stream has:
+        `Integers::<i32>::new(STANDARD)`. For values of your own write an [`impl Item`](#item), or an
+        [`impl Kind`](../../crates/digit_pieces/README.md).""", """
+        Integers Floats OfForm OfLanguage Scaled Prices Both Enclosed read_optional Kind Item NoNumber
+        BothError BracketError"""),
+    "Streams": ("""
+        fold_stream | Makes one value of all numbers, such as their sum
+        NumberReader | Reads them one by one
+        is_apart | Tests whether a kind and a gap go together in a stream""", "", """
+        fold_stream NumberReader is_apart StreamRead StreamEnd FoldError EnclosedFoldError StreamError"""),
+    "Pieces and blocks": ("""
+        read_piece | Reads a list that goes on in the next piece
+        sure_end | Up to where the numbers of a piece are sure
+        block_start | Moves a cut to where a block may begin
+        end_in_text | Turns a position of a block into one of the text""", "", """
+        read_piece sure_end block_start end_in_text PieceRead PieceEnd"""),
+    "Writing": ("""
+        write_number | Writes an integer: `-128`
+        write_number_by | … in groups, in a radix, with zeros: `-1,234,567`
+        write_list | Writes integers with a byte between them: `80,-1,443`
+        write_scaled write_price | Write cents: `-12.50`; `1,234.50`
+        write_float | Writes the shortest text of a float: `0.1`
+        write_fixed write_scientific | … with so many places, as `%.2f`, `%.6e`
+        write_number_of write_float_of write_integer_of | Write a number by a form
+        write_plain write_usual write_exponent | Write digits and a power of ten""", """
+        A call puts the text at the front of `out`, and returns its length. The bytes behind it stay as they
+        were. Without room nothing is written, and the error has the length that is needed. `write_number`
+        has no error: lend it `[0; MOST_ROOM]`.
+
+        | Bytes of `out` that are enough | For |
+        |---|---|
+        | `MOST_ROOM`, 40 | any integer by `write_number`; 3 for `u8`, 4 `i8`, 5 `u16`, 6 `i16`, 10 `u32`, 11 `i32`, 20 `u64`, `i64`, `usize` and `isize`, 39 `u128`, 40 `i128` |
+        | `FLOAT_ROOM`, 24 | any finite float by `write_float`, in `Usual` and `Exponent` |
+        | `PLAIN_ROOM`, 327 | any finite float by `write_float`, in `Plain` |""", """
+        write_number write_number_by write_list write_scaled write_price write_float write_fixed
+        write_scientific write_number_of write_float_of write_integer_of write_plain write_usual
+        write_exponent MOST_ROOM FLOAT_ROOM PLAIN_ROOM Layout FloatLayout ExponentText Written NoRoom
+        FloatTextError FormTextError"""),
+    "Words": ("", """
+        A word is a `u128` that says how digits are written: their radix, their separator, and where one may
+        be. Take one with a name ([what each reads](../RULES.md#words-with-names)), write it from its parts, or
+        make it with the builder.""", """
         STANDARD words is_supported NumberFormatBuilder DigitSeparatorFlags DECIMAL NO_FLAGS ALL_FLAGS
         INTEGER_INTERNAL_DIGIT_SEPARATOR FRACTION_INTERNAL_DIGIT_SEPARATOR
         EXPONENT_INTERNAL_DIGIT_SEPARATOR NumberFormat"""),
-    "Numbers that are written": (
-        "the shortest text, groups, places, by a form",
-        "A call puts the text at the front of `out` and answers how many bytes it has. What follows is "
-        "as it was.", """
-        write_number MOST_ROOM write_float FloatLayout FloatTextError FLOAT_ROOM PLAIN_ROOM
-        write_number_by Layout NoRoom write_scaled write_price write_fixed write_scientific
-        ExponentText write_list write_number_of write_float_of write_integer_of FormTextError
-        write_plain write_usual write_exponent Written"""),
-    "Kinds of numbers": (
-        "which numbers a list or a stream has",
-        "A kind is a value that says which numbers a list, a piece or a stream has: "
-        "`Integers::<i32>::new(STANDARD)`, for example. For values of your own write an `impl Item`, as "
-        "[points.rt](../../crates/digit_uses/src/points.rt) does, or an "
-        "[`impl Kind`](../../crates/digit_pieces/README.md).", """
-        Integers Floats Scaled Prices OfForm OfLanguage Both BothError Enclosed BracketError
-        read_optional Kind NoNumber Item"""),
-    "Streams": (
-        "a file or a socket of any length",
-        "The numbers of a file or a socket, of any length, through a buffer that you lend.", """
-        fold_stream FoldError NumberReader EnclosedFoldError StreamError StreamRead StreamEnd is_apart"""),
-    "Pieces and blocks of a text": (
-        "a text in parts",
-        "A text that comes in parts, or is cut into blocks that are read by themselves.", """
-        read_piece PieceRead PieceEnd sure_end block_start end_in_text"""),
-    "Bytes between numbers": (
-        "what a parser does around its numbers",
-        "What a parser does around its numbers.", """
-        byte_at has_byte has_bytes expect_byte expect_bytes past_bytes name_end ByteSet"""),
-    "A form of your own": (
-        "a grammar that has no name here",
-        "Write one from a form that is close: `Form { needs_fraction: true, ..forms::FLOAT }`.", """
+    "A form of your own": ("", """
+        Write one from a form that is close: `Form { needs_fraction: true, ..forms::FLOAT }`.""", """
         Form Signs Whole Marks Exponents AfterPoint HexFloats Specials Special SpecialValue NameSign names"""),
-    "Digits, and the parts of a number": (
-        "for a parser that puts a number together itself",
-        "For a parser that puts a number together itself.", """
-        stop_from read_first_digits_from FirstDigits read_mantissa Mantissa read_exponent Power
-        round_parts decimal_of Component Rule"""),
+    "Parts of a number": ("""
+        read_mantissa read_exponent | Read digits and point; an exponent
+        round_parts decimal_of | Make a float or a decimal of the two
+        stop_from read_first_digits_from | Where digits end; the first of them""", "", """
+        read_mantissa read_exponent round_parts decimal_of stop_from read_first_digits_from Mantissa Power
+        FirstDigits Component Rule"""),
+}
+TABLED = """COMMAS COMMAS_IN_LINE LINES WHITESPACE SPACES_IN_LINE BLANKS SPACES MOST_ROOM FLOAT_ROOM
+    PLAIN_ROOM""".split()
+# What an entry has after its text.
+BELOW = {
+    "read_number_of": """
+        | By | At 0 is | You get | It ends at |
+        |---|---|---|---|
+        | JSON | `-1.5e3,` | the float -1500.0 | 6 |
+        | JSON | `12]` | the integer 12 | 2 |
+        | JSON | `01` | the integer 0 | 1 |
+        | JSON | `1.` | the integer 1 | 1 |
+        | JSON | `.5` | `Err(Empty(0))` | |
+        | TOML | `-inf,` | the float -∞ | 4 |""",
 }
 
 # The forms that the table of the page tells, beside what all are for.
 FIRST_FORMS = ("JSON", "JSON_FLOATS", "RUST_PARSE", "STRTOD", "LITERAL", "FLOAT")
 
-# What only the page of its library has, and the heading of the table that leads there.
+# What only the page of its library has, the laws last, and the heading of the table that leads there.
 MORE = """
     read_integer read_list_piece read_float_list_piece read_list_piece_of read_scaled_list_piece
     wrong_group form_of read_hex_mantissa HexMantissa read_hex_float_from round_hex AnyFloat WrittenFloat
     integers_are_apart floats_are_apart scaled_are_apart literals_are_apart numbers_are_apart
     both_are_apart enclosed_are_apart any_are_apart""".split()
-ELSEWHERE = "On the crates' pages only"
-# The traits whose methods a caller doesn't need, and a call that serves the library alone.
+ELSEWHERE = "Rarely needed"
+# The traits whose methods a caller doesn't need, those that no entry names, and a call that serves the
+# library alone.
 FOR_LIBRARY = ("Integer", "Float", "Written")
+UNNAMED = (*FOR_LIBRARY, "AnyFloat")
+# What a type derives, as the head says.
+DERIVED = ["`Copy`", "`Debug`", "`PartialEq`", "`Eq`"]
 HIDDEN = ("no_number",)
 # The modules whose constants have a table elsewhere.
 TABLES = {"forms": " [A table of all](forms.md).",
@@ -132,9 +220,9 @@ CONDITIONS = {
     "F.IsAlwaysCallable step": "the step may be called on every value and number",
     "(b : ℕ) → b < 256 → F.pre test b": "the closure may be called on every byte",
     "places ≤ 38": "places ≤ 38",
-    "K.valid kind": "the kind is valid, as one of a supported word is",
-    "IsForm form": "the form is valid, as each of `forms` is",
-    "IsLanguage language": "the words of the language are supported, as those of each of `languages` are",
+    "K.valid kind": "the kind is valid",
+    "IsForm form": "the form is valid",
+    "IsLanguage language": "the words of the language are supported",
     "IsTrue (float_is_finite x)": "`x` is finite",
     "IsMantissa text.now mantissa": "the mantissa is one of this text",
     "IsHexMantissa text.now mantissa": "the mantissa is one of this text",
@@ -142,9 +230,7 @@ CONDITIONS = {
     "IsHexadecimal word": "the mantissa's radix is 16",
     "exponent_radix word ≡ 10": "the exponent's radix is 10",
     "before ≤ most": "`before` is at most `most`",
-    "T.ROOM ≤ length out.old": "`out` has room for any number of the type: 3 bytes for `u8`, 4 `i8`, 5 `u16`, 6 `i16`, "
-                            "10 `u32`, 11 `i32`, 20 `u64`, `i64`, `usize` and `isize`, 39 `u128`, 40 `i128`; "
-                            "`MOST_ROOM` for all",
+    "T.ROOM ≤ length out.old": "`out` has room for any number of the type",
     "IsTrue (is_supported kind.word)": "the kind's word is supported",
     "IsDecimal kind.word": "its radixes are 10",
     "kind.places ≤ 38": "places ≤ 38",
@@ -166,9 +252,8 @@ CONDITIONS = {
 IMPLS = {"Item": ("crates/digit_uses/src/points.rt", "impl Item for Point",
                   "the definitions that its ghost lines name are in specs/Points.antt of digit_uses")}
 
-# The page of the words, and the heading of the index.
+# The page of the words.
 WORDS = "words"
-INDEX = "All names"
 
 HEAD = f"""# {DOOR}
 
@@ -176,62 +261,84 @@ Read a number from bytes, and write one:
 
 ```rust
 use {DOOR}::words::PYTHON_LITERAL;
-use {DOOR}::{{STANDARD, parse_float, parse_number, read_number}};
+use {DOOR}::{{MOST_ROOM, STANDARD, parse_float, parse_number, read_number, write_number}};
 
 LINES
 ```
 
-- **A text** is a `&[u8]`. A position counts its bytes from 0.
-- **A word** says how digits are written: `STANDARD` reads `1000`, `PYTHON_LITERAL` also `1_000`. \
-[Others have names](#words), and you can make your own. A [form](#numbers-by-a-form) is a whole \
-grammar, such as JSON's.
-- **An answer** of `parse_` is the number that the whole text is; of `read_` the number and the \
-position after it. The error of a number holds the position of its fault. No call panics or \
-allocates.
-- **You prove** what stands behind `// you prove`: nothing tests it when the program runs, and \
-`rt check` refuses your function if the prover can't see it. [All conditions](../PROMISES.md#conditions); \
-this is how you meet them:
+- **`parse_`** returns the number that a whole text is, **`read_`** the number and the position after it, \
+**`write_`** the length of what it wrote. [Lists](#lists) go into a slice.
+- **A text** is a `&[u8]`. Positions count its bytes from 0. The error of a number holds the position of \
+its fault.
+- **A word** says how digits are written: `STANDARD` reads `1000`, `PYTHON_LITERAL` also `1_000`. **A \
+form** is a whole grammar, such as JSON's.
+- **No call** panics or allocates.
 
-| Condition | By a constant, or what a call answered | By what only run time knows |
-|---|---|---|
-| the word is supported | one attribute lets the prover compute it ([set up](../../CALLING.md#set-up)) | `if !is_supported(word) {{ return .. }}` |
-| its radixes are 10, for digits and exponent | the same attribute | test `mantissa_radix()` and `exponent_radix()` of [`NumberFormat::new(word)`](#numberformat) |
-| the form is valid | the same attribute | `if !is_form(form) {{ return .. }}` |
-| start, at, end ≤ text.len() | a position that a call answered is within its text, if its own start is | `if start > text.len() {{ return .. }}` |
-| the words of the language are supported | the same attribute | `if !is_language(language) {{ return .. }}` |
-| the kind is valid | the same attribute, for its word, form or language | the test of its word, form or language |
-| places ≤ 38 | a literal | `if places > 38 {{ return .. }}` |
-| `x` is finite | test a constant, too | `if !x.is_finite() {{ return .. }}` |
-| `before` is at most `most` | 0, or a value that was read up to `most` | `if before > most {{ return .. }}` |
-| the mantissa is one of this text | what `read_mantissa` answered of it | |
-| a closure, or a step, may be called on every byte, or value and number | one that can't panic: `byte.is_ascii_digit()`, `sum.checked_add(number)`, a sum of floats; `rt check` refuses the `+` of integers | |
-| `out` has room for any number of the type | `[0; MOST_ROOM]` | `if out.len() < MOST_ROOM {{ return .. }}` |
+Below, the result of a call is behind `//`, and a heading leads to the contract, whose [signs]({CLAUSES}.md) \
+and [words]({WORDS}.md) have pages of their own. Names are in `{DOOR}`, unless the example imports them. `?` \
+takes a value out of its `Ok` or `Some`. Types derive `Copy`, `Debug`, `PartialEq` and `Eq`, and errors have \
+`Display` and `Error`, unless their entry says otherwise. [CALLING.md](../../CALLING.md) has whole functions.
 
-[CALLING.md](../../CALLING.md) has a table by which you choose a call, and whole functions.
+| You have | Section |
+|---|---|
+| `-1_000` | [Integers](#integers) |
+| `-1.5e3` | [Floats](#floats) |
+| a number of JSON, TOML, Rust, `strtod` | [Numbers by a form](#numbers-by-a-form) |
+| `12.50`, as 1250 cents | [Amounts and prices](#amounts-and-prices) |
+| `0xff` | [Literals of a language](#literals-of-a-language) |
+| a `:` or blanks beside a number | [Bytes between numbers](#bytes-between-numbers) |
+| `80, 443` | [Lists](#lists), and [gaps](#gaps) between their numbers |
+| a list or a stream of prices, pairs, literals | [Kinds of numbers](#kinds-of-numbers) |
+| a file or a socket | [Streams](#streams) |
+| a text in parts | [Pieces and blocks](#pieces-and-blocks) |
+| a number, and want its text | [Writing](#writing) |
+| another separator or radix | [Words](#words) |
+| another grammar | [A form of your own](#a-form-of-your-own) |
+| digits that you put together yourself | [Parts of a number](#parts-of-a-number) |
 
-How to read an entry:
+## Names and arguments
 
-- **Its heading leads to its contract**, which says what a call answers of every text, by \
-[definitions]({WORDS}.md) and [signs]({CLAUSES}.md).
-- **An example** shows its imports from `{DOOR}::words` and `{DOOR}::languages` only; all else is in `{DOOR}`.
-- **Behind `//`** on the line of a call is its answer; a long one is on the next line, after \
-`// answers`. `rt ci` runs each example as a test. `?` in one takes the value out of the `Ok` or the `Some`.
-- **"Derives"** has the traits of a type: each error also has `Display` and `Error`, except `BothError`. \
-Behind a variant of an error is how it is printed.
-- **The order of arguments:** one number by a word is `(text, word, start, ..)`, everything else that is \
-read `(text, start, ..)`. A kind, and in `prefix_word` the language, goes before `text`. `out` is last.
+| In a call's name | It says |
+|---|---|
+| `_from` | the number begins at a `start`. Without it `parse_` calls, `read_number`, `read_float` and \
+`read_integer` begin at 0. Every other `read_` call takes a position, too |
+| `_of` | by a form |
+| `_as` | by a language, as a number of your type |
+| `_by` | by a kind or a layout |
 
-## {INDEX}
+One number by a word is `(text, word, start, ..)`, everything else that is read `(text, start, ..)`. A kind, \
+and in `prefix_word` the language, goes before `text`. A stream is `(reader, buffer, kind, gap, ..)`. `out` is \
+last.
 
-SECTIONS
+## What you prove
 
+`// you prove` names what has to hold before a call. Nothing tests it at run time: `rt check` refuses your \
+function if the prover can't see it. Mostly you do nothing. With [one attribute](../../CALLING.md#set-up) the \
+prover sees that a constant word, form, language or kind is valid. A position that a call returned is within \
+its text, if its `start` was. What only run time knows you test first:
+
+| You prove | Test |
+|---|---|
+| the word is supported | `is_supported(word)` |
+| its radixes are 10 | `mantissa_radix()` and `exponent_radix()` of [`NumberFormat::new(word)`](#numberformat) |
+| the form is valid | `is_form(form)` |
+| the words of the language are supported | `is_language(language)` |
+| the kind is valid | that of its word, form or language |
+| start, at, end ≤ text.len() | `start <= text.len()` |
+| places ≤ 38 | `places <= 38` |
+| `x` is finite | `x.is_finite()`, of a constant too |
+
+`out` has room if it is `[0; MOST_ROOM]`. A closure may be called on everything if it can't panic: write \
+`sum.checked_add(number)`, not `sum + number`, unless these are floats. \
+[All conditions](../PROMISES.md#conditions).
 """
 
-# The calls of the first block. Each is a line of an example.
-FIRST = ("parse_number::<i32>(b\"-1_000\", PYTHON_LITERAL)",
-         "read_number::<i32>(b\"-1_000 m\", PYTHON_LITERAL)",
-         "parse_float::<f64>(b\"-1.5e3\", STANDARD)",
-         "parse_float::<f64>(b\"1.5x\", STANDARD)")
+# The calls of the first block, and what is before them. Each is a line of an example.
+FIRST = {"parse_number::<i32>(b\"-1_000\", PYTHON_LITERAL)": "",
+         "read_number::<i32>(b\"-1_000 m\", PYTHON_LITERAL)": "",
+         "parse_float::<f64>(b\"-1.5e3\", STANDARD)": "",
+         "parse_float::<f64>(b\"1.5x\", STANDARD)": "",
+         "write_number(-128i8, &mut out)": "let mut out = [0; MOST_ROOM];"}
 
 WORDS_HEAD = f"""# Words of contracts
 
@@ -248,26 +355,7 @@ have are at the end of its page.
 TOLD = ("Requires ", "A position counts", "Takes no memory", "Not in lexical-util", "lexical-util's")
 # The half line of a name whose first clause says too little.
 HALVES = {
-    "parse_number_of": "The number that a whole text is by a form, such as `forms::JSON`",
-    "parse_float_from": "The float that a text is from `start` on to its end",
-    "read_number_from": "The integer at `start`, with its sign, and the position after it",
-    "parse_number_from": "The integer that a text is from `start` on to its end",
-    "read_integer_from": "The integer without a sign at `start`, as a `u64` that is at most `most`",
-    "read_wide_from": "The integer of up to 128 bits that begins at `start`, if it is at most `most`",
     "read_integer": "`read_number::<u64>` by another name",
-    "is_form": "Whether numbers can be read by this form",
-    "read_scaled_from": "The decimal number that begins at `start`, and where it ends",
-    "read_grouped_from": "An amount whose whole digits are in groups of three: `1,234.5`",
-    "read_exact_from": "An amount with exactly `places` places: `12.50`; `12.5` is a fault",
-    "read_price_from": "An amount with groups of three and exactly `places` places: `1,234.50`",
-    "read_scaled_up_to": "An amount without a sign that is at most `most`",
-    "read_decimal_from": "The digits and the power of a decimal number, before it is rounded",
-    "read_decimal_of": "The digits and the power of a number of a form, before it is rounded",
-    "read_literal_as": "The integer literal that begins at `start`, as a number of a type",
-    "read_literal": "The literal that begins at `start`, if it is at most `most`, and its digits' place",
-    "forms": "Forms by name",
-    "write_scaled": "Writes an amount, such as cents, with a point before its last digits: `12.50`",
-    "write_price": "Writes an amount with a byte between groups of three digits: `1,234.50`",
     "read_list_piece": "`read_piece` of integers",
     "read_float_list_piece": "`read_piece` of floats",
     "read_list_piece_of": "`read_piece` of numbers of a form",
@@ -276,8 +364,8 @@ HALVES = {
 # How long the half line of a name may be.
 ROOM = 84
 MORE_HEAD = """\
-They are in `digits`, too: traits of the floats that are written, `f64` and `f32`, readers of `u64` and of pieces by their own names, the parts of hexadecimal floats, and laws, which do \
-nothing when the program runs: each tells the prover that no byte between two numbers may be in one."""
+These are in `digits` too. Their entries are on the pages of their crates. The last eight are laws: they do \
+nothing at run time, and tell the prover that no byte of a gap may be in a number."""
 
 
 def printed(lines, name, display):
@@ -310,8 +398,7 @@ class Door:
 
     @staticmethod
     def headings():
-        """The headings of the page, in order."""
-        yield INDEX
+        """The headings of the page, in order, and the names of TABLED."""
         for group, (*_, names_of) in GROUPS.items():
             yield group
             yield from (f"`{name}`" for name in names_of.split())
@@ -408,7 +495,7 @@ class Door:
 
     def text(self, name, item):
         """What the doc comment of an item says, by paragraphs, without its example and without what
-        the head of the page tells."""
+        the head of the page tells. The page of its library has the later paragraphs of a call."""
         page = self.page_of(name)
         crate, anchor = page.split(".md#")
         docs = self.docs[crate].get(anchor, [])
@@ -418,40 +505,49 @@ class Door:
         text = re.sub(r"^```\w*\n.*?^```$", "", "\n".join(docs), flags=re.S | re.M)
         parts = ([it for it in re.split(r"(?<=\.)\s+(?=[A-Z`\[])", " ".join(part.split()))
                   if not it.startswith(TOLD)] for part in re.split(r"\n\s*\n", text))
-        text = "\n\n".join(" ".join(part) for part in parts if any(part))
+        parts = [" ".join(part) for part in parts if any(part)]
+        text = "\n\n".join(parts[:1] if item and item.kind == "fn" else parts)
         return re.sub(r"\]\(#", f"]({crate}.md#", text)
 
     def lines_of(self, name):
-        """An entry: what it is, and its code. Its heading leads to the page of its library."""
+        """An entry: what it is, its code, and the types of a call. Its heading leads to the page of its
+        library."""
         crate, path = self.items[name]
         library, item = self.libraries[crate], self.item(crate, name)
         first, *parts = self.text(name, item).split("\n\n")
         if not item:
             first += TABLES.get(name, "")
-        elif item.kind == "fn":
-            first += self.types(item)
-        else:
-            first += self.derives(item)
+        elif item.kind != "fn":
+            first += self.derives(library, item)
         blocks = [line for code in (self.code(library, item), self.example(name)) if code
                   for line in ("", "```rust", *code, "```")]
         table = [] if item else self.constants(library.crate.modules[(path,)].source)
+        table += ["", *flowed(BELOW[name]).split("\n")] if name in BELOW else []
+        named = ["", self.types(item)] if item and item.kind == "fn" and self.types(item) else []
         text = "\n\n".join([first, *parts])
-        return [f"### [`{name}`]({self.page_of(name)})", "", self.to_here(text), *table, *blocks, ""]
+        return [f"### [`{name}`]({self.page_of(name)})", "", self.to_here(text), *table, *blocks, *named, ""]
 
     @staticmethod
-    def derives(item):
-        """The traits that a type derives; `Clone` isn't named beside `Copy`."""
+    def derives(library, item):
+        """What a type derives, where that isn't what the head says, and which error isn't printed;
+        `Clone` isn't named beside `Copy`."""
         found = [it for attr in item.attrs if attr.startswith("#[derive")
                  for it in re.findall(r"\w+", attr.partition("(")[2])]
         found = [f"`{it}`" for it in found if it != "Drop" and not (it == "Clone" and "Copy" in found)]
-        return f" Derives {', '.join(found)}." if found else ""
+        said = "" if found == DERIVED or item.kind not in ("struct", "enum") else \
+            f" Derives {', '.join(found)}." if found else " Derives none of these traits."
+        is_printed = any(impl.trait == "Display" for impl in library.impls.get(id(item), []))
+        return said + (" It has no `Display` and no `Error`." if is_error(item.name) and not is_printed
+                       else "")
 
     def types(self, item):
-        """Links to the types of a signature."""
-        named = dict.fromkeys(f"`{it}`" for it in re.findall(r"(?<!::)\b[A-Z]\w+", item.head))
-        links = [f"[{it}](#{self.slugs[it]})" if it in self.slugs else f"[{it}]({self.page_of(it[1:-1])})"
-                 for it in named if it in self.slugs or it[1:-1] in self.items]
-        return f" Types: {', '.join(links)}." if links else ""
+        """Links to the types of a signature: beside its error there may be none."""
+        named = [it for it in dict.fromkeys(re.findall(r"(?<!::)\b[A-Z]\w+", item.head))
+                 if it not in UNNAMED]
+        links = [f"[`{it}`](#{self.slugs[f'`{it}`']})" if f"`{it}`" in self.slugs else
+                 f"[`{it}`]({self.page_of(it)})" for it in named if it in self.items]
+        is_alone = len(links) == 1 and any(map(is_error, named))
+        return f"{'Error:' if is_alone else 'See'} {', '.join(links)}." if links else ""
 
     @staticmethod
     def constants(source):
@@ -487,26 +583,48 @@ class Door:
     def first(self):
         """The calls of the first block, as an example has them."""
         lines = [line for _, code in self.tests for line in shown.lines_of(code)]
-        for call in FIRST:
+        for call, before in FIRST.items():
             found = [line for line in lines if line.startswith(f"{call} // ")]
             self.lost += [] if found else [f"FIRST of .ci/door.py: no example has {call}"]
+            yield from [before] * bool(before)
             yield found[0] if found else call
 
     def rows(self, names_of):
-        """The rows of a table of items, each with half a line."""
+        """The rows of a table of items that have no entry, each with half a line."""
         for name in names_of:
             text = plain(self.text(name, self.item(self.items[name][0], name))).partition("\n")[0]
             half = HALVES.get(name) or half_of(first_sentence([text]))
-            to = f"#{self.slugs[f'`{name}`']}" if f"`{name}`" in self.slugs else self.page_of(name)
-            yield f"| [`{name}`]({to}) | {half} |"
+            yield f"| [`{name}`]({self.page_of(name)}) | {half} |"
 
-    def index(self):
-        """A table for each group."""
-        for group, (has, _, names_of) in GROUPS.items():
-            yield from (f"| [{group}](#{self.slugs[group]}) | {has} |", "|---|---|",
-                        *self.rows(names_of.split()), "")
-        yield f"{len(MORE)} names more are [{ELSEWHERE[0].lower()}{ELSEWHERE[1:]}](#{slug_of(ELSEWHERE)})."
-        yield ""
+    def section(self, group):
+        """The head of a section: the table of its calls, which has each, and its text, whose code is of
+        a test."""
+        table, text, names_of = GROUPS[group]
+        told = [line.strip().partition(" | ") for line in table.strip().split("\n") if line.strip()]
+        rows = [(", ".join(f"[`{it}`](#{self.slugs[f'`{it}`']})" for it in calls.split()), said)
+                for calls, _, said in told]
+        there = {it for calls, *_ in told for it in calls.split()}
+        for name in names_of.split() if told else ():
+            item = self.item(self.items[name][0], name)
+            if item and item.kind == "fn" and name not in there:
+                self.lost.append(f"GROUPS of .ci/door.py: no row of {group} has {name}")
+        table = [*rows_of(("Call", "What it does"), rows)[1:], ""] if rows else []
+        return [f"## {group}", "", *table, *self.linked(names_of.split(), flowed(text)), ""]
+
+    def linked(self, names_of, text):
+        """The lines of a section's text, in which a name of TABLED is a link where it is first. A number
+        that it is has to be there, and a test has the code."""
+        for name in (it for it in names_of if it in TABLED):
+            link = f"<a id=\"{self.slugs[f'`{name}`']}\"></a>[`{name}`]({self.page_of(name)})"
+            value = re.search(r" = (\d+);", self.item(self.items[name][0], name).text)
+            told = f"`{name}`, {value[1]} |" if value else f"`{name}`"
+            self.lost += [] if told in text else [f"GROUPS of .ci/door.py: no text has {told}"]
+            text = text.replace(f"`{name}`", link, 1)
+        shown_here = ["\n".join(shown.lines_of(code)) for _, code in self.tests]
+        self.lost += [f"GROUPS of .ci/door.py: no test has {code}"
+                      for code in re.findall(r"^```rust\n(.*?)\n```$", text, re.S | re.M)
+                      if not any(code in it for it in shown_here)]
+        return text.split("\n")
 
     def words_page(self):
         """The words of contracts that DOOR passes on, each as it is used and with what it says."""
@@ -527,14 +645,25 @@ class Door:
         have = names()
         self.lost += [f"GROUPS of .ci/door.py has no {it}" for it in self.items if it not in have]
         self.lost += [f"GROUPS of .ci/door.py: {DOOR} has no {it}" for it in have if it not in self.items]
-        lines = [HEAD.replace("LINES", "\n".join(self.first())).replace("SECTIONS", " · ".join(
-            f"[{group}](#{self.slugs[group]})" for group in GROUPS)), *self.index()]
-        for group, (_, use, names_of) in GROUPS.items():
-            entries = [it for it in names_of.split() if it in self.items]
-            lines += [f"## {group}", "", use, "", *itertools.chain(*map(self.lines_of, entries))]
+        self.lost += [f"HEAD of .ci/door.py doesn't lead to {it}" for it in GROUPS
+                      if f"](#{self.slugs[it]})" not in HEAD]
+        lines = [HEAD.replace("LINES", "\n".join(self.first()))]
+        for group, (*_, names_of) in GROUPS.items():
+            entries = [it for it in names_of.split() if it in self.items and it not in TABLED]
+            lines += [*self.section(group), *itertools.chain(*map(self.lines_of, entries))]
         lines += [f"## {ELSEWHERE}", "", MORE_HEAD, "", "| Name | What it is |", "|---|---|",
                   *self.rows(MORE)]
         return text_of("\n".join(lines).split("\n"))
+
+
+def is_error(name):
+    return name.endswith("Error") or name == "NoRoom"
+
+
+def flowed(text):
+    """A text of this file: each paragraph in one line, tables and code as they are."""
+    parts = textwrap.dedent(text).strip().split("\n\n")
+    return "\n\n".join(it if it.startswith(("|", "```")) else " ".join(it.split("\n")) for it in parts)
 
 
 def listed(names_of):

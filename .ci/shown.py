@@ -8,15 +8,17 @@ from sources import DOOR, Crate, files_below, passed_on, read
 EXAMPLES = "crates/digit_examples/src"
 TEST = re.compile(r"((?:^/// [^\n]*\n)+)#\[test\]\nfn \w+\(rt: HostRuntime\) \{\n(.*?)^\}\n", re.S | re.M)
 ASSERT = re.compile(r"^( *)assert(_eq)?!\(rt;(?: ([^\n]*)|\n(.*?)\n\1)\);$", re.S | re.M)
+# what `out` begins with, after a call that writes
+WROTE = re.compile(r'\0out\.starts_with\(b"(.*)"\) // true')
 MOST = 100
 # an answer in a doc comment: a variant with what it holds
 ANSWER = re.compile(r"\b(?:Ok|Err|Some|Over|Full|Fault|More)\((?:[^()]|\((?:[^()]|\([^()]*\))*\))*\)")
 
 
 def line_of(indent, shown, answer):
-    """An expression, and its answer as a comment: behind it, or in a line of its own."""
+    """An expression, and its result as a comment: behind it, or in a line of its own."""
     line = f"{indent}{shown} // {answer}"
-    return line if len(line) <= MOST else f"{indent}{shown}\n{indent}// answers {answer}"
+    return line if len(line) <= MOST else f"{indent}{shown}\n{indent}// returns {answer}"
 
 
 def told(match):
@@ -31,7 +33,20 @@ def told(match):
 def code_of(body):
     """The code of a test as a page has it: a caller hands on what a test expects."""
     text = ASSERT.sub(lambda m: "\0" + told(m), re.sub(r"^    ", "", body, flags=re.M))
-    return re.sub(r'\.expect\(&rt, ".*?"\)', "?", text.rstrip("\n"))
+    return folded(re.sub(r'\.expect\(&rt, ".*?"\)', "?", text.rstrip("\n")))
+
+
+def folded(code):
+    """An example in which the text that a call wrote is behind its length, and not in a line of its own."""
+    lines = []
+    for line in code.split("\n"):
+        wrote = WROTE.fullmatch(line)
+        call = next((n for n in reversed(range(len(lines))) if lines[n].strip() != "}"), None)
+        if wrote and call is not None and re.match(r"\0\s*write_\w+\(.*, &mut out\) // ", lines[call]):
+            lines[call] += f": \"{wrote[1]}\""
+        else:
+            lines.append(line)
+    return "\n".join(lines)
 
 
 def tests():

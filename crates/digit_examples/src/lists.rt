@@ -8,6 +8,15 @@ use digits::{
     parse_list, read_enclosed, read_float_list, read_items, read_list, read_list_by, read_optional,
 };
 
+/// A list, as the reference shows it first.
+#[test]
+fn a_first_list(rt: HostRuntime) {
+    let mut ports = [0u16; 4];
+    let read = read_list(b"80, 443;", 0, STANDARD, COMMAS, &mut ports);
+    assert_eq!(rt; (read.count, read.end), (2, ListEnd::Over(7)));
+    assert_eq!(rt; ports, [80, 443, 0, 0]);
+}
+
 /// Shows `read_list`.
 #[test]
 fn integers(rt: HostRuntime) {
