@@ -58,13 +58,14 @@ GROUPS = {
         read_grouped_from | … in groups of three: `1,234.5`
         read_price_from | … with both: `1,234.50`
         read_decimal_from read_decimal_of | Read digits and a power of ten, before rounding""", """
-        An amount is an integer in units of its last place, exactly: no float is on the way.""", """
+        An amount is an integer in units of its last place, exactly: no float is on the way. A sign is read
+        if the type has one.""", """
         parse_scaled read_scaled_from read_scaled_up_to read_exact_from read_grouped_from read_price_from
         read_decimal_from read_decimal_of Decimal ScaledError PriceError"""),
     "Literals of a language": ("""
         read_literal_as | Reads a literal as a number of a type: `0xff`
         read_literal | … with its word, and where its digits begin
-        prefix_word | The word of the digits after a prefix
+        prefix_word | Returns the word of the digits after a prefix
         languages | All languages by name
         is_language | Tests a language of your own""", "", """
         read_literal_as read_literal prefix_word languages is_language Literal Language FirstZero
@@ -73,7 +74,7 @@ GROUPS = {
         byte_at has_byte has_bytes | Look at a position
         expect_byte expect_bytes | Return the position after a byte or bytes, or an error
         past_bytes | Passes blanks, or any other set
-        name_end | Where a suffix ends: the `px` of `10px`""", "", """
+        name_end | Returns where a suffix ends: the `px` of `10px`""", "", """
         byte_at has_byte has_bytes expect_byte expect_bytes past_bytes name_end ByteSet"""),
     "Lists": ("""
         read_list read_float_list read_list_of | Read integers, floats, numbers of a form
@@ -104,8 +105,8 @@ GROUPS = {
         |---|---|---|---|
         | `COMMAS` | one comma, with any blanks around it | no | `1, 2 ,3` |
         | `COMMAS_IN_LINE` | one comma, with spaces and tabs around it | no | a line of CSV |
-        | `LINES` | one line feed, with other blanks around it | yes | `1\n2\n` |
-        | `WHITESPACE` | one blank or more | yes | `1 2\n3\n` |
+        | `LINES` | one line feed, with other blanks around it | yes | `1\\n2\\n` |
+        | `WHITESPACE` | one blank or more | yes | `1 2\\n3\\n` |
         | `SPACES_IN_LINE` | one space or tab, or more | yes | `1 2 3` |
 
         `BLANKS` are space, tab, line feed and carriage return. `SPACES` are space and tab. For another
@@ -115,7 +116,7 @@ GROUPS = {
         Integers Floats OfForm OfLanguage | Integers, floats, numbers of a form, literals
         Scaled Prices | `12.5`; `1,234.50`
         Both Enclosed | `3:4`; `"1.50"`
-        read_optional | Reads one number of a kind, which may be missing""", """
+        read_optional | One number of a kind, which may be missing""", """
         A kind is a value that says which numbers a list, a piece or a stream has:
         `Integers::<i32>::new(STANDARD)`. For values of your own write an [`impl Item`](#item), or an
         [`impl Kind`](../../crates/digit_pieces/README.md).""", """
@@ -128,7 +129,7 @@ GROUPS = {
         fold_stream NumberReader is_apart StreamRead StreamEnd FoldError EnclosedFoldError StreamError"""),
     "Pieces and blocks": ("""
         read_piece | Reads a list that goes on in the next piece
-        sure_end | Up to where the numbers of a piece are sure
+        sure_end | Returns up to where the numbers of a piece are sure
         block_start | Moves a cut to where a block may begin
         end_in_text | Turns a position of a block into one of the text""", "", """
         read_piece sure_end block_start end_in_text PieceRead PieceEnd"""),
@@ -167,24 +168,14 @@ GROUPS = {
     "Parts of a number": ("""
         read_mantissa read_exponent | Read digits and point; an exponent
         round_parts decimal_of | Make a float or a decimal of the two
-        stop_from read_first_digits_from | Where digits end; the first of them""", "", """
+        stop_from read_first_digits_from | Return where digits end; read the first of them""", "", """
         read_mantissa read_exponent round_parts decimal_of stop_from read_first_digits_from Mantissa Power
         FirstDigits Component Rule"""),
 }
+# The heads of a table of another section than one of calls.
+HEADS = {"Kinds of numbers": ("Kind, or call", "What it reads")}
 TABLED = """COMMAS COMMAS_IN_LINE LINES WHITESPACE SPACES_IN_LINE BLANKS SPACES MOST_ROOM FLOAT_ROOM
     PLAIN_ROOM""".split()
-# What an entry has after its text.
-BELOW = {
-    "read_number_of": """
-        | By | At 0 is | You get | It ends at |
-        |---|---|---|---|
-        | JSON | `-1.5e3,` | the float -1500.0 | 6 |
-        | JSON | `12]` | the integer 12 | 2 |
-        | JSON | `01` | the integer 0 | 1 |
-        | JSON | `1.` | the integer 1 | 1 |
-        | JSON | `.5` | `Err(Empty(0))` | |
-        | TOML | `-inf,` | the float -∞ | 4 |""",
-}
 
 # The forms that the table of the page tells, beside what all are for.
 FIRST_FORMS = ("JSON", "JSON_FLOATS", "RUST_PARSE", "STRTOD", "LITERAL", "FLOAT")
@@ -454,6 +445,7 @@ class Door:
                     "    /* ghost members and laws */", "}"]
         head = declaration_of(library.crate, item)
         head[0] = re.sub(r"^#\[derive\(.*?\)\] |pub ", "", head[0])
+        head = [plain(line) if line.strip().startswith("///") else line for line in head]
         impls, blocks = library.impls.get(id(item), []), {}
         for impl in sorted((it for it in impls if not it.trait), key=lambda it: " fn new(" not in it.text):
             blocks.setdefault(impl.head, []).extend(self.methods(impl))
@@ -495,7 +487,8 @@ class Door:
 
     def text(self, name, item):
         """What the doc comment of an item says, by paragraphs, without its example and without what
-        the head of the page tells. The page of its library has the later paragraphs of a call."""
+        the head of the page tells. Of a call it is the first paragraph, and a table; the page of its
+        library has all."""
         page = self.page_of(name)
         crate, anchor = page.split(".md#")
         docs = self.docs[crate].get(anchor, [])
@@ -503,10 +496,12 @@ class Door:
             path = self.items[name][1]
             docs = [first_sentence(self.libraries[crate].crate.modules[(path,)].source.docs)]
         text = re.sub(r"^```\w*\n.*?^```$", "", "\n".join(docs), flags=re.S | re.M)
-        parts = ([it for it in re.split(r"(?<=\.)\s+(?=[A-Z`\[])", " ".join(part.split()))
-                  if not it.startswith(TOLD)] for part in re.split(r"\n\s*\n", text))
-        parts = [" ".join(part) for part in parts if any(part)]
-        text = "\n\n".join(parts[:1] if item and item.kind == "fn" else parts)
+        parts = [part if part.startswith("|") else " ".join(
+            it for it in re.split(r"(?<=\.)\s+(?=[A-Z`\[])", " ".join(part.split()))
+            if not it.startswith(TOLD)) for part in re.split(r"\n\s*\n", text.strip())]
+        parts = [it for n, it in enumerate(filter(None, parts))
+                 if n == 0 or not item or item.kind != "fn" or it.startswith("|")]
+        text = "\n\n".join(parts)
         return re.sub(r"\]\(#", f"]({crate}.md#", text)
 
     def lines_of(self, name):
@@ -522,7 +517,6 @@ class Door:
         blocks = [line for code in (self.code(library, item), self.example(name)) if code
                   for line in ("", "```rust", *code, "```")]
         table = [] if item else self.constants(library.crate.modules[(path,)].source)
-        table += ["", *flowed(BELOW[name]).split("\n")] if name in BELOW else []
         named = ["", self.types(item)] if item and item.kind == "fn" and self.types(item) else []
         text = "\n\n".join([first, *parts])
         return [f"### [`{name}`]({self.page_of(name)})", "", self.to_here(text), *table, *blocks, *named, ""]
@@ -608,8 +602,9 @@ class Door:
             item = self.item(self.items[name][0], name)
             if item and item.kind == "fn" and name not in there:
                 self.lost.append(f"GROUPS of .ci/door.py: no row of {group} has {name}")
-        table = [*rows_of(("Call", "What it does"), rows)[1:], ""] if rows else []
-        return [f"## {group}", "", *table, *self.linked(names_of.split(), flowed(text)), ""]
+        table = [*rows_of(HEADS.get(group, ("Call", "What it does")), rows)[1:], ""] if rows else []
+        told = [*self.linked(names_of.split(), flowed(text)), ""] if text else []
+        return [f"## {group}", "", *table, *told]
 
     def linked(self, names_of, text):
         """The lines of a section's text, in which a name of TABLED is a link where it is first. A number

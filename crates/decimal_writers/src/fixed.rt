@@ -89,9 +89,11 @@ fn power_of(places: u32) -> i32
     -(places as i32)
 }
 
-/// Writes a finite float with a fixed number of places at the front of a slice, as C's `%.2f` does:
-/// rounded once from its exact value, at a tie to the even digit. Answers the length, or the room
-/// that it needs; what follows the text in the slice stays as it was.
+/// Writes a finite float with so many places, as C's `%.2f`. It is rounded once, from its exact
+/// value, at a tie to the even digit. It needs at most 311 + `places` bytes.
+///
+/// The call puts the text at the front of a slice, and returns its length, or the room that it
+/// needs; what follows the text in the slice stays as it was.
 #[tactic(auto)]
 #[inline]
 pub fn write_fixed(x: f64, places: u32, out: &mut [u8]) -> Result<usize, NoRoom>

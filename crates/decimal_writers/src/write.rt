@@ -176,10 +176,12 @@ fn write_usual_text(
     write_exponent_text(negative, digits, count, power, out)
 }
 
-/// Writes a decimal without an exponent at the front of a slice, and answers its length, or the
-/// room that it needs: `-0.00012`, `1.5`, `12000`, `0`. So Rust's `{}` writes a float, if the
-/// digits are its shortest. Digits of 0 are written too: 120 with the power -2 is `1.20`. What
-/// follows the text in the slice stays as it was.
+/// Writes digits and a power of ten without an exponent: `-0.00012`, `1.5`, `12000`, `0`. Zeros at
+/// the end of `digits` are written too: 120 with the power -2 is `1.20`.
+///
+/// The call puts the text at the front of a slice, and returns its length, or the room that it
+/// needs. So Rust's `{}` writes a float, if the digits are its shortest. What follows the text in
+/// the slice stays as it was.
 #[inline]
 #[tactic(auto, using(crate::proofs::Reading::reads))]
 pub fn write_plain(negative: bool, digits: u64, power: i32, out: &mut [u8]) -> Result<usize, NoRoom>
@@ -189,9 +191,11 @@ pub fn write_plain(negative: bool, digits: u64, power: i32, out: &mut [u8]) -> R
     write_plain_text(negative, digits, power, out)
 }
 
-/// Writes a decimal with an exponent, and with one digit before the point, at the front of a slice,
-/// and answers its length, or the room that it needs: `-1.2e-4`, `1.5e0`, `1e23`. So Rust's `{:e}`
-/// writes a float.
+/// Writes digits and a power of ten with one digit before the point and an exponent: `-1.2e-4`,
+/// `1.5e0`, `1e23`.
+///
+/// The call puts the text at the front of a slice, and returns its length, or the room that it
+/// needs. So Rust's `{:e}` writes a float.
 #[inline]
 #[tactic(auto, using(crate::proofs::Reading::reads))]
 pub fn write_exponent(
@@ -206,9 +210,12 @@ pub fn write_exponent(
     write_exponent_text(negative, digits, count_digits(digits), power, out)
 }
 
-/// Writes a decimal as serde_json writes a float, at the front of a slice, and answers its length,
-/// or the room that it needs: `0.00012`, `12000.0`, `1e-7`, `1e16`. It has an exponent below 1e-5
-/// and from 1e16 on; in between it has a point, and at least one place after it.
+/// Writes digits and a power of ten as serde_json writes a float: `0.00012`, `12000.0`, `1e-7`,
+/// `1e16`.
+///
+/// The call puts the text at the front of a slice, and returns its length, or the room that it
+/// needs. It has an exponent below 1e-5 and from 1e16 on; in between it has a point, and at least
+/// one place after it.
 #[inline]
 #[tactic(auto, using(crate::proofs::Reading::reads))]
 pub fn write_usual(negative: bool, digits: u64, power: i32, out: &mut [u8]) -> Result<usize, NoRoom>

@@ -14,11 +14,11 @@ use digit_integers::Integer;
 use std::error::Error;
 use std::fmt;
 
-/// Why there is no number with exactly these places, or with groups of three digits. A position
-/// counts bytes from the start of the text, from 0.
+/// Why no amount with these places, or in groups of three digits, was read. A position counts bytes
+/// from the start of the text, from 0.
 #[derive(Clone, Copy, Debug, PartialEq, Eq)]
 pub enum PriceError {
-    /// There is no number in units of its last place.
+    /// Why no amount was read.
     Number(ScaledError),
     /// The group of digits that begins at this position hasn't three, or as the first one of its
     /// integer not one to three.
@@ -28,7 +28,7 @@ pub enum PriceError {
 }
 
 impl PriceError {
-    /// The position that the error holds.
+    /// The position of the fault.
     pub fn position(&self) -> usize
         ensures { result ≡ price_position self.now }
     {
@@ -38,8 +38,8 @@ impl PriceError {
         }
     }
 
-    /// Whether the error says that no number begins at a position: there is no digit, nor a sign
-    /// or a point.
+    /// Whether it says that no number begins at `place`. Then there is no digit, nor a sign or a
+    /// point.
     pub fn is_none_at(&self, place: usize) -> bool
         ensures { result ≡ price_none_at place self.now }
     {
@@ -88,11 +88,11 @@ fn count_places(text: &[u8], word: u128, at: usize, point: u8) -> usize
     read_mantissa(text, word, at, point).places
 }
 
-/// The decimal number that begins at `start`, times ten to the power `places`, as an exact integer,
-/// with exactly `places` places: [`read_scaled_from`](crate::read_scaled_from), where the
-/// fraction has to have `places` digits. So a zero at its end is no longer optional. Requires that
-/// `start` is within the text, that the word is supported and decimal, and that there are at most
-/// 38 places.
+/// Reads an amount with exactly `places` places: `12.50`, and not `12.5`. Requires that `start` is
+/// within the text, that the word is supported and decimal, and that there are at most 38 places.
+///
+/// It is [`read_scaled_from`](crate::read_scaled_from), where the fraction has to have `places`
+/// digits. So a zero at its end is no longer optional.
 ///
 /// ```text
 /// of 2 places: `1.50;` Ok((150, 4)); `1.5;` Err(Places(3)); `1.500` Err(Places(5))
@@ -124,10 +124,11 @@ pub fn read_exact_from<T: Integer>(
     }
 }
 
-/// The decimal number that begins at `start`, times ten to the power `places`, as an exact integer,
-/// with its whole digits in groups of three: [`read_scaled_from`](crate::read_scaled_from),
-/// where the digits between two separators have to be three, and those before the first one to
-/// three ([`wrong_group`](crate::wrong_group)). Requires what that does.
+/// Reads an amount in groups of three digits: `1,234.5`.
+///
+/// It is [`read_scaled_from`](crate::read_scaled_from), where the whole digits between two
+/// separators have to be three, and those before the first one to three
+/// ([`wrong_group`](crate::wrong_group)). Requires what that does.
 ///
 /// ```text
 /// of 2 places, with `,` between digits: `1,234.5;` Ok((123450, 7)); `12.50` Ok((1250, 5))
@@ -158,9 +159,10 @@ pub fn read_grouped_from<T: Integer>(
     }
 }
 
-/// The price that begins at `start`, times ten to the power `places`, as an exact integer: with 2
-/// places `1,234.50` is 123450. It has groups of three digits and exactly `places` places, as by
-/// [`read_grouped_from`] and by [`read_exact_from`]. Requires what these do.
+/// Reads an amount with groups of three and exactly `places` places: `1,234.50`.
+///
+/// The groups are as by [`read_grouped_from`], and the places as by [`read_exact_from`]. Requires
+/// what these do.
 ///
 /// ```text
 /// of 2 places, with `,` between digits: `1,234.50 EUR` Ok((123450, 8)); `1,234.5` Err(Places(7))

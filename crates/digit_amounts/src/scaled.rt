@@ -16,21 +16,21 @@ use digit_values::LiteralError;
 use std::error::Error;
 use std::fmt;
 
-/// Why there is no scaled number. A position counts bytes from the start of the text, from 0.
+/// Why no amount was read. A position counts bytes from the start of the text, from 0.
 #[derive(Clone, Copy, Debug, PartialEq, Eq)]
 pub enum ScaledError {
     /// Neither integer nor fraction has a digit, and they end at this position.
     Empty(usize),
-    /// With the digit at this position the number is too large.
+    /// With the digit at this position the amount is outside of the type, or above `most`.
     TooLarge(usize),
-    /// The number has a digit other than 0 beyond the last place. The first such one is here.
+    /// The digit at this position is beyond the last place, and isn't 0.
     TooFine(usize),
-    /// The byte at this position is no part of the number before it.
+    /// The byte at this position is no part of the amount.
     Invalid(usize),
 }
 
 impl ScaledError {
-    /// The position that the error holds.
+    /// The position of the fault.
     pub fn position(&self) -> usize
         ensures { result ≡ position self.now }
     {
@@ -42,8 +42,8 @@ impl ScaledError {
         }
     }
 
-    /// Whether the error says that no number begins at a position: there is no digit, nor a sign
-    /// or a point.
+    /// Whether it says that no number begins at `place`. Then there is no digit, nor a sign or a
+    /// point.
     pub fn is_none_at(&self, place: usize) -> bool
         ensures { result ≡ none_at place self.now }
     {
@@ -226,9 +226,9 @@ fn fault_of(text: &[u8], word: u128, mantissa: Mantissa, places: usize, most: u1
     start + count_fitting(&text[start..mantissa.end], whole, places, most)
 }
 
-/// The decimal number at a position, times ten to the power `places`, if that is at most `most`:
-/// [`read_scaled_from`] of a number whose sign is yours to read. For a `DECIMAL(9, 2)` of SQL
-/// `most` is 999,999,999.
+/// Reads an amount without a sign, up to `most`: for a `DECIMAL(9, 2)` of SQL, 999,999,999.
+///
+/// It is [`read_scaled_from`] of a number whose sign is yours to read. Requires what that does.
 #[inline]
 #[tactic(auto, unfolding(crate::specs::Scaled::scaled_at))]
 pub fn read_scaled_up_to(
@@ -278,11 +278,13 @@ pub(super) fn sign_of<T: Integer>(text: &[u8], start: usize) -> (bool, usize)
     read_sign(text, start)
 }
 
-/// The decimal number that begins at `start`, times ten to the power `places`, as an exact integer
-/// of a type: with 2 places `12.5` is 1250; and the position after it. It is an optional `+` or `-`
-/// if the type has a sign, and then integer and fraction, with `point` between them, of any number
-/// of digits; one of the two may have none. An exponent isn't read. Requires that `start` is within
-/// the text, that the word is supported and decimal, and that there are at most 38 places.
+/// Reads the amount at `start`, and returns the position after it. One side of the point may have
+/// no digit. An exponent isn't read. Requires that `start` is within the text, that the word is
+/// supported and decimal, and that there are at most 38 places.
+///
+/// An amount is a decimal number times ten to the power `places`, as an exact integer of a type. It
+/// is an optional `+` or `-` if the type has a sign, and then integer and fraction, with `point`
+/// between them, of any number of digits.
 ///
 /// ```text
 /// `-1_234.5;` with internal `_`, as an `i64` of 2 places: Ok((-123450, 8))
@@ -315,8 +317,9 @@ pub fn read_scaled_from<T: Integer>(
     Ok((T::of_magnitude(is_negative, magnitude), end))
 }
 
-/// The decimal number that a whole text is, times ten to the power `places`, as an exact integer of
-/// a type: with 2 places `12.5` is 1250. [`read_scaled_from`] says what it may be.
+/// Reads a whole text as an amount: with 2 places `12.5` is 1250.
+///
+/// [`read_scaled_from`] says what it may be. Requires what that does.
 ///
 /// ```text
 /// `1_234.5` with internal `_`, as an `i64` of 2 places: Ok(123450); `1.5x`: Err(Invalid(3))

@@ -5,8 +5,8 @@ ghost use Rattle.digit_blocks.specs.Blocks.{piece_later, reach};
 
 use digit_pieces::{Kind, PieceEnd};
 
-/// The end of what was read of a block that begins at `offset` of its text, with its position in
-/// the text: the error of a fault holds it. There is none if it would be above `usize::MAX`.
+/// Turns the end of a block that begins at `offset` into one of the text: each position is so much
+/// later, also that of a fault. It is `None` if one would be above `usize::MAX`.
 ///
 /// ```text
 /// of a block at 100: Fault(Empty(3)) is Fault(Empty(103)), Over(4) is Over(104)

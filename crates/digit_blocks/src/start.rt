@@ -18,11 +18,12 @@ fn ends_of(gap: Gap) -> ByteSet
     }
 }
 
-/// The first position from `at` on where a block may begin: where the text begins, or after a byte
-/// that separates; if there is none, the length of the text. Where blanks alone separate, a blank
-/// is such a byte. So a text may be cut anywhere: the number that is cut belongs to the block that
-/// it begins in. The block that ends where the text ends is the last. Requires that `at` is within
-/// the text.
+/// Returns the first position from `at` on where a block may begin: where the text begins, after a
+/// byte that separates, or where the text ends. A number that is cut belongs to the block that it
+/// begins in. Requires that `at` is within the text.
+///
+/// Where blanks alone separate, a blank is such a byte. So a text may be cut anywhere. The block
+/// that ends where the text ends is the last.
 ///
 /// ```text
 /// `12,345,6` with COMMAS: from 0 it is 0, from 1 to 3 it is 3, from 4 to 7 it is 7, from 8 it is 8

@@ -32,16 +32,36 @@ fn from_a_position_on(rt: HostRuntime) {
         read_number_of::<f64>(b"-1.5e3,", 0, forms::JSON),
         Ok((Number::Float(-1500.0), 6))
     );
+    assert_eq!(rt;
+        read_number_of::<f64>(b".5", 0, forms::JSON),
+        Err(NumberError::Empty(0))
+    );
+}
+
+/// The other rows of the table in the doc comment of that call.
+#[test]
+fn numbers_before_other_bytes(rt: HostRuntime) {
+    let twelve = Number::Integer {
+        negative: false,
+        magnitude: 12,
+        word: STANDARD,
+    };
+    assert_eq!(rt;
+        read_number_of::<f64>(b"12]", 0, forms::JSON),
+        Ok((twelve, 2))
+    );
     let zero = Number::Integer {
         negative: false,
         magnitude: 0,
         word: STANDARD,
     };
     assert_eq!(rt; read_number_of::<f64>(b"01", 0, forms::JSON), Ok((zero, 1)));
-    assert_eq!(rt;
-        read_number_of::<f64>(b".5", 0, forms::JSON),
-        Err(NumberError::Empty(0))
-    );
+    let one = Number::Integer {
+        negative: false,
+        magnitude: 1,
+        word: STANDARD,
+    };
+    assert_eq!(rt; read_number_of::<f64>(b"1.", 0, forms::JSON), Ok((one, 1)));
     assert_eq!(rt;
         read_number_of::<f64>(b"-inf,", 0, forms::TOML),
         Ok((Number::Float(-f64::INFINITY), 4))

@@ -204,7 +204,7 @@ fn the_sum_of_a_stream(rt: HostRuntime) {
         fold_stream(stream, &mut buffer, kind, LINES, 0, add),
         Ok(21)
     );
-    // 200 + 100 is no `u8`: the step answered `None` at the 100, and the next number may begin at 8
+    // 200 + 100 is no `u8`: the step returned `None` at the 100, and the next number may begin at 8
     let add = |sum: u8, number: u8| sum.checked_add(number);
     let stream = b"200\n100\n7\n".as_slice();
     let sum = fold_stream(stream, &mut buffer, kind, LINES, 0, add);

@@ -128,7 +128,7 @@ fn exact_magnitude<F: Float>(magnitude: u128) -> Option<F>
     F::times_ten_to(magnitude as u64, 0)
 }
 
-/// The float nearest to an integer, by its sign and its magnitude. A zero keeps its sign.
+/// Rounds an integer, by its sign and its magnitude, to the nearest float. A zero keeps its sign.
 #[tactic(auto, using(crate::proofs::Numbers::round_number))]
 pub fn round_integer<F: Float>(negative: bool, magnitude: u128) -> F
     ensures value { F.value result ≡ round F.format negative magnitude 1 }

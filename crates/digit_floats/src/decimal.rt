@@ -42,8 +42,8 @@ fn exponent_of(power: Power, dropped: usize, places: usize) -> i64
     }
 }
 
-/// The decimal number of a mantissa of a text and a power, before it is rounded: what
-/// [`round_parts`](crate::round_parts) rounds.
+/// Returns the number that [`round_parts`](crate::round_parts) rounds: its digits and a power of
+/// ten.
 #[inline(always)]
 pub fn decimal_of(text: &[u8], negative: bool, mantissa: Mantissa, power: Power) -> Decimal
     requires { IsMantissa text.now mantissa }
@@ -59,9 +59,10 @@ pub fn decimal_of(text: &[u8], negative: bool, mantissa: Mantissa, power: Power)
     }
 }
 
-/// The decimal number that begins at a position of a text, and the position after it: what
-/// [`read_float_from`](crate::read_float_from) rounds. Requires that the word is supported, and
-/// that its mantissa and exponent are decimal.
+/// Reads the number that [`read_float_from`](crate::read_float_from) rounds: its digits and a power
+/// of ten. Requires that the word is supported, and that its mantissa and exponent are decimal.
+///
+/// It begins at `start`, and the position after it is returned too.
 ///
 /// ```text
 /// `-0.1000000000000000055511151231257827e+7x`:

@@ -7,20 +7,20 @@ ghost use Rattle.digit_floats.specs.Errors.{message};
 use std::error::Error;
 use std::fmt;
 
-/// Why there is no float. A position counts bytes from the start of the text, from 0.
+/// Why no float was read. A position counts bytes from the start of the text, from 0.
 #[derive(Clone, Copy, Debug, PartialEq, Eq)]
 pub enum FloatError {
     /// Neither integer nor fraction has a digit. The position is after a sign and a point, if there
-    /// are any: of `inf` it is 0, of `-.` 2.
+    /// are any: of `-.` it is 2.
     Empty(usize),
     /// No digit follows the mark of an exponent; one would be here.
     EmptyExponent(usize),
-    /// The byte at this position is no part of the float before it.
+    /// The byte at this position is no part of the float.
     Invalid(usize),
 }
 
 impl FloatError {
-    /// The position that the error holds.
+    /// The position of the fault.
     pub fn position(&self) -> usize
         ensures { result ≡ errors.position self.now }
     {
@@ -29,8 +29,8 @@ impl FloatError {
         }
     }
 
-    /// Whether the error says that no float begins at a position: there is no digit, nor a sign or
-    /// a point.
+    /// Whether it says that no float begins at `place`. Then there is no digit, nor a sign or a
+    /// point.
     pub fn is_none_at(&self, place: usize) -> bool
         ensures { result ≡ errors.none_at place self.now }
     {

@@ -81,11 +81,13 @@ fn read_float_rest<F: Float>(
     }
 }
 
-/// The float that begins at a position of a text, and the position after it:
-/// `[+-]? (D+ (. D*)? | . D+) ([eE] [+-]? D+)?`, where `D` is a digit, and separators that the word
-/// drops may be among them. What is too large is infinite, and what is too small is 0. Requires
-/// that the word is supported, and that its mantissa and exponent are decimal. `inf` and `nan` are
-/// no digits, so they are refused as `Empty`: a word says nothing about them.
+/// Reads the float at `start`, and returns the position after it. Requires that the word is
+/// supported, and that its mantissa and exponent are decimal.
+///
+/// It is `[+-]? (D+ (. D*)? | . D+) ([eE] [+-]? D+)?`, where `D` is a digit, and separators that
+/// the word drops may be among them. The float is the one nearest to this number. What is too large
+/// is infinite, and what is too small is 0. `inf` and `nan` are no digits, so they are refused as
+/// `Empty`: a word says nothing about them.
 ///
 /// ```text
 /// by `STANDARD`: `x=1.5e3,` from 2: Ok((1500.0, 7)); `1.5.2` from 0: Ok((1.5, 3))
@@ -149,7 +151,10 @@ fn read_last_float<F: Float>(
     read_float_rest::<F>(text, word, start)
 }
 
-/// The float at the start of a text, and the position after it: [`read_float_from`] from 0.
+/// Reads the float at the front of a text, and returns the position after it. An `e` without a
+/// digit is a fault: to read the 1 of `1em`, take `read_number_of` by `forms::CSS`.
+///
+/// It is [`read_float_from`] from 0.
 #[inline(always)]
 pub fn read_float<F: Float>(text: &[u8], word: u128) -> Result<(F, usize), FloatError>
     requires supported { IsTrue (is_supported word) }
@@ -164,7 +169,10 @@ pub fn read_float<F: Float>(text: &[u8], word: u128) -> Result<(F, usize), Float
     read_float_from::<F>(text, word, 0)
 }
 
-/// The float that a text is from a position on, as by [`read_float_from`].
+/// Reads a text from `start` on to its end as a float. The position of a fault is that in the whole
+/// text.
+///
+/// The float is as by [`read_float_from`]. Requires what that does.
 #[inline(always)]
 pub fn parse_float_from<F: Float>(text: &[u8], word: u128, start: usize) -> Result<F, FloatError>
     requires supported { IsTrue (is_supported word) }
@@ -182,11 +190,12 @@ pub fn parse_float_from<F: Float>(text: &[u8], word: u128, start: usize) -> Resu
     Ok(x)
 }
 
-/// The float nearest to the number that a whole text is:
-/// `[+-]? (D+ (. D*)? | . D+) ([eE] [+-]? D+)?`, where `D` is a digit, and separators that the word
-/// drops may be among them. What is too large is infinite, what is too small is 0, and `inf` and
-/// `nan` are refused. Requires that the word is supported, and that its mantissa and exponent are
-/// decimal.
+/// Reads a whole text as a float. Requires that the word is supported, and that its mantissa and
+/// exponent are decimal.
+///
+/// The text is `[+-]? (D+ (. D*)? | . D+) ([eE] [+-]? D+)?`, where `D` is a digit, and separators
+/// that the word drops may be among them. The float is the one nearest to this number. What is too
+/// large is infinite, what is too small is 0, and `inf` and `nan` are refused.
 ///
 /// ```text
 /// by `STANDARD`: `-1.5e3`: Ok(-1500.0); `.5`: Ok(0.5); `1e999`: Ok(inf)

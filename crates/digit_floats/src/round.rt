@@ -179,9 +179,9 @@ fn round_rest<F: Float>(text: &[u8], negative: bool, mantissa: Mantissa, power: 
     round_apart::<F>(text, negative, mantissa, power)
 }
 
-/// The float nearest to the number that integer, fraction and exponent of a text make, with a sign.
-/// `mantissa` and `power` are what [`read_mantissa`](crate::read_mantissa) and
-/// [`read_exponent`](crate::read_exponent) answered of this text.
+/// Rounds integer, fraction and exponent of a text to the nearest float, with a sign. `mantissa`
+/// and `power` are what [`read_mantissa`](crate::read_mantissa) and
+/// [`read_exponent`](crate::read_exponent) returned of this text.
 #[inline(always)]
 pub fn round_parts<F: Float>(text: &[u8], negative: bool, mantissa: Mantissa, power: Power) -> F
     requires { IsMantissa text.now mantissa }

@@ -145,13 +145,13 @@ fn read_counted<T: Integer>(
     }
 }
 
-/// The number of exactly `n` digits that begin at `start`, and where they end, at `start + n`: no
-/// sign, no separator, and what follows them isn't looked at. Digits are those of the radix, with
-/// letters of either case. Any radix may be given.
+/// Reads exactly `n` digits: no sign, no separator. What follows isn't looked at. In a radix above
+/// 10 letters are digits, in either case.
 ///
-/// The number is below `radix` to the power `n`: two decimal digits are at most 99. With an `n` of
-/// 0 it is 0, and ends at `start`, also where that is after the end of the text. Radix 1 has the
-/// digit `0` alone, so its numbers are 0; radix 0 has no digit.
+/// They begin at `start`, and end at `start + n`. The number is below `radix` to the power `n`: two
+/// decimal digits are at most 99. Any radix may be given. With an `n` of 0 the number is 0, and
+/// ends at `start`, also where that is after the end of the text. Radix 1 has the digit `0` alone,
+/// so its numbers are 0; radix 0 has no digit.
 ///
 /// [`Empty`](LiteralError::Empty) holds the first of the `n` bytes that is no digit, or the end of
 /// the text; [`Overflow`](LiteralError::Overflow) the first digit with which the type has no such
@@ -181,8 +181,9 @@ pub fn read_exactly<T: Integer>(
     read_counted::<T>(text, start, radix, n, n)
 }
 
-/// The number of at least one and at most `n` digits that begin at `start`, and where they end:
-/// [`read_exactly`] of as many digits as are there, if these are fewer. An `n` of 0 is
+/// Reads one to `n` digits, as many as there are.
+///
+/// It is [`read_exactly`] of as many digits as are there, if these are fewer. An `n` of 0 is
 /// [`Empty`](LiteralError::Empty).
 ///
 /// ```text

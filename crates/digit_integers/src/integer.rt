@@ -43,11 +43,12 @@ pub fn read_integer(text: &[u8], word: u128) -> Result<(u64, usize), LiteralErro
     read_integer_from(text, word, 0, u64::MAX)
 }
 
-/// The integer that begins at `start`, without a sign, as a `u64` of at most `most`, and where it
-/// ends. Positions count from the start of the text. A separator at `start` is judged with the byte
-/// before it. Requires that `start` is within the text and the word is supported.
+/// Reads an integer without a sign, up to `most`, as a `u64`. Requires that `start` is within the
+/// text and the word is supported.
 ///
-/// [`Overflow`](LiteralError::Overflow) holds the first digit with which the value is above `most`.
+/// It begins at `start`. Positions count from the start of the text. A separator at `start` is
+/// judged with the byte before it. [`Overflow`](LiteralError::Overflow) holds the first digit with
+/// which the value is above `most`.
 ///
 /// ```text
 /// `0x1_f` with internal `_` and radix 16, from 2: Ok((31, 5)); up to 9: Err(Overflow(4))

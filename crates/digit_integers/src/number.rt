@@ -87,14 +87,13 @@ fn read_head<T: Integer>(text: &[u8], rule: Rule, start: usize) -> Head
     head
 }
 
-/// The number of a type that begins at `start`, and where it ends: an optional `+` or `-` if the
-/// type has a sign, and then an integer. Requires that `start` is within the text and the word is
-/// supported.
+/// Reads the integer at `start`, and returns the position after it. Requires that `start` is within
+/// the text and the word is supported.
 ///
-/// [`Empty(at)`](LiteralError::Empty) says that no digit is at `at`, after the sign if there is
-/// one: the text ends, or another byte is there, such as a separator that the word doesn't drop.
-/// [`Overflow`](LiteralError::Overflow) holds the position of the first digit with which the type
-/// has no such number.
+/// A `+` or a `-` may be first if the type has a sign. [`Empty(at)`](LiteralError::Empty) says that
+/// no digit is at `at`, after the sign if there is one: the text ends, or another byte is there,
+/// such as a separator that the word doesn't drop. [`Overflow`](LiteralError::Overflow) holds the
+/// position of the first digit with which the type has no such number.
 ///
 /// ```text
 /// `8080:65536`, `read_number_from::<u16>` from 5: Err(Overflow(9))
@@ -297,9 +296,8 @@ fn to_the_end<T: Integer>(
     }
 }
 
-/// The number of a type that a text is from `start` on to its end. Otherwise the first fault; its
-/// position is that in the text. Requires that `start` is within the text and the word is
-/// supported.
+/// Reads a text from `start` on to its end as an integer. The position of a fault is that in the
+/// whole text. Requires that `start` is within the text and the word is supported.
 ///
 /// ```text
 /// `x=-1_29` with internal `_`, `parse_number_from::<i8>` from 2: Err(Overflow(6))
@@ -326,9 +324,11 @@ pub fn parse_number_from<T: Integer>(text: &[u8], word: u128, start: usize) -> R
     to_the_end::<T>(text, word, start, head.is_negative, read)
 }
 
-/// The integer that a whole text is, after a `+` or a `-` if the type has a sign, as a value of a
-/// type: `u8` to `u128`, `i8` to `i128`, `usize`, `isize`. Otherwise the first fault. Requires that
-/// the word is supported.
+/// Reads a whole text as an integer, or returns its first fault. Requires that the word is
+/// supported.
+///
+/// A `+` or a `-` may be first if the type has a sign. The types are `u8` to `u128`, `i8` to
+/// `i128`, `usize` and `isize`.
 ///
 /// ```text
 /// with internal `_`, `parse_number::<i8>`: `-1_28` is Ok(-128), `128` is Err(Overflow(2))
@@ -344,8 +344,10 @@ pub fn parse_number<T: Integer>(text: &[u8], word: u128) -> Result<T, ParseError
     parse_number_from::<T>(text, word, 0)
 }
 
-/// The integer at the start of a text, as a value of a type, and the position after it:
-/// [`read_number_from`] from 0. Requires that the word is supported.
+/// Reads the integer at the front of a text, and returns the position after it. Requires that the
+/// word is supported.
+///
+/// It is [`read_number_from`] from 0.
 ///
 /// ```text
 /// `-1_000 m` with internal `_`, `read_number::<i32>`: Ok((-1000, 6))

@@ -7,21 +7,20 @@ use digit_values::LiteralError;
 use std::error::Error;
 use std::fmt;
 
-/// The first fault of a text that is no number of its type. A position counts bytes from 0.
+/// Why a whole text is no integer. A position counts bytes from 0.
 #[derive(Clone, Copy, Debug, PartialEq, Eq)]
 pub enum ParseError {
-    /// The text ends at this position, where a digit has to be: the empty text, or a sign alone.
-    /// If `?` made it of a [`LiteralError`], another byte may be there.
+    /// The text ends at this position, where a digit has to be. If `?` made it of a
+    /// [`LiteralError`], another byte may be there.
     Empty(usize),
-    /// The byte at this position is no part of the number: no digit, and no separator that the word
-    /// drops there.
+    /// The byte at this position is no part of the number.
     Invalid(usize),
     /// With the digit at this position the value is outside of the type.
     Overflow(usize),
 }
 
 impl ParseError {
-    /// The position that it holds.
+    /// The position of the fault.
     #[inline(always)]
     pub fn position(&self) -> usize
         ensures { result ≡ position self.now }

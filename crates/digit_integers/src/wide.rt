@@ -19,11 +19,11 @@ use digit_words::powers::ten_to;
 use lexical_digits::skip::{Component, Rule};
 use lexical_format::char_to_digit_const;
 
-/// The integer that begins at `start`, without a sign, as a `u128` of at most `most`, and where it
-/// ends: [`read_integer_from`] for up to 128 bits, which is faster for up to 64. Requires that
-/// `start` is within the text and the word is supported.
+/// Reads an integer without a sign, up to `most`, as a `u128`. Up to 64 bits [`read_integer_from`]
+/// is faster. Requires that `start` is within the text and the word is supported.
 ///
-/// [`Overflow`](LiteralError::Overflow) holds the first digit with which the value is above `most`.
+/// It begins at `start`. [`Overflow`](LiteralError::Overflow) holds the first digit with which the
+/// value is above `most`.
 ///
 /// ```text
 /// `99999999999999999999`, up to 2 to the power 64: Err(Overflow(19))

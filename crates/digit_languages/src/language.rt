@@ -48,7 +48,9 @@ impl FirstZero {
     }
 }
 
-/// Whether each word of a language is supported, as [`read_literal`](super::read_literal) requires.
+/// Tests whether each word of a language is supported. Every language with a name passes.
+///
+/// [`read_literal`](super::read_literal) requires that.
 #[inline(always)]
 pub fn is_language(language: Language) -> bool
     ensures is { IsTrue result → IsLanguage language }

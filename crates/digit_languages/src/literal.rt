@@ -24,21 +24,19 @@ pub struct Literal {
     pub end: usize,
 }
 
-/// Why there is no literal. A position counts bytes from the start of the text, from 0.
+/// Why no literal was read. A position counts bytes from the start of the text, from 0.
 #[derive(Clone, Copy, Debug, PartialEq, Eq)]
 pub enum LanguageError {
-    /// No digit is at this position, where the literal needs one, after its prefix if it has one:
-    /// another byte is there, or the text ends.
+    /// No digit is at this position, where one has to be.
     Empty(usize),
-    /// With the digit at this position the value is above the greatest one.
+    /// With the digit at this position the value is outside of the type, or above `most`.
     Overflow(usize),
-    /// The language refuses the first `0`, which is at this position, whatever the greatest value
-    /// is.
+    /// The language refuses the first `0`, which is at this position.
     Zero(usize),
 }
 
 impl LanguageError {
-    /// The position that it holds.
+    /// The position of the fault.
     #[inline(always)]
     pub fn position(&self) -> usize
         ensures { result ≡ position self.now }
@@ -48,7 +46,7 @@ impl LanguageError {
         }
     }
 
-    /// Whether it says that no literal begins at a position: no digit is there.
+    /// Whether it says that no literal begins at `place`. Then no digit is there.
     #[inline(always)]
     pub fn is_none_at(&self, place: usize) -> bool
         ensures { result ≡ none_at place self.now }
@@ -100,8 +98,9 @@ fn has_prefix(language: Language, text: &[u8], start: usize, letter: u8) -> bool
             || (language.upper && has_byte(text, start + 1, letter - 32)))
 }
 
-/// The word of the digits after the prefix at `start`, or `None` if no prefix of the language is
-/// there. Requires that the start is within the text and the language's words are supported.
+/// Returns the word of the digits after the prefix at `start`, or `None` if no prefix of the
+/// language is there. Requires that the start is within the text and the language's words are
+/// supported.
 #[inline(always)]
 pub fn prefix_word(language: Language, text: &[u8], start: usize) -> Option<u128>
     requires language { IsLanguage language }
@@ -151,9 +150,11 @@ fn refuses(language: Language, text: &[u8], start: usize, has_more: bool, has_ot
         }
 }
 
-/// The integer literal of a language that begins at `start`, if its value is at most `most`: a
-/// prefix that the language has, and then digits as its word says. What follows, such as a suffix,
-/// isn't read. Requires that `start` is within the text and the language's words are supported.
+/// Reads a literal up to `most`: its value, its word, and where its digits are. Requires that
+/// `start` is within the text and the language's words are supported.
+///
+/// It begins at `start`: a prefix that the language has, and then digits as its word says. What
+/// follows, such as a suffix, isn't read.
 ///
 /// ```text
 /// of Rust, `0xff_u8`: value 255, digits 2, end 5        `0b`: Err(Empty(2))
@@ -201,9 +202,11 @@ pub fn read_literal(
     }
 }
 
-/// The integer literal of a language that begins at `start`, as a number of a type that has it, and
-/// where it ends: [`read_literal`] up to the type's greatest number. A `-` before it isn't read.
-/// Requires that `start` is within the text and the language's words are supported.
+/// Reads a literal at `start` as a number of a type, and returns the position after it. A `-`
+/// before it and a suffix after it are yours. Requires that `start` is within the text and the
+/// language's words are supported.
+///
+/// It is [`read_literal`] up to the type's greatest number.
 ///
 /// ```text
 /// of Rust, `0xff_u8`, `read_literal_as::<u8>`: Ok((255, 5))      `0x1_00`: Err(Overflow(5))

@@ -28,7 +28,7 @@ pub enum EnclosedError<E> {
 }
 
 impl<E: NoNumber> EnclosedError<E> {
-    /// The position that the error holds.
+    /// The position of the fault.
     pub fn position(&self) -> usize
         ensures { result ≡ enclosed_position E.fault_at self.now }
     {
@@ -84,11 +84,12 @@ fn read_inside<K: Kind>(
     read_full_list(kind, text, at, gap, out)
 }
 
-/// The numbers of a kind between an opening byte at `start` and a closing byte, read into a slice,
-/// with what `gap` says between two of them: how many they are, and the position after the closing
-/// byte. Blanks of the gap may be after the opening byte and before the closing one. A list may be
-/// empty, whatever the gap is. Otherwise it is as by [`parse_list`](crate::parse_list). Requires
-/// that the kind is valid and that `start` is within the text. Takes no memory.
+/// Reads a list between two bytes, as `[1, 2]`, and returns how many numbers it has and the
+/// position after the closing byte. It may be empty. Requires that the kind is valid and that
+/// `start` is within the text. Takes no memory.
+///
+/// The opening byte is at `start`. Blanks of the gap may be after it and before the closing byte. A
+/// list may be empty, whatever the gap is. Otherwise it is as by [`parse_list`](crate::parse_list).
 ///
 /// After an error the front of the slice has the numbers before the fault. Its rest isn't touched.
 ///

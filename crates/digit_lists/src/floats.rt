@@ -12,11 +12,11 @@ use digit_floats::{Float, FloatError};
 use digit_literals::{Gap, ListRead, read_list_with};
 use digit_pieces::Floats;
 
-/// The floats from `start` on, read into a slice: each as by
-/// [`read_float_from`](digit_floats::read_float_from), with what `gap` says between two of them. It
-/// is [`read_list`](digit_literals::read_list) of floats, and ends as that does. Requires that
-/// `start` is within the text, that the word is supported, and that its mantissa and exponent are
-/// decimal.
+/// Reads floats, as [`read_list`](digit_literals::read_list) reads integers. Requires that `start`
+/// is within the text, that the word is supported, and that its mantissa and exponent are decimal.
+///
+/// Each is read as by [`read_float_from`](digit_floats::read_float_from), with what `gap` says
+/// between two of them.
 ///
 /// ```text
 /// `1.5, -2e3]` with COMMAS, into 3 places: count 2, Over(9)

@@ -76,10 +76,10 @@ impl<T: Item> ReadsOne for Items<T> {
     }
 }
 
-/// The values of a type of your own from `start` on, read into a slice: each as by its
-/// [`read_item`](Item::read_item), with what `gap` says between two of them. It is
-/// [`read_list`](digit_literals::read_list) of these values, and ends as that does. Requires that
-/// `start` is within the text.
+/// Reads values of your own type, as [`read_list`](digit_literals::read_list) reads integers.
+/// Requires that `start` is within the text.
+///
+/// Each is read as by its [`read_item`](Item::read_item), with what `gap` says between two of them.
 #[inline(always)]
 pub fn read_items<T: Item>(text: &[u8], start: usize, gap: Gap, out: &mut [T]) -> ListRead<T::Error>
     requires within { start ≤ length text.now }

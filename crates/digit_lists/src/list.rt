@@ -23,7 +23,7 @@ pub enum ListError<E> {
 }
 
 impl<E: NoNumber> ListError<E> {
-    /// The position that the error holds.
+    /// The position of the fault.
     pub fn position(&self) -> usize
         ensures { result ≡ list_position E.fault_at self.now }
     {
@@ -80,9 +80,8 @@ impl<K: Kind> ReadsOne for OfKind<K> {
     }
 }
 
-/// The numbers of a kind from `start` on, read into a slice, with what `gap` says between two of
-/// them: [`read_list`](digit_literals::read_list) of any kind of numbers, which ends as that does.
-/// Requires that the kind is valid and that `start` is within the text.
+/// Reads numbers of any kind, as [`read_list`](digit_literals::read_list) reads integers. Requires
+/// that the kind is valid and that `start` is within the text.
 ///
 /// ```text
 /// decimal numbers of 2 places, `1.5, 2 ,3]` with COMMAS, into 3 places: count 3, Over(9)
@@ -151,17 +150,17 @@ pub(super) fn read_full_list<K: Kind>(
     }
 }
 
-/// The numbers of a kind that a whole text lists, read into a slice, with what `gap` says between
-/// two of them: how many they are, or the first fault. Requires that the kind is valid. Takes no
-/// memory.
+/// Reads a whole text as a list, and returns how many numbers it has. Requires that the kind is
+/// valid. Takes no memory.
 ///
 /// Blanks may be before the first number and after the last one. A separator may be last only if
-/// the gap says so by `may_trail`. An empty text, or one of blanks, is a list of no numbers
-/// if the gap may trail; otherwise a number has to be there, and the error is that of the number
-/// at the end of the text.
+/// the gap says so by `may_trail`. An empty text, or one of blanks, is a list of no numbers if the
+/// gap may trail; otherwise a number has to be there, and the error is that of the number at the
+/// end of the text.
 ///
-/// A text with more numbers than the slice has places is [`NoRoom`](ListError::NoRoom). After an
-/// error the front of the slice has the numbers before the fault. Its rest isn't touched.
+/// The error is the first fault. A text with more numbers than the slice has places is
+/// [`NoRoom`](ListError::NoRoom). After an error the front of the slice has the numbers before the
+/// fault. Its rest isn't touched.
 ///
 /// ```text
 /// `1, 2,3` with COMMAS: Ok(3); into 2 places: Err(NoRoom(5))    `1,2]`: Err(Invalid(3))

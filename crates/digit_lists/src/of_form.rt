@@ -11,10 +11,11 @@ use digit_literals::{Gap, ListRead, read_list_with};
 use digit_numbers::{Form, Number, NumberError};
 use digit_pieces::OfForm;
 
-/// The numbers of a form from `start` on, read into a slice: each as by
-/// [`read_number_of`](digit_numbers::read_number_of), with what `gap` says between two of them. It
-/// is [`read_list`](digit_literals::read_list) of these numbers, and ends as that does. Requires
+/// Reads numbers of a form, as [`read_list`](digit_literals::read_list) reads integers. Requires
 /// that `start` is within the text, and that the form is one ([`is_form`](digit_numbers::is_form)).
+///
+/// Each is read as by [`read_number_of`](digit_numbers::read_number_of), with what `gap` says
+/// between two of them.
 ///
 /// ```text
 /// of JSON, `1, -2.5e3 ]` with COMMAS, into 3 places: count 2, Over(10)

@@ -5,10 +5,11 @@ ghost use Rattle.digit_lists.specs.Optional.{optional, with_meaning};
 
 use digit_pieces::Kind;
 
-/// The number of a kind that begins at `start`, and the position after it; or `None` if no number
-/// begins there. The number's error says that ([`Kind::is_none_at`]): at the end of the text, at a
-/// letter, or at a blank. A sign without a digit is an error, and so is a number that is too large.
-/// Requires that the kind is valid and that `start` is within the text.
+/// Reads the number at `start`, or returns `None` if none begins there. Requires that the kind is
+/// valid and that `start` is within the text.
+///
+/// The number's error says that ([`Kind::is_none_at`]): at the end of the text, at a letter, or at
+/// a blank. A sign without a digit is an error, and so is a number that is too large.
 ///
 /// ```text
 /// an `i8` of `x=-12;` from 2: Ok(Some((-12, 5))); from 5: Ok(None)

@@ -95,7 +95,7 @@ pub enum ListEnd<E> {
     Fault(E),
 }
 
-/// What was read of a list.
+/// How many numbers were read, and why no more.
 #[derive(Clone, Copy, Debug, PartialEq, Eq)]
 pub struct ListRead<E> {
     /// How many numbers were written into the slice.
@@ -340,11 +340,12 @@ pub fn read_list_with<R: ReadsOne>(
     }
 }
 
-/// The numbers of a type from `start` on, read into a slice: each as by
-/// [`read_number_from`](digit_integers::read_number_from), with what `gap` says between two of
-/// them. It reads until the slice is full, the list is over, or no number is where one has to be.
-/// The front of the slice has the numbers that were read, its rest isn't touched. Takes no memory.
-/// Requires that `start` is within the text and the word is supported.
+/// Reads integers from `start` on. Takes no memory. Requires that `start` is within the text and
+/// the word is supported.
+///
+/// Each is read as by [`read_number_from`](digit_integers::read_number_from), with what `gap` says
+/// between two of them. It reads until the slice is full, the list is over, or no number is where
+/// one has to be. The front of the slice has the numbers that were read, its rest isn't touched.
 ///
 /// [`Full(at)`](ListEnd::Full) says that the slice is full: the next call goes on from `at`, and
 /// the two read what one would ([`a_list_goes_on`](crate::laws::lists::a_list_goes_on)).

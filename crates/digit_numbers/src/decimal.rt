@@ -134,12 +134,14 @@ fn read_plain_decimal(
     Ok((whole_to(text, form, sign.is_minus, mantissa, end), end))
 }
 
-/// The decimal number of a form that begins at `start`, and the position after it: the number that
-/// [`read_number_of`](crate::read_number_of) reads, as it is written, before it is rounded. It is
-/// the same for digits with a point or an exponent, and for those without; an integer above 128
-/// bits is one too, unless its first digit is 0. Special values, and what has a prefix or another
-/// radix, are none: `Empty`. Requires that `start` is within the text, and that the form is one
-/// ([`is_form`](crate::is_form)).
+/// Reads the number that [`read_number_of`](crate::read_number_of) rounds: its digits and a power
+/// of ten. Of `0x1f` and `inf` the error is `Empty`. Requires that `start` is within the text, and
+/// that the form is one ([`is_form`](crate::is_form)).
+///
+/// It begins at `start`, and is as it is written, before it is rounded; the position after it is
+/// returned too. It is the same for digits with a point or an exponent, and for those without; an
+/// integer above 128 bits is one too, unless its first digit is 0. Special values, and what has a
+/// prefix or another radix, are none: `Empty`.
 ///
 /// ```text
 /// of MySQL, `12.50,`: 1250 times ten to -2, 5

@@ -356,7 +356,9 @@ fn are_apart(form: Form) -> bool
         && may_mark(form.integers, form.marks.exponent)
 }
 
-/// Whether the words of a form are supported, its floats are decimal, or hexadecimal with a decimal
+/// Tests whether numbers can be read by this form. Every form with a name passes.
+///
+/// The words of the form are supported, its floats are decimal, or hexadecimal with a decimal
 /// exponent, and its marks are no other part of a number, as
 /// [`read_number_of`](crate::read_number_of) requires: the point is no letter, digit, sign or
 /// separator, and a mark of an exponent is a letter that is no separator and says no prefix.

@@ -27,9 +27,9 @@ pub enum Number<F> {
         /// Whether a minus is before it: also of `-0`.
         negative: bool,
         magnitude: u128,
-        /// The word by which its digits were read. It has their radix, so `0xff` and `255` are
-        /// not equal by `==`: compare what `as_integer` answers. If only the `0` of `0x` is a
-        /// number, it is the decimal word.
+        /// The word by which its digits were read. It has their radix, so `0xff` and `255` are not
+        /// equal by `==`: compare what `as_integer` returns. If only the `0` of `0x` is a number,
+        /// it is the decimal word.
         word: u128,
     },
     /// The nearest float. `-0.0` is the negative zero, and what is too large is infinite.
@@ -82,15 +82,15 @@ impl<F: Float> Number<F> {
     }
 }
 
-/// Why there is no number of a form. A position counts bytes from the start of the text, from 0.
+/// Why no number of a form was read. A position counts bytes from the start of the text, from 0.
 #[derive(Clone, Copy, Debug, PartialEq, Eq)]
 pub enum NumberError {
-    /// No number begins at the start: after its sign, if it has one, this position has neither a
-    /// special value of the form nor a digit.
+    /// No number begins: after any sign, this position has neither a digit nor a special value of
+    /// the form.
     Empty(usize),
     /// With the digit at this position the integer is above 128 bits.
     Overflow(usize),
-    /// The byte at this position is no part of the number before it.
+    /// The byte at this position is no part of the number.
     Invalid(usize),
 }
 
@@ -111,7 +111,7 @@ impl fmt::Display for NumberError {
 impl Error for NumberError {}
 
 impl NumberError {
-    /// The position that the error holds.
+    /// The position of the fault.
     pub fn position(self) -> usize
         ensures { result ≡ position self }
     {
@@ -120,7 +120,7 @@ impl NumberError {
         }
     }
 
-    /// Whether the error says that no number begins at a position: there is neither a digit nor a
+    /// Whether it says that no number begins at `place`. Then there is neither a digit nor a
     /// special value of the form, nor a sign.
     pub fn is_none_at(self, place: usize) -> bool
         ensures { result ≡ none_at place self }
@@ -185,20 +185,29 @@ fn read_rest<F: Float>(
     }
 }
 
-/// The longest number of the form at `start`, and the position after it. What follows is left: of
-/// `01`, `1.` and `1e` JSON reads the first digit, and ends at 1. Requires that `start` is within
-/// the text, and that the form is one ([`is_form`](crate::is_form)).
+/// Reads the longest number of the form at `start`, and returns the position after it. An integer
+/// has up to 128 bits. A larger one is [`Overflow`](NumberError::Overflow), or by some forms, such
+/// as `forms::JSON`, the nearest float. What follows the number is yours to look at. Requires that
+/// `start` is within the text, and that the form is one ([`is_form`](crate::is_form)).
 ///
-/// After any sign it is the form's special value there, if there is one, or a hexadecimal float,
-/// or else the longest integer or decimal float. A form may forbid more digits after a first `0`;
-/// then the number is that `0` alone: of `01` JSON reads it, and of `001` Python the `0` at 0. A
-/// number never begins with a separator: in `0_7` of Python none begins at 1. An integer has up to
-/// 128 bits. A larger one is [`Overflow`](NumberError::Overflow), or by a form with
-/// `Whole::LargeIsFloat`, such as `forms::JSON`, the nearest float.
+/// | By | At 0 is | You get | It ends at |
+/// |---|---|---|---|
+/// | JSON | `-1.5e3,` | the float -1500.0 | 6 |
+/// | JSON | `12]` | the integer 12 | 2 |
+/// | JSON | `01` | the integer 0 | 1 |
+/// | JSON | `1.` | the integer 1 | 1 |
+/// | JSON | `.5` | `Err(Empty(0))` | |
+/// | TOML | `-inf,` | the float -∞ | 4 |
+///
+/// After any sign it is the form's special value there, if there is one, or a hexadecimal float, or
+/// else the longest integer or decimal float. Of `01`, `1.` and `1e` JSON reads the first digit,
+/// and ends at 1. A form may forbid more digits after a first `0`; then the number is that `0`
+/// alone: of `01` JSON reads it, and of `001` Python the `0` at 0. A number never begins with a
+/// separator: in `0_7` of Python none begins at 1. A large integer is the nearest float by a form
+/// with `Whole::LargeIsFloat`.
 ///
 /// ```text
-/// of JSON, `-1.5e3,`: Float(-1500.0), 6      `01`: Integer 0, 1      `.5`: Err(Empty(0))
-/// of TOML, `-inf,`: Float(-inf), 4
+/// of JSON, `-1.5e3,`: Float(-1500.0), 6      `.5`: Err(Empty(0))
 /// ```
 #[inline(always)]
 #[tactic(auto, unfolding(crate::specs::Numbers::number_of_at))]
@@ -229,8 +238,10 @@ pub fn read_number_of<F: Float>(
     read_rest::<F>(text, start, form)
 }
 
-/// The number that a whole text is by a form, as by [`read_number_of`]: an integer or a float. A
-/// byte after it is [`Invalid`](NumberError::Invalid).
+/// Reads a whole text as a number of a form: an integer or a float.
+///
+/// The number is as by [`read_number_of`]. A byte after it is [`Invalid`](NumberError::Invalid).
+/// Requires that the form is one ([`is_form`](crate::is_form)).
 #[inline(always)]
 pub fn parse_number_of<F: Float>(text: &[u8], form: Form) -> Result<Number<F>, NumberError>
     requires { IsForm form }

@@ -21,9 +21,11 @@ fn is_shared<K: Kind>(kind: K, gap: Gap, byte: u8) -> bool
     kind.has_byte(byte) && is_between(gap, byte)
 }
 
-/// Whether no byte that may be between two numbers of a kind may be in one. If so, then the numbers
-/// of a text that comes in pieces, or of a stream, are those of the whole text. It is for a kind or
-/// a gap of run time: of constants a law says it ([`apart`](crate::laws::apart)).
+/// Tests whether no byte between two numbers of a kind may be in one. If so, the numbers of a
+/// stream, or of a text in pieces, are those of the whole text.
+///
+/// It is for a kind or a gap of run time: of constants a law says it
+/// ([`apart`](crate::laws::apart)).
 ///
 /// ```text
 /// integers by `STANDARD` with COMMAS: true     by a word that drops `,`, as in `1,234`: false

@@ -10,7 +10,7 @@ use super::sure::sure_end;
 use digit_literals::{Gap, ListEnd};
 use digit_values::accepts;
 
-/// Why a piece of a text was read no further.
+/// Why a piece was read no further.
 #[derive(Clone, Copy, Debug, PartialEq, Eq)]
 pub enum PieceEnd<E> {
     /// More of the text is needed: the bytes from this position on have to come again, with what
@@ -26,7 +26,7 @@ pub enum PieceEnd<E> {
     Fault(E),
 }
 
-/// What was read of a piece.
+/// How many numbers were read, and why no more.
 #[derive(Clone, Copy, Debug, PartialEq, Eq)]
 pub struct PieceRead<E> {
     /// How many numbers were written into the slice.
@@ -193,15 +193,16 @@ fn read_rest<K: Kind>(
     }
 }
 
-/// The numbers of a kind from `start` on, in a piece of a text, read into a slice, with what `gap`
-/// says between two of them. `is_last` says that nothing follows the piece. If something may, then
-/// a number that touches the end of the piece is left, with the blanks after it, since what follows
-/// may go on with it: the end is [`More`](PieceEnd::More). A number is given as soon as a byte
-/// follows it that no number may have and that is no blank
+/// Reads a list in a piece of a text. `More(at)` says: bring the bytes from `at` on again, before
+/// the next piece. `is_last` says that nothing follows this one. Requires that the kind is valid
+/// and that `start` is within the text. Takes no memory.
+///
+/// If something may follow the piece, then a number that touches its end is left, with the blanks
+/// after it, since what follows may go on with it: the end is [`More`](PieceEnd::More). A number is
+/// given as soon as a byte follows it that no number may have and that is no blank
 /// ([`a_number_is_given`](crate::laws::a_number_is_given)). Where blanks alone separate, one blank
 /// after a number is enough, and [`Full`](PieceEnd::Full) is after it. Otherwise the piece is read
-/// and ends as a list does ([`read_list`](digit_literals::read_list)). Requires that the kind is
-/// valid and that `start` is within the text. Takes no memory.
+/// and ends as a list does ([`read_list`](digit_literals::read_list)).
 ///
 /// So the numbers of a text can be read piece by piece, each piece after what was left of those
 /// before it ([`pieces_give_the_list`](crate::laws::pieces_give_the_list)).

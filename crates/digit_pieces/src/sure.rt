@@ -5,10 +5,11 @@ ghost use Rattle.digit_pieces.specs.Cuts.{sure_end};
 
 use super::kind::Kind;
 
-/// Up to where the numbers of a piece are sure, whatever follows it: the position after its last
-/// byte that no number of the kind has, or 0 if there is none. The outcome at each position before
-/// it stays, whatever follows the text. From it on every byte may be in a number, so a number there
-/// may go on.
+/// Returns up to where the numbers of a piece are sure, whatever follows it: the position after its
+/// last byte that no number of the kind has, or 0 if there is none.
+///
+/// The outcome at each position before it stays, whatever follows the text. From it on every byte
+/// may be in a number, so a number there may go on.
 ///
 /// ```text
 /// `1.5,-2` as floats: 4, after the comma      `12` : 0      `1 2 ` : 4

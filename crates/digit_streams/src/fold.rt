@@ -17,7 +17,7 @@ use std::io::Read;
 /// Why a fold of the numbers of a stream has no value.
 #[derive(Clone, Copy, Debug, PartialEq, Eq)]
 pub enum FoldError<E> {
-    /// The step answered `None`. This is the position after the number that it was given, where the
+    /// The step returned `None`. This is the position after the number that it was given, where the
     /// next one may begin.
     Stopped(u64),
     /// Why there is no number.
@@ -58,8 +58,8 @@ impl<'b, K: Kind, R: Read> NumberReader<'b, K, R> {
     ghost use Rattle.digit_streams.specs.Folds.{Folded, IfStopped};
 
     /// Makes one value of the numbers, up to where the list is over: `step` is given the value so
-    /// far, which is `init` at first, and the next number, and answers the next value. Where it
-    /// answers `None`, the fold stops, as `try_fold` of an iterator does.
+    /// far, which is `init` at first, and the next number, and returns the next value. Where it
+    /// returns `None`, the fold stops, as `try_fold` of an iterator does.
     ///
     /// ```text
     /// `1\n20\nx` by `Integers::<u8>` and `LINES`, 0, |sum, n| sum.checked_add(n): Ok(21)
@@ -104,13 +104,14 @@ impl<'b, K: Kind, R: Read> NumberReader<'b, K, R> {
     }
 }
 
-/// Makes one value of the numbers of a whole stream, such as their sum: `step` is given the value
-/// so far, which is `init` at first, and the next number, and answers the next value. If it
-/// answers `None`, the call ends with [`Stopped`](FoldError::Stopped). If the stream goes on after
-/// the numbers, it is an error ([`Trailing`](StreamError::Trailing)). Of an empty stream it is
-/// `init`, if a separator of the gap may be last; otherwise a number has to be there. The buffer
-/// has to hold the longest number, the blanks after it, and one byte more. Requires that the kind
-/// is valid.
+/// Makes one value of all numbers of a stream. `step` gets the value so far, which is `init` at
+/// first, and the next number; `None` stops the call. The buffer has to hold the longest number,
+/// the blanks after it, and one byte more. Requires that the kind is valid.
+///
+/// `step` returns the next value. If it returns `None`, the call ends with
+/// [`Stopped`](FoldError::Stopped). If the stream goes on after the numbers, it is an error
+/// ([`Trailing`](StreamError::Trailing)). Of an empty stream it is `init`, if a separator of the
+/// gap may be last; otherwise a number has to be there.
 ///
 /// ```text
 /// `1\n20\n` by `Integers::<u8>` and `LINES`, 0, |sum, n| sum.checked_add(n): Ok(21)

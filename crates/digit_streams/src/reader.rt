@@ -12,7 +12,7 @@ use std::marker::Model;
 
 /// Reads the numbers of any `Read`, such as a file or a socket, through a buffer that you lend:
 /// numbers of one kind, with what a gap says between two of them. Call
-/// [`next_number`](NumberReader::next_number) until it answers `None`; then
+/// [`next_number`](NumberReader::next_number) until it returns `None`; then
 /// [`finish`](NumberReader::finish) says whether anything follows. Takes no memory.
 ///
 /// ```text
@@ -30,14 +30,14 @@ use std::marker::Model;
 /// alone separate, as by `WHITESPACE`, the first blank is enough.
 ///
 /// **The buffer** has to hold the longest number, the blanks up to that byte, and that byte, also
-/// at the end of the stream. Otherwise a call answers [`NoRoom`](StreamError::NoRoom).
+/// at the end of the stream. Otherwise a call returns [`NoRoom`](StreamError::NoRoom).
 ///
-/// **An error stays:** each later call answers it again. But after
+/// **An error stays:** each later call returns it again. But after
 /// [`Read`](StreamError::Read) of `WouldBlock` or `TimedOut` the next call goes on; after
-/// `Interrupted` the call itself reads again. After `None` each call of `next_number` answers
+/// `Interrupted` the call itself reads again. After `None` each call of `next_number` returns
 /// `None`.
 ///
-/// **A number is sure** once the next one came, or `finish` answered `Ok`: of a line `2x` you get
+/// **A number is sure** once the next one came, or `finish` returned `Ok`: of a line `2x` you get
 /// 2, and then `None`.
 ///
 /// **To use the reader later**, give a `&mut reader`. It then stands after the bytes of
@@ -145,7 +145,7 @@ impl<'b, K: Kind, R: Read> NumberReader<'b, K, R> {
     /// Reads numbers into a slice, until it is full, the list is over, or no number is where one
     /// has to be. It writes the numbers into the front of the slice, and leaves its rest as it is.
     ///
-    /// If the list was over, or there was an error, then each later call answers that again. But
+    /// If the list was over, or there was an error, then each later call returns that again. But
     /// after [`Read`](StreamError::Read) of `WouldBlock` or `TimedOut` the next call goes on, and
     /// loses no byte.
     pub fn read_into(&mut self, out: &mut [K::Number]) -> StreamRead<K::Error>
@@ -203,7 +203,7 @@ impl<'b, K: Kind, R: Read> NumberReader<'b, K, R> {
     /// Reads the next number. `None` if the list is over, which it is where no number begins:
     /// [`finish`](NumberReader::finish) says whether the stream is at its end there.
     ///
-    /// If the list was over, or there was an error, then each later call answers that again. But
+    /// If the list was over, or there was an error, then each later call returns that again. But
     /// after [`Read`](StreamError::Read) of `WouldBlock` or `TimedOut` the next call goes on, and
     /// loses no byte.
     pub fn next_number(&mut self) -> Option<Result<K::Number, StreamError<K::Error>>>
@@ -283,7 +283,7 @@ impl<'b, K: Kind, R: Read> NumberReader<'b, K, R> {
     /// ```
     ///
     /// A buffer of one byte is enough. If the reader fails, the next call looks on from there.
-    /// After an error of the numbers it answers that again.
+    /// After an error of the numbers it returns that again.
     pub fn pass_byte(&mut self, byte: u8) -> Result<bool, StreamError<K::Error>>
         ensures passes { IfOk result (λ is. IfSome self.old.bytes (λ bytes.
             Passes self.old.gap byte bytes 0 is (self.new.position - self.old.position))) }
@@ -322,10 +322,10 @@ impl<'b, K: Kind, R: Read> NumberReader<'b, K, R> {
 
     /// Whether the stream is at its end: nothing follows the bytes that the calls used. If
     /// something does, the error is [`Trailing`](StreamError::Trailing), with the position and the
-    /// reason why no number begins there. After an error it answers that again. Call it after the
+    /// reason why no number begins there. After an error it returns that again. Call it after the
     /// last number: a list is over where no number begins, as at a letter, or by
     /// [`LINES`](digit_literals::LINES) at an empty line. Where blanks alone separate,
-    /// [`next_number`](NumberReader::next_number) uses the blanks at the end before it answers
+    /// [`next_number`](NumberReader::next_number) uses the blanks at the end before it returns
     /// `None`.
     ///
     /// ```text

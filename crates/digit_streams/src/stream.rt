@@ -25,7 +25,7 @@ pub enum StreamError<E> {
     /// begins there, past the blanks of the gap, with its position in the stream. It is `None` if a
     /// number begins there, as where only its separator is missing; if one may, since the buffer
     /// holds no byte that ends it; or if the error's position is above `u64::MAX`. Only `finish`
-    /// answers it.
+    /// returns it.
     Trailing(u64, Option<E>),
 }
 
@@ -48,7 +48,7 @@ impl<E: fmt::Display> fmt::Display for StreamError<E> {
 
 impl<E: Error> Error for StreamError<E> {}
 
-/// Why a call read no more numbers of a stream. Positions count bytes of the stream from 0.
+/// Why a stream was read no further. Positions count bytes of the stream from 0.
 #[derive(Clone, Copy, Debug, PartialEq, Eq)]
 pub enum StreamEnd<E> {
     /// The slice is full. The next number may begin at this position, which is after a separator;
@@ -61,7 +61,7 @@ pub enum StreamEnd<E> {
     Fault(StreamError<E>),
 }
 
-/// What a call read of a stream.
+/// How many numbers were read, and why no more.
 #[derive(Clone, Copy, Debug, PartialEq, Eq)]
 pub struct StreamRead<E> {
     /// How many numbers it wrote into the slice.

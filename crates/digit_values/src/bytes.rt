@@ -15,7 +15,7 @@ pub const BLANKS: ByteSet = ByteSet {
     high: 0,
 };
 
-/// The byte at a position, if the text has one there.
+/// Returns the byte at a position, if the text has one there.
 #[inline(always)]
 pub fn byte_at(text: &[u8], at: usize) -> Option<u8>
     ensures is { result ≡ slice_get text.now at }
@@ -24,7 +24,7 @@ pub fn byte_at(text: &[u8], at: usize) -> Option<u8>
     text.get(at).copied()
 }
 
-/// Whether a byte is at a position.
+/// Tests whether a byte is at a position.
 #[inline(always)]
 pub fn has_byte(text: &[u8], at: usize, byte: u8) -> bool
     ensures is { result ≡ has_byte text.now at byte }
@@ -36,8 +36,8 @@ pub fn has_byte(text: &[u8], at: usize, byte: u8) -> bool
     }
 }
 
-/// The position after a byte, if it is at this one. Otherwise the error is this position, so that a
-/// parser writes `expect_byte(text, at, b',').map_err(MyError::NoComma)?`.
+/// Returns the position after a byte, if it is at this one. Otherwise the error is this position:
+/// write `expect_byte(text, at, b',').map_err(MyError::NoComma)?`.
 #[inline(always)]
 pub fn expect_byte(text: &[u8], at: usize, byte: u8) -> Result<usize, usize>
     ensures is { result ≡ expect_byte text.now at byte }
@@ -52,7 +52,7 @@ pub fn expect_byte(text: &[u8], at: usize, byte: u8) -> Result<usize, usize>
     }
 }
 
-/// Whether bytes begin at a position. Requires that the position is within the text.
+/// Tests whether bytes begin at a position. Requires that the position is within the text.
 ///
 /// ```text
 /// `10 EUR`, `EUR` at 3: true
@@ -66,8 +66,8 @@ pub fn has_bytes(text: &[u8], at: usize, bytes: &[u8]) -> bool
     text[at..].starts_with(bytes)
 }
 
-/// The position after bytes, if they begin at this one. Otherwise the error is this position, so
-/// that a parser writes `expect_bytes(text, at, b"id=").map_err(MyError::NoId)?`. Requires that the
+/// Returns the position after bytes, if they begin at this one. Otherwise the error is this
+/// position: write `expect_bytes(text, at, b"id=").map_err(MyError::NoId)?`. Requires that the
 /// position is within the text.
 #[inline(always)]
 pub fn expect_bytes(text: &[u8], at: usize, bytes: &[u8]) -> Result<usize, usize>
@@ -119,8 +119,8 @@ fn count_bytes(text: &[u8], set: ByteSet) -> usize
     text.iter().take_while(|byte| accepts(set, **byte)).count()
 }
 
-/// The first position from this one on whose byte isn't in a set, or the end of the text. Requires
-/// that the position is within the text.
+/// Returns the first position from this one on whose byte isn't in a set, or the end of the text.
+/// Requires that the position is within the text.
 ///
 /// ```text
 /// `1, \t2`, BLANKS from 2: 4
@@ -208,10 +208,11 @@ fn count_name_bytes(text: &[u8]) -> usize
     text.iter().take_while(|byte| is_name_byte(**byte)).count()
 }
 
-/// Where the bytes of a name end that begin at a position: ASCII letters and digits, `_`, and bytes
-/// above ASCII. After a number these are its suffix, `&text[end..name_end(text, end)]`. Nothing
-/// that a name could be follows it if `name_end(text, end) == end`. A position after the end of the
-/// text is answered itself.
+/// Returns where the name at a position ends: ASCII letters and digits, `_`, and bytes above ASCII.
+/// After a number it is the suffix, `&text[end..name_end(text, end)]`. No name follows the number
+/// if `name_end(text, end) == end`.
+///
+/// A position after the end of the text is returned itself.
 ///
 /// ```text
 /// `1.5f;` from 3: 4      `10px` from 2: 4      `10 px` from 2: 2

@@ -85,10 +85,13 @@ pub fn read_first_digits(
     read
 }
 
-/// Reads the first digits of a component that begins at `start` by [`read_first_digits`], and
-/// answers where its digits end. Positions count from the start of the text. A separator at
-/// `start` is judged with the byte before it. Requires that `start` is within the text, the word
-/// is supported, and `before` is at most `most`.
+/// Reads the first digits of the component at `start`, after the value `before` and up to `most`,
+/// passes the others, and returns where they end. `before` is 0, or a value that was read up to
+/// `most`. Requires that `start` is within the text, the word is supported, and `before` is at most
+/// `most`.
+///
+/// They are read by [`read_first_digits`]. Positions count from the start of the text. A separator
+/// at `start` is judged with the byte before it.
 ///
 /// ```text
 /// `1.98_76e` with internal `_`, the fraction from 2, up to 99: 98 of 4 digits, of which 2 are

@@ -13,9 +13,11 @@ use super::slice::{ReadTo, read_bytes, read_slice};
 use lexical_digits::iterator::Iter;
 use lexical_digits::skip::{Bytes, Component, Rule};
 
-/// How many digits a text has, if its integer goes on to its end: every byte is a digit of the
-/// mantissa radix, or a separator that the word's integer drops. Otherwise the position of the
-/// first byte that is neither. The empty text has 0 digits. Requires that the word is supported.
+/// Counts the digits of a text. Separators that the word drops don't count. If another byte is
+/// there, the error is its position. Requires that the word is supported.
+///
+/// Digits are those of the mantissa radix, and separators are dropped as in an integer. The
+/// position is that of the first byte that is neither. The empty text has 0 digits.
 ///
 /// ```text
 /// with internal `_`: `1_000` is Ok(4), `1_` and `1x` are Err(1)
@@ -38,10 +40,12 @@ pub fn count_digits(text: &[u8], word: u128) -> Result<usize, usize>
     }
 }
 
-/// Where the digits of a component end that begin at `start`: at the first byte that is neither a
-/// digit nor a separator that the word drops there, or at the end of the text. A separator at
-/// `start` is judged with the byte before it: in `1_0` the `_` at 1 has a digit on its left.
-/// Requires that `start` is within the text and the word is supported.
+/// Returns where the digits of a component end that begin at `start`: at the first byte that is
+/// neither a digit nor a separator that the word drops there, or at the end of the text. Requires
+/// that `start` is within the text and the word is supported.
+///
+/// A separator at `start` is judged with the byte before it: in `1_0` the `_` at 1 has a digit on
+/// its left.
 ///
 /// ```text
 /// `1.5_0e7` with internal `_` in the fraction: the fraction from 2 ends at 5

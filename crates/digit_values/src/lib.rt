@@ -41,19 +41,18 @@ use lexical_digits::iterator::DigitsIter;
 use std::error::Error;
 use std::fmt;
 
-/// Why a call by a word found no integer. Literals of a language have an error of their own,
-/// `LanguageError`. A position counts bytes from the start of the buffer, from 0.
+/// Why no integer was read. `?` makes a `ParseError` or a `LanguageError` of it. A position counts
+/// bytes from the start of the buffer, from 0.
 #[derive(Clone, Copy, Debug, PartialEq, Eq)]
 pub enum LiteralError {
-    /// No digit is at this position, where one has to be: another byte is there, or the text ends.
+    /// No digit is at this position, where one has to be.
     Empty(usize),
-    /// With the digit at this position the value is outside of what the call allows: its type, its
-    /// `most`, or by `read_integer` a `u64`.
+    /// With the digit at this position the value is outside of the type, or above `most`.
     Overflow(usize),
 }
 
 impl LiteralError {
-    /// The position that it holds.
+    /// The position of the fault.
     #[inline(always)]
     pub fn position(&self) -> usize
         ensures { result ≡ literal_position self.now }
@@ -63,7 +62,7 @@ impl LiteralError {
         }
     }
 
-    /// Whether no number begins at a position, as at `x`. Where one begins and is at fault, as `-;`
+    /// Whether it says that no number begins at `place`. Where one begins and is at fault, as `-;`
     /// or one that is too large, it is `false`.
     #[inline(always)]
     pub fn is_none_at(&self, place: usize) -> bool

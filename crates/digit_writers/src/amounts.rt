@@ -130,11 +130,12 @@ fn put_amount(
     Ok(put_fraction(magnitude, point, places, out, middle))
 }
 
-/// Writes an amount, such as cents, at the front of a slice, with a point before the last `places`
-/// digits, and answers how many bytes it takes: -1250 with 2 places is `-12.50`. `read_scaled_from`
-/// reads the text back as the same number by each word that reads such amounts (`ReadsAmounts`).
-/// The rest of the slice isn't changed. Without room nothing is written, and the error has the room
-/// that is needed. Requires that there are at most 38 places.
+/// Writes an amount: -1250 with two places is `-12.50`. Requires that there are at most 38 places.
+///
+/// The call puts it at the front of a slice, with a point before the last `places` digits, and
+/// returns how many bytes it takes. `read_scaled_from` reads the text back as the same number by
+/// each word that reads such amounts (`ReadsAmounts`). The rest of the slice isn't changed. Without
+/// room nothing is written, and the error has the room that is needed.
 ///
 /// ```text
 /// `write_scaled(-1250i64, b'.', 2, &mut out)`: Ok(6), and `out` begins with `-12.50`
@@ -163,10 +164,11 @@ pub fn write_scaled<T: Written>(
     put_amount(is_negative, magnitude, false, 0, point, places, out)
 }
 
-/// Writes an amount, such as cents, at the front of a slice, as [`write_scaled`], with a byte
-/// between groups of three digits of its integer. `read_price_from` reads the text back as the same
-/// number by each word that reads such prices (`ReadsPrices`). Requires that there are at most 38
-/// places.
+/// Writes an amount with a byte between groups of three digits: `1,234.50`. Requires that there are
+/// at most 38 places.
+///
+/// It is written as by [`write_scaled`]. `read_price_from` reads the text back as the same number
+/// by each word that reads such prices (`ReadsPrices`).
 ///
 /// ```text
 /// `write_price(123450i64, b'.', 2, b',', &mut out)`: Ok(8), and `out` begins with `1,234.50`

@@ -133,11 +133,13 @@ fn put_laid(
     put_any(is_negative, magnitude, layout, out)
 }
 
-/// Writes an integer in a layout at the front of a slice, and answers how many bytes it takes.
-/// `parse_number` reads the text back as the same number by each word that reads such a layout
-/// (`IsReadBy`): its radix is that of the layout, and it drops the layout's separator between two
-/// digits of an integer. A `+` is read only as a number of a type with a sign. The rest of the
-/// slice isn't changed. Without room nothing is written, and the error has the room that is needed.
+/// Writes an integer by a [`Layout`](crate::Layout): in groups, in a radix, with zeros or a plus.
+///
+/// The call puts it at the front of a slice, and returns how many bytes it takes. `parse_number`
+/// reads the text back as the same number by each word that reads such a layout (`IsReadBy`): its
+/// radix is that of the layout, and it drops the layout's separator between two digits of an
+/// integer. A `+` is read only as a number of a type with a sign. The rest of the slice isn't
+/// changed. Without room nothing is written, and the error has the room that is needed.
 ///
 /// ```text
 /// `-1234567` by `Layout::decimal().grouped(b',', 3)`: Ok(10), and `out` begins with `-1,234,567`

@@ -23,9 +23,12 @@ fn put_signed(is_negative: bool, magnitude: u128, out: &mut [u8]) -> usize
     put_number(magnitude, out, 0)
 }
 
-/// Writes an integer in decimal at the front of a slice, and answers how many bytes it takes: the
-/// shortest text, which `parse_number` reads back as the same number by each word of radix 10. The
-/// rest of the slice isn't changed. Requires room for any number of the type.
+/// Writes an integer in decimal. `parse_number` reads it back. Requires room for any number of the
+/// type.
+///
+/// It is the shortest text, at the front of a slice, which `parse_number` reads back as the same
+/// number by each word of radix 10. The call returns how many bytes it takes. The rest of the slice
+/// isn't changed.
 ///
 /// ```text
 /// `write_number(-128i8, &mut out)`: 4, and `out` begins with `-128`

@@ -218,10 +218,12 @@ fn write_finite<F: AnyFloat>(x: F, layout: FloatLayout, out: &mut [u8]) -> Resul
     write_decimal(layout, negative, decimal, out)
 }
 
-/// Writes the shortest text of a float to the front of a slice, and answers its length: the fewest
-/// digits that are read as the float, of these the closest to it, and of two as close the one whose
-/// last digit is even. A zero keeps its sign. What follows the text in the slice stays as it was.
-/// If there is no text, the slice stays as it was.
+/// Writes the shortest text that is read as the float. A zero keeps its sign.
+///
+/// The text has the fewest digits that are read as the float, of these the closest to it, and of
+/// two as close the one whose last digit is even. The call puts it at the front of a slice, and
+/// returns its length. What follows the text in the slice stays as it was. If there is no text, the
+/// slice stays as it was.
 ///
 /// `parse_float` of the text is the float, bit by bit. A finite float always has room in 24 bytes
 /// ([`FLOAT_ROOM`](decimal_writers::FLOAT_ROOM)), and by [`FloatLayout::Plain`] in [`PLAIN_ROOM`].

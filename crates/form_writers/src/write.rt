@@ -99,12 +99,14 @@ fn copy(text: &[u8], out: &mut [u8]) -> Result<usize, FormTextError>
     Ok(len)
 }
 
-/// Writes a number of a form at the front of a slice, and answers its length: a text that
-/// [`parse_number_of`](digit_numbers::parse_number_of) reads as this number, to its end. A float is
-/// written by its shortest decimal, so that it isn't read as an integer: `2.0`, `1e16`. An infinity
-/// and a NaN have the first of the form's names, such as `inf` of TOML and `.inf` of YAML. The word
-/// of an integer makes no difference: it is written in decimal. What follows the text in the slice
-/// stays as it was. If there is no text, the slice stays as it was.
+/// Writes a number by a form. [`parse_number_of`](digit_numbers::parse_number_of) reads it back as
+/// this number, a float as a float: `2.0`. An infinity and a NaN have the first of the form's
+/// names, such as `inf` of TOML and `.inf` of YAML.
+///
+/// The call puts it at the front of a slice, and returns its length. A float is written by its
+/// shortest decimal, so that it isn't read as an integer: `2.0`, `1e16`. The word of an integer
+/// makes no difference: it is written in decimal. What follows the text in the slice stays as it
+/// was. If there is no text, the slice stays as it was.
 ///
 /// ```text
 /// by JSON: Float(0.5): `0.5`; Integer -3: `-3`; Float(NaN): Err(NoNumber)
@@ -131,8 +133,7 @@ pub fn write_number_of<F: AnyFloat>(
     }
 }
 
-/// Writes a float as a number of a form, as [`write_number_of`] does: 2.0 is `2.0` by JSON, so that
-/// it isn't read as an integer.
+/// Writes a float by a form, as [`write_number_of`] does.
 pub fn write_float_of<F: AnyFloat>(x: F, form: Form, out: &mut [u8]) -> Result<usize, FormTextError>
     requires { IsForm form }
     ensures reads { IfOk result (λ n.
@@ -146,8 +147,7 @@ pub fn write_float_of<F: AnyFloat>(x: F, form: Form, out: &mut [u8]) -> Result<u
     write_number_of::<F>(Number::Float(x), form, out)
 }
 
-/// Writes an integer as a number of a form, as [`write_number_of`] does, if the form has it: RUST
-/// has no `-3`, since a minus is an operator there.
+/// Writes an integer by a form, as [`write_number_of`] does, if the form has it.
 pub fn write_integer_of(value: i128, form: Form, out: &mut [u8]) -> Result<usize, FormTextError>
     requires { IsForm form }
     ensures reads { IfOk result (λ n. IsNumberOf form binary64

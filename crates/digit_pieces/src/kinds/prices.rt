@@ -10,8 +10,8 @@ use digit_amounts::{
 use digit_integers::Integer;
 use std::marker::PhantomData;
 
-/// The decimal numbers by a word, in units of their last place, as integers of a type, with
-/// an exact number of places, with groups of three digits, or with both.
+/// Amounts of a type by a word, with an exact number of places, with groups of three digits, or
+/// with both.
 #[derive(Clone, Copy)]
 pub struct Prices<T: Integer> {
     /// The word.

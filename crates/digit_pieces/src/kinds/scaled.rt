@@ -8,9 +8,8 @@ use digit_amounts::{ScaledError, read_scaled_from};
 use digit_integers::Integer;
 use std::marker::PhantomData;
 
-/// The decimal numbers by a word, times ten to the power `places`, as exact integers of a
-/// type: with 2 places `12.5` is 1250. [`read_scaled_from`](digit_amounts::read_scaled_from) reads
-/// them.
+/// Amounts of a type by a word, as [`read_scaled_from`](digit_amounts::read_scaled_from) reads
+/// them: with 2 places `12.5` is 1250.
 #[derive(Clone, Copy)]
 pub struct Scaled<T: Integer> {
     /// The word.
