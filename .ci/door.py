@@ -144,7 +144,7 @@ GROUPS = {
         write_plain write_usual write_exponent | Write digits and a power of ten""", """
         A call puts the text at the front of `out`, and returns its length. The bytes behind it stay as they
         were. Without room nothing is written, and the error has the length that is needed. `write_number`
-        has no error: lend it `[0; MOST_ROOM]`.
+        has no error: lend it `[0; MOST_ROOM]`. `Written` is any type of integers, `AnyFloat` `f64` or `f32`.
 
         | Bytes of `out` that are enough | For |
         |---|---|
@@ -529,7 +529,7 @@ class Door:
                  for it in re.findall(r"\w+", attr.partition("(")[2])]
         found = [f"`{it}`" for it in found if it != "Drop" and not (it == "Clone" and "Copy" in found)]
         said = "" if found == DERIVED or item.kind not in ("struct", "enum") else \
-            f" Derives {', '.join(found)}." if found else " Derives none of these traits."
+            f" Derives {', '.join(found)}." if found else " It derives no trait."
         is_printed = any(impl.trait == "Display" for impl in library.impls.get(id(item), []))
         return said + (" It has no `Display` and no `Error`." if is_error(item.name) and not is_printed
                        else "")

@@ -9,7 +9,7 @@ EXAMPLES = "crates/digit_examples/src"
 TEST = re.compile(r"((?:^/// [^\n]*\n)+)#\[test\]\nfn \w+\(rt: HostRuntime\) \{\n(.*?)^\}\n", re.S | re.M)
 ASSERT = re.compile(r"^( *)assert(_eq)?!\(rt;(?: ([^\n]*)|\n(.*?)\n\1)\);$", re.S | re.M)
 # what `out` begins with, after a call that writes
-WROTE = re.compile(r'\0out\.starts_with\(b"(.*)"\) // true')
+WROTE = re.compile(r'\0\s*out\.starts_with\(b"(.*)"\) // true')
 MOST = 100
 # an answer in a doc comment: a variant with what it holds
 ANSWER = re.compile(r"\b(?:Ok|Err|Some|Over|Full|Fault|More)\((?:[^()]|\((?:[^()]|\([^()]*\))*\))*\)")

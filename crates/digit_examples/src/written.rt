@@ -128,6 +128,7 @@ fn a_float_with_an_exponent(rt: HostRuntime) {
             write_scientific(x, 2, ExponentText::Signed, &mut out),
             Ok(8)
         );
+        assert!(rt; out.starts_with(b"1.23e+03"));
         assert_eq!(rt;
             write_scientific(x, 2, ExponentText::Short, &mut out),
             Ok(6)

@@ -105,8 +105,9 @@ impl<'b, K: Kind, R: Read> NumberReader<'b, K, R> {
 }
 
 /// Makes one value of all numbers of a stream. `step` gets the value so far, which is `init` at
-/// first, and the next number; `None` stops the call. The buffer has to hold the longest number,
-/// the blanks after it, and one byte more. Requires that the kind is valid.
+/// first, and the next number; `None` stops the call. What follows the numbers is an error. The
+/// buffer has to hold the longest number, the blanks after it, and one byte more. Requires that the
+/// kind is valid.
 ///
 /// `step` returns the next value. If it returns `None`, the call ends with
 /// [`Stopped`](FoldError::Stopped). If the stream goes on after the numbers, it is an error
