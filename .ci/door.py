@@ -289,9 +289,9 @@ takes a value out of its `Ok` or `Some`. Types derive `Copy`, `Debug`, `PartialE
 
 ## Names and arguments
 
-| In a call's name | It says |
+| In the name of a call that reads or writes | It says |
 |---|---|
-| `_from` | the number begins at a `start`. Without it `parse_` calls, `read_number`, `read_float` and \
+| `_from` | it begins at a `start`. Without it `parse_` calls, `read_number`, `read_float` and \
 `read_integer` begin at 0. Every other `read_` call takes a position, too |
 | `_of` | by a form |
 | `_as` | by a language, as a number of your type |
@@ -334,7 +334,7 @@ FIRST = {"parse_number::<i32>(b\"-1_000\", PYTHON_LITERAL)": "",
 WORDS_HEAD = f"""# Words of contracts
 
 `ensures {{ result ≡ to_end text.now (number_at (2 ^ 31) (2 ^ 31 - 1) r text.now 0) }}` is a clause: \
-its words say which answer a call gives. These are those of `{DOOR}`, by the library that defines them. \
+its words say what a call returns. These are those of `{DOOR}`, by the library that defines them. \
 A clause of yours imports them as `ghost use Rattle.{DOOR}.specs.Words.{{number_at, to_end}};`. Each \
 leads to its definition. [How to read a clause]({CLAUSES}.md) has the signs and the words of std, and \
 [PROVING.md](../PROVING.md) whole functions with clauses. The words that only a library's own clauses \

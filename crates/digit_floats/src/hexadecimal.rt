@@ -224,7 +224,7 @@ fn wide_power(text: &[u8], at: usize, power: Power) -> u128
 
 /// The float nearest to the number that the hexadecimal digits of integer and fraction and a power
 /// of two make, with a sign. `mantissa` and `power` are what [`read_hex_mantissa`] and, from the
-/// mantissa's end on, [`read_exponent`](crate::read_exponent) answered of this text.
+/// mantissa's end on, [`read_exponent`](crate::read_exponent) returned of this text.
 #[inline(never)]
 pub fn round_hex<F: Float>(text: &[u8], negative: bool, mantissa: HexMantissa, power: Power) -> F
     requires mantissa { IsHexMantissa text.now mantissa }

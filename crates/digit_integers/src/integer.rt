@@ -21,10 +21,10 @@ use lexical_digits::skip::{Component, Rule};
 
 /// The value of the integer that a text begins with, and where the integer ends. It ends at the
 /// stop, the first kept byte that is no digit, or at the end of the text. Digits are those of the
-/// mantissa radix. [`read_number`](crate::read_number) of a `u64` answers the same. Requires that
+/// mantissa radix. [`read_number`](crate::read_number) of a `u64` returns the same. Requires that
 /// the word is supported.
 ///
-/// The answer is that of [`read_digits`](digit_values::read_digits) on the integer iterator of a
+/// The result is that of [`read_digits`](digit_values::read_digits) on the integer iterator of a
 /// fresh `Bytes`, and on `Ok` the cursor. [`Empty`](LiteralError::Empty) holds the stop if no digit
 /// is before it; [`Overflow`](LiteralError::Overflow) the first digit with which the value is above
 /// `u64::MAX`.

@@ -200,11 +200,10 @@ fn read_rest<F: Float>(
 /// | TOML | `-inf,` | the float -∞ | 4 |
 ///
 /// After any sign it is the form's special value there, if there is one, or a hexadecimal float, or
-/// else the longest integer or decimal float. Of `01`, `1.` and `1e` JSON reads the first digit,
-/// and ends at 1. A form may forbid more digits after a first `0`; then the number is that `0`
-/// alone: of `01` JSON reads it, and of `001` Python the `0` at 0. A number never begins with a
-/// separator: in `0_7` of Python none begins at 1. A large integer is the nearest float by a form
-/// with `Whole::LargeIsFloat`.
+/// else the longest integer or decimal float. Of `1e` JSON reads the `1`. A form may forbid more
+/// digits after a first `0`; then the number is that `0` alone: of `01` JSON reads it, and of `001`
+/// Python the `0` at 0. A number never begins with a separator: in `0_7` of Python none begins at
+/// 1. A large integer is the nearest float by a form with `Whole::LargeIsFloat`.
 ///
 /// ```text
 /// of JSON, `-1.5e3,`: Float(-1500.0), 6      `.5`: Err(Empty(0))
