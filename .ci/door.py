@@ -94,7 +94,7 @@ GROUPS = {
         |---|---|---|
         | `Over(at)` | the list ended well, and `at` is the first byte that isn't of it | go on at `at`, or compare it with `text.len()` |
         | `Full(at)` | the slice is full, and the next number may begin at `at` | call again from `at` |
-        | `Fault(error)` | a number has to be here, as after a comma, and is none | report it |
+        | `Fault(error)` | a number has to be there, as after a comma, and there is none | report it |
 
         Blanks of the gap are skipped. After a fault the front of the slice has the numbers before it. By
         `LINES` and other gaps that may trail, a separator may be last, and a list may be empty.""", """
@@ -138,7 +138,7 @@ GROUPS = {
         write_number_by | … in groups, in a radix, with zeros: `-1,234,567`
         write_list | Writes integers with a byte between them: `80,-1,443`
         write_scaled write_price | Write cents: `-12.50`; `1,234.50`
-        write_float | Writes the shortest text of a float: `0.1`
+        write_float | Writes a float with the fewest digits: `0.1`
         write_fixed write_scientific | … with so many places, as `%.2f`, `%.6e`
         write_number_of write_float_of write_integer_of | Write a number by a form
         write_plain write_usual write_exponent | Write digits and a power of ten""", """

@@ -135,13 +135,13 @@ fn read_plain_decimal(
 }
 
 /// Reads the number that [`read_number_of`](crate::read_number_of) rounds: its digits and a power
-/// of ten. Of `0x1f` and `inf` the error is `Empty`. Requires that `start` is within the text, and
-/// that the form is one ([`is_form`](crate::is_form)).
+/// of ten. A number with a prefix and a special value, as `0x1f` and `inf`, are `Empty`. Requires
+/// that `start` is within the text, and that the form is one ([`is_form`](crate::is_form)).
 ///
 /// It begins at `start`, and is as it is written, before it is rounded; the position after it is
 /// returned too. It is the same for digits with a point or an exponent, and for those without; an
-/// integer above 128 bits is one too, unless its first digit is 0. Special values, and what has a
-/// prefix or another radix, are none: `Empty`.
+/// integer above 128 bits is one too, unless its first digit is 0. What has another radix is none,
+/// too.
 ///
 /// ```text
 /// of MySQL, `12.50,`: 1250 times ten to -2, 5

@@ -218,12 +218,11 @@ fn write_finite<F: AnyFloat>(x: F, layout: FloatLayout, out: &mut [u8]) -> Resul
     write_decimal(layout, negative, decimal, out)
 }
 
-/// Writes the shortest text that is read as the float. A zero keeps its sign.
+/// Writes a float with the fewest significant digits that are read as it. A zero keeps its sign.
 ///
-/// The text has the fewest digits that are read as the float, of these the closest to it, and of
-/// two as close the one whose last digit is even. The call puts it at the front of a slice, and
-/// returns its length. What follows the text in the slice stays as it was. If there is no text, the
-/// slice stays as it was.
+/// Of the fewest digits these are the closest to the float, and of two as close the one whose last
+/// digit is even. The call puts the text at the front of a slice, and returns its length. What
+/// follows the text in the slice stays as it was. If there is no text, the slice stays as it was.
 ///
 /// `parse_float` of the text is the float, bit by bit. A finite float always has room in 24 bytes
 /// ([`FLOAT_ROOM`](decimal_writers::FLOAT_ROOM)), and by [`FloatLayout::Plain`] in [`PLAIN_ROOM`].
