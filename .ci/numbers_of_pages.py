@@ -63,6 +63,17 @@ def read_by(it):
         it.compare("README.md", line, "the number of named forms", int(m[1]), there)
 
 
+def parsers(it):
+    """How many whole parsers need no proof by hand, and how many lines the others have."""
+    said = [m for path in files_below(f"{USES}/src", ".rt")
+            for m in re.findall(r"^//! Proof by hand: (none|\d+)", read(path), re.M)]
+    lines = sorted(int(m) for m in said if m != "none")
+    there = (str(said.count("none")), str(len(said)), str(lines[0]), str(lines[-1]))
+    pattern = r"(\d+) of the (\d+) in \[digit_uses\]\S* have none, the others (\d+) to (\d+) lines"
+    for line, m in it.find("README.md", pattern):
+        it.compare("README.md", line, "the proof by hand of digit_uses", m.groups(), there)
+
+
 def bound(it):
     """The bound on looks is that of the theorem of calls."""
     source = " ".join(read("crates/digit_script/specs/Script.antt").split())
@@ -176,6 +187,6 @@ def by_hand(it):
 
 def check():
     it = Numbers()
-    for part in (counted, read_by, bound, calls, measured, by_ends, names, by_hand):
+    for part in (counted, read_by, parsers, bound, calls, measured, by_ends, names, by_hand):
         part(it)
     return f"{it.count} numbers and names", it.faults

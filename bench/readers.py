@@ -1,10 +1,11 @@
 """What README.md and the head of docs/SPEED.md say of the times beside other readers."""
-from peers import LIBRARY, READ, Figures, more_by, slower_run
+from cases import table
+from peers import LIBRARY, READ, Figures, slower_run
 from written import times
 
 # How the names of rows begin that read an integer, or a float.
-INTEGERS = ("u64", "i32", "hexadecimal", "grouped u64")
-FLOATS = ("f64", "f32")
+INTEGERS = "u64|i32|hexadecimal|grouped u64"
+FLOATS = "f64|f32"
 
 
 def rows():
@@ -19,14 +20,9 @@ def ratios(start="", side=LIBRARY):
     return {row: mine / peer[0] for row, (mine, peer) in found}
 
 
-def span(start, side):
-    found = ratios(start, side).values()
-    return f"{min(found):.2f} to {max(found):.2f}"
-
-
-def span_of(starts):
-    """The same of the rows whose names begin with one of several words."""
-    found = [it for start in starts for it in ratios(start).values()]
+def span(starts, side=LIBRARY):
+    """The least and the greatest of these ratios, in the rows whose names begin with one of the words."""
+    found = [it for start in starts.split("|") for it in ratios(start, side).values()]
     return f"{min(found):.2f} to {max(found):.2f}"
 
 
@@ -61,20 +57,27 @@ can't put it into its caller's loop."""
 
 
 def readme():
-    """What README.md has between its comments: what is gained, and when time is lost."""
-    of_json = span("JSON", LIBRARY)
-    return f"""\
-**You gain** when you parse from Rattle: an integer takes {span_of(INTEGERS)} times as long as by the fastest \
-other reader that does the same work, a float {span_of(FLOATS)} times, and a number of JSON {of_json} times. \
-To write `%.2f` of a price takes {times('%.2f, prices', '%.2f, 3 digits')} times as long as by the fastest writer.
-
-**You draw** when you also need the end of the number, as a lexer does ({span('u64', READ)} times for a `u64`, \
-{span('f64', READ)} for an `f64`), when you call from Rust or C, where a call takes {more_by('constant word')} \
-instructions more, and one that is given a word {more_by('word as argument')}, and when you write the shortest \
-text of a float ({times('f64, ', 'f32, ')} times).
-
-**You lose** when you write an integer of up to four digits ({times('u64, 3 digits', 'u64, 1 to 4')} times), \
-`%.2f` of numbers up to 1e22 ({times('%.2f, in [0, 1e22)')} times) or `%.6e` \
-({times('%.6e')} times), and when you loop over digits by an iterator ([how much](docs/SPEED.md#where-you-lose)).
-
-[SPEED.md](docs/SPEED.md) has every row, and how to call so that it is fast."""
+    """What README.md has between its comments: the times beside those of others, gain and loss."""
+    rows = [
+        ("an integer that is the whole text", "C++'s `from_chars`, std, lexical-core", span(INTEGERS)),
+        ("a float that is the whole text", "fast_float, simdjson, std", span(FLOATS)),
+        ("a number of JSON", "simdjson, over an array", span("JSON")),
+        ("a `u64` and its end; an `f64` and its end", "`from_chars`; fast_float, simdjson",
+         f"{span('u64', READ)}; {span('f64', READ)}"),
+        ("the first three from C or Rust; by a word as argument", "the same",
+         f"{span('', 'library, from C')}; {span('', 'library, a word, from C')}"),
+        ("to write an integer: up to 4 digits; 8 to 20; by chance", "lexical-core, itoa",
+         "; ".join([times("u64, 3 digits", "u64, 1 to 4"),
+                    times("u64, 8 digits", "u64, 16 digits", "u64, 20 digits"), times("u64, 1 to 20")])),
+        ("to write the shortest text of a float", "ryu, `to_chars`", times("f64, ", "f32, ")),
+        ("to write `%.2f`: of prices; up to 1e22", "`to_chars`",
+         f"{times('%.2f, prices', '%.2f, 3 digits')}; {times('%.2f, in [0, 1e22)')}"),
+        ("to write `%.6e`", "`to_chars`", times("%.6e")),
+    ]
+    lines = table("A call's time from Rattle, divided by that of the fastest other library that does the "
+                  "same work: below 1 this one is faster.", ["What", "The fastest other one", "Ratio"], rows)
+    return "\n".join(lines) + """
+You also lose with floats in groups, and when you loop over digits by an iterator \
+([how much](docs/SPEED.md#where-you-lose)). One thread; the others are Debian 12's: fast_float 3.9.0, \
+lexical-core 0.7.6, serde_json 1.0.87, simdjson 3.0.1. [SPEED.md](docs/SPEED.md) has every row, and how to \
+call so that it is fast."""

@@ -1,12 +1,15 @@
 //! What CALLING.md says that its own functions and a stream answer.
 
-use digit_uses::calling::{Entry, SEMICOLONS, first_above, parse_entry, sum_of};
+use digit_uses::calling::{
+    COMMA_DIGITS, Entry, SEMICOLONS, first_above, parse_entry, sum_lengths, sum_of,
+};
 use digit_uses::proving;
 use digit_uses::sums::sum_list;
 use digits::{
     COMMAS, FloatError, FoldError, Integers, LINES, LiteralError, NumberError, NumberReader,
-    ParseError, STANDARD, StreamError, forms, parse_float, parse_list, parse_number,
-    parse_number_of, read_float, read_number_of,
+    ParseError, PriceError, STANDARD, ScaledError, StreamError, forms, parse_float, parse_list,
+    parse_number, parse_number_of, read_exact_from, read_float, read_grouped_from, read_number_of,
+    read_price_from, read_scaled_from,
 };
 
 /// A line with fields of several kinds.
@@ -172,4 +175,42 @@ fn surprises(rt: HostRuntime) {
     assert!(rt; read_float::<f64>(b"1em", STANDARD) == Err(FloatError::EmptyExponent(2)));
     let read = read_number_of::<f64>(b"1em", 0, forms::CSS);
     assert!(rt; read.map(|(number, end)| (number.to_float(), end)) == Ok((1.0, 1)));
+}
+
+/// A loop over a text.
+#[test]
+fn lengths(rt: HostRuntime) {
+    assert!(rt; sum_lengths(b"10px 2.5em") == Ok(12.5));
+    assert!(rt; sum_lengths(b" 1px\n2 3%") == Err(NumberError::Empty(8)));
+    assert!(rt; sum_lengths(b"") == Ok(0.0));
+    assert!(rt; sum_lengths(b"1px x") == Err(NumberError::Empty(4)));
+}
+
+/// What an amount is by each call: the value, or the error.
+#[tactic(auto, unfolding(digits::proofs::Literals::lexical_on_literals))]
+fn amounts(text: &[u8]) -> [Result<i64, PriceError>; 4] {
+    let scaled = read_scaled_from::<i64>(text, COMMA_DIGITS, 0, b'.', 2);
+    let exact = read_exact_from::<i64>(text, COMMA_DIGITS, 0, b'.', 2);
+    let grouped = read_grouped_from::<i64>(text, COMMA_DIGITS, 0, b'.', 2);
+    let price = read_price_from::<i64>(text, COMMA_DIGITS, 0, b'.', 2);
+    [
+        scaled.map(|read| read.0).map_err(PriceError::Number),
+        exact.map(|read| read.0),
+        grouped.map(|read| read.0),
+        price.map(|read| read.0),
+    ]
+}
+
+/// The table of amounts.
+#[test]
+fn amounts_and_prices(rt: HostRuntime) {
+    let places = |at: usize| Err(PriceError::Places(at));
+    let group = Err(PriceError::Group(3));
+    let fine = Err(PriceError::Number(ScaledError::TooFine(5)));
+    let all = Ok(123450);
+    assert!(rt; amounts(b"1,234.50") == [all, all, all, all]);
+    assert!(rt; amounts(b"12.5") == [Ok(1250), places(4), Ok(1250), places(4)]);
+    assert!(rt; amounts(b"12.500") == [Ok(1250), places(6), Ok(1250), places(6)]);
+    assert!(rt; amounts(b"12,34.50") == [all, all, group, group]);
+    assert!(rt; amounts(b"12.345") == [fine, fine, fine, fine]);
 }

@@ -75,7 +75,24 @@ pub fn read_percent(line: &[u8], start: usize) -> Result<(u8, usize), PercentErr
     }
 }
 
-use digits::{NumberError, forms, parse_number_of};
+use digits::{NumberError, forms, name_end, read_number_of};
+
+/// The sum of the lengths that a text has, whatever their units are: `10px 2.5em` gives 12.5.
+pub fn sum_lengths(text: &[u8]) -> Result<f64, NumberError> {
+    let mut sum = 0.0;
+    let mut at = past_bytes(text, 0, BLANKS);
+    for _ in text {
+        if at >= text.len() {
+            break;
+        }
+        let (number, end) = read_number_of::<f64>(text, at, forms::CSS)?;
+        sum += number.to_float();
+        at = past_bytes(text, name_end(text, end), BLANKS);
+    }
+    Ok(sum)
+}
+
+use digits::parse_number_of;
 
 /// The number of JSON that a text is, as a float: `-1.5e3` is -1500.0, and `01` is `Invalid(1)`.
 pub fn parse_amount(text: &[u8]) -> Result<f64, NumberError> {
@@ -84,7 +101,7 @@ pub fn parse_amount(text: &[u8]) -> Result<f64, NumberError> {
 
 ghost use Rattle.std.specs.Prelude.{◌<◌};
 
-use digits::{Number, byte_at, read_number_of};
+use digits::{Number, byte_at};
 
 /// The token of a number of JSON at `start`, and where it ends: of `-1.5e3,` it is -1500.0, and
 /// ends at 6. Of `01` the fault is at 1.
