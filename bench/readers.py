@@ -58,26 +58,29 @@ can't put it into its caller's loop."""
 
 def readme():
     """What README.md has between its comments: the times beside those of others, gain and loss."""
+    few, many = times("u64, 3 digits", "u64, 1 to 4"), times("%.6e")
     rows = [
         ("an integer that is the whole text", "C++'s `from_chars`, std, lexical-core", span(INTEGERS)),
         ("a float that is the whole text", "fast_float, simdjson, std", span(FLOATS)),
         ("a number of JSON", "simdjson, over an array", span("JSON")),
-        ("a `u64` and its end; an `f64` and its end", "`from_chars`; fast_float, simdjson",
-         f"{span('u64', READ)}; {span('f64', READ)}"),
-        ("the first three from C or Rust; by a word as argument", "the same",
-         f"{span('', 'library, from C')}; {span('', 'library, a word, from C')}"),
-        ("to write an integer: up to 4 digits; 8 to 20; by chance", "lexical-core, itoa",
-         "; ".join([times("u64, 3 digits", "u64, 1 to 4"),
-                    times("u64, 8 digits", "u64, 16 digits", "u64, 20 digits"), times("u64, 1 to 20")])),
-        ("to write the shortest text of a float", "ryu, `to_chars`", times("f64, ", "f32, ")),
-        ("to write `%.2f`: of prices; up to 1e22", "`to_chars`",
-         f"{times('%.2f, prices', '%.2f, 3 digits')}; {times('%.2f, in [0, 1e22)')}"),
-        ("to write `%.6e`", "`to_chars`", times("%.6e")),
+        ("a `u64` and where it ends", "`from_chars`", span("u64", READ)),
+        ("an `f64` and where it ends", "fast_float, simdjson", span("f64", READ)),
+        ("a whole text, called from C++ by `digits.h`", "the same", span("", "library, from C")),
+        ("the same with a word as argument", "the same", span("", "library, a word, from C")),
+        ("write an integer of up to 4 digits", "lexical-core", few),
+        ("write an integer of 8 to 20 digits", "itoa, lexical-core",
+         times("u64, 8 digits", "u64, 16 digits", "u64, 20 digits")),
+        ("write the shortest text of a float", "ryu, `to_chars`", times("f64, ", "f32, ")),
+        ("write `%.2f` of a price", "`to_chars`", times("%.2f, prices", "%.2f, 3 digits")),
+        ("write `%.2f` of a number up to 1e22", "`to_chars`", times("%.2f, in [0, 1e22)")),
+        ("write `%.6e`", "`to_chars`", many),
     ]
-    lines = table("A call's time from Rattle, divided by that of the fastest other library that does the "
-                  "same work: below 1 this one is faster.", ["What", "The fastest other one", "Ratio"], rows)
+    lines = table(f"A whole text: the fastest in {fastest()} kinds of input. A number and its end: level. Short "
+                  f"integers that are written take {few} times as long, and `%.6e` {many} times. Each row is the "
+                  "time of a call, from Rattle but in two rows, divided by that of the fastest other library that "
+                  "does the same work; below 1 this one is faster.",
+                  ["What", "The fastest other one", "Ratio"], rows)
     return "\n".join(lines) + """
-You also lose with floats in groups, and when you loop over digits by an iterator \
-([how much](docs/SPEED.md#where-you-lose)). One thread; the others are Debian 12's: fast_float 3.9.0, \
-lexical-core 0.7.6, serde_json 1.0.87, simdjson 3.0.1. [SPEED.md](docs/SPEED.md) has every row, and how to \
-call so that it is fast."""
+Floats in groups and iterators over digits are slower than others, too ([by how much](docs/SPEED.md#where-you-lose)). \
+One thread. The others are Debian 12's: fast_float 3.9.0, which is C++'s, lexical-core 0.7.6, serde_json 1.0.87 and \
+simdjson 3.0.1. [SPEED.md](docs/SPEED.md) has every kind of input, and how to call so that it is fast."""

@@ -52,56 +52,16 @@ pub fn read_mask(text: &[u8]) -> Result<(u16, usize), LanguageError> {
     read_literal_as::<u16>(text, 0, RUST)
 }
 
-ghost use Rattle.std.specs.Prelude.{◌≤◌, length, IfOk};
-
-use digits::read_integer_from;
-
-/// Why there is no percentage.
-#[derive(Clone, Copy, Debug, PartialEq, Eq)]
-pub enum PercentError {
-    NoDigit(usize),
-    Above100(usize),
-}
-
-/// The percentage that begins at `start`, and where it ends: `1_00%` gives `(100, 4)`.
-pub fn read_percent(line: &[u8], start: usize) -> Result<(u8, usize), PercentError>
-    requires { start ≤ length line.now }
-    ensures { IfOk result (λ percent. percent.1 ≤ length line.now) }
-{
-    match read_integer_from(line, PYTHON_LITERAL, start, 100) {
-        Ok((percent, end)) => Ok((percent as u8, end)),
-        Err(LiteralError::Empty(at)) => Err(PercentError::NoDigit(at)),
-        Err(LiteralError::Overflow(at)) => Err(PercentError::Above100(at)),
-    }
-}
-
-use digits::{NumberError, forms, name_end, read_number_of};
-
-/// The sum of the lengths that a text has, whatever their units are: `10px 2.5em` gives 12.5.
-pub fn sum_lengths(text: &[u8]) -> Result<f64, NumberError> {
-    let mut sum = 0.0;
-    let mut at = past_bytes(text, 0, BLANKS);
-    for _ in text {
-        if at >= text.len() {
-            break;
-        }
-        let (number, end) = read_number_of::<f64>(text, at, forms::CSS)?;
-        sum += number.to_float();
-        at = past_bytes(text, name_end(text, end), BLANKS);
-    }
-    Ok(sum)
-}
-
-use digits::parse_number_of;
+use digits::{NumberError, forms, parse_number_of};
 
 /// The number of JSON that a text is, as a float: `-1.5e3` is -1500.0, and `01` is `Invalid(1)`.
 pub fn parse_amount(text: &[u8]) -> Result<f64, NumberError> {
     Ok(parse_number_of::<f64>(text, forms::JSON)?.to_float())
 }
 
-ghost use Rattle.std.specs.Prelude.{◌<◌};
+ghost use Rattle.std.specs.Prelude.{◌<◌, ◌≤◌, length, IfOk};
 
-use digits::{Number, byte_at};
+use digits::{Number, byte_at, read_number_of};
 
 /// The token of a number of JSON at `start`, and where it ends: of `-1.5e3,` it is -1500.0, and
 /// ends at 6. Of `01` the fault is at 1.
@@ -186,6 +146,44 @@ pub const SEMICOLONS: Gap = Gap {
     },
     ..COMMAS_IN_LINE
 };
+
+use digits::read_integer_from;
+
+/// Why there is no percentage.
+#[derive(Clone, Copy, Debug, PartialEq, Eq)]
+pub enum PercentError {
+    NoDigit(usize),
+    Above100(usize),
+}
+
+/// The percentage that begins at `start`, and where it ends: `1_00%` gives `(100, 4)`.
+pub fn read_percent(line: &[u8], start: usize) -> Result<(u8, usize), PercentError>
+    requires { start ≤ length line.now }
+    ensures { IfOk result (λ percent. percent.1 ≤ length line.now) }
+{
+    match read_integer_from(line, PYTHON_LITERAL, start, 100) {
+        Ok((percent, end)) => Ok((percent as u8, end)),
+        Err(LiteralError::Empty(at)) => Err(PercentError::NoDigit(at)),
+        Err(LiteralError::Overflow(at)) => Err(PercentError::Above100(at)),
+    }
+}
+
+use digits::name_end;
+
+/// The sum of the lengths that a text has, whatever their units are: `10px 2.5em` gives 12.5.
+pub fn sum_lengths(text: &[u8]) -> Result<f64, NumberError> {
+    let mut sum = 0.0;
+    let mut at = past_bytes(text, 0, BLANKS);
+    for _ in text {
+        if at >= text.len() {
+            break;
+        }
+        let (number, end) = read_number_of::<f64>(text, at, forms::CSS)?;
+        sum += number.to_float();
+        at = past_bytes(text, name_end(text, end), BLANKS);
+    }
+    Ok(sum)
+}
 
 use digits::{FloatError, Floats, FoldError, LINES, fold_stream};
 use std::io::Read;
