@@ -194,6 +194,8 @@ UNNAMED = (*FOR_LIBRARY, "AnyFloat")
 # What a type derives, as the head says.
 DERIVED = ["`Copy`", "`Debug`", "`PartialEq`", "`Eq`"]
 HIDDEN = ("no_number",)
+# What a printed sentence has of std.
+VALUES = {"u64::MAX": str(2 ** 64 - 1)}
 # The modules whose constants have a table elsewhere.
 TABLES = {"forms": " [A table of all](forms.md).",
           "languages": " [Their separators, and what a first `0` says](../RULES.md#prefixes-and-a-first-0).",
@@ -297,9 +299,9 @@ takes a value out of its `Ok` or `Some`. Types derive `Copy`, `Debug`, `PartialE
 | `_as` | by a language, as a number of your type |
 | `_by` | by a kind or a layout |
 
-One number by a word is `(text, word, start, ..)`, everything else that is read `(text, start, ..)`. A kind, \
-and in `prefix_word` the language, goes before `text`. A stream is `(reader, buffer, kind, gap, ..)`. `out` is \
-last.
+One number by a word is `(text, word, start, ..)`, one component of it `(text, word, component, start, ..)`, \
+anything else that is read `(text, start, ..)`. A kind, and in `prefix_word` the language, goes before `text`. A \
+stream is `(reader, buffer, kind, gap, ..)`. `out` is last. The bound `Drop` lets a call drop what you gave it.
 
 ## What you prove
 
@@ -314,7 +316,8 @@ its text, if its `start` was. What only run time knows you test first:
 | its radixes are 10 | `mantissa_radix()` and `exponent_radix()` of [`NumberFormat::new(word)`](#numberformat) |
 | the form is valid | `is_form(form)` |
 | the words of the language are supported | `is_language(language)` |
-| the kind is valid | that of its word, form or language |
+| the kind is valid | of `Integers` the word; of `Floats` the word and its radixes; of `Scaled` and `Prices` \
+these and `places <= 38`; of `OfForm` the form; of `OfLanguage` the language; of `Both` and `Enclosed` their kinds |
 | start, at, end ≤ text.len() | `start <= text.len()` |
 | places ≤ 38 | `places <= 38` |
 | `x` is finite | `x.is_finite()`, of a constant too |
@@ -343,7 +346,7 @@ have are at the end of its page.
 
 
 # The sentences of doc comments that the head of the page tells.
-TOLD = ("Requires ", "A position counts", "Takes no memory", "Not in lexical-util", "lexical-util's")
+TOLD = ("Requires ", "A position counts", "Takes no memory", "Not in lexical-util", "lexical-util's", "lexical-util has")
 # The half line of a name whose first clause says too little.
 HALVES = {
     "read_integer": "`read_number::<u64>` by another name",
@@ -360,10 +363,18 @@ nothing at run time, and tell the prover that no byte of a gap may be in a numbe
 
 
 def printed(lines, name, display):
-    """The lines of an enum, with what its variants are printed as."""
-    texts = dict(re.findall(rf'{name}::(\w+)(?:\([^)]*\))? => (?:\{{\s*)?write!\(f, "(.*?)"', display))
+    """The lines of an enum, with what its variants are printed as: a sentence, also one that goes on with
+    what the variant holds, or none of its own."""
+    texts = {}
+    for variant, text, value in re.findall(
+            rf'{name}::(\w+)(?:\(.*?\))? => (?:\{{\s*)?'
+            r'(?:write!\(f, "(.*?)"(?:, ([\w:]+))?\)|fmt::Display::fmt\(\w+, f\))', display):
+        text = f"\"{text.replace('{}', VALUES.get(value, '{}'))}\"" if text else "printed as this error"
+        before = texts.get(variant, "")[:-1]
+        more = f"{before}\", or with \"{text[len(before):]} behind it"
+        texts[variant] = more if before and text.startswith(before) else text
     found = (re.match(r"    (\w+)(?:\(.*\))?,$", line) for line in lines)
-    return [f"{line} // \"{texts[m[1]]}\"" if m and m[1] in texts else line
+    return [f"{line} // {texts[m[1]]}" if m and m[1] in texts else line
             for m, line in zip(found, lines)]
 
 
@@ -419,7 +430,7 @@ class Door:
         return [f"// {'   ' if n else 'you prove:'} {it}" for n, it in enumerate(lines)]
 
     def methods(self, item):
-        """The constants and functions of an impl or a trait, each with its first sentence."""
+        """The constants and functions of an impl or a trait, each with its first paragraph."""
         lines = []
         for member in item.inner:
             if member.kind == "const" and member.is_public():
@@ -427,7 +438,7 @@ class Door:
                           f"    {member.head.removeprefix('pub ').partition(' = ')[0]};"]
             if (member.kind == "fn" and (item.kind == "trait" or member.is_public())
                     and member.name not in HIDDEN):
-                said = textwrap.wrap(plain(first_sentence(member.docs)), 92)
+                said = textwrap.wrap(plain(untold(paragraph(member.docs))), 92)
                 lines += [f"    /// {line}" for line in said]
                 lines += filled(signature_of(member).removeprefix("pub ") + ";", "    ", "        ")
                 lines += [f"    {it}" for it in self.conditions(member)] if item.kind == "impl" else []
@@ -452,14 +463,14 @@ class Door:
         for impl_head, calls in blocks.items():
             head += ["", impl_head + " {", *calls, "}"] if calls else []
         for impl in impls:
-            if impl.trait == "From":
+            if impl.trait == "From" and re.search(r"From<(\w+)>", impl.head)[1] in self.items:
                 head += ["", impl.head]
             elif impl.trait == "Display":
                 head = printed(head, item.name, impl.text)
         return head
 
     def example(self, name):
-        """The examples of an item and of its calls, below the imports from its modules."""
+        """The examples of an item and of its calls, below what they import from modules."""
         if name in IMPLS:
             path, head, words = IMPLS[name]
             found = [it for it in sources.Source(path).items if it.kind == "impl" and it.head == head]
@@ -468,7 +479,7 @@ class Door:
         code = "\n\n".join(code for names_of, code in self.tests
                             if name in (it.split("::")[0] for it in names_of))
         used = set(re.findall(r"(?<!::)\b\w+", code))
-        uses = [f"use {DOOR}::{module}::{there[0] if len(there) == 1 else braced(there)};"
+        uses = [f"use {module}::{there[0] if len(there) == 1 else braced(there)};"
                 for module, have in shown.imports().items() for there in [sorted(have & used)] if there]
         return [*uses, *[""] * bool(uses), *shown.lines_of(code)] if code else []
 
@@ -496,9 +507,8 @@ class Door:
             path = self.items[name][1]
             docs = [first_sentence(self.libraries[crate].crate.modules[(path,)].source.docs)]
         text = re.sub(r"^```\w*\n.*?^```$", "", "\n".join(docs), flags=re.S | re.M)
-        parts = [part if part.startswith("|") else " ".join(
-            it for it in re.split(r"(?<=\.)\s+(?=[A-Z`\[])", " ".join(part.split()))
-            if not it.startswith(TOLD)) for part in re.split(r"\n\s*\n", text.strip())]
+        parts = [part if part.startswith("|") else untold(part)
+                 for part in re.split(r"\n\s*\n", text.strip())]
         parts = [it for n, it in enumerate(filter(None, parts))
                  if n == 0 or not item or item.kind != "fn" or it.startswith("|")]
         text = "\n\n".join(parts)
@@ -527,8 +537,9 @@ class Door:
         `Clone` isn't named beside `Copy`."""
         found = [it for attr in item.attrs if attr.startswith("#[derive")
                  for it in re.findall(r"\w+", attr.partition("(")[2])]
-        found = [f"`{it}`" for it in found if it != "Drop" and not (it == "Clone" and "Copy" in found)]
+        found = [f"`{it}`" for it in found if not (it == "Clone" and "Copy" in found)]
         said = "" if found == DERIVED or item.kind not in ("struct", "enum") else \
+            f" It derives {found[0]} alone." if found == ["`Drop`"] else \
             f" Derives {', '.join(found)}." if found else " It derives no trait."
         is_printed = any(impl.trait == "Display" for impl in library.impls.get(id(item), []))
         return said + (" It has no `Display` and no `Error`." if is_error(item.name) and not is_printed
@@ -659,6 +670,17 @@ def flowed(text):
     """A text of this file: each paragraph in one line, tables and code as they are."""
     parts = textwrap.dedent(text).strip().split("\n\n")
     return "\n\n".join(it if it.startswith(("|", "```")) else " ".join(it.split("\n")) for it in parts)
+
+
+def paragraph(docs):
+    """The first paragraph of a doc comment."""
+    return " ".join(itertools.takewhile(lambda it: it.strip() and not it.startswith("```"), docs))
+
+
+def untold(text):
+    """The sentences of a paragraph that the head of the page doesn't tell."""
+    sentences = re.split(r"(?<=\.)\s+(?=[A-Z`\[])", " ".join(text.split()))
+    return " ".join(it for it in sentences if not it.startswith(TOLD))
 
 
 def listed(names_of):

@@ -7,6 +7,8 @@ from sources import DOOR, Crate, files_below, passed_on, read
 
 EXAMPLES = "crates/digit_examples/src"
 TEST = re.compile(r"((?:^/// [^\n]*\n)+)#\[test\]\nfn \w+\(rt: HostRuntime\) \{\n(.*?)^\}\n", re.S | re.M)
+# a constant of a file of tests, with its sentence
+CONST = re.compile(r"^/// ([^\n]*)\n(const (\w+): [^\n]*;)$", re.M)
 ASSERT = re.compile(r"^( *)assert(_eq)?!\(rt;(?: ([^\n]*)|\n(.*?)\n\1)\);$", re.S | re.M)
 # what `out` begins with, after a call that writes
 WROTE = re.compile(r'\0\s*out\.starts_with\(b"(.*)"\) // true')
@@ -50,10 +52,17 @@ def folded(code):
 
 
 def tests():
-    """(names, code) of each test: the calls, methods and types that it shows. A line of an assertion
-    begins with a zero byte."""
-    return [(re.findall(r"`([\w:]+)`", docs), code_of(body)) for path in files_below(EXAMPLES, ".rt")
-            for docs, body in TEST.findall(read(path))]
+    """(names, code) of each test: the calls, methods and types that it shows, and the constants of its file
+    that it uses. A line of an assertion begins with a zero byte."""
+    found = []
+    for path in files_below(EXAMPLES, ".rt"):
+        text = read(path)
+        consts = CONST.findall(text)
+        for docs, body in TEST.findall(text):
+            code = code_of(body)
+            used = [f"// {said}\n{line}" for said, line, name in consts if re.search(rf"\b{name}\b", code)]
+            found.append((re.findall(r"`([\w:]+)`", docs), "\n".join([*used, code])))
+    return found
 
 
 def examples():
@@ -67,12 +76,12 @@ def examples():
 
 
 def imports():
-    """{module: names} of what the tests import from the modules of DOOR."""
+    """{module: names} of what the tests import from the modules of crates."""
     found = {}
     for path in files_below(EXAMPLES, ".rt"):
-        for module, name, names in re.findall(rf"^use {DOOR}::((?:\w+::)+)(?:(\w+)|\{{([^}}]*)\}});",
+        for module, name, names in re.findall(r"^use (\w+(?:::\w+)+)::(?:(\w+)|\{([^}]*)\});",
                                               read(path), re.M):
-            found.setdefault(module[:-2], set()).update(re.findall(r"\w+", name or names))
+            found.setdefault(module, set()).update(re.findall(r"\w+", name or names))
     return dict(sorted(found.items()))
 
 

@@ -68,7 +68,6 @@ fn an_amount_up_to_a_greatest(rt: HostRuntime) {
 /// Shows `read_price_from`.
 #[test]
 fn a_price(rt: HostRuntime) {
-    // GROUPS is (10 << 104) | (0x2c << 64) | INTEGER_INTERNAL_DIGIT_SEPARATOR: `1,234`
     assert_eq!(rt;
         read_price_from::<i64>(b"1,234.50 EUR", GROUPS, 0, b'.', 2),
         Ok((123450, 8))
@@ -82,7 +81,6 @@ fn a_price(rt: HostRuntime) {
 /// Shows `read_grouped_from`.
 #[test]
 fn groups_of_three(rt: HostRuntime) {
-    // GROUPS is (10 << 104) | (0x2c << 64) | INTEGER_INTERNAL_DIGIT_SEPARATOR: `1,234`
     assert_eq!(rt;
         read_grouped_from::<i64>(b"1,234.5;", GROUPS, 0, b'.', 2),
         Ok((123450, 7))
@@ -129,7 +127,6 @@ fn so_many_places(rt: HostRuntime) {
 /// Shows `wrong_group`.
 #[test]
 fn a_wrong_group(rt: HostRuntime) {
-    // GROUPS is (10 << 104) | (0x2c << 64) | INTEGER_INTERNAL_DIGIT_SEPARATOR: `1,234`
     assert_eq!(rt; wrong_group(b"1,234;", GROUPS, 0), None);
     assert_eq!(rt; wrong_group(b"1,2,3", GROUPS, 0), Some(2));
     assert_eq!(rt; wrong_group(b"12,34", GROUPS, 0), Some(3));
