@@ -85,11 +85,12 @@ fn read_inside<K: Kind>(
 }
 
 /// Reads a list between two bytes, as `[1, 2]`, and returns how many numbers it has and the
-/// position after the closing byte. It may be empty. Requires that the kind is valid and that
-/// `start` is within the text. Takes no memory.
+/// position after the closing byte. It may be empty. Requires that the kind is valid. Takes no
+/// memory.
 ///
-/// The opening byte is at `start`. Blanks of the gap may be after it and before the closing byte. A
-/// list may be empty, whatever the gap is. Otherwise it is as by [`parse_list`](crate::parse_list).
+/// The opening byte is at `start`, which may be any position. Blanks of the gap may be after it and
+/// before the closing byte. A list may be empty, whatever the gap is. Otherwise it is as by
+/// [`parse_list`](crate::parse_list).
 ///
 /// After an error the front of the slice has the numbers before the fault. Its rest isn't touched.
 ///

@@ -29,13 +29,14 @@ use std::marker::Model;
 /// separator is no blank: by `LINES` the line feed is enough, by `COMMAS` it isn't. Where blanks
 /// alone separate, as by `WHITESPACE`, the first blank is enough.
 ///
-/// **The buffer** has to hold the longest number, the blanks up to that byte, and that byte, also
-/// at the end of the stream. Otherwise a call returns [`NoRoom`](StreamError::NoRoom).
+/// **The buffer** has to hold the longest number, the blanks up to that byte, and one byte more,
+/// which the end of the stream needs, too. Otherwise a call returns
+/// [`NoRoom`](StreamError::NoRoom).
 ///
 /// **An error stays:** each later call returns it again. But after
 /// [`Read`](StreamError::Read) of `WouldBlock` or `TimedOut` the next call goes on; after
 /// `Interrupted` the call itself reads again. After `None` each call of `next_number` returns
-/// `None`.
+/// `None`, until `pass_byte` passes a byte, or `fold_enclosed` begins the next list.
 ///
 /// **A number is sure** once the next one came, or `finish` returned `Ok`: of a line `2x` you get
 /// 2, and then `None`.

@@ -25,7 +25,7 @@ pub enum StreamError<E> {
     /// begins there, past the blanks of the gap, with its position in the stream. It is `None` if a
     /// number begins there, as where only its separator is missing; if one may, since the buffer
     /// holds no byte that ends it; or if the error's position is above `u64::MAX`. Only `finish`
-    /// returns it.
+    /// and `fold_stream` return it.
     Trailing(u64, Option<E>),
 }
 
