@@ -10,6 +10,9 @@ use digits::{
 /// Radix 10, and `,` between two digits of the integer.
 const GROUPS: u128 = (10 << 104) | (0x2c << 64) | INTEGER_INTERNAL_DIGIT_SEPARATOR;
 
+/// Radix 10, and `.` between two digits of the integer.
+const DOTS: u128 = (10 << 104) | (0x2e << 64) | INTEGER_INTERNAL_DIGIT_SEPARATOR;
+
 /// Shows `parse_scaled`.
 #[test]
 fn a_whole_text(rt: HostRuntime) {
@@ -75,6 +78,10 @@ fn a_price(rt: HostRuntime) {
     assert_eq!(rt;
         read_price_from::<i64>(b"1,234.5", GROUPS, 0, b'.', 2),
         Err(PriceError::Places(7))
+    );
+    assert_eq!(rt;
+        read_price_from::<i64>(b"1.234,50", DOTS, 0, b',', 2),
+        Ok((123450, 8))
     );
 }
 

@@ -62,6 +62,19 @@ fn from_a_position_on(rt: HostRuntime) {
     );
 }
 
+/// Shows `LiteralError::is_none_at`.
+#[test]
+fn a_missing_number(rt: HostRuntime) {
+    // an empty field
+    let missing = read_number_from::<i32>(b"1,,3", STANDARD, 2);
+    assert_eq!(rt; missing, Err(LiteralError::Empty(2)));
+    assert!(rt; LiteralError::Empty(2).is_none_at(2));
+    // a minus without a digit
+    let bad = read_number_from::<i32>(b"1,-,3", STANDARD, 2);
+    assert_eq!(rt; bad, Err(LiteralError::Empty(3)));
+    assert!(rt; !LiteralError::Empty(3).is_none_at(2));
+}
+
 /// Shows `read_exactly`.
 #[test]
 fn exactly_so_many_digits(rt: HostRuntime) {
@@ -71,6 +84,7 @@ fn exactly_so_many_digits(rt: HostRuntime) {
         read_exactly::<u8>(b"7:05", 0, 10, 2),
         Err(LiteralError::Empty(1))
     );
+    assert_eq!(rt; read_exactly::<u8>(b"7", 5, 10, 0), Ok((0, 5)));
 }
 
 /// Shows `read_at_most`.

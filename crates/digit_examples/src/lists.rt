@@ -15,6 +15,20 @@ fn a_first_list(rt: HostRuntime) {
     let read = read_list(b"80, 443;", 0, STANDARD, COMMAS, &mut ports);
     assert_eq!(rt; (read.count, read.end), (2, ListEnd::Over(7)));
     assert_eq!(rt; ports, [80, 443, 0, 0]);
+    let read = read_list(b"80, 44x", 0, STANDARD, COMMAS, &mut ports);
+    assert_eq!(rt; (read.count, read.end), (2, ListEnd::Over(6)));
+    assert_eq!(rt; ports, [80, 44, 0, 0]);
+}
+
+/// Lines of which one is empty, as the reference tells them.
+#[test]
+fn an_empty_line(rt: HostRuntime) {
+    let mut ports = [0u16; 4];
+    let read = read_list(b"80\n\n443\n", 0, STANDARD, LINES, &mut ports);
+    assert_eq!(rt; (read.count, read.end), (1, ListEnd::Over(3)));
+    let read = read_list(b"80\n\n443\n", 0, STANDARD, WHITESPACE, &mut ports);
+    assert_eq!(rt; (read.count, read.end), (2, ListEnd::Over(8)));
+    assert_eq!(rt; ports, [80, 443, 0, 0]);
 }
 
 /// Shows `read_list`.

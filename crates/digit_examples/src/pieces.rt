@@ -1,11 +1,11 @@
 //! A text that comes in pieces, and a stream.
 
 use digits::{
-    Both, COMMAS, EnclosedFoldError, FloatError, Floats, FoldError,
-    INTEGER_INTERNAL_DIGIT_SEPARATOR, Integers, LINES, LiteralError, Number, NumberReader,
-    PieceEnd, STANDARD, Scaled, StreamEnd, StreamError, block_start, end_in_text, fold_stream,
-    forms, is_apart, read_float_list_piece, read_list_piece, read_list_piece_of, read_piece,
-    read_scaled_list_piece, sure_end,
+    Both, BothError, COMMAS, EnclosedFoldError, FloatError, Floats, FoldError,
+    INTEGER_INTERNAL_DIGIT_SEPARATOR, Integers, LINES, ListError, LiteralError, Number,
+    NumberReader, PieceEnd, STANDARD, Scaled, StreamEnd, StreamError, block_start, end_in_text,
+    fold_stream, forms, is_apart, parse_list, read_float_list_piece, read_list_piece,
+    read_list_piece_of, read_piece, read_scaled_list_piece, sure_end,
 };
 
 /// Shows `read_list_piece`.
@@ -90,9 +90,15 @@ fn two_numbers_as_one(rt: HostRuntime) {
         second: side,
     };
     let mut sizes = [(0, 0); 2];
-    let read = read_piece(size, b"640x480, 800x600", 0, COMMAS, true, &mut sizes);
-    assert_eq!(rt; (read.count, read.end), (2, PieceEnd::Over(16)));
+    assert_eq!(rt;
+        parse_list(size, b"640x480, 800x600", COMMAS, &mut sizes),
+        Ok(2)
+    );
     assert_eq!(rt; sizes, [(640, 480), (800, 600)]);
+    assert_eq!(rt;
+        parse_list(size, b"640y480", COMMAS, &mut sizes),
+        Err(ListError::Number(BothError::Between(3)))
+    );
 }
 
 /// Shows `block_start`.
@@ -126,6 +132,24 @@ fn what_separates_is_in_no_number(rt: HostRuntime) {
     // the word that drops the commas of 1,234
     let groups = (10 << 104) | (0x2c << 64) | INTEGER_INTERNAL_DIGIT_SEPARATOR;
     assert!(rt; !is_apart(Integers::<u64>::new(groups), COMMAS));
+}
+
+/// A loop over a stream, as the reference shows it first.
+#[test]
+fn a_loop(rt: HostRuntime) {
+    let mut buffer = [0; 64];
+    let kind = Integers::<u64>::new(STANDARD);
+    let stream = b"3\n12\n5\n".as_slice();
+    let mut numbers = NumberReader::new(stream, &mut buffer, kind, LINES);
+    let mut greatest = 0u64;
+    for _ in 0..u64::MAX {
+        match numbers.next_number() {
+            Some(number) => greatest = number.expect(&rt, "a number").max(greatest),
+            None => break,
+        }
+    }
+    assert_eq!(rt; numbers.finish(), Ok(()));
+    assert_eq!(rt; greatest, 12);
 }
 
 /// Shows `NumberReader`.

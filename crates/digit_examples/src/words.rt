@@ -1,10 +1,36 @@
 //! Format words.
 
-use digits::words::PYTHON_LITERAL;
+use digits::words::{PYTHON_LITERAL, RUST_HEX_LITERAL, RUST_LITERAL};
 use digits::{
     Component, DECIMAL, DigitSeparatorFlags, INTEGER_INTERNAL_DIGIT_SEPARATOR, NO_FLAGS,
-    NumberFormat, NumberFormatBuilder, Rule, STANDARD, is_supported,
+    NumberFormat, NumberFormatBuilder, Rule, STANDARD, count_digits, is_supported, parse_number,
+    words,
 };
+
+/// The radix 10, the byte `,`, and where it may be: between two digits of the integer.
+const COMMA_DIGITS: u128 = (10 << 104) | (0x2c << 64) | INTEGER_INTERNAL_DIGIT_SEPARATOR;
+
+/// Numbers by two words, as the reference shows them first.
+#[test]
+fn numbers_by_a_word(rt: HostRuntime) {
+    assert_eq!(rt; parse_number::<u32>(b"ff", words::HEXADECIMAL), Ok(255));
+    assert_eq!(rt; parse_number::<u64>(b"1,234", COMMA_DIGITS), Ok(1234));
+    assert_eq!(rt; parse_number::<u64>(b"1,2,34", COMMA_DIGITS), Ok(1234));
+}
+
+/// Shows `DigitSeparatorFlags`.
+#[test]
+fn what_flags_drop(rt: HostRuntime) {
+    // internal
+    assert_eq!(rt; count_digits(b"1_0", PYTHON_LITERAL), Ok(2));
+    assert_eq!(rt; count_digits(b"1__0", PYTHON_LITERAL), Err(1));
+    // internal, trailing and consecutive
+    assert_eq!(rt; count_digits(b"1__0", RUST_LITERAL), Ok(2));
+    assert_eq!(rt; count_digits(b"1__", RUST_LITERAL), Ok(1));
+    assert_eq!(rt; count_digits(b"_1", RUST_LITERAL), Err(0));
+    // all four
+    assert_eq!(rt; count_digits(b"__1", RUST_HEX_LITERAL), Ok(1));
+}
 
 /// Shows `is_supported`.
 #[test]
