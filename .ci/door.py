@@ -59,7 +59,8 @@ GROUPS = {
         read_price_from | … with both: `1,234.50`
         read_decimal_from read_decimal_of | Read digits and a power of ten, before rounding""", """
         An amount is an integer in units of its last place, exactly: no float is on the way. A sign is read
-        if the type has one.""", """
+        if the type has one. Only `parse_scaled` takes a whole text: after another call compare the end with
+        `text.len()`.""", """
         parse_scaled read_scaled_from read_scaled_up_to read_exact_from read_grouped_from read_price_from
         read_decimal_from read_decimal_of Decimal ScaledError PriceError"""),
     "Literals of a language": ("""
@@ -67,7 +68,9 @@ GROUPS = {
         read_literal | … with its word, and where its digits begin
         prefix_word | Returns the word of the digits after a prefix
         languages | All languages by name
-        is_language | Tests a language of your own""", "", """
+        is_language | Tests a language of your own""", """
+        To read a whole text, compare the end with `text.len()`, or call [`parse_number_of`](#parse_number_of)
+        by the form of the language, such as `forms::RUST`, and then `as_integer`.""", """
         read_literal_as read_literal prefix_word languages is_language Literal Language FirstZero
         LanguageError"""),
     "Bytes between numbers": ("""
@@ -85,6 +88,9 @@ GROUPS = {
         let mut ports = [0u16; 4];
         let read = read_list(b"80, 443;", 0, STANDARD, COMMAS, &mut ports);
         (read.count, read.end) // (2, ListEnd::Over(7))
+        ports // [80, 443, 0, 0]
+        let read = read_list(b"80, 44x", 0, STANDARD, COMMAS, &mut ports);
+        (read.count, read.end) // (2, ListEnd::Over(6))
         ```
 
         The numbers go into the front of a slice that you lend. `COMMAS` is a [gap](#gaps): what is between
@@ -92,7 +98,7 @@ GROUPS = {
 
         | `end` | It says | What you do |
         |---|---|---|
-        | `Over(at)` | the list ended well, and `at` is the first byte that isn't of it | go on at `at`, or compare it with `text.len()` |
+        | `Over(at)` | no further number has to come, and `at` is the first byte that isn't of the list: of `80, 44x` it is the `x`, and 44 came | go on at `at`; if nothing may follow, compare `at` with `text.len()`, or call `parse_list` |
         | `Full(at)` | the slice is full, and the next number may begin at `at` | call again from `at` |
         | `Fault(error)` | a number has to be there, as after a comma, and there is none | report it |
 
@@ -109,6 +115,9 @@ GROUPS = {
         | `WHITESPACE` | one blank or more | yes | `1 2\\n3\\n` |
         | `SPACES_IN_LINE` | one space or tab, or more | yes | `1 2 3` |
 
+        By `LINES` an empty line is no number: the list `80\\n\\n443\\n` ends at 3. To pass over empty
+        lines, take `WHITESPACE`, by which a space separates, too.
+
         `BLANKS` are space, tab, line feed and carriage return. `SPACES` are space and tab. For another
         separator, such as `;`, write a [`Gap`](#gap).""", """
         COMMAS COMMAS_IN_LINE LINES WHITESPACE SPACES_IN_LINE BLANKS SPACES Gap"""),
@@ -119,13 +128,43 @@ GROUPS = {
         read_optional | One number of a kind, which may be missing""", """
         A kind is a value that says which numbers a list, a piece or a stream has:
         `Integers::<i32>::new(STANDARD)`. For values of your own write an [`impl Item`](#item), or an
-        [`impl Kind`](../../crates/digit_pieces/README.md).""", """
+        [`impl Kind`](../../crates/digit_pieces/README.md).
+
+        | Kind | One number is | Its error |
+        |---|---|---|
+        | `Integers<T>` | `T` | [`LiteralError`](#literalerror) |
+        | `Floats<F>` | `F` | [`FloatError`](#floaterror) |
+        | `OfForm<F>` | [`Number<F>`](#number) | [`NumberError`](#numbererror) |
+        | `OfLanguage<T>` | `T` | [`LanguageError`](#languageerror) |
+        | `Scaled<T>` | `T` | [`ScaledError`](#scalederror) |
+        | `Prices<T>` | `T` | [`PriceError`](#priceerror) |
+        | `Both<A, B>` | `(A::Number, B::Number)` | [`BothError<A::Error, B::Error>`](#botherror) |
+        | `Enclosed<K>` | `K::Number` | [`BracketError<K::Error>`](#bracketerror) |""", """
         Integers Floats OfForm OfLanguage Scaled Prices Both Enclosed read_optional Kind Item NoNumber
         BothError BracketError"""),
     "Streams": ("""
         fold_stream | Makes one value of all numbers, such as their sum
         NumberReader | Reads them one by one
-        is_apart | Tests whether a kind and a gap go together in a stream""", "", """
+        is_apart | Tests whether a kind and a gap go together in a stream""", """
+        ```rust
+        let mut buffer = [0; 64];
+        let kind = Integers::<u64>::new(STANDARD);
+        let stream = b"3\\n12\\n5\\n".as_slice();
+        let mut numbers = NumberReader::new(stream, &mut buffer, kind, LINES);
+        let mut greatest = 0u64;
+        for _ in 0..u64::MAX {
+            match numbers.next_number() {
+                Some(number) => greatest = number?.max(greatest),
+                None => break,
+            }
+        }
+        numbers.finish() // Ok(())
+        greatest // 12
+        ```
+
+        A stream is `rt.stdin()`, a file that `std::fs::open(&rt, path)` returned, or a `&[u8]`. `rt` is the
+        `HostRuntime` of your `main`. A `NumberReader` is no `Iterator`. Its loop has a bound, since `rt check`
+        proves that each loop ends; no stream reaches it.""", """
         fold_stream NumberReader is_apart StreamRead StreamEnd FoldError EnclosedFoldError StreamError"""),
     "Pieces and blocks": ("""
         read_piece | Reads a list that goes on in the next piece
@@ -156,9 +195,18 @@ GROUPS = {
         write_exponent MOST_ROOM FLOAT_ROOM PLAIN_ROOM Layout FloatLayout ExponentText Written NoRoom
         FloatTextError FormTextError"""),
     "Words": ("", """
+        ```rust
+        // The radix 10, the byte `,`, and where it may be: between two digits of the integer.
+        const COMMA_DIGITS: u128 = (10 << 104) | (0x2c << 64) | INTEGER_INTERNAL_DIGIT_SEPARATOR;
+        parse_number::<u32>(b"ff", words::HEXADECIMAL) // Ok(255)
+        parse_number::<u64>(b"1,234", COMMA_DIGITS) // Ok(1234)
+        parse_number::<u64>(b"1,2,34", COMMA_DIGITS) // Ok(1234)
+        ```
+
         A word is a `u128` that says how digits are written: their radix, their separator, and where one may
-        be. Take one with a name ([what each reads](../RULES.md#words-with-names)), write it from its parts, or
-        make it with the builder.""", """
+        be. It doesn't say how many digits a group has: [`read_grouped_from`](#read_grouped_from) tests that. Take
+        a word with a name ([what each reads](../RULES.md#words-with-names)), write one from its parts, or make
+        one with the builder.""", """
         STANDARD words is_supported NumberFormatBuilder DigitSeparatorFlags DECIMAL NO_FLAGS ALL_FLAGS
         INTEGER_INTERNAL_DIGIT_SEPARATOR FRACTION_INTERNAL_DIGIT_SEPARATOR
         EXPONENT_INTERNAL_DIGIT_SEPARATOR NumberFormat"""),
@@ -194,6 +242,34 @@ UNNAMED = (*FOR_LIBRARY, "AnyFloat")
 # What a type derives, as the head says.
 DERIVED = ["`Copy`", "`Debug`", "`PartialEq`", "`Eq`"]
 HIDDEN = ("no_number",)
+# What an entry says beside the doc comment.
+NOTES = {
+    "read_exactly": """
+        Any `start`, radix and `n` may be given. After the end of the text it returns `Empty`. With an `n` of
+        0 it returns the number 0, also there.""",
+    "read_at_most": "Any `start`, radix and `n` may be given, too. With an `n` of 0 it returns `Empty`.",
+    "LiteralError": """
+        `is_none_at` tells a number that is missing from a bad one. [`read_optional`](#read_optional) does
+        that for you.""",
+    "is_form": """
+        It returns `false` if a word of the form isn't supported, or the decimal one has another radix than
+        10; if the point is a letter, a digit, a sign or the separator; if a mark of an exponent is no letter,
+        is the separator, or begins a prefix, as `x`; or if hexadecimal floats have another radix than 16, or
+        their exponent than 10.""",
+    "read_enclosed": "`BracketError` is the error of one number in brackets, the kind [`Enclosed`](#enclosed).",
+    "Enclosed": """
+        It is one number, and its error `BracketError`. A list in brackets is [`read_enclosed`](#read_enclosed),
+        and its error `EnclosedError`.""",
+    "NoNumber": """
+        `BothError` and `BracketError` have no `position()`: call `fault_at()`. The errors of streams have
+        neither: match them.""",
+    "DigitSeparatorFlags": """
+        | Flag | It drops the `_` of | With `consecutive` also those of |
+        |---|---|---|
+        | `internal` | `1_0` | `1__0` |
+        | `leading` | `_1` | `__1` |
+        | `trailing` | `1_` | `1__` |""",
+}
 # What a printed sentence has of std.
 VALUES = {"u64::MAX": str(2 ** 64 - 1)}
 # The modules whose constants have a table elsewhere.
@@ -264,7 +340,9 @@ LINES
 - **A text** is a `&[u8]`. Positions count its bytes from 0. The error of a number holds the position of \
 its fault.
 - **A word** says how digits are written: `STANDARD` reads `1000`, `PYTHON_LITERAL` also `1_000`. **A \
-form** is a whole grammar, such as JSON's.
+form** is a whole grammar, such as JSON's. **A language** has a word for digits alone, and others for those after \
+`0x`, `0o`, `0b`.
+- **A kind** says which numbers a list or a stream has, **a gap** what is between two of them.
 - **No call** panics or allocates.
 
 Below, the result of a call is behind `//`, and a heading leads to the contract, whose [signs]({CLAUSES}.md) \
@@ -306,9 +384,15 @@ stream is `(reader, buffer, kind, gap, ..)`. `out` is last. The bound `Drop` let
 ## What you prove
 
 `// you prove` names what has to hold before a call. Nothing tests it at run time: `rt check` refuses your \
-function if the prover can't see it. Mostly you do nothing. With [one attribute](../../CALLING.md#set-up) the \
-prover sees that a constant word, form, language or kind is valid. A position that a call returned is within \
-its text, if its `start` was. What only run time knows you test first:
+function if the prover can't see it. Mostly you do nothing. With [one attribute](../../CALLING.md#set-up) in \
+your `lib.rt` the prover sees that a constant word, form, language or kind is valid:
+
+```rust
+#![tactic(auto, unfolding(digits::proofs::Literals::lexical_on_literals))]
+```
+
+A position that a call returned is within its text, if its `start` was. What only run time knows you test \
+first:
 
 | You prove | Test |
 |---|---|
@@ -528,7 +612,7 @@ class Door:
                   for line in ("", "```rust", *code, "```")]
         table = [] if item else self.constants(library.crate.modules[(path,)].source)
         named = ["", self.types(item)] if item and item.kind == "fn" and self.types(item) else []
-        text = "\n\n".join([first, *parts])
+        text = "\n\n".join([first, *parts, *([flowed(NOTES[name])] if name in NOTES else [])])
         return [f"### [`{name}`]({self.page_of(name)})", "", self.to_here(text), *table, *blocks, *named, ""]
 
     @staticmethod
@@ -563,8 +647,7 @@ class Door:
         if source.path == forms.FORMS:
             parts = zip(("source code", "data", "functions of a library"), forms.forms().values())
             first = [(f"`{name}`", consts[name]) for name in FIRST_FORMS]
-            return [*rows_of(("Name", "What it reads"), first), "", "These are all forms of a language, a format or a function; `LITERAL` and `FLOAT` are of none, "
-                    "you write your own from them:",
+            return [*rows_of(("Name", "What it reads"), first), "", "`LITERAL` and `FLOAT` are starting points for your own. The others:",
                     *rows_of(("For", "Names"), [(use, listed(found)) for use, found in parts])]
         elif any(it.endswith("_HEX_LITERAL") for it in consts):
             heads, rows = ("Names", "What they read"), list(by_prefix(consts))
