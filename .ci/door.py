@@ -734,6 +734,7 @@ class Door:
         have = names()
         self.lost += [f"GROUPS of .ci/door.py has no {it}" for it in self.items if it not in have]
         self.lost += [f"GROUPS of .ci/door.py: {DOOR} has no {it}" for it in have if it not in self.items]
+        self.lost += [f"NOTES of .ci/door.py: the page has no entry {it}" for it in NOTES if it not in have]
         self.lost += [f"HEAD of .ci/door.py doesn't lead to {it}" for it in GROUPS
                       if f"](#{self.slugs[it]})" not in HEAD]
         lines = [HEAD.replace("LINES", "\n".join(self.first()))]

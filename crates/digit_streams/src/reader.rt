@@ -201,8 +201,9 @@ impl<'b, K: Kind, R: Read> NumberReader<'b, K, R> {
         read
     }
 
-    /// Reads the next number. `None` if the list is over, which it is where no number begins:
-    /// [`finish`](NumberReader::finish) says whether the stream is at its end there.
+    /// Reads the next number. `None` if the list is over: no separator follows, or no number begins
+    /// where none has to. [`finish`](NumberReader::finish) says whether the stream is at its end
+    /// there.
     ///
     /// If the list was over, or there was an error, then each later call returns that again. But
     /// after [`Read`](StreamError::Read) of `WouldBlock` or `TimedOut` the next call goes on, and
@@ -324,7 +325,7 @@ impl<'b, K: Kind, R: Read> NumberReader<'b, K, R> {
     /// Whether the stream is at its end: nothing follows the bytes that the calls used. If
     /// something does, the error is [`Trailing`](StreamError::Trailing), with the position and the
     /// reason why no number begins there. After an error it returns that again. Call it after the
-    /// last number: a list is over where no number begins, as at a letter, or by
+    /// last number: a list may be over before the stream is, as at a letter, or by
     /// [`LINES`](digit_literals::LINES) at an empty line. Where blanks alone separate,
     /// [`next_number`](NumberReader::next_number) uses the blanks at the end before it returns
     /// `None`.
