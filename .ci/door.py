@@ -340,8 +340,8 @@ LINES
 - **A text** is a `&[u8]`. Positions count its bytes from 0. The error of a number holds the position of \
 its fault.
 - **A word** says how digits are written: `STANDARD` reads `1000`, `PYTHON_LITERAL` also `1_000`. **A \
-form** is a whole grammar, such as JSON's. **A language** has a word for digits alone, and others for those after \
-`0x`, `0o`, `0b`.
+form** is a whole grammar, such as JSON's. **A language** has a word for digits alone, and others for \
+those after `0x`, `0o`, `0b`.
 - **A kind** says which numbers a list or a stream has, **a gap** what is between two of them.
 - **No call** panics or allocates.
 
@@ -401,7 +401,8 @@ first:
 | the form is valid | `is_form(form)` |
 | the words of the language are supported | `is_language(language)` |
 | the kind is valid | of `Integers` the word; of `Floats` the word and its radixes; of `Scaled` and `Prices` \
-these and `places <= 38`; of `OfForm` the form; of `OfLanguage` the language; of `Both` and `Enclosed` their kinds |
+these and `places <= 38`; of `OfForm` the form; of `OfLanguage` the language; of `Both` and `Enclosed` \
+their kinds |
 | start, at, end ≤ text.len() | `start <= text.len()` |
 | places ≤ 38 | `places <= 38` |
 | `x` is finite | `x.is_finite()`, of a constant too |
@@ -430,7 +431,8 @@ have are at the end of its page.
 
 
 # The sentences of doc comments that the head of the page tells.
-TOLD = ("Requires ", "A position counts", "Takes no memory", "Not in lexical-util", "lexical-util's", "lexical-util has")
+TOLD = ("Requires ", "A position counts", "Takes no memory", "Not in lexical-util", "lexical-util's",
+        "lexical-util has")
 # The half line of a name whose first clause says too little.
 HALVES = {
     "read_integer": "`read_number::<u64>` by another name",
@@ -647,7 +649,8 @@ class Door:
         if source.path == forms.FORMS:
             parts = zip(("source code", "data", "functions of a library"), forms.forms().values())
             first = [(f"`{name}`", consts[name]) for name in FIRST_FORMS]
-            return [*rows_of(("Name", "What it reads"), first), "", "`LITERAL` and `FLOAT` are starting points for your own. The others:",
+            return [*rows_of(("Name", "What it reads"), first), "",
+                    "`LITERAL` and `FLOAT` are starting points for your own. The others:",
                     *rows_of(("For", "Names"), [(use, listed(found)) for use, found in parts])]
         elif any(it.endswith("_HEX_LITERAL") for it in consts):
             heads, rows = ("Names", "What they read"), list(by_prefix(consts))
