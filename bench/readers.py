@@ -26,9 +26,9 @@ def span(starts, side=LIBRARY):
     return f"{min(found):.2f} to {max(found):.2f}"
 
 
-def fastest():
-    """In how many rows the library is the fastest, and of how many."""
-    found = ratios().values()
+def fastest(side=LIBRARY):
+    """In how many rows a side is the fastest, and of how many."""
+    found = ratios(side=side).values()
     return f"{sum(it <= 1 for it in found)} of {len(found)}"
 
 
@@ -58,29 +58,36 @@ can't put it into its caller's loop."""
 
 def readme():
     """What README.md has between its comments: the times beside those of others, gain and loss."""
-    few, many = times("u64, 3 digits", "u64, 1 to 4"), times("%.6e")
+    door = "library, from C"
+
+    def reads(what, peers, starts, ends=""):
+        return what, peers, span(starts, LIBRARY + ends), span(starts, f"{LIBRARY}{ends}, from C")
+
+    def writes(what, peers, *starts):
+        return what, peers, times(*starts), times(*starts, side=door)
+
     rows = [
-        ("an integer that is the whole text", "C++'s `from_chars`, std, lexical-core", span(INTEGERS)),
-        ("a float that is the whole text", "fast_float, simdjson, std", span(FLOATS)),
-        ("a number of JSON", "simdjson, over an array", span("JSON")),
-        ("a `u64` and where it ends", "`from_chars`", span("u64", READ)),
-        ("an `f64` and where it ends", "fast_float, simdjson", span("f64", READ)),
-        ("a whole text, called from C++ by `digits.h`", "the same", span("", "library, from C")),
-        ("the same with a word as argument", "the same", span("", "library, a word, from C")),
-        ("write an integer of up to 4 digits", "lexical-core", few),
-        ("write an integer of 8 to 20 digits", "itoa, lexical-core",
-         times("u64, 8 digits", "u64, 16 digits", "u64, 20 digits")),
-        ("write the shortest text of a float", "ryu, `to_chars`", times("f64, ", "f32, ")),
-        ("write `%.2f` of a price", "`to_chars`", times("%.2f, prices", "%.2f, 3 digits")),
-        ("write `%.2f` of a number up to 1e22", "`to_chars`", times("%.2f, in [0, 1e22)")),
-        ("write `%.6e`", "`to_chars`", many),
+        reads("an integer that is the whole text", "C++'s `from_chars`, std, lexical-core", INTEGERS),
+        reads("a float that is the whole text", "fast_float, simdjson, std", FLOATS),
+        reads("a number of JSON", "simdjson, over an array", "JSON"),
+        reads("a `u64` and where it ends", "`from_chars`", "u64", ", within a text"),
+        reads("an `f64` and where it ends", "fast_float, simdjson", "f64", ", within a text"),
+        writes("write an integer of up to 4 digits", "lexical-core", "u64, 3 digits", "u64, 1 to 4"),
+        writes("write an integer of 1 to 20 digits", "lexical-core", "u64, 1 to 20"),
+        writes("write an integer of 8, 16 or 20 digits", "itoa, lexical-core", "u64, 8 digits",
+               "u64, 16 digits", "u64, 20 digits"),
+        writes("write the shortest text of a float", "ryu, `to_chars`", "f64, ", "f32, "),
+        writes("write `%.2f` of a price", "`to_chars`", "%.2f, prices", "%.2f, 3 digits"),
+        writes("write `%.2f` of a number up to 1e22", "`to_chars`", "%.2f, in [0, 1e22)"),
+        writes("write `%.6e` of a price or a coordinate", "`to_chars`", "%.6e, coordinates", "%.6e, 3 digits"),
+        writes("write `%.6e` of any float", "`to_chars`", "%.6e, random bits"),
     ]
-    lines = table(f"A whole text: the fastest in {fastest()} kinds of input. A number and its end: level. Short "
-                  f"integers that are written take {few} times as long, and `%.6e` {many} times. Each row is the "
-                  "time of a call, from Rattle but in two rows, divided by that of the fastest other library that "
-                  "does the same work; below 1 this one is faster.",
-                  ["What", "The fastest other one", "Ratio"], rows)
+    lines = table(f"From Rattle the fastest in {fastest()} kinds of numbers that are read, from C++ by `digits.h` "
+                  f"in {fastest(door)}. The time of a call, divided by that of the fastest other library that does "
+                  "the same work; below 1 this one is faster.",
+                  ["What", "The fastest other one", "From Rattle", "From C++"], rows)
     return "\n".join(lines) + """
 Floats in groups and iterators over digits are slower than others, too ([by how much](docs/SPEED.md#where-you-lose)). \
-One thread. The others are Debian 12's: fast_float 3.9.0, which is C++'s, lexical-core 0.7.6, serde_json 1.0.87 and \
-simdjson 3.0.1. [SPEED.md](docs/SPEED.md) has every kind of input, and how to call so that it is fast."""
+One thread. The others are as Debian 12 has them, and newer ones weren't timed: fast_float 3.9.0, which is C++'s, \
+lexical-core 0.7.6, serde_json 1.0.87 and simdjson 3.0.1. [SPEED.md](docs/SPEED.md) has every kind of input, what a \
+word as argument costs, and how to call so that it is fast."""

@@ -91,13 +91,15 @@ def from_c(rows):
     return f" From C a call takes {min(more):.0f} to {max(more):.0f} more." if more else ""
 
 
-def times(*starts):
-    """The least and the greatest ratio of the time to that of the fastest writer that does the same
-    work, in the rows whose names begin so."""
-    found = [time(row, sides).split()[0] for row, sides in Figures("written-times.txt").rows.items()
-             if row.startswith(starts)]
-    least, most = (f"{it(map(float, found)):.1f}" for it in (min, max))
-    return most if least == most else f"{least} to {most}"
+def times(*starts, side=LIBRARY):
+    """The least and the greatest ratio of a side's time to that of the fastest writer that does the same
+    work, in the rows whose names begin so; a dash if none has the side."""
+    runs = (slower_run(row, sides, side, lacks=lacks)
+            for row, sides in Figures("written-times.txt").rows.items()
+            if row.startswith(starts) and side in sides)
+    found = [mine / peer[0] for mine, peer in filter(None, runs)]
+    least, most = f"{min(found, default=0):.1f}", f"{max(found, default=0):.1f}"
+    return "–" if not found else most if least == most else f"{least} to {most}"
 
 
 def writers():

@@ -30,7 +30,47 @@ pub fn read_size(text: &[u8]) -> Result<(u32, u32, usize), SizeError> {
     Ok((width, height, end))
 }
 
-use digits::{BLANKS, STANDARD, past_bytes};
+ghost use Rattle.std.specs.Prelude.{◌≤◌, length, IfOk};
+
+use digits::read_integer_from;
+
+/// Why there is no percentage.
+#[derive(Clone, Copy, Debug, PartialEq, Eq)]
+pub enum PercentError {
+    NoDigit(usize),
+    Above100(usize),
+}
+
+/// The percentage that begins at `start`, and where it ends: `1_00%` gives `(100, 4)`.
+pub fn read_percent(line: &[u8], start: usize) -> Result<(u8, usize), PercentError>
+    requires { start ≤ length line.now }
+    ensures { IfOk result (λ percent. percent.1 ≤ length line.now) }
+{
+    match read_integer_from(line, PYTHON_LITERAL, start, 100) {
+        Ok((percent, end)) => Ok((percent as u8, end)),
+        Err(LiteralError::Empty(at)) => Err(PercentError::NoDigit(at)),
+        Err(LiteralError::Overflow(at)) => Err(PercentError::Above100(at)),
+    }
+}
+
+use digits::{BLANKS, NumberError, forms, name_end, past_bytes, read_number_of};
+
+/// The sum of the lengths that a text has, whatever their units are: `10px 2.5em` gives 12.5.
+pub fn sum_lengths(text: &[u8]) -> Result<f64, NumberError> {
+    let mut sum = 0.0;
+    let mut at = past_bytes(text, 0, BLANKS);
+    for _ in text {
+        if at >= text.len() {
+            break;
+        }
+        let (number, end) = read_number_of::<f64>(text, at, forms::CSS)?;
+        sum += number.to_float();
+        at = past_bytes(text, name_end(text, end), BLANKS);
+    }
+    Ok(sum)
+}
+
+use digits::STANDARD;
 
 /// The number that a text is, with any blanks around it: ` 12\r\n` gives 12.
 pub fn parse_trimmed(text: &[u8]) -> Result<i32, ParseError> {
@@ -52,16 +92,35 @@ pub fn read_mask(text: &[u8]) -> Result<(u16, usize), LanguageError> {
     read_literal_as::<u16>(text, 0, RUST)
 }
 
-use digits::{NumberError, forms, parse_number_of};
+use digits::{COMMAS, ListRead, read_list};
+
+/// The ports that a text lists, `80, 443;`, in the front of a slice: how many they are, and why
+/// there are no more.
+pub fn read_ports(text: &[u8], ports: &mut [u16]) -> ListRead<LiteralError> {
+    read_list::<u16>(text, 0, STANDARD, COMMAS, ports)
+}
+
+use digits::{ByteSet, COMMAS_IN_LINE, Gap};
+
+/// One `;`, with any spaces and tabs around it: between the numbers of `12; 7;305`.
+pub const SEMICOLONS: Gap = Gap {
+    separators: ByteSet {
+        low: 1 << 0x3b,
+        high: 0,
+    },
+    ..COMMAS_IN_LINE
+};
+
+use digits::parse_number_of;
 
 /// The number of JSON that a text is, as a float: `-1.5e3` is -1500.0, and `01` is `Invalid(1)`.
 pub fn parse_amount(text: &[u8]) -> Result<f64, NumberError> {
     Ok(parse_number_of::<f64>(text, forms::JSON)?.to_float())
 }
 
-ghost use Rattle.std.specs.Prelude.{◌<◌, ◌≤◌, length, IfOk};
+ghost use Rattle.std.specs.Prelude.{◌<◌};
 
-use digits::{Number, byte_at, read_number_of};
+use digits::{Number, byte_at};
 
 /// The token of a number of JSON at `start`, and where it ends: of `-1.5e3,` it is -1500.0, and
 /// ends at 6. Of `01` the fault is at 1.
@@ -118,7 +177,7 @@ pub fn parse_entry(line: &[u8]) -> Result<Entry, usize> {
     })
 }
 
-use digits::{COMMAS_IN_LINE, ListError, parse_list};
+use digits::{ListError, parse_list};
 
 /// How many numbers a line has, which are in the front of `row` then, or the first fault:
 /// `12, 7,305` has three.
@@ -126,63 +185,6 @@ pub fn parse_row(line: &[u8], row: &mut [u32]) -> Result<usize, ListError<Litera
     ensures { IfOk result (λ count. count ≤ length row.old) }
 {
     parse_list(Integers::<u32>::new(STANDARD), line, COMMAS_IN_LINE, row)
-}
-
-use digits::{COMMAS, ListRead, read_list};
-
-/// The ports that a text lists, `80, 443;`, in the front of a slice: how many they are, and why
-/// there are no more.
-pub fn read_ports(text: &[u8], ports: &mut [u16]) -> ListRead<LiteralError> {
-    read_list::<u16>(text, 0, STANDARD, COMMAS, ports)
-}
-
-use digits::{ByteSet, Gap};
-
-/// One `;`, with any spaces and tabs around it: between the numbers of `12; 7;305`.
-pub const SEMICOLONS: Gap = Gap {
-    separators: ByteSet {
-        low: 1 << 0x3b,
-        high: 0,
-    },
-    ..COMMAS_IN_LINE
-};
-
-use digits::read_integer_from;
-
-/// Why there is no percentage.
-#[derive(Clone, Copy, Debug, PartialEq, Eq)]
-pub enum PercentError {
-    NoDigit(usize),
-    Above100(usize),
-}
-
-/// The percentage that begins at `start`, and where it ends: `1_00%` gives `(100, 4)`.
-pub fn read_percent(line: &[u8], start: usize) -> Result<(u8, usize), PercentError>
-    requires { start ≤ length line.now }
-    ensures { IfOk result (λ percent. percent.1 ≤ length line.now) }
-{
-    match read_integer_from(line, PYTHON_LITERAL, start, 100) {
-        Ok((percent, end)) => Ok((percent as u8, end)),
-        Err(LiteralError::Empty(at)) => Err(PercentError::NoDigit(at)),
-        Err(LiteralError::Overflow(at)) => Err(PercentError::Above100(at)),
-    }
-}
-
-use digits::name_end;
-
-/// The sum of the lengths that a text has, whatever their units are: `10px 2.5em` gives 12.5.
-pub fn sum_lengths(text: &[u8]) -> Result<f64, NumberError> {
-    let mut sum = 0.0;
-    let mut at = past_bytes(text, 0, BLANKS);
-    for _ in text {
-        if at >= text.len() {
-            break;
-        }
-        let (number, end) = read_number_of::<f64>(text, at, forms::CSS)?;
-        sum += number.to_float();
-        at = past_bytes(text, name_end(text, end), BLANKS);
-    }
-    Ok(sum)
 }
 
 use digits::{FloatError, Floats, FoldError, LINES, fold_stream};
