@@ -8,6 +8,11 @@ INTEGERS = "u64|i32|hexadecimal|grouped u64"
 FLOATS = "f64|f32"
 
 
+# The rows of which README.md has the time, by what it calls them.
+SHOWN = {"u64, 1 to 20 digits": "a `u64` of 1 to 20 digits", "f64, coordinates": "a coordinate as an `f64`",
+         "JSON, mixed": "a number of JSON"}
+
+
 def rows():
     return Figures("times.txt").rows
 
@@ -46,7 +51,7 @@ def answer():
     others = " and ".join(f"{it:.2f} times ({row})" for row, it in slower)
     below = [it for it in ratios().values() if it <= 1]
     return f"""\
-- **The number is a whole text** (`parse_number`, `parse_float`): the fastest in {fastest()} rows, by \
+- **The number is a whole text** (`parse_number`, `parse_float`), or of JSON (`read_number_of`): the fastest in {fastest()} rows, by \
 time, of the readers that do the same work. It takes {min(below):.2f} to {max(below):.2f} times as \
 long as the next one{f", in the other rows {others}" if slower else ""}.
 - **You also need where it ends**, as a lexer does (`read_integer`, `read_float`): {by_read()}.
@@ -82,12 +87,16 @@ def readme():
         writes("write `%.6e` of a price or a coordinate", "`to_chars`", "%.6e, coordinates", "%.6e, 3 digits"),
         writes("write `%.6e` of any float", "`to_chars`", "%.6e, random bits"),
     ]
-    lines = table(f"From Rattle the fastest in {fastest()} kinds of numbers that are read, from C++ by `digits.h` "
-                  f"in {fastest(door)}. The time of a call, divided by that of the fastest other library that does "
-                  "the same work; below 1 this one is faster.",
+    ends = fastest(READ)
+    some = "; ".join(f"{words} {mine:.1f} ns ({other[1].partition(',')[0]} {other[0]:.1f})" for words, (mine, other) in (
+        (words, slower_run(row, Figures("times.txt").rows[row])) for row, words in SHOWN.items()))
+    lines = table(f"- A whole text, or a number of JSON: from Rattle the fastest in {fastest()} kinds of input, from "
+                  f"C++ by `digits.h` in {fastest(door)}.\n- With the end of the number, from Rattle: in {ends}.\n- On "
+                  f"one core of a Xeon: {some}.\n\nThe table has the time of a call, divided by that of the fastest other "
+                  "library that does the same work; below 1 this one is faster. The others are as Debian 12 has them, "
+                  "and newer ones weren't timed: fast_float 3.9.0, which is C++'s, lexical-core 0.7.6, serde_json "
+                  "1.0.87, simdjson 3.0.1.",
                   ["What", "The fastest other one", "From Rattle", "From C++"], rows)
     return "\n".join(lines) + """
 Floats in groups and iterators over digits are slower than others, too ([by how much](docs/SPEED.md#where-you-lose)). \
-One thread. The others are as Debian 12 has them, and newer ones weren't timed: fast_float 3.9.0, which is C++'s, \
-lexical-core 0.7.6, serde_json 1.0.87 and simdjson 3.0.1. [SPEED.md](docs/SPEED.md) has every kind of input, what a \
-word as argument costs, and how to call so that it is fast."""
+[SPEED.md](docs/SPEED.md) has every kind of input, what a word as argument costs, and how to call so that it is fast."""

@@ -1,7 +1,8 @@
 //! What CALLING.md says that its own functions and a stream answer.
 
 use digit_uses::calling::{
-    COMMA_DIGITS, Entry, SEMICOLONS, first_above, parse_entry, sum_lengths, sum_of,
+    COMMA_DIGITS, Entry, SEMICOLONS, first_above, has_port, parse_entry, parse_price, sum_lengths,
+    sum_of,
 };
 use digit_uses::proving;
 use digit_uses::sums::sum_list;
@@ -215,4 +216,16 @@ fn amounts_and_prices(rt: HostRuntime) {
     let large = Err(PriceError::Group(0));
     assert!(rt; amounts(b"1234.50") == [all, all, large, large]);
     assert!(rt; amounts(b"12.345") == [fine, fine, fine, fine]);
+}
+
+/// A whole price, and a list that is opened.
+#[test]
+fn a_price_and_a_port(rt: HostRuntime) {
+    assert!(rt; parse_price(b"1,234.50") == Ok(123450));
+    let other = ScaledError::Invalid(8);
+    assert!(rt; parse_price(b"1,234.50x") == Err(PriceError::Number(other)));
+    assert!(rt; has_port(b"80, 443;", 443) == Ok(true));
+    assert!(rt; has_port(b"80, 443;", 22) == Ok(false));
+    assert!(rt; has_port(b"80, x", 80) == Err(4));
+    assert!(rt; has_port(b"1,1,1,1,1,1,1,1,1,1,1,1,1,1,1,1,2", 2) == Err(32));
 }

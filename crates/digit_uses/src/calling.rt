@@ -100,6 +100,23 @@ pub fn read_ports(text: &[u8], ports: &mut [u16]) -> ListRead<LiteralError> {
     read_list::<u16>(text, 0, STANDARD, COMMAS, ports)
 }
 
+use digits::ListEnd;
+
+/// Whether a text lists a port among at most 16: `80, 443;`. The error is the position of a fault,
+/// or of the 17th port.
+pub fn has_port(text: &[u8], port: u16) -> Result<bool, usize> {
+    let mut ports = [0; 16];
+    let read = read_list::<u16>(text, 0, STANDARD, COMMAS, &mut ports);
+    match read.end {
+        // The list ended well.
+        ListEnd::Over(_) => Ok(ports[..read.count].contains(&port)),
+        // The slice is full: another call would go on from here.
+        ListEnd::Full(at) => Err(at),
+        // A number has to be here, and none is.
+        ListEnd::Fault(error) => Err(error.position()),
+    }
+}
+
 use digits::{ByteSet, COMMAS_IN_LINE, Gap};
 
 /// One `;`, with any spaces and tabs around it: between the numbers of `12; 7;305`.
@@ -187,11 +204,12 @@ pub fn parse_row(line: &[u8], row: &mut [u32]) -> Result<usize, ListError<Litera
     parse_list(Integers::<u32>::new(STANDARD), line, COMMAS_IN_LINE, row)
 }
 
-use digits::{FloatError, Floats, FoldError, LINES, fold_stream};
+use digits::{FloatError, Floats, FoldError, LINES, floats_are_apart, fold_stream};
 use std::io::Read;
 
 /// The sum of the floats of a stream, one in each line. An empty line is an error.
 pub fn sum_of<R: Read + Drop>(stream: R) -> Result<f64, FoldError<FloatError>> {
+    floats_are_apart(STANDARD, LINES);
     let mut buffer = [0; 4096];
     let kind = Floats::<f64>::new(STANDARD);
     let add = |sum: f64, number: f64| Some(sum + number);
@@ -257,7 +275,7 @@ pub fn write_grouped(number: i64, out: &mut [u8]) -> Result<usize, NoRoom> {
     write_number_by(number, layout, out)
 }
 
-use digits::INTEGER_INTERNAL_DIGIT_SEPARATOR;
+use digits::{INTEGER_INTERNAL_DIGIT_SEPARATOR, PriceError, ScaledError, read_price_from};
 
 /// Radix 10, and `,` between two digits: `1,234`.
 pub const COMMA_DIGITS: u128 = (10 << 104) | (0x2c << 64) | INTEGER_INTERNAL_DIGIT_SEPARATOR;
@@ -268,6 +286,15 @@ pub const APOSTROPHES: u128 = (16 << 104) | (0x27 << 64) | INTEGER_INTERNAL_DIGI
 /// The count that a text is: `1,234` gives 1234.
 pub fn parse_count(text: &[u8]) -> Result<u64, ParseError> {
     parse_number::<u64>(text, COMMA_DIGITS)
+}
+
+/// The cents of the price that a text is: `1,234.50` gives 123450.
+pub fn parse_price(text: &[u8]) -> Result<i64, PriceError> {
+    let (cents, end) = read_price_from::<i64>(text, COMMA_DIGITS, 0, b'.', 2)?;
+    if end < text.len() {
+        return Err(PriceError::Number(ScaledError::Invalid(end)));
+    }
+    Ok(cents)
 }
 
 ghost use Rattle.std.specs.Prelude.{IfSome, IsTrue};
