@@ -38,8 +38,8 @@ impl PriceError {
         }
     }
 
-    /// Whether it says that no number begins at `place`. Then there is no digit, nor a sign or a
-    /// point.
+    /// Whether it says that no number begins at `place`. Then there is no digit, nor a point, nor a
+    /// sign that the type has.
     pub fn is_none_at(&self, place: usize) -> bool
         ensures { result ≡ price_none_at place self.now }
     {

@@ -10,7 +10,7 @@ use std::fmt;
 /// Why a whole text is no integer. A position counts bytes from 0.
 #[derive(Clone, Copy, Debug, PartialEq, Eq)]
 pub enum ParseError {
-    /// The text ends at this position, where a digit has to be. If `?` made it of a
+    /// The text ends at this position, where a digit has to be. If it was converted from a
     /// [`LiteralError`], another byte may be there.
     Empty(usize),
     /// The byte at this position is no part of the number.

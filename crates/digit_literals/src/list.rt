@@ -85,13 +85,14 @@ pub const LINES: Gap = Gap {
 /// Why a list was read no further.
 #[derive(Clone, Copy, Debug, PartialEq, Eq)]
 pub enum ListEnd<E> {
-    /// The slice is full. The next number may begin at this position, which is after a separator.
+    /// The slice is full. The next number may begin at this position: after a separator, or at
+    /// `start` if the slice has no place.
     Full(usize),
     /// The list is over. At this position, past the blanks after the last number, is the first byte
     /// that isn't of the list, or the end of the text: no separator, or a byte at which no number
     /// begins.
     Over(usize),
-    /// Where a number has to be is none.
+    /// A number has to be here, and there is none.
     Fault(E),
 }
 

@@ -121,7 +121,7 @@ impl NumberError {
     }
 
     /// Whether it says that no number begins at `place`. Then there is neither a digit nor a
-    /// special value of the form, nor a sign.
+    /// special value of the form, nor a sign that the form has.
     pub fn is_none_at(self, place: usize) -> bool
         ensures { result ≡ none_at place self }
     {

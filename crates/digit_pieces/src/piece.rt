@@ -16,8 +16,8 @@ pub enum PieceEnd<E> {
     /// More of the text is needed: the bytes from this position on have to come again, with what
     /// follows them. A number may begin there.
     More(usize),
-    /// The slice is full. The next number may begin at this position, which is after a separator;
-    /// after one blank, where blanks alone separate.
+    /// The slice is full. The next number may begin at this position: after a separator, after one
+    /// blank where blanks alone separate, or at `start` if the slice has no place.
     Full(usize),
     /// The list is over. No separator is at this position, past the blanks after the last number;
     /// or no number begins there.

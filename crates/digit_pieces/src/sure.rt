@@ -5,8 +5,8 @@ ghost use Rattle.digit_pieces.specs.Cuts.{sure_end};
 
 use super::kind::Kind;
 
-/// Returns up to where the numbers of a piece are sure, whatever follows it: the position after its
-/// last byte that no number of the kind has, or 0 if there is none.
+/// Returns the position up to which the numbers of a piece are final, whatever follows it: that
+/// after its last byte that no number of the kind has, or 0 if there is none.
 ///
 /// The outcome at each position before it stays, whatever follows the text. From it on every byte
 /// may be in a number, so a number there may go on.

@@ -51,8 +51,8 @@ impl<E: Error> Error for StreamError<E> {}
 /// Why a stream was read no further. Positions count bytes of the stream from 0.
 #[derive(Clone, Copy, Debug, PartialEq, Eq)]
 pub enum StreamEnd<E> {
-    /// The slice is full. The next number may begin at this position, which is after a separator;
-    /// after one blank, where blanks alone separate.
+    /// The slice is full. The next number may begin at this position: after a separator, after one
+    /// blank where blanks alone separate, or where the call began if the slice has no place.
     Full(u64),
     /// The list is over. No separator is at this position, past the blanks after the last number;
     /// or no number begins there.

@@ -76,7 +76,8 @@ impl Layout {
     }
 
     /// The same with a separator between groups of so many digits, counted from the last one; 0
-    /// means that there are none. `None`: the separator is 0 or a digit of the radix.
+    /// means that there are none. `None`: `every` is above 0, and the separator is 0 or a digit of
+    /// the radix.
     pub fn grouped(self, separator: u8, every: u8) -> Option<Layout>
         ensures { MatchOption result (is_layout self.radix separator every ≡ false)
             (HasParts self.radix self.is_upper separator every self.digits self.has_plus) }

@@ -90,14 +90,14 @@ fn put_list<T: Written>(numbers: &[T], separator: u8, out: &mut [u8]) -> usize
     at
 }
 
-/// Writes integers with a byte between two of them. `parse_list` reads them back.
+/// Writes integers with a byte between two of them. `parse_list` reads them back by a word of radix
+/// 10 and a gap by which this byte separates, if no byte of the gap can be in a number. An empty
+/// list needs a gap that may trail.
 ///
 /// The call puts them at the front of a slice, in decimal, and returns how many bytes that takes.
-/// Of no number there is no byte. `parse_list` and `read_list` read the numbers back by each word
-/// and gap that read such a list (`IsListReadBy`): the radix is 10, the byte separates by the gap,
-/// and no byte that may be between two numbers may be in one. The rest of the slice isn't changed.
-/// Without room nothing is written, and the error has the room that is needed, or the greatest
-/// `usize` if that is less.
+/// Of no number there is no byte. `IsListReadBy` says which words and gaps read the list: by them
+/// `read_list` reads it, too. The rest of the slice isn't changed. Without room nothing is written,
+/// and the error has the room that is needed, or the greatest `usize` if that is less.
 ///
 /// ```text
 /// `[80, -1, 443]` with `,`: Ok(9), and `out` begins with `80,-1,443`

@@ -99,9 +99,10 @@ fn copy(text: &[u8], out: &mut [u8]) -> Result<usize, FormTextError>
     Ok(len)
 }
 
-/// Writes a number by a form. [`parse_number_of`](digit_numbers::parse_number_of) reads it back as
-/// this number, a float as a float: `2.0`. An infinity and a NaN have the first of the form's
-/// names, such as `inf` of TOML and `.inf` of YAML.
+/// Writes a number by a form. [`parse_number_of`](digit_numbers::parse_number_of) reads it back: a
+/// float as this float, `2.0`, and an integer as this integer, without its word. By a form whose
+/// numbers are all floats it reads an integer back as the nearest float. An infinity and a NaN have
+/// the first of the form's names, such as `inf` of TOML and `.inf` of YAML.
 ///
 /// The call puts it at the front of a slice, and returns its length. A float is written by its
 /// shortest decimal, so that it isn't read as an integer: `2.0`, `1e16`. The word of an integer
