@@ -9,8 +9,8 @@ use digit_uses::sums::sum_list;
 use digits::{
     COMMAS, FloatError, FoldError, Integers, LINES, LiteralError, NumberError, NumberReader,
     ParseError, PriceError, STANDARD, ScaledError, StreamError, forms, parse_float, parse_list,
-    parse_number, parse_number_of, read_exact_from, read_float, read_grouped_from, read_number_of,
-    read_price_from, read_scaled_from,
+    parse_number, parse_number_of, read_exact_from, read_float, read_grouped_from, read_number,
+    read_number_of, read_price_from, read_scaled_from,
 };
 
 /// A line with fields of several kinds.
@@ -176,6 +176,65 @@ fn surprises(rt: HostRuntime) {
     assert!(rt; read_float::<f64>(b"1em", STANDARD) == Err(FloatError::EmptyExponent(2)));
     let read = read_number_of::<f64>(b"1em", 0, forms::CSS);
     assert!(rt; read.map(|(number, end)| (number.to_float(), end)) == Ok((1.0, 1)));
+}
+
+/// What four calls make of a text that is no number.
+type Faults = (
+    &'static [u8],
+    Result<i32, ParseError>,
+    Result<(i32, usize), LiteralError>,
+    Result<f64, FloatError>,
+    Result<f64, NumberError>,
+);
+
+/// Texts that are no number.
+static FAULTS: [Faults; 5] = [
+    (
+        b"",
+        Err(ParseError::Empty(0)),
+        Err(LiteralError::Empty(0)),
+        Err(FloatError::Empty(0)),
+        Err(NumberError::Empty(0)),
+    ),
+    (
+        b"-",
+        Err(ParseError::Empty(1)),
+        Err(LiteralError::Empty(1)),
+        Err(FloatError::Empty(1)),
+        Err(NumberError::Empty(1)),
+    ),
+    (
+        b"x",
+        Err(ParseError::Invalid(0)),
+        Err(LiteralError::Empty(0)),
+        Err(FloatError::Empty(0)),
+        Err(NumberError::Empty(0)),
+    ),
+    (
+        b"-x",
+        Err(ParseError::Invalid(1)),
+        Err(LiteralError::Empty(1)),
+        Err(FloatError::Empty(1)),
+        Err(NumberError::Empty(1)),
+    ),
+    (
+        b"1x",
+        Err(ParseError::Invalid(1)),
+        Ok((1, 1)),
+        Err(FloatError::Invalid(1)),
+        Err(NumberError::Invalid(1)),
+    ),
+];
+
+/// The table of errors, which the reference has, too.
+#[test]
+fn errors_of_one_number(rt: HostRuntime) {
+    for (text, whole, front, float, of_json) in &FAULTS {
+        assert!(rt; parse_number::<i32>(text, STANDARD) == *whole, "{text:?}");
+        assert!(rt; read_number::<i32>(text, STANDARD) == *front, "{text:?}");
+        assert!(rt; parse_float::<f64>(text, STANDARD) == *float, "{text:?}");
+        assert!(rt; json(text) == *of_json, "{text:?}");
+    }
 }
 
 /// A loop over a text.

@@ -109,21 +109,25 @@ fn a_form(rt: HostRuntime) {
 /// Shows `Form`.
 #[test]
 fn a_form_of_ones_own(rt: HostRuntime) {
-    // a digit has to follow the point, as in CSS
-    let css = Form {
-        needs_fraction: true,
+    // a comma in place of the point
+    let marks = Marks {
+        point: b',',
+        exponent: b'e',
+    };
+    let comma = Form {
+        marks,
         ..forms::FLOAT
     };
     assert_eq!(rt;
-        read_number_of::<f64>(b"1.5em", 0, css),
-        Ok((Number::Float(1.5), 3))
+        parse_number_of::<f64>(b"1,5e3", comma),
+        Ok(Number::Float(1500.0))
     );
     assert_eq!(rt;
-        read_number_of::<f64>(b"-.5e3px", 0, css),
-        Ok((Number::Float(-500.0), 5))
+        read_number_of::<f64>(b"-2,5;", 0, comma),
+        Ok((Number::Float(-2.5), 4))
     );
     assert_eq!(rt;
-        parse_number_of::<f64>(b"5.", css),
+        parse_number_of::<f64>(b"1.5", comma),
         Err(NumberError::Invalid(1))
     );
 }

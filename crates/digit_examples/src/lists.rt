@@ -20,6 +20,25 @@ fn a_first_list(rt: HostRuntime) {
     assert_eq!(rt; ports, [80, 44, 0, 0]);
 }
 
+/// Texts that fill a slice, as the reference tells them.
+#[test]
+fn a_full_slice(rt: HostRuntime) {
+    let mut two = [0u16; 2];
+    let read = read_list(b"80, 443", 0, STANDARD, COMMAS, &mut two);
+    assert_eq!(rt; (read.count, read.end), (2, ListEnd::Over(7)));
+    let read = read_list(b"80, 443, 8", 0, STANDARD, COMMAS, &mut two);
+    assert_eq!(rt; (read.count, read.end), (2, ListEnd::Full(8)));
+    let read = read_list(b"80\n443\n", 0, STANDARD, LINES, &mut two);
+    assert_eq!(rt; (read.count, read.end), (2, ListEnd::Full(7)));
+    let read = read_list(b"80\n443\n", 7, STANDARD, LINES, &mut two);
+    assert_eq!(rt; (read.count, read.end), (0, ListEnd::Over(7)));
+    let kind = Integers::<u16>::new(STANDARD);
+    assert_eq!(rt; parse_list(kind, b"80\n443\n", LINES, &mut two), Ok(2));
+    let mut none: [u16; 0] = [];
+    let read = read_list(b"80, 443", 0, STANDARD, COMMAS, &mut none);
+    assert_eq!(rt; (read.count, read.end), (0, ListEnd::Full(0)));
+}
+
 /// Lines of which one is empty, as the reference tells them.
 #[test]
 fn an_empty_line(rt: HostRuntime) {
@@ -239,6 +258,12 @@ fn a_number_that_may_be_missing(rt: HostRuntime) {
         read_optional(kind, b"200", 0),
         Err(LiteralError::Overflow(2))
     );
+    // an unsigned type has no sign
+    let kind = Integers::<u32>::new(STANDARD);
+    assert_eq!(rt; read_optional(kind, b"-1", 0), Ok(None));
+    let mut two = [0u32; 2];
+    let read = read_list(b"1\n-2\n", 0, STANDARD, LINES, &mut two);
+    assert_eq!(rt; (read.count, read.end), (1, ListEnd::Over(2)));
 }
 
 /// Shows `Gap::past_blanks`, `Gap::next_after`.

@@ -152,10 +152,9 @@ fn a_loop(rt: HostRuntime) {
     assert_eq!(rt; greatest, 12);
 }
 
-/// Shows `NumberReader`.
+/// Shows `NumberReader`, `NumberReader::next_number`.
 #[test]
 fn a_stream(rt: HostRuntime) {
-    // one number after the other
     let mut buffer = [0; 64];
     let kind = Floats::<f64>::new(STANDARD);
     let stream = b"1.5\n-2e3\n".as_slice();
@@ -169,7 +168,6 @@ fn a_stream(rt: HostRuntime) {
 /// Shows `NumberReader`, `NumberReader::finish`.
 #[test]
 fn what_follows_a_stream(rt: HostRuntime) {
-    // what follows the list
     let mut buffer = [0; 64];
     let kind = Integers::<u64>::new(STANDARD);
     let stream = b"1\nx".as_slice();
@@ -185,7 +183,6 @@ fn what_follows_a_stream(rt: HostRuntime) {
 /// Shows `NumberReader::read_into`, `NumberReader::position`, `NumberReader::unread`.
 #[test]
 fn a_stream_into_a_slice(rt: HostRuntime) {
-    // into a slice
     let mut buffer = [0; 64];
     let kind = Integers::<u64>::new(STANDARD);
     let stream = b"1,2;3".as_slice();
@@ -198,10 +195,9 @@ fn a_stream_into_a_slice(rt: HostRuntime) {
     assert_eq!(rt; numbers.unread(), b";3".as_slice());
 }
 
-/// Shows `NumberReader::new_at`, `NumberReader::pass_byte`.
+/// Shows `NumberReader::pass_byte`, `NumberReader::new_at`.
 #[test]
 fn a_list_in_brackets(rt: HostRuntime) {
-    // a list in brackets, of a stream of which some bytes were read before
     let mut buffer = [0; 64];
     let kind = Integers::<u64>::new(STANDARD);
     // 100 bytes of the stream were read before
@@ -220,6 +216,7 @@ fn a_list_in_brackets(rt: HostRuntime) {
 /// Shows `fold_stream`.
 #[test]
 fn the_sum_of_a_stream(rt: HostRuntime) {
+    // each call takes its closure, so the next one needs another
     let mut buffer = [0; 64];
     let kind = Integers::<u8>::new(STANDARD);
     let add = |sum: u8, number: u8| sum.checked_add(number);
@@ -243,7 +240,6 @@ fn the_sum_of_a_stream(rt: HostRuntime) {
 /// Shows `NumberReader::fold_numbers`.
 #[test]
 fn the_greatest_number_of_a_stream(rt: HostRuntime) {
-    // one value of all numbers, by a fold
     let mut buffer = [0; 64];
     let kind = Integers::<u32>::new(STANDARD);
     let stream = b"3, 12, 5; x".as_slice();
@@ -256,7 +252,6 @@ fn the_greatest_number_of_a_stream(rt: HostRuntime) {
 /// Shows `NumberReader::fold_enclosed`.
 #[test]
 fn the_sums_of_arrays(rt: HostRuntime) {
-    // arrays, by a fold
     let mut buffer = [0; 64];
     let kind = Integers::<u32>::new(STANDARD);
     let stream = b"[1, 2] [ ] [3;".as_slice();

@@ -16,6 +16,16 @@ fn an_integer(rt: HostRuntime) {
     assert!(rt; out.starts_with(b"-128"));
 }
 
+/// Shows `write_number`.
+#[test]
+fn an_integer_behind_another(rt: HostRuntime) {
+    // a second number behind the first
+    let mut out = [0; 80];
+    let end = write_number(80u16, &mut out);
+    assert_eq!(rt; write_number(443u16, &mut out[end..]), 3);
+    assert!(rt; out.starts_with(b"80443"));
+}
+
 /// Shows `write_number_by`, `Layout::decimal`, `Layout::grouped`.
 #[test]
 fn an_integer_in_groups(rt: HostRuntime) {
