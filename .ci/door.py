@@ -27,7 +27,16 @@ GROUPS = {
         read_at_most | Reads one to `n` digits: the `7` of `7:05`
         count_digits | Counts the digits of a text""", """
         The first four read a sign if the type has one: `-1` and `+1` are an `i32`, and no `u32`. The types
-        are `u8` to `u128`, `i8` to `i128`, `usize` and `isize`.""", """
+        are `u8` to `u128`, `i8` to `i128`, `usize` and `isize`.
+
+        What a call for one number returns, by `STANDARD` and by `forms::JSON`:
+
+        | Of the text | (empty) | `-` | `x` | `-x` | `1x` |
+        |---|---|---|---|---|---|
+        | `parse_number::<i32>` | `Empty(0)` | `Empty(1)` | `Invalid(0)` | `Invalid(1)` | `Invalid(1)` |
+        | `read_number::<i32>` | `Empty(0)` | `Empty(1)` | `Empty(0)` | `Empty(1)` | `Ok((1, 1))` |
+        | `parse_float::<f64>`, `parse_number_of::<f64>` | `Empty(0)` | `Empty(1)` | `Empty(0)` | `Empty(1)` \
+| `Invalid(1)` |""", """
         parse_number parse_number_from read_number read_number_from read_integer_from read_wide_from
         read_exactly read_at_most count_digits Integer ParseError LiteralError"""),
     "Floats": ("""
@@ -40,9 +49,9 @@ GROUPS = {
         [+-]? (D+ (. D*)? | . D+) ([eE] [+-]? D+)?
         ```
 
-        You get the nearest `f64` or `f32`, of two as near the one whose last bit is 0. What is too large is
-        infinite, and what is too small is 0. Separators that the word drops may be among the digits. `inf`
-        and `nan` are refused: `forms::RUST_PARSE` [reads them](#numbers-by-a-form).""", """
+        You get the nearest `f64` or `f32`, on a tie the even one. What is too large is infinite, and what is
+        too small is 0. Separators that the word drops may be among the digits. `inf` and `nan` are refused:
+        `forms::RUST_PARSE` [reads them](#numbers-by-a-form).""", """
         parse_float parse_float_from read_float read_float_from round_integer Float FloatError"""),
     "Numbers by a form": ("""
         parse_number_of | Reads a whole text: `-1.5e3` of JSON
@@ -101,6 +110,15 @@ GROUPS = {
         | `Over(at)` | no further number has to come, and `at` is the first byte that isn't of the list: of `80, 44x` it is the `x`, and 44 came | go on at `at`; if nothing may follow, compare `at` with `text.len()`, or call `parse_list` |
         | `Full(at)` | the slice is full, and the next number may begin at `at` | call again from `at` |
         | `Fault(error)` | a number has to be there, as after a comma, and there is none | report it |
+
+        `Full` after a number says that a separator follows it, and not that another number does. `parse_list`
+        looks for that number. Into a slice of 2 places:
+
+        | Text | Gap | `end` |
+        |---|---|---|
+        | `80, 443` | `COMMAS` | `Over(7)` |
+        | `80, 443, 8` | `COMMAS` | `Full(8)`, after the second comma |
+        | `80\\n443\\n` | `LINES` | `Full(7)`: the call from 7 on returns no number, and `Over(7)` |
 
         Blanks of the gap are skipped. After a fault the front of the slice has the numbers before it. By
         `LINES` and other gaps that may trail, a separator may be last, and a list may be empty.""", """
@@ -162,13 +180,14 @@ GROUPS = {
         greatest // 12
         ```
 
-        A stream is `rt.stdin()`, a file that `std::fs::open(&rt, path)` returned, or a `&[u8]`. `rt` is the
-        `HostRuntime` of your `main`. A `NumberReader` is no `Iterator`. Its loop has a bound, since `rt check`
-        proves that each loop ends; no stream reaches it.""", """
+        A stream is any `std::io::Read`, such as `rt.stdin()`, a file that `std::fs::open(&rt, path)` returned,
+        or a `&[u8]`. `rt` is the `HostRuntime` of your `main`. A `NumberReader` is no `Iterator`. Its loop has
+        a bound, since `rt check` proves that each loop ends; no stream reaches it. The errors of streams have
+        no `position()`: match them.""", """
         fold_stream NumberReader is_apart StreamRead StreamEnd FoldError EnclosedFoldError StreamError"""),
     "Pieces and blocks": ("""
         read_piece | Reads a list that goes on in the next piece
-        sure_end | Returns up to where the numbers of a piece are sure
+        sure_end | Returns the position up to which the numbers of a piece are final
         block_start | Moves a cut to where a block may begin
         end_in_text | Turns a position of a block into one of the text""", "", """
         read_piece sure_end block_start end_in_text PieceRead PieceEnd"""),
@@ -192,7 +211,7 @@ GROUPS = {
         | `PLAIN_ROOM`, 327 | any finite float by `write_float`, in `Plain` |""", """
         write_number write_number_by write_list write_scaled write_price write_float write_fixed
         write_scientific write_number_of write_float_of write_integer_of write_plain write_usual
-        write_exponent MOST_ROOM FLOAT_ROOM PLAIN_ROOM Layout FloatLayout ExponentText Written NoRoom
+        write_exponent MOST_ROOM FLOAT_ROOM PLAIN_ROOM Layout FloatLayout ExponentText Written AnyFloat NoRoom
         FloatTextError FormTextError"""),
     "Words": ("", """
         ```rust
@@ -206,24 +225,40 @@ GROUPS = {
         A word is a `u128` that says how digits are written: their radix, their separator, and where one may
         be. It doesn't say how many digits a group has: [`read_grouped_from`](#read_grouped_from) tests that. Take
         a word with a name ([what each reads](../RULES.md#words-with-names)), write one from its parts, or make
-        one with the builder.""", """
+        one with the builder.
+
+        A constant is `radix << 104 | separator << 64 | flags`, with `exponent_radix << 120` if that radix is
+        another. The builder isn't `const`: take it at run time, and test `is_supported`. A flag of a component
+        is a bit:
+
+        | [Flag](#digitseparatorflags) | Integer | Fraction | Exponent |
+        |---|---|---|---|
+        | `internal` | `INTEGER_INTERNAL_DIGIT_SEPARATOR`, `1 << 32` | `FRACTION_INTERNAL_DIGIT_SEPARATOR`, \
+`1 << 33` | `EXPONENT_INTERNAL_DIGIT_SEPARATOR`, `1 << 34` |
+        | `leading` | `1 << 35` | `1 << 36` | `1 << 37` |
+        | `trailing` | `1 << 38` | `1 << 39` | `1 << 40` |
+        | `consecutive` | `1 << 41` | `1 << 42` | `1 << 43` |
+
+        `1 << 44` drops every separator of a special value, such as `nan`. All thirteen have
+        [names in `lexical_format`](lexical_format.md#integer_leading_digit_separator).""", """
         STANDARD words is_supported NumberFormatBuilder DigitSeparatorFlags DECIMAL NO_FLAGS ALL_FLAGS
         INTEGER_INTERNAL_DIGIT_SEPARATOR FRACTION_INTERNAL_DIGIT_SEPARATOR
         EXPONENT_INTERNAL_DIGIT_SEPARATOR NumberFormat"""),
     "A form of your own": ("", """
-        Write one from a form that is close: `Form { needs_fraction: true, ..forms::FLOAT }`.""", """
+        Write one from a form that is close: `Form { marks, ..forms::FLOAT }`.""", """
         Form Signs Whole Marks Exponents AfterPoint HexFloats Specials Special SpecialValue NameSign names"""),
     "Parts of a number": ("""
         read_mantissa read_exponent | Read digits and point; an exponent
         round_parts decimal_of | Make a float or a decimal of the two
         stop_from read_first_digits_from | Return where digits end; read the first of them""", "", """
         read_mantissa read_exponent round_parts decimal_of stop_from read_first_digits_from Mantissa Power
-        FirstDigits Component Rule"""),
+        FirstDigits Component"""),
 }
 # The heads of a table of another section than one of calls.
 HEADS = {"Kinds of numbers": ("Kind, or call", "What it reads")}
 TABLED = """COMMAS COMMAS_IN_LINE LINES WHITESPACE SPACES_IN_LINE BLANKS SPACES MOST_ROOM FLOAT_ROOM
-    PLAIN_ROOM""".split()
+    PLAIN_ROOM INTEGER_INTERNAL_DIGIT_SEPARATOR FRACTION_INTERNAL_DIGIT_SEPARATOR
+    EXPONENT_INTERNAL_DIGIT_SEPARATOR""".split()
 
 # The forms that the table of the page tells, beside what all are for.
 FIRST_FORMS = ("JSON", "JSON_FLOATS", "RUST_PARSE", "STRTOD", "LITERAL", "FLOAT")
@@ -231,38 +266,89 @@ FIRST_FORMS = ("JSON", "JSON_FLOATS", "RUST_PARSE", "STRTOD", "LITERAL", "FLOAT"
 # What only the page of its library has, the laws last, and the heading of the table that leads there.
 MORE = """
     read_integer read_list_piece read_float_list_piece read_list_piece_of read_scaled_list_piece
-    wrong_group form_of read_hex_mantissa HexMantissa read_hex_float_from round_hex AnyFloat WrittenFloat
+    wrong_group form_of read_hex_mantissa HexMantissa read_hex_float_from round_hex WrittenFloat Rule
     integers_are_apart floats_are_apart scaled_are_apart literals_are_apart numbers_are_apart
     both_are_apart enclosed_are_apart any_are_apart""".split()
 ELSEWHERE = "Rarely needed"
 # The traits whose methods a caller doesn't need, those that no entry names, and a call that serves the
 # library alone.
-FOR_LIBRARY = ("Integer", "Float", "Written")
-UNNAMED = (*FOR_LIBRARY, "AnyFloat")
+FOR_LIBRARY = ("Integer", "Float", "Written", "AnyFloat")
+UNNAMED = FOR_LIBRARY
 # What a type derives, as the head says.
 DERIVED = ["`Copy`", "`Debug`", "`PartialEq`", "`Eq`"]
-HIDDEN = ("no_number",)
+HIDDEN = ("no_number", "is_list_faster")
+# The types whose methods have an entry each, below a table of them.
+METHODS = {"NumberReader": """
+    new | Makes a reader of the numbers of a stream
+    new_at | … of which some bytes were read before
+    next_number | Reads the next number
+    finish | Tests whether the stream is at its end
+    read_into | Reads numbers into a slice
+    position | Returns the position of the first byte that no call has used
+    unread | Returns the bytes from there on that the buffer holds
+    pass_byte | Passes a byte, such as a bracket before or after the numbers
+    fold_numbers | Makes one value of the numbers
+    fold_enclosed | Makes one value of the numbers between two brackets"""}
 # What an entry says beside the doc comment.
 NOTES = {
     "read_exactly": """
-        Any `start`, radix and `n` may be given. After the end of the text it returns `Empty`. With an `n` of
-        0 it returns the number 0, also there.""",
+        Any `start`, radix and `n` may be given. `Empty` holds the first of the `n` bytes that is no digit, or
+        the end of the text; if `start` is after that end, it holds `start`. With an `n` of 0 it returns the
+        number 0, also there. Radix 0 has no digit, and radix 1 only `0`. A radix above 36 has the digits of
+        36.""",
     "read_at_most": "Any `start`, radix and `n` may be given, too. With an `n` of 0 it returns `Empty`.",
+    "count_digits": "Of an empty text it returns 0.",
     "LiteralError": """
-        `is_none_at` tells a number that is missing from a bad one. [`read_optional`](#read_optional) does
+        `is_none_at` distinguishes a missing number from a bad one. [`read_optional`](#read_optional) does
         that for you.""",
+    "read_optional": """
+        For an unsigned type a sign begins no number: a `u32` at `-1` is `None`, and a list of `u32` over
+        `1\\n-2\\n` by `LINES` ends with `Over(2)`. If that has to be an error, look for the sign by
+        [`has_byte`](#has_byte), or read a signed type.""",
+    "read_grouped_from": "The word `GROUPS` is written [from its parts](#words).",
+    "read_price_from": "The words `GROUPS` and `DOTS` are written [from their parts](#words).",
+    "fold_stream": """
+        Of an empty stream it returns `init`, if the gap may trail, as `LINES`. By `COMMAS` an empty stream is
+        an error.""",
+    "NumberReader": """
+        - **The numbers are those of the whole stream**, however the reader cuts it into pieces, if no byte of
+        the gap can be in a number. [`is_apart`](#is_apart) tests that. Nothing refuses another kind or gap,
+        and with it a number may be split.
+        - **A number is final** once the next one came, or `finish` returned `Ok`: of a line `2x` you get 2, and
+        then `None`.
+        - **After `None`** each call of `next_number` returns `None`, until `pass_byte` passes a byte, or
+        `fold_enclosed` begins the next list.
+        - **An error stays:** each later call returns it again. But after [`Read`](#streamerror) of `WouldBlock`
+        or `TimedOut` the next call goes on. After `Interrupted` the call itself reads again.
+        - **The buffer** needs the longest number, the longest run of blanks after it, and one byte. Otherwise a
+        call returns [`NoRoom`](#streamerror). 4096 bytes are enough if a number and the blanks
+        after it have at most 4095.
+        - **To use the reader later**, give a `&mut reader`. It then stands after the bytes of
+        [`unread`](#numberreaderunread): use those first.""",
+    "NumberReader::next_number": """
+        | Gap | It returns the 12 of `12` once it has read |
+        |---|---|
+        | `LINES` | the line feed |
+        | `COMMAS` | the comma; a line feed alone is a blank, and isn't enough |
+        | `WHITESPACE` | one blank |
+        | any | a byte that no number has and that is no blank of the gap, or the end of the stream |""",
+    "NumberReader::fold_numbers": """
+        After `Stopped` the next call goes on behind the number that stopped it. The value is lost.""",
     "is_form": """
         It returns `false` if a word of the form isn't supported, or the decimal one has another radix than
         10; if the point is a letter, a digit, a sign or the separator; if a mark of an exponent is no letter,
         is the separator, or begins a prefix, as `x`; or if hexadecimal floats have another radix than 16, or
         their exponent than 10.""",
-    "read_enclosed": "`BracketError` is the error of one number in brackets, the kind [`Enclosed`](#enclosed).",
+    "read_enclosed": """
+        Any `start` may be given. Blanks of the gap may be inside both brackets. `BracketError` is the error of
+        one number in brackets, the kind [`Enclosed`](#enclosed).""",
     "Enclosed": """
         It is one number, and its error `BracketError`. A list in brackets is [`read_enclosed`](#read_enclosed),
         and its error `EnclosedError`.""",
-    "NoNumber": """
-        `BothError` and `BracketError` have no `position()`: call `fault_at()`. The errors of streams have
-        neither: match them.""",
+    "NoNumber": "`BothError` and `BracketError` have no `position()`: call `fault_at()`.",
+    "Layout": """
+        Of each layout this holds: the radix is 2 to 36, and if `every` is above 0, the separator is neither 0
+        nor a digit of the radix.""",
     "DigitSeparatorFlags": """
         | Flag | It drops the `_` of | With `consecutive` also those of |
         |---|---|---|
@@ -343,7 +429,8 @@ its fault.
 form** is a whole grammar, such as JSON's. **A language** has a word for digits alone, and others for \
 those after `0x`, `0o`, `0b`.
 - **A kind** says which numbers a list or a stream has, **a gap** what is between two of them.
-- **No call** panics or allocates.
+- **No call** panics or allocates. No call for one number skips blanks: pass them by \
+[`past_bytes`](#past_bytes). Lists and streams skip those of their gap.
 
 Below, the result of a call is behind `//`, and a heading leads to the contract, whose [signs]({CLAUSES}.md) \
 and [words]({WORDS}.md) have pages of their own. Names are in `{DOOR}`, unless the example imports them. `?` \
@@ -358,9 +445,10 @@ takes a value out of its `Ok` or `Some`. Types derive `Copy`, `Debug`, `PartialE
 | `12.50`, as 1250 cents | [Amounts and prices](#amounts-and-prices) |
 | `0xff` | [Literals of a language](#literals-of-a-language) |
 | a `:` or blanks beside a number | [Bytes between numbers](#bytes-between-numbers) |
+| a number that may be missing | [`read_optional`](#read_optional) |
 | `80, 443` | [Lists](#lists), and [gaps](#gaps) between their numbers |
 | a list or a stream of prices, pairs, literals | [Kinds of numbers](#kinds-of-numbers) |
-| a file or a socket | [Streams](#streams) |
+| a file, or another `Read` | [Streams](#streams) |
 | a text in parts | [Pieces and blocks](#pieces-and-blocks) |
 | a number, and want its text | [Writing](#writing) |
 | another separator or radix | [Words](#words) |
@@ -377,9 +465,17 @@ takes a value out of its `Ok` or `Some`. Types derive `Copy`, `Debug`, `PartialE
 | `_as` | by a language, as a number of your type |
 | `_by` | by a kind or a layout |
 
-One number by a word is `(text, word, start, ..)`, one component of it `(text, word, component, start, ..)`, \
-anything else that is read `(text, start, ..)`. A kind, and in `prefix_word` the language, goes before `text`. A \
-stream is `(reader, buffer, kind, gap, ..)`. `out` is last. The bound `Drop` lets a call drop what you gave it.
+| A call reads | Its arguments | For example |
+|---|---|---|
+| a number by a word | `(text, word, start, ..)` | `read_number_from(text, STANDARD, 5)` |
+| a component by a word | `(text, word, component, start, ..)` | `stop_from(text, STANDARD, \
+Component::Fraction, 2)` |
+| a number of a kind, or several | `(kind, text, start, ..)` | `read_list_by(kind, text, 0, COMMAS, &mut out)` |
+| a stream | `(reader, buffer, kind, gap, ..)` | `fold_stream(file, &mut buffer, kind, LINES, 0, add)` |
+| anything else | `(text, start, ..)` | `read_number_of(text, 0, forms::JSON)` |
+
+In `prefix_word` the language goes before `text`. A call that writes takes the number first. `out` is last. The bound \
+`Drop` lets a call drop what you gave it.
 
 ## What you prove
 
@@ -406,8 +502,11 @@ their kinds |
 | start, at, end ≤ text.len() | `start <= text.len()` |
 | places ≤ 38 | `places <= 38` |
 | `x` is finite | `x.is_finite()`, of a constant too |
+| `out` has room for any number of the type | `out.len() >= MOST_ROOM`; of a `[0; MOST_ROOM]` nothing |
+| the mantissa is one of this text | nothing: it is what `read_mantissa` returned of `text` |
+| `before` is at most `most` | `before <= most` |
 
-`out` has room if it is `[0; MOST_ROOM]`. A closure may be called on everything if it can't panic: write \
+A closure may be called on everything if it can't panic: write \
 `sum.checked_add(number)`, not `sum + number`, unless these are floats. \
 [All conditions](../PROMISES.md#conditions).
 """
@@ -432,7 +531,7 @@ have are at the end of its page.
 
 # The sentences of doc comments that the head of the page tells.
 TOLD = ("Requires ", "A position counts", "Takes no memory", "Not in lexical-util", "lexical-util's",
-        "lexical-util has")
+        "lexical-util has", "Its flags in the format word")
 # The half line of a name whose first clause says too little.
 HALVES = {
     "read_integer": "`read_number::<u64>` by another name",
@@ -440,7 +539,10 @@ HALVES = {
     "read_float_list_piece": "`read_piece` of floats",
     "read_list_piece_of": "`read_piece` of numbers of a form",
     "read_scaled_list_piece": "`read_piece` of amounts",
+    "WrittenFloat": "The half of `AnyFloat` for finite floats",
 }
+# The names there that had an entry before: their anchors stay.
+ANCHORED = ("Rule",)
 # How long the half line of a name may be.
 ROOM = 84
 MORE_HEAD = """\
@@ -483,19 +585,24 @@ class Door:
             self.slugs[heading] = f"{slug}-{count}" if count else slug
         self.here = {self.page_of(name): self.slugs[f"`{name}`"] for name in names()
                      if f"`{name}`" in self.slugs and name in self.items}
+        self.here |= {self.page_of(name, method): self.slugs[f"`{method}`"] for name in METHODS
+                      for method, _ in methods_of(name)}
 
     @staticmethod
     def headings():
         """The headings of the page, in order, and the names of TABLED."""
         for group, (*_, names_of) in GROUPS.items():
             yield group
-            yield from (f"`{name}`" for name in names_of.split())
+            for name in names_of.split():
+                yield f"`{name}`"
+                yield from (f"`{method}`" for method, _ in methods_of(name))
 
-    def page_of(self, name):
-        """Where the page of its library has an item."""
+    def page_of(self, name, method=""):
+        """Where the page of its library has an item, or a method of it."""
         crate, path = self.items[name]
         anchors = self.libraries[crate].anchors
-        return f"{crate}.md#{anchors.get(path, anchors.get(name))}"
+        anchor = anchors.get(method) if method else anchors.get(path, anchors.get(name))
+        return f"{crate}.md#{anchor}"
 
     def item(self, crate, name):
         """An item of a crate, or None for a module."""
@@ -523,7 +630,7 @@ class Door:
                 lines += [f"    /// {first_sentence(member.docs)}",
                           f"    {member.head.removeprefix('pub ').partition(' = ')[0]};"]
             if (member.kind == "fn" and (item.kind == "trait" or member.is_public())
-                    and member.name not in HIDDEN):
+                    and member.name not in HIDDEN and (item.name, member.name) != ("Kind", "read_list")):
                 said = textwrap.wrap(plain(untold(paragraph(member.docs))), 92)
                 lines += [f"    /// {line}" for line in said]
                 lines += filled(signature_of(member).removeprefix("pub ") + ";", "    ", "        ")
@@ -538,21 +645,27 @@ class Door:
             types = [line for member in item.inner if member.kind == "type"
                      for line in [*(f"    /// {it}" for it in member.docs),
                                   *filled(member.head, "    ")]]
+            rest = "ghost members and laws" if item.name != "Kind" else \
+                "for the library: a faster list; ghost members and laws"
             return [item.head.removeprefix("pub ") + " {", *types, *self.methods(item),
-                    "    /* ghost members and laws */", "}"]
+                    f"    /* {rest} */", "}"]
         head = declaration_of(library.crate, item)
         head[0] = re.sub(r"^#\[derive\(.*?\)\] |pub ", "", head[0])
         head = [plain(line) if line.strip().startswith("///") else line for line in head]
         impls, blocks = library.impls.get(id(item), []), {}
-        for impl in sorted((it for it in impls if not it.trait), key=lambda it: " fn new(" not in it.text):
+        own = [it for it in impls if not it.trait and item.name not in METHODS]
+        for impl in sorted(own, key=lambda it: " fn new(" not in it.text):
             blocks.setdefault(impl.head, []).extend(self.methods(impl))
         for impl_head, calls in blocks.items():
             head += ["", impl_head + " {", *calls, "}"] if calls else []
         for impl in impls:
             if impl.trait == "From" and re.search(r"From<(\w+)>", impl.head)[1] in self.items:
                 head += ["", impl.head]
-            elif impl.trait == "Display":
+            elif impl.trait == "Display" and item.kind == "enum":
                 head = printed(head, item.name, impl.text)
+            elif impl.trait == "Display":
+                text, field = re.search(r'write!\(f, "(.*?)", self\.(\w+)\)', impl.text).groups()
+                head[-1] += f" // \"{text.replace('{}', f'{{{field}}}')}\""
         return head
 
     def example(self, name):
@@ -562,8 +675,10 @@ class Door:
             found = [it for it in sources.Source(path).items if it.kind == "impl" and it.head == head]
             self.lost += [] if found else [f"IMPLS of .ci/door.py: {path} has no `{head}`"]
             return [f"// {words}", *(line for it in found for line in it.text.split("\n"))]
+        of_type = name.partition("::")[0] in METHODS
         code = "\n\n".join(code for names_of, code in self.tests
-                            if name in (it.split("::")[0] for it in names_of))
+                            if name in ([it for it in names_of if "::" in it][:1] if of_type else
+                                        (it.split("::")[0] for it in names_of)))
         used = set(re.findall(r"(?<!::)\b\w+", code))
         uses = [f"use {module}::{there[0] if len(there) == 1 else braced(there)};"
                 for module, have in shown.imports().items() for there in [sorted(have & used)] if there]
@@ -595,8 +710,9 @@ class Door:
         text = re.sub(r"^```\w*\n.*?^```$", "", "\n".join(docs), flags=re.S | re.M)
         parts = [part if part.startswith("|") else untold(part)
                  for part in re.split(r"\n\s*\n", text.strip())]
+        is_short = item and (item.kind == "fn" or name in METHODS)
         parts = [it for n, it in enumerate(filter(None, parts))
-                 if n == 0 or not item or item.kind != "fn" or it.startswith("|")]
+                 if n == 0 or not is_short or it.startswith("|")]
         text = "\n\n".join(parts)
         return re.sub(r"\]\(#", f"]({crate}.md#", text)
 
@@ -614,8 +730,31 @@ class Door:
                   for line in ("", "```rust", *code, "```")]
         table = [] if item else self.constants(library.crate.modules[(path,)].source)
         named = ["", self.types(item)] if item and item.kind == "fn" and self.types(item) else []
-        text = "\n\n".join([first, *parts, *([flowed(NOTES[name])] if name in NOTES else [])])
-        return [f"### [`{name}`]({self.page_of(name)})", "", self.to_here(text), *table, *blocks, *named, ""]
+        text = "\n\n".join([first, *parts, *noted(name)])
+        return [f"### [`{name}`]({self.page_of(name)})", "", self.to_here(text), *table, *blocks, *named, "",
+                *self.lines_of_methods(name, library, item)]
+
+    def lines_of_methods(self, name, library, item):
+        """A table of the methods of a type of METHODS, and an entry of each."""
+        have = {f"{name}::{it.name}": it for impl in library.impls.get(id(item), []) if not impl.trait
+                for it in impl.inner if it.kind == "fn" and it.is_public()}
+        told = dict(methods_of(name))
+        self.lost += [f"METHODS of .ci/door.py: {it}" for it in have.keys() ^ told.keys()
+                      if name in METHODS]
+        links = [(f"[`{it.partition('::')[2]}`](#{self.slugs[f'`{it}`']})", said)
+                 for it, said in told.items()]
+        lines = [*rows_of(("Method", "What it does"), links)[1:], ""] if links else []
+        for method in filter(have.get, told):
+            page = self.page_of(name, method)
+            crate, anchor = page.split(".md#")
+            text = re.sub(r"\]\(#", f"]({crate}.md#", untold(paragraph(self.docs[crate].get(anchor, []))))
+            code = filled(signature_of(have[method]).removeprefix("pub "), "", "        ")
+            blocks = [line for it in (code + self.conditions(have[method]), self.example(method)) if it
+                      for line in ("", "```rust", *it, "```")]
+            text = "\n\n".join([text, *noted(method)])
+            named = ["", self.types(have[method], name)] if self.types(have[method], name) else []
+            lines += [f"#### [`{method}`]({page})", "", self.to_here(text), *blocks, *named, ""]
+        return lines
 
     @staticmethod
     def derives(library, item):
@@ -631,10 +770,11 @@ class Door:
         return said + (" It has no `Display` and no `Error`." if is_error(item.name) and not is_printed
                        else "")
 
-    def types(self, item):
-        """Links to the types of a signature: beside its error there may be none."""
+    def types(self, item, own=""):
+        """Links to the types of a signature, without that of a method: beside its error there may be
+        none."""
         named = [it for it in dict.fromkeys(re.findall(r"(?<!::)\b[A-Z]\w+", item.head))
-                 if it not in UNNAMED]
+                 if it not in (*UNNAMED, own)]
         links = [f"[`{it}`](#{self.slugs[f'`{it}`']})" if f"`{it}`" in self.slugs else
                  f"[`{it}`]({self.page_of(it)})" for it in named if it in self.items]
         is_alone = len(links) == 1 and any(map(is_error, named))
@@ -649,9 +789,10 @@ class Door:
         if source.path == forms.FORMS:
             parts = zip(("source code", "data", "functions of a library"), forms.forms().values())
             first = [(f"`{name}`", consts[name]) for name in FIRST_FORMS]
+            others = [(use, listed(it for it in found if it not in FIRST_FORMS)) for use, found in parts]
             return [*rows_of(("Name", "What it reads"), first), "",
                     "`LITERAL` and `FLOAT` are starting points for your own. The others:",
-                    *rows_of(("For", "Names"), [(use, listed(found)) for use, found in parts])]
+                    *rows_of(("For", "Names"), others)]
         elif any(it.endswith("_HEX_LITERAL") for it in consts):
             heads, rows = ("Names", "What they read"), list(by_prefix(consts))
         return rows_of(heads, rows)
@@ -685,7 +826,8 @@ class Door:
         for name in names_of:
             text = plain(self.text(name, self.item(self.items[name][0], name))).partition("\n")[0]
             half = HALVES.get(name) or half_of(first_sentence([text]))
-            yield f"| [`{name}`]({self.page_of(name)}) | {half} |"
+            anchor = f"<a id=\"{name.lower()}\"></a>" * (name in ANCHORED)
+            yield f"| {anchor}[`{name}`]({self.page_of(name)}) | {half} |"
 
     def section(self, group):
         """The head of a section: the table of its calls, which has each, and its text, whose code is of
@@ -737,10 +879,11 @@ class Door:
         have = names()
         self.lost += [f"GROUPS of .ci/door.py has no {it}" for it in self.items if it not in have]
         self.lost += [f"GROUPS of .ci/door.py: {DOOR} has no {it}" for it in have if it not in self.items]
-        self.lost += [f"NOTES of .ci/door.py: the page has no entry {it}" for it in NOTES if it not in have]
+        self.lost += [f"NOTES of .ci/door.py: the page has no entry {it}" for it in NOTES
+                      if it not in have and f"`{it}`" not in self.slugs]
         self.lost += [f"HEAD of .ci/door.py doesn't lead to {it}" for it in GROUPS
                       if f"](#{self.slugs[it]})" not in HEAD]
-        lines = [HEAD.replace("LINES", "\n".join(self.first()))]
+        lines = [HEAD.replace("\nLINES\n", "\n".join(["", *self.first(), ""]))]
         for group, (*_, names_of) in GROUPS.items():
             entries = [it for it in names_of.split() if it in self.items and it not in TABLED]
             lines += [*self.section(group), *itertools.chain(*map(self.lines_of, entries))]
@@ -754,9 +897,21 @@ def is_error(name):
 
 
 def flowed(text):
-    """A text of this file: each paragraph in one line, tables and code as they are."""
+    """A text of this file: each paragraph and each point in one line, tables and code as they are."""
     parts = textwrap.dedent(text).strip().split("\n\n")
-    return "\n\n".join(it if it.startswith(("|", "```")) else " ".join(it.split("\n")) for it in parts)
+    return "\n\n".join(it if it.startswith(("|", "```")) else re.sub(r"\n(?!- )", " ", it) for it in parts)
+
+
+def noted(name):
+    """The paragraphs that an entry has beside its doc comment."""
+    return [flowed(NOTES[name])] if name in NOTES else []
+
+
+def methods_of(name):
+    """The methods of a type of METHODS, each with its line of the table."""
+    for line in METHODS.get(name, "").strip().split("\n") if name in METHODS else ():
+        method, _, said = line.strip().partition(" | ")
+        yield f"{name}::{method}", said
 
 
 def paragraph(docs):

@@ -52,7 +52,8 @@ def declaration_of(crate, item):
     body = crate.source_of(item).text[item.body[0]:item.body[1]]
     shown = re.findall(r"(?m)^(?: *///.*\n)* *pub .*$", body)
     lines = ["    " + line.strip() for field in shown for line in field.split("\n")]
-    lines += ["    /* private fields */"] * bool(re.search(r"(?m)^ *(?!pub |//)\S", body))
+    bare = re.sub(r"(?ms)^ *ghost .*?,$", "", body)
+    lines += ["    /* private fields */"] * bool(re.search(r"(?m)^ *(?!pub |//)\S", bare))
     return block(derived + item.head, lines)
 
 
