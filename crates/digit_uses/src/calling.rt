@@ -112,7 +112,7 @@ pub fn has_port(text: &[u8], port: u16) -> Result<bool, usize> {
         ListEnd::Over(_) => Ok(ports[..read.count].contains(&port)),
         // The slice is full: another call would go on from here.
         ListEnd::Full(at) => Err(at),
-        // A number has to be here, and none is.
+        // A number is missing where one has to be, or it is refused, as one above 65535.
         ListEnd::Fault(error) => Err(error.position()),
     }
 }
