@@ -1,6 +1,6 @@
 """What README.md and the head of docs/SPEED.md say of the times beside other readers."""
 from cases import table
-from peers import LIBRARY, READ, Figures, slower_run
+from peers import LIBRARY, READ, Figures, lacks, slower_run
 from written import times
 
 # How the names of rows begin that read an integer, or a float.
@@ -8,6 +8,9 @@ INTEGERS = "u64|i32|hexadecimal|grouped u64"
 FLOATS = "f64|f32"
 
 
+# The readers of which README.md has the times, by what it calls them.
+PEERS = {"`from_chars`": "from_chars", "fast_float": "fast_float", "std": "std", "lexical-core": "lexical-core",
+         "serde_json": "serde_json", "simdjson, an array": "simdjson, the array"}
 # The rows of which README.md has the time, by what it calls them.
 SHOWN = {"u64, 1 to 20 digits": "a `u64` of 1 to 20 digits", "f64, coordinates": "a coordinate as an `f64`",
          "JSON, mixed": "a number of JSON"}
@@ -17,10 +20,20 @@ def rows():
     return Figures("times.txt").rows
 
 
+# The readers that don't say where a number ends.
+WITHOUT_END = ("std", "lexical-core", "serde_json", "minimal-lexical")
+
+
+def lacks_end(row, side):
+    """What a side doesn't do where the end of a number is needed, too."""
+    return lacks(row, side) or ("no end" if side in WITHOUT_END else None)
+
+
 def ratios(start="", side=LIBRARY):
     """The ratio of a side's time to that of the fastest reader that does the same work, by the rows
     whose names begin so and that have the side."""
-    found = ((row, slower_run(row, sides, side)) for row, sides in rows().items()
+    less = lacks_end if side.startswith(READ) else lacks
+    found = ((row, slower_run(row, sides, side, lacks=less)) for row, sides in rows().items()
              if row.startswith(start) and side in sides)
     return {row: mine / peer[0] for row, (mine, peer) in found}
 
@@ -54,11 +67,19 @@ def answer():
 - **The number is a whole text** (`parse_number`, `parse_float`), or of JSON (`read_number_of`): the fastest in {fastest()} rows, by \
 time, of the readers that do the same work. It takes {min(below):.2f} to {max(below):.2f} times as \
 long as the next one{f", in the other rows {others}" if slower else ""}.
-- **You also need where it ends**, as a lexer does (`read_integer`, `read_float`): {by_read()}.
+- **You also need where it ends**, as a lexer does (`read_number`, `read_float`): {by_read()}.
 - **Many integers:** read them [as a list](#how-to-call-it).
 - **Slower than others:** floats in groups, and iterators over a `Bytes` ([where you lose](#where-you-lose)).
 - **From C, C++, Rust or Python** each call costs [more than in Rattle](#from-c), since the compiler \
 can't put it into its caller's loop."""
+
+
+def nanoseconds(row):
+    """The least time of each reader of a row, with a star where it does less."""
+    sides = rows()[row]
+    times_of = [f"{min(sides[it]):.1f}{'*' if lacks(row, it) else ''}" if it in sides else "–"
+                for it in (LIBRARY, f"{LIBRARY}, from C", *PEERS.values())]
+    return [SHOWN[row], *times_of]
 
 
 def readme():
@@ -88,15 +109,14 @@ def readme():
         writes("write `%.6e` of any float", "`to_chars`", "%.6e, random bits"),
     ]
     ends = fastest(READ)
-    some = "; ".join(f"{words} {mine:.1f} ns ({other[1].partition(',')[0]} {other[0]:.1f})" for words, (mine, other) in (
-        (words, slower_run(row, Figures("times.txt").rows[row])) for row, words in SHOWN.items()))
+    shown = table("Nanoseconds for one number that is the whole text, or of JSON, on one core of a Xeon, the less of two "
+                  "runs; with a star the reader does less:", ["", "Rattle", "C++, `digits.h`", *PEERS], map(nanoseconds, SHOWN))
     lines = table(f"- A whole text, or a number of JSON: from Rattle the fastest in {fastest()} kinds of input, from "
-                  f"C++ by `digits.h` in {fastest(door)}.\n- With the end of the number, from Rattle: in {ends}.\n- On "
-                  f"one core of a Xeon: {some}.\n\nThe table has the time of a call, divided by that of the fastest other "
+                  f"C++ by `digits.h` in {fastest(door)}.\n- With the end of the number, from Rattle: in {ends}.\n\nThis table has the time of a call, divided by that of the fastest other "
                   "library that does the same work; below 1 this one is faster. The others are as Debian 12 has them, "
                   "and newer ones weren't timed: fast_float 3.9.0, which is C++'s, lexical-core 0.7.6, serde_json "
                   "1.0.87, simdjson 3.0.1.",
                   ["What", "The fastest other one", "From Rattle", "From C++"], rows)
-    return "\n".join(lines) + """
+    return "\n".join([*shown, *lines]) + """
 Floats in groups and iterators over digits are slower than others, too ([by how much](docs/SPEED.md#where-you-lose)). \
 [SPEED.md](docs/SPEED.md) has every kind of input, what a word as argument costs, and how to call so that it is fast."""

@@ -2,18 +2,21 @@
 //! `digits.h`.
 //!
 //! ```
-//! use digits_sys::{parse, parse_by, parse_json, read, rooms, statuses, words, write};
+//! use digits_sys::{forms, parse, parse_by, parse_json, parse_number, read};
+//! use digits_sys::{rooms, statuses, words, write};
 //!
 //! assert_eq!(parse::<i32>(b"-1000"), Ok(-1000));
 //! assert_eq!(parse_by::<f64>(b"1_234.5e-1", words::PYTHON_LITERAL), Ok(123.45));
 //! assert_eq!(read::<u32>(b"8080/tcp", 0), Ok((8080, 4))); // the value, and where it ends
-//! assert_eq!(parse_json(b"-7").unwrap().as_i64(), Some(-7));
+//! assert_eq!(parse_json(b"-7")?.as_i64(), Some(-7));
+//! assert_eq!(parse_number(b"1_000", forms::TOML)?.as_i64(), Some(1000));
 //!
 //! let fault = parse::<i32>(b"10x").unwrap_err();
 //! assert_eq!((fault.status, fault.at), (statuses::INVALID, 2));
 //!
 //! let mut places = [0; rooms::F64];
 //! assert_eq!(write(0.1, &mut places), Some(&b"0.1"[..]));
+//! # Ok::<(), digits_sys::Fault>(())
 //! ```
 //!
 //! A `read` takes the number that begins at a start, and a `parse` the whole text. Positions count

@@ -223,6 +223,7 @@ pub fn first_above<R: Read + Drop>(
     stream: R,
     limit: f64,
 ) -> Result<Option<f64>, StreamError<FloatError>> {
+    floats_are_apart(STANDARD, LINES);
     let mut buffer = [0; 4096];
     let mut numbers = NumberReader::new(stream, &mut buffer, Floats::<f64>::new(STANDARD), LINES);
     let mut found = None;
