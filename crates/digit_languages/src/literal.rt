@@ -202,9 +202,9 @@ pub fn read_literal(
     }
 }
 
-/// Reads a literal at `start` as a number of a type, and returns the position after it. A `-`
-/// before it and a suffix after it are yours. Requires that `start` is within the text and the
-/// language's words are supported.
+/// Reads a literal at `start` as a number of a type, and returns the position after it. It reads
+/// neither a `-` nor a suffix: read those yourself. Requires that `start` is within the text and
+/// the language's words are supported.
 ///
 /// It is [`read_literal`] up to the type's greatest number.
 ///

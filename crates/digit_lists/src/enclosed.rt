@@ -19,7 +19,7 @@ use std::fmt;
 pub enum EnclosedError<E> {
     /// The opening byte isn't at this position.
     NoOpening(usize),
-    /// There is no number where one has to be.
+    /// A number is missing where one has to be, or one begins and is refused.
     Number(E),
     /// Neither a separator nor the closing byte is at this position.
     NoClosing(usize),

@@ -14,7 +14,7 @@ use std::fmt;
 /// Why a text is no list. A position counts bytes from the start of the text, from 0.
 #[derive(Clone, Copy, Debug, PartialEq, Eq)]
 pub enum ListError<E> {
-    /// There is no number where one has to be.
+    /// A number is missing where one has to be, or one begins and is refused.
     Number(E),
     /// The byte at this position is no part of the list.
     Invalid(usize),

@@ -92,7 +92,8 @@ pub enum ListEnd<E> {
     /// that isn't of the list, or the end of the text: no separator, or a byte at which no number
     /// begins.
     Over(usize),
-    /// A number has to be here, and there is none.
+    /// A number is missing where one has to be, or one begins and is refused, such as one too
+    /// large, or of a signed type a `-` without a digit.
     Fault(E),
 }
 
@@ -345,16 +346,16 @@ pub fn read_list_with<R: ReadsOne>(
 /// the word is supported.
 ///
 /// Each is read as by [`read_number_from`](digit_integers::read_number_from), with what `gap` says
-/// between two of them. It reads until the slice is full, the list is over, or no number is where
-/// one has to be. The front of the slice has the numbers that were read, its rest isn't touched.
+/// between two of them. It reads until the slice is full, the list is over, or there is a fault.
+/// The front of the slice has the numbers that were read, its rest isn't touched.
 ///
 /// [`Full(at)`](ListEnd::Full) says that the slice is full: the next call goes on from `at`, and
 /// the two read what one would ([`a_list_goes_on`](crate::laws::lists::a_list_goes_on)).
 /// [`Over(at)`](ListEnd::Over) says that the list ended well: `at` is the first byte after it. A
 /// list that just fills the slice, and has no separator after its last number, ends so too.
-/// [`Fault(error)`](ListEnd::Fault) says that a number had to be there, as after a comma; a list
-/// without numbers is a fault, too, unless the gap is one that `may_trail`. Blanks before the first
-/// number are passed.
+/// [`Fault(error)`](ListEnd::Fault) says that a number is missing where one has to be, as after a
+/// comma, or that one begins and is refused. A list without numbers is a fault, too, unless the gap
+/// is one that `may_trail`. Blanks before the first number are passed.
 ///
 /// ```text
 /// `1, 2 ,3]` with COMMAS, into 3 places: count 3, Over(7)

@@ -135,8 +135,9 @@ fn read_plain_decimal(
 }
 
 /// Reads the number that [`read_number_of`](crate::read_number_of) rounds: its digits and a power
-/// of ten. A number with a prefix and a special value, as `0x1f` and `inf`, are `Empty`. Requires
-/// that `start` is within the text, and that the form is one ([`is_form`](crate::is_form)).
+/// of ten. Only decimal numbers are read: one with a prefix, as `0x1f`, and a special value, as
+/// `inf`, are `Empty`. Requires that `start` is within the text, and that the form is one
+/// ([`is_form`](crate::is_form)).
 ///
 /// It begins at `start`, and is as it is written, before it is rounded; the position after it is
 /// returned too. It is the same for digits with a point or an exponent, and for those without; an

@@ -8,8 +8,8 @@ ghost use Rattle.lexical_digits.specs.Moves.{IsFresh, outcome_later};
 use digit_literals::{Gap, ListRead};
 
 /// A kind of numbers of a text, such as integers of a type by a word. It says how a number
-/// is read, and which bytes one may have. Every other byte ends a number, and what follows such a
-/// byte makes no difference, nor does what is before one.
+/// is read, and which bytes one may have. Any other byte ends a number. The bytes beyond it, on
+/// either side, don't change how the number is read.
 pub trait Kind: Copy {
     /// A number.
     type Number: Copy;

@@ -22,7 +22,7 @@ pub enum PieceEnd<E> {
     /// The list is over. No separator is at this position, past the blanks after the last number;
     /// or no number begins there.
     Over(usize),
-    /// There is no number where one has to be.
+    /// A number is missing where one has to be, or one begins and is refused.
     Fault(E),
 }
 

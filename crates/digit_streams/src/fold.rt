@@ -25,9 +25,9 @@ pub enum FoldError<E> {
 }
 
 impl<E: Copy> FoldError<E> {
-    /// Why there is no number. It is for steps that stop only after more numbers than a stream has,
-    /// as a sum of `i64` in an `i128`: where the step stopped, it is
-    /// [`TooLong`](StreamError::TooLong). Match [`Stopped`](FoldError::Stopped) first if yours may.
+    /// Why there is no number. Use it if your step can't stop in practice, as a sum of `i64` in an
+    /// `i128`: [`Stopped`](FoldError::Stopped) becomes [`TooLong`](StreamError::TooLong). If your
+    /// step may stop, match `Stopped` first.
     pub fn stream_error(self) -> StreamError<E>
         ensures { result ≡ stream_error self }
     {

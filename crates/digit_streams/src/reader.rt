@@ -96,8 +96,8 @@ impl<'b, K: Kind, R: Read> NumberReader<'b, K, R> {
         NumberReader::new_at(reader, buffer, kind, gap, 0)
     }
 
-    /// The same of a stream of which the reader gave some bytes before: positions count from
-    /// `offset` on, which is that of its next byte. Requires that the kind is valid.
+    /// A reader for a stream of which you have already read some bytes. `offset` is the position of
+    /// its next byte. Requires that the kind is valid.
     pub fn new_at(
         reader: R,
         buffer: &'b mut [u8],
@@ -125,10 +125,11 @@ impl<'b, K: Kind, R: Read> NumberReader<'b, K, R> {
         }
     }
 
-    /// The position in the stream of the first byte that no call has used yet: after the numbers
-    /// that the calls gave, and after the separator that follows them, or one blank where blanks
-    /// alone separate. After the error [`Number`](StreamError::Number) of
-    /// [`read_into`](NumberReader::read_into) some numbers that it gave may follow this position.
+    /// The position in the stream of the first byte that no call has used. Where a list is over,
+    /// the blanks after its last number are used, too: after the 1 of `1 ]` by
+    /// [`COMMAS`](digit_literals::COMMAS) it is 2. After the error [`Number`](StreamError::Number)
+    /// of [`read_into`](NumberReader::read_into) some numbers that it gave may follow this
+    /// position.
     pub fn position(&self) -> u64
         ensures { result ≡ self.now.position }
     {
@@ -143,8 +144,8 @@ impl<'b, K: Kind, R: Read> NumberReader<'b, K, R> {
         self.window.unread()
     }
 
-    /// Reads numbers into a slice, until it is full, the list is over, or no number is where one
-    /// has to be. It writes the numbers into the front of the slice, and leaves its rest as it is.
+    /// Reads numbers into a slice, until it is full, the list is over, or there is an error. It
+    /// writes the numbers into the front of the slice, and leaves its rest as it is.
     ///
     /// If the list was over, or there was an error, then each later call returns that again. But
     /// after [`Read`](StreamError::Read) of `WouldBlock` or `TimedOut` the next call goes on, and
@@ -326,9 +327,8 @@ impl<'b, K: Kind, R: Read> NumberReader<'b, K, R> {
     /// something does, the error is [`Trailing`](StreamError::Trailing), with the position and the
     /// reason why no number begins there. After an error it returns that again. Call it after the
     /// last number: a list may be over before the stream is, as at a letter, or by
-    /// [`LINES`](digit_literals::LINES) at an empty line. Where blanks alone separate,
-    /// [`next_number`](NumberReader::next_number) uses the blanks at the end before it returns
-    /// `None`.
+    /// [`LINES`](digit_literals::LINES) at an empty line. The blanks before that place are used:
+    /// `1, 2\n` by [`COMMAS`](digit_literals::COMMAS) is at its end.
     ///
     /// ```text
     /// `1.50` by `Enclosed` in `"` and `LINES`: None; Err(Trailing(0, Some(NoOpening(0))))

@@ -11,7 +11,8 @@ use std::io::ErrorKind;
 /// Why a `NumberReader` gives no number.
 #[derive(Clone, Copy, Debug, PartialEq, Eq)]
 pub enum StreamError<E> {
-    /// There is no number where one has to be. The error's position counts bytes of the stream.
+    /// A number is missing where one has to be, or one begins and is refused. The error's position
+    /// counts bytes of the stream.
     Number(E),
     /// A number that may begin at this position does not fit the buffer, with the blanks after it
     /// and the byte that ends them.
