@@ -9,8 +9,8 @@ use digit_uses::sums::sum_list;
 use digits::{
     COMMAS, FloatError, FoldError, Integers, LINES, LiteralError, NumberError, NumberReader,
     ParseError, PriceError, STANDARD, ScaledError, StreamError, forms, parse_float, parse_list,
-    parse_number, parse_number_of, read_exact_from, read_float, read_grouped_from, read_number,
-    read_number_of, read_price_from, read_scaled_from,
+    parse_number, parse_number_of, parse_scaled, read_exact_from, read_float, read_grouped_from,
+    read_number, read_number_of, read_price_from, read_scaled_from,
 };
 
 /// A line with fields of several kinds.
@@ -234,6 +234,68 @@ fn errors_of_one_number(rt: HostRuntime) {
         assert!(rt; read_number::<i32>(text, STANDARD) == *front, "{text:?}");
         assert!(rt; parse_float::<f64>(text, STANDARD) == *float, "{text:?}");
         assert!(rt; json(text) == *of_json, "{text:?}");
+    }
+}
+
+/// The float at the front of a text by a form, and where it ends.
+#[tactic(auto, unfolding(digits::proofs::Literals::lexical_on_literals))]
+fn json_front(text: &[u8]) -> Result<(f64, usize), NumberError> {
+    let (number, end) = read_number_of::<f64>(text, 0, forms::JSON)?;
+    Ok((number.to_float(), end))
+}
+
+/// What three more calls make of a text that is no number.
+type MoreFaults = (
+    &'static [u8],
+    Result<(f64, usize), FloatError>,
+    Result<(f64, usize), NumberError>,
+    Result<i64, ScaledError>,
+);
+
+/// The same texts, by these calls.
+static MORE_FAULTS: [MoreFaults; 5] = [
+    (
+        b"",
+        Err(FloatError::Empty(0)),
+        Err(NumberError::Empty(0)),
+        Err(ScaledError::Empty(0)),
+    ),
+    (
+        b"-",
+        Err(FloatError::Empty(1)),
+        Err(NumberError::Empty(1)),
+        Err(ScaledError::Empty(1)),
+    ),
+    (
+        b"x",
+        Err(FloatError::Empty(0)),
+        Err(NumberError::Empty(0)),
+        Err(ScaledError::Empty(0)),
+    ),
+    (
+        b"-x",
+        Err(FloatError::Empty(1)),
+        Err(NumberError::Empty(1)),
+        Err(ScaledError::Empty(1)),
+    ),
+    (
+        b"1x",
+        Ok((1.0, 1)),
+        Ok((1.0, 1)),
+        Err(ScaledError::Invalid(1)),
+    ),
+];
+
+/// The rest of that table.
+#[test]
+fn more_errors_of_one_number(rt: HostRuntime) {
+    for (text, float, of_json, amount) in &MORE_FAULTS {
+        assert!(rt; read_float::<f64>(text, STANDARD) == *float, "{text:?}");
+        assert!(rt; json_front(text) == *of_json, "{text:?}");
+        assert!(rt;
+            parse_scaled::<i64>(text, STANDARD, b'.', 2) == *amount,
+            "{text:?}"
+        );
     }
 }
 

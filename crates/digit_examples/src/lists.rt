@@ -39,6 +39,25 @@ fn a_full_slice(rt: HostRuntime) {
     assert_eq!(rt; (read.count, read.end), (0, ListEnd::Full(0)));
 }
 
+/// What ends a list by `LINES`, as the reference tells it.
+#[test]
+fn over_or_a_fault(rt: HostRuntime) {
+    let mut bytes = [0u8; 3];
+    let read = read_list(b"x", 0, STANDARD, LINES, &mut bytes);
+    assert_eq!(rt; (read.count, read.end), (0, ListEnd::Over(0)));
+    let read = read_list(b"-", 0, STANDARD, LINES, &mut bytes);
+    assert_eq!(rt; (read.count, read.end), (0, ListEnd::Over(0)));
+    let mut signed = [0i8; 2];
+    let read = read_list(b"-", 0, STANDARD, LINES, &mut signed);
+    assert_eq!(rt;
+        (read.count, read.end),
+        (0, ListEnd::Fault(LiteralError::Empty(1)))
+    );
+    let read = read_list(b"1\r\n2\r\n", 0, STANDARD, LINES, &mut bytes);
+    assert_eq!(rt; (read.count, read.end), (2, ListEnd::Over(6)));
+    assert_eq!(rt; bytes, [1, 2, 0]);
+}
+
 /// Lines of which one is empty, as the reference tells them.
 #[test]
 fn an_empty_line(rt: HostRuntime) {
@@ -68,6 +87,12 @@ fn integers(rt: HostRuntime) {
     assert_eq!(rt;
         (read.count, read.end),
         (0, ListEnd::Fault(LiteralError::Empty(0)))
+    );
+    // a number that is refused
+    let read = read_list(b"1\n300\n", 0, STANDARD, LINES, &mut three);
+    assert_eq!(rt;
+        (read.count, read.end),
+        (1, ListEnd::Fault(LiteralError::Overflow(4)))
     );
     // a full slice: the next call goes on at 4
     let mut two = [0u8; 2];

@@ -4,8 +4,8 @@ use digits::{
     Both, BothError, COMMAS, EnclosedFoldError, FloatError, Floats, FoldError,
     INTEGER_INTERNAL_DIGIT_SEPARATOR, Integers, LINES, ListError, LiteralError, Number,
     NumberReader, PieceEnd, STANDARD, Scaled, StreamEnd, StreamError, block_start, end_in_text,
-    fold_stream, forms, is_apart, parse_list, read_float_list_piece, read_list_piece,
-    read_list_piece_of, read_piece, read_scaled_list_piece, sure_end,
+    fold_stream, forms, integers_are_apart, is_apart, parse_list, read_float_list_piece,
+    read_list_piece, read_list_piece_of, read_piece, read_scaled_list_piece, sure_end,
 };
 
 /// Shows `read_list_piece`.
@@ -137,6 +137,7 @@ fn what_separates_is_in_no_number(rt: HostRuntime) {
 /// A loop over a stream, as the reference shows it first.
 #[test]
 fn a_loop(rt: HostRuntime) {
+    integers_are_apart::<u64>(STANDARD, LINES);
     let mut buffer = [0; 64];
     let kind = Integers::<u64>::new(STANDARD);
     let stream = b"3\n12\n5\n".as_slice();
@@ -163,6 +164,28 @@ fn a_stream(rt: HostRuntime) {
     assert_eq!(rt; numbers.next_number(), Some(Ok(-2000.0)));
     assert_eq!(rt; numbers.next_number(), None);
     assert_eq!(rt; numbers.finish(), Ok(()));
+}
+
+/// A stream that ends with a blank, as the reference tells it, and one that goes on after a blank.
+#[test]
+fn blanks_at_the_end(rt: HostRuntime) {
+    let mut buffer = [0; 64];
+    let kind = Integers::<u64>::new(STANDARD);
+    let stream = b"1, 2\n".as_slice();
+    let mut numbers = NumberReader::new(stream, &mut buffer, kind, COMMAS);
+    assert_eq!(rt; numbers.next_number(), Some(Ok(1)));
+    assert_eq!(rt; numbers.next_number(), Some(Ok(2)));
+    assert_eq!(rt; numbers.next_number(), None);
+    assert_eq!(rt; numbers.position(), 5);
+    assert_eq!(rt; numbers.finish(), Ok(()));
+
+    let mut buffer = [0; 64];
+    let stream = b"1 ]".as_slice();
+    let mut numbers = NumberReader::new(stream, &mut buffer, kind, COMMAS);
+    assert_eq!(rt; numbers.next_number(), Some(Ok(1)));
+    assert_eq!(rt; numbers.position(), 2);
+    assert_eq!(rt; numbers.next_number(), None);
+    assert_eq!(rt; numbers.position(), 2);
 }
 
 /// Shows `NumberReader`, `NumberReader::finish`.
