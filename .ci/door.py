@@ -27,16 +27,7 @@ GROUPS = {
         read_at_most | Reads one to `n` digits: the `7` of `7:05`
         count_digits | Counts the digits of a text""", """
         The first four read a sign if the type has one: `-1` and `+1` are an `i32`, and no `u32`. The types
-        are `u8` to `u128`, `i8` to `i128`, `usize` and `isize`.
-
-        What a call for one number returns, by `STANDARD` and by `forms::JSON`:
-
-        | Of the text | (empty) | `-` | `x` | `-x` | `1x` |
-        |---|---|---|---|---|---|
-        | `parse_number::<i32>` | `Empty(0)` | `Empty(1)` | `Invalid(0)` | `Invalid(1)` | `Invalid(1)` |
-        | `read_number::<i32>` | `Empty(0)` | `Empty(1)` | `Empty(0)` | `Empty(1)` | `Ok((1, 1))` |
-        | `parse_float::<f64>`, `parse_number_of::<f64>` | `Empty(0)` | `Empty(1)` | `Empty(0)` | `Empty(1)` \
-| `Invalid(1)` |""", """
+        are `u8` to `u128`, `i8` to `i128`, `usize` and `isize`.""", """
         parse_number parse_number_from read_number read_number_from read_integer_from read_wide_from
         read_exactly read_at_most count_digits Integer ParseError LiteralError"""),
     "Floats": ("""
@@ -50,7 +41,7 @@ GROUPS = {
         ```
 
         You get the nearest `f64` or `f32`, on a tie the even one. What is too large is infinite, and what is
-        too small is 0. Separators that the word drops may be among the digits. `inf` and `nan` are refused:
+        too small is 0. Separators that the word [drops](#words) may be among the digits. `inf` and `nan` are refused:
         `forms::RUST_PARSE` [reads them](#numbers-by-a-form).""", """
         parse_float parse_float_from read_float read_float_from round_integer Float FloatError"""),
     "Numbers by a form": ("""
@@ -109,7 +100,7 @@ GROUPS = {
         |---|---|---|
         | `Over(at)` | no further number has to come, and `at` is the first byte that isn't of the list: of `80, 44x` it is the `x`, and 44 came | go on at `at`; if nothing may follow, compare `at` with `text.len()`, or call `parse_list` |
         | `Full(at)` | the slice is full, and the next number may begin at `at` | call again from `at` |
-        | `Fault(error)` | a number has to be there, as after a comma, and there is none | report it |
+        | `Fault(error)` | a number is missing where one has to be, as after a comma, or one begins and is refused | report it |
 
         `Full` after a number says that a separator follows it, and not that another number does. `parse_list`
         looks for that number. Into a slice of 2 places:
@@ -121,7 +112,9 @@ GROUPS = {
         | `80\\n443\\n` | `LINES` | `Full(7)`: the call from 7 on returns no number, and `Over(7)` |
 
         Blanks of the gap are skipped. After a fault the front of the slice has the numbers before it. By
-        `LINES` and other gaps that may trail, a separator may be last, and a list may be empty.""", """
+        `LINES` and other gaps that may trail, a separator may be last, and a list may be empty: of `x` the
+        `end` is `Over(0)`. But of `300` as a `u8`, and of `-` as an `i8`, it is a `Fault`: there a number
+        begins.""", """
         read_list read_float_list read_list_of read_list_by read_items parse_list read_enclosed ListRead
         ListEnd ListError EnclosedError"""),
     "Gaps": ("", """
@@ -129,7 +122,7 @@ GROUPS = {
         |---|---|---|---|
         | `COMMAS` | one comma, with any blanks around it | no | `1, 2 ,3` |
         | `COMMAS_IN_LINE` | one comma, with spaces and tabs around it | no | a line of CSV |
-        | `LINES` | one line feed, with other blanks around it | yes | `1\\n2\\n` |
+        | `LINES` | one line feed, with other blanks around it | yes | `1\\n2\\n`, `1\\r\\n2\\r\\n` |
         | `WHITESPACE` | one blank or more | yes | `1 2\\n3\\n` |
         | `SPACES_IN_LINE` | one space or tab, or more | yes | `1 2 3` |
 
@@ -165,6 +158,7 @@ GROUPS = {
         NumberReader | Reads them one by one
         is_apart | Tests whether a kind and a gap go together in a stream""", """
         ```rust
+        integers_are_apart::<u64>(STANDARD, LINES);
         let mut buffer = [0; 64];
         let kind = Integers::<u64>::new(STANDARD);
         let stream = b"3\\n12\\n5\\n".as_slice();
@@ -180,6 +174,21 @@ GROUPS = {
         greatest // 12
         ```
 
+        No byte of the gap may be in a number. By `COMMAS` and a word that drops the comma of `1,234`, a number
+        may be split where the reader cuts the stream. With the first line `rt check` refuses a constant word
+        and gap that don't go together. It does nothing at run time. Each kind has its line:
+
+        | Numbers | The line |
+        |---|---|
+        | `Integers` | [`integers_are_apart::<T>(word, gap)`](digit_pieces.md#integers_are_apart) |
+        | `Floats` | [`floats_are_apart(word, gap)`](digit_pieces.md#floats_are_apart) |
+        | `Scaled`, `Prices` | [`scaled_are_apart(word, point, gap)`](digit_pieces.md#scaled_are_apart) |
+        | `OfForm` | [`numbers_are_apart(form, gap)`](digit_pieces.md#numbers_are_apart) |
+        | `OfLanguage` | [`literals_are_apart(language, gap)`](digit_pieces.md#literals_are_apart) |
+        | `Both` | the lines of the two kinds, then [`both_are_apart(first, between, second, gap)`](digit_pieces.md#both_are_apart) |
+        | `Enclosed` | the line of its kind, then [`enclosed_are_apart(opening, kind, closing, gap)`](digit_streams.md#enclosed_are_apart) |
+        | a word or a gap of run time | test [`is_apart(kind, gap)`](#is_apart) |
+
         A stream is any `std::io::Read`, such as `rt.stdin()`, a file that `std::fs::open(&rt, path)` returned,
         or a `&[u8]`. `rt` is the `HostRuntime` of your `main`. A `NumberReader` is no `Iterator`. Its loop has
         a bound, since `rt check` proves that each loop ends; no stream reaches it. The errors of streams have
@@ -189,7 +198,11 @@ GROUPS = {
         read_piece | Reads a list that goes on in the next piece
         sure_end | Returns the position up to which the numbers of a piece are final
         block_start | Moves a cut to where a block may begin
-        end_in_text | Turns a position of a block into one of the text""", "", """
+        end_in_text | Turns a position of a block into one of the text""", """
+        Pieces come one after the other: [`read_piece`](#read_piece) says which bytes you carry to the front
+        of the next one. Blocks are parts of one text that you read independently, as on several threads: cut
+        the text by `block_start`, and move positions by `end_in_text`.
+        [`blocks.rt`](../../crates/digit_uses/src/blocks.rt) has whole functions.""", """
         read_piece sure_end block_start end_in_text PieceRead PieceEnd"""),
     "Writing": ("""
         write_number | Writes an integer: `-128`
@@ -208,7 +221,11 @@ GROUPS = {
         |---|---|
         | `MOST_ROOM`, 40 | any integer by `write_number`; 3 for `u8`, 4 `i8`, 5 `u16`, 6 `i16`, 10 `u32`, 11 `i32`, 20 `u64`, `i64`, `usize` and `isize`, 39 `u128`, 40 `i128` |
         | `FLOAT_ROOM`, 24 | any finite float by `write_float`, in `Usual` and `Exponent` |
-        | `PLAIN_ROOM`, 327 | any finite float by `write_float`, in `Plain` |""", """
+        | `PLAIN_ROOM`, 327 | any finite float by `write_float`, in `Plain` |
+        | 311 + `places` | any finite float by `write_fixed` |
+        | 8 + `places` | any finite float by `write_scientific` |
+        | 328 | any number by `write_number_of`, `write_float_of` or `write_integer_of` |
+        | as many as the error says | what any other call writes |""", """
         write_number write_number_by write_list write_scaled write_price write_float write_fixed
         write_scientific write_number_of write_float_of write_integer_of write_plain write_usual
         write_exponent MOST_ROOM FLOAT_ROOM PLAIN_ROOM Layout FloatLayout ExponentText Written AnyFloat NoRoom
@@ -226,6 +243,10 @@ GROUPS = {
         be. It doesn't say how many digits a group has: [`read_grouped_from`](#read_grouped_from) tests that. Take
         a word with a name ([what each reads](../RULES.md#words-with-names)), write one from its parts, or make
         one with the builder.
+
+        A separator that is dropped is skipped, and the number goes on. One that is kept is a byte like any
+        other, and ends the number: by `PYTHON_LITERAL` the `_` of `1_0` is dropped, and those of `1__0` are
+        kept.
 
         A constant is `radix << 104 | separator << 64 | flags`, with `exponent_radix << 120` if that radix is
         another. The builder isn't `const`: take it at run time, and test `is_supported`. A flag of a component
@@ -311,9 +332,8 @@ NOTES = {
         Of an empty stream it returns `init`, if the gap may trail, as `LINES`. By `COMMAS` an empty stream is
         an error.""",
     "NumberReader": """
-        - **The numbers are those of the whole stream**, however the reader cuts it into pieces, if no byte of
-        the gap can be in a number. [`is_apart`](#is_apart) tests that. Nothing refuses another kind or gap,
-        and with it a number may be split.
+        - **The numbers are those of the whole stream**, however the reader cuts it into pieces, if [no byte of
+        the gap can be in a number](#streams). `new` and `new_at` don't test that.
         - **A number is final** once the next one came, or `finish` returned `Ok`: of a line `2x` you get 2, and
         then `None`.
         - **After `None`** each call of `next_number` returns `None`, until `pass_byte` passes a byte, or
@@ -347,8 +367,13 @@ NOTES = {
         and its error `EnclosedError`.""",
     "NoNumber": "`BothError` and `BracketError` have no `position()`: call `fault_at()`.",
     "Layout": """
-        Of each layout this holds: the radix is 2 to 36, and if `every` is above 0, the separator is neither 0
-        nor a digit of the radix.""",
+        `grouped` returns an `Option`. Of constants the prover sees that it is `Some`:
+        `let Some(layout) = Layout::decimal().grouped(b',', 3) else { unreachable!() };`.
+
+        Each layout has a ghost field that proves this: the radix is 2 to 36, and if `every` is above 0, the
+        separator is neither 0 nor a digit of the radix. The methods fill it: you prove nothing.""",
+    "NO_FLAGS": "No separator is part of a number.",
+    "ALL_FLAGS": "One may be anywhere.",
     "DigitSeparatorFlags": """
         | Flag | It drops the `_` of | With `consecutive` also those of |
         |---|---|---|
@@ -461,13 +486,15 @@ takes a value out of its `Ok` or `Some`. Types derive `Copy`, `Debug`, `PartialE
 |---|---|
 | `_from` | it begins at a `start`. Without it `parse_` calls, `read_number`, `read_float` and \
 `read_integer` begin at 0. Every other `read_` call takes a position, too |
-| `_of` | by a form |
+| `_of` | by a form, except `decimal_of` |
 | `_as` | by a language, as a number of your type |
 | `_by` | by a kind or a layout |
 
 | A call reads | Its arguments | For example |
 |---|---|---|
 | a number by a word | `(text, word, start, ..)` | `read_number_from(text, STANDARD, 5)` |
+| a list by a word or a form | `(text, start, word or form, gap, out)` | `read_list(text, 0, STANDARD, \
+COMMAS, &mut out)` |
 | a component by a word | `(text, word, component, start, ..)` | `stop_from(text, STANDARD, \
 Component::Fraction, 2)` |
 | a number of a kind, or several | `(kind, text, start, ..)` | `read_list_by(kind, text, 0, COMMAS, &mut out)` |
@@ -509,6 +536,22 @@ their kinds |
 A closure may be called on everything if it can't panic: write \
 `sum.checked_add(number)`, not `sum + number`, unless these are floats. \
 [All conditions](../PROMISES.md#conditions).
+
+## Errors of one number
+
+What each call returns: `parse_number_of` and `read_number_of` by `forms::JSON`, the others by \
+`STANDARD`.
+
+| Of the text | (empty) | `-` | `x` | `-x` | `1x` |
+|---|---|---|---|---|---|
+| `parse_number::<i32>` | `Empty(0)` | `Empty(1)` | `Invalid(0)` | `Invalid(1)` | `Invalid(1)` |
+| `parse_float`, `parse_number_of`, `parse_scaled::<i64>` | `Empty(0)` | `Empty(1)` | `Empty(0)` | `Empty(1)` \
+| `Invalid(1)` |
+| `read_number::<i32>`, `read_float`, `read_number_of` | `Empty(0)` | `Empty(1)` | `Empty(0)` | `Empty(1)` \
+| `Ok`: the number 1 and the position 1 |
+
+`Invalid` comes from `parse_` calls only: what follows the number is no error of a `read_` call for one \
+number.
 """
 
 # The calls of the first block, and what is before them. Each is a line of an example.
@@ -531,7 +574,7 @@ have are at the end of its page.
 
 # The sentences of doc comments that the head of the page tells.
 TOLD = ("Requires ", "A position counts", "Takes no memory", "Not in lexical-util", "lexical-util's",
-        "lexical-util has", "Its flags in the format word")
+        "lexical-util has", "Its flags in the format word", "It needs at most")
 # The half line of a name whose first clause says too little.
 HALVES = {
     "read_integer": "`read_number::<u64>` by another name",
@@ -546,8 +589,8 @@ ANCHORED = ("Rule",)
 # How long the half line of a name may be.
 ROOM = 84
 MORE_HEAD = """\
-These are in `digits` too. Their entries are on the pages of their crates. The last eight are laws: they do \
-nothing at run time, and tell the prover that no byte of a gap may be in a number."""
+These are in `digits` too. Their entries are on the pages of their crates. The last eight are laws: they tell \
+the prover that no byte of a gap may be in a number, as of [a stream](#streams)."""
 
 
 def printed(lines, name, display):
@@ -777,8 +820,9 @@ class Door:
                  if it not in (*UNNAMED, own)]
         links = [f"[`{it}`](#{self.slugs[f'`{it}`']})" if f"`{it}`" in self.slugs else
                  f"[`{it}`]({self.page_of(it)})" for it in named if it in self.items]
-        is_alone = len(links) == 1 and any(map(is_error, named))
-        return f"{'Error:' if is_alone else 'See'} {', '.join(links)}." if links else ""
+        told = [("See", links[:-1]), ("Error:", links[-1:])] if named and is_error(named[-1]) else \
+            [("See", links)]
+        return " ".join(f"{head} {', '.join(those)}." for head, those in told if those)
 
     @staticmethod
     def constants(source):
