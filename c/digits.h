@@ -499,7 +499,8 @@ bool digits_as_u64(const digits_number *number, uint64_t *integer);
  *              second line feed is none. Compare `at` with `length`, if nothing else may follow
  * DIGITS_FULL  there is no more room, and the list goes on at `at`: after `between`, or by ' '
  *              after the blanks. The next call says whether a number is there: `at` may be `length`
- * Any other    no number is where one has to be, by this fault at `at`; those before it were read
+ * Any other    a number is missing where one has to be, or is refused, by this fault at `at`; those
+ *              before it were read
  */
 
 DIGITS_CALL(7)
@@ -532,7 +533,7 @@ digits_outcome digits_read_number_list(const void *text, size_t length, size_t s
  * DIGITS_OK       the text is a list of `count` numbers; `at` is `length`
  * DIGITS_INVALID  the list is over before the text: the byte at `at` is no part of it
  * DIGITS_FULL     there is no more room, and one number more is at `at`
- * Any other       no number is where one has to be, by this fault at `at`
+ * Any other       a number is missing where one has to be, or is refused, by this fault at `at`
  *
  * After a fault, too, `count` numbers were written: those before it.
  */

@@ -482,7 +482,7 @@ pub enum End {
     Over(usize),
     /// The slice is full; the list goes on at this position.
     Full(usize),
-    /// Where a number has to be is none.
+    /// A number is missing where one has to be, or it is refused.
     Fault(Fault),
 }
 
@@ -505,7 +505,7 @@ pub enum PieceEnd {
     Over(usize),
     /// The slice is full; the list goes on at this position.
     Full(usize),
-    /// Where a number has to be is none.
+    /// A number is missing where one has to be, or it is refused.
     Fault(Fault),
 }
 

@@ -18,7 +18,7 @@ use std::io::Read;
 pub enum SumError {
     /// There is no `[` at this position.
     NoOpening(u64),
-    /// Why there is no number where one has to be.
+    /// Why a number is missing where one has to be, or is refused.
     Number(LiteralError),
     /// There is neither a comma nor `]` at this position.
     NoClosing(u64),
