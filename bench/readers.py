@@ -111,11 +111,13 @@ def readme():
     ends = fastest(READ)
     shown = table("Nanoseconds for one number that is the whole text, or of JSON, on one core of a Xeon, the less of two "
                   "runs; with a star the reader does less:", ["", "Rattle", "C++, `digits.h`", *PEERS], map(nanoseconds, SHOWN))
-    lines = table(f"- A whole text, or a number of JSON: from Rattle the fastest in {fastest()} kinds of input, from "
-                  f"C++ by `digits.h` in {fastest(door)}.\n- With the end of the number, from Rattle: in {ends}.\n\nThis table has the time of a call, divided by that of the fastest other "
-                  "library that does the same work; below 1 this one is faster. The others are as Debian 12 has them, "
-                  "and newer ones weren't timed: fast_float 3.9.0, which is C++'s, lexical-core 0.7.6, serde_json "
-                  "1.0.87, simdjson 3.0.1.",
+    lines = table(f"Of these and other readers, in Debian 12's versions, this library is the fastest\n\n- with a whole "
+                  f"text, or a number of JSON: in {fastest()} kinds of input from Rattle, and in {fastest(door)} from C++ "
+                  f"by `digits.h`\n- with the end of the number, too: in {ends} from Rattle\n\nThe versions are "
+                  "fast_float 3.9.0, which is C++'s, lexical-core 0.7.6, serde_json 1.0.87 and simdjson 3.0.1. Newer "
+                  "ones, the crate fast-float and `digits-sys` weren't timed. The next table has the time of a call, "
+                  "divided by that of the fastest other library that does the same work, of two runs by the one in "
+                  "which this library does worse. Below 1 this one is faster.",
                   ["What", "The fastest other one", "From Rattle", "From C++"], rows)
     return "\n".join([*shown, *lines]) + """
 Floats in groups and iterators over digits are slower than others, too ([by how much](docs/SPEED.md#where-you-lose)). \
