@@ -170,12 +170,10 @@ fn serves(radix: u32, separator: u8) -> bool
     (2..=36).contains(&radix) && !char_is_digit_const(separator, radix)
 }
 
-/// Tests whether digits can be read by this word: its mantissa radix and its exponent radix are 2
-/// to 36, and its separator is a digit of neither. Every word with a name passes.
-///
-/// The exponent radix is what [`NumberFormat::exponent_radix`] returns. A separator may be zero, a
-/// sign, or a byte from 128 on. Flags don't matter. Not in lexical-util: calls that read digits ask
-/// that it is true.
+/// Whether digits can be read by this word: its mantissa radix and its exponent radix are 2 to 36,
+/// and its separator is a digit of neither. The exponent radix is what
+/// [`NumberFormat::exponent_radix`] answers. A separator may be zero, a sign, or a byte from 128
+/// on. Flags don't matter. Not in lexical-util: calls that read digits ask that it is true.
 #[inline(always)]
 pub fn is_supported(word: u128) -> bool
     ensures { result ≡ is_supported word }
