@@ -4,10 +4,8 @@ from peers import LIBRARY, READ, Figures, lacks, slower_run
 from written import times
 
 # How the names of rows begin that read an integer, or a float.
-INTEGERS = "u64|i32|hexadecimal|grouped u64"
-FLOATS = "f64|f32"
-
-
+INTEGERS = ("u64", "i32", "hexadecimal", "grouped u64")
+FLOATS = ("f64", "f32")
 # The readers of which README.md has the times, by what it calls them.
 PEERS = {"`from_chars`": "from_chars", "fast_float": "fast_float", "std": "std", "lexical-core": "lexical-core",
          "serde_json": "serde_json", "simdjson, an array": "simdjson, the array"}
@@ -15,13 +13,12 @@ PEERS = {"`from_chars`": "from_chars", "fast_float": "fast_float", "std": "std",
 SHOWN = {"u64, 1 to 20 digits": "a `u64` of 1 to 20 digits", "f64, coordinates": "a coordinate as an `f64`",
          "JSON, mixed": "a number of JSON"}
 
+# The readers that don't say where a number ends.
+WITHOUT_END = ("std", "lexical-core", "serde_json", "minimal-lexical")
+
 
 def rows():
     return Figures("times.txt").rows
-
-
-# The readers that don't say where a number ends.
-WITHOUT_END = ("std", "lexical-core", "serde_json", "minimal-lexical")
 
 
 def lacks_end(row, side):
@@ -31,16 +28,16 @@ def lacks_end(row, side):
 
 def ratios(start="", side=LIBRARY):
     """The ratio of a side's time to that of the fastest reader that does the same work, by the rows
-    whose names begin so and that have the side."""
+    that have the side and whose names begin so, or with one of several words."""
     less = lacks_end if side.startswith(READ) else lacks
     found = ((row, slower_run(row, sides, side, lacks=less)) for row, sides in rows().items()
              if row.startswith(start) and side in sides)
     return {row: mine / peer[0] for row, (mine, peer) in found}
 
 
-def span(starts, side=LIBRARY):
-    """The least and the greatest of these ratios, in the rows whose names begin with one of the words."""
-    found = [it for start in starts.split("|") for it in ratios(start, side).values()]
+def span(start, side=LIBRARY):
+    """The least and the greatest of these ratios."""
+    found = ratios(start, side).values()
     return f"{min(found):.2f} to {max(found):.2f}"
 
 
