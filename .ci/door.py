@@ -26,23 +26,23 @@ GROUPS = {
         read_exactly | Reads exactly `n` digits: the `2026` of a date
         read_at_most | Reads one to `n` digits: the `7` of `7:05`
         count_digits | Counts the digits of a text""", """
-        The first four read a sign if the type has one: `-1` and `+1` are an `i32`, and no `u32`. The types
-        are `u8` to `u128`, `i8` to `i128`, `usize` and `isize`.""", """
+        The types are `u8` to `u128`, `i8` to `i128`, `usize` and `isize`. The first four calls read a sign if the
+        type is signed: `-1` and `+1` are read as an `i32`, and refused as a `u32`.""", """
         parse_number parse_number_from read_number read_number_from read_integer_from read_wide_from
         read_exactly read_at_most count_digits Integer ParseError LiteralError"""),
     "Floats": ("""
         parse_float parse_float_from | Read a whole text, or from `start` on to its end
         read_float read_float_from | Read the float at the front, or at `start`, and return where it ends
         round_integer | Rounds an integer to the nearest float""", """
-        `-1.5e3` is -1500.0. The grammar, where `D` is a digit:
+        `-1.5e3` is read as -1500.0: as the nearest `f64` or `f32`, and at a tie as the even one. A number that is
+        too large becomes infinite, and one that is too small 0. This is the grammar, where `D` is a digit:
 
         ```text
         [+-]? (D+ (. D*)? | . D+) ([eE] [+-]? D+)?
         ```
 
-        You get the nearest `f64` or `f32`, on a tie the even one. What is too large is infinite, and what is
-        too small is 0. Separators that the word [drops](#words) may be among the digits. `inf` and `nan` are refused:
-        `forms::RUST_PARSE` [reads them](#numbers-by-a-form).""", """
+        Among the digits may be separators that the word [drops](#words). `inf` and `nan` are refused; to read them,
+        take `forms::RUST_PARSE` ([numbers by a form](#numbers-by-a-form)).""", """
         parse_float parse_float_from read_float read_float_from round_integer Float FloatError"""),
     "Numbers by a form": ("""
         parse_number_of | Reads a whole text: `-1.5e3` of JSON
@@ -58,9 +58,9 @@ GROUPS = {
         read_grouped_from | … in groups of three: `1,234.5`
         read_price_from | … with both: `1,234.50`
         read_decimal_from read_decimal_of | Read digits and a power of ten, before rounding""", """
-        An amount is an integer in units of its last place, exactly: no float is on the way. A sign is read
-        if the type has one. Only `parse_scaled` takes a whole text: after another call compare the end with
-        `text.len()`.""", """
+        An amount is an exact integer that counts its last place: with 2 places `12.5` is 1250. No float is on the
+        way. A sign is read if the type is signed. Only `parse_scaled` takes a whole text; after another call compare
+        the end with `text.len()`.""", """
         parse_scaled read_scaled_from read_scaled_up_to read_exact_from read_grouped_from read_price_from
         read_decimal_from read_decimal_of Decimal ScaledError PriceError"""),
     "Literals of a language": ("""
@@ -98,12 +98,12 @@ GROUPS = {
 
         | `end` | It says | What you do |
         |---|---|---|
-        | `Over(at)` | no further number has to come, and `at` is the first byte that isn't of the list: of `80, 44x` it is the `x`, and 44 came | go on at `at`; if nothing may follow, compare `at` with `text.len()`, or call `parse_list` |
+        | `Over(at)` | the list ended without a fault, and `at` is the first byte after it: in `80, 44x` the `x` | continue at `at`; if nothing may follow, compare `at` with `text.len()`, or call `parse_list` |
         | `Full(at)` | the slice is full, and the next number may begin at `at` | call again from `at` |
-        | `Fault(error)` | a number is missing where one has to be, as after a comma, or one begins and is refused | report it |
+        | `Fault(error)` | a number is missing where one is required, as after a comma, or one begins and is refused | report it |
 
         `Full` after a number says that a separator follows it, and not that another number does. `parse_list`
-        looks for that number. Into a slice of 2 places:
+        looks for that number. Into a slice of two elements:
 
         | Text | Gap | `end` |
         |---|---|---|
@@ -111,10 +111,9 @@ GROUPS = {
         | `80, 443, 8` | `COMMAS` | `Full(8)`, after the second comma |
         | `80\\n443\\n` | `LINES` | `Full(7)`: the call from 7 on returns no number, and `Over(7)` |
 
-        Blanks of the gap are skipped. After a fault the front of the slice has the numbers before it. By
-        `LINES` and other gaps that may trail, a separator may be last, and a list may be empty: of `x` the
-        `end` is `Over(0)`. But of `300` as a `u8`, and of `-` as an `i8`, it is a `Fault`: there a number
-        begins.""", """
+        Blanks of the gap are skipped. After a fault the slice has the numbers before it. With `LINES` and the other
+        gaps that may trail, a separator may be last, and a list may be empty: for `x` the `end` is `Over(0)`. But for
+        `300` as a `u8`, and for `-` as an `i8`, it is a `Fault`, since a number begins there.""", """
         read_list read_float_list read_list_of read_list_by read_items parse_list read_enclosed ListRead
         ListEnd ListError EnclosedError"""),
     "Gaps": ("", """
@@ -133,28 +132,26 @@ GROUPS = {
         separator, such as `;`, write a [`Gap`](#gap).""", """
         COMMAS COMMAS_IN_LINE LINES WHITESPACE SPACES_IN_LINE BLANKS SPACES Gap"""),
     "Kinds of numbers": ("""
-        Integers Floats OfForm OfLanguage | Integers, floats, numbers of a form, literals
-        Scaled Prices | `12.5`; `1,234.50`
-        Both Enclosed | `3:4`; `"1.50"`
-        read_optional | One number of a kind, which may be missing""", """
+        read_optional | Reads one number of a kind, which may be missing""", """
         A kind is a value that says which numbers a list, a piece or a stream has:
-        `Integers::<i32>::new(STANDARD)`. For values of your own write an [`impl Item`](#item), or an
-        [`impl Kind`](../../crates/digit_pieces/README.md).
 
-        | Kind | One number is | Its error |
-        |---|---|---|
-        | `Integers<T>` | `T` | [`LiteralError`](#literalerror) |
-        | `Floats<F>` | `F` | [`FloatError`](#floaterror) |
-        | `OfForm<F>` | [`Number<F>`](#number) | [`NumberError`](#numbererror) |
-        | `OfLanguage<T>` | `T` | [`LanguageError`](#languageerror) |
-        | `Scaled<T>` | `T` | [`ScaledError`](#scalederror) |
-        | `Prices<T>` | `T` | [`PriceError`](#priceerror) |
-        | `Both<A, B>` | `(A::Number, B::Number)` | [`BothError<A::Error, B::Error>`](#botherror) |
-        | `Enclosed<K>` | `K::Number` | [`BracketError<K::Error>`](#bracketerror) |""", """
+        | Kind | It reads | One number is | Its error |
+        |---|---|---|---|
+        | [`Integers::<i32>::new(word)`](#integers-1) | `-12` | `i32` | [`LiteralError`](#literalerror) |
+        | [`Floats::<f64>::new(word)`](#floats-1) | `1.5e3` | `f64` | [`FloatError`](#floaterror) |
+        | [`OfForm::<f64>::new(forms::JSON)`](#ofform) | a number of JSON | [`Number<f64>`](#number) | [`NumberError`](#numbererror) |
+        | [`OfLanguage::<u32>::new(RUST)`](#oflanguage) | `0xff` | `u32` | [`LanguageError`](#languageerror) |
+        | [`Scaled::<i64>::new(word, b'.', 2)`](#scaled) | `12.5`, as cents | `i64` | [`ScaledError`](#scalederror) |
+        | [`Prices::<i64>::new(word, b'.', 2)`](#prices) | `1,234.50`, as cents | `i64` | [`PriceError`](#priceerror) |
+        | [`Both { first, between: b':', second }`](#both) | `3:4` | a pair | [`BothError`](#botherror) |
+        | [`Enclosed { opening: b'"', kind, closing: b'"' }`](#enclosed) | `"1.50"` | one of `kind` | [`BracketError`](#bracketerror) |
+
+        For values of your own write an [`impl Item`](#item), or an
+        [`impl Kind`](../../crates/digit_pieces/README.md).""", """
         Integers Floats OfForm OfLanguage Scaled Prices Both Enclosed read_optional Kind Item NoNumber
         BothError BracketError"""),
     "Streams": ("""
-        fold_stream | Makes one value of all numbers, such as their sum
+        fold_stream | Combines all numbers into one value, such as their sum
         NumberReader | Reads them one by one
         is_apart | Tests whether a kind and a gap go together in a stream""", """
         ```rust
@@ -174,9 +171,10 @@ GROUPS = {
         greatest // 12
         ```
 
-        No byte of the gap may be in a number. By `COMMAS` and a word that drops the comma of `1,234`, a number
-        may be split where the reader cuts the stream. With the first line `rt check` refuses a constant word
-        and gap that don't go together. It does nothing at run time. Each kind has its line:
+        The first line is yours to write, and no call reminds you of it. A stream comes in pieces: if the gap has a
+        byte that may also be in a number, as `COMMAS` has the comma of `1,234`, a number may be split where a piece
+        ends. The line does nothing at run time. It makes `rt check` refuse a constant word and gap that don't go
+        together. Each kind has its own:
 
         | Numbers | The line |
         |---|---|
@@ -189,10 +187,11 @@ GROUPS = {
         | `Enclosed` | the line of its kind, then [`enclosed_are_apart(opening, kind, closing, gap)`](digit_streams.md#enclosed_are_apart) |
         | a word or a gap of run time | test [`is_apart(kind, gap)`](#is_apart) |
 
-        A stream is any `std::io::Read`, such as `rt.stdin()`, a file that `std::fs::open(&rt, path)` returned,
-        or a `&[u8]`. `rt` is the `HostRuntime` of your `main`. A `NumberReader` is no `Iterator`. Its loop has
-        a bound, since `rt check` proves that each loop ends; no stream reaches it. The errors of streams have
-        no `position()`: match them.""", """
+        - A stream is any `std::io::Read`: `rt.stdin()`, a file that `std::fs::open(&rt, path)` returned, or a
+        `&[u8]`. `rt` is the `HostRuntime` of your `main`.
+        - A `NumberReader` is no `Iterator`. Its loop has a bound, since `rt check` proves that each loop ends; no
+        stream reaches it.
+        - The errors of streams have no `position()`: match them.""", """
         fold_stream NumberReader is_apart StreamRead StreamEnd FoldError EnclosedFoldError StreamError"""),
     "Pieces and blocks": ("""
         read_piece | Reads a list that goes on in the next piece
@@ -217,15 +216,18 @@ GROUPS = {
         were. Without room nothing is written, and the error has the length that is needed. `write_number`
         has no error: lend it `[0; MOST_ROOM]`. `Written` is any type of integers, `AnyFloat` `f64` or `f32`.
 
-        | Bytes of `out` that are enough | For |
+        | You write | Bytes of `out` that are always enough |
         |---|---|
-        | `MOST_ROOM`, 40 | any integer by `write_number`; 3 for `u8`, 4 `i8`, 5 `u16`, 6 `i16`, 10 `u32`, 11 `i32`, 20 `u64`, `i64`, `usize` and `isize`, 39 `u128`, 40 `i128` |
-        | `FLOAT_ROOM`, 24 | any finite float by `write_float`, in `Usual` and `Exponent` |
-        | `PLAIN_ROOM`, 327 | any finite float by `write_float`, in `Plain` |
-        | 311 + `places` | any finite float by `write_fixed` |
-        | 8 + `places` | any finite float by `write_scientific` |
-        | 328 | any number by `write_number_of`, `write_float_of` or `write_integer_of` |
-        | as many as the error says | what any other call writes |""", """
+        | any integer by `write_number` | `MOST_ROOM`, 40 |
+        | any finite float by `write_float`, in `Usual` and `Exponent` | `FLOAT_ROOM`, 24 |
+        | any finite float by `write_float`, in `Plain` | `PLAIN_ROOM`, 327 |
+        | any finite float by `write_fixed` | 311 + `places` |
+        | any finite float by `write_scientific` | 8 + `places` |
+        | any number by `write_number_of`, `write_float_of` or `write_integer_of` | 328 |
+        | anything else | as many as the error says |
+
+        `write_number` of one type needs 3 bytes for `u8`, 4 for `i8`, 5 for `u16`, 6 for `i16`, 10 for `u32`, 11 for
+        `i32`, 20 for `u64`, `i64`, `usize` and `isize`, 39 for `u128`, and 40 for `i128`.""", """
         write_number write_number_by write_list write_scaled write_price write_float write_fixed
         write_scientific write_number_of write_float_of write_integer_of write_plain write_usual
         write_exponent MOST_ROOM FLOAT_ROOM PLAIN_ROOM Layout FloatLayout ExponentText Written AnyFloat NoRoom
@@ -240,17 +242,17 @@ GROUPS = {
         ```
 
         A word is a `u128` that says how digits are written: their radix, their separator, and where one may
-        be. It doesn't say how many digits a group has: [`read_grouped_from`](#read_grouped_from) tests that. Take
-        a word with a name ([what each reads](../RULES.md#words-with-names)), write one from its parts, or make
-        one with the builder.
+        be. It doesn't say how many digits a group has: [`read_grouped_from`](#read_grouped_from) tests that.
+        There are three ways to get a word: take one with a name ([what each
+        reads](../RULES.md#words-with-names)), write a constant from its parts, or make one at run time with the
+        [builder](#numberformatbuilder).
 
         A separator that is dropped is skipped, and the number goes on. One that is kept is a byte like any
         other, and ends the number: by `PYTHON_LITERAL` the `_` of `1_0` is dropped, and those of `1__0` are
         kept.
 
         A constant is `radix << 104 | separator << 64 | flags`, with `exponent_radix << 120` if that radix is
-        another. The builder isn't `const`: take it at run time, and test `is_supported`. A flag of a component
-        is a bit:
+        another. Test what the builder makes with `is_supported`. A flag of a component is a bit:
 
         | [Flag](#digitseparatorflags) | Integer | Fraction | Exponent |
         |---|---|---|---|
@@ -276,7 +278,7 @@ GROUPS = {
         FirstDigits Component"""),
 }
 # The heads of a table of another section than one of calls.
-HEADS = {"Kinds of numbers": ("Kind, or call", "What it reads")}
+HEADS = {}
 TABLED = """COMMAS COMMAS_IN_LINE LINES WHITESPACE SPACES_IN_LINE BLANKS SPACES MOST_ROOM FLOAT_ROOM
     PLAIN_ROOM INTEGER_INTERNAL_DIGIT_SEPARATOR FRACTION_INTERNAL_DIGIT_SEPARATOR
     EXPONENT_INTERNAL_DIGIT_SEPARATOR""".split()
@@ -308,28 +310,28 @@ METHODS = {"NumberReader": """
     position | Returns the position of the first byte that no call has used
     unread | Returns the bytes from there on that the buffer holds
     pass_byte | Passes a byte, such as a bracket before or after the numbers
-    fold_numbers | Makes one value of the numbers
-    fold_enclosed | Makes one value of the numbers between two brackets"""}
+    fold_numbers | Combines the numbers into one value
+    fold_enclosed | Combines the numbers between two brackets into one value"""}
 # What an entry says beside the doc comment.
 NOTES = {
     "read_exactly": """
-        Any `start`, radix and `n` may be given. `Empty` holds the first of the `n` bytes that is no digit, or
-        the end of the text; if `start` is after that end, it holds `start`. With an `n` of 0 it returns the
-        number 0, also there. Radix 0 has no digit, and radix 1 only `0`. A radix above 36 has the digits of
-        36.""",
+        `Empty` holds the position of the first of the `n` bytes that isn't a digit, or the end of the text. You may
+        give any `start`, radix and `n`. If `start` is after the end of the text, `Empty` holds `start`. If `n` is 0,
+        the number is 0, for any `start`. Radix 0 has no digit, and radix 1 only `0`; a radix above 36 has the digits
+        of 36.""",
     "read_at_most": "Any `start`, radix and `n` may be given, too. With an `n` of 0 it returns `Empty`.",
     "count_digits": "Of an empty text it returns 0.",
     "LiteralError": """
         `is_none_at` distinguishes a missing number from a bad one. [`read_optional`](#read_optional) does
         that for you.""",
     "read_optional": """
-        For an unsigned type a sign begins no number: a `u32` at `-1` is `None`, and a list of `u32` over
-        `1\\n-2\\n` by `LINES` ends with `Over(2)`. If that has to be an error, look for the sign by
+        For an unsigned type no number begins with a sign: a `u32` at `-1` is `None`, and a list of `u32` over
+        `1\\n-2\\n` by `LINES` ends with `Over(2)`. To make that an error, look for the sign with
         [`has_byte`](#has_byte), or read a signed type.""",
     "read_grouped_from": "The word `GROUPS` is written [from its parts](#words).",
     "read_price_from": "The words `GROUPS` and `DOTS` are written [from their parts](#words).",
     "fold_stream": """
-        Of an empty stream it returns `init`, if the gap may trail, as `LINES`. By `COMMAS` an empty stream is
+        For an empty stream it returns `init` if the gap may trail, as `LINES` may. With `COMMAS` an empty stream is
         an error.""",
     "NumberReader": """
         - **The numbers are those of the whole stream**, however the reader cuts it into pieces, if [no byte of
@@ -355,10 +357,12 @@ NOTES = {
     "NumberReader::fold_numbers": """
         After `Stopped` the next call goes on behind the number that stopped it. The value is lost.""",
     "is_form": """
-        It returns `false` if a word of the form isn't supported, or the decimal one has another radix than
-        10; if the point is a letter, a digit, a sign or the separator; if a mark of an exponent is no letter,
-        is the separator, or begins a prefix, as `x`; or if hexadecimal floats have another radix than 16, or
-        their exponent than 10.""",
+        It returns `false` if
+
+        - a word of the form isn't supported, or its decimal word has another radix than 10
+        - the point is a letter, a digit, a sign or the separator
+        - a mark of an exponent isn't a letter, is the separator, or is the letter of a prefix that the form has
+        - hexadecimal floats have another radix than 16, or their exponent another one than 10""",
     "read_enclosed": """
         Any `start` may be given. Blanks of the gap may be inside both brackets. `BracketError` is the error of
         one number in brackets, the kind [`Enclosed`](#enclosed).""",
@@ -367,13 +371,10 @@ NOTES = {
         and its error `EnclosedError`.""",
     "NoNumber": "`BothError` and `BracketError` have no `position()`: call `fault_at()`.",
     "Layout": """
-        `grouped` returns an `Option`. Of constants the prover sees that it is `Some`:
+        `grouped` returns an `Option`. If its arguments are constants, the prover sees that it is `Some`, and you write
         `let Some(layout) = Layout::decimal().grouped(b',', 3) else { unreachable!() };`.
 
-        Each layout has a ghost field that proves this: the radix is 2 to 36, and if `every` is above 0, the
-        separator is neither 0 nor a digit of the radix. The methods fill it: you prove nothing.""",
-    "NO_FLAGS": "No separator is part of a number.",
-    "ALL_FLAGS": "One may be anywhere.",
+        Every layout is valid, and you prove nothing: a ghost field, which the methods fill, holds the proof.""",
     "DigitSeparatorFlags": """
         | Flag | It drops the `_` of | With `consecutive` also those of |
         |---|---|---|
@@ -446,27 +447,11 @@ use {DOOR}::{{MOST_ROOM, STANDARD, parse_float, parse_number, read_number, write
 LINES
 ```
 
-- **`parse_`** returns the number that a whole text is, **`read_`** the number and the position after it, \
-**`write_`** the length of what it wrote. [Lists](#lists) go into a slice.
-- **A text** is a `&[u8]`. Positions count its bytes from 0. The error of a number holds the position of \
-its fault.
-- **A word** says how digits are written: `STANDARD` reads `1000`, `PYTHON_LITERAL` also `1_000`. **A \
-form** is a whole grammar, such as JSON's. **A language** has a word for digits alone, and others for \
-those after `0x`, `0o`, `0b`.
-- **A kind** says which numbers a list or a stream has, **a gap** what is between two of them.
-- **No call** panics or allocates. No call for one number skips blanks: pass them by \
-[`past_bytes`](#past_bytes). Lists and streams skip those of their gap.
-
-Below, the result of a call is behind `//`, and a heading leads to the contract, whose [signs]({CLAUSES}.md) \
-and [words]({WORDS}.md) have pages of their own. Names are in `{DOOR}`, unless the example imports them. `?` \
-takes a value out of its `Ok` or `Some`. Types derive `Copy`, `Debug`, `PartialEq` and `Eq`, and errors have \
-`Display` and `Error`, unless their entry says otherwise. [CALLING.md](../../CALLING.md) has whole functions.
-
 | You have | Section |
 |---|---|
 | `-1_000` | [Integers](#integers) |
 | `-1.5e3` | [Floats](#floats) |
-| a number of JSON, TOML, Rust, `strtod` | [Numbers by a form](#numbers-by-a-form) |
+| a number of JSON, TOML, Rust, `strtod`, also a hexadecimal float as `0x1p3` | [Numbers by a form](#numbers-by-a-form) |
 | `12.50`, as 1250 cents | [Amounts and prices](#amounts-and-prices) |
 | `0xff` | [Literals of a language](#literals-of-a-language) |
 | a `:` or blanks beside a number | [Bytes between numbers](#bytes-between-numbers) |
@@ -480,7 +465,43 @@ takes a value out of its `Ok` or `Some`. Types derive `Copy`, `Debug`, `PartialE
 | another grammar | [A form of your own](#a-form-of-your-own) |
 | digits that you put together yourself | [Parts of a number](#parts-of-a-number) |
 
-## Names and arguments
+**Terms**
+
+- A **word** says how digits are written: `STANDARD` reads `1000`, `PYTHON_LITERAL` also `1_000`. A separator that a \
+word *drops* is allowed there, and skipped. Any other is *kept*: the number ends before it.
+- A **form** is a whole grammar, such as `forms::JSON`.
+- A **language** reads integers with their prefixes: `languages::RUST` reads `255` and `0xff`. `forms::RUST` is \
+another thing, and reads floats, too.
+- A **kind** says which numbers a list or a stream has, a **gap** what is between two of them.
+
+**Calls**
+
+- `parse_` reads a whole text. `read_` reads the number at a position, and also returns where it ends. `write_` \
+writes a number into your slice, and returns its length ([names and arguments](#names-and-arguments)).
+- A text is a `&[u8]`. Positions count its bytes from 0. The error of one number holds the position of its \
+fault ([errors](#errors)).
+- A call for one number skips no blanks: pass them with [`past_bytes`](#past_bytes). Lists and streams skip \
+those of their gap.
+- No call panics or allocates.
+
+**Entries**
+
+- In an example the comment after a call is its result, and `?` takes a value out of `Ok` or `Some`. Names \
+are in `{DOOR}`, unless the example imports them.
+- `// you prove` names what has to hold before the call ([what you prove](#what-you-prove)).
+- The contract of a call is on the page of its library. Its [signs]({CLAUSES}.md) and [terms]({WORDS}.md) have \
+pages of their own.
+- Types derive `Copy`, `Debug`, `PartialEq` and `Eq`, and errors have `Display` and `Error`, unless their \
+entry says otherwise.
+
+[CALLING.md](../../CALLING.md) has whole functions, and at the end of this page are [all names](#all-names) by their letters.
+"""
+
+# The heading of the list of all names.
+INDEX = "All names"
+
+# What follows the entries.
+TAIL = f"""## Names and arguments
 
 | In the name of a call that reads or writes | It says |
 |---|---|
@@ -506,16 +527,17 @@ In `prefix_word` the language goes before `text`. A call that writes takes the n
 
 ## What you prove
 
-`// you prove` names what has to hold before a call. Nothing tests it at run time: `rt check` refuses your \
-function if the prover can't see it. Mostly you do nothing. With [one attribute](../../CALLING.md#set-up) in \
-your `lib.rt` the prover sees that a constant word, form, language or kind is valid:
+`rt check` refuses a call if the prover can't see what `// you prove` names. Nothing tests it at run time. \
+Mostly you write nothing for it:
 
-```rust
-#![tactic(auto, unfolding(digits::proofs::Literals::lexical_on_literals))]
-```
+- A constant word, form, language or kind is valid. The prover sees that with [one \
+attribute](../../CALLING.md#set-up) in your `lib.rt`: \
+`#![tactic(auto, unfolding(digits::proofs::Literals::lexical_on_literals))]`.
+- A position that a call returned is within its text, if its `start` was.
+- A closure may be called on everything if it can't panic: write `sum.checked_add(number)`, not \
+`sum + number`, unless these are floats.
 
-A position that a call returned is within its text, if its `start` was. What only run time knows you test \
-first:
+What is known only at run time you test first:
 
 | You prove | Test |
 |---|---|
@@ -523,9 +545,11 @@ first:
 | its radixes are 10 | `mantissa_radix()` and `exponent_radix()` of [`NumberFormat::new(word)`](#numberformat) |
 | the form is valid | `is_form(form)` |
 | the words of the language are supported | `is_language(language)` |
-| the kind is valid | of `Integers` the word; of `Floats` the word and its radixes; of `Scaled` and `Prices` \
-these and `places <= 38`; of `OfForm` the form; of `OfLanguage` the language; of `Both` and `Enclosed` \
-their kinds |
+| the kind is valid: `Integers` | `is_supported(word)` |
+| … `Floats` | the same, and that its radixes are 10 |
+| … `Scaled`, `Prices` | the same as of `Floats`, and `places <= 38` |
+| … `OfForm`, `OfLanguage` | `is_form(form)`, `is_language(language)` |
+| … `Both`, `Enclosed` | what the kinds of their numbers need |
 | start, at, end ≤ text.len() | `start <= text.len()` |
 | places ≤ 38 | `places <= 38` |
 | `x` is finite | `x.is_finite()`, of a constant too |
@@ -533,14 +557,26 @@ their kinds |
 | the mantissa is one of this text | nothing: it is what `read_mantissa` returned of `text` |
 | `before` is at most `most` | `before <= most` |
 
-A closure may be called on everything if it can't panic: write \
-`sum.checked_add(number)`, not `sum + number`, unless these are floats. \
 [All conditions](../PROMISES.md#conditions).
 
-## Errors of one number
+## Errors
 
-What each call returns: `parse_number_of` and `read_number_of` by `forms::JSON`, the others by \
-`STANDARD`.
+| Calls | Their error |
+|---|---|
+| `parse_number`, `parse_number_from` | [`ParseError`](#parseerror) |
+| `read_number` and the others that read an integer | [`LiteralError`](#literalerror) |
+| those of floats | [`FloatError`](#floaterror) |
+| those of numbers by a form | [`NumberError`](#numbererror) |
+| `read_literal`, `read_literal_as` | [`LanguageError`](#languageerror) |
+| those of amounts | [`ScaledError`](#scalederror); with exact places or groups [`PriceError`](#priceerror) |
+| `parse_list`, `read_enclosed` | [`ListError`](#listerror), [`EnclosedError`](#enclosederror) |
+| `next_number`, `finish`; `fold_stream`; `fold_enclosed` | [`StreamError`](#streamerror); [`FoldError`](#folderror); \
+[`EnclosedFoldError`](#enclosedfolderror) |
+| the kinds `Both`, `Enclosed` | [`BothError`](#botherror), [`BracketError`](#bracketerror) |
+| those that write, but `write_number` | [`NoRoom`](#noroom); `write_float` [`FloatTextError`](#floattexterror), by a form \
+[`FormTextError`](#formtexterror) |
+
+Five texts, with `forms::JSON` for `parse_number_of` and `read_number_of`, and `STANDARD` for the others:
 
 | Of the text | (empty) | `-` | `x` | `-x` | `1x` |
 |---|---|---|---|---|---|
@@ -550,8 +586,17 @@ What each call returns: `parse_number_of` and `read_number_of` by `forms::JSON`,
 | `read_number::<i32>`, `read_float`, `read_number_of` | `Empty(0)` | `Empty(1)` | `Empty(0)` | `Empty(1)` \
 | `Ok`: the number 1 and the position 1 |
 
-`Invalid` comes from `parse_` calls only: what follows the number is no error of a `read_` call for one \
-number.
+What `Empty` says differs by the type of the error:
+
+| Type | `Empty(at)` says |
+|---|---|
+| [`ParseError`](#parseerror) | the text ends at `at`, where a digit is required; if another byte is there, it is `Invalid` |
+| [`LiteralError`](#literalerror), [`LanguageError`](#languageerror) | at `at` is no digit |
+| [`FloatError`](#floaterror), [`ScaledError`](#scalederror) | up to `at`, after a sign and a point, is no digit: \
+from `.` it is 1 |
+| [`NumberError`](#numbererror) | at `at`, after a sign, no number of the form begins |
+
+Only `parse_` calls return `Invalid`: a `read_` call for one number leaves what follows it to you.
 """
 
 # The calls of the first block, and what is before them. Each is a line of an example.
@@ -583,14 +628,22 @@ HALVES = {
     "read_list_piece_of": "`read_piece` of numbers of a form",
     "read_scaled_list_piece": "`read_piece` of amounts",
     "WrittenFloat": "The half of `AnyFloat` for finite floats",
+    "integers_are_apart": "No byte of the gap is in a number of `Integers`",
+    "floats_are_apart": "… of `Floats`",
+    "scaled_are_apart": "… of `Scaled` or `Prices`",
+    "literals_are_apart": "… of `OfLanguage`",
+    "numbers_are_apart": "… of `OfForm`",
+    "both_are_apart": "… of `Both`",
+    "enclosed_are_apart": "… of `Enclosed`",
+    "any_are_apart": "… of any kind",
 }
 # The names there that had an entry before: their anchors stay.
 ANCHORED = ("Rule",)
 # How long the half line of a name may be.
 ROOM = 84
 MORE_HEAD = """\
-These are in `digits` too. Their entries are on the pages of their crates. The last eight are laws: they tell \
-the prover that no byte of a gap may be in a number, as of [a stream](#streams)."""
+These are in `digits` too. Their entries are on the pages of their libraries. The last eight are laws, which \
+[streams](#streams) and pieces need."""
 
 
 def printed(lines, name, display):
@@ -773,8 +826,13 @@ class Door:
                   for line in ("", "```rust", *code, "```")]
         table = [] if item else self.constants(library.crate.modules[(path,)].source)
         named = ["", self.types(item)] if item and item.kind == "fn" and self.types(item) else []
-        text = "\n\n".join([first, *parts, *noted(name)])
-        return [f"### [`{name}`]({self.page_of(name)})", "", self.to_here(text), *table, *blocks, *named, "",
+        more = [self.to_here(it) for it in (*parts, *noted(name))]
+        details = [line for it in more for line in ("", *it.split("\n"))]
+        has_contract = item and (item.kind in ("fn", "trait") or any(
+            it.kind == "fn" and it.is_public() for impl in library.impls.get(id(item), [])
+            if not impl.trait for it in impl.inner))
+        last = " ".join([*named[1:], *[f"[Contract]({self.page_of(name)})."] * bool(has_contract)])
+        return [f"### `{name}`", "", self.to_here(first), *table, *blocks, *details, "", *[last, ""] * bool(last),
                 *self.lines_of_methods(name, library, item)]
 
     def lines_of_methods(self, name, library, item):
@@ -794,9 +852,9 @@ class Door:
             code = filled(signature_of(have[method]).removeprefix("pub "), "", "        ")
             blocks = [line for it in (code + self.conditions(have[method]), self.example(method)) if it
                       for line in ("", "```rust", *it, "```")]
-            text = "\n\n".join([text, *noted(method)])
-            named = ["", self.types(have[method], name)] if self.types(have[method], name) else []
-            lines += [f"#### [`{method}`]({page})", "", self.to_here(text), *blocks, *named, ""]
+            details = [line for it in noted(method) for line in ("", *self.to_here(it).split("\n"))]
+            last = " ".join([*filter(None, [self.types(have[method], name)]), f"[Contract]({page})."])
+            lines += [f"#### `{method}`", "", self.to_here(text), *blocks, *details, "", last, ""]
         return lines
 
     @staticmethod
@@ -919,6 +977,20 @@ class Door:
         parts = (["", f"## `{crate}`", "", *lines[crate]] for crate in lines)
         return text_of([*WORDS_HEAD.rstrip().split("\n"), *itertools.chain(*parts)])
 
+    def index(self):
+        """Each name of the page, by its letters, with a link to its entry or to the page of its library."""
+        parts = {"Calls": [], "Types": [], "Constants and modules": []}
+        for name in sorted(names(), key=str.lower):
+            item = self.item(self.items[name][0], name)
+            part = ("Calls" if item.kind == "fn" else "Types" if item.kind in ("struct", "enum", "trait")
+                    else "Constants and modules") if item else "Constants and modules"
+            there = f"#{self.slugs[f'`{name}`']}" if f"`{name}`" in self.slugs else self.page_of(name)
+            parts[part].append(f"[`{name}`]({there})")
+        lines = ["", f"## {INDEX}"]
+        for part, links in parts.items():
+            lines += ["", f"**{part}:** {', '.join(links)}"]
+        return lines
+
     def write(self):
         have = names()
         self.lost += [f"GROUPS of .ci/door.py has no {it}" for it in self.items if it not in have]
@@ -933,6 +1005,7 @@ class Door:
             lines += [*self.section(group), *itertools.chain(*map(self.lines_of, entries))]
         lines += [f"## {ELSEWHERE}", "", MORE_HEAD, "", "| Name | What it is |", "|---|---|",
                   *self.rows(MORE)]
+        lines += ["", *TAIL.split("\n"), *self.index()]
         return text_of("\n".join(lines).split("\n"))
 
 

@@ -47,6 +47,10 @@ def fastest(side=LIBRARY):
     return f"{sum(it <= 1 for it in found)} of {len(found)}"
 
 
+def least(found):
+    return f"{min(found.values()):.2f}"
+
+
 def by_read():
     """What the calls take that also answer where a number ends."""
     mine, peer = slower_run("f64, coordinates", rows()["f64, coordinates"], READ)
@@ -81,41 +85,23 @@ def nanoseconds(row):
 
 def readme():
     """What README.md has between its comments: the times beside those of others, gain and loss."""
-    door = "library, from C"
+    door = f"{LIBRARY}, from C"
+    shown = table("Nanoseconds for one number, on one core of a Xeon, in the better of two runs. The number is a whole "
+                  "text, or a number of JSON. A star marks a reader that gets the last bits of some floats wrong, a dash what "
+                  "wasn't timed.",
+                  ["", "digits, from Rattle", "digits, from C++", *PEERS], map(nanoseconds, SHOWN))
+    return "\n".join(shown) + f"""
+Of the readers that do the same work `digits` is the fastest in {fastest()} kinds of input from Rattle, and in \
+{fastest(door)} from C++ ([picture](docs/times.svg)). If it also returns where the number ends, it is in \
+{fastest(READ)}.
 
-    def reads(what, peers, starts, ends=""):
-        return what, peers, span(starts, LIBRARY + ends), span(starts, f"{LIBRARY}{ends}, from C")
+- **You gain** most with 8 to 19 digits, groups and hexadecimal digits, down to {least(ratios(INTEGERS))} times the time \
+of the next reader; and where you write a price, {times("%.2f, prices", "%.2f, 3 digits")} times.
+- **You lose** where you write integers of up to 4 digits ({times("u64, 3 digits", "u64, 1 to 4")} times lexical-core's \
+time), `%.2f` of numbers up to 1e22 ({times("%.2f, in [0, 1e22)")} times that of `to_chars`), and `%.6e` \
+({times("%.6e, coordinates", "%.6e, 3 digits")} times for coordinates, {times("%.6e, random bits")} for floats of any \
+size, as it works with all exact digits). Floats in groups and iterators over digits are slower, too.
 
-    def writes(what, peers, *starts):
-        return what, peers, times(*starts), times(*starts, side=door)
-
-    rows = [
-        reads("an integer that is the whole text", "C++'s `from_chars`, std, lexical-core", INTEGERS),
-        reads("a float that is the whole text", "fast_float, simdjson, std", FLOATS),
-        reads("a number of JSON", "simdjson, over an array", "JSON"),
-        reads("a `u64` and where it ends", "`from_chars`", "u64", ", within a text"),
-        reads("an `f64` and where it ends", "fast_float, simdjson", "f64", ", within a text"),
-        writes("write an integer of up to 4 digits", "lexical-core", "u64, 3 digits", "u64, 1 to 4"),
-        writes("write an integer of 1 to 20 digits", "lexical-core", "u64, 1 to 20"),
-        writes("write an integer of 8, 16 or 20 digits", "itoa, lexical-core", "u64, 8 digits",
-               "u64, 16 digits", "u64, 20 digits"),
-        writes("write the shortest text of a float", "ryu, `to_chars`", "f64, ", "f32, "),
-        writes("write `%.2f` of a price", "`to_chars`", "%.2f, prices", "%.2f, 3 digits"),
-        writes("write `%.2f` of a number up to 1e22", "`to_chars`", "%.2f, in [0, 1e22)"),
-        writes("write `%.6e` of a price or a coordinate", "`to_chars`", "%.6e, coordinates", "%.6e, 3 digits"),
-        writes("write `%.6e` of any float", "`to_chars`", "%.6e, random bits"),
-    ]
-    ends = fastest(READ)
-    shown = table("Nanoseconds for one number that is the whole text, or of JSON, on one core of a Xeon, the less of two "
-                  "runs; with a star the reader does less:", ["", "Rattle", "C++, `digits.h`", *PEERS], map(nanoseconds, SHOWN))
-    lines = table(f"Of these and other readers, in Debian 12's versions, this library is the fastest\n\n- with a whole "
-                  f"text, or a number of JSON: in {fastest()} kinds of input from Rattle, and in {fastest(door)} from C++ "
-                  f"by `digits.h`\n- with the end of the number, too: in {ends} from Rattle\n\nThe versions are "
-                  "fast_float 3.9.0, which is C++'s, lexical-core 0.7.6, serde_json 1.0.87 and simdjson 3.0.1. Newer "
-                  "ones, the crate fast-float and `digits-sys` weren't timed. The next table has the time of a call, "
-                  "divided by that of the fastest other library that does the same work, of two runs by the one in "
-                  "which this library does worse. Below 1 this one is faster.",
-                  ["What", "The fastest other one", "From Rattle", "From C++"], rows)
-    return "\n".join([*shown, *lines]) + """
-Floats in groups and iterators over digits are slower than others, too ([by how much](docs/SPEED.md#where-you-lose)). \
-[SPEED.md](docs/SPEED.md) has every kind of input, what a word as argument costs, and how to call so that it is fast."""
+The others are those of Debian 12: fast_float 3.9.0 (of C++), lexical-core 0.7.6, serde_json 1.0.87, simdjson 3.0.1. \
+Newer ones, the crate fast-float and `digits-sys` weren't timed. [SPEED.md](docs/SPEED.md) has every kind of input, and \
+how to call so that it is fast."""

@@ -2,15 +2,15 @@
 
 use digit_uses::calling::{
     COMMA_DIGITS, Entry, SEMICOLONS, first_above, has_port, parse_entry, parse_price, sum_lengths,
-    sum_of,
+    sum_of, sum_text,
 };
 use digit_uses::proving;
 use digit_uses::sums::sum_list;
 use digits::{
-    COMMAS, FloatError, FoldError, Integers, LINES, LiteralError, NumberError, NumberReader,
-    ParseError, PriceError, STANDARD, ScaledError, StreamError, forms, parse_float, parse_list,
-    parse_number, parse_number_of, parse_scaled, read_exact_from, read_float, read_grouped_from,
-    read_number, read_number_of, read_price_from, read_scaled_from,
+    COMMAS, FloatError, FoldError, Integers, LINES, ListError, LiteralError, NumberError,
+    NumberReader, ParseError, PriceError, STANDARD, ScaledError, StreamError, forms, parse_float,
+    parse_list, parse_number, parse_number_of, parse_scaled, read_exact_from, read_float,
+    read_grouped_from, read_number, read_number_of, read_price_from, read_scaled_from,
 };
 
 /// A line with fields of several kinds.
@@ -345,8 +345,20 @@ fn a_price_and_a_port(rt: HostRuntime) {
     assert!(rt; parse_price(b"1,234.50") == Ok(123450));
     let other = ScaledError::Invalid(8);
     assert!(rt; parse_price(b"1,234.50x") == Err(PriceError::Number(other)));
-    assert!(rt; has_port(b"80, 443;", 443) == Ok(true));
-    assert!(rt; has_port(b"80, 443;", 22) == Ok(false));
-    assert!(rt; has_port(b"80, x", 80) == Err(4));
-    assert!(rt; has_port(b"1,1,1,1,1,1,1,1,1,1,1,1,1,1,1,1,2", 2) == Err(32));
+    assert!(rt; has_port(b"80, 443", 443) == Ok(true));
+    assert!(rt; has_port(b"80, 443", 22) == Ok(false));
+    let missing = ListError::Number(LiteralError::Empty(4));
+    assert!(rt; has_port(b"80, x", 80) == Err(missing));
+    assert!(rt; has_port(b"80, 443;", 443) == Err(ListError::Invalid(7)));
+    let ones = b"1,1,1,1,1,1,1,1,1,1,1,1,1,1,1,1,1";
+    assert!(rt; has_port(ones, 443) == Err(ListError::NoRoom(32)));
+}
+
+/// A list of any length, without a slice for its numbers.
+#[test]
+fn a_sum_of_a_text(rt: HostRuntime) {
+    assert!(rt; sum_text(b"80, 443") == Ok(523));
+    let sum = sum_text(b"80, 443;");
+    assert!(rt; matches!(sum, Err(FoldError::Stream(StreamError::Trailing(7, _)))));
+    assert!(rt; sum_text(b"18446744073709551615,1") == Err(FoldError::Stopped(22)));
 }

@@ -25,13 +25,13 @@ pub struct Language {
 /// What a first `0` says.
 #[derive(Clone, Copy, Debug, PartialEq, Eq)]
 pub enum FirstZero {
-    /// Nothing: it is a digit as any other.
+    /// Nothing: it is a digit like any other. `017` is 17.
     Plain,
-    /// The literal is octal. It is read by this word, from the `0` on.
+    /// The literal is octal. It is read by this word, from the `0` on: `017` is 15.
     Octal(u128),
-    /// The literal ends after it, or is refused.
+    /// The literal ends after it, or is refused: `0` is 0, and `00` and `017` are refused.
     Alone,
-    /// All digits are `0`, or the literal is refused.
+    /// All digits are `0`, or the literal is refused: `00` is 0, and `017` is refused.
     Zeros,
 }
 

@@ -162,7 +162,7 @@ pub enum Whole {
     Integer,
     /// An integer. Above 128 bits it is a float, if its first digit isn't 0.
     LargeIsFloat,
-    /// A float, by the decimal word. There are no prefixes.
+    /// A float, by the decimal word. A prefix is read only as `hex_floats` says.
     Float,
 }
 
@@ -361,7 +361,8 @@ fn are_apart(form: Form) -> bool
 /// The words of the form are supported, its floats are decimal, or hexadecimal with a decimal
 /// exponent, and its marks are no other part of a number, as
 /// [`read_number_of`](crate::read_number_of) requires: the point is no letter, digit, sign or
-/// separator, and a mark of an exponent is a letter that is no separator and says no prefix.
+/// separator, and a mark of an exponent is a letter that is neither the separator nor the letter of a
+/// prefix that the form has.
 #[inline(always)]
 pub fn is_form(form: Form) -> bool
     ensures is { IsTrue result → IsForm form }

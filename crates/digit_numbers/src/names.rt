@@ -111,7 +111,7 @@ pub const XML_NAMES: Specials = Specials {
     any_case: false,
 };
 
-/// `Infinity`, `NaN`, with a sign or without one before both.
+/// `Infinity`, with a minus or without a sign before it; `NaN`, without a sign.
 pub const CSHARP_NAMES: Specials = Specials {
     names: [
         CSHARP_INFINITY,

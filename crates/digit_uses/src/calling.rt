@@ -4,14 +4,14 @@
 use digits::words::PYTHON_LITERAL;
 use digits::{ParseError, parse_number};
 
-/// The height that a text is: `-1_000` gives -1000, and `1_000m` gives `Invalid(5)`.
+/// Reads a text as a height: `-1_000` is -1000, and `1_000m` is `Invalid(5)`.
 pub fn parse_height(text: &[u8]) -> Result<i32, ParseError> {
     parse_number::<i32>(text, PYTHON_LITERAL)
 }
 
 use digits::{LiteralError, expect_byte, read_number, read_number_from};
 
-/// Why a text begins with no size.
+/// Why there is no size.
 #[derive(Clone, Copy, Debug, PartialEq, Eq)]
 pub enum SizeError {
     /// The width or the height is no number.
@@ -20,7 +20,8 @@ pub enum SizeError {
     NoX(usize),
 }
 
-/// The size that a text begins with, and where it ends: `1_920x1_080 px` gives `(1920, 1080, 11)`.
+/// Reads the size at the front of a text, and where it ends: `1_920x1_080 px` gives
+/// `(1920, 1080, 11)`.
 pub fn read_size(text: &[u8]) -> Result<(u32, u32, usize), SizeError> {
     let number = read_number::<u32>(text, PYTHON_LITERAL);
     let (width, end) = number.map_err(SizeError::Side)?;
@@ -28,6 +29,27 @@ pub fn read_size(text: &[u8]) -> Result<(u32, u32, usize), SizeError> {
     let number = read_number_from::<u32>(text, PYTHON_LITERAL, start);
     let (height, end) = number.map_err(SizeError::Side)?;
     Ok((width, height, end))
+}
+
+use digits::STANDARD;
+
+/// Reads a text as a number, with any blanks around it: ` 12\r\n` is 12.
+pub fn parse_trimmed(text: &[u8]) -> Result<i32, ParseError> {
+    let start = past_bytes(text, 0, BLANKS);
+    let (number, end) = read_number_from::<i32>(text, STANDARD, start)?;
+    let rest = past_bytes(text, end, BLANKS);
+    if rest < text.len() {
+        return Err(ParseError::Invalid(rest));
+    }
+    Ok(number)
+}
+
+use digits::languages::RUST;
+use digits::{LanguageError, read_literal_as};
+
+/// Reads the literal of Rust at the front of a text, and where its digits end.
+pub fn read_mask(text: &[u8]) -> Result<(u16, usize), LanguageError> {
+    read_literal_as::<u16>(text, 0, RUST)
 }
 
 ghost use Rattle.std.specs.Prelude.{◌≤◌, length, IfOk};
@@ -41,7 +63,7 @@ pub enum PercentError {
     Above100(usize),
 }
 
-/// The percentage that begins at `start`, and where it ends: `1_00%` gives `(100, 4)`.
+/// Reads the percentage at `start`, and where it ends: `75%` gives `(75, 2)`.
 pub fn read_percent(line: &[u8], start: usize) -> Result<(u8, usize), PercentError>
     requires { start ≤ length line.now }
     ensures { IfOk result (λ percent. percent.1 ≤ length line.now) }
@@ -70,51 +92,32 @@ pub fn sum_lengths(text: &[u8]) -> Result<f64, NumberError> {
     Ok(sum)
 }
 
-use digits::STANDARD;
+use digits::{COMMAS, Integers, ListError, parse_list};
 
-/// The number that a text is, with any blanks around it: ` 12\r\n` gives 12.
-pub fn parse_trimmed(text: &[u8]) -> Result<i32, ParseError> {
-    let start = past_bytes(text, 0, BLANKS);
-    let (number, end) = read_number_from::<i32>(text, STANDARD, start)?;
-    let rest = past_bytes(text, end, BLANKS);
-    if rest < text.len() {
-        return Err(ParseError::Invalid(rest));
-    }
-    Ok(number)
+/// Whether a text lists a port, among at most 16: `80, 443`.
+pub fn has_port(text: &[u8], port: u16) -> Result<bool, ListError<LiteralError>> {
+    let mut ports = [0; 16];
+    let count = parse_list(Integers::<u16>::new(STANDARD), text, COMMAS, &mut ports)?;
+    Ok(ports[..count].contains(&port))
 }
 
-use digits::languages::RUST;
-use digits::{LanguageError, read_literal_as};
+use digits::{ListRead, read_list};
 
-/// The literal of Rust that a text begins with, and where its digits end: `0xff_u8` gives 255, and
-/// 5, where the suffix begins.
-pub fn read_mask(text: &[u8]) -> Result<(u16, usize), LanguageError> {
-    read_literal_as::<u16>(text, 0, RUST)
-}
-
-use digits::{COMMAS, ListRead, read_list};
-
-/// The ports that a text lists, `80, 443;`, in the front of a slice: how many they are, and why
+/// Reads the ports at the front of a text, `80, 443;`, into a slice: how many there are, and why
 /// there are no more.
 pub fn read_ports(text: &[u8], ports: &mut [u16]) -> ListRead<LiteralError> {
     read_list::<u16>(text, 0, STANDARD, COMMAS, ports)
 }
 
-use digits::ListEnd;
+use digits::{FoldError, fold_stream, integers_are_apart};
 
-/// Whether a text lists a port among at most 16: `80, 443;`. The error is the position of a fault,
-/// or of the 17th port.
-pub fn has_port(text: &[u8], port: u16) -> Result<bool, usize> {
-    let mut ports = [0; 16];
-    let read = read_list::<u16>(text, 0, STANDARD, COMMAS, &mut ports);
-    match read.end {
-        // The list ended well.
-        ListEnd::Over(_) => Ok(ports[..read.count].contains(&port)),
-        // The slice is full: another call would go on from here.
-        ListEnd::Full(at) => Err(at),
-        // A number is missing where one has to be, or it is refused, as one above 65535.
-        ListEnd::Fault(error) => Err(error.position()),
-    }
+/// The sum of the numbers that a text lists, however many there are: `80, 443` gives 523.
+pub fn sum_text(text: &[u8]) -> Result<u64, FoldError<LiteralError>> {
+    integers_are_apart::<u64>(STANDARD, COMMAS);
+    let mut buffer = [0; 4096];
+    let kind = Integers::<u64>::new(STANDARD);
+    let add = |sum: u64, number: u64| sum.checked_add(number);
+    fold_stream(text, &mut buffer, kind, COMMAS, 0, add)
 }
 
 use digits::{ByteSet, COMMAS_IN_LINE, Gap};
@@ -130,7 +133,7 @@ pub const SEMICOLONS: Gap = Gap {
 
 use digits::parse_number_of;
 
-/// The number of JSON that a text is, as a float: `-1.5e3` is -1500.0, and `01` is `Invalid(1)`.
+/// Reads a text as a number of JSON: `-1.5e3` is -1500.0, and `01` is `Invalid(1)`.
 pub fn parse_amount(text: &[u8]) -> Result<f64, NumberError> {
     Ok(parse_number_of::<f64>(text, forms::JSON)?.to_float())
 }
@@ -139,8 +142,8 @@ ghost use Rattle.std.specs.Prelude.{◌<◌};
 
 use digits::{Number, byte_at};
 
-/// The token of a number of JSON at `start`, and where it ends: of `-1.5e3,` it is -1500.0, and
-/// ends at 6. Of `01` the fault is at 1.
+/// Reads the number of JSON at `start`, and where it ends: in `-1.5e3,` it is -1500.0, and ends at
+/// 6. In `01` the fault is at 1.
 pub fn read_token(text: &[u8], start: usize) -> Result<(Number<f64>, usize), NumberError>
     requires { start ≤ length text.now }
     ensures end { IfOk result (λ read. (start < read.1) × (read.1 ≤ length text.now)) }
@@ -152,7 +155,7 @@ pub fn read_token(text: &[u8], start: usize) -> Result<(Number<f64>, usize), Num
     }
 }
 
-use digits::{Integers, read_exactly, read_optional, read_scaled_from};
+use digits::{read_exactly, read_optional, read_scaled_from};
 
 /// A line of a CSV file.
 #[derive(Clone, Copy, Debug, PartialEq, Eq)]
@@ -165,8 +168,8 @@ pub struct Entry {
     pub count: Option<i32>,
 }
 
-/// The entry that a line is, or the position of its first fault: `2026-11-30,12.50,-3` has 1250
-/// cents, and in `2026-11-30,12.5x,-3` the fault is at 15.
+/// Reads a line as an entry, or returns the position of its first fault: `2026-11-30,12.50,-3` has
+/// 1250 cents, and in `2026-11-30,12.5x,-3` the fault is at 15.
 pub fn parse_entry(line: &[u8]) -> Result<Entry, usize> {
     let (year, at) = read_exactly::<u16>(line, 0, 10, 4).map_err(|error| error.position())?;
     let at = expect_byte(line, at, b'-')?;
@@ -194,9 +197,7 @@ pub fn parse_entry(line: &[u8]) -> Result<Entry, usize> {
     })
 }
 
-use digits::{ListError, parse_list};
-
-/// How many numbers a line has, which are in the front of `row` then, or the first fault:
+/// Reads a line into the front of `row`, and returns how many numbers it has, or the first fault:
 /// `12, 7,305` has three.
 pub fn parse_row(line: &[u8], row: &mut [u32]) -> Result<usize, ListError<LiteralError>>
     ensures { IfOk result (λ count. count ≤ length row.old) }
@@ -204,7 +205,7 @@ pub fn parse_row(line: &[u8], row: &mut [u32]) -> Result<usize, ListError<Litera
     parse_list(Integers::<u32>::new(STANDARD), line, COMMAS_IN_LINE, row)
 }
 
-use digits::{FloatError, Floats, FoldError, LINES, floats_are_apart, fold_stream};
+use digits::{FloatError, Floats, LINES, floats_are_apart};
 use std::io::Read;
 
 /// The sum of the floats of a stream, one in each line. An empty line is an error.
@@ -248,7 +249,7 @@ pub fn first_above<R: Read + Drop>(
 
 use digits::{FloatLayout, MOST_ROOM, write_float, write_number, write_price};
 
-/// The first texts: each call answers how many bytes it has.
+/// Each call returns how many bytes its text has.
 pub fn first_texts() {
     let mut out = [0; MOST_ROOM];
     let height = write_number(-128i8, &mut out); // 4: `&out[..4]` is `-128`
@@ -284,12 +285,12 @@ pub const COMMA_DIGITS: u128 = (10 << 104) | (0x2c << 64) | INTEGER_INTERNAL_DIG
 /// Radix 16, and `'` between two digits: `ff'ff`.
 pub const APOSTROPHES: u128 = (16 << 104) | (0x27 << 64) | INTEGER_INTERNAL_DIGIT_SEPARATOR;
 
-/// The count that a text is: `1,234` gives 1234.
+/// Reads a text as a count: `1,234` is 1234.
 pub fn parse_count(text: &[u8]) -> Result<u64, ParseError> {
     parse_number::<u64>(text, COMMA_DIGITS)
 }
 
-/// The cents of the price that a text is: `1,234.50` gives 123450.
+/// Reads a text as a price, in cents: `1,234.50` is 123450.
 pub fn parse_price(text: &[u8]) -> Result<i64, PriceError> {
     let (cents, end) = read_price_from::<i64>(text, COMMA_DIGITS, 0, b'.', 2)?;
     if end < text.len() {
@@ -332,7 +333,7 @@ pub const COMMA_FLOATS: Form = Form {
     ..forms::FLOAT
 };
 
-/// The float that a text is: `1,5e3` gives 1500.0.
+/// Reads a text as a float: `1,5e3` is 1500.0.
 pub fn parse_comma_float(text: &[u8]) -> Result<f64, NumberError> {
     Ok(parse_number_of::<f64>(text, COMMA_FLOATS)?.to_float())
 }

@@ -7,7 +7,7 @@ ghost use Rattle.digits.specs.Words.{Integer, number_at, rule_of, to_end};
 use digits::words::PYTHON_LITERAL;
 use digits::{ParseError, parse_number};
 
-/// The height that a text is: `-1_000` gives -1000, and `1_000m` gives `Invalid(5)`.
+/// Reads a text as a height: `-1_000` is -1000, and `1_000m` is `Invalid(5)`.
 pub fn parse_height(text: &[u8]) -> Result<i32, ParseError>
     ensures { let r = rule_of PYTHON_LITERAL Integer in
         result ≡ to_end text.now (number_at (2 ^ 31) (2 ^ 31 - 1) r text.now 0) }
