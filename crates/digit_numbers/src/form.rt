@@ -361,8 +361,8 @@ fn are_apart(form: Form) -> bool
 /// The words of the form are supported, its floats are decimal, or hexadecimal with a decimal
 /// exponent, and its marks are no other part of a number, as
 /// [`read_number_of`](crate::read_number_of) requires: the point is no letter, digit, sign or
-/// separator, and a mark of an exponent is a letter that is neither the separator nor the letter of a
-/// prefix that the form has.
+/// separator, and a mark of an exponent is a letter that is neither the separator nor that of a
+/// prefix of the form.
 #[inline(always)]
 pub fn is_form(form: Form) -> bool
     ensures is { IsTrue result → IsForm form }

@@ -7,9 +7,9 @@ ghost use Rattle.lexical_digits.specs.Moves.{IsFresh, outcome_later};
 
 use digit_literals::{Gap, ListRead};
 
-/// A kind of numbers of a text, such as integers of a type by a word. It says how a number
-/// is read, and which bytes one may have. Any other byte ends a number. The bytes beyond it, on
-/// either side, don't change how the number is read.
+/// A kind of numbers of a text, such as integers of a type by a word. It says how one number is
+/// read, and which bytes may be in it. Every other byte ends the number, and nothing beyond that
+/// byte, on either side, changes how it is read.
 pub trait Kind: Copy {
     /// A number.
     type Number: Copy;

@@ -5,8 +5,9 @@ ghost use Rattle.digit_pieces.specs.Cuts.{sure_end};
 
 use super::kind::Kind;
 
-/// Returns the position up to which the numbers of a piece are final, whatever follows it: that
-/// after its last byte that no number of the kind has, or 0 if there is none.
+/// Returns the position up to which the numbers of a piece are final: what comes next can't change
+/// a number before it. It is the position after the last byte that no number of the kind has, or 0
+/// if there is none.
 ///
 /// The outcome at each position before it stays, whatever follows the text. From it on every byte
 /// may be in a number, so a number there may go on.

@@ -57,8 +57,8 @@ impl<'b, K: Kind, R: Read> NumberReader<'b, K, R> {
     ghost use Rattle.digit_streams.specs.Streams.{UsesKnown, stream_list};
     ghost use Rattle.digit_streams.specs.Folds.{Folded, IfStopped};
 
-    /// Makes one value of the numbers, up to where the list is over: `step` is given the value so
-    /// far, which is `init` at first, and the next number, and returns the next value. Where it
+    /// Combines the numbers into one value, up to where the list ends. `step` gets the value so
+    /// far, which is `init` at first, and the next number, and returns the next value. If it
     /// returns `None`, the fold stops, as `try_fold` of an iterator does.
     ///
     /// ```text

@@ -274,10 +274,10 @@ impl<'b, K: Kind, R: Read> NumberReader<'b, K, R> {
         next_of(number, end)
     }
 
-    /// Uses the blanks of the gap that are next, and then `byte`, if it is next: whether it was, as
-    /// a bracket before or after the numbers. If it was, then a new list may begin after it, also
-    /// where one was over. If it wasn't, the list stays as it is, and
-    /// [`position`](NumberReader::position) is that of another byte, or of the stream's end.
+    /// Passes the blanks of the gap that are next, and then `byte` if it follows: `Ok(true)` says
+    /// that it did. Use it for a bracket before or after the numbers. After `Ok(true)` a new list
+    /// may begin, also where one had ended. After `Ok(false)` the list stays as it is, and
+    /// [`position`](NumberReader::position) is that of the other byte, or of the stream's end.
     ///
     /// ```text
     /// `[1, 2] x` by `Integers` and `COMMAS`: pass_byte(b'[') is Ok(true), and pass_byte(b']')
@@ -323,12 +323,13 @@ impl<'b, K: Kind, R: Read> NumberReader<'b, K, R> {
         self.find_byte(byte)
     }
 
-    /// Whether the stream is at its end: nothing follows the bytes that the calls used. If
-    /// something does, the error is [`Trailing`](StreamError::Trailing), with the position and the
-    /// reason why no number begins there. After an error it returns that again. Call it after the
-    /// last number: a list may be over before the stream is, as at a letter, or by
-    /// [`LINES`](digit_literals::LINES) at an empty line. The blanks before that place are used:
-    /// `1, 2\n` by [`COMMAS`](digit_literals::COMMAS) is at its end.
+    /// Tests whether anything follows the numbers. On `Ok` the stream is at its end. Otherwise the
+    /// error is [`Trailing`](StreamError::Trailing), with the position of what follows and the
+    /// reason why no number begins there. Call it after the last number, since a list may end
+    /// before the stream does: at a letter, or with [`LINES`](digit_literals::LINES) at an empty
+    /// line. Blanks after the last number don't count: `1, 2\n` with
+    /// [`COMMAS`](digit_literals::COMMAS) is at its end. After an error it returns that error
+    /// again.
     ///
     /// ```text
     /// `1.50` by `Enclosed` in `"` and `LINES`: None; Err(Trailing(0, Some(NoOpening(0))))

@@ -22,11 +22,11 @@ pub enum StreamError<E> {
     Read(ErrorKind),
     /// A position is above `u64::MAX`, or may be: the stream has `u64::MAX` - 1 bytes or more.
     TooLong,
-    /// The numbers are over, and the stream goes on at this position. The second is why no number
-    /// begins there, past the blanks of the gap, with its position in the stream. It is `None` if a
-    /// number begins there, as where only its separator is missing; if one may, since the buffer
-    /// holds no byte that ends it; or if the error's position is above `u64::MAX`. Only `finish`
-    /// and `fold_stream` return it.
+    /// The list has ended, and the stream goes on at this position. `Some(error)` says why no
+    /// number begins there, past the blanks of the gap, with its position in the stream. `None`
+    /// says that a number begins there, as where only its separator is missing; or that one may,
+    /// since the buffer holds no byte that ends it; or that the error's position is above
+    /// `u64::MAX`. Only `finish` and `fold_stream` return it.
     Trailing(u64, Option<E>),
 }
 

@@ -62,9 +62,9 @@ impl LiteralError {
         }
     }
 
-    /// Whether it says that no number begins at `place`. For an unsigned type a sign begins none:
-    /// of `-1` it is `true`. Where one begins and is at fault, as `-;` of an `i32` or one that is
-    /// too large, it is `false`.
+    /// Whether it says that no number begins at `place`. A sign begins no number of an unsigned
+    /// type, so for `-1` as a `u32` it is `true`. If a number begins and is at fault, it is
+    /// `false`: for `-;` as an `i32`, or for a number that is too large.
     #[inline(always)]
     pub fn is_none_at(&self, place: usize) -> bool
         ensures { result ≡ literal_none_at place self.now }
