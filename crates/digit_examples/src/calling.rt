@@ -1,16 +1,16 @@
 //! What CALLING.md says that its own functions and a stream answer.
 
 use digit_uses::calling::{
-    COMMA_DIGITS, Entry, SEMICOLONS, first_above, has_port, parse_entry, parse_price, sum_lengths,
-    sum_of, sum_text,
+    COMMA_DIGITS, Entry, SEMICOLONS, first_above, has_port, line_and_column, parse_entry,
+    parse_price, sum_array, sum_lengths, sum_of, sum_text,
 };
 use digit_uses::proving;
 use digit_uses::sums::sum_list;
 use digits::{
-    COMMAS, FloatError, FoldError, Integers, LINES, ListError, LiteralError, NumberError,
-    NumberReader, ParseError, PriceError, STANDARD, ScaledError, StreamError, forms, parse_float,
-    parse_list, parse_number, parse_number_of, parse_scaled, read_exact_from, read_float,
-    read_grouped_from, read_number, read_number_of, read_price_from, read_scaled_from,
+    COMMAS, EnclosedFoldError, FloatError, FoldError, Integers, LINES, ListError, LiteralError,
+    NumberError, NumberReader, ParseError, PriceError, STANDARD, ScaledError, StreamError, forms,
+    parse_float, parse_list, parse_number, parse_number_of, parse_scaled, read_exact_from,
+    read_float, read_grouped_from, read_number, read_number_of, read_price_from, read_scaled_from,
 };
 
 /// A line with fields of several kinds.
@@ -361,4 +361,28 @@ fn a_sum_of_a_text(rt: HostRuntime) {
     let sum = sum_text(b"80, 443;");
     assert!(rt; matches!(sum, Err(FoldError::Stream(StreamError::Trailing(7, _)))));
     assert!(rt; sum_text(b"18446744073709551615,1") == Err(FoldError::Stopped(22)));
+}
+
+/// The line and the column of a position.
+#[test]
+fn a_line_and_a_column(rt: HostRuntime) {
+    assert_eq!(rt; line_and_column(b"1\n2x", 3), (2, 2));
+    assert_eq!(rt; line_and_column(b"1\n2x", 0), (1, 1));
+    assert_eq!(rt; line_and_column(b"1\n2x\n", 5), (3, 1));
+}
+
+/// An array that is a whole stream.
+#[test]
+fn an_array_of_any_length(rt: HostRuntime) {
+    assert!(rt; sum_array(b"[1, 2.5]\n".as_slice()) == Ok(3.5));
+    assert!(rt; sum_array(b" [ ] ".as_slice()) == Ok(0.0));
+    let open = EnclosedFoldError::NoClosing(7);
+    assert!(rt; sum_array(b"[1, 2.5".as_slice()) == Err(open));
+    let sum = sum_array(b"[1] x".as_slice());
+    assert!(rt;
+        matches!(
+            sum,
+            Err(EnclosedFoldError::Fold(FoldError::Stream(StreamError::Trailing(4, _))))
+        )
+    );
 }

@@ -44,12 +44,38 @@ pub fn parse_trimmed(text: &[u8]) -> Result<i32, ParseError> {
     Ok(number)
 }
 
+use digits::{INTEGER_INTERNAL_DIGIT_SEPARATOR, PriceError, ScaledError, read_price_from};
+
+/// Radix 10, and `,` between two digits: `1,234`.
+pub const COMMA_DIGITS: u128 = (10 << 104) | (0x2c << 64) | INTEGER_INTERNAL_DIGIT_SEPARATOR;
+
+/// Reads a text as a price, in cents: `1,234.50` is 123450.
+pub fn parse_price(text: &[u8]) -> Result<i64, PriceError> {
+    let (cents, end) = read_price_from::<i64>(text, COMMA_DIGITS, 0, b'.', 2)?;
+    if end < text.len() {
+        return Err(PriceError::Number(ScaledError::Invalid(end)));
+    }
+    Ok(cents)
+}
+
 use digits::languages::RUST;
 use digits::{LanguageError, read_literal_as};
 
 /// Reads the literal of Rust at the front of a text, and where its digits end.
 pub fn read_mask(text: &[u8]) -> Result<(u16, usize), LanguageError> {
     read_literal_as::<u16>(text, 0, RUST)
+}
+
+/// The line and the column of a position, both from 1: in `1\n2x` the `x` at 3 has 2 and 2.
+pub fn line_and_column(text: &[u8], at: usize) -> (usize, usize) {
+    let before = text.get(..at).unwrap_or(text);
+    let lines = before.iter().filter(|byte| **byte == b'\n').count();
+    let columns = before
+        .iter()
+        .rev()
+        .take_while(|byte| **byte != b'\n')
+        .count();
+    (lines + 1, columns + 1)
 }
 
 ghost use Rattle.std.specs.Prelude.{◌≤◌, length, IfOk};
@@ -247,6 +273,27 @@ pub fn first_above<R: Read + Drop>(
     Ok(found)
 }
 
+use digits::{EnclosedFoldError, OfForm, numbers_are_apart};
+
+/// The sum of the array of JSON that a stream is, with blanks around it: `[1, 2.5]` gives 3.5.
+pub fn sum_array<R: Read + Drop>(stream: R) -> Result<f64, EnclosedFoldError<NumberError>> {
+    numbers_are_apart(forms::JSON, COMMAS);
+    let mut buffer = [0; 4096];
+    let kind = OfForm::<f64>::new(forms::JSON);
+    let mut numbers = NumberReader::new(stream, &mut buffer, kind, COMMAS);
+    let add = |sum: f64, number: Number<f64>| Some(sum + number.to_float());
+    let sum = numbers.fold_enclosed(b'[', b']', 0.0, add)?;
+    // A `\n` is a blank of `COMMAS`: this passes the blanks after the array, and nothing else.
+    numbers.pass_byte(b'\n').map_err(of_array)?;
+    numbers.finish().map_err(of_array)?;
+    Ok(sum)
+}
+
+/// An error of the stream after the array.
+fn of_array(error: StreamError<NumberError>) -> EnclosedFoldError<NumberError> {
+    EnclosedFoldError::Fold(FoldError::Stream(error))
+}
+
 use digits::{FloatLayout, MOST_ROOM, write_float, write_number, write_price};
 
 /// Each call returns how many bytes its text has.
@@ -277,26 +324,15 @@ pub fn write_grouped(number: i64, out: &mut [u8]) -> Result<usize, NoRoom> {
     write_number_by(number, layout, out)
 }
 
-use digits::{INTEGER_INTERNAL_DIGIT_SEPARATOR, PriceError, ScaledError, read_price_from};
-
-/// Radix 10, and `,` between two digits: `1,234`.
-pub const COMMA_DIGITS: u128 = (10 << 104) | (0x2c << 64) | INTEGER_INTERNAL_DIGIT_SEPARATOR;
+/// Radix 10, and `.` between two digits: `1.234`.
+pub const POINT_DIGITS: u128 = (10 << 104) | (0x2e << 64) | INTEGER_INTERNAL_DIGIT_SEPARATOR;
 
 /// Radix 16, and `'` between two digits: `ff'ff`.
 pub const APOSTROPHES: u128 = (16 << 104) | (0x27 << 64) | INTEGER_INTERNAL_DIGIT_SEPARATOR;
 
-/// Reads a text as a count: `1,234` is 1234.
+/// Reads a text as a count: `1.234` is 1234.
 pub fn parse_count(text: &[u8]) -> Result<u64, ParseError> {
-    parse_number::<u64>(text, COMMA_DIGITS)
-}
-
-/// Reads a text as a price, in cents: `1,234.50` is 123450.
-pub fn parse_price(text: &[u8]) -> Result<i64, PriceError> {
-    let (cents, end) = read_price_from::<i64>(text, COMMA_DIGITS, 0, b'.', 2)?;
-    if end < text.len() {
-        return Err(PriceError::Number(ScaledError::Invalid(end)));
-    }
-    Ok(cents)
+    parse_number::<u64>(text, POINT_DIGITS)
 }
 
 ghost use Rattle.std.specs.Prelude.{IfSome, IsTrue};
