@@ -10,8 +10,9 @@ import shown
 import sources
 from clauses import SAID
 from door_texts import (ANCHORED, CONDITIONS, DERIVED, ELSEWHERE, FIRST, FIRST_FORMS, FOR_LIBRARY,
-                        GROUPS, HALVES, HEAD, HIDDEN, IMPLS, INDEX, METHODS, MORE, MORE_HEAD, NOTES,
-                        ROOM, TABLED, TABLES, TAIL, TOLD, UNNAMED, VALUES, WORDS_HEAD)
+                        GROUPS, HALVES, HEAD, HIDDEN, IMPLS, INDEX, LAW, LAWS, LAWS_HEAD, METHODS,
+                        MORE, MORE_HEAD, NOTES, ROOM, TABLED, TABLES, TAIL, TOLD, UNNAMED, VALUES,
+                        WORDS_HEAD)
 from layout import (anchor_of, declaration_of, filled, first_sentence, signature_of, text_of,
                     use_of)
 from sources import DOOR, dedent, slug_of
@@ -349,18 +350,16 @@ class Door:
         return text_of([*WORDS_HEAD.rstrip().split("\n"), *itertools.chain(*parts)])
 
     def index(self):
-        """Each name of the page, by its letters, with a link to its entry or to the page of its library."""
-        parts = {"Calls": [], "Types": [], "Constants and modules": []}
+        """A table of each name of the page by its letters, with a link to its entry or to the page of its
+        library, and half a line."""
+        rows = []
         for name in sorted(names(), key=str.lower):
             item = self.item(self.items[name][0], name)
-            part = ("Calls" if item.kind == "fn" else "Types" if item.kind in ("struct", "enum", "trait")
-                    else "Constants and modules") if item else "Constants and modules"
             there = f"#{self.slugs[f'`{name}`']}" if f"`{name}`" in self.slugs else self.page_of(name)
-            parts[part].append(f"[`{name}`]({there})")
-        lines = ["", f"## {INDEX}"]
-        for part, links in parts.items():
-            lines += ["", f"**{part}:** {', '.join(links)}"]
-        return lines
+            text = plain(self.text(name, item)).partition("\n")[0]
+            half = HALVES.get(name) or half_of(first_sentence([text]))
+            rows.append((f"[`{name}`]({there})", half.replace("…", LAW)))
+        return ["", f"## {INDEX}", *rows_of(("Name", "What it is"), rows)]
 
     def write(self):
         have = names()
@@ -374,9 +373,12 @@ class Door:
         for group, (*_, names_of) in GROUPS.items():
             entries = [it for it in names_of.split() if it in self.items and it not in TABLED]
             lines += [*self.section(group), *itertools.chain(*map(self.lines_of, entries))]
-        lines += [f"## {ELSEWHERE}", "", MORE_HEAD, "", "| Name | What it is |", "|---|---|",
-                  *self.rows(MORE)]
-        lines += ["", *TAIL.split("\n"), *self.index()]
+        laws = [it for it in MORE if HALVES.get(it, "").startswith(("…", LAW))]
+        for heading, text, names_of in ((LAWS, LAWS_HEAD, laws),
+                                        (ELSEWHERE, MORE_HEAD, [it for it in MORE if it not in laws])):
+            lines += [f"## {heading}", "", text, "", "| Name | What it is |", "|---|---|",
+                      *self.rows(names_of), ""]
+        lines += [*TAIL.split("\n"), *self.index()]
         return text_of("\n".join(lines).split("\n"))
 
 

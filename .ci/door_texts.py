@@ -342,6 +342,10 @@ NOTES = {
         | `COMMAS` | the comma; a line feed alone is a blank, and isn't enough |
         | `WHITESPACE` | one blank |
         | any | a byte that no number has and that is no blank of the gap, or the end of the stream |""",
+    "NumberReader::finish": """
+        After `fold_enclosed` and `pass_byte` the blanks that follow do count. If a line feed is a blank of the
+        gap, `pass_byte(b'\\n')` passes them first ([an array of any
+        length](../../CALLING.md#an-array-of-any-length)).""",
     "NumberReader::fold_numbers": """
         After `Stopped` the next call goes on behind the number that stopped it. The value is lost.""",
     "is_form": """
@@ -630,5 +634,10 @@ ANCHORED = ("Rule",)
 # How long the half line of a name may be.
 ROOM = 84
 MORE_HEAD = """\
-These are in `digits` too. Their entries are on the pages of their libraries. The last eight are laws, which \
-[streams](#streams) and pieces need."""
+These are in `digits` too. Their entries are on the pages of their libraries."""
+# The laws that a function over a stream begins with: the heading, its text, and what the first says.
+LAWS = "Laws of streams and pieces"
+LAWS_HEAD = """\
+A function over a stream or over pieces begins with one of these ([why](#streams)): for example \
+`floats_are_apart(STANDARD, LINES);`. It does nothing when the program runs."""
+LAW = "No byte of the gap is in a number"

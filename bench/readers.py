@@ -76,9 +76,12 @@ can't put it into its caller's loop."""
 
 
 def nanoseconds(row):
-    """The least time of each reader of a row, with a star where it does less."""
+    """The time of each reader of a row, in the run in which this library does worse, with a star where a
+    reader does less."""
     sides = rows()[row]
-    times_of = [f"{min(sides[it]):.1f}{'*' if lacks(row, it) else ''}" if it in sides else "–"
+    mine, _ = slower_run(row, sides)
+    run = sides[LIBRARY].index(mine)
+    times_of = [f"{sides[it][run]:.1f}{'*' if lacks(row, it) else ''}" if it in sides else "–"
                 for it in (LIBRARY, f"{LIBRARY}, from C", *PEERS.values())]
     return [SHOWN[row], *times_of]
 
@@ -86,21 +89,26 @@ def nanoseconds(row):
 def readme():
     """What README.md has between its comments: the times beside those of others, gain and loss."""
     door = f"{LIBRARY}, from C"
-    shown = table("Nanoseconds for one number, on one core of a Xeon, in the better of two runs. The number is a whole "
-                  "text, or a number of JSON. A star marks a reader that gets the last bits of some floats wrong, a dash what "
-                  "wasn't timed.",
+    shown = table("Nanoseconds for one number, which is a whole text or a number of JSON, on one core of a Xeon; of "
+                  "two runs the one that is worse for `digits`. `*`: rounds some floats wrongly. –: not timed.",
                   ["", "digits, from Rattle", "digits, from C++", *PEERS], map(nanoseconds, SHOWN))
     return "\n".join(shown) + f"""
-Of the readers that do the same work `digits` is the fastest in {fastest()} kinds of input from Rattle, and in \
-{fastest(door)} from C++ ([picture](docs/times.svg)). If it also returns where the number ends, it is in \
-{fastest(READ)}.
+Among the readers that do the same work `digits` is the fastest for {fastest()} kinds of input from Rattle, and for \
+{fastest(door)} from C++ ([picture](docs/times.svg)). Where the end of the number is asked for, too, it is the \
+fastest for {fastest(READ)} from Rattle.
 
-- **You gain** most with 8 to 19 digits, groups and hexadecimal digits, down to {least(ratios(INTEGERS))} times the time \
-of the next reader; and where you write a price, {times("%.2f, prices", "%.2f, 3 digits")} times.
-- **You lose** where you write integers of up to 4 digits ({times("u64, 3 digits", "u64, 1 to 4")} times lexical-core's \
-time), `%.2f` of numbers up to 1e22 ({times("%.2f, in [0, 1e22)")} times that of `to_chars`), and `%.6e` \
-({times("%.6e, coordinates", "%.6e, 3 digits")} times for coordinates, {times("%.6e, random bits")} for floats of any \
-size, as it works with all exact digits). Floats in groups and iterators over digits are slower, too.
+**You gain** most with 8 to 19 digits, with groups and with hexadecimal digits: down to {least(ratios(INTEGERS))} of the \
+time of the next reader. To write a price takes {times("%.2f, prices", "%.2f, 3 digits")} of the time of `to_chars`.
+
+**You lose** here, beside the fastest other library:
+
+| What | Times as long |
+|---|---|
+| write an integer of up to 4 digits | {times("u64, 3 digits", "u64, 1 to 4")} |
+| write `%.2f` of numbers up to 1e22 | {times("%.2f, in [0, 1e22)")} |
+| write `%.6e` of coordinates | {times("%.6e, coordinates", "%.6e, 3 digits")} |
+| write `%.6e` of floats of any size: it computes every digit | {times("%.6e, random bits")} |
+| read floats in groups, loop over digits by an iterator | [by how much](docs/SPEED.md#where-you-lose) |
 
 The others are those of Debian 12: fast_float 3.9.0 (of C++), lexical-core 0.7.6, serde_json 1.0.87, simdjson 3.0.1. \
 Newer ones, the crate fast-float and `digits-sys` weren't timed. [SPEED.md](docs/SPEED.md) has every kind of input, and \

@@ -20,8 +20,8 @@ use std::fmt;
 pub enum PriceError {
     /// Why no amount was read.
     Number(ScaledError),
-    /// The group of digits that begins at this position hasn't three, or as the first one of its
-    /// integer not one to three.
+    /// The group of digits that begins at this position has a wrong length. The first group of an
+    /// integer has one to three digits, and each other one three.
     Group(usize),
     /// The number that ends at this position has fewer places, or more.
     Places(usize),

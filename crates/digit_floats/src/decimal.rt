@@ -21,8 +21,8 @@ pub struct Decimal {
     pub value: u64,
     /// How many digits follow those of the value.
     pub dropped: usize,
-    /// The exponent that is written, more by each digit that was dropped, and less by each that
-    /// follows the point; or the end of `i64` nearest to it.
+    /// The power of ten of `value`: the exponent that is written, less one for each digit after the
+    /// point, and one more for each that was dropped; or the end of `i64` nearest to it.
     pub exponent: i64,
 }
 

@@ -10,10 +10,10 @@ use std::fmt;
 /// Why no float was read. A position counts bytes from the start of the text, from 0.
 #[derive(Clone, Copy, Debug, PartialEq, Eq)]
 pub enum FloatError {
-    /// Neither integer nor fraction has a digit. The position is after a sign and a point, if there
-    /// are any: of `-.` it is 2.
+    /// There is no digit on either side of the point. The position is after the sign and the point,
+    /// if they are there: in `-.` it is 2.
     Empty(usize),
-    /// No digit follows the mark of an exponent; one would be here.
+    /// An exponent has no digit. One has to be at this position, after its mark and its sign.
     EmptyExponent(usize),
     /// The byte at this position is no part of the float.
     Invalid(usize),

@@ -24,7 +24,7 @@ use lexical_digits::skip::Component;
 pub struct Marks {
     /// Between integer and fraction.
     pub point: u8,
-    /// Before an exponent. Of a letter in lower case the upper case marks too.
+    /// Before an exponent. If it is a lower-case letter, the upper-case one marks it, too.
     pub exponent: u8,
 }
 
@@ -373,9 +373,9 @@ impl Power {
     }
 }
 
-/// Reads an exponent, if its mark is at this position: without a mark it is 0 and ends here. The
-/// error is where a digit would be: none follows the mark, and a sign after it. Requires that the
-/// word is supported, and that its exponent is decimal.
+/// Reads an exponent if its mark is at this position; without a mark it is 0, and ends here. If no
+/// digit follows the mark and its sign, the error is the position where it is missing: 2 in `1e;`.
+/// Requires that the word is supported, and that its exponent is decimal.
 #[inline(always)]
 #[tactic(auto, unfolding(crate::specs::Float::exponents))]
 pub fn read_exponent(text: &[u8], word: u128, at: usize, mark: u8) -> Result<Power, usize>

@@ -22,9 +22,9 @@ pub trait NoNumber: Copy {
     fn fault_at(self) -> usize
         ensures { result ≡ fault_at self };
 
-    /// Whether it says that there is no digit, or by a form no number. Of two numbers: whether the
-    /// error of the first says so. Of a number between two bytes: whether the first of these isn't
-    /// there.
+    /// Whether nothing was there: no digit, or for a form no number. For two numbers, whether the
+    /// error of the first says so. For a number between two bytes, whether the first byte is
+    /// missing.
     fn is_empty(self) -> bool
         ensures { result ≡ is_empty self };
 }

@@ -90,9 +90,9 @@ fn put_list<T: Written>(numbers: &[T], separator: u8, out: &mut [u8]) -> usize
     at
 }
 
-/// Writes integers with a byte between two of them. `parse_list` reads them back by a word of radix
-/// 10 and a gap by which this byte separates, if no byte of the gap can be in a number. An empty
-/// list needs a gap that may trail.
+/// Writes integers with a byte between two of them. `parse_list` reads them back if its word has
+/// radix 10, its gap has this byte as a separator, and no byte of the gap can be in a number. An
+/// empty list needs a gap that may trail.
 ///
 /// The call puts them at the front of a slice, in decimal, and returns how many bytes that takes.
 /// Of no number there is no byte. `IsListReadBy` says which words and gaps read the list: by them

@@ -14,8 +14,8 @@ pub struct DigitSeparatorFlags {
     pub internal: bool,
     /// Drops leading separators: no digit was read before, and no other separator is beside it.
     pub leading: bool,
-    /// Drops trailing separators: neither a digit nor another separator follows, and no separator
-    /// is before it unless a digit was read.
+    /// Drops trailing separators: neither a digit nor another separator follows. If no digit was
+    /// read yet, there is no separator before it, either.
     pub trailing: bool,
     /// Judges a run of separators as one separator. By itself it drops nothing.
     pub consecutive: bool,
