@@ -24,15 +24,15 @@ GROUPS = {
         parse_float parse_float_from | Read a whole text, or from `start` on to its end
         read_float read_float_from | Read the float at the front, or at `start`, and return where it ends
         round_integer | Rounds an integer to the nearest float""", """
-        `-1.5e3` is read as -1500.0: as the nearest `f64` or `f32`, and at a tie as the even one. A number that is
-        too large becomes infinite, and one that is too small 0. This is the grammar, where `D` is a digit:
+        `-1.5e3` is read as -1500.0. The result is the nearest `f64` or `f32`, and the even one at a tie. A
+        number that is too large becomes infinite; one that is too small becomes 0. This is the grammar, where `D` is a digit:
 
         ```text
         [+-]? (D+ (. D*)? | . D+) ([eE] [+-]? D+)?
         ```
 
-        Among the digits may be separators that the word [drops](#words). `inf` and `nan` are refused; to read them,
-        take `forms::RUST_PARSE` ([numbers by a form](#numbers-by-a-form)).""", """
+        Separators that the word [drops](#words) may be among the digits. `inf` and `nan` are refused; to read
+        them, use `forms::RUST_PARSE` ([numbers by a form](#numbers-by-a-form)).""", """
         parse_float parse_float_from read_float read_float_from round_integer Float FloatError"""),
     "Numbers by a form": ("""
         parse_number_of | Reads a whole text: `-1.5e3` of JSON
@@ -44,13 +44,13 @@ GROUPS = {
         parse_scaled | Reads a whole text: `12.5` is 1250 cents
         read_scaled_from | Reads the amount at `start`
         read_scaled_up_to | … without a sign, up to a limit of yours
-        read_exact_from | … with exactly so many places: `12.50`, not `12.5`
+        read_exact_from | … with exactly `places` decimal places: `12.50`, not `12.5`
         read_grouped_from | … in groups of three: `1,234.5`
         read_price_from | … with both: `1,234.50`
         read_decimal_from read_decimal_of | Read digits and a power of ten, before rounding""", """
-        An amount is an exact integer that counts its last place: with 2 places `12.5` is 1250. No float is on the
-        way. A sign is read if the type is signed. Only `parse_scaled` takes a whole text; after another call compare
-        the end with `text.len()`.""", """
+        With 2 decimal places `12.5` is 1250: an amount is an exact integer, in units of the last place. No
+        float is involved. If the type is signed, a sign is read. Only `parse_scaled` reads a whole text;
+        after the other calls compare the end with `text.len()`.""", """
         parse_scaled read_scaled_from read_scaled_up_to read_exact_from read_grouped_from read_price_from
         read_decimal_from read_decimal_of Decimal ScaledError PriceError"""),
     "Literals of a language": ("""
@@ -66,7 +66,7 @@ GROUPS = {
     "Bytes between numbers": ("""
         byte_at has_byte has_bytes | Look at a position
         expect_byte expect_bytes | Return the position after a byte or bytes, or an error
-        past_bytes | Passes blanks, or any other set
+        past_bytes | Skips blanks, or any other set of bytes
         name_end | Returns where a suffix ends: the `px` of `10px`""", "", """
         byte_at has_byte has_bytes expect_byte expect_bytes past_bytes name_end ByteSet"""),
     "Lists": ("""
@@ -83,8 +83,8 @@ GROUPS = {
         (read.count, read.end) // (2, ListEnd::Over(6))
         ```
 
-        The numbers go into the front of a slice that you lend. `COMMAS` is a [gap](#gaps): what is between
-        two numbers. `count` says how many came, and `end` why no more:
+        The call writes the numbers to the front of your slice. `COMMAS` is a [gap](#gaps): it says what is
+        between two numbers. `count` says how many numbers were read, and `end` why reading stopped:
 
         | `end` | It says | What you do |
         |---|---|---|
@@ -92,8 +92,8 @@ GROUPS = {
         | `Full(at)` | the slice is full, and the next number may begin at `at` | call again from `at` |
         | `Fault(error)` | a number is missing where one is required, as after a comma, or one begins and is refused | report it |
 
-        `Full` after a number says that a separator follows it, and not that another number does. `parse_list`
-        looks for that number. Into a slice of two elements:
+        `Full` after a number says that a separator follows it, not that another number does. `parse_list`
+        does look for that number. With a slice of two elements:
 
         | Text | Gap | `end` |
         |---|---|---|
@@ -101,8 +101,8 @@ GROUPS = {
         | `80, 443, 8` | `COMMAS` | `Full(8)`, after the second comma |
         | `80\\n443\\n` | `LINES` | `Full(7)`: the call from 7 on returns no number, and `Over(7)` |
 
-        Blanks of the gap are skipped. After a fault the slice has the numbers before it. With `LINES` and the other
-        gaps that may trail, a separator may be last, and a list may be empty: for `x` the `end` is `Over(0)`. But for
+        Blanks of the gap are skipped. After a fault the slice has the numbers before it. With `LINES`,
+        `WHITESPACE` and `SPACES_IN_LINE` a separator may come last, and a list may be empty: for `x` the `end` is `Over(0)`. But for
         `300` as a `u8`, and for `-` as an `i8`, it is a `Fault`, since a number begins there.""", """
         read_list read_float_list read_list_of read_list_by read_items parse_list read_enclosed ListRead
         ListEnd ListError EnclosedError"""),
@@ -115,8 +115,8 @@ GROUPS = {
         | `WHITESPACE` | one blank or more | yes | `1 2\\n3\\n` |
         | `SPACES_IN_LINE` | one space or tab, or more | yes | `1 2 3` |
 
-        By `LINES` an empty line is no number: the list `80\\n\\n443\\n` ends at 3. To pass over empty
-        lines, take `WHITESPACE`, by which a space separates, too.
+        With `LINES` an empty line ends the list: `80\\n\\n443\\n` ends at 3. To skip empty lines, use
+        `WHITESPACE`; then a space separates, too.
 
         `BLANKS` are space, tab, line feed and carriage return. `SPACES` are space and tab. For another
         separator, such as `;`, write a [`Gap`](#gap).""", """
@@ -161,10 +161,10 @@ GROUPS = {
         greatest // 12
         ```
 
-        The first line is yours to write, and no call reminds you of it. A stream comes in pieces: if the gap has a
-        byte that may also be in a number, as `COMMAS` has the comma of `1,234`, a number may be split where a piece
-        ends. The line does nothing at run time. It makes `rt check` refuse a constant word and gap that don't go
-        together. Each kind has its own:
+        Don't forget the first line: `rt check` doesn't ask for it. It makes `rt check` refuse a constant word
+        and gap that don't go together, such as `COMMAS` and a word that reads `1,234`. A stream comes in
+        pieces, and with these a number may be split where a piece ends. At run time the line does nothing.
+        Each kind has its own:
 
         | Numbers | The line |
         |---|---|
@@ -199,12 +199,13 @@ GROUPS = {
         write_list | Writes integers with a byte between them: `80,-1,443`
         write_scaled write_price | Write cents: `-12.50`; `1,234.50`
         write_float | Writes a float with the fewest digits: `0.1`
-        write_fixed write_scientific | … with so many places, as `%.2f`, `%.6e`
+        write_fixed write_scientific | … with a given number of decimal places, like `%.2f` and `%.6e`
         write_number_of write_float_of write_integer_of | Write a number by a form
         write_plain write_usual write_exponent | Write digits and a power of ten""", """
-        A call puts the text at the front of `out`, and returns its length. The bytes behind it stay as they
-        were. Without room nothing is written, and the error has the length that is needed. `write_number`
-        has no error: lend it `[0; MOST_ROOM]`. `Written` is any type of integers, `AnyFloat` `f64` or `f32`.
+        A call writes the text to the front of `out`, and returns its length. The bytes after the text stay as
+        they were. If `out` is too short, the call writes nothing, and the error has the length that is
+        needed. `write_number` can't fail: pass it a `[0; MOST_ROOM]`. `Written` is any integer type;
+        `AnyFloat` is `f64` or `f32`.
 
         | You write | Bytes of `out` that are always enough |
         |---|---|
@@ -237,9 +238,8 @@ GROUPS = {
         reads](../RULES.md#words-with-names)), write a constant from its parts, or make one at run time with the
         [builder](#numberformatbuilder).
 
-        A separator that is dropped is skipped, and the number goes on. One that is kept is a byte like any
-        other, and ends the number: by `PYTHON_LITERAL` the `_` of `1_0` is dropped, and those of `1__0` are
-        kept.
+        A separator that a word drops is skipped. One that it keeps is a byte like any other, and ends the
+        number: with `PYTHON_LITERAL` the `_` of `1_0` is dropped, and those of `1__0` are kept.
 
         A constant is `radix << 104 | separator << 64 | flags`, with `exponent_radix << 120` if that radix is
         another. Test what the builder makes with `is_supported`. A flag of a component is a bit:
@@ -303,18 +303,18 @@ METHODS = {"NumberReader": """
 # What an entry says beside the doc comment.
 NOTES = {
     "read_exactly": """
-        `Empty` holds the position of the first of the `n` bytes that isn't a digit, or the end of the text. You may
-        give any `start`, radix and `n`. If `start` is after the end of the text, `Empty` holds `start`. If `n` is 0,
-        the number is 0, for any `start`. Radix 0 has no digit, and radix 1 only `0`; a radix above 36 has the digits
-        of 36.""",
+        `Empty` holds the position of the first byte that should be a digit and isn't, or the end of a text
+        that is too short. Any `start`, radix and `n` are allowed. For a `start` after the end of the text,
+        `Empty` holds `start`. If `n` is 0, the number is 0, for any `start`. Radix 0 has no digit, radix 1
+        only `0`, and a radix above 36 has the digits of radix 36.""",
     "read_at_most": "Any `start`, radix and `n` may be given, too. With an `n` of 0 it returns `Empty`.",
-    "count_digits": "Of an empty text it returns 0.",
+    "count_digits": "For an empty text it returns 0.",
     "LiteralError": """
         `is_none_at` distinguishes a missing number from a bad one. [`read_optional`](#read_optional) does
         that for you.""",
     "read_optional": """
         For an unsigned type no number begins with a sign: a `u32` at `-1` is `None`, and a list of `u32` over
-        `1\\n-2\\n` by `LINES` ends with `Over(2)`. To make that an error, look for the sign with
+        `1\\n-2\\n` with `LINES` ends with `Over(2)`. To make that an error, look for the sign with
         [`has_byte`](#has_byte), or read a signed type.""",
     "read_grouped_from": "The word `GROUPS` is written [from its parts](#words).",
     "read_price_from": "The words `GROUPS` and `DOTS` are written [from their parts](#words).",
@@ -333,8 +333,8 @@ NOTES = {
         - **The buffer** needs the longest number, the longest run of blanks after it, and one byte. Otherwise a
         call returns [`NoRoom`](#streamerror). 4096 bytes are enough if a number and the blanks
         after it have at most 4095.
-        - **To use the reader later**, give a `&mut reader`. It then stands after the bytes of
-        [`unread`](#numberreaderunread): use those first.""",
+        - **To go on with the reader afterwards**, pass `&mut reader` to `new`. The bytes of
+        [`unread`](#numberreaderunread) have already been taken from it: use those first.""",
     "NumberReader::next_number": """
         | Gap | It returns the 12 of `12` once it has read |
         |---|---|
@@ -347,26 +347,28 @@ NOTES = {
         gap, `pass_byte(b'\\n')` passes them first ([an array of any
         length](../../CALLING.md#an-array-of-any-length)).""",
     "NumberReader::fold_numbers": """
-        After `Stopped` the next call goes on behind the number that stopped it. The value is lost.""",
+        After `Stopped` the value is lost. The next call continues after the number at which `step` returned
+        `None`.""",
     "is_form": """
         It returns `false` if
 
-        - a word of the form isn't supported, or its decimal word has another radix than 10
+        - a word of the form isn't supported, or its decimal word has a radix other than 10
         - the point is a letter, a digit, a sign or the separator
         - a mark of an exponent isn't a letter, is the separator, or is the letter of a prefix that the form has
-        - hexadecimal floats have another radix than 16, or their exponent another one than 10""",
+        - hexadecimal floats have a radix other than 16, or their exponent a radix other than 10""",
     "read_enclosed": """
-        Any `start` may be given. Blanks of the gap may be inside both brackets. `BracketError` is the error of
-        one number in brackets, the kind [`Enclosed`](#enclosed).""",
+        Any `start` is allowed. The gap's blanks may follow the opening byte and precede the closing one. For
+        one number in brackets use the kind [`Enclosed`](#enclosed).""",
     "Enclosed": """
-        It is one number, and its error `BracketError`. A list in brackets is [`read_enclosed`](#read_enclosed),
-        and its error `EnclosedError`.""",
+        `Enclosed` reads one number, and its error is `BracketError`. For a list in brackets call
+        [`read_enclosed`](#read_enclosed), whose error is `EnclosedError`.""",
     "NoNumber": "`BothError` and `BracketError` have no `position()`: call `fault_at()`.",
     "Layout": """
         `grouped` returns an `Option`. If its arguments are constants, the prover sees that it is `Some`, and you write
         `let Some(layout) = Layout::decimal().grouped(b',', 3) else { unreachable!() };`.
 
-        Every layout is valid, and you prove nothing: a ghost field, which the methods fill, holds the proof.""",
+        You prove nothing: every layout is valid. A ghost field, which the methods fill, holds the proof of
+        that.""",
     "DigitSeparatorFlags": """
         | Flag | It drops the `_` of | With `consecutive` also those of |
         |---|---|---|
@@ -459,11 +461,11 @@ LINES
 
 **Terms**
 
-- A **word** says how digits are written: `STANDARD` reads `1000`, `PYTHON_LITERAL` also `1_000`. A separator that a \
-word *drops* is allowed there, and skipped. Any other is *kept*: the number ends before it.
+- A **word** says how digits are written: `STANDARD` reads `1000`, `PYTHON_LITERAL` also `1_000`. Where a \
+word *drops* a separator, the separator is allowed and skipped. Where it *keeps* the separator, the number ends before it.
 - A **form** is a whole grammar, such as `forms::JSON`.
-- A **language** reads integers with their prefixes: `languages::RUST` reads `255` and `0xff`. `forms::RUST` is \
-another thing, and reads floats, too.
+- A **language** reads integers with their prefixes: `languages::RUST` reads `255` and `0xff`. Don't confuse \
+it with `forms::RUST`, which reads floats, too.
 - A **kind** says which numbers a list or a stream has, a **gap** what is between two of them.
 
 **Calls**
@@ -472,8 +474,8 @@ another thing, and reads floats, too.
 writes a number into your slice, and returns its length ([names and arguments](#names-and-arguments)).
 - A text is a `&[u8]`. Positions count its bytes from 0. The error of one number holds the position of its \
 fault ([errors](#errors)).
-- A call for one number skips no blanks: pass them with [`past_bytes`](#past_bytes). Lists and streams skip \
-those of their gap.
+- A call for one number skips no blanks: skip them with [`past_bytes`](#past_bytes). Lists and streams skip \
+the blanks of their gap.
 - No call panics or allocates.
 
 **Entries**
@@ -486,7 +488,8 @@ pages of their own.
 - Types derive `Copy`, `Debug`, `PartialEq` and `Eq`, and errors have `Display` and `Error`, unless their \
 entry says otherwise.
 
-[CALLING.md](../../CALLING.md) has whole functions, and at the end of this page are [all names](#all-names) by their letters.
+[CALLING.md](../../CALLING.md) has whole functions. This page ends with an alphabetical list of \
+[all names](#all-names).
 """
 
 # The heading of the list of all names.
@@ -499,28 +502,28 @@ TAIL = f"""## Names and arguments
 |---|---|
 | `_from` | it begins at a `start`. Without it `parse_` calls, `read_number`, `read_float` and \
 `read_integer` begin at 0. Every other `read_` call takes a position, too |
-| `_of` | by a form, except `decimal_of` |
-| `_as` | by a language, as a number of your type |
-| `_by` | by a kind or a layout |
+| `_of` | with a form, except `decimal_of` |
+| `_as` | with a language, as a number of your type |
+| `_by` | with a kind or a layout |
 
 | A call reads | Its arguments | For example |
 |---|---|---|
-| a number by a word | `(text, word, start, ..)` | `read_number_from(text, STANDARD, 5)` |
-| a list by a word or a form | `(text, start, word or form, gap, out)` | `read_list(text, 0, STANDARD, \
+| a number with a word | `(text, word, start, ..)` | `read_number_from(text, STANDARD, 5)` |
+| a list with a word or a form | `(text, start, word or form, gap, out)` | `read_list(text, 0, STANDARD, \
 COMMAS, &mut out)` |
-| a component by a word | `(text, word, component, start, ..)` | `stop_from(text, STANDARD, \
+| a component with a word | `(text, word, component, start, ..)` | `stop_from(text, STANDARD, \
 Component::Fraction, 2)` |
 | a number of a kind, or several | `(kind, text, start, ..)` | `read_list_by(kind, text, 0, COMMAS, &mut out)` |
 | a stream | `(reader, buffer, kind, gap, ..)` | `fold_stream(file, &mut buffer, kind, LINES, 0, add)` |
 | anything else | `(text, start, ..)` | `read_number_of(text, 0, forms::JSON)` |
 
-In `prefix_word` the language goes before `text`. A call that writes takes the number first. `out` is last. The bound \
-`Drop` lets a call drop what you gave it.
+`prefix_word` takes the language before `text`. A call that writes takes the number first. `out` is always last. The \
+bound `Drop` lets a call drop what you passed to it.
 
 ## What you prove
 
-`rt check` refuses a call if the prover can't see what `// you prove` names. Nothing tests it at run time. \
-Mostly you write nothing for it:
+`rt check` refuses a call if the prover can't see that the conditions after `// you prove` hold. Nothing tests them \
+at run time. Usually you don't have to write anything:
 
 - A constant word, form, language or kind is valid. The prover sees that with [one \
 attribute](../../CALLING.md#set-up) in your `lib.rt`: \
@@ -583,10 +586,10 @@ What `Empty` says differs by the type of the error:
 | Type | `Empty(at)` says |
 |---|---|
 | [`ParseError`](#parseerror) | the text ends at `at`, where a digit is required; if another byte is there, it is `Invalid` |
-| [`LiteralError`](#literalerror), [`LanguageError`](#languageerror) | at `at` is no digit |
-| [`FloatError`](#floaterror), [`ScaledError`](#scalederror) | up to `at`, after a sign and a point, is no digit: \
-from `.` it is 1 |
-| [`NumberError`](#numbererror) | at `at`, after a sign, no number of the form begins |
+| [`LiteralError`](#literalerror), [`LanguageError`](#languageerror) | there is no digit at `at` |
+| [`FloatError`](#floaterror), [`ScaledError`](#scalederror) | there is no digit before `at`, which is after \
+any sign and point: for `.` it is 1 |
+| [`NumberError`](#numbererror) | no number of the form begins at `at`, which is after any sign |
 
 Only `parse_` calls return `Invalid`: a `read_` call for one number leaves what follows it to you.
 """

@@ -89,13 +89,13 @@ def nanoseconds(row):
 def readme():
     """What README.md has between its comments: the times beside those of others, gain and loss."""
     door = f"{LIBRARY}, from C"
-    shown = table("Nanoseconds for one number, which is a whole text or a number of JSON, on one core of a Xeon; of "
-                  "two runs the one that is worse for `digits`. `*`: rounds some floats wrongly. –: not timed.",
+    shown = table("Nanoseconds a number, on one core of a Xeon, in the worse of two runs for `digits`. Each number is a "
+                  "whole text or a JSON number. `*`: rounds some floats wrongly. –: not timed.",
                   ["", "digits, from Rattle", "digits, from C++", *PEERS], map(nanoseconds, SHOWN))
     return "\n".join(shown) + f"""
 Among the readers that do the same work `digits` is the fastest for {fastest()} kinds of input from Rattle, and for \
-{fastest(door)} from C++ ([picture](docs/times.svg)). Where the end of the number is asked for, too, it is the \
-fastest for {fastest(READ)} from Rattle.
+{fastest(door)} from C++ ([picture](docs/times.svg)). With the calls that also return where the number ends, it \
+is the fastest for {fastest(READ)} from Rattle.
 
 **You gain** most with 8 to 19 digits, with groups and with hexadecimal digits: down to {least(ratios(INTEGERS))} of the \
 time of the next reader. To write a price takes {times("%.2f, prices", "%.2f, 3 digits")} of the time of `to_chars`.
@@ -110,6 +110,6 @@ time of the next reader. To write a price takes {times("%.2f, prices", "%.2f, 3 
 | write `%.6e` of floats of any size: it computes every digit | {times("%.6e, random bits")} |
 | read floats in groups, loop over digits by an iterator | [by how much](docs/SPEED.md#where-you-lose) |
 
-The others are those of Debian 12: fast_float 3.9.0 (of C++), lexical-core 0.7.6, serde_json 1.0.87, simdjson 3.0.1. \
+The other readers are Debian 12's: fast_float 3.9.0 (for C++), lexical-core 0.7.6, serde_json 1.0.87, simdjson 3.0.1. \
 Newer ones, the crate fast-float and `digits-sys` weren't timed. [SPEED.md](docs/SPEED.md) has every kind of input, and \
 how to call so that it is fast."""

@@ -89,8 +89,8 @@ fn power_of(places: u32) -> i32
     -(places as i32)
 }
 
-/// Writes a finite float with so many places, as C's `%.2f`. It is rounded once, from its exact
-/// value, at a tie to the even digit. It needs at most 311 + `places` bytes.
+/// Writes a finite float with `places` decimal places, like C's `%.2f`. Its exact value is rounded
+/// once. A tie goes to the even digit. It needs at most 311 + `places` bytes.
 ///
 /// The call puts the text at the front of a slice, and returns its length, or the room that it
 /// needs; what follows the text in the slice stays as it was.

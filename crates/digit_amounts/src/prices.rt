@@ -23,7 +23,7 @@ pub enum PriceError {
     /// The group of digits that begins at this position has a wrong length. The first group of an
     /// integer has one to three digits, and each other one three.
     Group(usize),
-    /// The number that ends at this position has fewer places, or more.
+    /// The number that ends at this position has too few or too many decimal places.
     Places(usize),
 }
 
@@ -38,8 +38,8 @@ impl PriceError {
         }
     }
 
-    /// Whether it says that no number begins at `place`. Then there is no digit, nor a point, nor a
-    /// sign that the type has.
+    /// Whether the error says that no number begins at `place`: no digit, no point, and no sign
+    /// that the type has.
     pub fn is_none_at(&self, place: usize) -> bool
         ensures { result ≡ price_none_at place self.now }
     {

@@ -42,8 +42,8 @@ impl ScaledError {
         }
     }
 
-    /// Whether it says that no number begins at `place`. Then there is no digit, nor a point, nor a
-    /// sign that the type has.
+    /// Whether the error says that no number begins at `place`: no digit, no point, and no sign
+    /// that the type has.
     pub fn is_none_at(&self, place: usize) -> bool
         ensures { result ≡ none_at place self.now }
     {

@@ -5,8 +5,9 @@ ghost use Rattle.digit_blocks.specs.Blocks.{piece_later, reach};
 
 use digit_pieces::{Kind, PieceEnd};
 
-/// Turns the end of a block that begins at `offset` into one of the text: each position is so much
-/// later, also that of a fault. It is `None` if one would be above `usize::MAX`.
+/// Turns the end of a block that begins at `offset` into an end of the whole text: it adds `offset`
+/// to each position, also to that of a fault. It returns `None` if a position would be above
+/// `usize::MAX`.
 ///
 /// ```text
 /// of a block at 100: Fault(Empty(3)) is Fault(Empty(103)), Over(4) is Over(104)

@@ -16,8 +16,7 @@ use super::parts::{Mantissa, Marks, Power, read_parts};
 pub struct Decimal {
     /// Whether it has a minus; so may a zero.
     pub negative: bool,
-    /// The first 19 significant digits as a number. The first that is no zero is the first
-    /// significant one.
+    /// The first 19 significant digits as a number. Leading zeros aren't significant.
     pub value: u64,
     /// How many digits follow those of the value.
     pub dropped: usize,

@@ -29,8 +29,7 @@ impl FloatError {
         }
     }
 
-    /// Whether it says that no float begins at `place`. Then there is no digit, nor a sign or a
-    /// point.
+    /// Whether the error says that no float begins at `place`: no digit, no sign and no point.
     pub fn is_none_at(&self, place: usize) -> bool
         ensures { result ≡ errors.none_at place self.now }
     {

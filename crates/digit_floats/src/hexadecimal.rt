@@ -22,7 +22,7 @@ use lexical_digits::skip::Component;
 /// The hexadecimal digits of integer and fraction, and where they are in their text.
 #[derive(Clone, Copy, Debug, PartialEq, Eq)]
 pub struct HexMantissa {
-    /// How many there are, zeros that lead among them.
+    /// How many digits there are, including leading zeros.
     pub digits: usize,
     /// How many of them follow the point.
     pub places: usize,

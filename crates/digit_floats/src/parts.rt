@@ -121,7 +121,7 @@ pub struct Mantissa {
     /// The first 19 significant ones as a number. The first that is no zero is the first
     /// significant one.
     pub value: u64,
-    /// How many there are, zeros that lead among them.
+    /// How many digits there are, including leading zeros.
     pub digits: usize,
     /// How many of them follow the point.
     pub places: usize,

@@ -169,8 +169,8 @@ pub fn read_float<F: Float>(text: &[u8], word: u128) -> Result<(F, usize), Float
     read_float_from::<F>(text, word, 0)
 }
 
-/// Reads a text from `start` on to its end as a float. The position of a fault is that in the whole
-/// text.
+/// Reads the text from `start` to its end as a float. The position of a fault counts from the start
+/// of the whole text.
 ///
 /// The float is as by [`read_float_from`]. Requires what that does.
 #[inline(always)]

@@ -296,8 +296,8 @@ fn to_the_end<T: Integer>(
     }
 }
 
-/// Reads a text from `start` on to its end as an integer. The position of a fault is that in the
-/// whole text. Requires that `start` is within the text and the word is supported.
+/// Reads the text from `start` to its end as an integer. The position of a fault counts from the
+/// start of the whole text. Requires that `start` is within the text and the word is supported.
 ///
 /// ```text
 /// `x=-1_29` with internal `_`, `parse_number_from::<i8>` from 2: Err(Overflow(6))

@@ -29,9 +29,9 @@ pub enum FirstZero {
     Plain,
     /// The literal is octal. It is read by this word, from the `0` on: `017` is 15.
     Octal(u128),
-    /// The literal ends after it, or is refused: `0` is 0, and `00` and `017` are refused.
+    /// The `0` has to be the whole literal: `0` is 0; `00` and `017` are refused.
     Alone,
-    /// All digits are `0`, or the literal is refused: `00` is 0, and `017` is refused.
+    /// Only zeros may follow it: `00` is 0; `017` is refused.
     Zeros,
 }
 

@@ -150,8 +150,8 @@ fn refuses(language: Language, text: &[u8], start: usize, has_more: bool, has_ot
         }
 }
 
-/// Reads a literal up to `most`: its value, its word, and where its digits are. Requires that
-/// `start` is within the text and the language's words are supported.
+/// Reads a literal whose value is at most `most`, and returns its value, its word and where its
+/// digits are. Requires that `start` is within the text and the language's words are supported.
 ///
 /// It begins at `start`: a prefix that the language has, and then digits as its word says. What
 /// follows, such as a suffix, isn't read.

@@ -21,8 +21,8 @@ pub struct Form {
     pub signed_prefix: bool,
     /// Whether digits without a point and an exponent are an integer or a float.
     pub whole: Whole,
-    /// The byte of the point, and the letter of the exponent. They are no other part of a number:
-    /// see [`is_form`].
+    /// The byte of the point and the letter of the exponent. Neither may be another part of a
+    /// number: see [`is_form`].
     pub marks: Marks,
     /// Another letter of the exponent of a decimal float, such as the `d` of Fortran, if there is
     /// one. A form that has one is read a little slower.
@@ -35,8 +35,8 @@ pub struct Form {
     pub needs_fraction: bool,
     /// What may not follow a point that no digit follows.
     pub after_point: AfterPoint,
-    /// Whether more digits, or separators, may follow the first `0` of a float. Otherwise that `0`
-    /// is a number by itself.
+    /// Whether digits or separators may follow a leading `0` of a float, as in `00.5`. Otherwise
+    /// the number is that `0` alone.
     pub float_zeros: bool,
     /// The values that have a name, such as `inf`, if there are any.
     pub specials: Option<Specials>,
@@ -44,8 +44,8 @@ pub struct Form {
     pub hex_floats: HexFloats,
 }
 
-/// Values that have a name. A name, after any sign, is read before digits: the longest one, and of
-/// several with the same bytes the first.
+/// Values that have a name. Names are tried, after any sign, before digits. The longest name that
+/// matches wins; of equal names, the first.
 ///
 /// The bytes of a name are those that the special component of the form's decimal word keeps. So
 /// separators in it are dropped if that word has the special flag.
@@ -60,8 +60,8 @@ pub struct Specials {
 /// A value that has a name.
 #[derive(Clone, Copy, Debug, PartialEq, Eq)]
 pub struct Special {
-    /// The name, without a sign: the bytes before the first 0, as in `*b"inf\0\0\0\0\0"`. A name
-    /// without bytes is nowhere.
+    /// The name, without a sign: the bytes before the first 0, as in `*b"inf\0\0\0\0\0"`. An empty
+    /// name never matches.
     pub name: [u8; 8],
     /// What it stands for.
     pub value: SpecialValue,
@@ -76,7 +76,7 @@ pub enum SpecialValue {
     Infinity,
     /// The negative infinity, as `##-Inf`. A minus makes it positive.
     NegativeInfinity,
-    /// The value that is not a number, also after a minus. No clause says its bits.
+    /// A NaN, with or without a minus. No contract says which bits it has.
     NotANumber,
 }
 
@@ -118,9 +118,9 @@ impl NameSign {
     }
 }
 
-/// The hexadecimal digits that are a float, by the hexadecimal word of the form's integers. Where a
-/// point needs digits and what may not follow it is as for decimal ones, and an exponent is a
-/// decimal number after `p` or `P`.
+/// Which hexadecimal digits are a float. They are read with the hexadecimal word of the form's
+/// integers. The rules for the point are those of decimal floats. The exponent is a decimal number
+/// after `p` or `P`.
 #[derive(Clone, Copy, Debug, PartialEq, Eq)]
 pub enum HexFloats {
     /// None.
@@ -166,7 +166,8 @@ pub enum Whole {
     Float,
 }
 
-/// What may not follow a point that no digit follows. Otherwise the number ends before it.
+/// What must not follow a point that has no digit after it. If it does follow, the number ends
+/// before the point.
 #[derive(Clone, Copy, Debug, PartialEq, Eq)]
 pub enum AfterPoint {
     /// Anything may follow.
@@ -356,7 +357,7 @@ fn are_apart(form: Form) -> bool
         && may_mark(form.integers, form.marks.exponent)
 }
 
-/// Tests whether numbers can be read by this form. Every form with a name passes.
+/// Tests whether calls can read numbers with this form. Every named form passes.
 ///
 /// The words of the form are supported, its floats are decimal, or hexadecimal with a decimal
 /// exponent, and its marks are no other part of a number, as

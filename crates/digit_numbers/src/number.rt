@@ -37,8 +37,8 @@ pub enum Number<F> {
 }
 
 impl<F: Float> Number<F> {
-    /// The integer as a value of a type, if the number is an integer and the type has it. `-0` is
-    /// the integer 0. `1.0` is a float by most forms, and no integer.
+    /// The integer as a `T`, if the number is an integer and fits `T`. `-0` is 0. With most forms
+    /// `1.0` is a float, so it returns `None`.
     ///
     /// ```text
     /// `as_integer::<i8>`: `-128` is Some(-128); `128` and `1.5` are None

@@ -21,8 +21,8 @@ fn is_shared<K: Kind>(kind: K, gap: Gap, byte: u8) -> bool
     kind.has_byte(byte) && is_between(gap, byte)
 }
 
-/// Tests whether no byte between two numbers of a kind may be in one. If so, the numbers of a
-/// stream, or of a text in pieces, are those of the whole text.
+/// Tests that no byte of the gap can be in a number of the kind. If so, a stream, or a text in
+/// pieces, gives the numbers of the whole text.
 ///
 /// It is for a kind or a gap of run time: of constants a law says it
 /// ([`apart`](crate::laws::apart)).

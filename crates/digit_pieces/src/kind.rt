@@ -59,7 +59,7 @@ pub trait Kind: Copy {
     fn error_at(error: Self::Error) -> usize
         ensures { result ≡ error_at error };
 
-    /// The error with its position so much later.
+    /// The same error, with its position `by` bytes later.
     fn error_later(error: Self::Error, by: usize) -> Self::Error
         requires { by + error_at error < 2 ^ 64 }
         ensures { result ≡ error_later by error };

@@ -193,9 +193,9 @@ fn read_rest<K: Kind>(
     }
 }
 
-/// Reads a list in a piece of a text. `More(at)` says: bring the bytes from `at` on again, before
-/// the next piece. `is_last` says that nothing follows this one. Requires that the kind is valid
-/// and that `start` is within the text. Takes no memory.
+/// Reads a list in one piece of a text. If it returns `More(at)`, pass the bytes from `at` on
+/// again, in front of the next piece. For the last piece set `is_last`. Requires that the kind is
+/// valid and that `start` is within the text. Takes no memory.
 ///
 /// If something may follow the piece, then a number that touches its end is left, with the blanks
 /// after it, since what follows may go on with it: the end is [`More`](PieceEnd::More). A number is

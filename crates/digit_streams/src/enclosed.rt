@@ -40,9 +40,10 @@ impl<'b, K: Kind, R: Read> NumberReader<'b, K, R> {
     ghost use Rattle.digit_streams.specs.Streams.{IfNoFault, UsesKnown, stream_list};
     ghost use Rattle.digit_streams.specs.Enclosed.{FoldsEnclosed};
 
-    /// Makes one value of the numbers between two bytes, such as the brackets of an array, as
-    /// [`fold_numbers`](NumberReader::fold_numbers) does: of an empty list it is `init`. Uses the
-    /// blanks of the gap before the two bytes, too. After it the next list may begin.
+    /// Combines the numbers between two bytes, such as the brackets of an array, into one value, as
+    /// [`fold_numbers`](NumberReader::fold_numbers) does. For an empty list it returns `init`. It
+    /// also skips the gap's blanks before each of the two bytes. Afterwards the next list may
+    /// begin.
     ///
     /// ```text
     /// `[1, 2] x` by `Integers::<u8>` and `COMMAS`, 0, |sum, n| sum.checked_add(n): Ok(3)

@@ -104,10 +104,10 @@ impl<'b, K: Kind, R: Read> NumberReader<'b, K, R> {
     }
 }
 
-/// Makes one value of all numbers of a stream. `step` gets the value so far, which is `init` at
-/// first, and the next number; `None` stops the call. What follows the numbers is an error. The
-/// buffer has to hold the longest number, the blanks after it, and one byte more. Requires that the
-/// kind is valid.
+/// Combines all numbers of a stream into one value. `step` gets the value so far, at first `init`,
+/// and the next number. It returns the next value, or `None` to stop the call. Anything after the
+/// numbers is an error. The buffer has to hold the longest number, the blanks after it, and one
+/// more byte. Requires that the kind is valid.
 ///
 /// `step` returns the next value. If it returns `None`, the call ends with
 /// [`Stopped`](FoldError::Stopped). If the stream goes on after the numbers, it is an error

@@ -136,8 +136,8 @@ impl<'b, K: Kind, R: Read> NumberReader<'b, K, R> {
         self.window.position()
     }
 
-    /// The bytes from that position on that the buffer holds. What the reader has left follows
-    /// them.
+    /// The bytes that the buffer holds from `position()` on. The rest of the stream is still in the
+    /// reader.
     pub fn unread(&self) -> &[u8]
         ensures { result.now ≡ self.now.held }
     {
@@ -202,9 +202,9 @@ impl<'b, K: Kind, R: Read> NumberReader<'b, K, R> {
         read
     }
 
-    /// Reads the next number. `None` if the list is over: no separator follows, or no number begins
-    /// where none has to. [`finish`](NumberReader::finish) says whether the stream is at its end
-    /// there.
+    /// Reads the next number. It returns `None` if the list is over: no separator follows, or no
+    /// number begins where one is optional. [`finish`](NumberReader::finish) says whether the
+    /// stream is at its end there.
     ///
     /// If the list was over, or there was an error, then each later call returns that again. But
     /// after [`Read`](StreamError::Read) of `WouldBlock` or `TimedOut` the next call goes on, and
@@ -274,9 +274,9 @@ impl<'b, K: Kind, R: Read> NumberReader<'b, K, R> {
         next_of(number, end)
     }
 
-    /// Passes the blanks of the gap that are next, and then `byte` if it follows: `Ok(true)` says
-    /// that it did. Use it for a bracket before or after the numbers. After `Ok(true)` a new list
-    /// may begin, also where one had ended. After `Ok(false)` the list stays as it is, and
+    /// Skips the gap's blanks, and then `byte` if it comes next: `Ok(true)` says that it did. Use
+    /// it for a bracket before or after the numbers. After `Ok(true)` a new list may begin, even
+    /// where one had ended. After `Ok(false)` the list stays as it is, and
     /// [`position`](NumberReader::position) is that of the other byte, or of the stream's end.
     ///
     /// ```text
@@ -323,8 +323,8 @@ impl<'b, K: Kind, R: Read> NumberReader<'b, K, R> {
         self.find_byte(byte)
     }
 
-    /// Tests whether anything follows the numbers. On `Ok` the stream is at its end. Otherwise the
-    /// error is [`Trailing`](StreamError::Trailing), with the position of what follows and the
+    /// Checks that nothing follows the numbers: `Ok` means that the stream is at its end. Otherwise
+    /// the error is [`Trailing`](StreamError::Trailing), with the position of what follows and the
     /// reason why no number begins there. Call it after the last number, since a list may end
     /// before the stream does: at a letter, or with [`LINES`](digit_literals::LINES) at an empty
     /// line. Blanks after the last number don't count: `1, 2\n` with

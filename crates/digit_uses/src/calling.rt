@@ -20,7 +20,7 @@ pub enum SizeError {
     NoX(usize),
 }
 
-/// Reads the size at the front of a text, and where it ends: `1_920x1_080 px` gives
+/// Reads the size at the front of a text, and returns where it ends: `1_920x1_080 px` gives
 /// `(1920, 1080, 11)`.
 pub fn read_size(text: &[u8]) -> Result<(u32, u32, usize), SizeError> {
     let number = read_number::<u32>(text, PYTHON_LITERAL);
@@ -61,7 +61,7 @@ pub fn parse_price(text: &[u8]) -> Result<i64, PriceError> {
 use digits::languages::RUST;
 use digits::{LanguageError, read_literal_as};
 
-/// Reads the literal of Rust at the front of a text, and where its digits end.
+/// Reads the Rust literal at the front of a text, and returns where its digits end.
 pub fn read_mask(text: &[u8]) -> Result<(u16, usize), LanguageError> {
     read_literal_as::<u16>(text, 0, RUST)
 }
@@ -89,7 +89,7 @@ pub enum PercentError {
     Above100(usize),
 }
 
-/// Reads the percentage at `start`, and where it ends: `75%` gives `(75, 2)`.
+/// Reads the percentage at `start`, and returns where it ends: `75%` gives `(75, 2)`.
 pub fn read_percent(line: &[u8], start: usize) -> Result<(u8, usize), PercentError>
     requires { start ≤ length line.now }
     ensures { IfOk result (λ percent. percent.1 ≤ length line.now) }
@@ -103,7 +103,7 @@ pub fn read_percent(line: &[u8], start: usize) -> Result<(u8, usize), PercentErr
 
 use digits::{BLANKS, NumberError, forms, name_end, past_bytes, read_number_of};
 
-/// The sum of the lengths that a text has, whatever their units are: `10px 2.5em` gives 12.5.
+/// Adds up the lengths of a text, whatever their units: `10px 2.5em` gives 12.5.
 pub fn sum_lengths(text: &[u8]) -> Result<f64, NumberError> {
     let mut sum = 0.0;
     let mut at = past_bytes(text, 0, BLANKS);
@@ -120,7 +120,7 @@ pub fn sum_lengths(text: &[u8]) -> Result<f64, NumberError> {
 
 use digits::{COMMAS, Integers, ListError, parse_list};
 
-/// Whether a text lists a port, among at most 16: `80, 443`.
+/// Tests whether a text that lists at most 16 ports, such as `80, 443`, has this one.
 pub fn has_port(text: &[u8], port: u16) -> Result<bool, ListError<LiteralError>> {
     let mut ports = [0; 16];
     let count = parse_list(Integers::<u16>::new(STANDARD), text, COMMAS, &mut ports)?;
@@ -129,15 +129,15 @@ pub fn has_port(text: &[u8], port: u16) -> Result<bool, ListError<LiteralError>>
 
 use digits::{ListRead, read_list};
 
-/// Reads the ports at the front of a text, `80, 443;`, into a slice: how many there are, and why
-/// there are no more.
+/// Reads the ports at the front of a text, such as `80, 443;`, into a slice. The result says how
+/// many there are, and why there are no more.
 pub fn read_ports(text: &[u8], ports: &mut [u16]) -> ListRead<LiteralError> {
     read_list::<u16>(text, 0, STANDARD, COMMAS, ports)
 }
 
 use digits::{FoldError, fold_stream, integers_are_apart};
 
-/// The sum of the numbers that a text lists, however many there are: `80, 443` gives 523.
+/// Adds up the numbers that a text lists, however many there are: `80, 443` gives 523.
 pub fn sum_text(text: &[u8]) -> Result<u64, FoldError<LiteralError>> {
     integers_are_apart::<u64>(STANDARD, COMMAS);
     let mut buffer = [0; 4096];
@@ -159,7 +159,7 @@ pub const SEMICOLONS: Gap = Gap {
 
 use digits::parse_number_of;
 
-/// Reads a text as a number of JSON: `-1.5e3` is -1500.0, and `01` is `Invalid(1)`.
+/// Reads a text as a JSON number: `-1.5e3` is -1500.0, and `01` is `Invalid(1)`.
 pub fn parse_amount(text: &[u8]) -> Result<f64, NumberError> {
     Ok(parse_number_of::<f64>(text, forms::JSON)?.to_float())
 }
@@ -168,8 +168,8 @@ ghost use Rattle.std.specs.Prelude.{◌<◌};
 
 use digits::{Number, byte_at};
 
-/// Reads the number of JSON at `start`, and where it ends: in `-1.5e3,` it is -1500.0, and ends at
-/// 6. In `01` the fault is at 1.
+/// Reads the JSON number at `start`, and returns where it ends: in `-1.5e3,` it is -1500.0, and
+/// ends at 6. In `01` the fault is at 1.
 pub fn read_token(text: &[u8], start: usize) -> Result<(Number<f64>, usize), NumberError>
     requires { start ≤ length text.now }
     ensures end { IfOk result (λ read. (start < read.1) × (read.1 ≤ length text.now)) }
@@ -234,7 +234,7 @@ pub fn parse_row(line: &[u8], row: &mut [u32]) -> Result<usize, ListError<Litera
 use digits::{FloatError, Floats, LINES, floats_are_apart};
 use std::io::Read;
 
-/// The sum of the floats of a stream, one in each line. An empty line is an error.
+/// Adds up the floats of a stream that has one float in each line. An empty line is an error.
 pub fn sum_of<R: Read + Drop>(stream: R) -> Result<f64, FoldError<FloatError>> {
     floats_are_apart(STANDARD, LINES);
     let mut buffer = [0; 4096];
@@ -245,7 +245,7 @@ pub fn sum_of<R: Read + Drop>(stream: R) -> Result<f64, FoldError<FloatError>> {
 
 use digits::{NumberReader, StreamError};
 
-/// The first float of a stream that is above a limit, if there is one; one float in each line.
+/// Finds the first float above a limit in a stream that has one float in each line.
 pub fn first_above<R: Read + Drop>(
     stream: R,
     limit: f64,
@@ -258,7 +258,7 @@ pub fn first_above<R: Read + Drop>(
         match numbers.next_number() {
             Some(number) => {
                 let number = number?;
-                // Only now the number before this one is sure.
+                // Only now is the number before this one final.
                 if found.is_some() {
                     return Ok(found);
                 }
@@ -275,7 +275,7 @@ pub fn first_above<R: Read + Drop>(
 
 use digits::{EnclosedFoldError, OfForm, numbers_are_apart};
 
-/// The sum of the array of JSON that a stream is, with blanks around it: `[1, 2.5]` gives 3.5.
+/// Adds up a stream that is one JSON array, with any blanks around it: `[1, 2.5]` gives 3.5.
 pub fn sum_array<R: Read + Drop>(stream: R) -> Result<f64, EnclosedFoldError<NumberError>> {
     numbers_are_apart(forms::JSON, COMMAS);
     let mut buffer = [0; 4096];

@@ -36,8 +36,8 @@ pub fn has_byte(text: &[u8], at: usize, byte: u8) -> bool
     }
 }
 
-/// Returns the position after a byte, if it is at this one. Otherwise the error is this position:
-/// write `expect_byte(text, at, b',').map_err(MyError::NoComma)?`.
+/// Returns the position after `byte`, if `byte` is at `at`. Otherwise the error is `at`: write
+/// `expect_byte(text, at, b',').map_err(MyError::NoComma)?`.
 #[inline(always)]
 pub fn expect_byte(text: &[u8], at: usize, byte: u8) -> Result<usize, usize>
     ensures is { result ≡ expect_byte text.now at byte }
@@ -66,9 +66,9 @@ pub fn has_bytes(text: &[u8], at: usize, bytes: &[u8]) -> bool
     text[at..].starts_with(bytes)
 }
 
-/// Returns the position after bytes, if they begin at this one. Otherwise the error is this
-/// position: write `expect_bytes(text, at, b"id=").map_err(MyError::NoId)?`. Requires that the
-/// position is within the text.
+/// Returns the position after `bytes`, if they begin at `at`. Otherwise the error is `at`: write
+/// `expect_bytes(text, at, b"id=").map_err(MyError::NoId)?`. Requires that the position is within
+/// the text.
 #[inline(always)]
 pub fn expect_bytes(text: &[u8], at: usize, bytes: &[u8]) -> Result<usize, usize>
     requires { at ≤ length text.now }
@@ -119,7 +119,7 @@ fn count_bytes(text: &[u8], set: ByteSet) -> usize
     text.iter().take_while(|byte| accepts(set, **byte)).count()
 }
 
-/// Returns the first position from this one on whose byte isn't in a set, or the end of the text.
+/// Returns the first position at or after `at` whose byte isn't in `set`, or the end of the text.
 /// Requires that the position is within the text.
 ///
 /// ```text
@@ -208,9 +208,9 @@ fn count_name_bytes(text: &[u8]) -> usize
     text.iter().take_while(|byte| is_name_byte(**byte)).count()
 }
 
-/// Returns where the name at a position ends: ASCII letters and digits, `_`, and bytes above ASCII.
-/// After a number it is the suffix, `&text[end..name_end(text, end)]`. No name follows the number
-/// if `name_end(text, end) == end`.
+/// Returns where the name at `at` ends: ASCII letters and digits, `_`, and bytes above ASCII. After
+/// a number it is the suffix, `&text[end..name_end(text, end)]`. No name follows the number if
+/// `name_end(text, end) == end`.
 ///
 /// A position after the end of the text is returned itself.
 ///

@@ -85,10 +85,10 @@ pub fn read_first_digits(
     read
 }
 
-/// Reads the first digits of the component at `start`, after the value `before` and up to `most`,
-/// passes the others, and returns where they end. `before` is 0, or a value that was read up to
-/// `most`. Requires that `start` is within the text, the word is supported, and `before` is at most
-/// `most`.
+/// Reads the first digits of the component at `start`, as long as the value is at most `most`,
+/// counts the others, and returns where they end. The value continues from `before`: 0, or a value
+/// of at most `most` that an earlier call read. Requires that `start` is within the text, the word
+/// is supported, and `before` is at most `most`.
 ///
 /// They are read by [`read_first_digits`]. Positions count from the start of the text. A separator
 /// at `start` is judged with the byte before it.

@@ -40,9 +40,9 @@ pub fn count_digits(text: &[u8], word: u128) -> Result<usize, usize>
     }
 }
 
-/// Returns where the digits of a component end that begin at `start`: at the first byte that is
-/// neither a digit nor a separator that the word drops there, or at the end of the text. Requires
-/// that `start` is within the text and the word is supported.
+/// Returns where the digits of the component at `start` end: at the first byte that is neither a
+/// digit nor a separator that the word drops there, or at the end of the text. Requires that
+/// `start` is within the text and the word is supported.
 ///
 /// A separator at `start` is judged with the byte before it: in `1_0` the `_` at 1 has a digit on
 /// its left.

@@ -62,9 +62,9 @@ impl LiteralError {
         }
     }
 
-    /// Whether it says that no number begins at `place`. A sign begins no number of an unsigned
-    /// type, so for `-1` as a `u32` it is `true`. If a number begins and is at fault, it is
-    /// `false`: for `-;` as an `i32`, or for a number that is too large.
+    /// Whether the error says that no number begins at `place`. For `-1` as a `u32` it does: an
+    /// unsigned type has no sign. If a number begins but is malformed or too large, this is
+    /// `false`: for `-;` as an `i32`.
     #[inline(always)]
     pub fn is_none_at(&self, place: usize) -> bool
         ensures { result ≡ literal_none_at place self.now }

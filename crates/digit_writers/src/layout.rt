@@ -17,10 +17,10 @@ pub struct Layout {
     pub separator: u8,
     /// How many digits a group has, counted from the last one. 0 means that there are no groups.
     pub every: u8,
-    /// How many digits there are at least: zeros are before a number that has fewer. Neither a sign
-    /// nor a separator counts.
+    /// The least number of digits: a shorter number gets leading zeros. Signs and separators don't
+    /// count.
     pub digits: u8,
-    /// Whether a `+` is before a number that is not below 0.
+    /// Whether a number of 0 or more gets a `+`.
     pub has_plus: bool,
     ghost valid: { IsTrue (is_layout radix separator every) },
 }
@@ -56,8 +56,8 @@ impl Layout {
         }
     }
 
-    /// Digits of a radix, in lower case, without groups, zeros or plus. `None`: the radix isn't 2
-    /// to 36.
+    /// Digits of a radix, in lower case, without groups, leading zeros or plus. It returns `None`
+    /// if the radix isn't 2 to 36.
     pub fn of_radix(radix: u8) -> Option<Layout>
         ensures { MatchOption result (is_layout radix 0 0 ≡ false)
             (HasParts radix false 0 0 1 false) }
@@ -75,9 +75,9 @@ impl Layout {
         })
     }
 
-    /// The same with a separator between groups of so many digits, counted from the last one; 0
-    /// means that there are none. `None`: `every` is above 0, and the separator is 0 or a digit of
-    /// the radix.
+    /// The same layout with `separator` between groups of `every` digits, counted from the last
+    /// digit. If `every` is 0, there are no groups. It returns `None` if there are groups, and the
+    /// separator is 0 or a digit of the radix.
     pub fn grouped(self, separator: u8, every: u8) -> Option<Layout>
         ensures { MatchOption result (is_layout self.radix separator every ≡ false)
             (HasParts self.radix self.is_upper separator every self.digits self.has_plus) }

@@ -218,7 +218,8 @@ fn write_finite<F: AnyFloat>(x: F, layout: FloatLayout, out: &mut [u8]) -> Resul
     write_decimal(layout, negative, decimal, out)
 }
 
-/// Writes a float with the fewest significant digits that are read as it. A zero keeps its sign.
+/// Writes a float with the fewest significant digits that read back as the same float. A zero keeps
+/// its sign.
 ///
 /// Of the fewest digits these are the closest to the float, and of two as close the one whose last
 /// digit is even. The call puts the text at the front of a slice, and returns its length. What

@@ -6,7 +6,7 @@ ghost use Rattle.std.specs.Prelude.{◌≡◌, ℕ, ◌+◌, ◌<◌, ◌≤◌}
 ghost use Rattle.lexical_format.specs.Word.{bit};
 ghost use Rattle.lexical_digits.specs.ByteSet.{accepts};
 
-/// A test of a byte, as a value: the bytes that it accepts.
+/// A set of bytes.
 #[derive(Clone, Copy, Debug, PartialEq, Eq)]
 pub struct ByteSet {
     /// Those below 128. Byte b is bit b.

@@ -107,7 +107,9 @@ impl NumberFormatBuilder {
 
     /// The word with these parts; every other bit is zero. It is supported exactly if both radixes
     /// are 2 to 36 and the separator is a digit of neither; a zero exponent radix means the
-    /// mantissa radix. lexical-util has this call, which refuses a word that isn't supported.
+    /// mantissa radix.
+    ///
+    /// lexical-util has this call, which refuses a word that isn't supported.
     pub fn build(self) -> u128
         ensures value { result ≡ word_of self }
         ensures says { Says result self }

@@ -5,8 +5,8 @@ use digit_values::has_byte;
 use std::error::Error;
 use std::fmt;
 
-/// A number between an opening and a closing byte, such as a price in quotes, `"1.50"`: the opening
-/// byte, the number of a kind, and the closing byte right after it. The two may be one byte.
+/// A number between an opening and a closing byte, such as the quotes of `"1.50"`. No blanks are
+/// between the bytes and the number. Both bytes may be the same.
 #[derive(Clone, Copy, Debug)]
 pub struct Enclosed<K: Kind> {
     /// The byte before the number.

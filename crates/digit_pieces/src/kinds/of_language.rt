@@ -8,9 +8,9 @@ use digit_integers::Integer;
 use digit_languages::{Language, LanguageError, read_literal_as};
 use std::marker::PhantomData;
 
-/// The integer literals of a language, as numbers of a type:
-/// [`read_literal_as`](digit_languages::read_literal_as) reads them.
-/// [`is_language`](digit_languages::is_language) says which languages may be read by.
+/// The integer literals of a language, as [`read_literal_as`](digit_languages::read_literal_as)
+/// reads them into one type. The language has to pass
+/// [`is_language`](digit_languages::is_language).
 #[derive(Clone, Copy)]
 pub struct OfLanguage<T: Integer> {
     /// The language.

@@ -22,7 +22,7 @@ pub struct Prices<T: Integer> {
     pub places: usize,
     /// Whether a number has to have exactly `places` places.
     pub is_exact: bool,
-    /// Whether the digits between two separators have to be three.
+    /// Whether the digits have to be in groups of three.
     pub is_grouped: bool,
     of: PhantomData<T>,
 }
