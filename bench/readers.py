@@ -92,11 +92,12 @@ def readme():
     shown = table("Nanoseconds a number, on one core of a Xeon, in the worse of two runs for `digits`. Each number is a "
                   "whole text or a JSON number. `*`: rounds some floats wrongly. –: not timed.",
                   ["", "digits, from Rattle", "digits, from C++", *PEERS], map(nanoseconds, SHOWN))
-    return "\n".join(shown) + f"""
+    verdict = f"""\
 Among the readers that do the same work `digits` is the fastest for {fastest()} kinds of input from Rattle, and for \
 {fastest(door)} from C++ ([picture](docs/times.svg)). With the calls that also return where the number ends, it \
 is the fastest for {fastest(READ)} from Rattle.
-
+"""
+    return verdict + "\n" + "\n".join(shown) + f"""
 **You gain** most with 8 to 19 digits, with groups and with hexadecimal digits: down to {least(ratios(INTEGERS))} of the \
 time of the next reader. To write a price takes {times("%.2f, prices", "%.2f, 3 digits")} of the time of `to_chars`.
 
