@@ -94,7 +94,7 @@ def readme():
                   ["", "digits, from Rattle", "digits, from C++", *PEERS], map(nanoseconds, SHOWN))
     verdict = f"""\
 Among the readers that do the same work `digits` is the fastest for {fastest()} kinds of input from Rattle, and for \
-{fastest(door)} from C++ ([picture](docs/times.svg)). With the calls that also return where the number ends, it \
+{fastest(door)} from C++. With the calls that also return where the number ends, it \
 is the fastest for {fastest(READ)} from Rattle.
 """
     return verdict + "\n" + "\n".join(shown) + f"""
