@@ -203,7 +203,7 @@ class Door:
         has_contract = item and (item.kind in ("fn", "trait") or any(
             it.kind == "fn" and it.is_public() for impl in library.impls.get(id(item), [])
             if not impl.trait for it in impl.inner))
-        last = " ".join([*named[1:], *[f"[Contract]({self.page_of(name)})."] * bool(has_contract)])
+        last = " ".join([*named[1:], *[f"[Details and contract]({self.page_of(name)})."] * bool(has_contract)])
         return [f"### `{name}`", "", self.to_here(first), *table, *blocks, *details, "", *[last, ""] * bool(last),
                 *self.lines_of_methods(name, library, item)]
 
@@ -225,7 +225,7 @@ class Door:
             blocks = [line for it in (code + self.conditions(have[method]), self.example(method)) if it
                       for line in ("", "```rust", *it, "```")]
             details = [line for it in noted(method) for line in ("", *self.to_here(it).split("\n"))]
-            last = " ".join([*filter(None, [self.types(have[method], name)]), f"[Contract]({page})."])
+            last = " ".join([*filter(None, [self.types(have[method], name)]), f"[Details and contract]({page})."])
             lines += [f"#### `{method}`", "", self.to_here(text), *blocks, *details, "", last, ""]
         return lines
 
@@ -257,7 +257,8 @@ class Door:
     @staticmethod
     def constants(source):
         """A table of the constants of a module: each with what it is; many by what they are for."""
-        consts = {it.name: plain(first_sentence(it.docs)).rstrip(".") for it in source.items
+        said = paragraph if source.path.endswith("/languages.rt") else first_sentence
+        consts = {it.name: plain(said(it.docs)).rstrip(".") for it in source.items
                   if it.kind == "const" and it.is_public()}
         heads, rows = ("Name", "What it is"), [(f"`{name}`", told) for name, told in consts.items()]
         if source.path == forms.FORMS:

@@ -380,7 +380,7 @@ NOTES = {
 VALUES = {"u64::MAX": str(2 ** 64 - 1)}
 # The modules whose constants have a table elsewhere.
 TABLES = {"forms": " [A table of all](forms.md).",
-          "languages": " [Their separators, and what a first `0` says](../RULES.md#prefixes-and-a-first-0).",
+          "languages": " Where nothing else is said, `017` is 17. [Their separators](../RULES.md#prefixes-and-a-first-0).",
           "words": " `PYTHON_LITERAL` reads `1_000`, `CXX14_LITERAL` `1'000`; none reads `1,000`: "
                    "[write such a word](../../CALLING.md#a-word-of-your-own). "
                    "[What each reads](../RULES.md#words-with-names)."}
@@ -388,7 +388,7 @@ TABLES = {"forms": " [A table of all](forms.md).",
 # What a caller proves, in words.
 CONDITIONS = {
     "IsTrue (is_supported word)": "the word is supported",
-    "IsDecimal word": "its radixes are 10",
+    "IsDecimal word": "digits and exponent have radix 10",
     "start ≤ length text.now": "start ≤ text.len()",
     "at ≤ length text.now": "at ≤ text.len()",
     "end ≤ length text.now": "end ≤ text.len()",
@@ -407,7 +407,7 @@ CONDITIONS = {
     "before ≤ most": "`before` is at most `most`",
     "T.ROOM ≤ length out.old": "`out` has room for any number of the type",
     "IsTrue (is_supported kind.word)": "the kind's word is supported",
-    "IsDecimal kind.word": "its radixes are 10",
+    "IsDecimal kind.word": "digits and exponent have radix 10",
     "kind.places ≤ 38": "places ≤ 38",
     "IsTrue (are_apart (K.has_byte kind) gap)": "no byte of the gap may be in a number",
     "IsTrue (are_apart (is_pointed_byte word 46) gap)": "no byte of the gap may be in a number",
@@ -424,7 +424,9 @@ CONDITIONS = {
 }
 
 # The impls that a trait's entry shows: the file, its head, and where the words are.
-IMPLS = {"Item": ("crates/digit_uses/src/points.rt", "impl Item for Point",
+IMPLS = {"Kind": ("crates/digit_uses/src/kinds.rt", "impl Kind for UpTo",
+                  "integers up to a limit; each ghost line that names `laws` is that of `Integers`"),
+         "Item": ("crates/digit_uses/src/points.rt", "impl Item for Point",
                   "the definitions that its ghost lines name are in specs/Points.antt of digit_uses")}
 
 # The page of the words.
@@ -466,7 +468,8 @@ word *drops* a separator, the separator is allowed and skipped. Where it *keeps*
 - A **form** is a whole grammar, such as `forms::JSON`.
 - A **language** reads integers with their prefixes: `languages::RUST` reads `255` and `0xff`. Don't confuse \
 it with `forms::RUST`, which reads floats, too.
-- A **kind** says which numbers a list or a stream has, a **gap** what is between two of them.
+- A **kind** says which numbers a list or a stream has, a **gap** what is between two of them. A gap *may trail* if \
+a separator may be last, as a line feed. A kind and a gap are *apart* if no byte of the gap can be in a number.
 
 **Calls**
 
@@ -476,6 +479,8 @@ writes a number into your slice, and returns its length ([names and arguments](#
 fault ([errors](#errors)).
 - A call for one number skips no blanks: skip them with [`past_bytes`](#past_bytes). Lists and streams skip \
 the blanks of their gap.
+- A separator at `start` is judged with the byte before it: from 1 on, `PYTHON_LITERAL` drops the `_` of `1_000`, and \
+the number is 0. To hide what is before, pass `&text[start..]`.
 - No call panics or allocates.
 
 **Entries**
@@ -483,20 +488,15 @@ the blanks of their gap.
 - In an example the comment after a call is its result, and `?` takes a value out of `Ok` or `Some`. Names \
 are in `{DOOR}`, unless the example imports them.
 - `// you prove` names what has to hold before the call ([what you prove](#what-you-prove)).
-- The contract of a call is on the page of its library. Its [signs]({CLAUSES}.md) and [terms]({WORDS}.md) have \
-pages of their own.
+- An entry is short. Every further rule of a call is on the page of its library, with the contract, whose \
+[signs]({CLAUSES}.md) and [terms]({WORDS}.md) have pages of their own.
 - Types derive `Copy`, `Debug`, `PartialEq` and `Eq`, and errors have `Display` and `Error`, unless their \
 entry says otherwise.
 
 [CALLING.md](../../CALLING.md) has whole functions. This page ends with an alphabetical list of \
 [all names](#all-names).
-"""
 
-# The heading of the list of all names.
-INDEX = "All names"
-
-# What follows the entries.
-TAIL = f"""## Names and arguments
+## Names and arguments
 
 | In the name of a call that reads or writes | It says |
 |---|---|
@@ -519,8 +519,13 @@ Component::Fraction, 2)` |
 
 `prefix_word` takes the language before `text`. A call that writes takes the number first. `out` is always last. The \
 bound `Drop` lets a call drop what you passed to it.
+"""
 
-## What you prove
+# The heading of the list of all names.
+INDEX = "All names"
+
+# What follows the entries.
+TAIL = f"""## What you prove
 
 `rt check` refuses a call if the prover can't see that the conditions after `// you prove` hold. Nothing tests them \
 at run time. Usually you don't have to write anything:
@@ -537,11 +542,11 @@ What is known only at run time you test first:
 | You prove | Test |
 |---|---|
 | the word is supported | `is_supported(word)` |
-| its radixes are 10 | `mantissa_radix()` and `exponent_radix()` of [`NumberFormat::new(word)`](#numberformat) |
+| digits and exponent have radix 10 | `mantissa_radix()` and `exponent_radix()` of [`NumberFormat::new(word)`](#numberformat) |
 | the form is valid | `is_form(form)` |
 | the words of the language are supported | `is_language(language)` |
 | the kind is valid: `Integers` | `is_supported(word)` |
-| … `Floats` | the same, and that its radixes are 10 |
+| … `Floats` | the same, and that digits and exponent have radix 10 |
 | … `Scaled`, `Prices` | the same as of `Floats`, and `places <= 38` |
 | … `OfForm`, `OfLanguage` | `is_form(form)`, `is_language(language)` |
 | … `Both`, `Enclosed` | what the kinds of their numbers need |

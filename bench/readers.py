@@ -105,7 +105,10 @@ time of the next reader. To write a price takes {times("%.2f, prices", "%.2f, 3 
 
 | What | Times as long |
 |---|---|
-| write an integer of up to 4 digits | {times("u64, 3 digits", "u64, 1 to 4")} |
+| write a `u64` of up to 4 digits | {times("u64, 3 digits", "u64, 1 to 4")} |
+| write a `u64` of 1 to 20 digits | {times("u64, 1 to 20")} |
+| write the shortest text of a float, except coordinates and prices of `f64` | {times("f64, random", "f64, in [", "f64, whole", "f64, powers", "f64 with an", "f32, ")} |
+| read a number and where it ends | {span(("u64", "f64"), READ)} |
 | write `%.2f` of numbers up to 1e22 | {times("%.2f, in [0, 1e22)")} |
 | write `%.6e` of coordinates | {times("%.6e, coordinates", "%.6e, 3 digits")} |
 | write `%.6e` of floats of any size: it computes every digit | {times("%.6e, random bits")} |

@@ -85,9 +85,9 @@ fn write_marked(
     Ok(end)
 }
 
-/// Writes a finite float with one digit before the point, so many places after it, and an exponent,
-/// as C's `%.6e`. It is rounded once, from its exact value, at a tie to the even digit. It needs at
-/// most 8 + `places` bytes. An `f32` is written by its exact `f64`, `f64::from(x)`.
+/// Writes a finite float with one digit before the point, `places` digits after it, and an
+/// exponent, as C's `%.6e`. It is rounded once, from its exact value, at a tie to the even digit.
+/// It needs at most 8 + `places` bytes. An `f32` is written by its exact `f64`, `f64::from(x)`.
 ///
 /// The call puts the text at the front of a slice, and returns its length, or the room that it
 /// needs; what follows the text in the slice stays as it was.

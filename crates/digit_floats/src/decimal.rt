@@ -20,8 +20,8 @@ pub struct Decimal {
     pub value: u64,
     /// How many digits follow those of the value.
     pub dropped: usize,
-    /// The power of ten of `value`: the exponent that is written, less one for each digit after the
-    /// point, and one more for each that was dropped; or the end of `i64` nearest to it.
+    /// The power of ten by which `value` is multiplied: the written exponent, minus the number of
+    /// digits after the point, plus `dropped`. If that doesn't fit, it is `i64::MIN` or `i64::MAX`.
     pub exponent: i64,
 }
 

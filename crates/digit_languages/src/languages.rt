@@ -35,7 +35,7 @@ pub const RUST: Language = Language {
     first_zero: FirstZero::Plain,
 };
 
-/// C++14 and C23: `0b`, `0x`, in either case. A first `0` says octal.
+/// C++14 and C23: `0b`, `0x`, in either case. `017` is octal: 15.
 pub const CXX14: Language = Language {
     decimal: CXX14_LITERAL,
     binary: Some(CXX14_BINARY_LITERAL),
@@ -45,7 +45,7 @@ pub const CXX14: Language = Language {
     first_zero: FirstZero::Octal(CXX14_OCTAL_LITERAL),
 };
 
-/// Python: `0b`, `0o`, `0x`, in either case. A first `0` is refused, but in a zero.
+/// Python: `0b`, `0o`, `0x`, in either case. `017` is refused, and `00` is 0.
 pub const PYTHON: Language = Language {
     decimal: PYTHON_LITERAL,
     binary: Some(PYTHON_BINARY_LITERAL),
@@ -55,7 +55,7 @@ pub const PYTHON: Language = Language {
     first_zero: FirstZero::Zeros,
 };
 
-/// Go: `0b`, `0o`, `0x`, in either case. A first `0` says octal.
+/// Go: `0b`, `0o`, `0x`, in either case. `017` is octal: 15.
 pub const GO: Language = Language {
     decimal: GO_LITERAL,
     binary: Some(GO_BINARY_LITERAL),
@@ -65,7 +65,7 @@ pub const GO: Language = Language {
     first_zero: FirstZero::Octal(GO_OCTAL_LITERAL),
 };
 
-/// Java: `0b`, `0x`, in either case. A first `0` says octal.
+/// Java: `0b`, `0x`, in either case. `017` is octal: 15.
 pub const JAVA: Language = Language {
     decimal: JAVA_LITERAL,
     binary: Some(JAVA_BINARY_LITERAL),
@@ -85,8 +85,7 @@ pub const CSHARP: Language = Language {
     first_zero: FirstZero::Plain,
 };
 
-/// JavaScript, in strict mode and in modules: `0b`, `0o`, `0x`, in either case. No digit follows a
-/// first `0`.
+/// JavaScript, in strict mode and in modules: `0b`, `0o`, `0x`, in either case. `017` is refused.
 pub const JAVASCRIPT: Language = Language {
     decimal: JAVASCRIPT_LITERAL,
     binary: Some(JAVASCRIPT_BINARY_LITERAL),
@@ -96,7 +95,7 @@ pub const JAVASCRIPT: Language = Language {
     first_zero: FirstZero::Alone,
 };
 
-/// Kotlin: `0b`, `0x`, in either case. No digit follows a first `0`.
+/// Kotlin: `0b`, `0x`, in either case. `017` is refused.
 pub const KOTLIN: Language = Language {
     decimal: KOTLIN_LITERAL,
     binary: Some(KOTLIN_BINARY_LITERAL),
@@ -116,7 +115,7 @@ pub const SWIFT: Language = Language {
     first_zero: FirstZero::Plain,
 };
 
-/// Ruby: `0b`, `0o`, `0x`, in either case. A first `0` says octal.
+/// Ruby: `0b`, `0o`, `0x`, in either case. `017` is octal: 15.
 pub const RUBY: Language = Language {
     decimal: RUBY_LITERAL,
     binary: Some(RUBY_BINARY_LITERAL),
@@ -126,7 +125,7 @@ pub const RUBY: Language = Language {
     first_zero: FirstZero::Octal(RUBY_OCTAL_LITERAL),
 };
 
-/// Perl: `0b`, `0o`, `0x`, in either case. A first `0` says octal.
+/// Perl: `0b`, `0o`, `0x`, in either case. `017` is octal: 15.
 pub const PERL: Language = Language {
     decimal: PERL_LITERAL,
     binary: Some(PERL_BINARY_LITERAL),
@@ -136,7 +135,7 @@ pub const PERL: Language = Language {
     first_zero: FirstZero::Octal(PERL_OCTAL_LITERAL),
 };
 
-/// PHP: `0b`, `0o`, `0x`, in either case. A first `0` says octal.
+/// PHP: `0b`, `0o`, `0x`, in either case. `017` is octal: 15.
 pub const PHP: Language = Language {
     decimal: PHP_LITERAL,
     binary: Some(PHP_BINARY_LITERAL),
@@ -186,7 +185,7 @@ pub const HASKELL: Language = Language {
     first_zero: FirstZero::Plain,
 };
 
-/// Zig: `0b`, `0o`, `0x`. No digit follows a first `0`.
+/// Zig: `0b`, `0o`, `0x`. `017` is refused.
 pub const ZIG: Language = Language {
     decimal: ZIG_LITERAL,
     binary: Some(ZIG_BINARY_LITERAL),
@@ -206,7 +205,7 @@ pub const ELIXIR: Language = Language {
     first_zero: FirstZero::Plain,
 };
 
-/// TOML: `0b`, `0o`, `0x`. No digit follows a first `0`.
+/// TOML: `0b`, `0o`, `0x`. `017` is refused.
 pub const TOML: Language = Language {
     decimal: words::TOML,
     binary: Some(TOML_BINARY),
@@ -216,7 +215,7 @@ pub const TOML: Language = Language {
     first_zero: FirstZero::Alone,
 };
 
-/// JSON: no prefix. No digit follows a first `0`.
+/// JSON: no prefix. `017` is refused.
 pub const JSON_NUMBER: Language = Language {
     decimal: STANDARD,
     binary: None,
@@ -246,7 +245,7 @@ pub const HEX_DIGITS: Language = Language {
     first_zero: FirstZero::Plain,
 };
 
-/// C before C23, and C++ before C++14: `0x`, in either case. A first `0` says octal.
+/// C before C23, and C++ before C++14: `0x`, in either case. `017` is octal: 15.
 pub const C: Language = Language {
     decimal: STANDARD,
     binary: None,
@@ -256,7 +255,7 @@ pub const C: Language = Language {
     first_zero: FirstZero::Octal(OCTAL),
 };
 
-/// Scala: `0x`, in either case. No digit follows a first `0`.
+/// Scala: `0x`, in either case. `017` is refused.
 pub const SCALA: Language = Language {
     decimal: SCALA_LITERAL,
     binary: None,
@@ -276,7 +275,7 @@ pub const ERLANG: Language = Language {
     first_zero: FirstZero::Plain,
 };
 
-/// D: `0b`, `0x`, in either case. A first `0` says octal. D refuses it from `010` on.
+/// D: `0b`, `0x`, in either case. `017` is octal: 15. D refuses it from `010` on.
 pub const D: Language = Language {
     decimal: D_LITERAL,
     binary: Some(D_BINARY_LITERAL),

@@ -25,8 +25,8 @@ pub struct Gap {
     pub blanks: ByteSet,
     /// Whether blanks separate too: without a separator among them, a run of them counts as one.
     pub blanks_separate: bool,
-    /// Whether a separator may be last, and the list may be empty: it is over where no number
-    /// begins. Otherwise a number has to follow.
+    /// If `true`, a separator may be last, and the list may be empty: where no number begins, the
+    /// list is over. If `false`, a number has to come first, and after each separator.
     pub may_trail: bool,
 }
 

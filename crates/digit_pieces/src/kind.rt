@@ -8,8 +8,9 @@ ghost use Rattle.lexical_digits.specs.Moves.{IsFresh, outcome_later};
 use digit_literals::{Gap, ListRead};
 
 /// A kind of numbers of a text, such as integers of a type by a word. It says how one number is
-/// read, and which bytes may be in it. Every other byte ends the number, and nothing beyond that
-/// byte, on either side, changes how it is read.
+/// read, and which bytes may be in it. The first byte that can't be in a number ends it. What
+/// follows that byte doesn't change how the number is read, and neither does what comes before the
+/// nearest such byte in front of the number.
 pub trait Kind: Copy {
     /// A number.
     type Number: Copy;

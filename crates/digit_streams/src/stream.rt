@@ -23,10 +23,10 @@ pub enum StreamError<E> {
     /// A position is above `u64::MAX`, or may be: the stream has `u64::MAX` - 1 bytes or more.
     TooLong,
     /// The list has ended, and the stream goes on at this position. `Some(error)` says why no
-    /// number begins there, past the blanks of the gap, with its position in the stream. `None`
-    /// says that a number begins there, as where only its separator is missing; or that one may,
-    /// since the buffer holds no byte that ends it; or that the error's position is above
-    /// `u64::MAX`. Only `finish` and `fold_stream` return it.
+    /// number begins there, after the blanks of the gap; its position counts from the start of the
+    /// stream. `None` has one of three reasons: a number does begin there, and only its separator
+    /// is missing; one may begin there, but its end isn't in the buffer; or the error's position is
+    /// above `u64::MAX`. Only `finish` and `fold_stream` return it.
     Trailing(u64, Option<E>),
 }
 

@@ -14,8 +14,9 @@ pub struct DigitSeparatorFlags {
     pub internal: bool,
     /// Drops leading separators: no digit was read before, and no other separator is beside it.
     pub leading: bool,
-    /// Drops trailing separators: neither a digit nor another separator follows. If no digit was
-    /// read yet, there is no separator before it, either.
+    /// Drops a separator that neither a digit nor another separator follows, such as the `_` of
+    /// `1_`. Before the first digit it does so only if no separator is directly before it: `_` is
+    /// dropped, and `__` is kept.
     pub trailing: bool,
     /// Judges a run of separators as one separator. By itself it drops nothing.
     pub consecutive: bool,
