@@ -252,8 +252,9 @@ GROUPS = {
         | `trailing` | `1 << 38` | `1 << 39` | `1 << 40` |
         | `consecutive` | `1 << 41` | `1 << 42` | `1 << 43` |
 
-        `1 << 44` drops every separator of a special value, such as `nan`. All thirteen have
-        [names in `lexical_format`](lexical_format.md#integer_leading_digit_separator).""", """
+        `1 << 44` drops every separator of a special value, such as `nan`. The names of all
+        thirteen are [in `lexical_format`](lexical_format.md#integer_leading_digit_separator): to use them, add
+        that crate to your line of `crates.txt`.""", """
         STANDARD words is_supported NumberFormatBuilder DigitSeparatorFlags DECIMAL NO_FLAGS ALL_FLAGS
         INTEGER_INTERNAL_DIGIT_SEPARATOR FRACTION_INTERNAL_DIGIT_SEPARATOR
         EXPONENT_INTERNAL_DIGIT_SEPARATOR NumberFormat"""),
