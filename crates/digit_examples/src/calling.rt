@@ -6,6 +6,7 @@ use digit_uses::calling::{
 };
 use digit_uses::proving;
 use digit_uses::sums::sum_list;
+use digits::words::PYTHON_LITERAL;
 use digits::{
     COMMAS, EnclosedFoldError, FloatError, FoldError, Integers, LINES, ListError, LiteralError,
     NumberError, NumberReader, ParseError, PriceError, STANDARD, ScaledError, StreamError, forms,
@@ -385,4 +386,13 @@ fn an_array_of_any_length(rt: HostRuntime) {
             Err(EnclosedFoldError::Fold(FoldError::Stream(StreamError::Trailing(4, _))))
         )
     );
+}
+
+/// The byte before a start is looked at.
+#[test]
+fn a_separator_at_a_start(rt: HostRuntime) {
+    let from_1 = parse_number_from::<u64>(b"1_000", PYTHON_LITERAL, 1);
+    assert!(rt; from_1 == Ok(0));
+    let alone = parse_number::<u64>(b"_000", PYTHON_LITERAL);
+    assert!(rt; alone == Err(ParseError::Invalid(0)));
 }
