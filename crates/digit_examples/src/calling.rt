@@ -10,8 +10,9 @@ use digits::words::PYTHON_LITERAL;
 use digits::{
     COMMAS, EnclosedFoldError, FloatError, FoldError, Integers, LINES, ListError, LiteralError,
     NumberError, NumberReader, ParseError, PriceError, STANDARD, ScaledError, StreamError, forms,
-    parse_float, parse_list, parse_number, parse_number_of, parse_scaled, read_exact_from,
-    read_float, read_grouped_from, read_number, read_number_of, read_price_from, read_scaled_from,
+    parse_float, parse_list, parse_number, parse_number_from, parse_number_of, parse_scaled,
+    read_exact_from, read_float, read_grouped_from, read_number, read_number_of, read_price_from,
+    read_scaled_from,
 };
 
 /// A line with fields of several kinds.
