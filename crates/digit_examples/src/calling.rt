@@ -391,6 +391,7 @@ fn an_array_of_any_length(rt: HostRuntime) {
 
 /// The byte before a start is looked at.
 #[test]
+#[tactic(auto, unfolding(digits::proofs::Literals::lexical_on_literals))]
 fn a_separator_at_a_start(rt: HostRuntime) {
     let from_1 = parse_number_from::<u64>(b"1_000", PYTHON_LITERAL, 1);
     assert!(rt; from_1 == Ok(0));
