@@ -87,7 +87,8 @@ class Door:
                 if condition not in CONDITIONS:
                     self.lost.append(f"CONDITIONS of .ci/door_texts.py has no `{condition}` of {item.name}")
                 said.append(CONDITIONS.get(condition, ""))
-        lines = textwrap.wrap(", ".join(dict.fromkeys(filter(None, said))), 84)
+        told = ", ".join(it.replace(" ≤ ", "\u00a0≤\u00a0") for it in dict.fromkeys(filter(None, said)))
+        lines = [it.replace("\u00a0", " ") for it in textwrap.wrap(told, 84)]
         return [f"// {'   ' if n else 'you prove:'} {it}" for n, it in enumerate(lines)]
 
     def methods(self, item):
@@ -142,7 +143,10 @@ class Door:
             path, head, words = IMPLS[name]
             found = [it for it in sources.Source(path).items if it.kind == "impl" and it.head == head]
             self.lost += [] if found else [f"IMPLS of .ci/door_texts.py: {path} has no `{head}`"]
-            return [f"// {words}", *(line for it in found for line in it.text.split("\n"))]
+            text = "\n".join(it.text for it in found)
+            if name == "Kind":
+                text = re.sub(r"^    ghost [^;]*;\n+", "", text, flags=re.M)
+            return [f"// {words}", *text.split("\n")]
         of_type = name.partition("::")[0] in METHODS
         code = "\n\n".join(code for names_of, code in self.tests
                             if name in ([it for it in names_of if "::" in it][:1] if of_type else

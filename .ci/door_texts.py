@@ -138,7 +138,7 @@ GROUPS = {
 
         For values of your own write an [`impl Item`](#item), or an
         [`impl Kind`](../../crates/digit_pieces/README.md).""", """
-        Integers Floats OfForm OfLanguage Scaled Prices Both Enclosed read_optional Kind Item NoNumber
+        read_optional Integers Floats OfForm OfLanguage Scaled Prices Both Enclosed Kind Item NoNumber
         BothError BracketError"""),
     "Streams": ("""
         fold_stream | Combines all numbers into one value, such as their sum
@@ -426,7 +426,7 @@ CONDITIONS = {
 
 # The impls that a trait's entry shows: the file, its head, and where the words are.
 IMPLS = {"Kind": ("crates/digit_uses/src/kinds.rt", "impl Kind for UpTo",
-                  "integers up to a limit; each ghost line that names `laws` is that of `Integers`"),
+                  "the 15 ghost lines are left out: copy them from kinds.rt of digit_uses"),
          "Item": ("crates/digit_uses/src/points.rt", "impl Item for Point",
                   "the definitions that its ghost lines name are in specs/Points.antt of digit_uses")}
 
@@ -461,16 +461,17 @@ LINES
 | another separator or radix | [Words](#words) |
 | another grammar | [A form of your own](#a-form-of-your-own) |
 | digits that you put together yourself | [Parts of a number](#parts-of-a-number) |
+| an error, and want to know what it says | [Errors](#errors) |
+| a call that `rt check` refuses | [What you prove](#what-you-prove) |
 
 **Terms**
 
 - A **word** says how digits are written: `STANDARD` reads `1000`, `PYTHON_LITERAL` also `1_000`. Where a \
-word *drops* a separator, the separator is allowed and skipped. Where it *keeps* the separator, the number ends before it.
+word [drops](#words) a separator, it is skipped; elsewhere the number ends before it.
 - A **form** is a whole grammar, such as `forms::JSON`.
 - A **language** reads integers with their prefixes: `languages::RUST` reads `255` and `0xff`. Don't confuse \
 it with `forms::RUST`, which reads floats, too.
-- A **kind** says which numbers a list or a stream has, a **gap** what is between two of them. A gap *may trail* if \
-a separator may be last, as a line feed. A kind and a gap are *apart* if no byte of the gap can be in a number.
+- A **kind** says which numbers a list or a stream has, a **gap** what is between two of them.
 
 **Calls**
 
@@ -597,7 +598,8 @@ What `Empty` says differs by the type of the error:
 any sign and point: for `.` it is 1 |
 | [`NumberError`](#numbererror) | no number of the form begins at `at`, which is after any sign |
 
-Only `parse_` calls return `Invalid`: a `read_` call for one number leaves what follows it to you.
+Only `parse_` calls return `Invalid`: a `read_` call for one number leaves what follows it to you. Printed, an error \
+says "too large" of a number below the least one of its type, too.
 """
 
 # The calls of the first block, and what is before them. Each is a line of an example.

@@ -51,6 +51,10 @@ def least(found):
     return f"{min(found.values()):.2f}"
 
 
+def most(found):
+    return f"{max(found.values()):.2f}"
+
+
 def by_read():
     """What the calls take that also answer where a number ends."""
     mine, peer = slower_run("f64, coordinates", rows()["f64, coordinates"], READ)
@@ -93,22 +97,22 @@ def readme():
                   "whole text or a JSON number. `*`: rounds some floats wrongly. –: not timed.",
                   ["", "digits, from Rattle", "digits, from C++", *PEERS], map(nanoseconds, SHOWN))
     verdict = f"""\
-Among the readers that do the same work `digits` is the fastest for {fastest()} kinds of input from Rattle, and for \
-{fastest(door)} from C++. With the calls that also return where the number ends, it \
-is the fastest for {fastest(READ)} from Rattle.
+{fastest().rpartition(' ')[2]} kinds of input were timed beside readers that do the same work, those of Debian 12. From \
+Rattle `digits` is the fastest for {fastest()}, and from C++ for {fastest(door)}. Its calls that also return where the \
+number ends are the fastest for {fastest(READ)}.
 """
     return verdict + "\n" + "\n".join(shown) + f"""
 **You gain** most with 8 to 19 digits, with groups and with hexadecimal digits: down to {least(ratios(INTEGERS))} of the \
 time of the next reader. To write a price takes {times("%.2f, prices", "%.2f, 3 digits")} of the time of `to_chars`.
 
-**You lose** here, beside the fastest other library:
+**You lose** here. The number is the time of `digits`, divided by that of the fastest other library:
 
 | What | Times as long |
 |---|---|
 | write a `u64` of up to 4 digits | {times("u64, 3 digits", "u64, 1 to 4")} |
 | write a `u64` of 1 to 20 digits | {times("u64, 1 to 20")} |
 | write the shortest text of a float, except coordinates and prices of `f64` | {times("f64, random", "f64, in [", "f64, whole", "f64, powers", "f64 with an", "f32, ")} |
-| read a number and where it ends | {span(("u64", "f64"), READ)} |
+| read a number and where it ends: for {fastest(READ)} kinds of input this is faster here | up to {most(ratios(("u64", "f64"), READ))} |
 | write `%.2f` of numbers up to 1e22 | {times("%.2f, in [0, 1e22)")} |
 | write `%.6e` of coordinates | {times("%.6e, coordinates", "%.6e, 3 digits")} |
 | write `%.6e` of floats of any size: it computes every digit | {times("%.6e, random bits")} |

@@ -8,9 +8,9 @@ ghost use Rattle.lexical_digits.specs.Moves.{IsFresh, outcome_later};
 use digit_literals::{Gap, ListRead};
 
 /// A kind of numbers of a text, such as integers of a type by a word. It says how one number is
-/// read, and which bytes may be in it. The first byte that can't be in a number ends it. What
-/// follows that byte doesn't change how the number is read, and neither does what comes before the
-/// nearest such byte in front of the number.
+/// read, and which bytes may be in it. Call a byte that can't be in a number a border: how a number
+/// is read depends only on the bytes between the last border before it and the first border after
+/// it.
 pub trait Kind: Copy {
     /// A number.
     type Number: Copy;

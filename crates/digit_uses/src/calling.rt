@@ -139,6 +139,7 @@ use digits::{FoldError, fold_stream, integers_are_apart};
 
 /// Adds up the numbers that a text lists, however many there are: `80, 443` gives 523.
 pub fn sum_text(text: &[u8]) -> Result<u64, FoldError<LiteralError>> {
+    // A stream needs this line, and `rt check` doesn't ask for it.
     integers_are_apart::<u64>(STANDARD, COMMAS);
     let mut buffer = [0; 4096];
     let kind = Integers::<u64>::new(STANDARD);
