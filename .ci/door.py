@@ -145,7 +145,7 @@ class Door:
             self.lost += [] if found else [f"IMPLS of .ci/door_texts.py: {path} has no `{head}`"]
             text = "\n".join(it.text for it in found)
             if name == "Kind":
-                text = re.sub(r"^    ghost [^;]*;\n+", "", text, flags=re.M)
+                text = re.sub(r"^    ghost [^;]*;\n+", "", text, flags=re.M).replace("\n\n}", "\n}")
             return [f"// {words}", *text.split("\n")]
         of_type = name.partition("::")[0] in METHODS
         code = "\n\n".join(code for names_of, code in self.tests

@@ -137,7 +137,7 @@ GROUPS = {
         | [`Enclosed { opening: b'"', kind, closing: b'"' }`](#enclosed) | `"1.50"` | one of `kind` | [`BracketError`](#bracketerror) |
 
         For values of your own write an [`impl Item`](#item), or an
-        [`impl Kind`](../../crates/digit_pieces/README.md).""", """
+        [`impl Kind`](#kind).""", """
         read_optional Integers Floats OfForm OfLanguage Scaled Prices Both Enclosed Kind Item NoNumber
         BothError BracketError"""),
     "Streams": ("""
@@ -426,7 +426,7 @@ CONDITIONS = {
 
 # The impls that a trait's entry shows: the file, its head, and where the words are.
 IMPLS = {"Kind": ("crates/digit_uses/src/kinds.rt", "impl Kind for UpTo",
-                  "the 15 ghost lines are left out: copy them from kinds.rt of digit_uses"),
+                  "`UpTo` has the fields `word` and `most`; the 15 ghost members are left out: copy them from kinds.rt of digit_uses"),
          "Item": ("crates/digit_uses/src/points.rt", "impl Item for Point",
                   "the definitions that its ghost lines name are in specs/Points.antt of digit_uses")}
 
@@ -460,7 +460,7 @@ LINES
 | a number, and want its text | [Writing](#writing) |
 | another separator or radix | [Words](#words) |
 | another grammar | [A form of your own](#a-form-of-your-own) |
-| digits that you put together yourself | [Parts of a number](#parts-of-a-number) |
+| a float in a notation that no form has, such as `1,25d2` | [Parts of a number](#parts-of-a-number) |
 | an error, and want to know what it says | [Errors](#errors) |
 | a call that `rt check` refuses | [What you prove](#what-you-prove) |
 
@@ -487,9 +487,9 @@ the number is 0. To hide what is before, pass `&text[start..]`.
 
 **Entries**
 
+- `// you prove` names what has to hold before the call ([what you prove](#what-you-prove)).
 - In an example the comment after a call is its result, and `?` takes a value out of `Ok` or `Some`. Names \
 are in `{DOOR}`, unless the example imports them.
-- `// you prove` names what has to hold before the call ([what you prove](#what-you-prove)).
 - An entry is short. Every further rule of a call is on the page of its library, with the contract, whose \
 [signs]({CLAUSES}.md) and [terms]({WORDS}.md) have pages of their own.
 - Types derive `Copy`, `Debug`, `PartialEq` and `Eq`, and errors have `Display` and `Error`, unless their \

@@ -103,14 +103,15 @@ number ends are the fastest for {fastest(READ)}.
 """
     return verdict + "\n" + "\n".join(shown) + f"""
 **You gain** most with 8 to 19 digits, with groups and with hexadecimal digits: down to {least(ratios(INTEGERS))} of the \
-time of the next reader. To write a price takes {times("%.2f, prices", "%.2f, 3 digits")} of the time of `to_chars`.
+time of the next reader. To write a float such as 12.5 with two \
+places takes `write_fixed` {times("%.2f, prices", "%.2f, 3 digits")} of the time of `to_chars`.
 
 **You lose** here. The number is the time of `digits`, divided by that of the fastest other library:
 
 | What | Times as long |
 |---|---|
 | write a `u64` of up to 4 digits | {times("u64, 3 digits", "u64, 1 to 4")} |
-| write a `u64` of 1 to 20 digits | {times("u64, 1 to 20")} |
+| write a `u64` of 1 to 20 digits, by chance; of 8, 16 or 20 digits it is {times("u64, 8 digits", "u64, 16 digits", "u64, 20 digits")} | {times("u64, 1 to 20")} |
 | write the shortest text of a float, except coordinates and prices of `f64` | {times("f64, random", "f64, in [", "f64, whole", "f64, powers", "f64 with an", "f32, ")} |
 | read a number and where it ends: for {fastest(READ)} kinds of input this is faster here | up to {most(ratios(("u64", "f64"), READ))} |
 | write `%.2f` of numbers up to 1e22 | {times("%.2f, in [0, 1e22)")} |

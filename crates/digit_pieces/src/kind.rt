@@ -8,9 +8,8 @@ ghost use Rattle.lexical_digits.specs.Moves.{IsFresh, outcome_later};
 use digit_literals::{Gap, ListRead};
 
 /// A kind of numbers of a text, such as integers of a type by a word. It says how one number is
-/// read, and which bytes may be in it. Call a byte that can't be in a number a border: how a number
-/// is read depends only on the bytes between the last border before it and the first border after
-/// it.
+/// read, and which bytes may be in it. A byte that can't be in a number is a border. What lies
+/// beyond the nearest border on either side must not change how a number is read.
 pub trait Kind: Copy {
     /// A number.
     type Number: Copy;

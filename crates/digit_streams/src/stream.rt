@@ -24,9 +24,9 @@ pub enum StreamError<E> {
     TooLong,
     /// The list has ended, and the stream goes on at this position. `Some(error)` says why no
     /// number begins there, after the blanks of the gap; its position counts from the start of the
-    /// stream. `None` has one of three reasons: a number does begin there, and only its separator
-    /// is missing; one may begin there, but its end isn't in the buffer; or the error's position is
-    /// above `u64::MAX`. Only `finish` and `fold_stream` return it.
+    /// stream. `None` means that a number begins there without a separator before it, as in `1 2`
+    /// by `COMMAS`. In two rare cases it is `None`, too: the buffer doesn't hold the whole number,
+    /// or the position is above `u64::MAX`. Only `finish` and `fold_stream` return it.
     Trailing(u64, Option<E>),
 }
 

@@ -12,11 +12,11 @@ ghost use Rattle.lexical_format.specs.Builder.{bit_if, flags_number, word_of, se
 pub struct DigitSeparatorFlags {
     /// Drops internal separators: a digit on both sides.
     pub internal: bool,
-    /// Drops leading separators: no digit was read before, and no other separator is beside it.
+    /// Drops a separator before the first digit, such as the `_` of `_1`, if no other separator is
+    /// beside it.
     pub leading: bool,
-    /// Drops a separator that neither a digit nor another separator follows, such as the `_` of
-    /// `1_`. Before the first digit it does so only if no separator is directly before it: `_` is
-    /// dropped, and `__` is kept.
+    /// Drops a separator at the end of the digits, such as the `_` of `1_`, if no other separator
+    /// follows it. Without a digit, `_` is dropped, and `__` is kept.
     pub trailing: bool,
     /// Judges a run of separators as one separator. By itself it drops nothing.
     pub consecutive: bool,
