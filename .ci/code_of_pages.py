@@ -19,7 +19,7 @@ SHOWN = {"docs/IMPLEMENTING.md": ("crates/digit_vectors", ("rust", "antt")),
 # has a call and its answer, and how the file has them.
 DOORS = ("README.md", "c/README.md")
 OTHERS = {
-    "rs": ("c/rust/src/lib.rs", r"(?:let \w+ = )?(.*?);? // ((?:Ok|Some)\(.*?\))(?:: .*)?", "assert_eq!({}, {})"),
+    "rs": ("c/rust/src/lib.rs", r" *(?:let \w+ = )?(.*?);? // ((?:Ok|Some)\(.*?\))(?:: .*)?", "assert_eq!({}, {})"),
     "python": ("c/python/digits.py", r"(.*?)  # (.*)", ">>> {}\n{}"),
 }
 # What begins the blocks that a reader puts in the place of others; `.ci/setup` does so.

@@ -319,6 +319,11 @@ NOTES = {
         [`has_byte`](#has_byte), or read a signed type.""",
     "read_grouped_from": "The word `GROUPS` is written [from its parts](#words).",
     "read_price_from": "The words `GROUPS` and `DOTS` are written [from their parts](#words).",
+    "write_scaled": """
+        [`read_scaled_from`](#read_scaled_from) reads the text back, with the same point and places, by each word
+        that reads such amounts.""",
+    "write_price": """
+        [`read_price_from`](#read_price_from) reads the text back, by each word that reads such prices.""",
     "fold_stream": """
         For an empty stream it returns `init` if the gap may trail, as `LINES` may. With `COMMAS` an empty stream is
         an error.""",
@@ -490,8 +495,8 @@ the number is 0. To hide what is before, pass `&text[start..]`.
 - `// you prove` names what has to hold before the call ([what you prove](#what-you-prove)).
 - In an example the comment after a call is its result, and `?` takes a value out of `Ok` or `Some`. Names \
 are in `{DOOR}`, unless the example imports them.
-- An entry is short. Every further rule of a call is on the page of its library, with the contract, whose \
-[signs]({CLAUSES}.md) and [terms]({WORDS}.md) have pages of their own.
+- *Details and contract* leads to the contract, and to rare rules. Its [signs]({CLAUSES}.md) and [terms]({WORDS}.md) \
+have pages of their own.
 - Types derive `Copy`, `Debug`, `PartialEq` and `Eq`, and errors have `Display` and `Error`, unless their \
 entry says otherwise.
 

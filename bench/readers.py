@@ -98,8 +98,8 @@ def readme():
                   ["", "digits, from Rattle", "digits, from C++", *PEERS], map(nanoseconds, SHOWN))
     verdict = f"""\
 {fastest().rpartition(' ')[2]} kinds of input were timed beside readers that do the same work, those of Debian 12. From \
-Rattle `digits` is the fastest for {fastest()}, and from C++ for {fastest(door)}. Its calls that also return where the \
-number ends are the fastest for {fastest(READ)}.
+Rattle `digits` is the fastest for {fastest()}, and from C++ for {fastest(door)}. With the calls that also return where the \
+number ends, no other is faster for {fastest(READ)}.
 """
     return verdict + "\n" + "\n".join(shown) + f"""
 **You gain** most with 8 to 19 digits, with groups and with hexadecimal digits: down to {least(ratios(INTEGERS))} of the \
@@ -113,11 +113,12 @@ places takes `write_fixed` {times("%.2f, prices", "%.2f, 3 digits")} of the time
 | write a `u64` of up to 4 digits | {times("u64, 3 digits", "u64, 1 to 4")} |
 | write a `u64` of 1 to 20 digits, by chance; of 8, 16 or 20 digits it is {times("u64, 8 digits", "u64, 16 digits", "u64, 20 digits")} | {times("u64, 1 to 20")} |
 | write the shortest text of a float, except coordinates and prices of `f64` | {times("f64, random", "f64, in [", "f64, whole", "f64, powers", "f64 with an", "f32, ")} |
-| read a number and where it ends: for {fastest(READ)} kinds of input this is faster here | up to {most(ratios(("u64", "f64"), READ))} |
+| read a number and where it ends: for {fastest(READ)} kinds of input no other is faster | up to {most(ratios(("u64", "f64"), READ))} |
 | write `%.2f` of numbers up to 1e22 | {times("%.2f, in [0, 1e22)")} |
 | write `%.6e` of coordinates | {times("%.6e, coordinates", "%.6e, 3 digits")} |
 | write `%.6e` of floats of any size: it computes every digit | {times("%.6e, random bits")} |
-| read floats in groups, loop over digits by an iterator | [by how much](docs/SPEED.md#where-you-lose) |
+| read floats in groups | [by how much](docs/SPEED.md#where-you-lose) |
+| loop over the digits of a number by an iterator | [by how much](docs/SPEED.md#where-you-lose) |
 
 The other readers are Debian 12's: fast_float 3.9.0 (for C++), lexical-core 0.7.6, serde_json 1.0.87, simdjson 3.0.1. \
 Newer ones, the crate fast-float and `digits-sys` weren't timed. [SPEED.md](docs/SPEED.md) has every kind of input, and \

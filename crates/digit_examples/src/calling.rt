@@ -2,15 +2,15 @@
 
 use digit_uses::calling::{
     COMMA_DIGITS, Entry, SEMICOLONS, first_above, has_port, line_and_column, parse_entry,
-    parse_price, sum_array, sum_lengths, sum_of, sum_text,
+    parse_price, read_array, sum_array, sum_lengths, sum_of, sum_text,
 };
 use digit_uses::proving;
 use digit_uses::sums::sum_list;
 use digits::words::PYTHON_LITERAL;
 use digits::{
     COMMAS, EnclosedFoldError, FloatError, FoldError, Integers, LINES, ListError, LiteralError,
-    NumberError, NumberReader, ParseError, PriceError, STANDARD, ScaledError, StreamError, forms,
-    parse_float, parse_list, parse_number, parse_number_from, parse_number_of, parse_scaled,
+    Number, NumberError, NumberReader, ParseError, PriceError, STANDARD, ScaledError, StreamError,
+    forms, parse_float, parse_list, parse_number, parse_number_from, parse_number_of, parse_scaled,
     read_exact_from, read_float, read_grouped_from, read_number, read_number_of, read_price_from,
     read_scaled_from,
 };
@@ -397,4 +397,12 @@ fn a_separator_at_a_start(rt: HostRuntime) {
     assert!(rt; from_1 == Ok(0));
     let alone = parse_number::<u64>(b"_000", PYTHON_LITERAL);
     assert!(rt; alone == Err(ParseError::Invalid(0)));
+}
+
+/// An array into a slice.
+#[test]
+fn an_array_into_a_slice(rt: HostRuntime) {
+    let mut out = [Number::Float(0.0); 3];
+    assert!(rt; read_array(b"[1, 2.5], 3", &mut out) == Ok((2, 8)));
+    assert!(rt; out[0].to_float() == 1.0 && out[1].to_float() == 2.5);
 }

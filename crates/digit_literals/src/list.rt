@@ -88,9 +88,8 @@ pub enum ListEnd<E> {
     /// The slice is full. The next number may begin at this position: after a separator, or at
     /// `start` if the slice has no place.
     Full(usize),
-    /// The list has ended without a fault. At this position, past the blanks after the last number,
-    /// is the first byte after it, or the end of the text. No separator is there, or, if the gap
-    /// may trail, no number begins there.
+    /// The list has ended without a fault: this is the first byte after the last number and its
+    /// blanks, or the end of the text. If the gap may trail, it may also be after a last separator.
     Over(usize),
     /// A number is missing where one has to be, or one begins and is refused, such as one too
     /// large, or of a signed type a `-` without a digit.

@@ -182,6 +182,25 @@ pub fn read_token(text: &[u8], start: usize) -> Result<(Number<f64>, usize), Num
     }
 }
 
+use digits::{EnclosedError, OfForm, read_enclosed};
+
+/// Reads the JSON array at the front of a text into a slice, and returns how many numbers it has,
+/// and where it ends: `[1, 2.5]` gives `(2, 8)`.
+pub fn read_array(
+    text: &[u8],
+    out: &mut [Number<f64>],
+) -> Result<(usize, usize), EnclosedError<NumberError>> {
+    read_enclosed(
+        OfForm::<f64>::new(forms::JSON),
+        text,
+        0,
+        b'[',
+        COMMAS,
+        b']',
+        out,
+    )
+}
+
 use digits::{read_exactly, read_optional, read_scaled_from};
 
 /// A line of a CSV file.
@@ -274,7 +293,7 @@ pub fn first_above<R: Read + Drop>(
     Ok(found)
 }
 
-use digits::{EnclosedFoldError, OfForm, numbers_are_apart};
+use digits::{EnclosedFoldError, numbers_are_apart};
 
 /// Adds up a stream that is one JSON array, with any blanks around it: `[1, 2.5]` gives 3.5.
 pub fn sum_array<R: Read + Drop>(stream: R) -> Result<f64, EnclosedFoldError<NumberError>> {

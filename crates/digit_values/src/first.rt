@@ -21,7 +21,8 @@ use lexical_digits::iterator::Iter;
 use lexical_digits::skip::{Bytes, Component, Rule};
 use lexical_format::char_to_digit_const;
 
-/// The digits of a component, of which the first were read after a value, and the others passed.
+/// What [`read_first_digits_from`] returns: the value of the digits that were read, how many digits
+/// there are, and how many of them were only passed.
 #[derive(Clone, Copy, Debug, PartialEq, Eq)]
 pub struct FirstDigits {
     /// The value of the digits before them and of those that were read, as one number.
