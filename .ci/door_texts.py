@@ -373,8 +373,7 @@ NOTES = {
         `grouped` returns an `Option`. If its arguments are constants, the prover sees that it is `Some`, and you write
         `let Some(layout) = Layout::decimal().grouped(b',', 3) else { unreachable!() };`.
 
-        You prove nothing: every layout is valid. A ghost field, which the methods fill, holds the proof of
-        that.""",
+        Make a layout by these methods: they keep it valid, so you prove nothing.""",
     "DigitSeparatorFlags": """
         | Flag | It drops the `_` of | With `consecutive` also those of |
         |---|---|---|
