@@ -16,8 +16,9 @@ GROUPS = {
         read_exactly | Reads exactly `n` digits: the `2026` of a date
         read_at_most | Reads one to `n` digits: the `7` of `7:05`
         count_digits | Counts the digits of a text""", """
-        The types are `u8` to `u128`, `i8` to `i128`, `usize` and `isize`. The first four calls read a sign if the
-        type is signed: `-1` and `+1` are read as an `i32`, and refused as a `u32`.""", """
+        The types are `u8` to `u128`, `i8` to `i128`, `usize` and `isize`. The first four calls read `[+-]?
+        D+` as a signed type, and `D+` as an unsigned one, where `D` is a digit of the word's radix: `+1` is 1
+        as an `i32`, and refused as a `u32`. Leading zeros are allowed, and `-0` is 0. No prefix is read.""", """
         parse_number parse_number_from read_number read_number_from read_integer_from read_wide_from
         read_exactly read_at_most count_digits Integer ParseError LiteralError"""),
     "Floats": ("""
@@ -60,7 +61,8 @@ GROUPS = {
         languages | All languages by name
         is_language | Tests a language of your own""", """
         To read a whole text, compare the end with `text.len()`, or call [`parse_number_of`](#parse_number_of)
-        by the form of the language, such as `forms::RUST`, and then `as_integer`.""", """
+        by the form of the language, such as `forms::RUST`, and then `as_integer`. `JULIA` and `ZIG` have no
+        form by name, and for `C` it is `forms::C89` or `forms::C99`.""", """
         read_literal_as read_literal prefix_word languages is_language Literal Language FirstZero
         LanguageError"""),
     "Bytes between numbers": ("""
@@ -485,8 +487,9 @@ writes a number into your slice, and returns its length ([names and arguments](#
 fault ([errors](#errors)).
 - A call for one number skips no blanks: skip them with [`past_bytes`](#past_bytes). Lists and streams skip \
 the blanks of their gap.
-- A separator at `start` is judged with the byte before it: from 1 on, `PYTHON_LITERAL` drops the `_` of `1_000`, and \
-the number is 0. To hide what is before, pass `&text[start..]`.
+- A call with a `start` also looks at the byte before it, to judge a separator at `start`. So \
+`parse_number_from::<u64>(b"1_000", PYTHON_LITERAL, 1)` is `Ok(0)`: its `_` is between two digits. `&text[1..]` hides \
+the `1`, and then the `_` is refused.
 - No call panics or allocates.
 
 **Entries**
@@ -602,8 +605,8 @@ What `Empty` says differs by the type of the error:
 any sign and point: for `.` it is 1 |
 | [`NumberError`](#numbererror) | no number of the form begins at `at`, which is after any sign |
 
-Only `parse_` calls return `Invalid`: a `read_` call for one number leaves what follows it to you. Printed, an error \
-says "too large" of a number below the least one of its type, too.
+Only `parse_` calls return `Invalid`: a `read_` call for one number leaves what follows it to you. A number below \
+the least of its type, as -129 of an `i8`, is `Overflow`, or `TooLarge` of an amount, too, and prints as "too large".
 """
 
 # The calls of the first block, and what is before them. Each is a line of an example.

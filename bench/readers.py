@@ -93,11 +93,12 @@ def nanoseconds(row):
 def readme():
     """What README.md has between its comments: the times beside those of others, gain and loss."""
     door = f"{LIBRARY}, from C"
-    shown = table("Nanoseconds a number, on one core of a Xeon, in the worse of two runs for `digits`. Each number is a "
-                  "whole text or a JSON number. `*`: rounds some floats wrongly. –: not timed.",
+    shown = table("Nanoseconds for one number, on one core of a Xeon. Of two runs each row shows the one in which `digits` was "
+                  "slower from Rattle. Each number is a whole text or a JSON number. `*`: rounds some floats wrongly, built "
+                  "without its feature `float_roundtrip`. –: not timed.",
                   ["", "digits, from Rattle", "digits, from C++", *PEERS], map(nanoseconds, SHOWN))
     verdict = f"""\
-{fastest().rpartition(' ')[2]} kinds of input were timed beside readers that do the same work, those of Debian 12. From \
+{fastest().rpartition(' ')[2]} kinds of input were timed beside other readers that do the same work. From \
 Rattle `digits` is the fastest for {fastest()}, and from C++ for {fastest(door)}. With the calls that also return where the \
 number ends, no other is faster for {fastest(READ)}.
 """
@@ -111,7 +112,7 @@ places takes `write_fixed` {times("%.2f, prices", "%.2f, 3 digits")} of the time
 | What | Times as long |
 |---|---|
 | write a `u64` of up to 4 digits | {times("u64, 3 digits", "u64, 1 to 4")} |
-| write a `u64` of 1 to 20 digits, by chance; of 8, 16 or 20 digits it is {times("u64, 8 digits", "u64, 16 digits", "u64, 20 digits")} | {times("u64, 1 to 20")} |
+| write a `u64` of a random length of 1 to 20 digits; if all have 8, 16 or 20 digits, you gain: {times("u64, 8 digits", "u64, 16 digits", "u64, 20 digits")} | {times("u64, 1 to 20")} |
 | write the shortest text of a float, except coordinates and prices of `f64` | {times("f64, random", "f64, in [", "f64, whole", "f64, powers", "f64 with an", "f32, ")} |
 | read a number and where it ends: for {fastest(READ)} kinds of input no other is faster | up to {most(ratios(("u64", "f64"), READ))} |
 | write `%.2f` of numbers up to 1e22 | {times("%.2f, in [0, 1e22)")} |
@@ -120,6 +121,6 @@ places takes `write_fixed` {times("%.2f, prices", "%.2f, 3 digits")} of the time
 | read floats in groups | [by how much](docs/SPEED.md#where-you-lose) |
 | loop over the digits of a number by an iterator | [by how much](docs/SPEED.md#where-you-lose) |
 
-The other readers are Debian 12's: fast_float 3.9.0 (for C++), lexical-core 0.7.6, serde_json 1.0.87, simdjson 3.0.1. \
+std is that of Rust 1.95.0. The other readers are Debian 12's: fast_float 3.9.0 (for C++), lexical-core 0.7.6, serde_json 1.0.87, simdjson 3.0.1. \
 Newer ones, the crate fast-float and `digits-sys` weren't timed. [SPEED.md](docs/SPEED.md) has every kind of input, and \
 how to call so that it is fast."""

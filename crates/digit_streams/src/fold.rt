@@ -17,8 +17,8 @@ use std::io::Read;
 /// Why a fold of the numbers of a stream has no value.
 #[derive(Clone, Copy, Debug, PartialEq, Eq)]
 pub enum FoldError<E> {
-    /// The step returned `None`. This is the position after the number that it was given, where the
-    /// next one may begin.
+    /// The step returned `None`. The next number may begin at this position: after the number that
+    /// the step was given, and after the separator that follows it.
     Stopped(u64),
     /// Why there is no number.
     Stream(StreamError<E>),

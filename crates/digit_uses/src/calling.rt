@@ -303,7 +303,7 @@ pub fn sum_array<R: Read + Drop>(stream: R) -> Result<f64, EnclosedFoldError<Num
     let mut numbers = NumberReader::new(stream, &mut buffer, kind, COMMAS);
     let add = |sum: f64, number: Number<f64>| Some(sum + number.to_float());
     let sum = numbers.fold_enclosed(b'[', b']', 0.0, add)?;
-    // A `\n` is a blank of `COMMAS`: this passes the blanks after the array, and nothing else.
+    // `pass_byte` first skips the blanks of the gap. `\n` is one of them, so this call only skips.
     numbers.pass_byte(b'\n').map_err(of_array)?;
     numbers.finish().map_err(of_array)?;
     Ok(sum)

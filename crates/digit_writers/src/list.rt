@@ -90,9 +90,10 @@ fn put_list<T: Written>(numbers: &[T], separator: u8, out: &mut [u8]) -> usize
     at
 }
 
-/// Writes integers with a byte between two of them. `parse_list` reads them back with a word of
-/// radix 10 and a gap that has this byte as a separator and no byte that can be in a number: for
-/// `,` take `STANDARD` and `COMMAS`. `COMMAS` refuses an empty list; `LINES` reads it.
+/// Writes integers with a byte between two of them. `parse_list` reads them back: for `,` with
+/// `STANDARD` and `COMMAS`. In general the word needs radix 10, the gap needs this byte as a
+/// separator, and no byte of the gap may be part of a number. `COMMAS` refuses an empty list;
+/// `LINES` reads it.
 ///
 /// The call puts them at the front of a slice, in decimal, and returns how many bytes that takes.
 /// Of no number there is no byte. `IsListReadBy` says which words and gaps read the list: by them
