@@ -472,8 +472,8 @@ LINES
 
 **Terms**
 
-- A **word** says how digits are written: `STANDARD` reads `1000`, `PYTHON_LITERAL` also `1_000`. Where a \
-word [drops](#words) a separator, it is skipped; elsewhere the number ends before it.
+- A **word** says how digits are written: `STANDARD` reads `1000`, `PYTHON_LITERAL` also `1_000`. A separator \
+is skipped where the word allows one (the word [drops](#words) it there). At any other place the number ends before it.
 - A **form** is a whole grammar, such as `forms::JSON`.
 - A **language** reads integers with their prefixes: `languages::RUST` reads `255` and `0xff`. Don't confuse \
 it with `forms::RUST`, which reads floats, too.
@@ -578,6 +578,9 @@ What is known only at run time you test first:
 | those of numbers by a form | [`NumberError`](#numbererror) |
 | `read_literal`, `read_literal_as` | [`LanguageError`](#languageerror) |
 | those of amounts | [`ScaledError`](#scalederror); with exact places or groups [`PriceError`](#priceerror) |
+| `read_decimal_from`, `read_decimal_of` | [`FloatError`](#floaterror), [`NumberError`](#numbererror) |
+| `read_list`, and the others that return a [`ListRead`](#listread) | the error of one number, in `ListEnd::Fault` |
+| `expect_byte`, `expect_bytes`, `count_digits`, `read_exponent` | the position itself, a `usize` |
 | `parse_list`, `read_enclosed` | [`ListError`](#listerror), [`EnclosedError`](#enclosederror) |
 | `next_number`, `finish`; `fold_stream`; `fold_enclosed` | [`StreamError`](#streamerror); [`FoldError`](#folderror); \
 [`EnclosedFoldError`](#enclosedfolderror) |

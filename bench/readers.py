@@ -98,21 +98,22 @@ def readme():
                   "without its feature `float_roundtrip`. –: not timed.",
                   ["", "digits, from Rattle", "digits, from C++", *PEERS], map(nanoseconds, SHOWN))
     verdict = f"""\
-{fastest().rpartition(' ')[2]} kinds of input were timed beside other readers that do the same work. From \
-Rattle `digits` is the fastest for {fastest()}, and from C++ for {fastest(door)}. With the calls that also return where the \
-number ends, no other is faster for {fastest(READ)}.
+{fastest().rpartition(' ')[2]} kinds of input were timed, each beside other readers that do the same work. Called from \
+Rattle, `digits` is the fastest for {fastest()}; called from C++, for {fastest(door)}. The calls that also return where \
+the number ends were timed for {fastest(READ).rpartition(' ')[2]}: for {fastest(READ).partition(' ')[0]} of them no other reader is faster.
 """
     return verdict + "\n" + "\n".join(shown) + f"""
 **You gain** most with 8 to 19 digits, with groups and with hexadecimal digits: down to {least(ratios(INTEGERS))} of the \
 time of the next reader. To write a float such as 12.5 with two \
-places takes `write_fixed` {times("%.2f, prices", "%.2f, 3 digits")} of the time of `to_chars`.
+places takes `write_fixed` {times("%.2f, prices", "%.2f, 3 digits")} of the time of \
+`to_chars`; for numbers up to 1e22 it loses, as the table shows.
 
 **You lose** here. The number is the time of `digits`, divided by that of the fastest other library:
 
 | What | Times as long |
 |---|---|
 | write a `u64` of up to 4 digits | {times("u64, 3 digits", "u64, 1 to 4")} |
-| write a `u64` of a random length of 1 to 20 digits; if all have 8, 16 or 20 digits, you gain: {times("u64, 8 digits", "u64, 16 digits", "u64, 20 digits")} | {times("u64, 1 to 20")} |
+| write `u64`s whose lengths vary at random from 1 to 20 digits; where all have 8, 16 or 20, you gain: {times("u64, 8 digits", "u64, 16 digits", "u64, 20 digits")} | {times("u64, 1 to 20")} |
 | write the shortest text of a float, except coordinates and prices of `f64` | {times("f64, random", "f64, in [", "f64, whole", "f64, powers", "f64 with an", "f32, ")} |
 | read a number and where it ends: for {fastest(READ)} kinds of input no other is faster | up to {most(ratios(("u64", "f64"), READ))} |
 | write `%.2f` of numbers up to 1e22 | {times("%.2f, in [0, 1e22)")} |

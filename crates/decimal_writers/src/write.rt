@@ -210,7 +210,7 @@ pub fn write_exponent(
     write_exponent_text(negative, digits, count_digits(digits), power, out)
 }
 
-/// Writes digits and a power of ten as serde_json writes a float: `0.00012`, `12000.0`, `1e-7`,
+/// Writes digits and a power of ten as serde_json writes an `f64`: `0.00012`, `12000.0`, `1e-7`,
 /// `1e16`.
 ///
 /// The call puts the text at the front of a slice, and returns its length, or the room that it

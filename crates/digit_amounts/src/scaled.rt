@@ -226,7 +226,8 @@ fn fault_of(text: &[u8], word: u128, mantissa: Mantissa, places: usize, most: u1
     start + count_fitting(&text[start..mantissa.end], whole, places, most)
 }
 
-/// Reads an amount without a sign, up to `most`: for a `DECIMAL(9, 2)` of SQL, 999,999,999.
+/// Reads an amount without a sign, up to `most`. Like the result, `most` counts units of the last
+/// place: for a `DECIMAL(9, 2)` of SQL it is 999,999,999.
 ///
 /// It is [`read_scaled_from`] of a number whose sign is yours to read. Requires what that does.
 #[inline]

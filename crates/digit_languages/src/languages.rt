@@ -275,7 +275,8 @@ pub const ERLANG: Language = Language {
     first_zero: FirstZero::Plain,
 };
 
-/// D: `0b`, `0x`, in either case. `017` is octal: 15. D refuses it from `010` on.
+/// D: `0b`, `0x`, in either case. `017` is read as octal, 15; D's own compiler refuses such a
+/// literal from `010` on.
 pub const D: Language = Language {
     decimal: D_LITERAL,
     binary: Some(D_BINARY_LITERAL),

@@ -26,8 +26,9 @@ pub enum FloatLayout {
     Plain,
     /// With one digit before the point and an exponent, as Rust's `{:e}`: `1.2e-4`, `1.5e0`.
     Exponent,
-    /// As serde_json: with an exponent below 1e-5 and from 1e16 on, and else without, but with one
-    /// place at least: `0.00012`, `12000.0`, `1e-7`, `1e16`.
+    /// With an exponent below 1e-5 and from 1e16 on. In between without one, but with at least one
+    /// place: `0.00012`, `12000.0`, `1e-7`, `1e16`. So serde_json writes an `f64`; its limits for
+    /// an `f32` are others.
     Usual,
 }
 

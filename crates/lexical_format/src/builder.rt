@@ -16,7 +16,7 @@ pub struct DigitSeparatorFlags {
     /// beside it.
     pub leading: bool,
     /// Drops a separator at the end of the digits, such as the `_` of `1_`, if no other separator
-    /// follows it. Without a digit, `_` is dropped, and `__` is kept.
+    /// follows it. In a component without any digit a single `_` is dropped, and `__` is kept.
     pub trailing: bool,
     /// Judges a run of separators as one separator. By itself it drops nothing.
     pub consecutive: bool,
