@@ -13,8 +13,8 @@
 //! ```
 //!
 //! A number stands as it is given: 0 with a minus is `-0`, and a last digit that is 0 is written.
-//! If the digits are the shortest of a float, its texts are those of Rust's `{}` and `{:e}` and of
-//! serde_json.
+//! If the digits are the shortest of a float, its texts are those of Rust's `{}` and `{:e}`, and of
+//! an `f64` those of serde_json.
 //!
 //! [`write_fixed`] writes a float itself with a fixed number of places: 0.125 with two is `0.12`,
 //! rounded once and at a tie to the even digit, as C's `%.2f` does. [`write_scientific`] writes it
