@@ -106,7 +106,7 @@ the number ends were timed for {fastest(READ).rpartition(' ')[2]}: for {fastest(
 **You gain** most with 8 to 19 digits, with groups and with hexadecimal digits: down to {least(ratios(INTEGERS))} of the \
 time of the next reader. To write a float such as 12.5 with two \
 places takes `write_fixed` {times("%.2f, prices", "%.2f, 3 digits")} of the time of \
-`to_chars`; for numbers up to 1e22 it loses, as the table shows.
+`to_chars`; for numbers anywhere in [0, 1e22), most of them huge, it loses, as the table shows.
 
 **You lose** here. The number is the time of `digits`, divided by that of the fastest other library:
 
@@ -116,7 +116,7 @@ places takes `write_fixed` {times("%.2f, prices", "%.2f, 3 digits")} of the time
 | write `u64`s whose lengths vary at random from 1 to 20 digits; where all have 8, 16 or 20, you gain: {times("u64, 8 digits", "u64, 16 digits", "u64, 20 digits")} | {times("u64, 1 to 20")} |
 | write the shortest text of a float, except coordinates and prices of `f64` | {times("f64, random", "f64, in [", "f64, whole", "f64, powers", "f64 with an", "f32, ")} |
 | read a number and where it ends: for {fastest(READ)} kinds of input no other is faster | up to {most(ratios(("u64", "f64"), READ))} |
-| write `%.2f` of numbers up to 1e22 | {times("%.2f, in [0, 1e22)")} |
+| write `%.2f` of numbers anywhere in [0, 1e22) | {times("%.2f, in [0, 1e22)")} |
 | write `%.6e` of coordinates | {times("%.6e, coordinates", "%.6e, 3 digits")} |
 | write `%.6e` of floats of any size: it computes every digit | {times("%.6e, random bits")} |
 | read floats in groups | [by how much](docs/SPEED.md#where-you-lose) |

@@ -10,7 +10,8 @@ use digit_floats::Marks;
 use digit_languages::{Language, is_language};
 use lexical_format::NumberFormat;
 
-/// How a language or a data format writes numbers: a sign, and an integer or a float.
+/// How a language or a data format writes numbers: a sign, and an integer or a float. Later 0.1.x
+/// may add fields: write one with `..`, from a form that is close.
 #[derive(Clone, Copy, Debug, PartialEq, Eq)]
 pub struct Form {
     /// The signs that a number may begin with.
