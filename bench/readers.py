@@ -93,8 +93,8 @@ def nanoseconds(row):
 def readme():
     """What README.md has between its comments: the times beside those of others, gain and loss."""
     door = f"{LIBRARY}, from C"
-    shown = table("Nanoseconds for one number, on one core of a Xeon. Of two runs each row shows the one in which `digits` was "
-                  "slower from Rattle. Each number is a whole text or a JSON number. `*`: rounds some floats wrongly, built "
+    shown = table("Nanoseconds for one number, on one core of a Xeon. Of two runs each row shows the one in which `digits`, from "
+                  "Rattle, did worse beside the fastest other reader. Each number is a whole text or a JSON number. `*`: rounds some floats wrongly, built "
                   "without its feature `float_roundtrip`. –: not timed.",
                   ["", "digits, from Rattle", "digits, from C++", *PEERS], map(nanoseconds, SHOWN))
     verdict = f"""\

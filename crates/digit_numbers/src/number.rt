@@ -86,8 +86,8 @@ impl<F: Float> Number<F> {
 #[derive(Clone, Copy, Debug, PartialEq, Eq)]
 pub enum NumberError {
     /// No number begins at this position, which is after any sign: it has neither a digit nor a
-    /// special value of the form. [`read_decimal_of`](crate::read_decimal_of) also returns it where
-    /// a prefix or a special value begins.
+    /// special value of the form. `read_decimal_of` also returns it where a prefix or a special
+    /// value begins.
     Empty(usize),
     /// With the digit at this position the integer is above 128 bits.
     Overflow(usize),

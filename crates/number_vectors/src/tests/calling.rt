@@ -152,7 +152,7 @@ fn a_form_of_ones_own_has_a_comma(rt: HostRuntime) {
 }
 
 #[test]
-fn a_word_of_ones_own_has_commas(rt: HostRuntime) {
+fn a_word_of_ones_own_has_points(rt: HostRuntime) {
     assert!(rt; parse_count(b"1.234") == Ok(1234));
     assert!(rt; parse_count(b"1.2.3") == Ok(123));
     assert!(rt; parse_count(b"1.234.") == Err(ParseError::Invalid(5)));
