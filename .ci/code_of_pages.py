@@ -22,6 +22,9 @@ OTHERS = {
     "rs": ("c/rust/src/lib.rs", r" *(?:let \w+ = )?(.*?);? // ((?:Ok|Some)\(.*?\))(?:: .*)?", "assert_eq!({}, {})"),
     "python": ("c/python/digits.py", r"(.*?)  # (.*)", ">>> {}\n{}"),
 }
+# The pages that show a contract, with its file.
+CONTRACTS = {"README.md": "crates/digit_writers/src/number.rt",
+             "docs/PROMISES.md": "crates/digit_integers/src/number.rt"}
 # What begins the blocks that a reader puts in the place of others; `.ci/setup` does so.
 CHANGES = ("is_space b =", "    text.iter()")
 
@@ -143,14 +146,14 @@ def first_run(faults):
 
 
 def contract(faults):
-    """The contract that README shows is as the source has it."""
-    path = "crates/digit_integers/src/number.rt"
-    shown = [it for it in blocks_of("README.md", "text") if it[1][0].startswith("pub fn")]
-    for first, block in shown:
-        if "\n".join(block) + "\n{\n" not in read(path):
-            faults.append(f"README.md:{first}: {path} has another `{block[0]}`")
-    if not shown:
-        faults.append("README.md:1: no contract is shown")
+    """The contracts of README and PROMISES are, or begin, as the sources have them."""
+    for page, path in CONTRACTS.items():
+        shown = [it for it in blocks_of(page, "text") if it[1][0].startswith("pub fn")]
+        for first, block in shown:
+            if "\n".join(block) + "\n" not in read(path):
+                faults.append(f"{page}:{first}: {path} has another `{block[0]}`")
+        if not shown:
+            faults.append(f"{page}:1: no contract is shown")
 
 
 def parts(faults):

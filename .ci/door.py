@@ -10,8 +10,8 @@ import shown
 import sources
 from clauses import SAID
 from door_texts import (ANCHORED, CONDITIONS, DERIVED, ELSEWHERE, FIRST, FIRST_FORMS, FOR_LIBRARY,
-                        GROUPS, HALVES, HEAD, HIDDEN, IMPLS, INDEX, LAW, LAWS, LAWS_HEAD, METHODS,
-                        MORE, MORE_HEAD, NOTES, ROOM, TABLED, TABLES, TAIL, TOLD, UNNAMED, VALUES,
+                        GROUPS, HALVES, HEAD, HIDDEN, IMPLS, INDEX, LAST_USUAL, LAW, METHODS,
+                        MORE, MORE_HEAD, NOTES, ROOM, RULES, TABLED, TABLES, TOLD, UNNAMED, VALUES,
                         WORDS_HEAD)
 from layout import (anchor_of, declaration_of, filled, first_sentence, signature_of, text_of,
                     use_of)
@@ -241,7 +241,7 @@ class Door:
                  for it in re.findall(r"\w+", attr.partition("(")[2])]
         found = [f"`{it}`" for it in found if not (it == "Clone" and "Copy" in found)]
         said = "" if found == DERIVED or item.kind not in ("struct", "enum") else \
-            f" It derives {found[0]} alone." if found == ["`Drop`"] else \
+            f" It derives only {found[0]}." if found == ["`Drop`"] else \
             f" Derives {', '.join(found)}." if found else " It derives no trait."
         is_printed = any(impl.trait == "Display" for impl in library.impls.get(id(item), []))
         return said + (" It has no `Display` and no `Error`." if is_error(item.name) and not is_printed
@@ -378,12 +378,11 @@ class Door:
         for group, (*_, names_of) in GROUPS.items():
             entries = [it for it in names_of.split() if it in self.items and it not in TABLED]
             lines += [*self.section(group), *itertools.chain(*map(self.lines_of, entries))]
+            lines += RULES.split("\n") if group == LAST_USUAL else []
         laws = [it for it in MORE if HALVES.get(it, "").startswith(("…", LAW))]
-        for heading, text, names_of in ((LAWS, LAWS_HEAD, laws),
-                                        (ELSEWHERE, MORE_HEAD, [it for it in MORE if it not in laws])):
-            lines += [f"## {heading}", "", text, "", "| Name | What it is |", "|---|---|",
-                      *self.rows(names_of), ""]
-        lines += [*TAIL.split("\n"), *self.index()]
+        lines += [f"## {ELSEWHERE}", "", MORE_HEAD, "", "| Name | What it is |", "|---|---|",
+                  *self.rows(it for it in MORE if it not in laws), ""]
+        lines += self.index()
         return text_of("\n".join(lines).split("\n"))
 
 

@@ -8,17 +8,17 @@ from sources import DOOR
 GROUPS = {
     "Integers": ("""
         parse_number | Reads a whole text: `-1_000`
-        parse_number_from | … from `start` on: `x=-12` at 2
+        parse_number_from | Reads from `start` to the end of the text: `x=-12` at 2
         read_number | Reads the integer at the front: `8080/tcp`
-        read_number_from | … at `start`: `8080:443` at 5
-        read_integer_from | … without a sign, up to a limit of yours, as a `u64`
-        read_wide_from | … as a `u128`
+        read_number_from | Reads the integer at `start`: `8080:443` at 5
+        read_integer_from | Reads an integer without a sign, up to a limit of yours, as a `u64`
+        read_wide_from | Reads the same as a `u128`
         read_exactly | Reads exactly `n` digits: the `2026` of a date
         read_at_most | Reads one to `n` digits: the `7` of `7:05`
         count_digits | Counts the digits of a text""", """
         The types are `u8` to `u128`, `i8` to `i128`, `usize` and `isize`. The first four calls read `[+-]?
         D+` as a signed type, and `D+` as an unsigned one, where `D` is a digit of the word's radix: `+1` is 1
-        as an `i32`, and refused as a `u32`. Leading zeros are allowed, and `-0` is 0. No prefix is read.""", """
+        as an `i32`, and refused as a `u32`. Separators that the word allows may be among the digits. Leading zeros are allowed, and `-0` is 0. No prefix is read.""", """
         parse_number parse_number_from read_number read_number_from read_integer_from read_wide_from
         read_exactly read_at_most count_digits Integer ParseError LiteralError"""),
     "Floats": ("""
@@ -26,16 +26,16 @@ GROUPS = {
         read_float read_float_from | Read the float at the front, or at `start`, and return where it ends
         round_integer | Rounds an integer to the nearest float""", """
         `-1.5e3` is read as -1500.0. The result is the nearest `f64` or `f32`, and the even one at a tie. A
-        number that is too large becomes infinite; one that is too small becomes 0. This is the grammar, where `D` is a digit:
+        number that is too large becomes infinite; one that is too small becomes 0, with its sign. This is the grammar, where `D` is a digit and `.` the point:
 
         ```text
         [+-]? (D+ (. D*)? | . D+) ([eE] [+-]? D+)?
         ```
 
-        Separators that the word [drops](#words) may be among the digits. `inf` and `nan` are refused; to read
-        them, use `forms::RUST_PARSE` ([numbers by a form](#numbers-by-a-form)).""", """
+        Separators that the word allows may be among the digits. `inf` and `nan` are refused; to read
+        them, use `forms::RUST_PARSE` ([numbers of a form](#numbers-of-a-form)).""", """
         parse_float parse_float_from read_float read_float_from round_integer Float FloatError"""),
-    "Numbers by a form": ("""
+    "Numbers of a form": ("""
         parse_number_of | Reads a whole text: `-1.5e3` of JSON
         read_number_of | Reads the longest number at `start`
         forms | All forms by name
@@ -44,10 +44,10 @@ GROUPS = {
     "Amounts and prices": ("""
         parse_scaled | Reads a whole text: `12.5` is 1250 cents
         read_scaled_from | Reads the amount at `start`
-        read_scaled_up_to | … without a sign, up to a limit of yours
-        read_exact_from | … with exactly `places` decimal places: `12.50`, not `12.5`
-        read_grouped_from | … in groups of three: `1,234.5`
-        read_price_from | … with both: `1,234.50`
+        read_scaled_up_to | Reads an amount without a sign, up to a limit of yours
+        read_exact_from | Reads an amount with exactly `places` decimal places: `12.50`, not `12.5`
+        read_grouped_from | Reads an amount in groups of three: `1,234.5`
+        read_price_from | Reads an amount with exact places and groups: `1,234.50`
         read_decimal_from read_decimal_of | Read digits and a power of ten, before rounding""", """
         With 2 decimal places `12.5` is 1250: an amount is an exact integer, in units of the last place. No
         float is involved. If the type is signed, a sign is read. Only `parse_scaled` reads a whole text;
@@ -56,13 +56,13 @@ GROUPS = {
         read_decimal_from read_decimal_of Decimal ScaledError PriceError"""),
     "Literals of a language": ("""
         read_literal_as | Reads a literal as a number of a type: `0xff`
-        read_literal | … with its word, and where its digits begin
+        read_literal | Reads a literal with its word, and with where its digits begin
         prefix_word | Returns the word of the digits after a prefix
         languages | All languages by name
         is_language | Tests a language of your own""", """
         To read a whole text, compare the end with `text.len()`, or call [`parse_number_of`](#parse_number_of)
-        by the form of the language, such as `forms::RUST`, and then `as_integer`. `JULIA` and `ZIG` have no
-        form by name, and for `C` it is `forms::C89` or `forms::C99`.""", """
+        by the form of the language, such as `forms::RUST`, and then `as_integer`. `JULIA`, `ZIG`, `DIGITS` and `HEX_DIGITS` have no
+        form by name; for `C` it is `forms::C89` or `forms::C99`, and for `JSON_NUMBER` `forms::JSON`.""", """
         read_literal_as read_literal prefix_word languages is_language Literal Language FirstZero
         LanguageError"""),
     "Bytes between numbers": ("""
@@ -73,7 +73,7 @@ GROUPS = {
         byte_at has_byte has_bytes expect_byte expect_bytes past_bytes name_end ByteSet"""),
     "Lists": ("""
         read_list read_float_list read_list_of | Read integers, floats, numbers of a form
-        read_list_by read_items | … of any kind, or values of your own
+        read_list_by read_items | Read numbers of any kind, values of your own
         parse_list | Reads a whole text as a list
         read_enclosed | Reads a list in brackets: `[1, 2]`""", """
         ```rust
@@ -90,12 +90,12 @@ GROUPS = {
 
         | `end` | It says | What you do |
         |---|---|---|
-        | `Over(at)` | the list ended without a fault, and `at` is the first byte after it: in `80, 44x` the `x` | continue at `at`; if nothing may follow, compare `at` with `text.len()`, or call `parse_list` |
+        | `Over(at)` | the list ended without a fault, and `at` is the first byte after it and its blanks: in `80, 44x` the `x` | continue at `at`; if nothing may follow, compare `at` with `text.len()`, or call `parse_list` |
         | `Full(at)` | the slice is full, and the next number may begin at `at` | call again from `at` |
         | `Fault(error)` | a number is missing where one is required, as after a comma, or one begins and is refused | report it |
 
-        `Full` after a number says that a separator follows it, not that another number does. `parse_list`
-        does look for that number. With a slice of two elements:
+        `Full` promises only that a separator follows the last number, and not that another number does. With a
+        slice of two elements:
 
         | Text | Gap | `end` |
         |---|---|---|
@@ -103,9 +103,12 @@ GROUPS = {
         | `80, 443, 8` | `COMMAS` | `Full(8)`, after the second comma |
         | `80\\n443\\n` | `LINES` | `Full(7)`: the call from 7 on returns no number, and `Over(7)` |
 
-        Blanks of the gap are skipped. After a fault the slice has the numbers before it. With `LINES`,
-        `WHITESPACE` and `SPACES_IN_LINE` a separator may come last, and a list may be empty: for `x` the `end` is `Over(0)`. But for
-        `300` as a `u8`, and for `-` as an `i8`, it is a `Fault`, since a number begins there.""", """
+        - Blanks of the gap are skipped before the first number, around separators, and after the last number.
+        - After a fault the slice has the numbers before it.
+        - With `LINES`, `WHITESPACE` and `SPACES_IN_LINE` a separator may come last, and a list may be empty: for
+        `x` the `end` is `Over(0)`.
+        - If a number begins and is refused, it is a `Fault`, and the list isn't over: `300` as a `u8`, `-` as an
+        `i8`. But no number of an unsigned type begins with a sign: of `u32`, `1\\n-2\\n` with `LINES` ends with `Over(2)`.""", """
         read_list read_float_list read_list_of read_list_by read_items parse_list read_enclosed ListRead
         ListEnd ListError EnclosedError"""),
     "Gaps": ("", """
@@ -120,7 +123,7 @@ GROUPS = {
         With `LINES` an empty line ends the list: `80\\n\\n443\\n` ends at 3. To skip empty lines, use
         `WHITESPACE`; then a space separates, too.
 
-        `BLANKS` are space, tab, line feed and carriage return. `SPACES` are space and tab. For another
+        `BLANKS` are space, tab, line feed and carriage return; Rust's `trim` also drops `\\x0b`, `\\x0c` and blanks beyond ASCII. `SPACES` are space and tab. For another
         separator, such as `;`, write a [`Gap`](#gap).""", """
         COMMAS COMMAS_IN_LINE LINES WHITESPACE SPACES_IN_LINE BLANKS SPACES Gap"""),
     "Kinds of numbers": ("""
@@ -163,10 +166,15 @@ GROUPS = {
         greatest // 12
         ```
 
-        Don't forget the first line: `rt check` doesn't ask for it. It makes `rt check` refuse a constant word
-        and gap that don't go together, such as `COMMAS` and a word that reads `1,234`. A stream comes in
-        pieces, and with these a number may be split where a piece ends. At run time the line does nothing.
-        Each kind has its own:
+        **Begin a function over a stream with a line such as the first one.** `rt check` then refuses a constant
+        word and gap that don't go together, such as a word that reads `1,234`, and `COMMAS`. A stream comes in pieces,
+        and such a number may be split where a piece ends. Without the line `rt check` passes, too, but then it isn't
+        proved that you get the numbers of the whole stream. When the program runs, the line does nothing.
+
+        No byte of the gap may be in a number. `integers_are_apart`, `floats_are_apart` and `scaled_are_apart` are stricter than
+        `is_apart`: by these every letter and digit of ASCII, a sign, the separator, and of floats and amounts the point may be in a number. If such a line refuses
+        a gap whose bytes can't be in your numbers, take `any_are_apart(kind, gap)`, which asks the kind.
+        Each kind has its own line:
 
         | Numbers | The line |
         |---|---|
@@ -177,13 +185,16 @@ GROUPS = {
         | `OfLanguage` | [`literals_are_apart(language, gap)`](digit_pieces.md#literals_are_apart) |
         | `Both` | the lines of the two kinds, then [`both_are_apart(first, between, second, gap)`](digit_pieces.md#both_are_apart) |
         | `Enclosed` | the line of its kind, then [`enclosed_are_apart(opening, kind, closing, gap)`](digit_streams.md#enclosed_are_apart) |
+        | any kind | [`any_are_apart(kind, gap)`](digit_pieces.md#any_are_apart) |
         | a word or a gap of run time | test [`is_apart(kind, gap)`](#is_apart) |
 
         - A stream is any `std::io::Read`: `rt.stdin()`, a file that `std::fs::open(&rt, path)` returned, or a
         `&[u8]`. `rt` is the `HostRuntime` of your `main`.
-        - A `NumberReader` is no `Iterator`. Its loop has a bound, since `rt check` proves that each loop ends; no
-        stream reaches it.
-        - The errors of streams have no `position()`: match them.""", """
+        - A `NumberReader` isn't an `Iterator`. Loop over `0..u64::MAX`: `rt check` wants a bound, and no stream has
+        so many numbers.
+        - The bound `R: Drop` lets a call drop the reader at its end.
+        - The errors of streams have no `position()`: match them. `Read` and `TooLong` have no position, inside of `Number`
+        it is a `usize`, and elsewhere a `u64`.""", """
         fold_stream NumberReader is_apart StreamRead StreamEnd FoldError EnclosedFoldError StreamError"""),
     "Pieces and blocks": ("""
         read_piece | Reads a list that goes on in the next piece
@@ -197,12 +208,12 @@ GROUPS = {
         read_piece sure_end block_start end_in_text PieceRead PieceEnd"""),
     "Writing": ("""
         write_number | Writes an integer: `-128`
-        write_number_by | … in groups, in a radix, with zeros: `-1,234,567`
+        write_number_by | Writes an integer in groups, in a radix, with zeros: `-1,234,567`
         write_list | Writes integers with a byte between them: `80,-1,443`
         write_scaled write_price | Write cents: `-12.50`; `1,234.50`
         write_float | Writes a float with the fewest digits: `0.1`
-        write_fixed write_scientific | … with a given number of decimal places, like `%.2f` and `%.6e`
-        write_number_of write_float_of write_integer_of | Write a number by a form
+        write_fixed write_scientific | Write a float with a given number of decimal places, like `%.2f` and `%.6e`
+        write_number_of write_float_of write_integer_of | Write a number of a form
         write_plain write_usual write_exponent | Write digits and a power of ten""", """
         A call writes the text to the front of `out`, and returns its length. The bytes after the text stay as
         they were. If `out` is too short, the call writes nothing, and the error has the length that is
@@ -217,10 +228,15 @@ GROUPS = {
         | any finite float by `write_fixed` | 311 + `places` |
         | any finite float by `write_scientific` | 8 + `places` |
         | any number by `write_number_of`, `write_float_of` or `write_integer_of` | 328 |
+        | a price of an `i64` with 2 places by `write_price` | 26; of an `i128` 53 |
+        | an amount of an `i64` with 2 places by `write_scaled` | 21; of an `i128` 41 |
         | anything else | as many as the error says |
 
-        `write_number` of one type needs 3 bytes for `u8`, 4 for `i8`, 5 for `u16`, 6 for `i16`, 10 for `u32`, 11 for
-        `i32`, 20 for `u64`, `i64`, `usize` and `isize`, 39 for `u128`, and 40 for `i128`.""", """
+        `write_number` of one type needs these bytes:
+
+        | `u8` | `i8` | `u16` | `i16` | `u32` | `i32` | `u64`, `i64`, `usize`, `isize` | `u128` | `i128` |
+        |---|---|---|---|---|---|---|---|---|
+        | 3 | 4 | 5 | 6 | 10 | 11 | 20 | 39 | 40 |""", """
         write_number write_number_by write_list write_scaled write_price write_float write_fixed
         write_scientific write_number_of write_float_of write_integer_of write_plain write_usual
         write_exponent MOST_ROOM FLOAT_ROOM PLAIN_ROOM Layout FloatLayout ExponentText Written AnyFloat NoRoom
@@ -240,8 +256,20 @@ GROUPS = {
         reads](../RULES.md#words-with-names)), write a constant from its parts, or make one at run time with the
         [builder](#numberformatbuilder).
 
-        A separator that a word drops is skipped. One that it keeps is a byte like any other, and ends the
-        number: with `PYTHON_LITERAL` the `_` of `1_0` is dropped, and those of `1__0` are kept.
+        | Word | It reads | It stops inside of, or refuses |
+        |---|---|---|
+        | `STANDARD` | `1000` | |
+        | `HEXADECIMAL`, `OCTAL`, `BINARY` | `ff`, `17`, `101` | |
+        | `PYTHON_LITERAL` | `1_000` | `1__0`, `1_`, `_1` |
+        | `RUST_LITERAL` | `1_000`, `1__0`, `1_` | `_1` |
+        | `CXX14_LITERAL` | `1'000` | `1''0`, `1'` |
+        | `CXX14_HEX_LITERAL`, `RUST_HEX_LITERAL` | `ff'ff`, `ff_ff` | |
+
+        The words of a language X have names such as `X_LITERAL` and `X_HEX_LITERAL` ([which there are](#words-1)). The separator is
+        `'` for `CXX14`, and `_` for every other language.
+
+        A separator that a word *drops* is skipped. One that it *keeps* is as any other byte, so it ends the number:
+        `PYTHON_LITERAL` drops the `_` of `1_0`, and keeps those of `1__0`.
 
         A constant is `radix << 104 | separator << 64 | flags`, with `exponent_radix << 120` if that radix is
         another. Test what the builder makes with `is_supported`. A flag of a component is a bit:
@@ -255,7 +283,7 @@ GROUPS = {
         | `consecutive` | `1 << 41` | `1 << 42` | `1 << 43` |
 
         `1 << 44` drops every separator of a special value, such as `nan`. The names of all
-        thirteen are [in `lexical_format`](lexical_format.md#integer_leading_digit_separator): to use them, add
+        thirteen flags are [in `lexical_format`](lexical_format.md#integer_leading_digit_separator): to use them, add
         that crate to your line of `crates.txt`.""", """
         STANDARD words is_supported NumberFormatBuilder DigitSeparatorFlags DECIMAL NO_FLAGS ALL_FLAGS
         INTEGER_INTERNAL_DIGIT_SEPARATOR FRACTION_INTERNAL_DIGIT_SEPARATOR
@@ -270,6 +298,8 @@ GROUPS = {
         read_mantissa read_exponent round_parts decimal_of stop_from read_first_digits_from Mantissa Power
         FirstDigits Component"""),
 }
+# The last section that most callers need.
+LAST_USUAL = "Words"
 TABLED = """COMMAS COMMAS_IN_LINE LINES WHITESPACE SPACES_IN_LINE BLANKS SPACES MOST_ROOM FLOAT_ROOM
     PLAIN_ROOM INTEGER_INTERNAL_DIGIT_SEPARATOR FRACTION_INTERNAL_DIGIT_SEPARATOR
     EXPONENT_INTERNAL_DIGIT_SEPARATOR""".split()
@@ -294,7 +324,7 @@ HIDDEN = ("no_number", "is_list_faster")
 # The types whose methods have an entry each, below a table of them.
 METHODS = {"NumberReader": """
     new | Makes a reader of the numbers of a stream
-    new_at | … of which some bytes were read before
+    new_at | Makes a reader of a stream of which some bytes were read before
     next_number | Reads the next number
     finish | Tests whether the stream is at its end
     read_into | Reads numbers into a slice
@@ -306,13 +336,16 @@ METHODS = {"NumberReader": """
 # What an entry says beside the doc comment.
 NOTES = {
     "read_exactly": """
-        `Empty` holds the position of the first byte that should be a digit and isn't, or the end of a text
-        that is too short. Any `start`, radix and `n` are allowed. For a `start` after the end of the text,
-        `Empty` holds `start`. If `n` is 0, the number is 0, for any `start`. Radix 0 has no digit, radix 1
-        only `0`, and a radix above 36 has the digits of radix 36.""",
-    "read_at_most": "Any `start`, radix and `n` may be given, too. With an `n` of 0 it returns `Empty`.",
+        - `Empty` holds the position of the first byte that should be a digit and isn't, or the end of a text that is
+        too short. For a `start` after the end of the text it holds `start`.
+        - Any `start`, radix and `n` are allowed. If `n` is 0, the number is 0, for any `start`.
+        - Radix 0 has no digit, radix 1 only `0`, and a radix above 36 has the digits of radix 36.""",
+    "read_at_most": "Like `read_exactly`, it takes any `start`, radix and `n`. If `n` is 0, it returns `Empty`.",
     "count_digits": "For an empty text it returns 0.",
     "LiteralError": """
+        Calls that read integers return it, except `read_literal` and `read_literal_as`, which return a
+        [`LanguageError`](#languageerror).
+
         `is_none_at` distinguishes a missing number from a bad one. [`read_optional`](#read_optional) does
         that for you.""",
     "read_optional": """
@@ -322,10 +355,11 @@ NOTES = {
     "read_grouped_from": "The word `GROUPS` is written [from its parts](#words).",
     "read_price_from": "The words `GROUPS` and `DOTS` are written [from their parts](#words).",
     "write_scaled": """
-        [`read_scaled_from`](#read_scaled_from) reads the text back, with the same point and places, by each word
-        that reads such amounts.""",
+        [`read_scaled_from`](#read_scaled_from) reads the text back, with the same point and places, for example with
+        `STANDARD`.""",
     "write_price": """
-        [`read_price_from`](#read_price_from) reads the text back, by each word that reads such prices.""",
+        [`read_price_from`](#read_price_from) reads the text back with a word that has this separator, such as its
+        `GROUPS`.""",
     "fold_stream": """
         For an empty stream it returns `init` if the gap may trail, as `LINES` may. With `COMMAS` an empty stream is
         an error.""",
@@ -339,12 +373,11 @@ NOTES = {
         - **An error stays:** each later call returns it again. But after [`Read`](#streamerror) of `WouldBlock`
         or `TimedOut` the next call goes on. After `Interrupted` the call itself reads again.
         - **The buffer** needs the longest number, the longest run of blanks after it, and one byte. Otherwise a
-        call returns [`NoRoom`](#streamerror). 4096 bytes are enough if a number and the blanks
-        after it have at most 4095.
+        call returns [`NoRoom`](#streamerror). 4096 bytes are ample.
         - **To go on with the reader afterwards**, pass `&mut reader` to `new`. The bytes of
         [`unread`](#numberreaderunread) have already been taken from it: use those first.""",
     "NumberReader::next_number": """
-        | Gap | It returns the 12 of `12` once it has read |
+        | Gap | When it returns the 12 of `12`: once it has read |
         |---|---|
         | `LINES` | the line feed |
         | `COMMAS` | the comma; a line feed alone is a blank, and isn't enough |
@@ -355,8 +388,8 @@ NOTES = {
         gap, `pass_byte(b'\\n')` passes them first ([an array of any
         length](../../CALLING.md#an-array-of-any-length)).""",
     "NumberReader::fold_numbers": """
-        After `Stopped` the value is lost. The next call continues after the number at which `step` returned
-        `None`.""",
+        After `Stopped` the value is lost. Its position isn't that of the number at which `step` returned `None`: it is
+        after that number and its separator, where the next call continues.""",
     "is_form": """
         It returns `false` if
 
@@ -375,7 +408,10 @@ NOTES = {
         `grouped` returns an `Option`. If its arguments are constants, the prover sees that it is `Some`, and you write
         `let Some(layout) = Layout::decimal().grouped(b',', 3) else { unreachable!() };`.
 
-        Make a layout by these methods: they keep it valid, so you prove nothing.""",
+        A `Layout` that you write by its fields has to be valid, and you prove that: a radix from 2 to 36, and no groups, or a separator that is neither 0 nor a digit. These methods do it for you.""",
+    "write_fixed": "An `f32` is written by its exact `f64`, `f64::from(x)`.",
+    "Language": "Later 0.1.x may add fields: write one with `..`, from a language that is close.",
+    "Special": "Later 0.1.x may add fields: write one with `..`.",
     "DigitSeparatorFlags": """
         | Flag | It drops the `_` of | With `consecutive` also those of |
         |---|---|---|
@@ -387,7 +423,7 @@ NOTES = {
 VALUES = {"u64::MAX": str(2 ** 64 - 1)}
 # The modules whose constants have a table elsewhere.
 TABLES = {"forms": " [A table of all](forms.md).",
-          "languages": " Where nothing else is said, `017` is 17. [Their separators](../RULES.md#prefixes-and-a-first-0).",
+          "languages": " Where nothing else is said, `017` is 17. [Their prefixes](../RULES.md#prefixes-and-a-first-0).",
           "words": " `PYTHON_LITERAL` reads `1_000`, `CXX14_LITERAL` `1'000`; none reads `1,000`: "
                    "[write such a word](../../CALLING.md#a-word-of-your-own). "
                    "[What each reads](../RULES.md#words-with-names)."}
@@ -441,7 +477,8 @@ WORDS = "words"
 
 HEAD = f"""# {DOOR}
 
-Read a number from bytes, and write one:
+This page has every public name of `{DOOR}`, [from A to Z](#all-names), or by what you have. An entry says what a call does, what you prove \
+before it, and which error it returns, with an example. In an example the comment after a call is what it returns:
 
 ```rust
 use {DOOR}::words::PYTHON_LITERAL;
@@ -450,11 +487,11 @@ use {DOOR}::{{MOST_ROOM, STANDARD, parse_float, parse_number, read_number, write
 LINES
 ```
 
-| You have | Section |
+| You have, or want | Section |
 |---|---|
 | `-1_000` | [Integers](#integers) |
 | `-1.5e3` | [Floats](#floats) |
-| a number of JSON, TOML, Rust, `strtod`, also a hexadecimal float as `0x1p3` | [Numbers by a form](#numbers-by-a-form) |
+| a number of JSON, TOML, Rust, `strtod`, also a hexadecimal float such as `0x1p3` | [Numbers of a form](#numbers-of-a-form) |
 | `12.50`, as 1250 cents | [Amounts and prices](#amounts-and-prices) |
 | `0xff` | [Literals of a language](#literals-of-a-language) |
 | a `:` or blanks beside a number | [Bytes between numbers](#bytes-between-numbers) |
@@ -463,17 +500,17 @@ LINES
 | a list or a stream of prices, pairs, literals | [Kinds of numbers](#kinds-of-numbers) |
 | a file, or another `Read` | [Streams](#streams) |
 | a text in parts | [Pieces and blocks](#pieces-and-blocks) |
-| a number, and want its text | [Writing](#writing) |
+| the text of a number | [Writing](#writing) |
 | another separator or radix | [Words](#words) |
 | another grammar | [A form of your own](#a-form-of-your-own) |
-| a float in a notation that no form has, such as `1,25d2` | [Parts of a number](#parts-of-a-number) |
-| an error, and want to know what it says | [Errors](#errors) |
+| digits, point and exponent, one by one | [Parts of a number](#parts-of-a-number) |
+| the meaning of an error | [Errors](#errors) |
 | a call that `rt check` refuses | [What you prove](#what-you-prove) |
 
 **Terms**
 
-- A **word** says how digits are written: `STANDARD` reads `1000`, `PYTHON_LITERAL` also `1_000`. A separator \
-is skipped where the word allows one (the word [drops](#words) it there). At any other place the number ends before it.
+- A **word** says how digits are written: `STANDARD` reads `1000`, `PYTHON_LITERAL` also `1_000`. Where the \
+word allows a separator, it is skipped. At any other place the number ends before it.
 - A **form** is a whole grammar, such as `forms::JSON`.
 - A **language** reads integers with their prefixes: `languages::RUST` reads `255` and `0xff`. Don't confuse \
 it with `forms::RUST`, which reads floats, too.
@@ -481,36 +518,38 @@ it with `forms::RUST`, which reads floats, too.
 
 **Calls**
 
-- `parse_` reads a whole text. `read_` reads the number at a position, and also returns where it ends. `write_` \
+- `parse_` reads up to the end of a text. `read_` reads the number at a position, and also returns where it ends. `write_` \
 writes a number into your slice, and returns its length ([names and arguments](#names-and-arguments)).
 - A text is a `&[u8]`. Positions count its bytes from 0. The error of one number holds the position of its \
-fault ([errors](#errors)).
+fault ([errors](#errors)). Only `parse_` calls return `Invalid`: a `read_` call for one number leaves what follows it to you.
 - A call for one number skips no blanks: skip them with [`past_bytes`](#past_bytes). Lists and streams skip \
 the blanks of their gap.
-- A call with a `start` also looks at the byte before it, to judge a separator at `start`. So \
-`parse_number_from::<u64>(b"1_000", PYTHON_LITERAL, 1)` is `Ok(0)`: its `_` is between two digits. `&text[1..]` hides \
-the `1`, and then the `_` is refused.
+- A `start` isn't a cut. A call with a word or a language also looks at the byte before `start`, to judge a separator there: in `1_000`, with \
+`PYTHON_LITERAL`, `_000` from 1 on is 0. To read as if the text began there, pass `&text[start..]`, and add `start` to the positions.
 - No call panics or allocates.
 
 **Entries**
 
 - `// you prove` names what has to hold before the call ([what you prove](#what-you-prove)).
-- In an example the comment after a call is its result, and `?` takes a value out of `Ok` or `Some`. Names \
-are in `{DOOR}`, unless the example imports them.
-- *Details and contract* leads to the contract, and to rare rules. Its [signs]({CLAUSES}.md) and [terms]({WORDS}.md) \
-have pages of their own.
+- In an example `?` takes a value out of `Ok` or `Some`. Names are in `{DOOR}`, unless the example imports them.
+- *Details and contract* leads to the contract, and to rare rules. The [signs]({CLAUSES}.md) of a contract and \
+the [names]({WORDS}.md) in it have pages of their own.
 - Types derive `Copy`, `Debug`, `PartialEq` and `Eq`, and errors have `Display` and `Error`, unless their \
 entry says otherwise.
 
-[CALLING.md](../../CALLING.md) has whole functions. This page ends with an alphabetical list of \
-[all names](#all-names).
+[CALLING.md](../../CALLING.md) has whole functions.
+"""
 
-## Names and arguments
+# The heading of the list of all names.
+INDEX = "All names"
+
+# What every entry relies on, behind the sections that most callers need.
+RULES = f"""## Names and arguments
 
 | In the name of a call that reads or writes | It says |
 |---|---|
-| `_from` | it begins at a `start`. Without it `parse_` calls, `read_number`, `read_float` and \
-`read_integer` begin at 0. Every other `read_` call takes a position, too |
+| `_from` | it takes a `start`. Without `_from`, `parse_` calls, `read_number`, `read_float` and \
+`read_integer` begin at 0; every other call that reads a text takes a position |
 | `_of` | with a form, except `decimal_of` |
 | `_as` | with a language, as a number of your type |
 | `_by` | with a kind or a layout |
@@ -526,20 +565,14 @@ Component::Fraction, 2)` |
 | a stream | `(reader, buffer, kind, gap, ..)` | `fold_stream(file, &mut buffer, kind, LINES, 0, add)` |
 | anything else | `(text, start, ..)` | `read_number_of(text, 0, forms::JSON)` |
 
-`prefix_word` takes the language before `text`. A call that writes takes the number first. `out` is always last. The \
-bound `Drop` lets a call drop what you passed to it.
-"""
+`prefix_word` takes the language before `text`. A call that writes takes the number first. `out` is always last.
 
-# The heading of the list of all names.
-INDEX = "All names"
-
-# What follows the entries.
-TAIL = f"""## What you prove
+## What you prove
 
 `rt check` refuses a call if the prover can't see that the conditions after `// you prove` hold. Nothing tests them \
 at run time. Usually you don't have to write anything:
 
-- A constant word, form, language or kind is valid. The prover sees that with [one \
+- The prover tests a constant word, form, language or kind by itself, with [one \
 attribute](../../CALLING.md#set-up) in your `lib.rt`: \
 `#![tactic(auto, unfolding(digits::proofs::Literals::lexical_on_literals))]`.
 - A position that a call returned is within its text, if its `start` was.
@@ -555,42 +588,55 @@ What is known only at run time you test first:
 | the form is valid | `is_form(form)` |
 | the words of the language are supported | `is_language(language)` |
 | the kind is valid: `Integers` | `is_supported(word)` |
-| … `Floats` | the same, and that digits and exponent have radix 10 |
-| … `Scaled`, `Prices` | the same as of `Floats`, and `places <= 38` |
-| … `OfForm`, `OfLanguage` | `is_form(form)`, `is_language(language)` |
-| … `Both`, `Enclosed` | what the kinds of their numbers need |
+| the kind is valid: `Floats` | the same, and that digits and exponent have radix 10 |
+| the kind is valid: `Scaled`, `Prices` | the same as of `Floats`, and `places <= 38` |
+| the kind is valid: `OfForm`, `OfLanguage` | `is_form(form)`, `is_language(language)` |
+| the kind is valid: `Both`, `Enclosed` | what the kinds of their numbers need |
 | start, at, end ≤ text.len() | `start <= text.len()` |
 | places ≤ 38 | `places <= 38` |
 | `x` is finite | `x.is_finite()`, of a constant too |
 | `out` has room for any number of the type | `out.len() >= MOST_ROOM`; of a `[0; MOST_ROOM]` nothing |
-| the mantissa is one of this text | nothing: it is what `read_mantissa` returned of `text` |
-| `before` is at most `most` | `before <= most` |
+| the mantissa is one of this text | nothing, if `read_mantissa` returned it for the same text |
+| `before` is at most `most`, of `read_first_digits_from` | `before <= most` |
 
 [All conditions](../PROMISES.md#conditions).
 
 ## Errors
 
-| Calls | Their error |
+| One number by | Its error |
 |---|---|
 | `parse_number`, `parse_number_from` | [`ParseError`](#parseerror) |
-| `read_number` and the others that read an integer | [`LiteralError`](#literalerror) |
-| those of floats | [`FloatError`](#floaterror) |
-| those of numbers by a form | [`NumberError`](#numbererror) |
+| `read_number`, and the others that read an integer | [`LiteralError`](#literalerror) |
+| the calls of floats | [`FloatError`](#floaterror) |
+| the calls of numbers of a form | [`NumberError`](#numbererror) |
 | `read_literal`, `read_literal_as` | [`LanguageError`](#languageerror) |
-| those of amounts | [`ScaledError`](#scalederror); with exact places or groups [`PriceError`](#priceerror) |
-| `read_decimal_from`, `read_decimal_of` | [`FloatError`](#floaterror), [`NumberError`](#numbererror) |
-| `read_list`, and the others that return a [`ListRead`](#listread) | the error of one number, in `ListEnd::Fault` |
-| `expect_byte`, `expect_bytes`, `count_digits`, `read_exponent` | the position itself, a `usize` |
-| `parse_list`, `read_enclosed` | [`ListError`](#listerror), [`EnclosedError`](#enclosederror) |
-| `next_number`, `finish`; `fold_stream`; `fold_enclosed` | [`StreamError`](#streamerror); [`FoldError`](#folderror); \
-[`EnclosedFoldError`](#enclosedfolderror) |
-| the kinds `Both`, `Enclosed` | [`BothError`](#botherror), [`BracketError`](#bracketerror) |
-| those that write, but `write_number` | [`NoRoom`](#noroom); `write_float` [`FloatTextError`](#floattexterror), by a form \
-[`FormTextError`](#formtexterror) |
+| the calls of amounts | [`ScaledError`](#scalederror); with exact places or groups [`PriceError`](#priceerror) |
+| `read_decimal_from`; `read_decimal_of` | [`FloatError`](#floaterror); [`NumberError`](#numbererror) |
+| the kinds `Both`; `Enclosed` | [`BothError`](#botherror); [`BracketError`](#bracketerror) |
+| `read_optional` | that of one number of the kind |
+
+| Many numbers by | The error |
+|---|---|
+| `read_list`, and the others that return a [`ListRead`](#listread) | that of one number, in `ListEnd::Fault` |
+| `parse_list` | [`ListError`](#listerror) |
+| `read_enclosed` | [`EnclosedError`](#enclosederror) |
+| `read_piece` | that of one number, in `PieceEnd::Fault` |
+| `next_number`, `finish`, `pass_byte` | [`StreamError`](#streamerror) |
+| `read_into` | [`StreamError`](#streamerror), in `StreamEnd::Fault` |
+| `fold_stream`, `fold_numbers` | [`FoldError`](#folderror) |
+| `fold_enclosed` | [`EnclosedFoldError`](#enclosedfolderror) |
+
+| Anything else | The error |
+|---|---|
+| `expect_byte`, `expect_bytes`, `count_digits`, `read_exponent` | the position, a `usize` |
+| `write_number` | none |
+| `write_float` | [`FloatTextError`](#floattexterror) |
+| `write_number_of`, `write_float_of`, `write_integer_of` | [`FormTextError`](#formtexterror) |
+| the other calls that write | [`NoRoom`](#noroom) |
 
 Five texts, with `forms::JSON` for `parse_number_of` and `read_number_of`, and `STANDARD` for the others:
 
-| Of the text | (empty) | `-` | `x` | `-x` | `1x` |
+| Call \\ text | (empty) | `-` | `x` | `-x` | `1x` |
 |---|---|---|---|---|---|
 | `parse_number::<i32>` | `Empty(0)` | `Empty(1)` | `Invalid(0)` | `Invalid(1)` | `Invalid(1)` |
 | `parse_float`, `parse_number_of`, `parse_scaled::<i64>` | `Empty(0)` | `Empty(1)` | `Empty(0)` | `Empty(1)` \
@@ -602,14 +648,14 @@ What `Empty` says differs by the type of the error:
 
 | Type | `Empty(at)` says |
 |---|---|
-| [`ParseError`](#parseerror) | the text ends at `at`, where a digit is required; if another byte is there, it is `Invalid` |
+| [`ParseError`](#parseerror) | the text ends at `at`, where a digit is required; if another byte is there, it is `Invalid`. If `?` made it of a `LiteralError`, it says what that says |
 | [`LiteralError`](#literalerror), [`LanguageError`](#languageerror) | there is no digit at `at` |
 | [`FloatError`](#floaterror), [`ScaledError`](#scalederror) | there is no digit before `at`, which is after \
 any sign and point: for `.` it is 1 |
 | [`NumberError`](#numbererror) | no number of the form begins at `at`, which is after any sign |
 
-Only `parse_` calls return `Invalid`: a `read_` call for one number leaves what follows it to you. A number below \
-the least of its type, as -129 of an `i8`, is `Overflow`, or `TooLarge` of an amount, too, and prints as "too large".
+A number below \
+the least of its type, such as -129 of an `i8`, is `Overflow`, too (of an amount `TooLarge`), although its message says "too large".
 """
 
 # The calls of the first block, and what is before them. Each is a line of an example.
@@ -635,6 +681,7 @@ TOLD = ("Requires ", "A position counts", "Takes no memory", "Not in lexical-uti
         "lexical-util has", "Its flags in the format word", "It needs at most")
 # The half line of a name whose first clause says too little.
 HALVES = {
+    "Prices": "Amounts with an exact number of places, in groups of three digits, or both",
     "read_integer": "`read_number::<u64>` by another name",
     "read_list_piece": "`read_piece` of integers",
     "read_float_list_piece": "`read_piece` of floats",
@@ -656,9 +703,5 @@ ANCHORED = ("Rule",)
 ROOM = 84
 MORE_HEAD = """\
 These are in `digits` too. Their entries are on the pages of their libraries."""
-# The laws that a function over a stream begins with: the heading, its text, and what the first says.
-LAWS = "Laws of streams and pieces"
-LAWS_HEAD = """\
-A function over a stream or over pieces begins with one of these ([why](#streams)): for example \
-`floats_are_apart(STANDARD, LINES);`. It does nothing when the program runs."""
+# What the laws of streams say, where the first row says it.
 LAW = "No byte of the gap is in a number"

@@ -59,7 +59,7 @@ def counted(it):
 def read_by(it):
     """How many languages, data formats and functions have a form."""
     there = sum(len(it) for it in list(forms().values())[:3])
-    for line, m in it.find("README.md", r"one of \[(\d+) grammars\]"):
+    for line, m in it.find("README.md", r"There are \[(\d+) grammars\]"):
         it.compare("README.md", line, "the number of named forms", int(m[1]), there)
 
 
@@ -69,7 +69,7 @@ def parsers(it):
             for m in re.findall(r"^//! Proof by hand: (none|\d+)", read(path), re.M)]
     lines = sorted(int(m) for m in said if m != "none")
     there = (str(len(lines)), str(len(said)), str(lines[0]), str(lines[-1]))
-    pattern = r"(\d+) of the (\d+) parsers in \[digit_uses\]\S* have (\d+) to (\d+) lines"
+    pattern = r"(\d+) of the (\d+) examples in \[digit_uses\]\S* have (\d+) to (\d+) lines"
     for line, m in it.find("README.md", pattern):
         it.compare("README.md", line, "the proof by hand of digit_uses", m.groups(), there)
 

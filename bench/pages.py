@@ -13,7 +13,7 @@ from cases import UNITS, table  # noqa: E402
 from costs import costs  # noqa: E402
 from peers import READ, door, peers  # noqa: E402
 from picture import of_times, svg  # noqa: E402
-from readers import answer, ratios, readme  # noqa: E402
+from readers import answer, lost_by_time, ratios, readme  # noqa: E402
 from written import aims, writers  # noqa: E402
 
 # The rows of SPEED, with the cases that they show.
@@ -162,8 +162,9 @@ def lost(cases):
             for what, form, *rest in LOST]
     body.append(["a number of JSON by `read_number_of`", f"{max(cases.to_one_kind):.2f}",
                  "`read_float` or `read_literal`, which read one kind", "it calls what is rare"])
-    return "\n".join(table("At most so many times the instructions, with a constant word:",
-                           ["What is read", "Ratio", "Beside", "Why"], body)).rstrip("\n")
+    by_count = table("At most so many times the instructions, with a constant word:",
+                     ["What is read", "Ratio", "Beside", "Why"], body)
+    return "\n".join([*lost_by_time(), *by_count]).rstrip("\n")
 
 
 def most_of(cases, form, side, other=None):

@@ -3,16 +3,13 @@ from cases import table
 from peers import LIBRARY, READ, Figures, lacks, slower_run
 from written import times
 
-# How the names of rows begin that read an integer, or a float.
+# How the names of rows begin that read an integer.
 INTEGERS = ("u64", "i32", "hexadecimal", "grouped u64")
-FLOATS = ("f64", "f32")
-# The readers of which README.md has the times, by what it calls them.
-PEERS = {"`from_chars`": "from_chars", "fast_float": "fast_float", "std": "std", "lexical-core": "lexical-core",
-         "serde_json": "serde_json", "simdjson, an array": "simdjson, the array"}
+# How the names of rows begin that this library reads by several digits at a step.
+LONG = ("u64, 8 ", "u64, 16", "u64, 19", "hexadecimal", "grouped u64")
 # The rows of which README.md has the time, by what it calls them.
-SHOWN = {"u64, 1 to 20 digits": "a `u64` of 1 to 20 digits", "f64, coordinates": "a coordinate as an `f64`",
-         "JSON, mixed": "a number of JSON"}
-
+SHOWN = {"u64, 1 to 4 digits": "a `u64` of 1 to 4 digits at random", "u64, 8 digits": "one of 8 digits",
+         "f64, coordinates": "a coordinate as an `f64`", "JSON, mixed": "a number of JSON"}
 # The readers that don't say where a number ends.
 WITHOUT_END = ("std", "lexical-core", "serde_json", "minimal-lexical")
 
@@ -79,49 +76,60 @@ long as the next one{f", in the other rows {others}" if slower else ""}.
 can't put it into its caller's loop."""
 
 
-def nanoseconds(row):
-    """The time of each reader of a row, in the run in which this library does worse, with a star where a
-    reader does less."""
-    sides = rows()[row]
-    mine, _ = slower_run(row, sides)
-    run = sides[LIBRARY].index(mine)
-    times_of = [f"{sides[it][run]:.1f}{'*' if lacks(row, it) else ''}" if it in sides else "–"
-                for it in (LIBRARY, f"{LIBRARY}, from C", *PEERS.values())]
-    return [SHOWN[row], *times_of]
+def slower(side=LIBRARY):
+    """In how many rows a side is the fastest, of how many, and how much slower it is in the others."""
+    return f"the fastest for {fastest(side)} data sets, otherwise up to {most(ratios(side=side))}"
 
 
 def readme():
-    """What README.md has between its comments: the times beside those of others, gain and loss."""
-    door = f"{LIBRARY}, from C"
-    shown = table("Nanoseconds for one number, on one core of a Xeon. Of two runs each row shows the one in which `digits`, from "
-                  "Rattle, did worse beside the fastest other reader. Each number is a whole text or a JSON number. `*`: rounds some floats wrongly, built "
-                  "without its feature `float_roundtrip`. –: not timed.",
-                  ["", "digits, from Rattle", "digits, from C++", *PEERS], map(nanoseconds, SHOWN))
-    verdict = f"""\
-{fastest().rpartition(' ')[2]} kinds of input were timed, each beside other readers that do the same work. Called from \
-Rattle, `digits` is the fastest for {fastest()}; called from C++, for {fastest(door)}. The calls that also return where \
-the number ends were timed for {fastest(READ).rpartition(' ')[2]}: for {fastest(READ).partition(' ')[0]} of them no other reader is faster.
-"""
-    return verdict + "\n" + "\n".join(shown) + f"""
-**You gain** most with 8 to 19 digits, with groups and with hexadecimal digits: down to {least(ratios(INTEGERS))} of the \
-time of the next reader. To write a float such as 12.5 with two \
-places takes `write_fixed` {times("%.2f, prices", "%.2f, 3 digits")} of the time of \
-`to_chars`; for numbers anywhere in [0, 1e22), most of them huge, it loses, as the table shows.
+    """What README.md has between its comments: the picture, the verdict, gain and loss."""
+    body = [
+        ["read a number that is a whole text, or a number of JSON", slower()],
+        ["of these: an integer of 8 to 19 digits, or with separators, or hexadecimal", span(LONG)],
+        ["read a number, and need where it ends", slower(READ)],
+        ["read it from C++, by the C library", slower(f"{LIBRARY}, from C")],
+        ["write a float with two places, like `%.2f`", f"prices {times('%.2f, prices', '%.2f, 3 digits')}, "
+         f"huge numbers {times('%.2f, in [0, 1e22)')}"],
+        ["write a `u64`", f"8, 16 or 20 digits {times('u64, 8 digits', 'u64, 16 digits', 'u64, 20 digits')}, up to 4 "
+         f"digits {times('u64, 3 digits', 'u64, 1 to 4')}, 1 to 20 digits at random {times('u64, 1 to 20')}"],
+        ["write the shortest text of a float", f"coordinates and prices of `f64` {times('f64, coord', 'f64, prices')}, "
+         f"others {times('f64, random', 'f64, in [', 'f64, whole', 'f64, powers', 'f64 with an', 'f32, ')}"],
+        ["write like `%.6e`, where every digit is computed", times("%.6e")],
+    ]
+    shown = table("The table has the time of a call, divided by that of the fastest other library that does the same work. Below 1 "
+                  "you gain, and above 1 you lose. Where nothing else is said, the call is from Rattle:",
+                  ["What you do", "Ratio"], body)
+    times_of = [f"{slower_run(row, rows()[row])[0]:.1f} for {what}" for row, what in SHOWN.items()]
+    first = f"On one core of a Xeon a call from Rattle takes these nanoseconds: {', '.join(times_of)}.\n"
+    return "\n".join([first, *shown]) + """
+![Whole texts, and numbers whose end is needed, by what is read](docs/times.svg)
 
-**You lose** here. The number is the time of `digits`, divided by that of the fastest other library:
+The other libraries are fast_float 3.9.0 (C++), simdjson 3.0.1, lexical-core 0.7.6, serde_json 1.0.87, itoa and ryu, which are \
+Debian 12's packages, and not the newest; std of Rust 1.95.0; and `from_chars` and `to_chars` of g++ 12. [SPEED.md](docs/SPEED.md) has each kind of input, \
+[what you lose](docs/SPEED.md#where-you-lose), such as floats with separators (`1_234.5`), and how to call so that it is fast."""
 
-| What | Times as long |
-|---|---|
-| write a `u64` of up to 4 digits | {times("u64, 3 digits", "u64, 1 to 4")} |
-| write `u64`s whose lengths vary at random from 1 to 20 digits; where all have 8, 16 or 20, you gain: {times("u64, 8 digits", "u64, 16 digits", "u64, 20 digits")} | {times("u64, 1 to 20")} |
-| write the shortest text of a float, except coordinates and prices of `f64` | {times("f64, random", "f64, in [", "f64, whole", "f64, powers", "f64 with an", "f32, ")} |
-| read a number and where it ends: for {fastest(READ)} kinds of input no other is faster | up to {most(ratios(("u64", "f64"), READ))} |
-| write `%.2f` of numbers anywhere in [0, 1e22) | {times("%.2f, in [0, 1e22)")} |
-| write `%.6e` of coordinates | {times("%.6e, coordinates", "%.6e, 3 digits")} |
-| write `%.6e` of floats of any size: it computes every digit | {times("%.6e, random bits")} |
-| read floats in groups | [by how much](docs/SPEED.md#where-you-lose) |
-| loop over the digits of a number by an iterator | [by how much](docs/SPEED.md#where-you-lose) |
 
-std is that of Rust 1.95.0. The other readers are Debian 12's: fast_float 3.9.0 (for C++), lexical-core 0.7.6, serde_json 1.0.87, simdjson 3.0.1. \
-Newer ones, the crate fast-float and `digits-sys` weren't timed. [SPEED.md](docs/SPEED.md) has every kind of input, and \
-how to call so that it is fast."""
+# What others write faster: how the page calls it, how the rows begin, and those of which it gains.
+LOST = [
+    ("write a `u64` of up to 4 digits", ("u64, 3 digits", "u64, 1 to 4"), ()),
+    ("write `u64`s whose lengths vary at random from 1 to 20 digits; where all have 8, 16 or 20, you gain",
+     ("u64, 1 to 20",), ("u64, 8 digits", "u64, 16 digits", "u64, 20 digits")),
+    ("write the shortest text of a float, except coordinates and prices of `f64`",
+     ("f64, random", "f64, in [", "f64, whole", "f64, powers", "f64 with an", "f32, "), ()),
+    ("write `%.2f` of numbers anywhere in [0, 1e22), most of them huge; of prices you gain",
+     ("%.2f, in [0, 1e22)",), ("%.2f, prices", "%.2f, 3 digits")),
+    ("write `%.6e` of coordinates and prices", ("%.6e, coordinates", "%.6e, 3 digits"), ()),
+    ("write `%.6e` of floats of any size: it computes every digit", ("%.6e, random bits",), ()),
+]
+
+
+def lost_by_time():
+    """What docs/SPEED.md says of the inputs for which another library is faster, by time."""
+    body = [[f"{what}: for {fastest(side)} data sets no other library is faster", f"up to {most(ratios(side=side))}"]
+            for what, side in (("read a whole text, or a number of JSON", LIBRARY),
+                               ("the same from C++, by the C library", f"{LIBRARY}, from C"),
+                               ("read a number, and need where it ends", READ))]
+    body += [[f"{what}: {times(*gained)}" if gained else what, times(*starts)]
+             for what, starts, gained in LOST]
+    return table("The time of this library, divided by that of the fastest other one:",
+                 ["You", "Times as long"], body)

@@ -3,7 +3,7 @@ use Rattle.std.proofs.Common.{◌≡◌, ℕ, zero, suc, ◌+◌, ◌-◌, ◌*�
 use Rattle.std.specs.Char.{is_ascii_digit, digit_value}
 use Rattle.std.specs.List.{filter}
 use Rattle.std.specs.Str.Parse.{digits_value, digits_value_after}
-use Rattle.std.proofs.Math.Nat.{one-le-pow, pow-le-pow_right, mul-le-mul_left}
+use Rattle.std.proofs.Math.Nat.{one-le-pow, mul-le-mul_left}
 use Rattle.std.proofs.lemmas.List.{drop_more, drop_all, take_all}
 use Rattle.digit_values.specs.Significant.{IsOfFirstDigits}
 use Rattle.digit_values.proofs.ForCallers.{value_of_both, first_no_more}
@@ -40,10 +40,6 @@ no_less value left bytes =
 pub ruleset turns = (one_more, no_more, none_left, no_less)
 
 -- ---- of a mantissa
-
--- 38 places are so many of the last one that 128 bits hold them
-pub few_tens : (n : ℕ) → n ≤ 38 → 10 ^ n < 2 ^ 128
-few_tens n l = omega (arith, pow-le-pow_right {n = 10} (omega arith) l)
 
 pub same_value : (digits : List ℕ) (value : ℕ) → IsOfFirstDigits 10 19 digits value 0
     → digits_value 10 digits ≡ value

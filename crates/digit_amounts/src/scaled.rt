@@ -13,6 +13,7 @@ ghost use Rattle.digit_amounts.specs.Scaled.{is_exact, first_value, scaled_value
 use digit_floats::{Mantissa, are_zeros, read_mantissa, read_sign};
 use digit_integers::{Integer, read_wide_from};
 use digit_values::LiteralError;
+use digit_words::powers::wide_ten_to;
 use std::error::Error;
 use std::fmt;
 
@@ -99,22 +100,13 @@ fn keep_first(bytes: &[u8], before: u128, count: usize) -> Option<u128>
     Some(value)
 }
 
-/// Ten to a power.
-fn ten_to(n: usize) -> u128
-    requires { n ≤ 38 }
-    ensures is { result ≡ 10 ^ n }
-    ensures some { 0 < result }
-{
-    10u128.pow(n as u32)
-}
-
 /// A value times ten to a power, if it is at most `most`.
 fn times_ten_to(value: u128, tens: usize, most: u128) -> Option<u128>
     requires { tens ≤ 38 }
     ensures is { MatchOption result (most < value * 10 ^ tens) (λ v. v ≡ value * 10 ^ tens) }
     ensures fits { IfSome result (λ v. v ≤ most) }
 {
-    let scaled = value.checked_mul(ten_to(tens))?;
+    let scaled = value.checked_mul(wide_ten_to(tens))?;
     if scaled <= most { Some(scaled) } else { None }
 }
 
@@ -218,7 +210,7 @@ fn fault_of(text: &[u8], word: u128, mantissa: Mantissa, places: usize, most: u1
         → result ≡ fault_at word text.now point places most mantissa.start }
 {
     let start = mantissa.whole_end;
-    let whole = match read_wide_from(text, word, mantissa.start, most / ten_to(places)) {
+    let whole = match read_wide_from(text, word, mantissa.start, most / wide_ten_to(places)) {
         Ok((whole, _)) => whole,
         Err(LiteralError::Empty(_)) => 0,
         Err(LiteralError::Overflow(over)) => return over,

@@ -32,6 +32,7 @@ fn a_line(rt: HostRuntime) {
     assert!(rt; parse_entry(b"2026-11-30,12.50,-3") == Ok(entry));
     assert!(rt; parse_entry(b"2026-11-30,12.50,") == Ok(none));
     assert!(rt; parse_entry(b"2026-11-3,12.50,-3") == Err(9));
+    assert!(rt; parse_entry(b"2026-11-30,12.50") == Err(16));
     assert!(rt; parse_entry(b"2026-11-30,12.5x,-3") == Err(15));
     assert!(rt; parse_entry(b"2026-11-30,12.505,-3") == Err(16));
     assert!(rt; parse_entry(b"2026-11-30,12.50,-") == Err(18));
@@ -126,7 +127,7 @@ type Row = (
 );
 
 /// Texts of which the calls make other numbers.
-static SURPRISES: [Row; 7] = [
+static SURPRISES: [Row; 8] = [
     (b"01", Ok(1), Ok(1.0), Err(NumberError::Invalid(1)), Ok(1.0)),
     (b"+1", Ok(1), Ok(1.0), Err(NumberError::Empty(0)), Ok(1.0)),
     (
@@ -158,6 +159,13 @@ static SURPRISES: [Row; 7] = [
         Ok(f64::INFINITY),
     ),
     (
+        b"1e-999",
+        Err(ParseError::Invalid(1)),
+        Ok(0.0),
+        Ok(0.0),
+        Ok(0.0),
+    ),
+    (
         b"inf",
         Err(ParseError::Invalid(0)),
         Err(FloatError::Empty(0)),
@@ -176,7 +184,7 @@ fn surprises(rt: HostRuntime) {
         assert!(rt; rust(text) == *of_rust, "{text:?}");
     }
     assert!(rt; read_float::<f64>(b"1em", STANDARD) == Err(FloatError::EmptyExponent(2)));
-    let read = read_number_of::<f64>(b"1em", 0, forms::CSS);
+    let read = read_number_of::<f64>(b"1em", 0, forms::FLOAT);
     assert!(rt; read.map(|(number, end)| (number.to_float(), end)) == Ok((1.0, 1)));
 }
 

@@ -4,8 +4,9 @@ use digits::{
     Both, BothError, COMMAS, EnclosedFoldError, FloatError, Floats, FoldError,
     INTEGER_INTERNAL_DIGIT_SEPARATOR, Integers, LINES, ListError, LiteralError, Number,
     NumberReader, PieceEnd, STANDARD, Scaled, StreamEnd, StreamError, block_start, end_in_text,
-    fold_stream, forms, integers_are_apart, is_apart, parse_list, read_float_list_piece,
-    read_list_piece, read_list_piece_of, read_piece, read_scaled_list_piece, sure_end,
+    floats_are_apart, fold_stream, forms, integers_are_apart, is_apart, parse_list,
+    read_float_list_piece, read_list_piece, read_list_piece_of, read_piece, read_scaled_list_piece,
+    sure_end,
 };
 
 /// Shows `read_list_piece`.
@@ -156,6 +157,7 @@ fn a_loop(rt: HostRuntime) {
 /// Shows `NumberReader`, `NumberReader::next_number`.
 #[test]
 fn a_stream(rt: HostRuntime) {
+    floats_are_apart(STANDARD, LINES);
     let mut buffer = [0; 64];
     let kind = Floats::<f64>::new(STANDARD);
     let stream = b"1.5\n-2e3\n".as_slice();
@@ -169,6 +171,7 @@ fn a_stream(rt: HostRuntime) {
 /// A stream that ends with a blank, as the reference tells it, and one that goes on after a blank.
 #[test]
 fn blanks_at_the_end(rt: HostRuntime) {
+    integers_are_apart::<u64>(STANDARD, COMMAS);
     let mut buffer = [0; 64];
     let kind = Integers::<u64>::new(STANDARD);
     let stream = b"1, 2\n".as_slice();
@@ -191,6 +194,7 @@ fn blanks_at_the_end(rt: HostRuntime) {
 /// Shows `NumberReader`, `NumberReader::finish`.
 #[test]
 fn what_follows_a_stream(rt: HostRuntime) {
+    integers_are_apart::<u64>(STANDARD, LINES);
     let mut buffer = [0; 64];
     let kind = Integers::<u64>::new(STANDARD);
     let stream = b"1\nx".as_slice();
@@ -206,6 +210,7 @@ fn what_follows_a_stream(rt: HostRuntime) {
 /// Shows `NumberReader::read_into`, `NumberReader::position`, `NumberReader::unread`.
 #[test]
 fn a_stream_into_a_slice(rt: HostRuntime) {
+    integers_are_apart::<u64>(STANDARD, COMMAS);
     let mut buffer = [0; 64];
     let kind = Integers::<u64>::new(STANDARD);
     let stream = b"1,2;3".as_slice();
@@ -221,6 +226,7 @@ fn a_stream_into_a_slice(rt: HostRuntime) {
 /// Shows `NumberReader::pass_byte`, `NumberReader::new_at`.
 #[test]
 fn a_list_in_brackets(rt: HostRuntime) {
+    integers_are_apart::<u64>(STANDARD, COMMAS);
     let mut buffer = [0; 64];
     let kind = Integers::<u64>::new(STANDARD);
     // 100 bytes of the stream were read before
@@ -239,7 +245,8 @@ fn a_list_in_brackets(rt: HostRuntime) {
 /// Shows `fold_stream`.
 #[test]
 fn the_sum_of_a_stream(rt: HostRuntime) {
-    // each call takes its closure, so the next one needs another
+    // a call consumes its closure, so the next one needs another
+    integers_are_apart::<u8>(STANDARD, LINES);
     let mut buffer = [0; 64];
     let kind = Integers::<u8>::new(STANDARD);
     let add = |sum: u8, number: u8| sum.checked_add(number);
@@ -263,6 +270,7 @@ fn the_sum_of_a_stream(rt: HostRuntime) {
 /// Shows `NumberReader::fold_numbers`.
 #[test]
 fn the_greatest_number_of_a_stream(rt: HostRuntime) {
+    integers_are_apart::<u32>(STANDARD, COMMAS);
     let mut buffer = [0; 64];
     let kind = Integers::<u32>::new(STANDARD);
     let stream = b"3, 12, 5; x".as_slice();
@@ -275,6 +283,7 @@ fn the_greatest_number_of_a_stream(rt: HostRuntime) {
 /// Shows `NumberReader::fold_enclosed`.
 #[test]
 fn the_sums_of_arrays(rt: HostRuntime) {
+    integers_are_apart::<u32>(STANDARD, COMMAS);
     let mut buffer = [0; 64];
     let kind = Integers::<u32>::new(STANDARD);
     let stream = b"[1, 2] [ ] [3;".as_slice();

@@ -152,7 +152,7 @@ fn read_last_float<F: Float>(
 }
 
 /// Reads the float at the front of a text, and returns the position after it. An `e` without a
-/// digit is a fault: to read the 1 of `1em`, take `read_number_of` by `forms::CSS`.
+/// digit is a fault: to read the 1 of `1em`, take `read_number_of` with `forms::FLOAT`.
 ///
 /// It is [`read_float_from`] from 0.
 #[inline(always)]

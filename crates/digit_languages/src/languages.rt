@@ -215,7 +215,7 @@ pub const TOML: Language = Language {
     first_zero: FirstZero::Alone,
 };
 
-/// JSON: no prefix. `017` is refused.
+/// JSON's integers without a sign: no prefix. `017` is refused.
 pub const JSON_NUMBER: Language = Language {
     decimal: STANDARD,
     binary: None,

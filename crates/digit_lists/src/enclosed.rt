@@ -85,8 +85,8 @@ fn read_inside<K: Kind>(
 }
 
 /// Reads a list between two bytes, as `[1, 2]`, and returns how many numbers it has and the
-/// position after the closing byte. It may be empty. Requires that the kind is valid. Takes no
-/// memory.
+/// position after the closing byte. The list may be empty. Requires that the kind is valid. Takes
+/// no memory.
 ///
 /// The opening byte is at `start`, which may be any position. Blanks of the gap may be after it and
 /// before the closing byte. A list may be empty, whatever the gap is. Otherwise it is as by

@@ -1,5 +1,5 @@
--- Of functions that no caller sees: which bytes from a position on are no decimal digits, by the
--- bits of a word, the first of them by the lowest bit. No public clause uses these words.
+-- Of lists and lines that are read by their ends: which bytes from a position on are no decimal
+-- digits, by the bits of a word, the first of them by the lowest bit.
 use Rattle.std.specs.Prelude.{◌≡◌, ℕ, ◌+◌, ◌≤◌, ◌<◌, ◌&&◌, not, nat_lt, Bool, true, false, List, length, slice_index, Ok, Err}
 use Rattle.std.specs.Int.{bit_at}
 use Rattle.lexical_digits.specs.declared.skip.rule.Rule.{Rule}

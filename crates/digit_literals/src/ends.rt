@@ -1,7 +1,7 @@
 //! The numbers of a list by their ends: 64 bytes tell at once which of them are no digits. So where
 //! a number ends is known before it is read, and none waits for the digits of the one before.
 
-ghost use Rattle.std.specs.Prelude.{◌≡◌, ℕ, List, ◌+◌, ◌^◌, ◌<◌, ◌≤◌, length, slice_index, if◌then◌else◌, true, false, Ok, IfSome, IfOk, IfErr};
+ghost use Rattle.std.specs.Prelude.{◌≡◌, ℕ, ◌+◌, ◌^◌, ◌<◌, ◌≤◌, length, slice_index, if◌then◌else◌, true, false, Ok, IfSome, IfOk, IfErr};
 ghost use Rattle.std.specs.Int.{trailing_zeros, w64};
 ghost use Rattle.lexical_digits.specs.declared.skip.component.Component.TheVariants.{Integer};
 ghost use Rattle.lexical_digits.specs.ByteSet.{accepts};
@@ -15,27 +15,12 @@ ghost use Rattle.digit_literals.specs.Lists.{SoFar, Fills, IfFull, IfOver, is_bl
 ghost use Rattle.digit_integers.specs.Numbers.{number_at, is_negative_from, digits_from, signed};
 
 use super::list::{Gap, ListEnd, ListRead};
+use super::others::{BLOCK, WORDS, others_at, pass};
 use digit_integers::{Integer, greatest, greatest_of_both};
 use digit_values::{LiteralError, accepts};
 use digit_words::eight::{one_to_eight_at, value_at};
 use lexical_digits::skip::{Component, Rule};
 use std::simd::prelude::*;
-
-/// How many bytes are compared at once.
-const BLOCK: usize = 64;
-
-/// How many bytes a number that begins in a block may need from its first digit on: three words.
-const WORDS: usize = 24;
-
-/// Which of the 64 bytes from a position on are no decimal digits.
-#[inline(always)]
-fn others_at(text: &[u8], at: usize) -> u64
-    requires { at + 88 ≤ length text.now }
-    ensures { AreOthers text.now at result }
-{
-    let digits = u8x64::from_slice(&text[at..]) - u8x64::splat(b'0');
-    digits.simd_ge(u8x64::splat(10)).to_bitmask()
-}
 
 /// [`others_at`] if the text is long enough, and otherwise nothing: no byte is marked.
 #[inline(always)]
@@ -47,15 +32,6 @@ fn others_from(text: &[u8], at: usize) -> u64
         return 0;
     }
     others_at(text, at)
-}
-
-/// Which bytes are no digits, after so many bytes.
-#[inline(always)]
-fn pass(others: u64, count: usize) -> u64
-    ensures { (text : List ℕ) (at : ℕ) → AreOthers text at others
-        → AreOthers text (at + count) result }
-{
-    if count < BLOCK { others >> count } else { 0 }
 }
 
 /// Whether the numbers of a block are rather read one by one: half of the bytes are no digits, or

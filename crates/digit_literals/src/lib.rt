@@ -7,6 +7,7 @@ pub mod equality;
 pub mod laws;
 mod list;
 mod one;
+pub mod others;
 
 pub use self::list::{
     COMMAS, COMMAS_IN_LINE, Gap, LINES, ListEnd, ListRead, SPACES, SPACES_IN_LINE, WHITESPACE,

@@ -20,10 +20,10 @@ use lexical_digits::ops::ByteSet;
 pub struct Gap {
     /// The bytes that separate: one of them is between two numbers.
     pub separators: ByteSet,
-    /// The bytes that may be before and after a separator, and before the first number. One that
-    /// separates is no blank.
+    /// The bytes that may be before and after a separator, and before the first number. A byte of
+    /// `separators` isn't a blank, even if it is here, too.
     pub blanks: ByteSet,
-    /// Whether blanks separate too: without a separator among them, a run of them counts as one.
+    /// Whether a run of blanks, without a separator among them, is itself a separator.
     pub blanks_separate: bool,
     /// If `true`, a separator may be last, and the list may be empty: where no number begins, the
     /// list is over. If `false`, a number has to come first, and after each separator.

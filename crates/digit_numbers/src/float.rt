@@ -1,4 +1,4 @@
-// The float at a position, by a form.
+//! The float at a position, by a form.
 
 ghost use Rattle.std.specs.Prelude.{◌≡◌, Err, ◌+◌, ◌-◌, ◌*◌, ◌^◌, ◌++◌, ◌<◌, ◌≤◌, false, true, min, length, [], None, IfSome, IfOk, IfErr, OnOk, MatchOption, IsTrue};
 ghost use Rattle.std.specs.Float.{NotNan};

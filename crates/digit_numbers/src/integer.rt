@@ -1,4 +1,4 @@
-// The longest integer of a language at a position.
+//! The longest integer of a language at a position.
 
 ghost use Rattle.std.specs.Prelude.{◌≡◌, Ok, ◌+◌, ◌-◌, ◌^◌, ◌≤◌, ◌<◌, true, length, IfOk, IfSome, slice_get};
 ghost use Rattle.std.specs.Char.{is_ascii_alphabetic};

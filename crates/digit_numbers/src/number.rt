@@ -28,8 +28,8 @@ pub enum Number<F> {
         negative: bool,
         magnitude: u128,
         /// The word by which its digits were read. It has their radix, so `0xff` and `255` are not
-        /// equal by `==`: compare what `as_integer` returns. If only the `0` of `0x` is a number,
-        /// it is the decimal word.
+        /// equal by `==`: compare what `as_integer` returns. Of `0xg` only the `0` is a number,
+        /// and its word is the decimal one.
         word: u128,
     },
     /// The nearest float. `-0.0` is the negative zero, and what is too large is infinite.

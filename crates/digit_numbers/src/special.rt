@@ -1,4 +1,4 @@
-// The special value at a position, by a form.
+//! The special value at a position, by a form.
 
 ghost use Rattle.std.specs.Prelude.{◌≡◌, ◌+◌, ◌<◌, ◌≤◌, ◌&&◌, ◌||◌, if◌then◌else◌, nat_lt};
 ghost use Rattle.std.specs.Prelude.{Bool, false, true, length, Some, None, IsTrue, IfSome, MatchOption};

@@ -8,9 +8,8 @@ ghost use Rattle.lexical_digits.specs.Moves.{IsFresh, outcome_later};
 use digit_literals::{Gap, ListRead};
 
 /// A kind of numbers of a text, such as integers of a type by a word. It says how one number is
-/// read, and which bytes may be in it. Take the nearest byte on each side of a number that
-/// `has_byte` refuses: what lies beyond these two bytes must not change how it is read. In `a;12,b`
-/// only `;12,` may matter to the 12.
+/// read, and which bytes may be in it. Reading a number may look only as far as the first byte on
+/// each side that can't be in one (`has_byte` is `false`): for the 12 of `a;12,b` at `;12,`.
 pub trait Kind: Copy {
     /// A number.
     type Number: Copy;

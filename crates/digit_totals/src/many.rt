@@ -1,7 +1,7 @@
 //! Lines that are only integers, by their ends: 64 bytes tell at once which of them are no digits.
 //! So no line waits for the digits of the one before.
 
-ghost use Rattle.std.specs.Prelude.{◌≡◌, ◌^◌, ◌-◌, ◌<◌, ◌+◌, ◌≤◌, ℕ, List, length, IfSome, None, Ok};
+ghost use Rattle.std.specs.Prelude.{◌≡◌, ◌^◌, ◌-◌, ◌<◌, ◌+◌, ◌≤◌, ℕ, length, IfSome, None, Ok};
 ghost use Rattle.lexical_digits.specs.declared.skip.rule.Rule.{Rule};
 ghost use Rattle.digit_integers.specs.Integers.{integer_at};
 ghost use Rattle.digit_integers.specs.Numbers.{is_negative_from, digits_from, with_sign};
@@ -19,33 +19,8 @@ use super::adds::Added;
 use super::around::{GREATEST, after_feed, begin_at, sign_of, signed};
 use super::options::{Kind, Options};
 use super::totals::{Sums, Totals};
+use digit_literals::others::{BLOCK, WORDS, others_at, pass};
 use digit_words::eight::value_at;
-use std::simd::prelude::*;
-
-/// How many bytes are compared at once.
-const BLOCK: usize = 64;
-
-/// How many bytes a number that begins in a block may need from its first digit on: three words.
-const WORDS: usize = 24;
-
-/// Which of the 64 bytes from a position on are no decimal digits.
-#[inline(always)]
-fn others_at(text: &[u8], at: usize) -> u64
-    requires { at + 88 ≤ length text.now }
-    ensures { AreOthers text.now at result }
-{
-    let digits = u8x64::from_slice(&text[at..]) - u8x64::splat(b'0');
-    digits.simd_ge(u8x64::splat(10)).to_bitmask()
-}
-
-/// Which bytes are no digits, after so many bytes.
-#[inline(always)]
-fn pass(others: u64, count: usize) -> u64
-    ensures { (text : List ℕ) (at : ℕ) → AreOthers text at others
-        → AreOthers text (at + count) result }
-{
-    if count < BLOCK { others >> count } else { 0 }
-}
 
 /// What is known before the digits of a number are read.
 #[derive(Clone, Copy)]

@@ -1,6 +1,6 @@
 //! What is written: the totals, or why there are none.
 
-ghost use Rattle.std.specs.Prelude.{◌≡◌, ◌<◌, ◌≤◌, ◌^◌, ◌++◌, ◌-◌, replicate, take, length, is_nan, IfOk, IsTrue, OnOk, string_bytes};
+ghost use Rattle.std.specs.Prelude.{◌≡◌, ◌<◌, ◌≤◌, ◌++◌, ◌-◌, replicate, take, length, is_nan, IfOk, IsTrue, OnOk, string_bytes};
 ghost use Rattle.std.specs.Float.{float_is_finite, float_is_infinite};
 ghost use Rattle.float_writers.specs.declared.write.TheConstants.{PLAIN_ROOM};
 ghost use Rattle.digit_totals.specs.Text as Text;
@@ -10,6 +10,7 @@ use super::error_kind::words_of;
 use super::fault::{Fault, LineFault, NumberError};
 use super::options::{Column, Kind};
 use super::totals::{FloatTotals, Totals};
+use digit_words::powers::wide_ten_to;
 use float_writers::{FloatLayout, PLAIN_ROOM, write_float};
 use std::alloc::{AllocError, Allocator};
 use std::io::ErrorKind;
@@ -24,15 +25,6 @@ fn push_zeros<A: Allocator>(text: &mut String<A>, count: usize) -> Result<(), Al
     Ok(())
 }
 
-/// Ten to the power of the places.
-fn unit_of(places: usize) -> u128
-    requires { places ≤ 38 }
-    ensures is { result ≡ 10 ^ places }
-    ensures some { 0 < result }
-{
-    10u128.pow(places as u32)
-}
-
 /// So many of the last place, with a point before the places.
 #[tactic(auto, unfolding(crate::specs::Text::with_point))]
 fn with_point<A: Allocator>(alloc: &A, places: usize, value: i128) -> Result<String<&A>, AllocError>
@@ -40,7 +32,7 @@ fn with_point<A: Allocator>(alloc: &A, places: usize, value: i128) -> Result<Str
     ensures { IfOk result (λ text. string_bytes text ≡ Text.with_point places value) }
 {
     let magnitude = value.unsigned_abs();
-    let unit = unit_of(places);
+    let unit = wide_ten_to(places);
     let whole = magnitude / unit;
     let part = magnitude % unit;
     let sign = if value < 0 { "-" } else { "" };

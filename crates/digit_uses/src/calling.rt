@@ -31,7 +31,7 @@ pub fn read_size(text: &[u8]) -> Result<(u32, u32, usize), SizeError> {
     Ok((width, height, end))
 }
 
-use digits::STANDARD;
+use digits::{BLANKS, STANDARD, past_bytes};
 
 /// Reads a text as a number, with any blanks around it: ` 12\r\n` is 12.
 pub fn parse_trimmed(text: &[u8]) -> Result<i32, ParseError> {
@@ -42,6 +42,26 @@ pub fn parse_trimmed(text: &[u8]) -> Result<i32, ParseError> {
         return Err(ParseError::Invalid(rest));
     }
     Ok(number)
+}
+
+use digits::{FloatError, read_float};
+
+/// Why a text is no length.
+#[derive(Clone, Copy, Debug, PartialEq, Eq)]
+pub enum LengthError {
+    Float(FloatError),
+    /// The `m` isn't at this position, or something follows it there.
+    Unit(usize),
+}
+
+/// Reads a text as a length in metres: `1.5m` is 1.5, and in `1.5` the fault is `Unit(3)`.
+pub fn parse_metres(text: &[u8]) -> Result<f64, LengthError> {
+    let (metres, end) = read_float::<f64>(text, STANDARD).map_err(LengthError::Float)?;
+    let end = expect_byte(text, end, b'm').map_err(LengthError::Unit)?;
+    if end < text.len() {
+        return Err(LengthError::Unit(end));
+    }
+    Ok(metres)
 }
 
 use digits::{INTEGER_INTERNAL_DIGIT_SEPARATOR, PriceError, ScaledError, read_price_from};
@@ -76,46 +96,6 @@ pub fn line_and_column(text: &[u8], at: usize) -> (usize, usize) {
         .take_while(|byte| **byte != b'\n')
         .count();
     (lines + 1, columns + 1)
-}
-
-ghost use Rattle.std.specs.Prelude.{◌≤◌, length, IfOk};
-
-use digits::read_integer_from;
-
-/// Why there is no percentage.
-#[derive(Clone, Copy, Debug, PartialEq, Eq)]
-pub enum PercentError {
-    NoDigit(usize),
-    Above100(usize),
-}
-
-/// Reads the percentage at `start`, and returns where it ends: `75%` gives `(75, 2)`.
-pub fn read_percent(line: &[u8], start: usize) -> Result<(u8, usize), PercentError>
-    requires { start ≤ length line.now }
-    ensures { IfOk result (λ percent. percent.1 ≤ length line.now) }
-{
-    match read_integer_from(line, PYTHON_LITERAL, start, 100) {
-        Ok((percent, end)) => Ok((percent as u8, end)),
-        Err(LiteralError::Empty(at)) => Err(PercentError::NoDigit(at)),
-        Err(LiteralError::Overflow(at)) => Err(PercentError::Above100(at)),
-    }
-}
-
-use digits::{BLANKS, NumberError, forms, name_end, past_bytes, read_number_of};
-
-/// Adds up the lengths of a text, whatever their units: `10px 2.5em` gives 12.5.
-pub fn sum_lengths(text: &[u8]) -> Result<f64, NumberError> {
-    let mut sum = 0.0;
-    let mut at = past_bytes(text, 0, BLANKS);
-    for _ in text {
-        if at >= text.len() {
-            break;
-        }
-        let (number, end) = read_number_of::<f64>(text, at, forms::CSS)?;
-        sum += number.to_float();
-        at = past_bytes(text, name_end(text, end), BLANKS);
-    }
-    Ok(sum)
 }
 
 use digits::{COMMAS, Integers, ListError, parse_list};
@@ -157,49 +137,6 @@ pub const SEMICOLONS: Gap = Gap {
     },
     ..COMMAS_IN_LINE
 };
-
-use digits::parse_number_of;
-
-/// Reads a text as a JSON number: `-1.5e3` is -1500.0, and `01` is `Invalid(1)`.
-pub fn parse_amount(text: &[u8]) -> Result<f64, NumberError> {
-    Ok(parse_number_of::<f64>(text, forms::JSON)?.to_float())
-}
-
-ghost use Rattle.std.specs.Prelude.{◌<◌};
-
-use digits::{Number, byte_at};
-
-/// Reads the JSON number at `start`, and returns where it ends: in `-1.5e3,` it is -1500.0, and
-/// ends at 6. In `01` the fault is at 1.
-pub fn read_token(text: &[u8], start: usize) -> Result<(Number<f64>, usize), NumberError>
-    requires { start ≤ length text.now }
-    ensures end { IfOk result (λ read. (start < read.1) × (read.1 ≤ length text.now)) }
-{
-    let (number, end) = read_number_of::<f64>(text, start, forms::JSON)?;
-    match byte_at(text, end) {
-        None | Some(b' ' | b'\t' | b'\n' | b'\r' | b',' | b']' | b'}') => Ok((number, end)),
-        Some(_) => Err(NumberError::Invalid(end)),
-    }
-}
-
-use digits::{EnclosedError, OfForm, read_enclosed};
-
-/// Reads the JSON array at the front of a text into a slice, and returns how many numbers it has,
-/// and where it ends: `[1, 2.5]` gives `(2, 8)`.
-pub fn read_array(
-    text: &[u8],
-    out: &mut [Number<f64>],
-) -> Result<(usize, usize), EnclosedError<NumberError>> {
-    read_enclosed(
-        OfForm::<f64>::new(forms::JSON),
-        text,
-        0,
-        b'[',
-        COMMAS,
-        b']',
-        out,
-    )
-}
 
 use digits::{read_exactly, read_optional, read_scaled_from};
 
@@ -243,6 +180,8 @@ pub fn parse_entry(line: &[u8]) -> Result<Entry, usize> {
     })
 }
 
+ghost use Rattle.std.specs.Prelude.{◌≤◌, length, IfOk};
+
 /// Reads a line into the front of `row`, and returns how many numbers it has, or the first fault:
 /// `12, 7,305` has three.
 pub fn parse_row(line: &[u8], row: &mut [u32]) -> Result<usize, ListError<LiteralError>>
@@ -251,7 +190,56 @@ pub fn parse_row(line: &[u8], row: &mut [u32]) -> Result<usize, ListError<Litera
     parse_list(Integers::<u32>::new(STANDARD), line, COMMAS_IN_LINE, row)
 }
 
-use digits::{FloatError, Floats, LINES, floats_are_apart};
+use digits::{NumberError, forms, parse_number_of};
+
+/// Reads a text as a JSON number: `-1.5e3` is -1500.0, and `01` is `Invalid(1)`.
+pub fn parse_amount(text: &[u8]) -> Result<f64, NumberError> {
+    Ok(parse_number_of::<f64>(text, forms::JSON)?.to_float())
+}
+
+/// Reads a text as an id, a JSON integer that fits an `i64`: `-7` is -7, and `1.0` isn't one.
+pub fn parse_id(text: &[u8]) -> Option<i64> {
+    let number = parse_number_of::<f64>(text, forms::JSON).ok()?;
+    number.as_integer::<i64>()
+}
+
+ghost use Rattle.std.specs.Prelude.{◌<◌};
+
+use digits::{Number, byte_at, read_number_of};
+
+/// Reads the JSON number at `start`, and returns where it ends: in `-1.5e3,` it is -1500.0, and
+/// ends at 6. In `01` the fault is at 1.
+pub fn read_token(text: &[u8], start: usize) -> Result<(Number<f64>, usize), NumberError>
+    requires { start ≤ length text.now }
+    ensures end { IfOk result (λ read. (start < read.1) × (read.1 ≤ length text.now)) }
+{
+    let (number, end) = read_number_of::<f64>(text, start, forms::JSON)?;
+    match byte_at(text, end) {
+        None | Some(b' ' | b'\t' | b'\n' | b'\r' | b',' | b']' | b'}') => Ok((number, end)),
+        Some(_) => Err(NumberError::Invalid(end)),
+    }
+}
+
+use digits::{EnclosedError, OfForm, read_enclosed};
+
+/// Reads the JSON array at the front of a text into a slice, and returns how many numbers it has,
+/// and where it ends: `[1, 2.5]` gives `(2, 8)`.
+pub fn read_array(
+    text: &[u8],
+    out: &mut [Number<f64>],
+) -> Result<(usize, usize), EnclosedError<NumberError>> {
+    read_enclosed(
+        OfForm::<f64>::new(forms::JSON),
+        text,
+        0,
+        b'[',
+        COMMAS,
+        b']',
+        out,
+    )
+}
+
+use digits::{Floats, LINES, floats_are_apart};
 use std::io::Read;
 
 /// Adds up the floats of a stream that has one float in each line. An empty line is an error.
@@ -344,11 +332,46 @@ pub fn write_grouped(number: i64, out: &mut [u8]) -> Result<usize, NoRoom> {
     write_number_by(number, layout, out)
 }
 
+use digits::read_integer_from;
+
+/// Why there is no percentage.
+#[derive(Clone, Copy, Debug, PartialEq, Eq)]
+pub enum PercentError {
+    NoDigit(usize),
+    Above100(usize),
+}
+
+/// Reads the percentage at `start`, and returns where it ends: `75%` gives `(75, 2)`.
+pub fn read_percent(line: &[u8], start: usize) -> Result<(u8, usize), PercentError>
+    requires { start ≤ length line.now }
+    ensures { IfOk result (λ percent. percent.1 ≤ length line.now) }
+{
+    match read_integer_from(line, PYTHON_LITERAL, start, 100) {
+        Ok((percent, end)) => Ok((percent as u8, end)),
+        Err(LiteralError::Empty(at)) => Err(PercentError::NoDigit(at)),
+        Err(LiteralError::Overflow(at)) => Err(PercentError::Above100(at)),
+    }
+}
+
+use digits::name_end;
+
+/// Adds up the lengths of a text, and skips their units: `10px 2.5em` gives 12.5.
+pub fn sum_lengths(text: &[u8]) -> Result<f64, NumberError> {
+    let mut sum = 0.0;
+    let mut at = past_bytes(text, 0, BLANKS);
+    for _ in text {
+        if at >= text.len() {
+            break;
+        }
+        let (number, end) = read_number_of::<f64>(text, at, forms::CSS)?;
+        sum += number.to_float();
+        at = past_bytes(text, name_end(text, end), BLANKS);
+    }
+    Ok(sum)
+}
+
 /// Radix 10, and `.` between two digits: `1.234`.
 pub const POINT_DIGITS: u128 = (10 << 104) | (0x2e << 64) | INTEGER_INTERNAL_DIGIT_SEPARATOR;
-
-/// Radix 16, and `'` between two digits: `ff'ff`.
-pub const APOSTROPHES: u128 = (16 << 104) | (0x27 << 64) | INTEGER_INTERNAL_DIGIT_SEPARATOR;
 
 /// Reads a text as a count: `1.234` is 1234.
 pub fn parse_count(text: &[u8]) -> Result<u64, ParseError> {

@@ -13,7 +13,7 @@ use super::slice::{ReadTo, read_bytes, read_slice};
 use lexical_digits::iterator::Iter;
 use lexical_digits::skip::{Bytes, Component, Rule};
 
-/// Counts the digits of a text. Separators that the word drops don't count. If another byte is
+/// Counts the digits of a text. Separators that the word allows don't count. If another byte is
 /// there, the error is its position. Requires that the word is supported.
 ///
 /// Digits are those of the mantissa radix, and separators are dropped as in an integer. The
@@ -41,7 +41,7 @@ pub fn count_digits(text: &[u8], word: u128) -> Result<usize, usize>
 }
 
 /// Returns where the digits of the component at `start` end: at the first byte that is neither a
-/// digit nor a separator that the word drops there, or at the end of the text. Requires that
+/// digit nor a separator that the word allows there, or at the end of the text. Requires that
 /// `start` is within the text and the word is supported.
 ///
 /// A separator at `start` is judged with the byte before it: in `1_0` the `_` at 1 has a digit on

@@ -1,6 +1,6 @@
-//! The powers of ten that fit 64 bits.
+//! The powers of ten that fit 64 bits, and those that fit 128.
 
-ghost use Rattle.std.specs.Prelude.{◌≡◌, ◌^◌, ◌≤◌, IfSome};
+ghost use Rattle.std.specs.Prelude.{◌≡◌, ◌^◌, ◌<◌, ◌≤◌, IfSome};
 
 /// 10 to the power of at most 19. The compiler makes a table of it for each caller, by what the
 /// caller counts, such as `19 - count`.
@@ -8,6 +8,7 @@ ghost use Rattle.std.specs.Prelude.{◌≡◌, ◌^◌, ◌≤◌, IfSome};
 pub fn small_ten_to(n: usize) -> u64
     requires { n ≤ 19 }
     ensures is { result ≡ 10 ^ n }
+    ensures some { 0 < result }
     ensures eight { n ≤ 8 → result ≤ 10 ^ 8 }
 {
     match n {
@@ -41,4 +42,14 @@ pub fn ten_to(n: usize) -> Option<u64>
     ensures { IfSome result (λ power. power ≡ 10 ^ n) }
 {
     if n <= 19 { Some(small_ten_to(n)) } else { None }
+}
+
+/// 10 to a power that 128 bits hold.
+#[inline]
+pub fn wide_ten_to(n: usize) -> u128
+    requires { n ≤ 38 }
+    ensures is { result ≡ 10 ^ n }
+    ensures some { 0 < result }
+{
+    10u128.pow(n as u32)
 }

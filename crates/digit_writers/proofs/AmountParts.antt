@@ -1,7 +1,6 @@
 -- The parts of an amount.
 use Rattle.std.proofs.Common.{◌≡◌, ℕ, zero, suc, ◌+◌, ◌/◌, ◌^◌, ◌<◌, ◌≤◌, ◌⊎◌, Bool, true, false, List, [], ◌∷◌, ◌++◌, length, set, refl, sym, ap, ◌∙◌, inl, inr, arith, length-append}
 use Rattle.std.specs.Prelude.{decimal}
-use Rattle.std.proofs.Math.Nat.{pow-le-pow_right}
 use Rattle.std.specs.List.{splice}
 use Rattle.digit_writers.specs.Amounts.{whole_text, fraction_text, magnitude_text}
 use Rattle.digit_writers.specs.Digits.{last_decimals}
@@ -120,15 +119,3 @@ module _ (grouped : Bool) (separator point places : ℕ) (negative : Bool) (n : 
           → one ≡ splice out 0 start signs → start ≤ length out → length one ≡ length out
       long_one signs start out one first sign within =
           ap length sign ∙ length_spliced out signs 0 start (omega (arith, first)) within
-
--- ---- a power of ten
-
-pub few_tens : (n : ℕ) → n ≤ 38 → 10 ^ n < 2 ^ 128
-few_tens n few =
-    let up : 10 ^ n ≤ 10 ^ 38 = pow-le-pow_right {n = 10} (omega arith) few in
-    omega (arith, up)
-
-pub fewer_tens : (n : ℕ) → n ≤ 19 → 10 ^ n < 2 ^ 64
-fewer_tens n few =
-    let up : 10 ^ n ≤ 10 ^ 19 = pow-le-pow_right {n = 10} (omega arith) few in
-    omega (arith, up)

@@ -13,24 +13,7 @@ use super::thousands::put_thousands;
 use super::types::Written;
 use super::wide::put_number;
 use decimal_writers::NoRoom;
-
-/// Ten to a power.
-fn ten_to(n: usize) -> u128
-    requires { n ≤ 38 }
-    ensures is { result ≡ 10 ^ n }
-    ensures some { 0 < result }
-{
-    10u128.pow(n as u32)
-}
-
-/// Ten to a power of 64 bits.
-fn ten_to_narrow(n: usize) -> u64
-    requires { n ≤ 19 }
-    ensures is { result ≡ 10 ^ n }
-    ensures some { 0 < result }
-{
-    10u64.pow(n as u32)
-}
+use digit_words::powers::{small_ten_to, wide_ten_to};
 
 /// A number without so many of its last digits.
 #[inline(always)]
@@ -39,9 +22,9 @@ fn without_places(n: u128, places: usize) -> u128
     ensures { result ≡ n / 10 ^ places }
 {
     if places <= 19 && n <= u64::MAX as u128 {
-        return (n as u64 / ten_to_narrow(places)) as u128;
+        return (n as u64 / small_ten_to(places)) as u128;
     }
-    n / ten_to(places)
+    n / wide_ten_to(places)
 }
 
 /// How long an integer is, in groups of three digits or not.

@@ -99,9 +99,9 @@ fn copy(text: &[u8], out: &mut [u8]) -> Result<usize, FormTextError>
     Ok(len)
 }
 
-/// Writes a number by a form. [`parse_number_of`](digit_numbers::parse_number_of) reads it back: a
-/// float as this float, `2.0`, and an integer as this integer, without its word. By a form whose
-/// numbers are all floats it reads an integer back as the nearest float. An infinity and a NaN have
+/// Writes a number of a form. [`parse_number_of`](digit_numbers::parse_number_of) reads it back: a
+/// float as this float, `2.0`, and an integer as this integer, without its word. If all numbers of
+/// the form are floats, it reads an integer back as the nearest float. An infinity and a NaN have
 /// the first of the form's names, such as `inf` of TOML and `.inf` of YAML.
 ///
 /// The call puts it at the front of a slice, and returns its length. A float is written by its

@@ -4,14 +4,19 @@
 use digit_amounts::ScaledError;
 use digit_floats::{FloatError, read_float};
 use digit_lists::ListError;
-use digit_literals::{LINES, ListEnd, LiteralError, ParseError, read_list};
+use digit_literals::{
+    LINES, ListEnd, LiteralError, ParseError, parse_number, parse_number_from, read_list,
+    read_number,
+};
 use digit_numbers::{Number, NumberError, forms, read_number_of};
 use digit_uses::calling::{
-    SizeError, parse_amount, parse_comma_float, parse_count, parse_height, parse_row,
-    parse_trimmed, read_mask, read_ports, read_size, read_token, write_grouped,
+    LengthError, SizeError, parse_amount, parse_comma_float, parse_count, parse_height, parse_id,
+    parse_metres, parse_row, parse_trimmed, read_mask, read_ports, read_size, read_token,
+    write_grouped,
 };
 use digit_uses::money::cents_of_field;
 use lexical_format::STANDARD;
+use lexical_format::words::PYTHON_LITERAL;
 
 #[test]
 fn a_height_is_a_whole_text(rt: HostRuntime) {
@@ -40,6 +45,33 @@ fn a_size_is_two_numbers(rt: HostRuntime) {
     assert!(rt; parse_trimmed(b"12 x") == Err(ParseError::Invalid(3)));
     assert!(rt; parse_amount(b"-1.5e3") == Ok(-1500.0));
     assert!(rt; parse_amount(b"01") == Err(NumberError::Invalid(1)));
+}
+
+#[test]
+fn a_length_has_its_unit(rt: HostRuntime) {
+    assert!(rt; parse_metres(b"1.5m") == Ok(1.5));
+    assert!(rt; parse_metres(b"1.5") == Err(LengthError::Unit(3)));
+    assert!(rt; parse_metres(b"1.5mm") == Err(LengthError::Unit(4)));
+    let exponent = FloatError::EmptyExponent(2);
+    assert!(rt; parse_metres(b"1em") == Err(LengthError::Float(exponent)));
+}
+
+#[test]
+fn an_id_is_an_integer_of_json(rt: HostRuntime) {
+    assert!(rt; parse_id(b"-7") == Some(-7));
+    assert!(rt; parse_id(b"9223372036854775807") == Some(9223372036854775807));
+    assert!(rt; parse_id(b"9223372036854775808").is_none());
+    assert!(rt; parse_id(b"1.0").is_none());
+    assert!(rt; parse_id(b"01").is_none());
+}
+
+#[test]
+#[tactic(auto, unfolding(lexical_format::proofs::OnLiterals::lexical_on_literals))]
+fn a_call_stops_at_a_separator_that_is_refused(rt: HostRuntime) {
+    assert!(rt; read_number::<u32>(b"1__0", PYTHON_LITERAL) == Ok((1, 1)));
+    assert!(rt; parse_number::<u32>(b"1__0", PYTHON_LITERAL) == Err(ParseError::Invalid(1)));
+    assert!(rt; parse_number_from::<u32>(b"1_000", PYTHON_LITERAL, 1) == Ok(0));
+    assert!(rt; parse_number::<u32>(b"_000", PYTHON_LITERAL) == Err(ParseError::Invalid(0)));
 }
 
 /// The token that begins a text: as an `i64`, as a float, and where it ends.
@@ -171,6 +203,7 @@ fn a_number_is_written_in_groups(rt: HostRuntime) {
 fn an_exponent_without_a_digit(rt: HostRuntime) {
     assert!(rt; read_float::<f64>(b"1em", STANDARD) == Err(FloatError::EmptyExponent(2)));
     assert!(rt; read_number_of::<f64>(b"1em", 0, forms::CSS) == Ok((Number::Float(1.0), 1)));
+    assert!(rt; read_number_of::<f64>(b"1em", 0, forms::FLOAT) == Ok((Number::Float(1.0), 1)));
 }
 
 #[test]

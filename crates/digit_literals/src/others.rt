@@ -1,0 +1,31 @@
+//! Which bytes of a text are no decimal digits, 64 at once. It is public only for `digit_totals`.
+
+ghost use Rattle.std.specs.Prelude.{ℕ, List, ◌+◌, ◌≤◌, length};
+ghost use Rattle.digit_literals.specs.Ends.{AreOthers};
+
+use std::simd::prelude::*;
+
+/// How many bytes are compared at once.
+pub const BLOCK: usize = 64;
+
+/// How many bytes a number that begins in a block may need from its first digit on: three words.
+pub const WORDS: usize = 24;
+
+/// Which of the 64 bytes from a position on are no decimal digits.
+#[inline(always)]
+pub fn others_at(text: &[u8], at: usize) -> u64
+    requires { at + 88 ≤ length text.now }
+    ensures { AreOthers text.now at result }
+{
+    let digits = u8x64::from_slice(&text[at..]) - u8x64::splat(b'0');
+    digits.simd_ge(u8x64::splat(10)).to_bitmask()
+}
+
+/// Which bytes are no digits, after so many bytes.
+#[inline(always)]
+pub fn pass(others: u64, count: usize) -> u64
+    ensures { (text : List ℕ) (at : ℕ) → AreOthers text at others
+        → AreOthers text (at + count) result }
+{
+    if count < BLOCK { others >> count } else { 0 }
+}
