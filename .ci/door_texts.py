@@ -51,7 +51,19 @@ GROUPS = {
         read_decimal_from read_decimal_of | Read digits and a power of ten, before rounding""", """
         With 2 decimal places `12.5` is 1250: an amount is an exact integer, in units of the last place. No
         float is involved. If the type is signed, a sign is read. Only `parse_scaled` reads a whole text;
-        after the other calls compare the end with `text.len()`.""", """
+        after the other calls compare the end with `text.len()`.
+
+        Four calls read the amount at `start`, and differ in what they accept. With 2 places, and a
+        [word](#words) that skips a `,` between two digits, they return
+
+        | Text | `read_scaled_from` | `read_exact_from` | `read_grouped_from` | `read_price_from` |
+        |---|---|---|---|---|
+        | `1,234.50` | 123450 | 123450 | 123450 | 123450 |
+        | `12.5` | 1250 | `Places(4)` | 1250 | `Places(4)` |
+        | `12.500` | 1250 | `Places(6)` | 1250 | `Places(6)` |
+        | `12,34.50` | 123450 | 123450 | `Group(3)` | `Group(3)` |
+        | `1234.50` | 123450 | 123450 | `Group(0)` | `Group(0)` |
+        | `12.345` | `TooFine(5)` | `Number(TooFine(5))` | `Number(TooFine(5))` | `Number(TooFine(5))` |""", """
         parse_scaled read_scaled_from read_scaled_up_to read_exact_from read_grouped_from read_price_from
         read_decimal_from read_decimal_of Decimal ScaledError PriceError"""),
     "Literals of a language": ("""
@@ -149,6 +161,18 @@ GROUPS = {
         fold_stream | Combines all numbers into one value, such as their sum
         NumberReader | Reads them one by one
         is_apart | Tests whether a kind and a gap go together in a stream""", """
+        ```rust
+        integers_are_apart::<u64>(STANDARD, LINES);
+        let mut buffer = [0; 64];
+        let kind = Integers::<u64>::new(STANDARD);
+        let stream = b"80\\n443\\n".as_slice();
+        let add = |sum: u64, number: u64| sum.checked_add(number);
+        let sum = fold_stream(stream, &mut buffer, kind, LINES, 0, add);
+        sum // Ok(523)
+        ```
+
+        To see one number after the other, loop over a `NumberReader`:
+
         ```rust
         integers_are_apart::<u64>(STANDARD, LINES);
         let mut buffer = [0; 64];
@@ -268,8 +292,8 @@ GROUPS = {
         The words of a language X have names such as `X_LITERAL` and `X_HEX_LITERAL` ([which there are](#words-1)). The separator is
         `'` for `CXX14`, and `_` for every other language.
 
-        A separator that a word *drops* is skipped. One that it *keeps* is as any other byte, so it ends the number:
-        `PYTHON_LITERAL` drops the `_` of `1_0`, and keeps those of `1__0`.
+        Where a word allows a separator, it is skipped: `PYTHON_LITERAL` skips the `_` of `1_0`. Any other separator
+        ends the number: `1__0` ends at 1. Contracts call the two *dropped* and *kept*.
 
         A constant is `radix << 104 | separator << 64 | flags`, with `exponent_radix << 120` if that radix is
         another. Test what the builder makes with `is_supported`. A flag of a component is a bit:
@@ -282,7 +306,7 @@ GROUPS = {
         | `trailing` | `1 << 38` | `1 << 39` | `1 << 40` |
         | `consecutive` | `1 << 41` | `1 << 42` | `1 << 43` |
 
-        `1 << 44` drops every separator of a special value, such as `nan`. The names of all
+        `1 << 44` skips every separator of a special value, such as `nan`. The names of all
         thirteen flags are [in `lexical_format`](lexical_format.md#integer_leading_digit_separator): to use them, add
         that crate to your line of `crates.txt`.""", """
         STANDARD words is_supported NumberFormatBuilder DigitSeparatorFlags DECIMAL NO_FLAGS ALL_FLAGS
@@ -352,14 +376,14 @@ NOTES = {
         For an unsigned type no number begins with a sign: a `u32` at `-1` is `None`, and a list of `u32` over
         `1\\n-2\\n` with `LINES` ends with `Over(2)`. To make that an error, look for the sign with
         [`has_byte`](#has_byte), or read a signed type.""",
-    "read_grouped_from": "The word `GROUPS` is written [from its parts](#words).",
-    "read_price_from": "The words `GROUPS` and `DOTS` are written [from their parts](#words).",
+    "read_grouped_from": "[Words](#words) says how such a word is made.",
+    "read_price_from": "[Words](#words) says how such words are made.",
     "write_scaled": """
         [`read_scaled_from`](#read_scaled_from) reads the text back, with the same point and places, for example with
         `STANDARD`.""",
     "write_price": """
         [`read_price_from`](#read_price_from) reads the text back with a word that has this separator, such as its
-        `GROUPS`.""",
+        `COMMA_DIGITS`.""",
     "fold_stream": """
         For an empty stream it returns `init` if the gap may trail, as `LINES` may. With `COMMAS` an empty stream is
         an error.""",
@@ -403,6 +427,13 @@ NOTES = {
     "Enclosed": """
         `Enclosed` reads one number, and its error is `BracketError`. For a list in brackets call
         [`read_enclosed`](#read_enclosed), whose error is `EnclosedError`.""",
+    "Prices": """
+        | The kind | It reads | It refuses |
+        |---|---|---|
+        | `Prices::exact` | `1234.50` | `12.5` |
+        | `Prices::grouped` | `1,234.5` | `1234.5` |
+        | `Prices::new` | `1,234.50` | `1234.50`, `1,234.5` |
+        | [`Scaled`](#scaled), to compare | `1234.50`, `12.5` | `12.345` |""",
     "NoNumber": "`BothError` and `BracketError` have no `position()`: call `fault_at()`.",
     "Layout": """
         `grouped` returns an `Option`. If its arguments are constants, the prover sees that it is `Some`, and you write
@@ -413,7 +444,7 @@ NOTES = {
     "Language": "Later 0.1.x may add fields: write one with `..`, from a language that is close.",
     "Special": "Later 0.1.x may add fields: write one with `..`.",
     "DigitSeparatorFlags": """
-        | Flag | It drops the `_` of | With `consecutive` also those of |
+        | Flag | It skips the `_` of | With `consecutive` also those of |
         |---|---|---|
         | `internal` | `1_0` | `1__0` |
         | `leading` | `_1` | `__1` |

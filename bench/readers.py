@@ -3,10 +3,6 @@ from cases import table
 from peers import LIBRARY, READ, Figures, lacks, slower_run
 from written import times
 
-# How the names of rows begin that read an integer.
-INTEGERS = ("u64", "i32", "hexadecimal", "grouped u64")
-# How the names of rows begin that this library reads by several digits at a step.
-LONG = ("u64, 8 ", "u64, 16", "u64, 19", "hexadecimal", "grouped u64")
 # The rows of which README.md has the time, by what it calls them.
 SHOWN = {"u64, 1 to 4 digits": "a `u64` of 1 to 4 digits at random", "u64, 8 digits": "one of 8 digits",
          "f64, coordinates": "a coordinate as an `f64`", "JSON, mixed": "a number of JSON"}
@@ -76,37 +72,28 @@ long as the next one{f", in the other rows {others}" if slower else ""}.
 can't put it into its caller's loop."""
 
 
-def slower(side=LIBRARY):
-    """In how many rows a side is the fastest, of how many, and how much slower it is in the others."""
-    return f"the fastest for {fastest(side)} data sets, otherwise up to {most(ratios(side=side))}"
-
-
 def readme():
-    """What README.md has between its comments: the picture, the verdict, gain and loss."""
-    body = [
-        ["read a number that is a whole text, or a number of JSON", slower()],
-        ["of these: an integer of 8 to 19 digits, or with separators, or hexadecimal", span(LONG)],
-        ["read a number, and need where it ends", slower(READ)],
-        ["read it from C++, by the C library", slower(f"{LIBRARY}, from C")],
-        ["write a float with two places, like `%.2f`", f"prices {times('%.2f, prices', '%.2f, 3 digits')}, "
-         f"huge numbers {times('%.2f, in [0, 1e22)')}"],
-        ["write a `u64`", f"8, 16 or 20 digits {times('u64, 8 digits', 'u64, 16 digits', 'u64, 20 digits')}, up to 4 "
-         f"digits {times('u64, 3 digits', 'u64, 1 to 4')}, 1 to 20 digits at random {times('u64, 1 to 20')}"],
-        ["write the shortest text of a float", f"coordinates and prices of `f64` {times('f64, coord', 'f64, prices')}, "
-         f"others {times('f64, random', 'f64, in [', 'f64, whole', 'f64, powers', 'f64 with an', 'f32, ')}"],
-        ["write like `%.6e`, where every digit is computed", times("%.6e")],
-    ]
-    shown = table("The table has the time of a call, divided by that of the fastest other library that does the same work. Below 1 "
-                  "you gain, and above 1 you lose. Where nothing else is said, the call is from Rattle:",
-                  ["What you do", "Ratio"], body)
+    """What README.md has between its comments: what you gain, what you lose, a few times, and the
+    picture."""
+    found = ratios()
+    below = [it for it in found.values() if it <= 1]
     times_of = [f"{slower_run(row, rows()[row])[0]:.1f} for {what}" for row, what in SHOWN.items()]
-    first = f"On one core of a Xeon a call from Rattle takes these nanoseconds: {', '.join(times_of)}.\n"
-    return "\n".join([first, *shown]) + """
+    return f"""\
+**You gain** where a number is a whole text, or one of JSON: for {len(below)} of {len(found)} data sets no other library \
+that does the same work is faster. A number takes {min(below):.2f} to {max(below):.2f} times as long as by the fastest of \
+them, and a price that is written like `%.2f` {times('%.2f, prices', '%.2f, 3 digits')} times.
+
+**You lose** up to {most(ratios(side=READ))} times if you also need where the number ends, up to \
+{most(ratios(side=f"{LIBRARY}, from C"))} times from C++, {times('u64, 3 digits', 'u64, 1 to 4')} times if you write \
+integers of up to 4 digits, and {times('%.6e').split()[0]} times and far more if you write like `%.6e` ([all losses](docs/SPEED.md#where-you-lose)).
+
+**A call** from Rattle takes these nanoseconds on one core of a Xeon: {', '.join(times_of)}.
+
 ![Whole texts, and numbers whose end is needed, by what is read](docs/times.svg)
 
-The other libraries are fast_float 3.9.0 (C++), simdjson 3.0.1, lexical-core 0.7.6, serde_json 1.0.87, itoa and ryu, which are \
-Debian 12's packages, and not the newest; std of Rust 1.95.0; and `from_chars` and `to_chars` of g++ 12. [SPEED.md](docs/SPEED.md) has each kind of input, \
-[what you lose](docs/SPEED.md#where-you-lose), such as floats with separators (`1_234.5`), and how to call so that it is fast."""
+The other libraries are fast_float, simdjson, lexical-core, serde_json, `from_chars` and std for reading, and itoa, ryu, \
+lexical-core and `to_chars` for writing. Most are the versions of Debian 12, which aren't the newest. \
+[SPEED.md](docs/SPEED.md) has each kind of input, the versions, and how to call so that it is fast."""
 
 
 # What others write faster: how the page calls it, how the rows begin, and those of which it gains.

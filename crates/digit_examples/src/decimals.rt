@@ -8,10 +8,10 @@ use digits::{
 };
 
 /// Radix 10, and `,` between two digits of the integer.
-const GROUPS: u128 = (10 << 104) | (0x2c << 64) | INTEGER_INTERNAL_DIGIT_SEPARATOR;
+const COMMA_DIGITS: u128 = (10 << 104) | (0x2c << 64) | INTEGER_INTERNAL_DIGIT_SEPARATOR;
 
 /// Radix 10, and `.` between two digits of the integer.
-const DOTS: u128 = (10 << 104) | (0x2e << 64) | INTEGER_INTERNAL_DIGIT_SEPARATOR;
+const POINT_DIGITS: u128 = (10 << 104) | (0x2e << 64) | INTEGER_INTERNAL_DIGIT_SEPARATOR;
 
 /// Shows `parse_scaled`.
 #[test]
@@ -72,15 +72,15 @@ fn an_amount_up_to_a_greatest(rt: HostRuntime) {
 #[test]
 fn a_price(rt: HostRuntime) {
     assert_eq!(rt;
-        read_price_from::<i64>(b"1,234.50 EUR", GROUPS, 0, b'.', 2),
+        read_price_from::<i64>(b"1,234.50 EUR", COMMA_DIGITS, 0, b'.', 2),
         Ok((123450, 8))
     );
     assert_eq!(rt;
-        read_price_from::<i64>(b"1,234.5", GROUPS, 0, b'.', 2),
+        read_price_from::<i64>(b"1,234.5", COMMA_DIGITS, 0, b'.', 2),
         Err(PriceError::Places(7))
     );
     assert_eq!(rt;
-        read_price_from::<i64>(b"1.234,50", DOTS, 0, b',', 2),
+        read_price_from::<i64>(b"1.234,50", POINT_DIGITS, 0, b',', 2),
         Ok((123450, 8))
     );
 }
@@ -89,23 +89,23 @@ fn a_price(rt: HostRuntime) {
 #[test]
 fn groups_of_three(rt: HostRuntime) {
     assert_eq!(rt;
-        read_grouped_from::<i64>(b"1,234.5;", GROUPS, 0, b'.', 2),
+        read_grouped_from::<i64>(b"1,234.5;", COMMA_DIGITS, 0, b'.', 2),
         Ok((123450, 7))
     );
     assert_eq!(rt;
-        read_grouped_from::<i64>(b"12.50", GROUPS, 0, b'.', 2),
+        read_grouped_from::<i64>(b"12.50", COMMA_DIGITS, 0, b'.', 2),
         Ok((1250, 5))
     );
     assert_eq!(rt;
-        read_grouped_from::<i64>(b"1,2,3.00", GROUPS, 0, b'.', 2),
+        read_grouped_from::<i64>(b"1,2,3.00", COMMA_DIGITS, 0, b'.', 2),
         Err(PriceError::Group(2))
     );
     assert_eq!(rt;
-        read_grouped_from::<i64>(b"12,34", GROUPS, 0, b'.', 2),
+        read_grouped_from::<i64>(b"12,34", COMMA_DIGITS, 0, b'.', 2),
         Err(PriceError::Group(3))
     );
     assert_eq!(rt;
-        read_grouped_from::<i64>(b"1234.50", GROUPS, 0, b'.', 2),
+        read_grouped_from::<i64>(b"1234.50", COMMA_DIGITS, 0, b'.', 2),
         Err(PriceError::Group(0))
     );
 }
@@ -134,10 +134,10 @@ fn so_many_places(rt: HostRuntime) {
 /// Shows `wrong_group`.
 #[test]
 fn a_wrong_group(rt: HostRuntime) {
-    assert_eq!(rt; wrong_group(b"1,234;", GROUPS, 0), None);
-    assert_eq!(rt; wrong_group(b"1,2,3", GROUPS, 0), Some(2));
-    assert_eq!(rt; wrong_group(b"12,34", GROUPS, 0), Some(3));
-    assert_eq!(rt; wrong_group(b"1234", GROUPS, 0), Some(0));
+    assert_eq!(rt; wrong_group(b"1,234;", COMMA_DIGITS, 0), None);
+    assert_eq!(rt; wrong_group(b"1,2,3", COMMA_DIGITS, 0), Some(2));
+    assert_eq!(rt; wrong_group(b"12,34", COMMA_DIGITS, 0), Some(3));
+    assert_eq!(rt; wrong_group(b"1234", COMMA_DIGITS, 0), Some(0));
 }
 
 /// Shows `read_decimal_from`.

@@ -130,12 +130,24 @@ fn an_end_in_the_text(rt: HostRuntime) {
 #[test]
 fn what_separates_is_in_no_number(rt: HostRuntime) {
     assert!(rt; is_apart(Integers::<u64>::new(STANDARD), COMMAS));
-    // the word that drops the commas of 1,234
-    let groups = (10 << 104) | (0x2c << 64) | INTEGER_INTERNAL_DIGIT_SEPARATOR;
-    assert!(rt; !is_apart(Integers::<u64>::new(groups), COMMAS));
+    // a word that reads `1,234` as one number
+    let comma_digits = (10 << 104) | (0x2c << 64) | INTEGER_INTERNAL_DIGIT_SEPARATOR;
+    assert!(rt; !is_apart(Integers::<u64>::new(comma_digits), COMMAS));
 }
 
-/// A loop over a stream, as the reference shows it first.
+/// A sum of a stream, as the reference shows it first.
+#[test]
+fn a_sum(rt: HostRuntime) {
+    integers_are_apart::<u64>(STANDARD, LINES);
+    let mut buffer = [0; 64];
+    let kind = Integers::<u64>::new(STANDARD);
+    let stream = b"80\n443\n".as_slice();
+    let add = |sum: u64, number: u64| sum.checked_add(number);
+    let sum = fold_stream(stream, &mut buffer, kind, LINES, 0, add);
+    assert_eq!(rt; sum, Ok(523));
+}
+
+/// A loop over a stream, as the reference shows it.
 #[test]
 fn a_loop(rt: HostRuntime) {
     integers_are_apart::<u64>(STANDARD, LINES);
