@@ -152,6 +152,7 @@ class Door:
                             if name in ([it for it in names_of if "::" in it][:1] if of_type else
                                         (it.split("::")[0] for it in names_of)))
         used = set(re.findall(r"(?<!::)\b\w+", code))
+        used -= set(re.findall(r"\bconst (\w+)", code))
         uses = [f"use {module}::{there[0] if len(there) == 1 else braced(there)};"
                 for module, have in shown.imports().items() for there in [sorted(have & used)] if there]
         return [*uses, *[""] * bool(uses), *shown.lines_of(code)] if code else []

@@ -39,7 +39,9 @@ GROUPS = {
         parse_number_of | Reads a whole text: `-1.5e3` of JSON
         read_number_of | Reads the longest number at `start`
         forms | All forms by name
-        is_form | Tests a form of your own""", "", """
+        is_form | Tests a form of your own""", """
+        Hexadecimal floats such as `0x1p3` are read by `C99`, `CXX17`, `JAVA`, `GO`, `D`, `SWIFT`, `PERL`, `LUA`, `R`, `OCAML`,
+        `STRTOD` and the functions of Java, Go, Ruby and Lua ([all forms](forms.md)).""", """
         parse_number_of read_number_of forms is_form Number NumberError"""),
     "Amounts and prices": ("""
         parse_scaled | Reads a whole text: `12.5` is 1250 cents
@@ -81,7 +83,7 @@ GROUPS = {
         byte_at has_byte has_bytes | Look at a position
         expect_byte expect_bytes | Return the position after a byte or bytes, or an error
         past_bytes | Skips blanks, or any other set of bytes
-        name_end | Returns where a suffix ends: the `px` of `10px`""", "", """
+        name_end | Returns where a key or a suffix ends: the `px` of `10px`""", "", """
         byte_at has_byte has_bytes expect_byte expect_bytes past_bytes name_end ByteSet"""),
     "Lists": ("""
         read_list read_float_list read_list_of | Read integers, floats, numbers of a form
@@ -113,7 +115,10 @@ GROUPS = {
         |---|---|---|
         | `80, 443` | `COMMAS` | `Over(7)` |
         | `80, 443, 8` | `COMMAS` | `Full(8)`, after the second comma |
+        | `80,443,` | `COMMAS` | `Full(7)`: the call from 7 on returns `Fault(Empty(7))`, and so does one with a longer slice |
         | `80\\n443\\n` | `LINES` | `Full(7)`: the call from 7 on returns no number, and `Over(7)` |
+
+        An empty slice is full at `start`.
 
         - Blanks of the gap are skipped before the first number, around separators, and after the last number.
         - After a fault the slice has the numbers before it.
@@ -132,10 +137,10 @@ GROUPS = {
         | `WHITESPACE` | one blank or more | yes | `1 2\\n3\\n` |
         | `SPACES_IN_LINE` | one space or tab, or more | yes | `1 2 3` |
 
-        With `LINES` an empty line ends the list: `80\\n\\n443\\n` ends at 3. To skip empty lines, use
+        Each is a constant of the type [`Gap`](#gap). With `LINES` an empty line ends the list: `80\\n\\n443\\n` ends at 3. To skip empty lines, use
         `WHITESPACE`; then a space separates, too.
 
-        `BLANKS` are space, tab, line feed and carriage return; Rust's `trim` also drops `\\x0b`, `\\x0c` and blanks beyond ASCII. `SPACES` are space and tab. For another
+        Two [`ByteSet`](#byteset)s: `BLANKS` are space, tab, line feed and carriage return; Rust's `trim` also drops `\\x0b`, `\\x0c` and blanks beyond ASCII. `SPACES` are space and tab. For another
         separator, such as `;`, write a [`Gap`](#gap).""", """
         COMMAS COMMAS_IN_LINE LINES WHITESPACE SPACES_IN_LINE BLANKS SPACES Gap"""),
     "Kinds of numbers": ("""
@@ -196,7 +201,7 @@ GROUPS = {
         proved that you get the numbers of the whole stream. When the program runs, the line does nothing.
 
         No byte of the gap may be in a number. `integers_are_apart`, `floats_are_apart` and `scaled_are_apart` are stricter than
-        `is_apart`: by these every letter and digit of ASCII, a sign, the separator, and of floats and amounts the point may be in a number. If such a line refuses
+        `is_apart`: they take every ASCII letter and digit, both signs and the separator for a part of a number, and of floats and amounts also the point. If such a line refuses
         a gap whose bytes can't be in your numbers, take `any_are_apart(kind, gap)`, which asks the kind.
         Each kind has its own line:
 
@@ -217,8 +222,9 @@ GROUPS = {
         - A `NumberReader` isn't an `Iterator`. Loop over `0..u64::MAX`: `rt check` wants a bound, and no stream has
         so many numbers.
         - The bound `R: Drop` lets a call drop the reader at its end.
-        - The errors of streams have no `position()`: match them. `Read` and `TooLong` have no position, inside of `Number`
-        it is a `usize`, and elsewhere a `u64`.""", """
+        - With `LINES` an empty line is an error. To skip empty lines, use `WHITESPACE`; then a space separates, too.
+        - The errors of streams have no `position()`: match them, as [`fault_at`](../../CALLING.md#an-array-of-any-length)
+        does. A position in the stream is a `u64`; the error of a number, inside of `Number` and `Trailing`, holds a `usize`.""", """
         fold_stream NumberReader is_apart StreamRead StreamEnd FoldError EnclosedFoldError StreamError"""),
     "Pieces and blocks": ("""
         read_piece | Reads a list that goes on in the next piece
@@ -252,8 +258,8 @@ GROUPS = {
         | any finite float by `write_fixed` | 311 + `places` |
         | any finite float by `write_scientific` | 8 + `places` |
         | any number by `write_number_of`, `write_float_of` or `write_integer_of` | 328 |
-        | a price of an `i64` with 2 places by `write_price` | 26; of an `i128` 53 |
-        | an amount of an `i64` with 2 places by `write_scaled` | 21; of an `i128` 41 |
+        | an amount by `write_scaled` | the greater one of `places` + 3 and 1 more than `write_number` needs of its type: of an `i64` with 2 places 21 |
+        | a price by `write_price` | those, and one for each three digits before the point: of an `i64` with 2 places 26, of an `i128` 53 |
         | anything else | as many as the error says |
 
         `write_number` of one type needs these bytes:
@@ -268,7 +274,7 @@ GROUPS = {
     "Words": ("", """
         ```rust
         // The radix 10, the byte `,`, and where it may be: between two digits of the integer.
-        const COMMA_DIGITS: u128 = (10 << 104) | (0x2c << 64) | INTEGER_INTERNAL_DIGIT_SEPARATOR;
+        const COMMA_DIGITS: u128 = (10 << 104) | ((b',' as u128) << 64) | INTEGER_INTERNAL_DIGIT_SEPARATOR;
         parse_number::<u32>(b"ff", words::HEXADECIMAL) // Ok(255)
         parse_number::<u64>(b"1,234", COMMA_DIGITS) // Ok(1234)
         parse_number::<u64>(b"1,2,34", COMMA_DIGITS) // Ok(1234)
@@ -313,7 +319,8 @@ GROUPS = {
         INTEGER_INTERNAL_DIGIT_SEPARATOR FRACTION_INTERNAL_DIGIT_SEPARATOR
         EXPONENT_INTERNAL_DIGIT_SEPARATOR NumberFormat"""),
     "A form of your own": ("", """
-        Write one from a form that is close: `Form { marks, ..forms::FLOAT }`.""", """
+        Write one from a form that is close: `Form { marks, ..forms::FLOAT }` has other marks, and
+        `Form { specials: Some(names::LOWER_CASE), ..forms::FLOAT }` also reads `inf` and `nan`.""", """
         Form Signs Whole Marks Exponents AfterPoint HexFloats Specials Special SpecialValue NameSign names"""),
     "Parts of a number": ("""
         read_mantissa read_exponent | Read digits and point; an exponent
@@ -367,15 +374,14 @@ NOTES = {
     "read_at_most": "Like `read_exactly`, it takes any `start`, radix and `n`. If `n` is 0, it returns `Empty`.",
     "count_digits": "For an empty text it returns 0.",
     "LiteralError": """
-        Calls that read integers return it, except `read_literal` and `read_literal_as`, which return a
-        [`LanguageError`](#languageerror).
+        The `read_` calls of integers return it. A whole text has a [`ParseError`](#parseerror), a literal of a
+        language a [`LanguageError`](#languageerror).
 
         `is_none_at` distinguishes a missing number from a bad one. [`read_optional`](#read_optional) does
         that for you.""",
     "read_optional": """
-        For an unsigned type no number begins with a sign: a `u32` at `-1` is `None`, and a list of `u32` over
-        `1\\n-2\\n` with `LINES` ends with `Over(2)`. To make that an error, look for the sign with
-        [`has_byte`](#has_byte), or read a signed type.""",
+        For an unsigned type no number begins with a sign: a `u32` at `-1` is `None`. To make that an error, look for
+        the sign with [`has_byte`](#has_byte), or read a signed type.""",
     "read_grouped_from": "[Words](#words) says how such a word is made.",
     "read_price_from": "[Words](#words) says how such words are made.",
     "write_scaled": """
@@ -394,7 +400,7 @@ NOTES = {
         then `None`.
         - **After `None`** each call of `next_number` returns `None`, until `pass_byte` passes a byte, or
         `fold_enclosed` begins the next list.
-        - **An error stays:** each later call returns it again. But after [`Read`](#streamerror) of `WouldBlock`
+        - **An error stays**, except `Trailing`, which only `finish` returns: each later call returns it again. But after [`Read`](#streamerror) of `WouldBlock`
         or `TimedOut` the next call goes on. After `Interrupted` the call itself reads again.
         - **The buffer** needs the longest number, the longest run of blanks after it, and one byte. Otherwise a
         call returns [`NoRoom`](#streamerror). 4096 bytes are ample.
@@ -580,7 +586,7 @@ RULES = f"""## Names and arguments
 | In the name of a call that reads or writes | It says |
 |---|---|
 | `_from` | it takes a `start`. Without `_from`, `parse_` calls, `read_number`, `read_float` and \
-`read_integer` begin at 0; every other call that reads a text takes a position |
+`read_integer` begin at 0, `count_digits` and `sure_end` take a whole text; every other call that reads a text takes a position |
 | `_of` | with a form, except `decimal_of` |
 | `_as` | with a language, as a number of your type |
 | `_by` | with a kind or a layout |
@@ -594,7 +600,7 @@ COMMAS, &mut out)` |
 Component::Fraction, 2)` |
 | a number of a kind, or several | `(kind, text, start, ..)` | `read_list_by(kind, text, 0, COMMAS, &mut out)` |
 | a stream | `(reader, buffer, kind, gap, ..)` | `fold_stream(file, &mut buffer, kind, LINES, 0, add)` |
-| anything else | `(text, start, ..)` | `read_number_of(text, 0, forms::JSON)` |
+| anything else at a position | `(text, start, ..)` | `read_number_of(text, 0, forms::JSON)` |
 
 `prefix_word` takes the language before `text`. A call that writes takes the number first. `out` is always last.
 
@@ -638,11 +644,10 @@ What is known only at run time you test first:
 |---|---|
 | `parse_number`, `parse_number_from` | [`ParseError`](#parseerror) |
 | `read_number`, and the others that read an integer | [`LiteralError`](#literalerror) |
-| the calls of floats | [`FloatError`](#floaterror) |
-| the calls of numbers of a form | [`NumberError`](#numbererror) |
+| the calls of floats, and `read_decimal_from` | [`FloatError`](#floaterror) |
+| the calls of numbers of a form, and `read_decimal_of` | [`NumberError`](#numbererror) |
 | `read_literal`, `read_literal_as` | [`LanguageError`](#languageerror) |
-| the calls of amounts | [`ScaledError`](#scalederror); with exact places or groups [`PriceError`](#priceerror) |
-| `read_decimal_from`; `read_decimal_of` | [`FloatError`](#floaterror); [`NumberError`](#numbererror) |
+| the other calls of amounts | [`ScaledError`](#scalederror); with exact places or groups [`PriceError`](#priceerror) |
 | the kinds `Both`; `Enclosed` | [`BothError`](#botherror); [`BracketError`](#bracketerror) |
 | `read_optional` | that of one number of the kind |
 
@@ -659,7 +664,7 @@ What is known only at run time you test first:
 
 | Anything else | The error |
 |---|---|
-| `expect_byte`, `expect_bytes`, `count_digits`, `read_exponent` | the position, a `usize` |
+| `expect_byte`, `expect_bytes`, `count_digits`, `read_exponent`, `Gap::next_after` | the position, a `usize` |
 | `write_number` | none |
 | `write_float` | [`FloatTextError`](#floattexterror) |
 | `write_number_of`, `write_float_of`, `write_integer_of` | [`FormTextError`](#formtexterror) |

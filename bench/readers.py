@@ -75,25 +75,27 @@ can't put it into its caller's loop."""
 def readme():
     """What README.md has between its comments: what you gain, what you lose, a few times, and the
     picture."""
-    found = ratios()
-    below = [it for it in found.values() if it <= 1]
+    found, worst = ratios(), times("%.6e, coordinates", "%.6e, 3 digits").split()[0]
+    below, above = ([it for it in found.values() if (it > 1) == is_above] for is_above in (False, True))
     times_of = [f"{slower_run(row, rows()[row])[0]:.1f} for {what}" for row, what in SHOWN.items()]
     return f"""\
-**You gain** where a number is a whole text, or one of JSON: for {len(below)} of {len(found)} data sets no other library \
-that does the same work is faster. A number takes {min(below):.2f} to {max(below):.2f} times as long as by the fastest of \
-them, and a price that is written like `%.2f` {times('%.2f, prices', '%.2f, 3 digits')} times.
+**You gain** where a number is a whole text, or one of JSON: {len(below)} of {len(found)} data sets take \
+{min(below):.2f} to {max(below):.2f} of the time of the fastest other library that does the same work, and the others up to \
+{max(above, default=1):.2f}. A price that is written like `%.2f` takes {times('%.2f, prices', '%.2f, 3 digits')} of it.
 
-**You lose** up to {most(ratios(side=READ))} times if you also need where the number ends, up to \
-{most(ratios(side=f"{LIBRARY}, from C"))} times from C++, {times('u64, 3 digits', 'u64, 1 to 4')} times if you write \
-integers of up to 4 digits, and {times('%.6e').split()[0]} times and far more if you write like `%.6e` ([all losses](docs/SPEED.md#where-you-lose)).
+**You lose** where you also need the number's end: it takes up to {most(ratios(side=READ))} times as long as by that library. \
+From C++ it is up to {most(ratios(side=f"{LIBRARY}, from C"))} times. To write integers of up to 4 digits takes \
+{times('u64, 3 digits', 'u64, 1 to 4')} times as long, the shortest text of a float up to \
+{times('f64, random', 'f64, in [', 'f64, whole', 'f64, powers', 'f64 with an', 'f32, ').split()[-1]}, and `%.6e` {worst} to \
+{times('%.6e').split()[-1]} ([all losses](docs/SPEED.md#where-you-lose)).
 
 **A call** from Rattle takes these nanoseconds on one core of a Xeon: {', '.join(times_of)}.
 
 ![Whole texts, and numbers whose end is needed, by what is read](docs/times.svg)
 
-The other libraries are fast_float, simdjson, lexical-core, serde_json, `from_chars` and std for reading, and itoa, ryu, \
-lexical-core and `to_chars` for writing. Most are the versions of Debian 12, which aren't the newest. \
-[SPEED.md](docs/SPEED.md) has each kind of input, the versions, and how to call so that it is fast."""
+The other libraries are fast_float 3.9 (C++), simdjson 3.0, lexical-core 0.7, serde_json 1.0, itoa and ryu, all as Debian 12 \
+has them; std of Rust 1.95; and `from_chars` and `to_chars` of g++ 12. Newer versions, and the Rust crate fast-float, weren't \
+measured. [SPEED.md](docs/SPEED.md) has each kind of input, and says how to call so that it is fast."""
 
 
 # What others write faster: how the page calls it, how the rows begin, and those of which it gains.

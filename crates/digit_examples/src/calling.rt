@@ -1,17 +1,20 @@
 //! What CALLING.md says that its own functions and a stream answer.
 
 use digit_uses::calling::{
-    COMMA_DIGITS, Entry, SEMICOLONS, first_above, has_port, line_and_column, parse_entry,
-    parse_price, read_array, sum_array, sum_lengths, sum_of, sum_text,
+    COMMA_DIGITS, Entry, SEMICOLONS, fault_at, first_above, has_port, line_and_column, parse_entry,
+    parse_price, read_all, read_array, read_color, sum_array, sum_column, sum_lengths, sum_of,
+    sum_text, write_percent,
 };
 use digit_uses::proving;
 use digit_uses::sums::sum_list;
+use digits::languages::RUST;
 use digits::words::PYTHON_LITERAL;
 use digits::{
-    COMMAS, EnclosedFoldError, FloatError, FoldError, Integers, LINES, ListError, LiteralError,
-    Number, NumberError, NumberReader, ParseError, PriceError, STANDARD, ScaledError, StreamError,
-    forms, parse_float, parse_list, parse_number, parse_number_from, parse_number_of, parse_scaled,
-    read_exact_from, read_float, read_grouped_from, read_number, read_number_of, read_price_from,
+    COMMAS, EnclosedFoldError, FloatError, Floats, FoldError, Integers, LINES, LanguageError,
+    ListError, LiteralError, Number, NumberError, NumberReader, ParseError, PriceError, STANDARD,
+    ScaledError, StreamError, WHITESPACE, floats_are_apart, fold_stream, forms, parse_float,
+    parse_list, parse_number, parse_number_from, parse_number_of, parse_scaled, read_exact_from,
+    read_float, read_grouped_from, read_literal_as, read_number, read_number_of, read_price_from,
     read_scaled_from,
 };
 
@@ -413,4 +416,69 @@ fn an_array_into_a_slice(rt: HostRuntime) {
     let mut out = [Number::Float(0.0); 3];
     assert!(rt; read_array(b"[1, 2.5], 3", &mut out) == Ok((2, 8)));
     assert!(rt; out[0].to_float() == 1.0 && out[1].to_float() == 2.5);
+}
+
+/// One column of a text, and the line of a fault.
+#[test]
+fn a_column(rt: HostRuntime) {
+    assert!(rt; sum_column(b"a,1.50\nb,2\n", 1) == Ok(350));
+    assert!(rt; sum_column(b"a,1.50\n\nb,2x\n", 1) == Err(3));
+    assert!(rt; sum_column(b"a,1.50\nb\n", 1) == Err(2));
+    assert!(rt; sum_column(b"", 0) == Ok(0));
+}
+
+/// A language of one's own, and prefixes without a digit.
+#[test]
+fn prefixes(rt: HostRuntime) {
+    assert!(rt; read_color(b"0xff_ff;") == Ok((65535, 7)));
+    assert!(rt; read_color(b"0b1") == Ok((0, 1)));
+    assert!(rt; read_color(b"0x") == Err(LanguageError::Empty(2)));
+    assert!(rt; read_literal_as::<u8>(b"0xg", 0, RUST) == Err(LanguageError::Empty(2)));
+    let read = read_number_of::<f64>(b"0xg", 0, forms::RUST);
+    assert!(rt; read.map(|(number, end)| (number.as_integer::<u8>(), end)) == Ok((Some(0), 1)));
+}
+
+/// A float with two places.
+#[test]
+fn two_places(rt: HostRuntime) {
+    let mut out = [0; 8];
+    assert_eq!(rt; write_percent(2.5, &mut out), Some(4));
+    assert_eq!(rt; &out[..4], b"2.50".as_slice());
+    assert_eq!(rt; write_percent(-0.001, &mut out), Some(5));
+    assert_eq!(rt; &out[..5], b"-0.00".as_slice());
+    assert_eq!(rt; write_percent(f64::NAN, &mut out), None);
+    assert_eq!(rt; write_percent(123456.0, &mut out), None);
+}
+
+/// All numbers of a stream.
+#[test]
+fn all_numbers(rt: HostRuntime) {
+    let all = read_all(b"1\n2\n".as_slice(), rt.alloc());
+    assert!(rt; all.is_ok_and(|all| all.as_slice() == [1, 2].as_slice()));
+    let fault = StreamError::Trailing(3, Some(LiteralError::Empty(3)));
+    let all = read_all(b"1\n2x".as_slice(), rt.alloc());
+    assert!(rt; all.is_err_and(|error| error == FoldError::Stream(fault)));
+}
+
+/// Lines that are empty.
+#[test]
+fn empty_lines(rt: HostRuntime) {
+    floats_are_apart(STANDARD, WHITESPACE);
+    let mut buffer = [0; 64];
+    let kind = Floats::<f64>::new(STANDARD);
+    let add = |sum: f64, number: f64| Some(sum + number);
+    let stream = b"\n1\n\n2 3\n".as_slice();
+    let sum = fold_stream(stream, &mut buffer, kind, WHITESPACE, 0.0, add);
+    assert!(rt; sum == Ok(6.0));
+    let fault = StreamError::Trailing(2, Some(FloatError::Empty(2)));
+    assert!(rt; sum_of(b"1\n\n2\n".as_slice()) == Err(FoldError::Stream(fault)));
+}
+
+/// Where the fault of an array is.
+#[test]
+fn a_fault_of_an_array(rt: HostRuntime) {
+    assert!(rt; sum_array(b"[1, 2.5".as_slice()).map_err(fault_at) == Err(Some(7)));
+    assert!(rt; sum_array(b"[1, x]".as_slice()).map_err(fault_at) == Err(Some(4)));
+    assert!(rt; sum_array(b"1".as_slice()).map_err(fault_at) == Err(Some(0)));
+    assert!(rt; sum_array(b"[1] x".as_slice()).map_err(fault_at) == Err(Some(4)));
 }

@@ -8,10 +8,10 @@ use digits::{
 };
 
 /// Radix 10, and `,` between two digits of the integer.
-const COMMA_DIGITS: u128 = (10 << 104) | (0x2c << 64) | INTEGER_INTERNAL_DIGIT_SEPARATOR;
+const COMMA_DIGITS: u128 = (10 << 104) | ((b',' as u128) << 64) | INTEGER_INTERNAL_DIGIT_SEPARATOR;
 
 /// Radix 10, and `.` between two digits of the integer.
-const POINT_DIGITS: u128 = (10 << 104) | (0x2e << 64) | INTEGER_INTERNAL_DIGIT_SEPARATOR;
+const POINT_DIGITS: u128 = (10 << 104) | ((b'.' as u128) << 64) | INTEGER_INTERNAL_DIGIT_SEPARATOR;
 
 /// Shows `parse_scaled`.
 #[test]

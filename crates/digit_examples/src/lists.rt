@@ -188,10 +188,10 @@ fn numbers_in_quotes(rt: HostRuntime) {
 /// Shows `Gap`.
 #[test]
 fn a_gap_of_ones_own(rt: HostRuntime) {
-    // one `;`, which is byte 0x3b, with any blanks around it
+    // one `;`, with any blanks around it
     let semicolons = Gap {
         separators: ByteSet {
-            low: 1 << 0x3b,
+            low: 1 << b';',
             high: 0,
         },
         ..COMMAS
@@ -286,9 +286,25 @@ fn a_number_that_may_be_missing(rt: HostRuntime) {
     // an unsigned type has no sign
     let kind = Integers::<u32>::new(STANDARD);
     assert_eq!(rt; read_optional(kind, b"-1", 0), Ok(None));
+}
+
+/// The ends of lists that the reference tells.
+#[test]
+fn ends_of_lists(rt: HostRuntime) {
     let mut two = [0u32; 2];
     let read = read_list(b"1\n-2\n", 0, STANDARD, LINES, &mut two);
     assert_eq!(rt; (read.count, read.end), (1, ListEnd::Over(2)));
+    let text = b"80,443,";
+    let read = read_list(text, 0, STANDARD, COMMAS, &mut two);
+    assert_eq!(rt; (read.count, read.end), (2, ListEnd::Full(7)));
+    let fault = ListEnd::Fault(LiteralError::Empty(7));
+    let read = read_list(text, 7, STANDARD, COMMAS, &mut two);
+    assert_eq!(rt; (read.count, read.end), (0, fault));
+    let mut three = [0u32; 3];
+    let read = read_list(text, 0, STANDARD, COMMAS, &mut three);
+    assert_eq!(rt; (read.count, read.end), (2, fault));
+    let read = read_list(text, 3, STANDARD, COMMAS, &mut two[..0]);
+    assert_eq!(rt; (read.count, read.end), (0, ListEnd::Full(3)));
 }
 
 /// Shows `Gap::past_blanks`, `Gap::next_after`.

@@ -131,7 +131,7 @@ fn an_end_in_the_text(rt: HostRuntime) {
 fn what_separates_is_in_no_number(rt: HostRuntime) {
     assert!(rt; is_apart(Integers::<u64>::new(STANDARD), COMMAS));
     // a word that reads `1,234` as one number
-    let comma_digits = (10 << 104) | (0x2c << 64) | INTEGER_INTERNAL_DIGIT_SEPARATOR;
+    let comma_digits = (10 << 104) | ((b',' as u128) << 64) | INTEGER_INTERNAL_DIGIT_SEPARATOR;
     assert!(rt; !is_apart(Integers::<u64>::new(comma_digits), COMMAS));
 }
 

@@ -8,7 +8,7 @@ use digits::{
 };
 
 /// The radix 10, the byte `,`, and where it may be: between two digits of the integer.
-const COMMA_DIGITS: u128 = (10 << 104) | (0x2c << 64) | INTEGER_INTERNAL_DIGIT_SEPARATOR;
+const COMMA_DIGITS: u128 = (10 << 104) | ((b',' as u128) << 64) | INTEGER_INTERNAL_DIGIT_SEPARATOR;
 
 /// Numbers by two words, as the reference shows them first.
 #[test]

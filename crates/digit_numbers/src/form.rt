@@ -48,8 +48,7 @@ pub struct Form {
 /// Values that have a name. Names are tried, after any sign, before digits. The longest name that
 /// matches wins; of equal names, the first.
 ///
-/// The bytes of a name are those that the special component of the form's decimal word keeps. So
-/// separators in it are dropped if that word has the special flag.
+/// If the form's decimal word has the special flag, separators inside of a name are skipped.
 #[derive(Clone, Copy, Debug, PartialEq, Eq)]
 pub struct Specials {
     /// The values. [`Special::ABSENT`] is in the places that aren't used.
@@ -171,7 +170,7 @@ pub enum Whole {
 /// before the point.
 #[derive(Clone, Copy, Debug, PartialEq, Eq)]
 pub enum AfterPoint {
-    /// Anything may follow.
+    /// No restriction.
     Anything,
     /// A second point, as in the range `1..2`.
     NoPoint,

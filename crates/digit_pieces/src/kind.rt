@@ -9,7 +9,7 @@ use digit_literals::{Gap, ListRead};
 
 /// A kind of numbers of a text, such as integers of a type by a word. It says how one number is
 /// read, and which bytes may be in it. Reading a number may look only as far as the first byte on
-/// each side that can't be in one (`has_byte` is `false`): for the 12 of `a;12,b` at `;12,`.
+/// each side that can't be in one (`has_byte` is `false`): to read the 12 of `a;12,b` at `;12,`.
 pub trait Kind: Copy {
     /// A number.
     type Number: Copy;

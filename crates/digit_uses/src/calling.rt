@@ -50,7 +50,7 @@ use digits::{FloatError, read_float};
 #[derive(Clone, Copy, Debug, PartialEq, Eq)]
 pub enum LengthError {
     Float(FloatError),
-    /// The `m` isn't at this position, or something follows it there.
+    /// There is no `m` at this position, or this byte follows the `m`.
     Unit(usize),
 }
 
@@ -67,7 +67,9 @@ pub fn parse_metres(text: &[u8]) -> Result<f64, LengthError> {
 use digits::{INTEGER_INTERNAL_DIGIT_SEPARATOR, PriceError, ScaledError, read_price_from};
 
 /// Radix 10, and `,` between two digits: `1,234`.
-pub const COMMA_DIGITS: u128 = (10 << 104) | (0x2c << 64) | INTEGER_INTERNAL_DIGIT_SEPARATOR;
+pub const COMMA_DIGITS: u128 = (10 << 104)
+    | ((b',' as u128) << 64)
+    | INTEGER_INTERNAL_DIGIT_SEPARATOR;
 
 /// Reads a text as a price, in cents: `1,234.50` is 123450.
 pub fn parse_price(text: &[u8]) -> Result<i64, PriceError> {
@@ -119,7 +121,6 @@ use digits::{FoldError, fold_stream, integers_are_apart};
 
 /// Adds up the numbers that a text lists, however many there are: `80, 443` gives 523.
 pub fn sum_text(text: &[u8]) -> Result<u64, FoldError<LiteralError>> {
-    // A stream needs this line, and `rt check` doesn't ask for it.
     integers_are_apart::<u64>(STANDARD, COMMAS);
     let mut buffer = [0; 4096];
     let kind = Integers::<u64>::new(STANDARD);
@@ -132,7 +133,7 @@ use digits::{ByteSet, COMMAS_IN_LINE, Gap};
 /// One `;`, with any spaces and tabs around it: between the numbers of `12; 7;305`.
 pub const SEMICOLONS: Gap = Gap {
     separators: ByteSet {
-        low: 1 << 0x3b,
+        low: 1 << b';',
         high: 0,
     },
     ..COMMAS_IN_LINE
@@ -180,7 +181,7 @@ pub fn parse_entry(line: &[u8]) -> Result<Entry, usize> {
     })
 }
 
-ghost use Rattle.std.specs.Prelude.{◌≤◌, length, IfOk};
+ghost use Rattle.std.specs.Prelude.{IfOk, length, ◌≤◌};
 
 /// Reads a line into the front of `row`, and returns how many numbers it has, or the first fault:
 /// `12, 7,305` has three.
@@ -188,6 +189,24 @@ pub fn parse_row(line: &[u8], row: &mut [u32]) -> Result<usize, ListError<Litera
     ensures { IfOk result (λ count. count ≤ length row.old) }
 {
     parse_list(Integers::<u32>::new(STANDARD), line, COMMAS_IN_LINE, row)
+}
+
+use digits::parse_scaled;
+
+/// Adds up the cents of one column, from 0, of a text whose lines are CSV without quotes. The error
+/// is the number of a line, from 1: `a,1.50\nb,2\n` has 350 in column 1.
+pub fn sum_column(text: &[u8], column: usize) -> Result<i64, usize> {
+    let mut sum = 0i64;
+    for (line, number) in text.split(|byte| *byte == b'\n').zip(1usize..) {
+        if line.is_empty() {
+            continue;
+        }
+        let mut fields = line.split(|byte| *byte == b',');
+        let field = fields.nth(column).ok_or(number)?;
+        let cents = parse_scaled::<i64>(field, STANDARD, b'.', 2).map_err(|_| number)?;
+        sum = sum.checked_add(cents).ok_or(number)?;
+    }
+    Ok(sum)
 }
 
 use digits::{NumberError, forms, parse_number_of};
@@ -242,13 +261,40 @@ pub fn read_array(
 use digits::{Floats, LINES, floats_are_apart};
 use std::io::Read;
 
-/// Adds up the floats of a stream that has one float in each line. An empty line is an error.
+/// Adds up the floats of a stream that has one float in each line.
 pub fn sum_of<R: Read + Drop>(stream: R) -> Result<f64, FoldError<FloatError>> {
     floats_are_apart(STANDARD, LINES);
     let mut buffer = [0; 4096];
     let kind = Floats::<f64>::new(STANDARD);
     let add = |sum: f64, number: f64| Some(sum + number);
     fold_stream(stream, &mut buffer, kind, LINES, 0.0, add)
+}
+
+/// Prints the sum of a file that has one float in each line, or what is wrong with it.
+pub fn print_sum(rt: HostRuntime, path: &str) -> std::io::Result<()> {
+    let file = std::fs::open(&rt, path)?;
+    match sum_of(file) {
+        Ok(sum) => println!(rt; "{sum}"),
+        Err(error) => println!(rt; "{path}: {error}"),
+    }
+}
+
+use std::alloc::Global;
+
+/// Reads all integers of a stream that has one in each line. `alloc` is `rt.alloc()`. Where memory
+/// is refused, the error is `Stopped`.
+pub fn read_all<R: Read + Drop>(
+    stream: R,
+    alloc: Global,
+) -> Result<Vec<u32>, FoldError<LiteralError>> {
+    integers_are_apart::<u32>(STANDARD, LINES);
+    let mut buffer = [0; 4096];
+    let kind = Integers::<u32>::new(STANDARD);
+    let push = |mut all: Vec<u32>, number: u32| {
+        all.push(number).ok()?;
+        Some(all)
+    };
+    fold_stream(stream, &mut buffer, kind, LINES, Vec::new(alloc), push)
 }
 
 use digits::{NumberReader, StreamError};
@@ -291,7 +337,8 @@ pub fn sum_array<R: Read + Drop>(stream: R) -> Result<f64, EnclosedFoldError<Num
     let mut numbers = NumberReader::new(stream, &mut buffer, kind, COMMAS);
     let add = |sum: f64, number: Number<f64>| Some(sum + number.to_float());
     let sum = numbers.fold_enclosed(b'[', b']', 0.0, add)?;
-    // `pass_byte` first skips the blanks of the gap. `\n` is one of them, so this call only skips.
+    // `pass_byte` skips the blanks of the gap before it looks for its byte. `\n` is itself a blank
+    // of `COMMAS`, so all that this call does is to skip blanks.
     numbers.pass_byte(b'\n').map_err(of_array)?;
     numbers.finish().map_err(of_array)?;
     Ok(sum)
@@ -302,6 +349,19 @@ fn of_array(error: StreamError<NumberError>) -> EnclosedFoldError<NumberError> {
     EnclosedFoldError::Fold(FoldError::Stream(error))
 }
 
+/// The position of a fault, if the error has one.
+pub fn fault_at(error: EnclosedFoldError<NumberError>) -> Option<u64> {
+    match error {
+        EnclosedFoldError::NoOpening(at) | EnclosedFoldError::NoClosing(at) => Some(at),
+        EnclosedFoldError::Fold(FoldError::Stopped(at)) => Some(at),
+        EnclosedFoldError::Fold(FoldError::Stream(error)) => match error {
+            StreamError::Number(error) => Some(error.position() as u64),
+            StreamError::NoRoom(at) | StreamError::Trailing(at, _) => Some(at),
+            StreamError::Read(_) | StreamError::TooLong => None,
+        },
+    }
+}
+
 use digits::{FloatLayout, MOST_ROOM, write_float, write_number, write_price};
 
 /// Each call returns how many bytes its text has.
@@ -310,6 +370,17 @@ pub fn first_texts() {
     let height = write_number(-128i8, &mut out); // 4: `&out[..4]` is `-128`
     let rate = write_float(0.1, FloatLayout::Usual, &mut out); // Ok(3): `0.1`
     let price = write_price(123450i64, b'.', 2, b',', &mut out); // Ok(8): `1,234.50`
+}
+
+use digits::write_fixed;
+
+/// Writes a float with two decimal places: 2.5 gives `2.50`, and -0.001 `-0.00`. `None`: `x` is
+/// infinite or NaN, or `out` is too short.
+pub fn write_percent(x: f64, out: &mut [u8]) -> Option<usize> {
+    if !x.is_finite() {
+        return None;
+    }
+    write_fixed(x, 2, out).ok()
 }
 
 use std::io::Write;
@@ -371,15 +442,17 @@ pub fn sum_lengths(text: &[u8]) -> Result<f64, NumberError> {
 }
 
 /// Radix 10, and `.` between two digits: `1.234`.
-pub const POINT_DIGITS: u128 = (10 << 104) | (0x2e << 64) | INTEGER_INTERNAL_DIGIT_SEPARATOR;
+pub const POINT_DIGITS: u128 = (10 << 104)
+    | ((b'.' as u128) << 64)
+    | INTEGER_INTERNAL_DIGIT_SEPARATOR;
 
 /// Reads a text as a count: `1.234` is 1234.
 pub fn parse_count(text: &[u8]) -> Result<u64, ParseError> {
     parse_number::<u64>(text, POINT_DIGITS)
 }
 
-ghost use Rattle.std.specs.Prelude.{IfSome, IsTrue};
 ghost use Rattle.digits.specs.Words.{is_supported};
+ghost use Rattle.std.specs.Prelude.{IfSome, IsTrue};
 
 use digits::{DECIMAL, DigitSeparatorFlags, NO_FLAGS, NumberFormatBuilder, is_supported};
 
@@ -399,6 +472,22 @@ pub fn underscores(radix: u8) -> Option<u128>
     }
     .build();
     if is_supported(word) { Some(word) } else { None }
+}
+
+use digits::Language;
+use digits::languages::PYTHON;
+
+/// Integers in decimal or with `0x`, and one `_` between two digits.
+pub const DECIMAL_OR_HEX: Language = Language {
+    binary: None,
+    octal: None,
+    ..PYTHON
+};
+
+/// Reads such an integer at the front of a text, and returns where it ends: `0xff_ff;` gives 65535
+/// and 7.
+pub fn read_color(text: &[u8]) -> Result<(u32, usize), LanguageError> {
+    read_literal_as::<u32>(text, 0, DECIMAL_OR_HEX)
 }
 
 use digits::{Form, Marks};

@@ -4,7 +4,7 @@ ghost use Rattle.std.specs.Prelude.{◌≡◌, ◌<◌, ◌≤◌};
 ghost use Rattle.lexical_format.specs.Word.{is_supported};
 ghost use Rattle.lexical_format.specs.Builder.{bit_if, flags_number, word_of, serves_for, Says};
 
-/// The separators of a component that are dropped. Without a flag none is. docs/RULES.md has the
+/// The separators of a component that are skipped. Without a flag none is. docs/RULES.md has the
 /// rule.
 ///
 /// Not in lexical-util, where each flag has a method of the builder.
@@ -16,13 +16,13 @@ pub struct DigitSeparatorFlags {
     /// beside it.
     pub leading: bool,
     /// Drops a separator at the end of the digits, such as the `_` of `1_`, if no other separator
-    /// follows it. In a component without any digit a single `_` is dropped, and `__` is kept.
+    /// follows it. In a component without any digit a single `_` is skipped, and `__` isn't.
     pub trailing: bool,
-    /// Judges a run of separators as one separator. By itself it drops nothing.
+    /// Judges a run of separators as one separator. By itself it skips nothing.
     pub consecutive: bool,
 }
 
-/// No flag: every separator is kept.
+/// No flag: no separator is skipped, so each ends the number.
 pub const NO_FLAGS: DigitSeparatorFlags = DigitSeparatorFlags {
     internal: false,
     leading: false,
@@ -30,7 +30,7 @@ pub const NO_FLAGS: DigitSeparatorFlags = DigitSeparatorFlags {
     consecutive: false,
 };
 
-/// All four flags: every separator is dropped.
+/// All four flags: every separator is skipped.
 pub const ALL_FLAGS: DigitSeparatorFlags = DigitSeparatorFlags {
     internal: true,
     leading: true,

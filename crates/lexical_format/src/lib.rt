@@ -63,11 +63,11 @@ pub const FRACTION_TRAILING_DIGIT_SEPARATOR: u128 = 1 << 39;
 /// separator is before it unless a digit was read.
 pub const EXPONENT_TRAILING_DIGIT_SEPARATOR: u128 = 1 << 40;
 
-/// Judges a run of the integer's separators as one separator. By itself it drops nothing.
+/// Judges a run of the integer's separators as one separator. By itself it skips nothing.
 pub const INTEGER_CONSECUTIVE_DIGIT_SEPARATOR: u128 = 1 << 41;
-/// Judges a run of the fraction's separators as one separator. By itself it drops nothing.
+/// Judges a run of the fraction's separators as one separator. By itself it skips nothing.
 pub const FRACTION_CONSECUTIVE_DIGIT_SEPARATOR: u128 = 1 << 42;
-/// Judges a run of the exponent's separators as one separator. By itself it drops nothing.
+/// Judges a run of the exponent's separators as one separator. By itself it skips nothing.
 pub const EXPONENT_CONSECUTIVE_DIGIT_SEPARATOR: u128 = 1 << 43;
 
 /// Drops every separator of a special value, such as `nan`.
@@ -152,7 +152,7 @@ impl NumberFormat {
         self.word & DIGIT_SEPARATOR_FLAG_MASK
     }
 
-    /// Whether separators of special values are dropped: bit 44.
+    /// Whether separators of special values are skipped: bit 44.
     #[inline(always)]
     #[tactic(auto, using(crate::proofs::Flags::special_test))]
     pub fn special_digit_separator(&self) -> bool

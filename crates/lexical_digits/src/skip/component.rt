@@ -10,7 +10,7 @@ pub enum Component {
     Fraction,
     /// The digits of the exponent, after its mark and its sign.
     Exponent,
-    /// A value that is no number, such as `nan`. It has one flag, which grants everything, and
-    /// counts nothing.
+    /// A value that is no number, such as `nan`. It has one flag, which allows
+    /// separators anywhere, and no count.
     Special,
 }
