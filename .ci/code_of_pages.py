@@ -6,15 +6,16 @@ from sources import DOOR, files_below, read
 
 USES = "crates/digit_uses"
 # The pages, and the module of digit_uses that the blocks of each are.
-PAGES = {"README.md": "readme", "CALLING.md": "calling", "docs/PROVING.md": "proving"}
+PAGES = {"README.md": "readme", "CALLING.md": "calling", "docs/OWN.md": "own", "docs/PROVING.md": "proving"}
 # The pages of which each block has all its imports, so that it can be pasted alone. Their file has each
 # import once.
-ALONE = ("CALLING.md",)
+ALONE = ("CALLING.md", "docs/OWN.md")
 # The crate of whoever pastes them, which here is digit_uses.
 CALLER = "my_parser"
 # The pages whose blocks of these languages are parts of proved files, and the crate that has these.
 SHOWN = {"docs/IMPLEMENTING.md": ("crates/digit_vectors", ("rust", "antt")),
-         "docs/PROVING.md": (USES, ("antt",)), "CALLING.md": (USES, ("antt",))}
+         "docs/PROVING.md": (USES, ("antt",)), "CALLING.md": (USES, ("antt",)),
+         "docs/OWN.md": (USES, ("antt",))}
 # What pages show of other languages: the mark of its blocks, the file whose examples are run, how a line
 # has a call and its answer, and how the file has them.
 DOORS = ("README.md", "c/README.md")

@@ -138,7 +138,7 @@ GROUPS = {
         | `SPACES_IN_LINE` | one space or tab, or more | yes | `1 2 3` |
 
         Each is a constant of the type [`Gap`](#gap). With `LINES` an empty line ends the list: `80\\n\\n443\\n` ends at 3. To skip empty lines, use
-        `WHITESPACE`; then a space separates, too.
+        `WHITESPACE`; then a space separates, too. The second example of [`Gap`](#gap) skips them, and refuses `1 2`.
 
         Two [`ByteSet`](#byteset)s: `BLANKS` are space, tab, line feed and carriage return; Rust's `trim` also drops `\\x0b`, `\\x0c` and blanks beyond ASCII. `SPACES` are space and tab. For another
         separator, such as `;`, write a [`Gap`](#gap).""", """
@@ -222,8 +222,8 @@ GROUPS = {
         - A `NumberReader` isn't an `Iterator`. Loop over `0..u64::MAX`: `rt check` wants a bound, and no stream has
         so many numbers.
         - The bound `R: Drop` lets a call drop the reader at its end.
-        - With `LINES` an empty line is an error. To skip empty lines, use `WHITESPACE`; then a space separates, too.
-        - The errors of streams have no `position()`: match them, as [`fault_at`](../../CALLING.md#an-array-of-any-length)
+        - With `LINES` an empty line is an error. [Gaps](#gaps) says how to skip empty lines.
+        - The errors of streams have no `position()`: match them, as [`position_of`](../../CALLING.md#an-array-of-any-length)
         does. A position in the stream is a `u64`; the error of a number, inside of `Number` and `Trailing`, holds a `usize`.""", """
         fold_stream NumberReader is_apart StreamRead StreamEnd FoldError EnclosedFoldError StreamError"""),
     "Pieces and blocks": ("""
@@ -440,6 +440,10 @@ NOTES = {
         | `Prices::grouped` | `1,234.5` | `1234.5` |
         | `Prices::new` | `1,234.50` | `1234.50`, `1,234.5` |
         | [`Scaled`](#scaled), to compare | `1234.50`, `12.5` | `12.345` |""",
+    "read_number_of": "An incomplete part isn't read: of `1e` JSON reads the 1, and of `0xg` Rust the 0. A number never begins with a separator.",
+    "name_end": "For a position after the end of the text it returns that position.",
+    "write_list": "Room: for each number what [`write_number`](#writing) needs of its type, and one byte between two.",
+    "DECIMAL": "It is no word: that of plain decimal numbers is [`STANDARD`](#standard).",
     "NoNumber": "`BothError` and `BracketError` have no `position()`: call `fault_at()`.",
     "Layout": """
         `grouped` returns an `Option`. If its arguments are constants, the prover sees that it is `Some`, and you write
@@ -462,7 +466,7 @@ VALUES = {"u64::MAX": str(2 ** 64 - 1)}
 TABLES = {"forms": " [A table of all](forms.md).",
           "languages": " Where nothing else is said, `017` is 17. [Their prefixes](../RULES.md#prefixes-and-a-first-0).",
           "words": " `PYTHON_LITERAL` reads `1_000`, `CXX14_LITERAL` `1'000`; none reads `1,000`: "
-                   "[write such a word](../../CALLING.md#a-word-of-your-own). "
+                   "[write such a word](../OWN.md#a-word). "
                    "[What each reads](../RULES.md#words-with-names)."}
 
 # What a caller proves, in words.
@@ -563,7 +567,7 @@ fault ([errors](#errors)). Only `parse_` calls return `Invalid`: a `read_` call 
 the blanks of their gap.
 - A `start` isn't a cut. A call with a word or a language also looks at the byte before `start`, to judge a separator there: in `1_000`, with \
 `PYTHON_LITERAL`, `_000` from 1 on is 0. To read as if the text began there, pass `&text[start..]`, and add `start` to the positions.
-- No call panics or allocates.
+- A call of which [you prove](#what-you-prove) the conditions never panics, and no call allocates.
 
 **Entries**
 
@@ -607,7 +611,8 @@ Component::Fraction, 2)` |
 ## What you prove
 
 `rt check` refuses a call if the prover can't see that the conditions after `// you prove` hold. Nothing tests them \
-at run time. Usually you don't have to write anything:
+at run time: `rt try`, which runs code before any proof, stops at only some of the calls that break one. Usually you \
+don't have to write anything:
 
 - The prover tests a constant word, form, language or kind by itself, with [one \
 attribute](../../CALLING.md#set-up) in your `lib.rt`: \

@@ -78,18 +78,19 @@ def readme():
     found, worst = ratios(), times("%.6e, coordinates", "%.6e, 3 digits").split()[0]
     below, above = ([it for it in found.values() if (it > 1) == is_above] for is_above in (False, True))
     times_of = [f"{slower_run(row, rows()[row])[0]:.1f} for {what}" for row, what in SHOWN.items()]
+    shortest = times("f64, random", "f64, in [", "f64, whole", "f64, powers", "f64 with an", "f32, ").split()[-1]
     return f"""\
-**You gain** where a number is a whole text, or one of JSON: {len(below)} of {len(found)} data sets take \
-{min(below):.2f} to {max(below):.2f} of the time of the fastest other library that does the same work, and the others up to \
-{max(above, default=1):.2f}. A price that is written like `%.2f` takes {times('%.2f, prices', '%.2f, 3 digits')} of it.
+On one core of a Xeon a call from Rattle takes these nanoseconds: {', '.join(times_of)}. Beside the fastest other library \
+that does the same work
 
-**You lose** where you also need the number's end: it takes up to {most(ratios(side=READ))} times as long as by that library. \
-From C++ it is up to {most(ratios(side=f"{LIBRARY}, from C"))} times. To write integers of up to 4 digits takes \
-{times('u64, 3 digits', 'u64, 1 to 4')} times as long, the shortest text of a float up to \
-{times('f64, random', 'f64, in [', 'f64, whole', 'f64, powers', 'f64 with an', 'f32, ').split()[-1]}, and `%.6e` {worst} to \
-{times('%.6e').split()[-1]} ([all losses](docs/SPEED.md#where-you-lose)).
-
-**A call** from Rattle takes these nanoseconds on one core of a Xeon: {', '.join(times_of)}.
+- **you gain** where a number is a whole text, or one of JSON: {len(below)} of {len(found)} data sets take {min(below):.2f} to \
+{max(below):.2f} of its time, the others up to {max(above, default=1):.2f}; and where you write prices like `%.2f`: {times('%.2f, prices', '%.2f, 3 digits')}
+- **you may lose** where you also need the number's end: {fastest(READ)} data sets are the fastest, the others take up to \
+{most(ratios(side=READ))} times as long. From C++ whole texts are the fastest in {fastest(f"{LIBRARY}, from C")}, otherwise up to \
+{most(ratios(side=f"{LIBRARY}, from C"))}
+- **you lose** where you write integers of up to 4 digits ({times('u64, 3 digits', 'u64, 1 to 4')}) or of 1 to 20 \
+({times('u64, 1 to 20')}), most floats (up to {shortest}), huge numbers like `%.2f` ({times('%.2f, in [0, 1e22)')}), and like \
+`%.6e` ({worst} to {times('%.6e').split()[-1]})
 
 ![Whole texts, and numbers whose end is needed, by what is read](docs/times.svg)
 

@@ -1,10 +1,11 @@
 //! What CALLING.md says that its own functions and a stream answer.
 
 use digit_uses::calling::{
-    COMMA_DIGITS, Entry, SEMICOLONS, fault_at, first_above, has_port, line_and_column, parse_entry,
-    parse_price, read_all, read_array, read_color, sum_array, sum_column, sum_lengths, sum_of,
-    sum_text, write_percent,
+    COMMA_DIGITS, Entry, SEMICOLONS, first_above, has_port, line_and_column, parse_entry,
+    parse_price, position_of, read_all, read_array, read_rate, sum_array, sum_column, sum_lengths,
+    sum_of, sum_text, write_two_places,
 };
+use digit_uses::own::read_color;
 use digit_uses::proving;
 use digit_uses::sums::sum_list;
 use digits::languages::RUST;
@@ -316,9 +317,10 @@ fn more_errors_of_one_number(rt: HostRuntime) {
 #[test]
 fn lengths(rt: HostRuntime) {
     assert!(rt; sum_lengths(b"10px 2.5em") == Ok(12.5));
-    assert!(rt; sum_lengths(b" 1px\n2 3%") == Err(NumberError::Empty(8)));
+    assert!(rt; sum_lengths(b" 1px\n2 3%") == Err(NumberError::Invalid(8)));
     assert!(rt; sum_lengths(b"") == Ok(0.0));
     assert!(rt; sum_lengths(b"1px x") == Err(NumberError::Empty(4)));
+    assert!(rt; sum_lengths(b"10px2.5em") == Err(NumberError::Invalid(5)));
 }
 
 /// What an amount is by each call: the value, or the error.
@@ -418,10 +420,20 @@ fn an_array_into_a_slice(rt: HostRuntime) {
     assert!(rt; out[0].to_float() == 1.0 && out[1].to_float() == 2.5);
 }
 
+/// A rate, and the position of its fault.
+#[test]
+fn a_rate(rt: HostRuntime) {
+    assert!(rt; read_rate(b"rate=12.5%;") == Ok((125, 11)));
+    assert!(rt; read_rate(b"rate=12.55%;") == Err(9));
+    assert!(rt; read_rate(b"rate=12.5;") == Err(9));
+    assert!(rt; read_rate(b"race=12.5%;") == Err(0));
+}
+
 /// One column of a text, and the line of a fault.
 #[test]
 fn a_column(rt: HostRuntime) {
     assert!(rt; sum_column(b"a,1.50\nb,2\n", 1) == Ok(350));
+    assert!(rt; sum_column(b"a,1.50\r\nb,2\r\n", 1) == Ok(350));
     assert!(rt; sum_column(b"a,1.50\n\nb,2x\n", 1) == Err(3));
     assert!(rt; sum_column(b"a,1.50\nb\n", 1) == Err(2));
     assert!(rt; sum_column(b"", 0) == Ok(0));
@@ -442,12 +454,12 @@ fn prefixes(rt: HostRuntime) {
 #[test]
 fn two_places(rt: HostRuntime) {
     let mut out = [0; 8];
-    assert_eq!(rt; write_percent(2.5, &mut out), Some(4));
+    assert_eq!(rt; write_two_places(2.5, &mut out), Some(4));
     assert_eq!(rt; &out[..4], b"2.50".as_slice());
-    assert_eq!(rt; write_percent(-0.001, &mut out), Some(5));
+    assert_eq!(rt; write_two_places(-0.001, &mut out), Some(5));
     assert_eq!(rt; &out[..5], b"-0.00".as_slice());
-    assert_eq!(rt; write_percent(f64::NAN, &mut out), None);
-    assert_eq!(rt; write_percent(123456.0, &mut out), None);
+    assert_eq!(rt; write_two_places(f64::NAN, &mut out), None);
+    assert_eq!(rt; write_two_places(123456.0, &mut out), None);
 }
 
 /// All numbers of a stream.
@@ -477,8 +489,8 @@ fn empty_lines(rt: HostRuntime) {
 /// Where the fault of an array is.
 #[test]
 fn a_fault_of_an_array(rt: HostRuntime) {
-    assert!(rt; sum_array(b"[1, 2.5".as_slice()).map_err(fault_at) == Err(Some(7)));
-    assert!(rt; sum_array(b"[1, x]".as_slice()).map_err(fault_at) == Err(Some(4)));
-    assert!(rt; sum_array(b"1".as_slice()).map_err(fault_at) == Err(Some(0)));
-    assert!(rt; sum_array(b"[1] x".as_slice()).map_err(fault_at) == Err(Some(4)));
+    assert!(rt; sum_array(b"[1, 2.5".as_slice()).map_err(position_of) == Err(Some(7)));
+    assert!(rt; sum_array(b"[1, x]".as_slice()).map_err(position_of) == Err(Some(4)));
+    assert!(rt; sum_array(b"1".as_slice()).map_err(position_of) == Err(Some(0)));
+    assert!(rt; sum_array(b"[1] x".as_slice()).map_err(position_of) == Err(Some(4)));
 }

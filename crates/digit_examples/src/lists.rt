@@ -200,6 +200,18 @@ fn a_gap_of_ones_own(rt: HostRuntime) {
     let read = read_list(b"1; 2 ;3]", 0, STANDARD, semicolons, &mut three);
     assert_eq!(rt; (read.count, read.end), (3, ListEnd::Over(7)));
     assert_eq!(rt; three, [1, 2, 3]);
+    // line ends, also of empty lines, and no spaces
+    let line_ends = Gap {
+        blanks: ByteSet {
+            low: (1 << b'\n') | (1 << b'\r'),
+            high: 0,
+        },
+        ..WHITESPACE
+    };
+    let read = read_list(b"1\n\n2\r\n", 0, STANDARD, line_ends, &mut three);
+    assert_eq!(rt; (read.count, read.end), (2, ListEnd::Over(6)));
+    let read = read_list(b"1 2\n", 0, STANDARD, line_ends, &mut three);
+    assert_eq!(rt; (read.count, read.end), (1, ListEnd::Over(1)));
 }
 
 /// Shows `read_items`.

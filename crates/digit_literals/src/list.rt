@@ -20,8 +20,8 @@ use lexical_digits::ops::ByteSet;
 pub struct Gap {
     /// The bytes that separate: one of them is between two numbers.
     pub separators: ByteSet,
-    /// The bytes that may be before and after a separator, and before the first number. A byte of
-    /// `separators` isn't a blank, even if it is here, too.
+    /// The bytes that may be around a separator, before the first number, and after the last one. A
+    /// byte of `separators` isn't a blank, even if it is here, too.
     pub blanks: ByteSet,
     /// Whether a run of blanks, without a separator among them, is itself a separator.
     pub blanks_separate: bool,

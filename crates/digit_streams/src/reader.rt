@@ -129,7 +129,7 @@ impl<'b, K: Kind, R: Read> NumberReader<'b, K, R> {
     /// the blanks after its last number are used, too: after the 1 of `1 ]` by
     /// [`COMMAS`](digit_literals::COMMAS) it is 2. If [`read_into`](NumberReader::read_into)
     /// returns the error [`Number`](StreamError::Number), this position may be before numbers that
-    /// the same call gave.
+    /// the same call gave: the error has the position of the fault.
     pub fn position(&self) -> u64
         ensures { result ≡ self.now.position }
     {

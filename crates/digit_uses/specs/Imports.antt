@@ -32,7 +32,7 @@ use Rattle.digits.specs.Words.{EnclosedFoldError, FoldError, StreamError, litera
 use Rattle.digits.specs.Words.{Number, NumberError, ParseError, ScaledError, Special, Specials}
 use Rattle.digit_uses.specs.declared.points.PointError.{PointError}
 use Rattle.digit_uses.specs.declared.points.PointError.TheVariants.{NoColon}
-use Rattle.digit_uses.specs.declared.calling.TheConstants.{COMMA_FLOATS}
+use Rattle.digit_uses.specs.declared.calling.TheConstants.{COMMA_DIGITS}
 
 abbrev pub constants : List ℕ × Gap × ByteSet × Language × Form × Specials × Marks × Special
 constants =
@@ -52,8 +52,8 @@ pieces = (More 0, Full 0, NoRoom 0, Stopped 0, NoClosing 0)
 abbrev pub lists : ListError ℕ × EnclosedError ℕ × PriceError × BracketError ℕ
 lists = (no_room 0, NoOpening 0, Group 0, no_opening 0)
 
-abbrev pub own : PointError × Form
-own = (NoColon 0, COMMA_FLOATS)
+abbrev pub own : PointError × ℕ
+own = (NoColon 0, COMMA_DIGITS)
 
 abbrev pub law : (by : ℕ) (e : LiteralError)
     → literal_position (literal_later by e) ≡ by + literal_position e

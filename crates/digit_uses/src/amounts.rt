@@ -11,7 +11,7 @@ use digits::{
 };
 
 /// Radix 10, and a `.` between two digits of the integer.
-const POINTS: u128 = (10 << 104) | (0x2e << 64) | INTEGER_INTERNAL_DIGIT_SEPARATOR;
+const POINTS: u128 = (10 << 104) | ((b'.' as u128) << 64) | INTEGER_INTERNAL_DIGIT_SEPARATOR;
 
 /// A comma before the fraction, and no exponent. The other fields are those of JSON.
 pub const AMOUNT: Form = Form {

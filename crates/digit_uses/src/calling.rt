@@ -64,6 +64,18 @@ pub fn parse_metres(text: &[u8]) -> Result<f64, LengthError> {
     Ok(metres)
 }
 
+use digits::{expect_bytes, read_scaled_from};
+
+/// Reads the rate at the front of a text, in thousandths, and returns where it ends, or the position
+/// of the fault: `rate=12.5%;` gives `(125, 11)`, and in `rate=12.55%;` the fault is at 9.
+pub fn read_rate(text: &[u8]) -> Result<(u32, usize), usize> {
+    let at = expect_bytes(text, 0, b"rate=")?;
+    let rate = read_scaled_from::<u32>(text, STANDARD, at, b'.', 1);
+    let (rate, at) = rate.map_err(|error| error.position())?;
+    let end = expect_bytes(text, at, b"%;")?;
+    Ok((rate, end))
+}
+
 use digits::{INTEGER_INTERNAL_DIGIT_SEPARATOR, PriceError, ScaledError, read_price_from};
 
 /// Radix 10, and `,` between two digits: `1,234`.
@@ -139,7 +151,7 @@ pub const SEMICOLONS: Gap = Gap {
     ..COMMAS_IN_LINE
 };
 
-use digits::{read_exactly, read_optional, read_scaled_from};
+use digits::{read_exactly, read_optional};
 
 /// A line of a CSV file.
 #[derive(Clone, Copy, Debug, PartialEq, Eq)]
@@ -193,11 +205,12 @@ pub fn parse_row(line: &[u8], row: &mut [u32]) -> Result<usize, ListError<Litera
 
 use digits::parse_scaled;
 
-/// Adds up the cents of one column, from 0, of a text whose lines are CSV without quotes. The error
-/// is the number of a line, from 1: `a,1.50\nb,2\n` has 350 in column 1.
+/// Adds up the cents of one column, from 0, of a text whose lines are CSV without quotes and without
+/// a header. The error is the number of a line, from 1: `a,1.50\nb,2\n` has 350 in column 1.
 pub fn sum_column(text: &[u8], column: usize) -> Result<i64, usize> {
     let mut sum = 0i64;
     for (line, number) in text.split(|byte| *byte == b'\n').zip(1usize..) {
+        let line = line.strip_suffix(b"\r").unwrap_or(line);
         if line.is_empty() {
             continue;
         }
@@ -350,7 +363,7 @@ fn of_array(error: StreamError<NumberError>) -> EnclosedFoldError<NumberError> {
 }
 
 /// The position of a fault, if the error has one.
-pub fn fault_at(error: EnclosedFoldError<NumberError>) -> Option<u64> {
+pub fn position_of(error: EnclosedFoldError<NumberError>) -> Option<u64> {
     match error {
         EnclosedFoldError::NoOpening(at) | EnclosedFoldError::NoClosing(at) => Some(at),
         EnclosedFoldError::Fold(FoldError::Stopped(at)) => Some(at),
@@ -376,7 +389,7 @@ use digits::write_fixed;
 
 /// Writes a float with two decimal places: 2.5 gives `2.50`, and -0.001 `-0.00`. `None`: `x` is
 /// infinite or NaN, or `out` is too short.
-pub fn write_percent(x: f64, out: &mut [u8]) -> Option<usize> {
+pub fn write_two_places(x: f64, out: &mut [u8]) -> Option<usize> {
     if !x.is_finite() {
         return None;
     }
@@ -436,72 +449,11 @@ pub fn sum_lengths(text: &[u8]) -> Result<f64, NumberError> {
         }
         let (number, end) = read_number_of::<f64>(text, at, forms::CSS)?;
         sum += number.to_float();
-        at = past_bytes(text, name_end(text, end), BLANKS);
+        let end = name_end(text, end);
+        at = past_bytes(text, end, BLANKS);
+        if at == end && at < text.len() {
+            return Err(NumberError::Invalid(at));
+        }
     }
     Ok(sum)
-}
-
-/// Radix 10, and `.` between two digits: `1.234`.
-pub const POINT_DIGITS: u128 = (10 << 104)
-    | ((b'.' as u128) << 64)
-    | INTEGER_INTERNAL_DIGIT_SEPARATOR;
-
-/// Reads a text as a count: `1.234` is 1234.
-pub fn parse_count(text: &[u8]) -> Result<u64, ParseError> {
-    parse_number::<u64>(text, POINT_DIGITS)
-}
-
-ghost use Rattle.digits.specs.Words.{is_supported};
-ghost use Rattle.std.specs.Prelude.{IfSome, IsTrue};
-
-use digits::{DECIMAL, DigitSeparatorFlags, NO_FLAGS, NumberFormatBuilder, is_supported};
-
-/// The word with `_` between the digits of a radix, if there is one.
-pub fn underscores(radix: u8) -> Option<u128>
-    ensures { IfSome result (λ word. IsTrue (is_supported word)) }
-{
-    let internal = DigitSeparatorFlags {
-        internal: true,
-        ..NO_FLAGS
-    };
-    let word = NumberFormatBuilder {
-        mantissa_radix: radix,
-        digit_separator: b'_',
-        integer: internal,
-        ..DECIMAL
-    }
-    .build();
-    if is_supported(word) { Some(word) } else { None }
-}
-
-use digits::Language;
-use digits::languages::PYTHON;
-
-/// Integers in decimal or with `0x`, and one `_` between two digits.
-pub const DECIMAL_OR_HEX: Language = Language {
-    binary: None,
-    octal: None,
-    ..PYTHON
-};
-
-/// Reads such an integer at the front of a text, and returns where it ends: `0xff_ff;` gives 65535
-/// and 7.
-pub fn read_color(text: &[u8]) -> Result<(u32, usize), LanguageError> {
-    read_literal_as::<u32>(text, 0, DECIMAL_OR_HEX)
-}
-
-use digits::{Form, Marks};
-
-/// Floats with a comma in place of the point: `1,5e3`.
-pub const COMMA_FLOATS: Form = Form {
-    marks: Marks {
-        point: b',',
-        exponent: b'e',
-    },
-    ..forms::FLOAT
-};
-
-/// Reads a text as a float: `1,5e3` is 1500.0.
-pub fn parse_comma_float(text: &[u8]) -> Result<f64, NumberError> {
-    Ok(parse_number_of::<f64>(text, COMMA_FLOATS)?.to_float())
 }

@@ -14,6 +14,7 @@ pub mod lists;
 pub mod literal;
 pub mod loops;
 pub mod money;
+pub mod own;
 pub mod points;
 pub mod proving;
 pub mod quotes;

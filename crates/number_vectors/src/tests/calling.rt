@@ -10,11 +10,11 @@ use digit_literals::{
 };
 use digit_numbers::{Number, NumberError, forms, read_number_of};
 use digit_uses::calling::{
-    LengthError, SizeError, parse_amount, parse_comma_float, parse_count, parse_height, parse_id,
-    parse_metres, parse_row, parse_trimmed, read_mask, read_ports, read_size, read_token,
-    write_grouped,
+    LengthError, SizeError, parse_amount, parse_height, parse_id, parse_metres, parse_row,
+    parse_trimmed, read_mask, read_ports, read_size, read_token, write_grouped,
 };
 use digit_uses::money::cents_of_field;
+use digit_uses::own::{parse_comma_float, parse_count};
 use lexical_format::STANDARD;
 use lexical_format::words::PYTHON_LITERAL;
 
