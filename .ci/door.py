@@ -10,7 +10,7 @@ import shown
 import sources
 from clauses import SAID
 from door_texts import (ANCHORED, CONDITIONS, DERIVED, ELSEWHERE, FIRST, FIRST_FORMS, FOR_LIBRARY,
-                        GROUPS, HALVES, HEAD, HIDDEN, IMPLS, INDEX, LAST_USUAL, LAW, METHODS,
+                        GROUPS, HALVES, HEAD, HIDDEN, IMPLS, INDEX, LAW, METHODS,
                         MORE, MORE_HEAD, NOTES, ROOM, RULES, TABLED, TABLES, TOLD, UNNAMED, VALUES,
                         WORDS_HEAD)
 from layout import (anchor_of, declaration_of, filled, first_sentence, signature_of, text_of,
@@ -375,11 +375,10 @@ class Door:
                       if it not in have and f"`{it}`" not in self.slugs]
         self.lost += [f"HEAD of .ci/door_texts.py doesn't lead to {it}" for it in GROUPS
                       if f"](#{self.slugs[it]})" not in HEAD]
-        lines = [HEAD.replace("\nLINES\n", "\n".join(["", *self.first(), ""]))]
+        lines = [HEAD.replace("\nLINES\n", "\n".join(["", *self.first(), ""])), *RULES.split("\n")]
         for group, (*_, names_of) in GROUPS.items():
             entries = [it for it in names_of.split() if it in self.items and it not in TABLED]
             lines += [*self.section(group), *itertools.chain(*map(self.lines_of, entries))]
-            lines += RULES.split("\n") if group == LAST_USUAL else []
         laws = [it for it in MORE if HALVES.get(it, "").startswith(("…", LAW))]
         lines += [f"## {ELSEWHERE}", "", MORE_HEAD, "", "| Name | What it is |", "|---|---|",
                   *self.rows(it for it in MORE if it not in laws), ""]

@@ -18,7 +18,7 @@ GROUPS = {
         count_digits | Counts the digits of a text""", """
         The types are `u8` to `u128`, `i8` to `i128`, `usize` and `isize`. The first four calls read `[+-]?
         D+` as a signed type, and `D+` as an unsigned one, where `D` is a digit of the word's radix: `+1` is 1
-        as an `i32`, and refused as a `u32`. Separators that the word allows may be among the digits. Leading zeros are allowed, and `-0` is 0. No prefix is read.""", """
+        as an `i32`, and refused as a `u32`. Separators that the word allows may be among the digits. Leading zeros are allowed, and as a signed type `-0` is 0. No prefix is read.""", """
         parse_number parse_number_from read_number read_number_from read_integer_from read_wide_from
         read_exactly read_at_most count_digits Integer ParseError LiteralError"""),
     "Floats": ("""
@@ -65,6 +65,7 @@ GROUPS = {
         | `12.500` | 1250 | `Places(6)` | 1250 | `Places(6)` |
         | `12,34.50` | 123450 | 123450 | `Group(3)` | `Group(3)` |
         | `1234.50` | 123450 | 123450 | `Group(0)` | `Group(0)` |
+        | `1234.5` | 123450 | `Places(6)` | `Group(0)` | `Group(0)` |
         | `12.345` | `TooFine(5)` | `Number(TooFine(5))` | `Number(TooFine(5))` | `Number(TooFine(5))` |""", """
         parse_scaled read_scaled_from read_scaled_up_to read_exact_from read_grouped_from read_price_from
         read_decimal_from read_decimal_of Decimal ScaledError PriceError"""),
@@ -289,7 +290,7 @@ GROUPS = {
         | Word | It reads | It stops inside of, or refuses |
         |---|---|---|
         | `STANDARD` | `1000` | |
-        | `HEXADECIMAL`, `OCTAL`, `BINARY` | `ff`, `17`, `101` | |
+        | `HEXADECIMAL`, `OCTAL`, `BINARY` | `ff` and `FF`, `17`, `101` | |
         | `PYTHON_LITERAL` | `1_000` | `1__0`, `1_`, `_1` |
         | `RUST_LITERAL` | `1_000`, `1__0`, `1_` | `_1` |
         | `CXX14_LITERAL` | `1'000` | `1''0`, `1'` |
@@ -329,8 +330,6 @@ GROUPS = {
         read_mantissa read_exponent round_parts decimal_of stop_from read_first_digits_from Mantissa Power
         FirstDigits Component"""),
 }
-# The last section that most callers need.
-LAST_USUAL = "Words"
 TABLED = """COMMAS COMMAS_IN_LINE LINES WHITESPACE SPACES_IN_LINE BLANKS SPACES MOST_ROOM FLOAT_ROOM
     PLAIN_ROOM INTEGER_INTERNAL_DIGIT_SEPARATOR FRACTION_INTERNAL_DIGIT_SEPARATOR
     EXPONENT_INTERNAL_DIGIT_SEPARATOR""".split()
@@ -400,7 +399,7 @@ NOTES = {
         then `None`.
         - **After `None`** each call of `next_number` returns `None`, until `pass_byte` passes a byte, or
         `fold_enclosed` begins the next list.
-        - **An error stays**, except `Trailing`, which only `finish` returns: each later call returns it again. But after [`Read`](#streamerror) of `WouldBlock`
+        - **An error stays**, except `Trailing`: each later call returns it again. But after [`Read`](#streamerror) of `WouldBlock`
         or `TimedOut` the next call goes on. After `Interrupted` the call itself reads again.
         - **The buffer** needs the longest number, the longest run of blanks after it, and one byte. Otherwise a
         call returns [`NoRoom`](#streamerror). 4096 bytes are ample.
@@ -519,7 +518,7 @@ WORDS = "words"
 HEAD = f"""# {DOOR}
 
 This page has every public name of `{DOOR}`, [from A to Z](#all-names), or by what you have. An entry says what a call does, what you prove \
-before it, and which error it returns, with an example. In an example the comment after a call is what it returns:
+before it, and which error it returns, mostly with an example. In an example the comment after a call is what it returns:
 
 ```rust
 use {DOOR}::words::PYTHON_LITERAL;
@@ -584,13 +583,13 @@ entry says otherwise.
 # The heading of the list of all names.
 INDEX = "All names"
 
-# What every entry relies on, behind the sections that most callers need.
+# What every entry relies on, before the first one.
 RULES = f"""## Names and arguments
 
 | In the name of a call that reads or writes | It says |
 |---|---|
-| `_from` | it takes a `start`. Without `_from`, `parse_` calls, `read_number`, `read_float` and \
-`read_integer` begin at 0, `count_digits` and `sure_end` take a whole text; every other call that reads a text takes a position |
+| `_from` | it takes a `start`, the position where it begins |
+| neither `_from` nor a position among its arguments | it begins at 0: `parse_` calls, `read_number`, `read_float`, `count_digits`, `sure_end` |
 | `_of` | with a form, except `decimal_of` |
 | `_as` | with a language, as a number of your type |
 | `_by` | with a kind or a layout |

@@ -351,6 +351,7 @@ fn amounts_and_prices(rt: HostRuntime) {
     assert!(rt; amounts(b"12,34.50") == [all, all, group, group]);
     let large = Err(PriceError::Group(0));
     assert!(rt; amounts(b"1234.50") == [all, all, large, large]);
+    assert!(rt; amounts(b"1234.5") == [all, places(6), large, large]);
     assert!(rt; amounts(b"12.345") == [fine, fine, fine, fine]);
 }
 

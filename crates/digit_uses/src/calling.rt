@@ -428,7 +428,7 @@ pub enum PercentError {
 /// Reads the percentage at `start`, and returns where it ends: `75%` gives `(75, 2)`.
 pub fn read_percent(line: &[u8], start: usize) -> Result<(u8, usize), PercentError>
     requires { start ≤ length line.now }
-    ensures { IfOk result (λ percent. percent.1 ≤ length line.now) }
+    ensures { IfOk result (λ read. read.1 ≤ length line.now) }
 {
     match read_integer_from(line, PYTHON_LITERAL, start, 100) {
         Ok((percent, end)) => Ok((percent as u8, end)),
