@@ -321,7 +321,8 @@ GROUPS = {
         EXPONENT_INTERNAL_DIGIT_SEPARATOR NumberFormat"""),
     "A form of your own": ("", """
         Write one from a form that is close: `Form { marks, ..forms::FLOAT }` has other marks, and
-        `Form { specials: Some(names::LOWER_CASE), ..forms::FLOAT }` also reads `inf` and `nan`.""", """
+        `Form { specials: Some(names::LOWER_CASE), ..forms::FLOAT }` also reads `inf` and `nan`.
+        `FLOAT` reads `-1.5e3`, `+1`, `01`, `.5` and `5.`; `LITERAL` the same without a sign.""", """
         Form Signs Whole Marks Exponents AfterPoint HexFloats Specials Special SpecialValue NameSign names"""),
     "Parts of a number": ("""
         read_mantissa read_exponent | Read digits and point; an exponent
@@ -429,6 +430,7 @@ NOTES = {
     "read_enclosed": """
         Any `start` is allowed. The gap's blanks may follow the opening byte and precede the closing one. For
         one number in brackets use the kind [`Enclosed`](#enclosed).""",
+    "Both": "The byte between the two mustn't be of the gap, also none of its blanks: a pair such as `3 4` needs a gap without spaces.",
     "Enclosed": """
         `Enclosed` reads one number, and its error is `BracketError`. For a list in brackets call
         [`read_enclosed`](#read_enclosed), whose error is `EnclosedError`.""",

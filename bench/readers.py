@@ -86,7 +86,8 @@ that does the same work
 - **you gain** where a number is a whole text, or one of JSON: {len(below)} of {len(found)} data sets take {min(below):.2f} to \
 {max(below):.2f} of its time, the others up to {max(above, default=1):.2f}; and where you write prices like `%.2f`: {times('%.2f, prices', '%.2f, 3 digits')}
 - **you may lose** where you also need the number's end: this library is the fastest for {fastest(READ)} data sets, and takes for the others up to \
-{most(ratios(side=READ))} times as long. From C++ it is the fastest for {fastest(f"{LIBRARY}, from C")} data sets of whole texts, otherwise up to \
+{most(ratios(side=READ))} times as long
+- **you may lose from C++**, too: for {fastest(f"{LIBRARY}, from C")} data sets of whole texts it is the fastest, otherwise up to \
 {most(ratios(side=f"{LIBRARY}, from C"))}
 - **you lose** where you write integers of up to 4 digits ({times('u64, 3 digits', 'u64, 1 to 4')}) or of 1 to 20 \
 ({times('u64, 1 to 20')}), most floats (up to {shortest}), huge numbers written like `%.2f` ({times('%.2f, in [0, 1e22)')}), and anything written like \

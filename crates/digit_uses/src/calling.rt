@@ -44,24 +44,27 @@ pub fn parse_trimmed(text: &[u8]) -> Result<i32, ParseError> {
     Ok(number)
 }
 
-use digits::{FloatError, read_float};
+use digits::{NumberError, forms, read_number_of};
 
 /// Why a text is no length.
 #[derive(Clone, Copy, Debug, PartialEq, Eq)]
 pub enum LengthError {
-    Float(FloatError),
-    /// There is no `m` at this position, or this byte follows the `m`.
+    Value(NumberError),
+    /// What begins at this position is no unit.
     Unit(usize),
 }
 
-/// Reads a text as a length in metres: `1.5m` is 1.5, and in `1.5` the fault is `Unit(3)`.
+/// Reads a text as a length in metres: `1.5m` is 1.5, and `2km` 2000.0. In `1.5` the fault is
+/// `Unit(3)`.
 pub fn parse_metres(text: &[u8]) -> Result<f64, LengthError> {
-    let (metres, end) = read_float::<f64>(text, STANDARD).map_err(LengthError::Float)?;
-    let end = expect_byte(text, end, b'm').map_err(LengthError::Unit)?;
-    if end < text.len() {
-        return Err(LengthError::Unit(end));
+    let number = read_number_of::<f64>(text, 0, forms::FLOAT);
+    let (number, end) = number.map_err(LengthError::Value)?;
+    let metres = number.to_float();
+    match &text[end..] {
+        b"m" => Ok(metres),
+        b"km" => Ok(metres * 1000.0),
+        _ => Err(LengthError::Unit(end)),
     }
-    Ok(metres)
 }
 
 use digits::{expect_bytes, read_scaled_from};
@@ -222,7 +225,7 @@ pub fn sum_column(text: &[u8], column: usize) -> Result<i64, usize> {
     Ok(sum)
 }
 
-use digits::{NumberError, forms, parse_number_of};
+use digits::parse_number_of;
 
 /// Reads a text as a JSON number: `-1.5e3` is -1500.0, and `01` is `Invalid(1)`.
 pub fn parse_amount(text: &[u8]) -> Result<f64, NumberError> {
@@ -237,13 +240,13 @@ pub fn parse_id(text: &[u8]) -> Option<i64> {
 
 ghost use Rattle.std.specs.Prelude.{◌<◌};
 
-use digits::{Number, byte_at, read_number_of};
+use digits::{Number, byte_at};
 
 /// Reads the JSON number at `start`, and returns where it ends: in `-1.5e3,` it is -1500.0, and
 /// ends at 6. In `01` the fault is at 1.
 pub fn read_token(text: &[u8], start: usize) -> Result<(Number<f64>, usize), NumberError>
     requires { start ≤ length text.now }
-    ensures end { IfOk result (λ read. (start < read.1) × (read.1 ≤ length text.now)) }
+    ensures within { IfOk result (λ read. (start < read.1) × (read.1 ≤ length text.now)) }
 {
     let (number, end) = read_number_of::<f64>(text, start, forms::JSON)?;
     match byte_at(text, end) {
@@ -271,7 +274,7 @@ pub fn read_array(
     )
 }
 
-use digits::{Floats, LINES, floats_are_apart};
+use digits::{FloatError, Floats, LINES, floats_are_apart};
 use std::io::Read;
 
 /// Adds up the floats of a stream that has one float in each line.
@@ -447,7 +450,7 @@ pub fn sum_lengths(text: &[u8]) -> Result<f64, NumberError> {
         if at >= text.len() {
             break;
         }
-        let (number, end) = read_number_of::<f64>(text, at, forms::CSS)?;
+        let (number, end) = read_number_of::<f64>(text, at, forms::FLOAT)?;
         sum += number.to_float();
         let end = name_end(text, end);
         at = past_bytes(text, end, BLANKS);

@@ -50,10 +50,12 @@ fn a_size_is_two_numbers(rt: HostRuntime) {
 #[test]
 fn a_length_has_its_unit(rt: HostRuntime) {
     assert!(rt; parse_metres(b"1.5m") == Ok(1.5));
+    assert!(rt; parse_metres(b"2km") == Ok(2000.0));
     assert!(rt; parse_metres(b"1.5") == Err(LengthError::Unit(3)));
-    assert!(rt; parse_metres(b"1.5mm") == Err(LengthError::Unit(4)));
-    let exponent = FloatError::EmptyExponent(2);
-    assert!(rt; parse_metres(b"1em") == Err(LengthError::Float(exponent)));
+    assert!(rt; parse_metres(b"1.5mm") == Err(LengthError::Unit(3)));
+    assert!(rt; parse_metres(b"1em") == Err(LengthError::Unit(1)));
+    let none = LengthError::Value(NumberError::Empty(0));
+    assert!(rt; parse_metres(b"m") == Err(none));
 }
 
 #[test]
