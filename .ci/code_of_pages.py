@@ -24,8 +24,7 @@ OTHERS = {
     "python": ("c/python/digits.py", r"(.*?)  # (.*)", ">>> {}\n{}"),
 }
 # The pages that show a contract, with its file.
-CONTRACTS = {"README.md": "crates/digit_writers/src/number.rt",
-             "docs/PROMISES.md": "crates/digit_integers/src/number.rt"}
+CONTRACTS = {"docs/PROMISES.md": "crates/digit_integers/src/number.rt"}
 # What begins the blocks that a reader puts in the place of others; `.ci/setup` does so.
 CHANGES = ("is_space b =", "    text.iter()")
 
@@ -147,7 +146,7 @@ def first_run(faults):
 
 
 def contract(faults):
-    """The contracts of README and PROMISES are, or begin, as the sources have them."""
+    """The contracts of these pages are, or begin, as the sources have them."""
     for page, path in CONTRACTS.items():
         shown = [it for it in blocks_of(page, "text") if it[1][0].startswith("pub fn")]
         for first, block in shown:

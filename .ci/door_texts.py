@@ -259,7 +259,7 @@ GROUPS = {
         | any finite float by `write_fixed` | 311 + `places` |
         | any finite float by `write_scientific` | 8 + `places` |
         | any number by `write_number_of`, `write_float_of` or `write_integer_of` | 328 |
-        | an amount by `write_scaled` | the greater one of `places` + 3 and 1 more than `write_number` needs of its type: of an `i64` with 2 places 21 |
+        | an amount by `write_scaled` | `places` + 3, or 1 more than `write_number` needs, whichever is more: of an `i64` with 2 places 21 |
         | a price by `write_price` | those, and one for each three digits before the point: of an `i64` with 2 places 26, of an `i128` 53 |
         | anything else | as many as the error says |
 

@@ -81,17 +81,15 @@ def readme():
     shortest = times("f64, random", "f64, in [", "f64, whole", "f64, powers", "f64 with an", "f32, ").split()[-1]
     return f"""\
 On one core of a Xeon a call from Rattle takes these nanoseconds: {', '.join(times_of)}. Beside the fastest other library \
-that does the same work
+that does the same work, `digits` is
 
-- **you gain** where a number is a whole text, or one of JSON: {len(below)} of {len(found)} data sets take {min(below):.2f} to \
-{max(below):.2f} of its time, the others up to {max(above, default=1):.2f}; and where you write prices like `%.2f`: {times('%.2f, prices', '%.2f, 3 digits')}
-- **you may lose** where you also need the number's end: this library is the fastest for {fastest(READ)} data sets, and takes for the others up to \
-{most(ratios(side=READ))} times as long
-- **you may lose from C++**, too: for {fastest(f"{LIBRARY}, from C")} data sets of whole texts it is the fastest, otherwise up to \
-{most(ratios(side=f"{LIBRARY}, from C"))}
-- **you lose** where you write integers of up to 4 digits ({times('u64, 3 digits', 'u64, 1 to 4')}) or of 1 to 20 \
-({times('u64, 1 to 20')}), most floats (up to {shortest}), huge numbers written like `%.2f` ({times('%.2f, in [0, 1e22)')}), and anything written like \
-`%.6e` ({worst} to {times('%.6e').split()[-1]})
+- **faster** where a number is a whole text, or one of JSON: for {len(below)} of {len(found)} data sets, in {min(below):.2f} to \
+{max(below):.2f} of its time; for the others it takes up to {max(above, default=1):.2f}
+- **about as fast** where you also need the number's end (up to {most(ratios(side=READ))} times as long), and for whole texts \
+from C++ (up to {most(ratios(side=f"{LIBRARY}, from C"))})
+- **slower** where you write integers of up to 4 digits ({times('u64, 3 digits', 'u64, 1 to 4')} times), most floats that are no \
+prices or coordinates (up to {shortest}), or like `%.6e` ({worst} to {times('%.6e').split()[-1]}). Like `%.2f` prices take \
+{times('%.2f, prices', '%.2f, 3 digits')}, and huge numbers {times('%.2f, in [0, 1e22)')}
 
 ![Whole texts, and numbers whose end is needed, by what is read](docs/times.svg)
 

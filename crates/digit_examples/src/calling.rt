@@ -2,8 +2,8 @@
 
 use digit_uses::calling::{
     COMMA_DIGITS, Entry, SEMICOLONS, first_above, has_port, line_and_column, parse_entry,
-    parse_price, position_of, read_all, read_array, read_rate, sum_array, sum_column, sum_lengths,
-    sum_of, sum_text, write_two_places,
+    parse_price, position_of, put_price, read_all, read_array, read_rate, sum_array, sum_column,
+    sum_lengths, sum_of, sum_text, write_two_places,
 };
 use digit_uses::own::read_color;
 use digit_uses::proving;
@@ -461,6 +461,17 @@ fn two_places(rt: HostRuntime) {
     assert_eq!(rt; &out[..5], b"-0.00".as_slice());
     assert_eq!(rt; write_two_places(f64::NAN, &mut out), None);
     assert_eq!(rt; write_two_places(123456.0, &mut out), None);
+}
+
+/// Prices in a column.
+#[test]
+fn a_column_of_prices(rt: HostRuntime) {
+    let mut out = Vec::new(rt.alloc());
+    assert!(rt; put_price(123450, &mut out).is_ok());
+    assert!(rt; out.as_slice() == b"    1,234.50".as_slice());
+    let mut out = Vec::new(rt.alloc());
+    assert!(rt; put_price(i64::MIN, &mut out).is_ok());
+    assert!(rt; out.as_slice() == b"-92,233,720,368,547,758.08".as_slice());
 }
 
 /// All numbers of a stream.

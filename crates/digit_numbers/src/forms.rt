@@ -38,7 +38,7 @@ pub const LITERAL: Form = Form {
     hex_floats: HexFloats::Absent,
 };
 
-/// The simplest form of data: the same with a sign, and every number is a float.
+/// The simplest form of data: `-1.5e3`, `+1`, `01`, `.5` and `5.`, all of them floats.
 pub const FLOAT: Form = Form {
     signs: Signs::Either,
     whole: Whole::Float,

@@ -19,8 +19,8 @@ pub enum PieceEnd<E> {
     /// The slice is full. The next number may begin at this position: after a separator, after one
     /// blank where blanks alone separate, or at `start` if the slice has no place.
     Full(usize),
-    /// The list is over. No separator is at this position, past the blanks after the last number;
-    /// or no number begins there.
+    /// The list is over. At this position, after the last number and its blanks, is no separator;
+    /// or no number begins there, where none has to be.
     Over(usize),
     /// A number is missing where one has to be, or one begins and is refused.
     Fault(E),

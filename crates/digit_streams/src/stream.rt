@@ -55,8 +55,8 @@ pub enum StreamEnd<E> {
     /// The slice is full. The next number may begin at this position: after a separator, after one
     /// blank where blanks alone separate, or where the call began if the slice has no place.
     Full(u64),
-    /// The list is over. No separator is at this position, past the blanks after the last number;
-    /// or no number begins there.
+    /// The list is over. At this position, after the last number and its blanks, is no separator;
+    /// or no number begins there, where none has to be.
     Over(u64),
     /// There is no number, for this reason.
     Fault(StreamError<E>),

@@ -409,6 +409,14 @@ pub fn put_line<W: Write>(number: i64, to: &mut W) -> std::io::Result<()> {
     to.write_all(b"\n")
 }
 
+/// Writes cents as a price, at the right end of a column of 12 bytes.
+pub fn put_price<W: Write>(cents: i64, to: &mut W) -> std::io::Result<()> {
+    let mut out = [b' '; 38];
+    // 26 bytes are enough for every `i64` with two places, so this is never an error
+    let count = write_price(cents, b'.', 2, b',', &mut out[12..]).unwrap_or(26);
+    to.write_all(&out[count.min(12)..12 + count])
+}
+
 use digits::{Layout, NoRoom, write_number_by};
 
 /// Writes a number with `,` between groups of three digits: `-1,234,567`.
