@@ -322,7 +322,7 @@ GROUPS = {
     "A form of your own": ("", """
         Write one from a form that is close: `Form { marks, ..forms::FLOAT }` has other marks, and
         `Form { specials: Some(names::LOWER_CASE), ..forms::FLOAT }` also reads `inf` and `nan`.
-        `FLOAT` reads `-1.5e3`, `+1`, `01`, `.5` and `5.`; `LITERAL` the same without a sign.""", """
+        `FLOAT` reads `-1.5e3`, `+1`, `01`, `.5` and `5.`, all as floats. `LITERAL` reads no sign, and `1` and `01` as integers.""", """
         Form Signs Whole Marks Exponents AfterPoint HexFloats Specials Special SpecialValue NameSign names"""),
     "Parts of a number": ("""
         read_mantissa read_exponent | Read digits and point; an exponent

@@ -75,27 +75,24 @@ can't put it into its caller's loop."""
 def readme():
     """What README.md has between its comments: what you gain, what you lose, a few times, and the
     picture."""
-    found, worst = ratios(), times("%.6e, coordinates", "%.6e, 3 digits").split()[0]
+    found = ratios()
     below, above = ([it for it in found.values() if (it > 1) == is_above] for is_above in (False, True))
     times_of = [f"{slower_run(row, rows()[row])[0]:.1f} for {what}" for row, what in SHOWN.items()]
     shortest = times("f64, random", "f64, in [", "f64, whole", "f64, powers", "f64 with an", "f32, ").split()[-1]
     return f"""\
-On one core of a Xeon a call from Rattle takes these nanoseconds: {', '.join(times_of)}. Beside the fastest other library \
-that does the same work, `digits` is
-
-- **faster** where a number is a whole text, or one of JSON: for {len(below)} of {len(found)} data sets, in {min(below):.2f} to \
-{max(below):.2f} of its time; for the others it takes up to {max(above, default=1):.2f}
-- **about as fast** where you also need the number's end (up to {most(ratios(side=READ))} times as long), and for whole texts \
-from C++ (up to {most(ratios(side=f"{LIBRARY}, from C"))})
-- **slower** where you write integers of up to 4 digits ({times('u64, 3 digits', 'u64, 1 to 4')} times), most floats that are no \
-prices or coordinates (up to {shortest}), or like `%.6e` ({worst} to {times('%.6e').split()[-1]}). Like `%.2f` prices take \
-{times('%.2f, prices', '%.2f, 3 digits')}, and huge numbers {times('%.2f, in [0, 1e22)')}
+Where a number is a whole text, or one of JSON, `digits` is the fastest of the measured libraries for {len(below)} of \
+{len(found)} data sets: it takes {min(below):.2f} to {max(below):.2f} of the time of the next one, and for the others up to \
+{max(above, default=1):.2f}. With most other calls you may lose: up to {most(ratios(side=READ))} times where you also need the \
+number's end, {most(ratios(side=f"{LIBRARY}, from C"))} from C++, {times('u64, 3 digits', 'u64, 1 to 4').split()[-1]} where \
+you write integers, {shortest} where you write floats, and {times("%.2f, in [0, 1e22)")} and far more by `%.2f` of huge numbers and by `%.6e` \
+([all losses](docs/SPEED.md#where-you-lose)). On one core of a Xeon a call from Rattle takes these nanoseconds: \
+{', '.join(times_of)}.
 
 ![Whole texts, and numbers whose end is needed, by what is read](docs/times.svg)
 
-The other libraries are fast_float 3.9 (C++), simdjson 3.0, lexical-core 0.7, serde_json 1.0, itoa and ryu, all as Debian 12 \
-has them; std of Rust 1.95; and `from_chars` and `to_chars` of g++ 12. Newer versions, and the Rust crate fast-float, weren't \
-measured. [SPEED.md](docs/SPEED.md) has each kind of input, and says how to call so that it is fast."""
+Measured were fast_float 3.9 (C++), simdjson 3.0, lexical-core 0.7, serde_json 1.0, itoa and ryu, all as Debian 12 has them; \
+std of Rust 1.95; and `from_chars` and `to_chars` of g++ 12: no newer versions, and not the Rust crate fast-float. \
+[SPEED.md](docs/SPEED.md) has each kind of input, and says how to call so that it is fast."""
 
 
 # What others write faster: how the page calls it, how the rows begin, and those of which it gains.

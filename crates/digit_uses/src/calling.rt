@@ -196,6 +196,20 @@ pub fn parse_entry(line: &[u8]) -> Result<Entry, usize> {
     })
 }
 
+/// Prints where the lines of standard input are no entries. The first line is a header.
+pub fn check_entries(rt: HostRuntime) -> std::io::Result<()> {
+    for (line, number) in rt.lines(rt.alloc()).zip(1usize..) {
+        let line = line?;
+        if number == 1 {
+            continue;
+        }
+        if let Err(at) = parse_entry(line.as_bytes()) {
+            println!(rt; "line {number}, byte {at}")?;
+        }
+    }
+    Ok(())
+}
+
 ghost use Rattle.std.specs.Prelude.{IfOk, length, ◌≤◌};
 
 /// Reads a line into the front of `row`, and returns how many numbers it has, or the first fault:
@@ -293,6 +307,28 @@ pub fn print_sum(rt: HostRuntime, path: &str) -> std::io::Result<()> {
         Ok(sum) => println!(rt; "{sum}"),
         Err(error) => println!(rt; "{path}: {error}"),
     }
+}
+
+use digits::{Both, BothError, both_are_apart};
+
+/// Finds the greatest value of a stream that has a time and a value in each line: `1,2.5\n2,3.5\n`
+/// gives 3.5.
+pub fn greatest_of<R: Read + Drop>(
+    stream: R,
+) -> Result<f64, FoldError<BothError<LiteralError, FloatError>>> {
+    let time = Integers::<u64>::new(STANDARD);
+    let value = Floats::<f64>::new(STANDARD);
+    integers_are_apart::<u64>(STANDARD, LINES);
+    floats_are_apart(STANDARD, LINES);
+    both_are_apart(time, b',', value, LINES);
+    let kind = Both {
+        first: time,
+        between: b',',
+        second: value,
+    };
+    let mut buffer = [0; 4096];
+    let max = |most: f64, line: (u64, f64)| Some(if line.1 > most { line.1 } else { most });
+    fold_stream(stream, &mut buffer, kind, LINES, f64::NEG_INFINITY, max)
 }
 
 use std::alloc::Global;
