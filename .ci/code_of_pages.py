@@ -10,6 +10,8 @@ PAGES = {"README.md": "readme", "CALLING.md": "calling", "docs/OWN.md": "own", "
 # The pages of which each block has all its imports, so that it can be pasted alone. Their file has each
 # import once.
 ALONE = ("CALLING.md", "docs/OWN.md")
+# The traits of which a block calls a method, and names nothing else.
+BY_METHOD = {"BufRead": ".lines("}
 # The crate of whoever pastes them, which here is digit_uses.
 CALLER = "my_parser"
 # The pages whose blocks of these languages are parts of proved files, and the crate that has these.
@@ -61,6 +63,8 @@ def imports_of(rows):
 def has_name(name, rows):
     """Whether lines have a name, or a sign of the logic, apart from their comments."""
     lines = [line.partition("//")[0].replace("..", " ") for _, line in rows]
+    if name in BY_METHOD:
+        return BY_METHOD[name] in "\n".join(lines)
     sign = name.replace("◌", "")
     if sign != name:
         return any(f" {sign} " in it for it in lines if re.match(r"\s*(requires|ensures)\b", it))

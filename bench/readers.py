@@ -75,7 +75,7 @@ can't put it into its caller's loop."""
 def readme():
     """What README.md has between its comments: what you gain, what you lose, a few times, and the
     picture."""
-    found = ratios()
+    found, worst = ratios(), times("%.6e, coordinates", "%.6e, 3 digits").split()[0]
     below, above = ([it for it in found.values() if (it > 1) == is_above] for is_above in (False, True))
     times_of = [f"{slower_run(row, rows()[row])[0]:.1f} for {what}" for row, what in SHOWN.items()]
     shortest = times("f64, random", "f64, in [", "f64, whole", "f64, powers", "f64 with an", "f32, ").split()[-1]
@@ -84,8 +84,8 @@ Where a number is a whole text, or one of JSON, `digits` is the fastest of the m
 {len(found)} data sets: it takes {min(below):.2f} to {max(below):.2f} of the time of the next one, and for the others up to \
 {max(above, default=1):.2f}. With most other calls you may lose: up to {most(ratios(side=READ))} times where you also need the \
 number's end, {most(ratios(side=f"{LIBRARY}, from C"))} from C++, {times('u64, 3 digits', 'u64, 1 to 4').split()[-1]} where \
-you write integers, {shortest} where you write floats, and {times("%.2f, in [0, 1e22)")} and far more by `%.2f` of huge numbers and by `%.6e` \
-([all losses](docs/SPEED.md#where-you-lose)). On one core of a Xeon a call from Rattle takes these nanoseconds: \
+you write integers, {shortest} where you write floats, {times("%.2f, in [0, 1e22)")} with huge \
+numbers by `%.2f`, and {worst} to {times('%.6e').split()[-1]} by `%.6e` ([all losses](docs/SPEED.md#where-you-lose)). On one core of a Xeon a call from Rattle takes these nanoseconds: \
 {', '.join(times_of)}.
 
 ![Whole texts, and numbers whose end is needed, by what is read](docs/times.svg)

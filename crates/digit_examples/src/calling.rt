@@ -1,9 +1,9 @@
 //! What CALLING.md says that its own functions and a stream answer.
 
 use digit_uses::calling::{
-    COMMA_DIGITS, Entry, SEMICOLONS, first_above, greatest_of, has_port, line_and_column,
-    parse_entry, parse_price, position_of, put_price, read_all, read_array, read_rate, sum_array,
-    sum_column, sum_lengths, sum_of, sum_text, write_two_places,
+    COMMA_DIGITS, Entry, SEMICOLONS, check_entries, first_above, greatest_of, has_port,
+    line_and_column, parse_entry, parse_price, position_of, put_price, read_all, read_array,
+    read_rate, sum_array, sum_column, sum_lengths, sum_of, sum_text, write_two_places,
 };
 use digit_uses::own::read_color;
 use digit_uses::proving;
@@ -482,6 +482,13 @@ fn all_numbers(rt: HostRuntime) {
     let fault = StreamError::Trailing(3, Some(LiteralError::Empty(3)));
     let all = read_all(b"1\n2x".as_slice(), rt.alloc());
     assert!(rt; all.is_err_and(|error| error == FoldError::Stream(fault)));
+}
+
+/// Lines that are no text.
+#[test]
+fn lines_of_a_file(rt: HostRuntime) {
+    assert!(rt; check_entries(rt, b"date\n2026-11-30,12.50,-3\n".as_slice()).is_ok());
+    assert!(rt; check_entries(rt, b"date\n\xff\n".as_slice()).is_err());
 }
 
 /// Lines of two numbers.

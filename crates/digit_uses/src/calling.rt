@@ -155,6 +155,7 @@ pub const SEMICOLONS: Gap = Gap {
 };
 
 use digits::{read_exactly, read_optional};
+use std::io::{BufRead, BufReader, Read};
 
 /// A line of a CSV file.
 #[derive(Clone, Copy, Debug, PartialEq, Eq)]
@@ -196,9 +197,10 @@ pub fn parse_entry(line: &[u8]) -> Result<Entry, usize> {
     })
 }
 
-/// Prints where the lines of standard input are no entries. The first line is a header.
-pub fn check_entries(rt: HostRuntime) -> std::io::Result<()> {
-    for (line, number) in rt.lines(rt.alloc()).zip(1usize..) {
+/// Prints where the lines of a stream are no entries. The first line is a header.
+pub fn check_entries<R: Read + Drop>(rt: HostRuntime, stream: R) -> std::io::Result<()> {
+    let lines = BufReader::new(rt.alloc(), stream)?.lines(rt.alloc());
+    for (line, number) in lines.zip(1usize..) {
         let line = line?;
         if number == 1 {
             continue;
@@ -289,7 +291,6 @@ pub fn read_array(
 }
 
 use digits::{FloatError, Floats, LINES, floats_are_apart};
-use std::io::Read;
 
 /// Adds up the floats of a stream that has one float in each line.
 pub fn sum_of<R: Read + Drop>(stream: R) -> Result<f64, FoldError<FloatError>> {
