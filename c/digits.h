@@ -850,7 +850,7 @@ size_t digits_write_i64_of(void *out, size_t room, int64_t value, uint32_t form)
 
 /* Forms: docs/reference/digit_numbers.md. */
 #define DIGITS_FORM_LITERAL 0 /* The simplest form of source code: decimal digits without a sign, with a point or an exponent if they are a float */
-#define DIGITS_FORM_FLOAT 1 /* The simplest form of data: the same with a sign, and every number is a float */
+#define DIGITS_FORM_FLOAT 1 /* The simplest form of data: -1.5e3, +1, 01, .5 and 5., all of them floats */
 #define DIGITS_FORM_RUST 2 /* Rust's source code */
 #define DIGITS_FORM_C89 3 /* C's source code before C99, and C++'s before C++14 */
 #define DIGITS_FORM_C99 4 /* C's source code from C99 up to C18, and Objective-C's */

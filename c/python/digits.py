@@ -82,7 +82,7 @@ EXPONENT_SHORT = 1  # Short: 1.5e0
 
 # Forms: docs/reference/digit_numbers.md.
 FORM_LITERAL = 0  # The simplest form of source code: decimal digits without a sign, with a point or an exponent if they are a float
-FORM_FLOAT = 1  # The simplest form of data: the same with a sign, and every number is a float
+FORM_FLOAT = 1  # The simplest form of data: -1.5e3, +1, 01, .5 and 5., all of them floats
 FORM_RUST = 2  # Rust's source code
 FORM_C89 = 3  # C's source code before C99, and C++'s before C++14
 FORM_C99 = 4  # C's source code from C99 up to C18, and Objective-C's

@@ -101,7 +101,7 @@ pub mod forms {
 
     /// The simplest form of source code: decimal digits without a sign, with a point or an exponent if they are a float.
     pub const LITERAL: Form = Form(0);
-    /// The simplest form of data: the same with a sign, and every number is a float.
+    /// The simplest form of data: -1.5e3, +1, 01, .5 and 5., all of them floats.
     pub const FLOAT: Form = Form(1);
     /// Rust's source code.
     pub const RUST: Form = Form(2);
