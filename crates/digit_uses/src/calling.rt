@@ -69,8 +69,8 @@ pub fn parse_metres(text: &[u8]) -> Result<f64, LengthError> {
 
 use digits::{expect_bytes, read_scaled_from};
 
-/// Reads the rate at the front of a text, in thousandths, and returns where it ends, or the position
-/// of the fault: `rate=12.5%;` gives `(125, 11)`, and in `rate=12.55%;` the fault is at 9.
+/// Reads the rate at the front of a text, in thousandths, and returns where it ends:
+/// `rate=12.5%;` gives `(125, 11)`. The error is the position of the fault: 9 in `rate=12.55%;`.
 pub fn read_rate(text: &[u8]) -> Result<(u32, usize), usize> {
     let at = expect_bytes(text, 0, b"rate=")?;
     let rate = read_scaled_from::<u32>(text, STANDARD, at, b'.', 1);
@@ -224,7 +224,7 @@ pub fn parse_row(line: &[u8], row: &mut [u32]) -> Result<usize, ListError<Litera
 
 use digits::parse_scaled;
 
-/// Adds up the cents of one column, from 0, of a text whose lines are CSV without quotes and without
+/// Adds up the cents of one column, from 0, of a text whose lines are CSV, without quotes or
 /// a header. The error is the number of a line, from 1: `a,1.50\nb,2\n` has 350 in column 1.
 pub fn sum_column(text: &[u8], column: usize) -> Result<i64, usize> {
     let mut sum = 0i64;
