@@ -59,7 +59,7 @@ def counted(it):
 def read_by(it):
     """How many languages, data formats and functions have a form."""
     there = sum(len(it) for it in list(forms().values())[:3])
-    for line, m in it.find("README.md", r"There are \[(\d+) grammars\]"):
+    for line, m in it.find("README.md", r"a whole grammar; \[(\d+)\]"):
         it.compare("README.md", line, "the number of named forms", int(m[1]), there)
 
 

@@ -78,21 +78,18 @@ def readme():
     found, worst = ratios(), times("%.6e, coordinates", "%.6e, 3 digits").split()[0]
     below, above = ([it for it in found.values() if (it > 1) == is_above] for is_above in (False, True))
     times_of = [f"{slower_run(row, rows()[row])[0]:.1f} for {what}" for row, what in SHOWN.items()]
-    shortest = times("f64, random", "f64, in [", "f64, whole", "f64, powers", "f64 with an", "f32, ").split()[-1]
     return f"""\
 Where a number is a whole text, or one of JSON, `digits` is the fastest of the measured libraries for {len(below)} of \
 {len(found)} data sets: it takes {min(below):.2f} to {max(below):.2f} of the time of the next one, and for the others up to \
-{max(above, default=1):.2f}. With most other calls you may lose: up to {most(ratios(side=READ))} times where you also need the \
-number's end, {most(ratios(side=f"{LIBRARY}, from C"))} from C++, {times('u64, 3 digits', 'u64, 1 to 4').split()[-1]} where \
-you write integers, {shortest} where you write floats, {times("%.2f, in [0, 1e22)")} with huge \
-numbers by `%.2f`, and {worst} to {times('%.6e').split()[-1]} by `%.6e` ([all losses](docs/SPEED.md#where-you-lose)). On one core of a Xeon a call from Rattle takes these nanoseconds: \
-{', '.join(times_of)}.
+{max(above, default=1):.2f}. Other calls may take longer than that of the fastest library: up to {most(ratios(side=READ))} \
+times where you also need the number's end, {times('u64, 3 digits', 'u64, 1 to 4').split()[-1]} where you write \
+integers, {times('%.2f, in [0, 1e22)')} where you write floats, and {worst} to {times('%.6e').split()[-1]} by `%.6e` ([all losses](docs/SPEED.md#where-you-lose)). On one \
+core of a Xeon a call from Rattle takes {times_of[0].replace(" for", " nanoseconds for")}, and {times_of[2]}.
 
 ![Whole texts, and numbers whose end is needed, by what is read](docs/times.svg)
 
-Measured were fast_float 3.9 (C++), simdjson 3.0, lexical-core 0.7, serde_json 1.0, itoa and ryu, all as Debian 12 has them; \
-std of Rust 1.95; and `from_chars` and `to_chars` of g++ 12: no newer versions, and not the Rust crate fast-float. \
-[SPEED.md](docs/SPEED.md) has each kind of input, and says how to call so that it is fast."""
+[SPEED.md](docs/SPEED.md) has each kind of input, the libraries and their versions (those of Debian 12), what a call from C \
+costs, and how to call so that it is fast."""
 
 
 # What others write faster: how the page calls it, how the rows begin, and those of which it gains.
