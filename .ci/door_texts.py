@@ -568,7 +568,7 @@ fault ([errors](#errors)). Only `parse_` calls return `Invalid`: a `read_` call 
 the blanks of their gap.
 - A `start` isn't a cut. A call with a word or a language also looks at the byte before `start`, to judge a separator there: in `1_000`, with \
 `PYTHON_LITERAL`, `_000` from 1 on is 0. To read as if the text began there, pass `&text[start..]`, and add `start` to the positions.
-- A call of which [you prove](#what-you-prove) the conditions never panics, and no call allocates.
+- A call never panics if [you prove](#what-you-prove) its conditions, and no call allocates.
 
 **Entries**
 

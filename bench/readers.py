@@ -3,9 +3,6 @@ from cases import table
 from peers import LIBRARY, READ, Figures, lacks, slower_run
 from written import times
 
-# The rows of which README.md has the time, by what it calls them.
-SHOWN = {"u64, 1 to 4 digits": "a `u64` of 1 to 4 digits at random", "u64, 8 digits": "one of 8 digits",
-         "f64, coordinates": "a coordinate as an `f64`", "JSON, mixed": "a number of JSON"}
 # The readers that don't say where a number ends.
 WITHOUT_END = ("std", "lexical-core", "serde_json", "minimal-lexical")
 
@@ -77,14 +74,22 @@ def readme():
     picture."""
     found, worst = ratios(), times("%.6e, coordinates", "%.6e, 3 digits").split()[0]
     below, above = ([it for it in found.values() if (it > 1) == is_above] for is_above in (False, True))
-    times_of = [f"{slower_run(row, rows()[row])[0]:.1f} for {what}" for row, what in SHOWN.items()]
+    shown = [f"{slower_run(row, rows()[row])[0]:.1f}" for row in ("u64, 1 to 4 digits", "f64, coordinates")]
+    integers = times("u64, 3 digits", "u64, 1 to", "u64, 8", "u64, 16", "u64, 20", "i32")
+    floats = times("f64, ", "f64 with", "f32, ")
     return f"""\
-Where a number is a whole text, or one of JSON, `digits` is the fastest of the measured libraries for {len(below)} of \
-{len(found)} data sets: it takes {min(below):.2f} to {max(below):.2f} of the time of the next one, and for the others up to \
-{max(above, default=1):.2f}. Other calls may take longer than that of the fastest library: up to {most(ratios(side=READ))} \
-times where you also need the number's end, {times('u64, 3 digits', 'u64, 1 to 4').split()[-1]} where you write \
-integers, {times('%.2f, in [0, 1e22)')} where you write floats, and {worst} to {times('%.6e').split()[-1]} by `%.6e` ([all losses](docs/SPEED.md#where-you-lose)). On one \
-core of a Xeon a call from Rattle takes {times_of[0].replace(" for", " nanoseconds for")}, and {times_of[2]}.
+The time of a call from Rattle, divided by that of the fastest other library that does the same work; below 1 you gain:
+
+| What you do | Ratio |
+|---|---|
+| read a whole text, or a number of JSON | {min(below):.2f} to {max(below):.2f} for {len(below)} of {len(found)} data sets, otherwise up to {max(above, default=1):.2f} |
+| read a number, and need its end | {span("", READ)} |
+| write an integer | {integers} |
+| write a float with the fewest digits | {floats} |
+| write a float like `%.2f` | prices {times('%.2f, prices', '%.2f, 3 digits')}, huge numbers {times('%.2f, in [0, 1e22)')} |
+| write a float like `%.6e` | {worst} to {times('%.6e').split()[-1]} |
+
+On one core of a Xeon a `u64` of 1 to 4 digits at random takes {shown[0]} nanoseconds, and a coordinate as an `f64` {shown[1]}.
 
 ![Whole texts, and numbers whose end is needed, by what is read](docs/times.svg)
 
