@@ -16,7 +16,7 @@ use Rattle.lexical_format.specs.Digits as words
 use Rattle.lexical_digits.specs.declared.skip.rule.Rule.{Rule}
 use Rattle.lexical_digits.specs.Separators.{is_digit}
 use Rattle.digit_literals.specs.declared.list.Gap.{Gap}
-use Rattle.digit_literals.specs.Ends.{is_decimal, AreOthers}
+use Rattle.digit_literals.specs.Ends.{is_decimal, AreOthers, EachIsMarked}
 use Rattle.digit_words.specs.Eight.{AreDecimal}
 use Rattle.digit_integers.specs.Integers.{integer_at}
 use Rattle.digit_literals.specs.Lists.{is_blank, past_blanks}
@@ -87,9 +87,15 @@ module _ (text : List ℕ) (at : ℕ) (room : at + 88 ≤ length text)
         digit_if _ (sym (bit_is i (omega (arith, l, within j set))) ∙ clear);
   }
 
-  pub mask_is : AreOthers text at
-      (mask_l (map (top 7) (zip2 (λ a b. cond (leb a b) 255 0) (replicate 64 10)
-      (zip2 (λ a b. (a + (256 - b)) % 256) lanes (replicate 64 48)))) % 2 ^ 64)
+  each_is : EachIsMarked text at 64 bits
+  each_is i l clear = digit_if _ (sym (bit_is i l) ∙ clear)
+
+  -- the word that the code makes
+  abbrev pub mask : ℕ
+  mask = mask_l (map (top 7) (zip2 (λ a b. cond (leb a b) 255 0) (replicate 64 10)
+      (zip2 (λ a b. (a + (256 - b)) % 256) lanes (replicate 64 48)))) % 2 ^ 64
+
+  pub mask_is : AreOthers text at mask × EachIsMarked text at 64 mask
   mask_is =
       let less = zip2_splat (λ (a b : ℕ). (a + (256 - b)) % 256) lanes 64 48 long in
       let compared =
@@ -98,19 +104,19 @@ module _ (text : List ℕ) (at : ℕ) (room : at + 88 ≤ length text)
       let all =
       ap (λ l. mask_l l % 2 ^ 64) (ap (map (top 7)) compared ∙ map-map (top 7) lane lanes)
       ∙ mask_l-mod (map is_other lanes) 64 (omega (arith, length-map lanes is_other, long)) in
-      rw all others_are
+      rw all (others_are, each_is)
 
 -- ---- after some bytes
 
-module _ (text : List ℕ) (at count others : ℕ) (are : AreOthers text at others) where
+module _ (text : List ℕ) (at count others : ℕ) where
   shifted : (i : ℕ) → bit_at (others / 2 ^ count) i ≡ bit_at others (count + i)
   shifted i = ap (λ n. n % 2) (shr-shr others count i)
 
   there : (i : ℕ) → at + (count + i) ≡ at + count + i
   there i = omega arith
 
-  pub passed_on : AreOthers text (at + count) (others / 2 ^ count)
-  passed_on = record {
+  pub passed_on : AreOthers text at others → AreOthers text (at + count) (others / 2 ^ count)
+  passed_on are = record {
     room = λ i set. omega (arith, are.room (count + i) (sym (shifted i) ∙ set));
     marked = λ i set.
         sym (ap (λ k. is_decimal (slice_index text k)) (there i))
@@ -120,6 +126,17 @@ module _ (text : List ℕ) (at count others : ℕ) (are : AreOthers text at othe
         ∙ are.digits (count + i) (count + j) (omega (arith, l)) (sym (shifted j) ∙ set)
         (sym (shifted i) ∙ clear);
   }
+
+  pub passed_each : (left : ℕ) → EachIsMarked text at (count + left) others
+      → EachIsMarked text (at + count) left (others / 2 ^ count)
+  passed_each left each i l clear =
+      sym (ap (λ k. is_decimal (slice_index text k)) (there i))
+      ∙ each (count + i) (omega (arith, l)) (sym (shifted i) ∙ clear)
+
+  -- none of them is left
+  pub none_left : (left : ℕ) → count + left ≤ 64 → 64 ≤ count
+      → EachIsMarked text (at + count) left 0
+  none_left left room all i l clear = absurd (omega (arith, room, all, l))
 
 -- ---- the first of them
 

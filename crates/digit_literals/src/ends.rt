@@ -8,7 +8,7 @@ ghost use Rattle.lexical_digits.specs.ByteSet.{accepts};
 ghost use Rattle.lexical_digits.specs.Separators.{is_separator};
 ghost use Rattle.lexical_digits.specs.State.{rule_of};
 ghost use Rattle.digit_words.specs.Eight.{IsWritten};
-ghost use Rattle.digit_literals.specs.Ends.{AreByEnds, AreOthers, IsPlaceAfter, IsOverAfter};
+ghost use Rattle.digit_literals.specs.Ends.{AreByEnds, AreOthers, EachIsMarked, IsPlaceAfter, IsOverAfter};
 ghost use Rattle.digit_values.specs.Errors.{literal_none_at};
 ghost use Rattle.digit_integers.specs.Integers.{integer_at};
 ghost use Rattle.digit_literals.specs.Lists.{SoFar, Fills, IfFull, IfOver, is_blank, list_at, next_after, past_blanks};
@@ -26,7 +26,8 @@ use std::simd::prelude::*;
 #[inline(always)]
 fn others_from(text: &[u8], at: usize) -> u64
     requires { at ≤ length text.now }
-    ensures { AreOthers text.now at result }
+    ensures others { AreOthers text.now at result }
+    ensures each { at + 88 ≤ length text.now → EachIsMarked text.now at 64 result }
 {
     if text.len() - at < BLOCK + WORDS {
         return 0;

@@ -1,7 +1,7 @@
 //! Which bytes of a text are no decimal digits, 64 at once. It is public only for `digit_totals`.
 
 ghost use Rattle.std.specs.Prelude.{ℕ, List, ◌+◌, ◌≤◌, length};
-ghost use Rattle.digit_literals.specs.Ends.{AreOthers};
+ghost use Rattle.digit_literals.specs.Ends.{AreOthers, EachIsMarked};
 
 use std::simd::prelude::*;
 
@@ -15,17 +15,22 @@ pub const WORDS: usize = 24;
 #[inline(always)]
 pub fn others_at(text: &[u8], at: usize) -> u64
     requires { at + 88 ≤ length text.now }
-    ensures { AreOthers text.now at result }
+    ensures others { AreOthers text.now at result }
+    ensures each { EachIsMarked text.now at 64 result }
 {
     let digits = u8x64::from_slice(&text[at..]) - u8x64::splat(b'0');
     digits.simd_ge(u8x64::splat(10)).to_bitmask()
 }
 
-/// Which bytes are no digits, after so many bytes.
+/// Which bytes are no digits, after so many bytes. What is known of the bytes behind these stays
+/// known.
 #[inline(always)]
 pub fn pass(others: u64, count: usize) -> u64
-    ensures { (text : List ℕ) (at : ℕ) → AreOthers text at others
+    ensures others { (text : List ℕ) (at : ℕ) → AreOthers text at others
         → AreOthers text (at + count) result }
+    ensures each { (text : List ℕ) (at left : ℕ) → count + left ≤ 64
+        → EachIsMarked text at (count + left) others
+        → EachIsMarked text (at + count) left result }
 {
     if count < BLOCK { others >> count } else { 0 }
 }

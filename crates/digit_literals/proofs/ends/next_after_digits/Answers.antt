@@ -13,7 +13,7 @@ returns-then-accepts-clause-place c =
     grind (arith, gets, c.requires.within, c.if-accepts.true, c.if-accepts.ensures) in
     let none = separator_is_no_blank c.args.gap text (begin + count) there in
     let same : begin + (count + 1) ≡ begin + count + 1 = omega arith in
-    let passed = rw same at (c.pass.ensures text begin c.requires.others) in
+    let passed = rw same at (c.pass.ensures.others text begin c.requires.others) in
     record {
       is = rw (none, there) refl;
       onward = omega arith;
@@ -27,7 +27,7 @@ returns-in-Ok-clause-place c =
     let at = c.in-Ok.at in
     let onward = c.in-Ok.ensures.onward in
     let there : begin + (at - begin) ≡ at = omega (arith, onward) in
-    let passed = rw there at (c.pass-in-Ok.ensures c.args.text.now begin c.requires.others) in
+    let passed = rw there at (c.pass-in-Ok.ensures.others c.args.text.now begin c.requires.others) in
     record {
       is = sym c.in-Ok.ensures.is;
       onward = onward;

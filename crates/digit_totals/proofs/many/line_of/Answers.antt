@@ -47,4 +47,4 @@ returns-in-Some-clause-others c =
     let begin = c.args.head.begin in
     let next = c.in-Some.next in
     let there : begin + (next - begin) ≡ next = omega (arith, c.in-Some.ensures.onward) in
-    rw there at (c.pass.ensures c.args.text.now begin c.requires.others)
+    rw there at (c.pass.ensures.others c.args.text.now begin c.requires.others)
