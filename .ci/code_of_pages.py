@@ -6,10 +6,11 @@ from sources import DOOR, files_below, read
 
 USES = "crates/digit_uses"
 # The pages, and the module of digit_uses that the blocks of each are.
-PAGES = {"README.md": "readme", "CALLING.md": "calling", "docs/OWN.md": "own", "docs/PROVING.md": "proving"}
+PAGES = {"README.md": "readme", "CALLING.md": "calling", "docs/FILES.md": "files",
+         "docs/WRITING.md": "writing", "docs/OWN.md": "own", "docs/PROVING.md": "proving"}
 # The pages of which each block has all its imports, so that it can be pasted alone. Their file has each
 # import once.
-ALONE = ("CALLING.md", "docs/OWN.md")
+ALONE = ("CALLING.md", "docs/FILES.md", "docs/WRITING.md", "docs/OWN.md")
 # The traits of which a block calls a method, and names nothing else.
 BY_METHOD = {"BufRead": ".lines("}
 # The crate of whoever pastes them, which here is digit_uses.

@@ -224,7 +224,7 @@ GROUPS = {
         so many numbers.
         - The bound `R: Drop` lets a call drop the reader at its end.
         - With `LINES` an empty line is an error. [Gaps](#gaps) says how to skip empty lines.
-        - The errors of streams have no `position()`: match them, as [`position_of`](../../CALLING.md#an-array-of-any-length)
+        - The errors of streams have no `position()`: match them, as [`position_of`](../FILES.md#an-array-of-any-length)
         does. A position in the stream is a `u64`; the error of a number, inside of `Number` and `Trailing`, holds a `usize`.""", """
         fold_stream NumberReader is_apart StreamRead StreamEnd FoldError EnclosedFoldError StreamError"""),
     "Pieces and blocks": ("""
@@ -416,7 +416,7 @@ NOTES = {
     "NumberReader::finish": """
         After `fold_enclosed` and `pass_byte` the blanks that follow do count. If a line feed is a blank of the
         gap, `pass_byte(b'\\n')` passes them first ([an array of any
-        length](../../CALLING.md#an-array-of-any-length)).""",
+        length](../FILES.md#an-array-of-any-length)).""",
     "NumberReader::fold_numbers": """
         After `Stopped` the value is lost. Its position isn't that of the number at which `step` returned `None`: it is
         after that number and its separator, where the next call continues.""",
@@ -579,7 +579,7 @@ the [names]({WORDS}.md) in it have pages of their own.
 - Types derive `Copy`, `Debug`, `PartialEq` and `Eq`, and errors have `Display` and `Error`, unless their \
 entry says otherwise.
 
-[CALLING.md](../../CALLING.md) has whole functions.
+[CALLING.md](../../CALLING.md), [FILES.md](../FILES.md) and [WRITING.md](../WRITING.md) have whole functions.
 """
 
 # The heading of the list of all names.

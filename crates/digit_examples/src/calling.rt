@@ -1,13 +1,17 @@
-//! What CALLING.md says that its own functions and a stream answer.
+//! What the pages for callers say that their own functions and a stream answer.
 
 use digit_uses::calling::{
-    COMMA_DIGITS, Entry, SEMICOLONS, check_entries, first_above, greatest_of, has_port,
-    line_and_column, parse_entry, parse_price, position_of, put_price, read_all, read_array,
-    read_rate, sum_array, sum_column, sum_lengths, sum_of, sum_text, write_two_places,
+    COMMA_DIGITS, SEMICOLONS, has_port, line_and_column, parse_cents, parse_price, read_array,
+    read_rate, sum_lengths,
+};
+use digit_uses::files::{
+    Entry, check_entries, first_above, greatest_of, parse_entry, position_of, read_all, sum_array,
+    sum_column, sum_of, sum_text,
 };
 use digit_uses::own::read_color;
 use digit_uses::proving;
 use digit_uses::sums::sum_list;
+use digit_uses::writing::{put_price, write_two_places};
 use digits::languages::RUST;
 use digits::words::PYTHON_LITERAL;
 use digits::{
@@ -519,4 +523,13 @@ fn a_fault_of_an_array(rt: HostRuntime) {
     assert!(rt; sum_array(b"[1, x]".as_slice()).map_err(position_of) == Err(Some(4)));
     assert!(rt; sum_array(b"1".as_slice()).map_err(position_of) == Err(Some(0)));
     assert!(rt; sum_array(b"[1] x".as_slice()).map_err(position_of) == Err(Some(4)));
+}
+
+/// An amount that is a number of JSON.
+#[test]
+fn cents_of_json(rt: HostRuntime) {
+    assert!(rt; parse_cents(b"12.5") == Some(1250) && parse_cents(b"-0.05") == Some(-5));
+    for text in ["1e2", "12.505", ".5", "5.", "+1", "012", "1,5", ""] {
+        assert!(rt; parse_cents(text.as_bytes()) == None, "{text}");
+    }
 }

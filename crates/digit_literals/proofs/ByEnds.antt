@@ -88,7 +88,9 @@ module _ (text : List ℕ) (at : ℕ) (room : at + 88 ≤ length text)
   }
 
   each_is : EachIsMarked text at 64 bits
-  each_is i l clear = digit_if _ (sym (bit_is i l) ∙ clear)
+  each_is = record {
+    digits = λ i l clear. digit_if _ (sym (bit_is i l) ∙ clear);
+  }
 
   -- the word that the code makes
   abbrev pub mask : ℕ
@@ -129,14 +131,18 @@ module _ (text : List ℕ) (at count others : ℕ) where
 
   pub passed_each : (left : ℕ) → EachIsMarked text at (count + left) others
       → EachIsMarked text (at + count) left (others / 2 ^ count)
-  passed_each left each i l clear =
-      sym (ap (λ k. is_decimal (slice_index text k)) (there i))
-      ∙ each (count + i) (omega (arith, l)) (sym (shifted i) ∙ clear)
+  passed_each left each = record {
+    digits = λ i l clear.
+        sym (ap (λ k. is_decimal (slice_index text k)) (there i))
+        ∙ each.digits (count + i) (omega (arith, l)) (sym (shifted i) ∙ clear);
+  }
 
   -- none of them is left
   pub none_left : (left : ℕ) → count + left ≤ 64 → 64 ≤ count
       → EachIsMarked text (at + count) left 0
-  none_left left room all i l clear = absurd (omega (arith, room, all, l))
+  none_left left room all = record {
+    digits = λ i l clear. absurd (omega (arith, room, all, l));
+  }
 
 -- ---- the first of them
 

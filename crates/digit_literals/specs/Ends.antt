@@ -23,10 +23,10 @@ module _ (text : List ℕ) (at : ℕ) where
     pub digits : (i j : ℕ) → i < j → bit_at others j ≡ 1 → bit_at others i ≡ 0
         → is_decimal (slice_index text (at + i)) ≡ true
 
-  -- of so many bytes each that isn't marked is a digit
-  pub EachIsMarked : ℕ → ℕ → Type 0
-  EachIsMarked count others = (i : ℕ) → i < count → bit_at others i ≡ 0
-      → is_decimal (slice_index text (at + i)) ≡ true
+  -- Of so many bytes each one that isn't marked is a digit.
+  pub record EachIsMarked (count others : ℕ) : Type 0 where
+    pub digits : (i : ℕ) → i < count → bit_at others i ≡ 0
+        → is_decimal (slice_index text (at + i)) ≡ true
 
 -- after a number that ends here the next one may be at a place, or the list is over
 module _ (gap : Gap) (text : List ℕ) (end : ℕ) where

@@ -13,8 +13,8 @@ pub fn parse_count(text: &[u8]) -> Result<u64, ParseError> {
     parse_number::<u64>(text, POINT_DIGITS)
 }
 
-ghost use Rattle.digits.specs.Words.{is_supported};
 ghost use Rattle.std.specs.Prelude.{IfSome, IsTrue};
+ghost use Rattle.digits.specs.Words.{is_supported};
 
 use digits::{DECIMAL, DigitSeparatorFlags, NO_FLAGS, NumberFormatBuilder, is_supported};
 

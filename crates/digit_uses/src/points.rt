@@ -1,4 +1,4 @@
-//! Points, as `12:-5`, one in each line: a list of values of one's own, as CALLING.md says.
+//! Points, as `12:-5`, one in each line: a list of values of one's own, as OWN.md says.
 //!
 //! Proof by hand: none.
 #![tactic(auto, unfolding(digits::proofs::Literals::lexical_on_literals))]

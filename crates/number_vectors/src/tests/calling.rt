@@ -1,4 +1,4 @@
-//! The functions of the page CALLING.md that read a number, a token of JSON, a row of CSV
+//! The functions of the pages for callers that read a number, a token of JSON, a row of CSV
 //! and a float with a comma, and write a number. The expected values are worked out by hand.
 
 use digit_amounts::ScaledError;
@@ -10,11 +10,13 @@ use digit_literals::{
 };
 use digit_numbers::{Number, NumberError, forms, read_number_of};
 use digit_uses::calling::{
-    LengthError, SizeError, parse_amount, parse_height, parse_id, parse_metres, parse_row,
-    parse_trimmed, read_mask, read_ports, read_size, read_token, write_grouped,
+    LengthError, SizeError, parse_amount, parse_height, parse_id, parse_metres, parse_trimmed,
+    read_mask, read_ports, read_size, read_token,
 };
+use digit_uses::files::parse_row;
 use digit_uses::money::cents_of_field;
 use digit_uses::own::{parse_comma_float, parse_count};
+use digit_uses::writing::write_grouped;
 use lexical_format::STANDARD;
 use lexical_format::words::PYTHON_LITERAL;
 

@@ -27,7 +27,8 @@ returns-in-Ok-clause-place c =
     let at = c.in-Ok.at in
     let onward = c.in-Ok.ensures.onward in
     let there : begin + (at - begin) ≡ at = omega (arith, onward) in
-    let passed = rw there at (c.pass-in-Ok.ensures.others c.args.text.now begin c.requires.others) in
+    let others = c.pass-in-Ok.ensures.others c.args.text.now begin c.requires.others in
+    let passed = rw there at others in
     record {
       is = sym c.in-Ok.ensures.is;
       onward = onward;

@@ -9,3 +9,8 @@ returns-then-count-lt-BLOCK-clause-others c = λ text at are.
 pub returns-then-count-lt-BLOCK-clause-each : goal.returns-then-count-lt-BLOCK-clause-each
 returns-then-count-lt-BLOCK-clause-each c = λ text at left _ each.
     passed_each text at c.args.count c.args.others left each
+
+pub returns-else-count-lt-BLOCK-clause-each : goal.returns-else-count-lt-BLOCK-clause-each
+returns-else-count-lt-BLOCK-clause-each c = λ text at left room _.
+    let none = c.if-count-lt-BLOCK.false in
+    none_left text at c.args.count c.args.others left room (omega (arith, none))

@@ -1,0 +1,51 @@
+//! The blocks of the page WRITING.md, in its order. `.ci/pages` compares the two.
+#![tactic(auto, unfolding(digits::proofs::Literals::lexical_on_literals))]
+
+use digits::{FloatLayout, MOST_ROOM, write_float, write_number, write_price};
+
+/// Each call returns how many bytes its text has.
+pub fn first_texts() {
+    let mut out = [0; MOST_ROOM];
+    let height = write_number(-128i8, &mut out); // 4: `&out[..4]` is `-128`
+    let rate = write_float(0.1, FloatLayout::Usual, &mut out); // Ok(3): `0.1`
+    let price = write_price(123450i64, b'.', 2, b',', &mut out); // Ok(8): `1,234.50`
+}
+
+use digits::write_fixed;
+
+/// Writes a float with two decimal places: 2.5 gives `2.50`, and -0.001 `-0.00`. `None`: `x` is
+/// infinite or NaN, or `out` is too short.
+pub fn write_two_places(x: f64, out: &mut [u8]) -> Option<usize> {
+    if !x.is_finite() {
+        return None;
+    }
+    write_fixed(x, 2, out).ok()
+}
+
+use std::io::Write;
+
+/// Writes a number and a line feed.
+pub fn put_line<W: Write>(number: i64, to: &mut W) -> std::io::Result<()> {
+    let mut out = [0; MOST_ROOM];
+    let end = write_number(number, &mut out);
+    to.write_all(&out[..end])?;
+    to.write_all(b"\n")
+}
+
+/// Writes cents as a price, at the right end of a column of 12 bytes.
+pub fn put_price<W: Write>(cents: i64, to: &mut W) -> std::io::Result<()> {
+    let mut out = [b' '; 38];
+    // 26 bytes are enough for every `i64` with two places, so this is never an error
+    let count = write_price(cents, b'.', 2, b',', &mut out[12..]).unwrap_or(26);
+    to.write_all(&out[count.min(12)..12 + count])
+}
+
+use digits::{Layout, NoRoom, write_number_by};
+
+/// Writes a number with `,` between groups of three digits: `-1,234,567`.
+pub fn write_grouped(number: i64, out: &mut [u8]) -> Result<usize, NoRoom> {
+    let Some(layout) = Layout::decimal().grouped(b',', 3) else {
+        unreachable!()
+    };
+    write_number_by(number, layout, out)
+}
