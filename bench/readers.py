@@ -77,24 +77,18 @@ def readme():
     shown = [f"{slower_run(row, rows()[row])[0]:.1f}" for row in ("u64, 1 to 4 digits", "f64, coordinates")]
     integers = times("u64, 3 digits", "u64, 1 to", "u64, 8", "u64, 16", "u64, 20", "i32")
     floats = times("f64, ", "f64 with", "f32, ")
+    rest = " and ".join(f"{it:.2f}" for it in sorted(above))
     return f"""\
-The time of a call from Rattle, divided by that of the fastest other library that does the same work; below 1 you gain:
-
-| What you do | Ratio |
-|---|---|
-| read a whole text, or a number of JSON | {min(below):.2f} to {max(below):.2f} for {len(below)} of {len(found)} data sets, otherwise up to {max(above, default=1):.2f} |
-| read a number, and need its end | {span("", READ)} |
-| write an integer | {integers} |
-| write a float with the fewest digits | {floats} |
-| write a float like `%.2f` | prices {times('%.2f, prices', '%.2f, 3 digits')}, huge numbers {times('%.2f, in [0, 1e22)')} |
-| write a float like `%.6e` | {worst} to {times('%.6e').split()[-1]} |
-
-On one core of a Xeon a `u64` of 1 to 4 digits at random takes {shown[0]} nanoseconds, and a coordinate as an `f64` {shown[1]}.
-
 ![Whole texts, and numbers whose end is needed, by what is read](docs/times.svg)
 
-[SPEED.md](docs/SPEED.md) has each kind of input, the libraries and their versions (those of Debian 12), what a call from C \
-costs, and how to call so that it is fast."""
+Beside the fastest other library that does the same work, a call from Rattle that reads a whole text, or a number of JSON, \
+takes {min(below):.2f} to {max(below):.2f} times as long for {len(below)} of {len(found)} kinds of numbers, and {rest} times for the others. \
+You lose most when you write: an integer takes {integers} times as long, a float with the fewest digits {floats}, \
+and one like `%.6e` {worst} to {times('%.6e').split()[-1]}. \
+On one core of a Xeon a `u64` of 1 to 4 digits at random takes {shown[0]} nanoseconds, and a coordinate as an `f64` {shown[1]}.
+
+[SPEED.md](docs/SPEED.md) has each kind of input, the libraries and their versions, what a call from C costs, and how to \
+call so that it is fast."""
 
 
 # What others write faster: how the page calls it, how the rows begin, and those of which it gains.
