@@ -70,22 +70,19 @@ can't put it into its caller's loop."""
 
 
 def readme():
-    """What README.md has between its comments: what you gain, what you lose, a few times, and the
-    picture."""
+    """What README.md has between its comments: the picture, what you gain, and what you lose."""
     found, worst = ratios(), times("%.6e, coordinates", "%.6e, 3 digits").split()[0]
     below, above = ([it for it in found.values() if (it > 1) == is_above] for is_above in (False, True))
-    shown = [f"{slower_run(row, rows()[row])[0]:.1f}" for row in ("u64, 1 to 4 digits", "f64, coordinates")]
     integers = times("u64, 3 digits", "u64, 1 to", "u64, 8", "u64, 16", "u64, 20", "i32")
     floats = times("f64, ", "f64 with", "f32, ")
     rest = " and ".join(f"{it:.2f}" for it in sorted(above))
     return f"""\
 ![Whole texts, and numbers whose end is needed, by what is read](docs/times.svg)
 
-Beside the fastest other library that does the same work, a call from Rattle that reads a whole text, or a number of JSON, \
-takes {min(below):.2f} to {max(below):.2f} times as long for {len(below)} of {len(found)} kinds of numbers, and {rest} times for the others. \
-You lose most when you write: an integer takes {integers} times as long, a float with the fewest digits {floats}, \
-and one like `%.6e` {worst} to {times('%.6e').split()[-1]}. \
-On one core of a Xeon a `u64` of 1 to 4 digits at random takes {shown[0]} nanoseconds, and a coordinate as an `f64` {shown[1]}.
+To read a whole text, or a number of JSON, takes {min(below):.2f} to {max(below):.2f} of the time of the fastest other library that does \
+the same work, for {len(below)} of {len(found)} kinds of numbers; for the others, {rest}. \
+To write an integer takes {integers} of it, and to write a float with the fewest digits {floats}. \
+You lose most with `%.6e`: a price takes {worst} times as long, and a float of any size {times('%.6e').split()[-1]} times.
 
 [SPEED.md](docs/SPEED.md) has each kind of input, the libraries and their versions, what a call from C costs, and how to \
 call so that it is fast."""

@@ -1,12 +1,12 @@
 //! What the pages for callers say that their own functions and a stream answer.
 
 use digit_uses::calling::{
-    COMMA_DIGITS, SEMICOLONS, has_port, line_and_column, parse_cents, parse_price, read_array,
-    read_rate, sum_lengths,
+    COMMA_DIGITS, Field, SEMICOLONS, field_of, has_port, line_and_column, parse_price,
+    parse_timeout, read_array, read_byte, read_cents, read_rate, sum_lengths,
 };
 use digit_uses::files::{
-    Entry, check_entries, first_above, greatest_of, parse_entry, position_of, read_all, sum_array,
-    sum_column, sum_of, sum_text,
+    Entry, cents_of, check_entries, first_above, greatest_of, parse_entry, position_of,
+    print_column, read_all, sum_array, sum_column, sum_of, sum_text,
 };
 use digit_uses::own::read_color;
 use digit_uses::proving;
@@ -22,6 +22,7 @@ use digits::{
     read_float, read_grouped_from, read_literal_as, read_number, read_number_of, read_price_from,
     read_scaled_from,
 };
+use std::io::{BufRead, BufReader};
 
 /// A line with fields of several kinds.
 #[test]
@@ -528,8 +529,66 @@ fn a_fault_of_an_array(rt: HostRuntime) {
 /// An amount that is a number of JSON.
 #[test]
 fn cents_of_json(rt: HostRuntime) {
-    assert!(rt; parse_cents(b"12.5") == Some(1250) && parse_cents(b"-0.05") == Some(-5));
-    for text in ["1e2", "12.505", ".5", "5.", "+1", "012", "1,5", ""] {
-        assert!(rt; parse_cents(text.as_bytes()) == None, "{text}");
+    assert!(rt; read_cents(b"12.5,", 0) == Some((1250, 4)));
+    assert!(rt; read_cents(b"[-0.05]", 1) == Some((-5, 6)));
+    assert!(rt; read_cents(b"12.500", 0) == Some((1250, 6)));
+    for text in ["1e2", "12.505", ".5", "5.", "+1", "1_0e", ""] {
+        let expected = if text == "1_0e" { Some((100, 1)) } else { None };
+        assert!(rt; read_cents(text.as_bytes(), 0) == expected, "{text}");
+    }
+}
+
+/// A literal with its suffix.
+#[test]
+fn a_suffix(rt: HostRuntime) {
+    assert!(rt; read_byte(b"0x1F_u8", 0) == Ok((31, 7)));
+    assert!(rt; read_byte(b"1_u16", 0) == Err(2) && read_byte(b"=7;", 1) == Ok((7, 2)));
+    assert!(rt; read_byte(b"256", 0) == Err(2) && read_byte(b"x", 0) == Err(0));
+}
+
+/// A key, a number and a unit.
+#[test]
+fn a_line_with_a_unit(rt: HostRuntime) {
+    assert!(rt; parse_timeout(b"timeout = 250 ms") == Ok(250));
+    assert!(rt; parse_timeout(b" timeout=2s") == Ok(2000));
+    assert!(rt; parse_timeout(b"timeout = 250 h") == Err(14));
+    assert!(rt; parse_timeout(b"timeout = ms") == Err(10));
+    assert!(rt; parse_timeout(b"timeout = 99999999999999999999 s") == Err(29));
+    assert!(rt; parse_timeout(b"timeout = 9999999999999999999 s") == Err(10));
+}
+
+/// What a field has.
+#[test]
+fn a_field(rt: HostRuntime) {
+    let rows: [(&[u8], Field); 7] = [
+        (b"", Field::Empty),
+        (b"x", Field::NoNumber(0)),
+        (b"-1", Field::NoNumber(0)),
+        (b"300", Field::TooLarge(2)),
+        (b"300x", Field::TooLarge(2)),
+        (b"30x", Field::Trailing(2)),
+        (b"255", Field::Value(255)),
+    ];
+    for (text, expected) in rows {
+        assert!(rt; field_of(text) == expected, "{text:?}");
+    }
+}
+
+/// A column of a stream.
+#[test]
+fn a_column_of_a_stream(rt: HostRuntime) {
+    assert!(rt; cents_of(b"a,1.50,x", 1) == Some(150) && cents_of(b"a,1.50,x", 3) == None);
+    assert!(rt; cents_of(b"a, 1.50", 1) == None);
+    assert!(rt; print_column(rt, b"name,price\na,1.50\nb,2\n".as_slice(), 1).is_ok());
+    assert!(rt; print_column(rt, b"name,price\n\xff\n".as_slice(), 1).is_err());
+    assert!(rt; first_line_is(&rt, b"1.50\r\n2\n", b"1.50").is_ok_and(|is| is));
+}
+
+/// Whether std's `lines` gives this line first.
+fn first_line_is(rt: &HostRuntime, stream: &[u8], expected: &[u8]) -> std::io::Result<bool> {
+    let mut lines = BufReader::new(rt.alloc(), stream)?.lines(rt.alloc());
+    match lines.next() {
+        Some(line) => Ok(line?.as_bytes() == expected),
+        None => Ok(false),
     }
 }

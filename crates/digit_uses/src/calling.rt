@@ -67,7 +67,27 @@ pub fn parse_metres(text: &[u8]) -> Result<f64, LengthError> {
     }
 }
 
-use digits::{expect_bytes, read_scaled_from};
+use digits::expect_bytes;
+
+/// Reads a line such as `timeout = 250 ms` as milliseconds, or returns the position of its first
+/// fault: in `timeout = 250 h` that is 14.
+pub fn parse_timeout(line: &[u8]) -> Result<u64, usize> {
+    let at = past_bytes(line, 0, BLANKS);
+    let at = expect_bytes(line, at, b"timeout")?;
+    let at = past_bytes(line, at, BLANKS);
+    let at = expect_byte(line, at, b'=')?;
+    let at = past_bytes(line, at, BLANKS);
+    let number = read_number_from::<u64>(line, STANDARD, at);
+    let (number, end) = number.map_err(|error| error.position())?;
+    let unit = past_bytes(line, end, BLANKS);
+    match &line[unit..] {
+        b"ms" => Ok(number),
+        b"s" => number.checked_mul(1000).ok_or(at),
+        _ => Err(unit),
+    }
+}
+
+use digits::read_scaled_from;
 
 /// Reads the rate at the front of a text, in thousandths, and returns where it ends:
 /// `rate=12.5%;` gives `(125, 11)`. The error is the position of the fault: 9 in `rate=12.55%;`.
@@ -101,6 +121,47 @@ use digits::{LanguageError, read_literal_as};
 /// Reads the Rust literal at the front of a text, and returns where its digits end.
 pub fn read_mask(text: &[u8]) -> Result<(u16, usize), LanguageError> {
     read_literal_as::<u16>(text, 0, RUST)
+}
+
+ghost use Rattle.std.specs.Prelude.{◌≤◌, length};
+
+use digits::name_end;
+
+/// Reads the Rust literal of a `u8` at `start`, with its suffix or without one, and returns where
+/// it ends: `0x1F_u8` gives `(31, 7)`. In `1_u16` the fault is at 2, where the suffix begins.
+pub fn read_byte(text: &[u8], start: usize) -> Result<(u8, usize), usize>
+    requires { start ≤ length text.now }
+{
+    let literal = read_literal_as::<u8>(text, start, RUST);
+    let (value, end) = literal.map_err(|error| error.position())?;
+    let stop = name_end(text, end);
+    match &text[end..stop] {
+        b"" | b"u8" => Ok((value, stop)),
+        _ => Err(end),
+    }
+}
+
+/// What a field has. Each position is that of the fault.
+#[derive(Clone, Copy, Debug, PartialEq, Eq)]
+pub enum Field {
+    Empty,
+    NoNumber(usize),
+    TooLarge(usize),
+    Trailing(usize),
+    Value(u8),
+}
+
+/// Says what a field has: `300` is `TooLarge(2)`, since a `u8` holds 30. `30x` is `Trailing(2)`.
+pub fn field_of(text: &[u8]) -> Field {
+    if text.is_empty() {
+        return Field::Empty;
+    }
+    match read_number::<u8>(text, STANDARD) {
+        Ok((number, end)) if end == text.len() => Field::Value(number),
+        Ok((_, end)) => Field::Trailing(end),
+        Err(LiteralError::Empty(at)) => Field::NoNumber(at),
+        Err(LiteralError::Overflow(at)) => Field::TooLarge(at),
+    }
 }
 
 /// The line and the column of a position, both from 1: in `1\n2x` the `x` at 3 has 2 and 2.
@@ -156,16 +217,17 @@ pub fn parse_id(text: &[u8]) -> Option<i64> {
     number.as_integer::<i64>()
 }
 
-use digits::parse_scaled;
-
-/// Reads a text as a JSON number of up to two places, in cents: `12.5` is 1250. `1e2`, `12.505`
-/// and `.5` give `None`.
-pub fn parse_cents(text: &[u8]) -> Option<i64> {
-    parse_number_of::<f64>(text, forms::JSON).ok()?;
-    parse_scaled::<i64>(text, STANDARD, b'.', 2).ok()
+/// Reads the JSON number at `start` as cents, and returns where it ends: `12.5,` gives
+/// `(1250, 4)`. `1e2`, `12.505` and `.5` give `None`.
+pub fn read_cents(text: &[u8], start: usize) -> Option<(i64, usize)>
+    requires { start ≤ length text.now }
+{
+    let (_, end) = read_number_of::<f64>(text, start, forms::JSON).ok()?;
+    let (cents, at) = read_scaled_from::<i64>(text, STANDARD, start, b'.', 2).ok()?;
+    if at == end { Some((cents, end)) } else { None }
 }
 
-ghost use Rattle.std.specs.Prelude.{◌<◌, ◌≤◌, length, IfOk};
+ghost use Rattle.std.specs.Prelude.{◌<◌, IfOk};
 
 use digits::{Number, byte_at};
 
@@ -221,8 +283,6 @@ pub fn read_percent(line: &[u8], start: usize) -> Result<(u8, usize), PercentErr
         Err(LiteralError::Overflow(at)) => Err(PercentError::Above100(at)),
     }
 }
-
-use digits::name_end;
 
 /// Adds up the lengths of a text, and skips their units: `10px 2.5em` gives 12.5.
 pub fn sum_lengths(text: &[u8]) -> Result<f64, NumberError> {

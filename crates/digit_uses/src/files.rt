@@ -175,7 +175,36 @@ pub fn parse_row(line: &[u8], row: &mut [u32]) -> Result<usize, ListError<Litera
 
 use digits::parse_scaled;
 
-/// Adds up the cents of one column, from 0, of a text whose lines are CSV, without quotes or
+/// The cents in a column, from 0, of a CSV line without quotes: in column 1 of `a,1.50,x` are 150.
+pub fn cents_of(line: &[u8], column: usize) -> Option<i64> {
+    let field = line.split(|byte| *byte == b',').nth(column)?;
+    parse_scaled::<i64>(field, STANDARD, b'.', 2).ok()
+}
+
+/// Prints the sum of a column of a CSV stream whose first line is a header, or the number of the
+/// first line that has no amount there.
+pub fn print_column<R: Read + Drop>(
+    rt: HostRuntime,
+    stream: R,
+    column: usize,
+) -> std::io::Result<()> {
+    let mut sum = 0i64;
+    let lines = BufReader::new(rt.alloc(), stream)?.lines(rt.alloc());
+    for (line, number) in lines.zip(1usize..) {
+        let line = line?;
+        if number == 1 {
+            continue;
+        }
+        let cents = cents_of(line.as_bytes(), column);
+        match cents.and_then(|cents| sum.checked_add(cents)) {
+            Some(next) => sum = next,
+            None => return println!(rt; "line {number} has no amount"),
+        }
+    }
+    println!(rt; "{sum} cents")
+}
+
+/// Adds up the cents of a column, from 0, of a text whose lines are CSV, without quotes or
 /// a header. The error is the number of a line, from 1: `a,1.50\nb,2\n` has 350 in column 1.
 pub fn sum_column(text: &[u8], column: usize) -> Result<i64, usize> {
     let mut sum = 0i64;
@@ -184,9 +213,7 @@ pub fn sum_column(text: &[u8], column: usize) -> Result<i64, usize> {
         if line.is_empty() {
             continue;
         }
-        let mut fields = line.split(|byte| *byte == b',');
-        let field = fields.nth(column).ok_or(number)?;
-        let cents = parse_scaled::<i64>(field, STANDARD, b'.', 2).map_err(|_| number)?;
+        let cents = cents_of(line, column).ok_or(number)?;
         sum = sum.checked_add(cents).ok_or(number)?;
     }
     Ok(sum)

@@ -34,8 +34,8 @@ pub fn put_line<W: Write>(number: i64, to: &mut W) -> std::io::Result<()> {
 
 /// Writes cents as a price, at the right end of a column of 12 bytes.
 pub fn put_price<W: Write>(cents: i64, to: &mut W) -> std::io::Result<()> {
+    // 12 blanks, and 26 bytes: enough for every `i64` with two places, so this is never an error
     let mut out = [b' '; 38];
-    // 26 bytes are enough for every `i64` with two places, so this is never an error
     let count = write_price(cents, b'.', 2, b',', &mut out[12..]).unwrap_or(26);
     to.write_all(&out[count.min(12)..12 + count])
 }
