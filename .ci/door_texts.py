@@ -105,8 +105,8 @@ GROUPS = {
 
         | `end` | It says | What you do |
         |---|---|---|
-        | `Over(at)` | the list ended without a fault, and `at` is the first byte after it and its blanks: in `80, 44x` the `x` | continue at `at`; if nothing may follow, compare `at` with `text.len()`, or call `parse_list` |
-        | `Full(at)` | the slice is full, and the next number may begin at `at` | call again from `at` |
+        | `Over(at)` | the list ended without a fault. `at` is where its last number, blank or separator ends: in `80, 44x` at the `x` | continue at `at`; if nothing may follow, compare `at` with `text.len()`, or call `parse_list` |
+        | `Full(at)` | the slice is full. The next number, or blanks before it, may begin at `at` | call again from `at` |
         | `Fault(error)` | a number is missing where one is required, as after a comma, or one begins and is refused | report it |
 
         `Full` promises only that a separator follows the last number, and not that another number does. With a
@@ -259,8 +259,8 @@ GROUPS = {
         | any finite float by `write_fixed` | 311 + `places` |
         | any finite float by `write_scientific` | 8 + `places` |
         | any number by `write_number_of`, `write_float_of` or `write_integer_of` | 328 |
-        | an amount by `write_scaled` | `places` + 3, or 1 more than `write_number` needs, whichever is more: of an `i64` with 2 places 21 |
-        | a price by `write_price` | those, and one for each three digits before the point: of an `i64` with 2 places 26, of an `i128` 53 |
+        | an amount by `write_scaled` | 1 more than `write_number` needs, but at least `places` + 3: of an `i64` with 2 places 21 |
+        | a price by `write_price` | what `write_scaled` needs, and one for each separator: of an `i64` with 2 places 26, of an `i128` 53 |
         | anything else | as many as the error says |
 
         `write_number` of one type needs these bytes:
@@ -563,11 +563,10 @@ it with `forms::RUST`, which reads floats, too.
 - `parse_` reads up to the end of a text. `read_` reads the number at a position, and also returns where it ends. `write_` \
 writes a number into your slice, and returns its length ([names and arguments](#names-and-arguments)).
 - A text is a `&[u8]`. Positions count its bytes from 0. The error of one number holds the position of its \
-fault ([errors](#errors)). Only `parse_` calls return `Invalid`: a `read_` call for one number leaves what follows it to you.
+fault ([errors](#errors)). What follows a whole number is an error of `parse_` calls only, `Invalid`: a `read_` call ends there.
 - A call for one number skips no blanks: skip them with [`past_bytes`](#past_bytes). Lists and streams skip \
 the blanks of their gap.
-- A `start` isn't a cut. A call with a word or a language also looks at the byte before `start`, to judge a separator there: in `1_000`, with \
-`PYTHON_LITERAL`, `_000` from 1 on is 0. To read as if the text began there, pass `&text[start..]`, and add `start` to the positions.
+- A call with a word or a language also sees the byte before its `start` ([why that matters](../../CALLING.md#surprises)).
 - A call never panics if [you prove](#what-you-prove) its conditions, and no call allocates.
 
 **Entries**
@@ -612,7 +611,7 @@ Component::Fraction, 2)` |
 ## What you prove
 
 `rt check` refuses a call if the prover can't see that the conditions after `// you prove` hold. Nothing tests them \
-at run time: `rt try`, which runs code before any proof, stops at only some of the calls that break one. Usually you \
+at run time: `rt try` runs code that isn't proved, and stops at only some of the calls that break a condition. Usually you \
 don't have to write anything:
 
 - The prover tests a constant word, form, language or kind by itself, with [one \
@@ -650,10 +649,11 @@ What is known only at run time you test first:
 |---|---|
 | `parse_number`, `parse_number_from` | [`ParseError`](#parseerror) |
 | `read_number`, and the others that read an integer | [`LiteralError`](#literalerror) |
-| the calls of floats, and `read_decimal_from` | [`FloatError`](#floaterror) |
+| `parse_float`, `read_float`, the same with `_from`, and `read_decimal_from` | [`FloatError`](#floaterror) |
 | the calls of numbers of a form, and `read_decimal_of` | [`NumberError`](#numbererror) |
 | `read_literal`, `read_literal_as` | [`LanguageError`](#languageerror) |
-| the other calls of amounts | [`ScaledError`](#scalederror); with exact places or groups [`PriceError`](#priceerror) |
+| `parse_scaled`, `read_scaled_from`, `read_scaled_up_to` | [`ScaledError`](#scalederror) |
+| `read_exact_from`, `read_grouped_from`, `read_price_from` | [`PriceError`](#priceerror) |
 | the kinds `Both`; `Enclosed` | [`BothError`](#botherror); [`BracketError`](#bracketerror) |
 | `read_optional` | that of one number of the kind |
 
@@ -686,11 +686,13 @@ Five texts, with `forms::JSON` for `parse_number_of` and `read_number_of`, and `
 | `read_number::<i32>`, `read_float`, `read_number_of` | `Empty(0)` | `Empty(1)` | `Empty(0)` | `Empty(1)` \
 | `Ok`: the number 1 and the position 1 |
 
+Of `3000000000` both calls of an `i32` return `Overflow(9)`: without the digit at 9 the value fits, and with it it doesn't.
+
 What `Empty` says differs by the type of the error:
 
 | Type | `Empty(at)` says |
 |---|---|
-| [`ParseError`](#parseerror) | the text ends at `at`, where a digit is required; if another byte is there, it is `Invalid`. If `?` made it of a `LiteralError`, it says what that says |
+| [`ParseError`](#parseerror) | the text ends at `at`, where a digit is required; if another byte is there, it is `Invalid`. Converted by `?` from a `LiteralError`, it says only that no digit is at `at` |
 | [`LiteralError`](#literalerror), [`LanguageError`](#languageerror) | there is no digit at `at` |
 | [`FloatError`](#floaterror), [`ScaledError`](#scalederror) | there is no digit before `at`, which is after \
 any sign and point: for `.` it is 1 |

@@ -248,6 +248,9 @@ static FAULTS: [Faults; 5] = [
 /// The table of errors, which the reference has, too.
 #[test]
 fn errors_of_one_number(rt: HostRuntime) {
+    assert!(rt; parse_number::<i32>(b"3000000000", STANDARD) == Err(ParseError::Overflow(9)));
+    let read = read_number::<i32>(b"3000000000", STANDARD);
+    assert!(rt; read == Err(LiteralError::Overflow(9)));
     for (text, whole, front, float, of_json) in &FAULTS {
         assert!(rt; parse_number::<i32>(text, STANDARD) == *whole, "{text:?}");
         assert!(rt; read_number::<i32>(text, STANDARD) == *front, "{text:?}");
