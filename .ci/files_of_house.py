@@ -12,8 +12,8 @@ from sources import TOP, crates, files_below, read  # noqa: E402
 
 PAGE = "docs/HOUSE.md"
 # The crates of tests, pages and measures, whose files have the name of what they test, show or time.
-OTHERS = ("digits", "digit_hello", "digit_uses", "digit_examples", "digit_vectors", "number_vectors",
-          "list_vectors", "writer_vectors", "digit_bench", "digit_jobs", "digit_rows", "writer_rows")
+OTHERS = ("digits", "digit_hello", "digit_uses", "digit_examples",
+          "digit_bench", "digit_jobs", "digit_rows", "writer_rows")
 BEGIN, END = "<!-- files: the tables that `.ci/files_of_house.py --write` writes -->", "<!-- end of files -->"
 
 

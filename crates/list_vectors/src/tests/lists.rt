@@ -1,4 +1,4 @@
-//! Tests: worked rows, by hand.
+//! Lists of every kind, a number or none, and prices, one and many, by worked rows.
 
 use digit_amounts::{
     PriceError, ScaledError, read_exact_from, read_grouped_from, read_price_from, wrong_group,

@@ -1,4 +1,4 @@
-//! Rows worked out by hand.
+//! Integers, layouts, amounts and prices that are written, worked out by hand.
 
 use decimal_writers::NoRoom;
 use digit_writers::{Layout, Written, write_number, write_number_by, write_price, write_scaled};

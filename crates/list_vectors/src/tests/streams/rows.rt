@@ -1,4 +1,4 @@
-//! Texts in pieces.
+//! Numbers of a stream that comes in pieces, by worked rows.
 
 use super::readers::{Pieces, Turn};
 use digit_floats::FloatError;
