@@ -69,9 +69,9 @@ def parsers(it):
             for m in re.findall(r"^//! Proof by hand: (none|\d+)", read(path), re.M)]
     lines = sorted(int(m) for m in said if m != "none")
     there = (str(len(lines)), str(len(said)), str(lines[0]), str(lines[-1]))
-    pattern = r"(\d+) of the (\d+) examples in \[digit_uses\]\S* have (\d+) to (\d+) lines"
-    for line, m in it.find("README.md", pattern):
-        it.compare("README.md", line, "the proof by hand of digit_uses", m.groups(), there)
+    page = "crates/digit_uses/README.md"
+    for line, m in it.find(page, r"(\d+) of the (\d+) examples have (\d+) to (\d+) lines"):
+        it.compare(page, line, "the proof by hand of digit_uses", m.groups(), there)
 
 
 def bound(it):
@@ -148,8 +148,8 @@ def by_ends(it):
 
 
 def names(it):
-    """README names a kit, and each crate with a page says the version of CHANGELOG."""
-    it.find("README.md", r"rattle-kit-\w+ logic [0-9a-f]+")
+    """WORKING names a kit, and each crate with a page says the version of CHANGELOG."""
+    it.find("docs/WORKING.md", r"rattle-kit-\w+ logic [0-9a-f]+")
     versions = it.find("CHANGELOG.md", r"^## (\d+\.\d+\.\d+)")
     version = versions[0][1][1] if versions else ""
     for line, m in it.find("c/README.md", r"digits-(\d+\.\d+\.\d+)-x86_64"):

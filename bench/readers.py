@@ -75,14 +75,16 @@ def readme():
     below, above = ([it for it in found.values() if (it > 1) == is_above] for is_above in (False, True))
     integers = times("u64, 3 digits", "u64, 1 to", "u64, 8", "u64, 16", "u64, 20", "i32")
     floats = times("f64, ", "f64 with", "f32, ")
-    rest = " and ".join(f"{it:.2f}" for it in sorted(above))
+    gain, most_gain = (round(100 * (1 - it)) for it in (max(below), min(below)))
+    loss = " and ".join(f"{round(100 * (it - 1))} %" for it in sorted(above)) or "0 %"
     return f"""\
 ![Whole texts, and numbers whose end is needed, by what is read](docs/times.svg)
 
-To read a whole text, or a number of JSON, takes {min(below):.2f} to {max(below):.2f} of the time of the fastest other library that does \
-the same work, for {len(below)} of {len(found)} kinds of numbers; for the others, {rest}. \
-To write an integer takes {integers} of it, and to write a float with the fewest digits {floats}. \
-You lose most with `%.6e`: a price takes {worst} times as long, and a float of any size {times('%.6e').split()[-1]} times.
+- **You gain** when you read whole texts, or numbers of JSON: for {len(below)} of {len(found)} kinds of numbers a call takes {gain} to {most_gain} % \
+less time than that of any other library that does the same work; for the others {loss} more.
+- **You may lose** when you write: an integer takes {integers} times as long as by the fastest other library, and a float with the \
+fewest digits {floats} times.
+- **You lose** with floats like `%.6e`: a price takes {worst} times as long, and floats of random bits {times('%.6e').split()[-1]} times.
 
 [SPEED.md](docs/SPEED.md) has each kind of input, the libraries and their versions, what a call from C costs, and how to \
 call so that it is fast."""

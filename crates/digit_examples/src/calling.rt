@@ -1,17 +1,17 @@
 //! What the pages for callers say that their own functions and a stream answer.
 
 use digit_uses::calling::{
-    COMMA_DIGITS, Field, SEMICOLONS, field_of, has_port, line_and_column, parse_price,
-    parse_timeout, read_array, read_byte, read_cents, read_rate, sum_lengths,
+    COMMA_DIGITS, Field, SEMICOLONS, field_of, has_port, line_and_column, parse_either,
+    parse_price, parse_timeout, read_array, read_byte, read_cents, read_rate, sum_lengths,
 };
 use digit_uses::files::{
     Entry, cents_of, check_entries, first_above, greatest_of, parse_entry, position_of,
-    print_column, read_all, sum_array, sum_column, sum_of, sum_text,
+    print_column, read_all, sum_array, sum_bytes, sum_column, sum_of, sum_text,
 };
 use digit_uses::own::read_color;
 use digit_uses::proving;
 use digit_uses::sums::sum_list;
-use digit_uses::writing::{put_price, write_two_places};
+use digit_uses::writing::{put_price, write_array, write_two_places};
 use digits::languages::RUST;
 use digits::words::PYTHON_LITERAL;
 use digits::{
@@ -594,4 +594,40 @@ fn first_line_is(rt: &HostRuntime, stream: &[u8], expected: &[u8]) -> std::io::R
         Some(line) => Ok(line?.as_bytes() == expected),
         None => Ok(false),
     }
+}
+
+/// Amounts with groups and without them.
+#[test]
+fn either_amount(rt: HostRuntime) {
+    for text in ["1,234.5", "1234.5", "1234.50"] {
+        assert!(rt; parse_either(text.as_bytes()) == Some(123450), "{text}");
+    }
+    for text in ["12,34.5", "1234,5.0", "1234.5x", "1,234.505", ""] {
+        assert!(rt; parse_either(text.as_bytes()) == None, "{text}");
+    }
+}
+
+/// A list in a text.
+#[test]
+fn a_list_within_a_text(rt: HostRuntime) {
+    assert!(rt; sum_bytes(b"x=de,ad;", 2) == Ok((395, 7)));
+    assert!(rt;
+        sum_bytes(b"x=;", 2) == Err(FoldError::Stream(StreamError::Number(LiteralError::Empty(2))))
+    );
+    let fault = LiteralError::Overflow(4);
+    let sum = sum_bytes(b"x=100,1", 2);
+    assert!(rt; sum == Err(FoldError::Stream(StreamError::Number(fault))));
+}
+
+/// An array that is written.
+#[test]
+fn an_array_in_a_slice(rt: HostRuntime) {
+    let mut out = [0; 9];
+    assert!(rt; write_array(&[1.5, 2.0], &mut out) == Some(9));
+    assert_eq!(rt; &out[..], b"[1.5,2.0]".as_slice());
+    assert!(rt; write_array(&[], &mut out) == Some(2));
+    assert_eq!(rt; &out[..2], b"[]".as_slice());
+    assert!(rt; write_array(&[1.5, -2.0], &mut out) == None);
+    assert!(rt; write_array(&[f64::NAN], &mut out) == None);
+    assert!(rt; write_array(&[], &mut []) == None);
 }

@@ -99,7 +99,10 @@ pub fn read_rate(text: &[u8]) -> Result<(u32, usize), usize> {
     Ok((rate, end))
 }
 
-use digits::{INTEGER_INTERNAL_DIGIT_SEPARATOR, PriceError, ScaledError, read_price_from};
+use digits::{
+    INTEGER_INTERNAL_DIGIT_SEPARATOR, PriceError, ScaledError, parse_scaled, read_grouped_from,
+    read_price_from,
+};
 
 /// Radix 10, and `,` between two digits: `1,234`.
 pub const COMMA_DIGITS: u128 = (10 << 104)
@@ -113,6 +116,15 @@ pub fn parse_price(text: &[u8]) -> Result<i64, PriceError> {
         return Err(PriceError::Number(ScaledError::Invalid(end)));
     }
     Ok(cents)
+}
+
+/// Reads a text as an amount with groups of three or without groups, in cents: `1,234.5` and
+/// `1234.5` are 123450, and `12,34.5` is none.
+pub fn parse_either(text: &[u8]) -> Option<i64> {
+    match read_grouped_from::<i64>(text, COMMA_DIGITS, 0, b'.', 2) {
+        Ok((cents, end)) if end == text.len() => Some(cents),
+        _ => parse_scaled::<i64>(text, STANDARD, b'.', 2).ok(),
+    }
 }
 
 use digits::languages::RUST;

@@ -62,7 +62,10 @@ pub fn read_all<R: Read + Drop>(
     fold_stream(stream, &mut buffer, kind, LINES, Vec::new(alloc), push)
 }
 
-use digits::COMMAS;
+ghost use Rattle.std.specs.Prelude.{◌≤◌, length};
+
+use digits::words::HEXADECIMAL;
+use digits::{COMMAS, NumberReader};
 
 /// Adds up the numbers that a text lists, however many there are: `80, 443` gives 523.
 pub fn sum_text(text: &[u8]) -> Result<u64, FoldError<LiteralError>> {
@@ -73,7 +76,22 @@ pub fn sum_text(text: &[u8]) -> Result<u64, FoldError<LiteralError>> {
     fold_stream(text, &mut buffer, kind, COMMAS, 0, add)
 }
 
-use digits::{NumberReader, StreamError};
+/// Adds up the hexadecimal bytes of the list at `start`, and returns where the list ends: in
+/// `x=de,ad;` at 2 the sum is 395, and the end 7.
+pub fn sum_bytes(text: &[u8], start: usize) -> Result<(u64, u64), FoldError<LiteralError>>
+    requires { start ≤ length text.now }
+{
+    integers_are_apart::<u8>(HEXADECIMAL, COMMAS);
+    let mut buffer = [0; 4096];
+    let kind = Integers::<u8>::new(HEXADECIMAL);
+    let rest = &text[start..];
+    let mut numbers = NumberReader::new_at(rest, &mut buffer, kind, COMMAS, start as u64);
+    let add = |sum: u64, number: u8| sum.checked_add(u64::from(number));
+    let sum = numbers.fold_numbers(0, add)?;
+    Ok((sum, numbers.position()))
+}
+
+use digits::StreamError;
 
 /// Finds the first float above a limit in a stream that has one float in each line.
 pub fn first_above<R: Read + Drop>(
@@ -161,7 +179,7 @@ pub fn check_entries<R: Read + Drop>(rt: HostRuntime, stream: R) -> std::io::Res
     Ok(())
 }
 
-ghost use Rattle.std.specs.Prelude.{◌≤◌, length, IfOk};
+ghost use Rattle.std.specs.Prelude.{IfOk};
 
 use digits::{COMMAS_IN_LINE, ListError, parse_list};
 
@@ -181,8 +199,8 @@ pub fn cents_of(line: &[u8], column: usize) -> Option<i64> {
     parse_scaled::<i64>(field, STANDARD, b'.', 2).ok()
 }
 
-/// Prints the sum of a column of a CSV stream whose first line is a header, or the number of the
-/// first line that has no amount there.
+/// Prints the sum of a column of a CSV stream whose first line is a header, or which line is the
+/// first without an amount there.
 pub fn print_column<R: Read + Drop>(
     rt: HostRuntime,
     stream: R,
@@ -192,13 +210,13 @@ pub fn print_column<R: Read + Drop>(
     let lines = BufReader::new(rt.alloc(), stream)?.lines(rt.alloc());
     for (line, number) in lines.zip(1usize..) {
         let line = line?;
-        if number == 1 {
+        if number == 1 || line.as_bytes().is_empty() {
             continue;
         }
         let cents = cents_of(line.as_bytes(), column);
         match cents.and_then(|cents| sum.checked_add(cents)) {
             Some(next) => sum = next,
-            None => return println!(rt; "line {number} has no amount"),
+            None => return println!(rt; "line {number} has no amount, or the sum is too large"),
         }
     }
     println!(rt; "{sum} cents")

@@ -9,6 +9,8 @@ use digits::{
 };
 
 pub fn first_calls() {
+    // A word says how digits are written: `STANDARD` is plain decimal, and Python's literals may
+    // have a `_` between two digits.
     let plain = parse_number::<i32>(b"-1000", STANDARD); // Ok(-1000)
     let grouped = parse_number::<i32>(b"-1_000", PYTHON_LITERAL); // Ok(-1000)
     let rate = parse_float::<f64>(b"1.5e3", STANDARD); // Ok(1500.0)

@@ -32,6 +32,26 @@ pub fn put_line<W: Write>(number: i64, to: &mut W) -> std::io::Result<()> {
     to.write_all(b"\n")
 }
 
+use digits::{forms, write_float_of};
+
+/// Writes floats as a JSON array, and returns its length: `[1.5,2.0]` has 9 bytes. `None`: `out` is
+/// too short, or a float is infinite or NaN.
+pub fn write_array(values: &[f64], out: &mut [u8]) -> Option<usize> {
+    let mut at = 0usize;
+    for value in values {
+        *out.get_mut(at)? = if at == 0 { b'[' } else { b',' };
+        at = at.checked_add(1)?;
+        let count = write_float_of(*value, forms::JSON, out.get_mut(at..)?).ok()?;
+        at = at.checked_add(count)?;
+    }
+    if at == 0 {
+        *out.get_mut(at)? = b'[';
+        at = at.checked_add(1)?;
+    }
+    *out.get_mut(at)? = b']';
+    at.checked_add(1)
+}
+
 /// Writes cents as a price, at the right end of a column of 12 bytes.
 pub fn put_price<W: Write>(cents: i64, to: &mut W) -> std::io::Result<()> {
     // 12 blanks, and 26 bytes: enough for every `i64` with two places, so this is never an error
