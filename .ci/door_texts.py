@@ -563,7 +563,7 @@ it with `forms::RUST`, which reads floats, too.
 - `parse_` reads up to the end of a text. `read_` reads the number at a position, and also returns where it ends. `write_` \
 writes a number into your slice, and returns its length ([names and arguments](#names-and-arguments)).
 - A text is a `&[u8]`. Positions count its bytes from 0. The error of one number holds the position of its \
-fault ([errors](#errors)). What follows a whole number is an error of `parse_` calls only, `Invalid`: a `read_` call ends there.
+fault ([errors](#errors)). After a complete number `parse_` returns `Invalid` for any further byte, and `read_` stops there.
 - A call for one number skips no blanks: skip them with [`past_bytes`](#past_bytes). Lists and streams skip \
 the blanks of their gap.
 - A call with a word or a language also sees the byte before its `start` ([why that matters](../../CALLING.md#surprises)).

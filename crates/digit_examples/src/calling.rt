@@ -631,3 +631,17 @@ fn an_array_in_a_slice(rt: HostRuntime) {
     assert!(rt; write_array(&[f64::NAN], &mut out) == None);
     assert!(rt; write_array(&[], &mut []) == None);
 }
+
+/// A number of a language, and a letter after it.
+#[test]
+fn a_lexeme(rt: HostRuntime) {
+    for (text, end) in [("1_000;", 5), ("0xff+1", 4), ("1.5e3", 5)] {
+        assert!(rt;
+            read_lexeme(text.as_bytes(), 0).is_ok_and(|read| read.1 == end),
+            "{text}"
+        );
+    }
+    assert!(rt; read_lexeme(b"12ab", 0).is_err_and(|at| at == 2));
+    assert!(rt; read_lexeme(b"0xfg", 0).is_err_and(|at| at == 3));
+    assert!(rt; read_lexeme(b"=x", 1).is_err_and(|at| at == 1));
+}

@@ -22,8 +22,7 @@ pub fn others_at(text: &[u8], at: usize) -> u64
     digits.simd_ge(u8x64::splat(10)).to_bitmask()
 }
 
-/// Which bytes are no digits, after so many bytes. What is known of the bytes behind these stays
-/// known.
+/// The bits of the bytes after the first `count`. What was known of them is still known.
 #[inline(always)]
 pub fn pass(others: u64, count: usize) -> u64
     ensures others { (text : List ℕ) (at : ℕ) → AreOthers text at others

@@ -8,8 +8,8 @@ ghost use Rattle.lexical_digits.specs.Moves.{IsFresh, outcome_later};
 use digit_literals::{Gap, ListRead};
 
 /// A kind of numbers of a text, such as integers of a type by a word. It says how one number is
-/// read, and which bytes may be in it. Reading a number may look only as far as the first byte on
-/// each side that can't be in one (`has_byte` is `false`): to read the 12 of `a;12,b` at `;12,`.
+/// read, and which bytes may be in it. `read_number` may look left and right up to the nearest byte
+/// for which `has_byte` is `false`, and no further: for the 12 of `a;12,b` at `;12,`.
 pub trait Kind: Copy {
     /// A number.
     type Number: Copy;

@@ -127,9 +127,9 @@ impl<'b, K: Kind, R: Read> NumberReader<'b, K, R> {
 
     /// The position in the stream of the first byte that no call has used. Where a list is over,
     /// the blanks after its last number are used, too: after the 1 of `1 ]` by
-    /// [`COMMAS`](digit_literals::COMMAS) it is 2. If [`read_into`](NumberReader::read_into)
-    /// returns the error [`Number`](StreamError::Number), this position may be before numbers that
-    /// the same call gave: the error has the position of the fault.
+    /// [`COMMAS`](digit_literals::COMMAS) it is 2. After the error [`Number`](StreamError::Number)
+    /// of [`read_into`](NumberReader::read_into) it may be before numbers that are already in your
+    /// slice: the error has the position of the fault.
     pub fn position(&self) -> u64
         ensures { result ≡ self.now.position }
     {

@@ -153,6 +153,21 @@ pub fn read_byte(text: &[u8], start: usize) -> Result<(u8, usize), usize>
     }
 }
 
+use digits::Number;
+
+/// Reads the number of a Rust-like language at `start`, and returns where it ends: `1_000`, `0xff`,
+/// `1.5e3`. In `12ab` the fault is at 2, where a letter follows the number.
+pub fn read_lexeme(text: &[u8], start: usize) -> Result<(Number<f64>, usize), usize>
+    requires { start ≤ length text.now }
+{
+    let number = read_number_of::<f64>(text, start, forms::RUST);
+    let (number, end) = number.map_err(|error| error.position())?;
+    if name_end(text, end) > end {
+        return Err(end);
+    }
+    Ok((number, end))
+}
+
 /// What a field has. Each position is that of the fault.
 #[derive(Clone, Copy, Debug, PartialEq, Eq)]
 pub enum Field {
@@ -241,7 +256,7 @@ pub fn read_cents(text: &[u8], start: usize) -> Option<(i64, usize)>
 
 ghost use Rattle.std.specs.Prelude.{◌<◌, IfOk};
 
-use digits::{Number, byte_at};
+use digits::byte_at;
 
 /// Reads the JSON number at `start`, and returns where it ends: in `-1.5e3,` it is -1500.0, and
 /// ends at 6. In `01` the fault is at 1.

@@ -19,8 +19,8 @@
 //! [`write_number_by`] writes in a [`Layout`]: radix and case, groups, zeros and `+`. A word reads
 //! the layout if it has its radix, and drops its separator between digits of the integer; a `+` is
 //! read as a number of a type with a sign. A list is read back by `parse_list` of `digit_lists`, if
-//! no byte between two numbers may be in one. Amounts are read back by `read_scaled_from` of
-//! `digit_floats`, prices by `read_price_from` of `digit_lists`.
+//! no byte between two numbers may be in one. `read_scaled_from` and `read_price_from` of
+//! `digit_amounts` read amounts and prices back.
 //!
 //! The laws for callers are in [`laws`].
 #![tactic(auto)]

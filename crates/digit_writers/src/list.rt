@@ -92,8 +92,8 @@ fn put_list<T: Written>(numbers: &[T], separator: u8, out: &mut [u8]) -> usize
 
 /// Writes integers with a byte between two of them. To read the text back with `parse_list` and
 /// `STANDARD`, take `COMMAS` for `,`, and `LINES` for `\n`; of these only `LINES` reads an empty
-/// list. Any other gap serves if this byte is one of its separators, and none of its bytes can be
-/// in a number. Any other word serves if its radix is 10.
+/// list. Another gap works if it has this byte among its separators, and shares no byte with
+/// numbers. Another word works if its radix is 10.
 ///
 /// The call puts them at the front of a slice, in decimal, and returns how many bytes that takes.
 /// Of no number there is no byte. `IsListReadBy` says which words and gaps read the list: by them
