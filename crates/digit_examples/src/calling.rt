@@ -2,7 +2,8 @@
 
 use digit_uses::calling::{
     COMMA_DIGITS, Field, SEMICOLONS, field_of, has_port, line_and_column, parse_either,
-    parse_price, parse_timeout, read_array, read_byte, read_cents, read_rate, sum_lengths,
+    parse_price, parse_timeout, read_array, read_byte, read_cents, read_lexeme, read_rate,
+    sum_lengths,
 };
 use digit_uses::files::{
     Entry, cents_of, check_entries, first_above, greatest_of, parse_entry, position_of,
