@@ -109,7 +109,7 @@ GROUPS = {
         | `Full(at)` | the slice is full. The next number, or blanks before it, may begin at `at` | call again from `at` |
         | `Fault(error)` | a number is missing where one is required, as after a comma, or one begins and is refused | report it |
 
-        `Full` promises only that a separator follows the last number, and not that another number does. With a
+        `Full` doesn't promise that another number follows. With a
         slice of two elements:
 
         | Text | Gap | `end` |
@@ -202,7 +202,7 @@ GROUPS = {
         proved that you get the numbers of the whole stream. When the program runs, the line does nothing.
 
         No byte of the gap may be in a number. `integers_are_apart`, `floats_are_apart` and `scaled_are_apart` are stricter than
-        `is_apart`: they take every ASCII letter and digit, both signs and the separator for a part of a number, and of floats and amounts also the point. If such a line refuses
+        `is_apart`: they refuse every gap with a letter, a digit, a sign or the word's separator, and of floats and amounts also one with the point. If such a line refuses
         a gap whose bytes can't be in your numbers, take `any_are_apart(kind, gap)`, which asks the kind.
         Each kind has its own line:
 
@@ -563,7 +563,7 @@ it with `forms::RUST`, which reads floats, too.
 - `parse_` reads up to the end of a text. `read_` reads the number at a position, and also returns where it ends. `write_` \
 writes a number into your slice, and returns its length ([names and arguments](#names-and-arguments)).
 - A text is a `&[u8]`. Positions count its bytes from 0. The error of one number holds the position of its \
-fault ([errors](#errors)). After a complete number `parse_` returns `Invalid` for any further byte, and `read_` stops there.
+fault ([errors](#errors)).
 - A call for one number skips no blanks: skip them with [`past_bytes`](#past_bytes). Lists and streams skip \
 the blanks of their gap.
 - A call with a word or a language also sees the byte before its `start` ([why that matters](../../CALLING.md#surprises)).
@@ -686,7 +686,7 @@ Five texts, with `forms::JSON` for `parse_number_of` and `read_number_of`, and `
 | `read_number::<i32>`, `read_float`, `read_number_of` | `Empty(0)` | `Empty(1)` | `Empty(0)` | `Empty(1)` \
 | `Ok`: the number 1 and the position 1 |
 
-Of `3000000000` both calls of an `i32` return `Overflow(9)`: without the digit at 9 the value fits, and with it it doesn't.
+Of `3000000000` `parse_number::<i32>` and `read_number::<i32>` return `Overflow(9)`: without the digit at 9 the value fits, and with it it doesn't.
 
 What `Empty` says differs by the type of the error:
 

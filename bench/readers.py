@@ -81,7 +81,7 @@ def readme():
 ![Whole texts, and numbers whose end is needed, by what is read](docs/times.svg)
 
 - **You gain** when you read whole texts, or numbers of JSON: for {len(below)} of {len(found)} kinds of numbers a call takes {gain} to {most_gain} % \
-less time than that of any other library that does the same work; for the others {loss} more.
+less time than by the fastest other library that does the same work, such as std, fast_float or simdjson; for the others {loss} more.
 - **You may lose** when you write: an integer takes {integers} times as long as by the fastest other library, and a float with the \
 fewest digits {floats} times.
 - **You lose** with floats like `%.6e`: a price takes {worst} times as long, and floats of random bits {float(times('%.6e').split()[-1]):.0f} times.
