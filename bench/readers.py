@@ -84,7 +84,7 @@ def readme():
 less time than by the fastest other library that does the same work, such as std, fast_float or simdjson; for the others {loss} more.
 - **You may lose** when you write: an integer takes {integers} times as long as by the fastest other library, and a float with the \
 fewest digits {floats} times.
-- **You lose** with floats like `%.6e`: a price takes {worst} times as long, and floats of random bits {float(times('%.6e').split()[-1]):.0f} times.
+- **You lose** with floats like `%.6e`, by `write_scientific`: a price takes {worst} times as long, and floats of random bits {float(times('%.6e').split()[-1]):.0f} times.
 
 [SPEED.md](docs/SPEED.md) has each kind of input, the libraries and their versions, what a call from C costs, and how to \
 call so that it is fast."""
