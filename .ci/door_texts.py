@@ -109,7 +109,7 @@ GROUPS = {
         | `Full(at)` | the slice is full. The next number, or blanks before it, may begin at `at` | call again from `at` |
         | `Fault(error)` | a number is missing where one is required, as after a comma, or one begins and is refused | report it |
 
-        `Full` doesn't promise that another number follows. With a
+        A `Full` list has a separator after its last number, but perhaps no number after that. With a
         slice of two elements:
 
         | Text | Gap | `end` |

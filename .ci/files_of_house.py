@@ -11,7 +11,7 @@ sys.dont_write_bytecode = True
 from sources import TOP, crates, files_below, read  # noqa: E402
 
 PAGE = "docs/HOUSE.md"
-# The crates of tests, pages and measures, whose files have the name of what they test, show or time.
+# The crates of examples and measures, whose files have the name of what they show or time.
 OTHERS = ("digits", "digit_hello", "digit_uses", "digit_examples",
           "digit_bench", "digit_jobs", "digit_rows", "writer_rows")
 BEGIN, END = "<!-- files: the tables that `.ci/files_of_house.py --write` writes -->", "<!-- end of files -->"

@@ -536,9 +536,9 @@ fn cents_of_json(rt: HostRuntime) {
     assert!(rt; read_cents(b"12.5,", 0) == Some((1250, 4)));
     assert!(rt; read_cents(b"[-0.05]", 1) == Some((-5, 6)));
     assert!(rt; read_cents(b"12.500", 0) == Some((1250, 6)));
-    for text in ["1e2", "12.505", ".5", "5.", "+1", "1_0e", ""] {
-        let expected = if text == "1_0e" { Some((100, 1)) } else { None };
-        assert!(rt; read_cents(text.as_bytes(), 0) == expected, "{text}");
+    assert!(rt; read_cents(b"1_0", 0) == Some((100, 1)));
+    for text in ["1e2", "12.505", ".5", "5.", "+1", ""] {
+        assert!(rt; read_cents(text.as_bytes(), 0) == None, "{text}");
     }
 }
 
