@@ -95,6 +95,13 @@ module _ (gap : Gap) where
       rw (← is.blanks) (none_after whole) in
       omega (arith, is.blanks, none)
 
+  -- where the next byte is known, so many blanks are before it
+  pub blanks_before : (text : Option (List ℕ)) (count : ℕ) (next : Option ℕ)
+      → IfSome text (λ whole. IsNextByte gap whole count next)
+      → IfSome text (λ whole. past_blanks gap whole 0 ≡ count)
+  blanks_before None count next is = tt
+  blanks_before (Some whole) count next is = is.blanks
+
   -- what is found after the bytes that were used is found in the whole text
   pub passes_known : (byte start position at : ℕ) (found : Bool)
       (known bytes rest : Option (List ℕ))

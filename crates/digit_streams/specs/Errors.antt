@@ -1,4 +1,4 @@
--- Errors of a stream: after which of them a call goes on, and what is printed of one.
+-- Errors of a stream: after which of them a call goes on, where the fault is, and what is printed.
 use Rattle.std.specs.Prelude.{Bool, true, false, ℕ, List, ◌++◌, codes, decimal, Option, None, Some}
 use Rattle.std.specs.Fmt.{◌++?◌}
 use Rattle.std.specs.declared.io.ErrorKind.{ErrorKind}
@@ -23,6 +23,23 @@ may_go_on (NoRoom at) = false
 may_go_on (Read kind) = may_try_again kind
 may_go_on TooLong = false
 may_go_on (Trailing at why) = false
+
+-- the position that an error holds, if it has one; `fault_at` says it of a number's error
+abbrev pub stream_fault_at : {E : Type 0} → (E → ℕ) → StreamError E → Option ℕ
+stream_fault_at fault_at (Number error) = Some (fault_at error)
+stream_fault_at fault_at (NoRoom at) = Some at
+stream_fault_at fault_at (Read kind) = None
+stream_fault_at fault_at TooLong = None
+stream_fault_at fault_at (Trailing at why) = Some at
+
+abbrev pub fold_fault_at : {E : Type 0} → (E → ℕ) → FoldError E → Option ℕ
+fold_fault_at fault_at (folds.Stopped at) = Some at
+fold_fault_at fault_at (folds.Stream error) = stream_fault_at fault_at error
+
+abbrev pub enclosed_fault_at : {E : Type 0} → (E → ℕ) → EnclosedFoldError E → Option ℕ
+enclosed_fault_at fault_at (enclosed.NoOpening at) = Some at
+enclosed_fault_at fault_at (enclosed.NoClosing at) = Some at
+enclosed_fault_at fault_at (enclosed.Fold error) = fold_fault_at fault_at error
 
 -- what is printed of an error, where it is known; `output` says it of a number's error
 abbrev pub stream_message : {E : Type 0} → (E → Option (List ℕ)) → StreamError E

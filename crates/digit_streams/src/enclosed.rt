@@ -1,9 +1,12 @@
 //! What steps make of the numbers between two bytes of a stream.
 
-ghost use Rattle.digit_streams.specs.Errors.{enclosed_fold_message};
+ghost use Rattle.std.specs.Prelude.{◌≡◌};
+ghost use Rattle.digit_streams.specs.Errors.{enclosed_fault_at, enclosed_fold_message};
 
 use super::fold::FoldError;
 use super::reader::NumberReader;
+use super::stream::StreamError;
+use digit_lists::NoNumber;
 use digit_pieces::Kind;
 use std::error::Error;
 use std::fmt;
@@ -18,6 +21,43 @@ pub enum EnclosedFoldError<E> {
     NoClosing(u64),
     /// Why the numbers have no value, or the reader failed.
     Fold(FoldError<E>),
+}
+
+impl<E: NoNumber> EnclosedFoldError<E> {
+    /// The position of the fault, as [`FoldError::position`] has it, or where a byte is missing.
+    ///
+    /// ```text
+    /// `EnclosedFoldError::NoClosing(7)` by `LiteralError`: Some(7)
+    /// ```
+    pub fn position(self) -> Option<u64>
+        ensures { result ≡ enclosed_fault_at E.fault_at self }
+    {
+        match self {
+            EnclosedFoldError::NoOpening(at) | EnclosedFoldError::NoClosing(at) => Some(at),
+            EnclosedFoldError::Fold(error) => error.position(),
+        }
+    }
+}
+
+impl<E> From<FoldError<E>> for EnclosedFoldError<E> {
+    ghost use Rattle.digit_streams.specs.declared.enclosed.EnclosedFoldError.{EnclosedFoldError};
+
+    ghost from_gives = { λ e r. r ≡ EnclosedFoldError.Fold e };
+
+    fn from(e: FoldError<E>) -> EnclosedFoldError<E> {
+        EnclosedFoldError::Fold(e)
+    }
+}
+
+impl<E> From<StreamError<E>> for EnclosedFoldError<E> {
+    ghost use Rattle.digit_streams.specs.declared.enclosed.EnclosedFoldError.{EnclosedFoldError};
+    ghost use Rattle.digit_streams.specs.declared.fold.FoldError.{FoldError};
+
+    ghost from_gives = { λ e r. r ≡ EnclosedFoldError.Fold (FoldError.Stream e) };
+
+    fn from(e: StreamError<E>) -> EnclosedFoldError<E> {
+        EnclosedFoldError::Fold(FoldError::Stream(e))
+    }
 }
 
 impl<E: fmt::Display> fmt::Display for EnclosedFoldError<E> {

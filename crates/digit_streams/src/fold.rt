@@ -3,11 +3,12 @@
 ghost use Rattle.std.specs.Prelude.{◌≡◌, IfSome};
 ghost use Rattle.digit_pieces.specs.Texts.{IsApart};
 ghost use Rattle.digit_streams.specs.Streams.{stream_list};
-ghost use Rattle.digit_streams.specs.Errors.{fold_message};
+ghost use Rattle.digit_streams.specs.Errors.{fold_fault_at, fold_message};
 ghost use Rattle.digit_streams.specs.Folds.{FoldsText, stream_error};
 
 use super::reader::NumberReader;
 use super::stream::{Ended, StreamError};
+use digit_lists::NoNumber;
 use digit_literals::Gap;
 use digit_pieces::Kind;
 use std::error::Error;
@@ -35,6 +36,33 @@ impl<E: Copy> FoldError<E> {
             FoldError::Stopped(_) => StreamError::TooLong,
             FoldError::Stream(error) => error,
         }
+    }
+}
+
+impl<E: NoNumber> FoldError<E> {
+    /// The position of the fault, as [`StreamError::position`] has it, or the one that `Stopped`
+    /// holds.
+    ///
+    /// ```text
+    /// `FoldError::Stopped(8)` by `LiteralError`: Some(8)
+    /// ```
+    pub fn position(self) -> Option<u64>
+        ensures { result ≡ fold_fault_at E.fault_at self }
+    {
+        match self {
+            FoldError::Stopped(at) => Some(at),
+            FoldError::Stream(error) => error.position(),
+        }
+    }
+}
+
+impl<E> From<StreamError<E>> for FoldError<E> {
+    ghost use Rattle.digit_streams.specs.declared.fold.FoldError.{FoldError};
+
+    ghost from_gives = { λ e r. r ≡ FoldError.Stream e };
+
+    fn from(e: StreamError<E>) -> FoldError<E> {
+        FoldError::Stream(e)
     }
 }
 
@@ -106,8 +134,8 @@ impl<'b, K: Kind, R: Read> NumberReader<'b, K, R> {
 
 /// Combines all numbers of a stream into one value. `step` gets the value so far, at first `init`,
 /// and the next number. It returns the next value, or `None` to stop the call. Anything after the
-/// numbers is an error. The buffer has to hold the longest number, the blanks after it, and one
-/// more byte. Requires that the kind is valid.
+/// numbers is an error. The buffer has to hold the longest number, the blanks up to the byte that
+/// ends them, and one byte more. Requires that the kind is valid.
 ///
 /// `step` returns the next value. If it returns `None`, the call ends with
 /// [`Stopped`](FoldError::Stopped). If the stream goes on after the numbers, it is an error

@@ -77,6 +77,7 @@ impl<'b, K: Kind, R: Read> Model for NumberReader<'b, K, R> {
 impl<'b, K: Kind, R: Read> NumberReader<'b, K, R> {
     ghost use Rattle.std.specs.Prelude.{◌≡◌, ◌-◌, ◌<◌, ◌≤◌, [], length, map, take, drop, None, Err, IfSome, IfNone, IfOk, IfErr, OnOk, IsSome, ℕ, List, Option, ◌++◌};
     ghost use Rattle.std.specs.Io.KnownBytes.{Keeps};
+    ghost use Rattle.digit_literals.specs.Lists.{past_blanks};
     ghost use Rattle.digit_pieces.specs.Texts.{IsApart};
     ghost use Rattle.digit_streams.specs.Streams.{EndsSo, Gives, GoesOn, HasGiven, HasGivenFrom, HasReason, IfEndsFault, IfFault, IfNoFault, IfNoRoom, IfNoRoomOfNext, IfReason, IfTrailing, IsNext, IsNoByte, IsPlace, IsPlaceOfNext, IsUnknown, NeedsMore, Passes, SkipsBlanks, StandsAfter, UsesKnown, stream_list, numbers_of, numbers_of_next, end_by, end_of_next, ended_after, ended_by, next_again, end_again, list_of_option, reason_held, reason_of};
 
@@ -323,6 +324,45 @@ impl<'b, K: Kind, R: Read> NumberReader<'b, K, R> {
         self.find_byte(byte)
     }
 
+    /// Skips the gap's blanks, such as those after the `]` of an array, which
+    /// [`finish`](NumberReader::finish) doesn't skip. Then [`position`](NumberReader::position) is
+    /// that of the next byte that is no blank, or of the stream's end. The list stays as it is.
+    ///
+    /// ```text
+    /// `[1] \nx` by `Integers` and `COMMAS`, after `fold_enclosed`: the position is 3, and then 5
+    /// ```
+    ///
+    /// So the position of the next number is known before it is read. A buffer of one byte is
+    /// enough. If the reader fails, the next call goes on from there. After an error of the numbers
+    /// it returns that again.
+    pub fn pass_blanks(&mut self) -> Result<(), StreamError<K::Error>>
+        ensures past { OnOk result (IfSome self.old.bytes (λ bytes.
+            past_blanks self.old.gap bytes 0 ≡ self.new.position - self.old.position)) }
+        ensures given_none { (start : ℕ) (known : Option (List ℕ)) →
+            UsesKnown start self.old.position known self.old.bytes →
+            let list = stream_list (K.number_at self.old.kind) K.none_at K.error_later
+            self.old.gap in
+            HasGivenFrom start self.new.position list known [] (end_by self.new.position None)
+            self.new.position self.new.bytes }
+        ensures blanks { IfNoFault self.old.ended (IfErr result (λ error.
+            IfSome self.old.bytes (λ bytes.
+            SkipsBlanks self.old.gap bytes (self.new.position - self.old.position)))) }
+        ensures reason { IfNoFault self.old.ended (IfErr result (λ error. IsNoByte error
+            self.new.position self.new.capacity self.new.held)) }
+        ensures uses { UsesKnown self.old.position self.new.position self.old.bytes
+            self.new.bytes }
+        ensures ended { self.new.ended ≡ self.old.ended }
+        ensures again { IfSome self.old.ended (λ ended.
+            IfFault ended (λ error. result ≡ Err error)) }
+        ensures still { IfSome self.old.ended (λ ended.
+            IfFault ended (λ error. self.new.position ≡ self.old.position)) }
+        ensures kind { self.new.kind ≡ self.old.kind }
+        ensures gap { self.new.gap ≡ self.old.gap }
+        ensures capacity { self.new.capacity ≡ self.old.capacity }
+    {
+        self.skip_blanks()
+    }
+
     /// Checks that nothing follows the numbers: `Ok` means that the stream is at its end. Otherwise
     /// the error is [`Trailing`](StreamError::Trailing), with the position of what follows and the
     /// reason why no number begins there. Call it after the last number, since a list may end
@@ -430,6 +470,37 @@ impl<'b, K: Kind, R: Read> NumberReader<'b, K, R> {
             Ok(_) => Ok(false),
             Err(error) => Err(error),
         }
+    }
+
+    /// Uses the blanks that are next.
+    fn skip_blanks(&mut self) -> Result<(), StreamError<K::Error>>
+        ensures past { OnOk result (IfSome self.old.bytes (λ bytes.
+            past_blanks self.old.gap bytes 0 ≡ self.new.position - self.old.position)) }
+        ensures blanks { IfNoFault self.old.ended (IfErr result (λ error.
+            IfSome self.old.bytes (λ bytes.
+            SkipsBlanks self.old.gap bytes (self.new.position - self.old.position)))) }
+        ensures reason { IfNoFault self.old.ended (IfErr result (λ error. IsNoByte error
+            self.new.position self.new.capacity self.new.held)) }
+        ensures uses { UsesKnown self.old.position self.new.position self.old.bytes
+            self.new.bytes }
+        ensures ended { self.new.ended ≡ self.old.ended }
+        ensures again { IfSome self.old.ended (λ ended.
+            IfFault ended (λ error. result ≡ Err error)) }
+        ensures still { IfSome self.old.ended (λ ended.
+            IfFault ended (λ error. self.new.position ≡ self.old.position)) }
+        ensures kind { self.new.kind ≡ self.old.kind }
+        ensures gap { self.new.gap ≡ self.old.gap }
+        ensures capacity { self.new.capacity ≡ self.old.capacity }
+    {
+        if let Some(Ended::Fault(error)) = self.ended {
+            return Err(error);
+        }
+        let gap = self.format.gap;
+        match pass_blanks(&mut self.window, &mut self.reader, &mut self.is_over, gap) {
+            Ok(_) => {}
+            Err(error) => return Err(error),
+        }
+        Ok(())
     }
 
     /// Reads the next number, if there is one, and why there are no more.

@@ -1,9 +1,10 @@
 //! Why a reader of numbers gives no more.
 
 ghost use Rattle.std.specs.Prelude.{◌≡◌};
-ghost use Rattle.digit_streams.specs.Errors.{may_try_again, may_go_on, stream_message};
+ghost use Rattle.digit_streams.specs.Errors.{may_try_again, may_go_on, stream_fault_at, stream_message};
 ghost use Rattle.digit_streams.specs.Streams.{ended_by, end_again, next_of};
 
+use digit_lists::NoNumber;
 use std::error::Error;
 use std::fmt;
 use std::io::ErrorKind;
@@ -28,6 +29,24 @@ pub enum StreamError<E> {
     /// by `COMMAS`. In two rare cases it is `None`, too: the buffer doesn't hold the whole number,
     /// or the position is above `u64::MAX`. Only `finish` and `fold_stream` return it.
     Trailing(u64, Option<E>),
+}
+
+impl<E: NoNumber> StreamError<E> {
+    /// The position of the fault, in bytes of the stream. `Read` and `TooLong` have none.
+    ///
+    /// ```text
+    /// `StreamError::Number(LiteralError::Empty(3))`: Some(3)
+    /// `StreamError::Read(ErrorKind::WouldBlock)`: None
+    /// ```
+    pub fn position(self) -> Option<u64>
+        ensures { result ≡ stream_fault_at E.fault_at self }
+    {
+        match self {
+            StreamError::Number(error) => Some(error.fault_at() as u64),
+            StreamError::NoRoom(at) | StreamError::Trailing(at, _) => Some(at),
+            StreamError::Read(_) | StreamError::TooLong => None,
+        }
+    }
 }
 
 impl<E: fmt::Display> fmt::Display for StreamError<E> {

@@ -88,6 +88,7 @@ pub use Rattle.digit_streams.specs.declared.fold.FoldError.{FoldError}
 pub use Rattle.digit_streams.specs.declared.enclosed.EnclosedFoldError.{EnclosedFoldError}
 pub use Rattle.digit_streams.specs.Enclosed.{Brackets, FoldsEnclosed, GivesEnclosed, ReadsEnclosed, StepsEnclosed, unstopped}
 pub use Rattle.digit_streams.specs.Folds.{Folded, FoldsText, IfStopped, Makes, ReadsText, Steps, end_of_fold, stream_error}
+pub use Rattle.digit_streams.specs.Errors.{enclosed_fault_at, fold_fault_at, stream_fault_at}
 pub use Rattle.digit_streams.specs.Streams.{Gives, HasGiven, HasGivenFrom, IfReason, IfTrailing, IsNext, IsNoByte, IsUnknown}
 pub use Rattle.digit_streams.specs.Streams.{Passes, SkipsBlanks, StreamNumbers, end_by, ended_after, reason_held, reason_of, stream_list}
 -- whole lists, enclosed lists, numbers that may be missing, and prices

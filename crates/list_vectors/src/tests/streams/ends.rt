@@ -3,7 +3,7 @@
 use super::readers::{Pieces, Turn};
 use digit_literals::{COMMAS, LiteralError};
 use digit_pieces::Integers;
-use digit_streams::{NumberReader, StreamEnd, StreamError};
+use digit_streams::{FoldError, NumberReader, StreamEnd, StreamError};
 use lexical_format::STANDARD;
 use std::alloc::Global;
 use std::io::{ErrorKind, Read};
@@ -187,6 +187,9 @@ fn errors_are_told(rt: HostRuntime) {
         reason.as_str(),
         "the byte at 7 follows the numbers: there is no digit at 8"
     );
+    let refused: FoldError<LiteralError> = FoldError::Stopped(8);
+    let said = format!(in alloc; "{refused}").unwrap_or(String::new(alloc));
+    assert_eq!(rt; said.as_str(), "the numbers before 8 have no value");
     let long = told(alloc, StreamError::TooLong);
     assert_eq!(rt; long.as_str(), "a position is above 18446744073709551615");
 }
