@@ -119,6 +119,9 @@ MEANINGS = {
 }
 # What words of the libraries say whose definition shares a comment with others, or has none.
 SAID = {
+    "fold_fault_at": "the position that an error of a fold holds, if it has one; `fault_at` says it of a number's error",
+    "enclosed_fault_at": "the position that an error of a list in brackets holds, if it has one; `fault_at` says it of "
+                         "a number's error",
     "exactly_at": "the number of exactly n digits that begin here, and where they end, or why there is none",
     "at_most_at": "the number of at least one and at most n digits that begin here, and where they end, or "
                   "why there is none",

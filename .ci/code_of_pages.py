@@ -1,8 +1,13 @@
-"""The code of the pages: the blocks of Rust of a page are a file that the gate proves."""
+"""The code of the pages: the blocks of Rust of a page are a file that the gate proves.
+
+    .ci/code_of_pages.py --write    writes the files of the pages whose blocks stand alone; `rt fmt` then
+                                    formats them
+"""
 import os
 import re
+import sys
 
-from sources import DOOR, files_below, read
+from sources import DOOR, TOP, files_below, read
 
 USES = "crates/digit_uses"
 # The pages, and the module of digit_uses that the blocks of each are.
@@ -10,7 +15,7 @@ PAGES = {"README.md": "readme", "CALLING.md": "calling", "docs/FILES.md": "files
          "docs/WRITING.md": "writing", "docs/OWN.md": "own", "docs/PROVING.md": "proving"}
 # The pages of which each block has all its imports, so that it can be pasted alone. Their file has each
 # import once.
-ALONE = ("CALLING.md", "docs/FILES.md", "docs/WRITING.md", "docs/OWN.md")
+ALONE = ("README.md", "CALLING.md", "docs/FILES.md", "docs/WRITING.md", "docs/OWN.md")
 # The traits of which a block calls a method, and names nothing else.
 BY_METHOD = {"BufRead": ".lines("}
 # The crate of whoever pastes them, which here is digit_uses.
@@ -84,6 +89,34 @@ def alone(page, path, blocks, there, faults):
                 faults.append(f"{page}:{first}: the block imports `{use[1]}`, and doesn't name it")
             elif use not in own and has_name(use[1], rows):
                 faults.append(f"{page}:{first}: the block names `{use[1]}`, and doesn't import it")
+
+
+def written(page):
+    """The file of a page whose blocks stand alone: its blocks in order, with each import once."""
+    lines = [f"//! The blocks of the page {os.path.basename(page)}, in its order. `.ci/pages` compares the two.",
+             "#![tactic(auto, unfolding(digits::proofs::Literals::lexical_on_literals))]", ""]
+    had = set()
+    for first, block in blocks_of(page, "rust"):
+        own, rows = imports_of(code(block, first))
+        lines += use_lines(own - had)
+        had |= own
+        # blank lines are kept, which `code` leaves out
+        kept, before = dict(rows), first
+        for number in sorted(kept):
+            lines += [""] * (number > before) + [kept[number]]
+            before = number + 1
+        lines.append("")
+    return "\n".join(lines)
+
+
+def use_lines(uses):
+    """The lines of imports, one for each path: the logic's first, and in each its signs first."""
+    found = {}
+    for path, name in sorted(uses, key=lambda use: ("ghost use Rattle.std." not in use[0], use[0],
+                                                    "◌" not in use[1], use[1])):
+        found.setdefault(path, []).append(name)
+    return [f"{path}{'.' if path.startswith('ghost') else '::'}{{{', '.join(names)}}};"
+            for path, names in found.items()]
 
 
 def code(lines, first):
@@ -202,3 +235,15 @@ def check():
         count += len(blocks)
     return (f"{count} blocks of {', '.join(PAGES)} are proved code, and {shown} parts of others",
             [found for found in faults if found])
+
+
+def main(words):
+    if words != ["--write"]:
+        sys.exit(__doc__)
+    for page in ALONE:
+        with open(os.path.join(TOP, f"{USES}/src/{PAGES[page]}.rt"), "w", encoding="utf8") as out:
+            out.write(written(page))
+
+
+if __name__ == "__main__":
+    main(sys.argv[1:])

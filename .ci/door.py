@@ -39,6 +39,17 @@ def names():
     return [name for *_, names in GROUPS.values() for name in names.split()] + MORE
 
 
+def head_of(item):
+    """The signature of a function. If a parameter is a closure, the bounds are in a `where`."""
+    head = signature_of(item).removeprefix("pub ")
+    m = re.match(r"(fn \w+)<(.*?: Fn\(.*?\).*?)>(?=\()(.*)", head, re.S)
+    if not m:
+        return filled(head, "", "        ")
+    bounds = re.split(r", (?=\w+: )", m[2])
+    names = ", ".join(it.partition(":")[0] for it in bounds)
+    return [*filled(f"{m[1]}<{names}>{m[3]}", "", "        "), *filled("where " + ", ".join(bounds), "    ", "        ")]
+
+
 class Door:
     """The page, from the libraries with their anchors and doc comments."""
 
@@ -88,6 +99,7 @@ class Door:
                     self.lost.append(f"CONDITIONS of .ci/door_texts.py has no `{condition}` of {item.name}")
                 said.append(CONDITIONS.get(condition, ""))
         told = ", ".join(it.replace(" ≤ ", "\u00a0≤\u00a0") for it in dict.fromkeys(filter(None, said)))
+        told = told.replace("the word is supported, the word is decimal", "the word is supported and decimal")
         lines = [it.replace("\u00a0", " ") for it in textwrap.wrap(told, 84)]
         return [f"// {'   ' if n else 'you prove:'} {it}" for n, it in enumerate(lines)]
 
@@ -128,7 +140,7 @@ class Door:
         for impl_head, calls in blocks.items():
             head += ["", impl_head + " {", *calls, "}"] if calls else []
         for impl in impls:
-            if impl.trait == "From" and re.search(r"From<(\w+)>", impl.head)[1] in self.items:
+            if impl.trait == "From" and re.search(r"From<(\w+)", impl.head)[1] in self.items:
                 head += ["", impl.head]
             elif impl.trait == "Display" and item.kind == "enum":
                 head = printed(head, item.name, impl.text)
@@ -162,8 +174,7 @@ class Door:
         if item and item.kind in ("struct", "enum", "trait"):
             head = self.declared(library, item)
         elif item and item.kind == "fn":
-            head = filled(signature_of(item).removeprefix("pub "), "", "        ")
-            head += self.conditions(item)
+            head = head_of(item) + self.conditions(item)
         elif item and item.kind in ("const", "static"):
             head = dedent(item.text.removeprefix("pub ")).split("\n")
         else:
@@ -226,7 +237,7 @@ class Door:
             page = self.page_of(name, method)
             crate, anchor = page.split(".md#")
             text = re.sub(r"\]\(#", f"]({crate}.md#", untold(paragraph(self.docs[crate].get(anchor, []))))
-            code = filled(signature_of(have[method]).removeprefix("pub "), "", "        ")
+            code = head_of(have[method])
             blocks = [line for it in (code + self.conditions(have[method]), self.example(method)) if it
                       for line in ("", "```rust", *it, "```")]
             details = [line for it in noted(method) for line in ("", *self.to_here(it).split("\n"))]

@@ -18,7 +18,9 @@ GROUPS = {
         count_digits | Counts the digits of a text""", """
         The types are `u8` to `u128`, `i8` to `i128`, `usize` and `isize`. The first four calls read `[+-]?
         D+` as a signed type, and `D+` as an unsigned one, where `D` is a digit of the word's radix: `+1` is 1
-        as an `i32`, and refused as a `u32`. Separators that the word allows may be among the digits. Leading zeros are allowed, and as a signed type `-0` is 0. No prefix is read.""", """
+        as an `i32`, and refused as a `u32`. Separators that the word allows may be among the digits. Leading zeros are allowed, and as a signed type `-0` is 0. No prefix is read.
+
+        To refuse leading zeros, as in a version, call [`read_literal_as`](#read_literal_as) with `languages::JSON_NUMBER`: of `01` the error is `Zero(0)`.""", """
         parse_number parse_number_from read_number read_number_from read_integer_from read_wide_from
         read_exactly read_at_most count_digits Integer ParseError LiteralError"""),
     "Floats": ("""
@@ -109,8 +111,8 @@ GROUPS = {
         | `Full(at)` | the slice is full. The next number, or blanks before it, may begin at `at` | call again from `at` |
         | `Fault(error)` | a number is missing where one is required, as after a comma, or one begins and is refused | report it |
 
-        A `Full` list has a separator after its last number, but perhaps no number after that. With a
-        slice of two elements:
+        `Full` doesn't promise another number: the next call may return `Over`, with `count` 0. With a slice of
+        two elements:
 
         | Text | Gap | `end` |
         |---|---|---|
@@ -160,7 +162,8 @@ GROUPS = {
         | [`Enclosed { opening: b'"', kind, closing: b'"' }`](#enclosed) | `"1.50"` | one of `kind` | [`BracketError`](#bracketerror) |
 
         For values of your own write an [`impl Item`](#item), or an
-        [`impl Kind`](#kind).""", """
+        [`impl Kind`](#kind). A prefix of a literal is `0` and a letter: no kind reads `#ff8800`, so [loop over the
+        text](../../CALLING.md#a-loop-of-your-own).""", """
         read_optional Integers Floats OfForm OfLanguage Scaled Prices Both Enclosed Kind Item NoNumber
         BothError BracketError"""),
     "Streams": ("""
@@ -177,23 +180,27 @@ GROUPS = {
         sum // Ok(523)
         ```
 
-        To see one number after the other, loop over a `NumberReader`:
+        To see one number after the other, and where each is, loop over a `NumberReader`. A number is final once the next one came, or `finish`
+        returned `Ok`: so use what you found only after `finish`:
 
         ```rust
         integers_are_apart::<u64>(STANDARD, LINES);
         let mut buffer = [0; 64];
         let kind = Integers::<u64>::new(STANDARD);
-        let stream = b"3\\n12\\n5\\n".as_slice();
+        let stream = b"3\\n 12\\n5\\n".as_slice();
         let mut numbers = NumberReader::new(stream, &mut buffer, kind, LINES);
-        let mut greatest = 0u64;
+        let mut greatest = (0u64, 0u64);
         for _ in 0..u64::MAX {
+            numbers.pass_blanks()?;
+            let at = numbers.position();
             match numbers.next_number() {
-                Some(number) => greatest = number?.max(greatest),
+                Some(number) => greatest = greatest.max((number?, at)),
                 None => break,
             }
         }
         numbers.finish() // Ok(())
-        greatest // 12
+        // the number 12, which begins at 3
+        greatest // (12, 3)
         ```
 
         **Begin a function over a stream with a line such as the first one.** `rt check` then refuses a constant
@@ -224,8 +231,8 @@ GROUPS = {
         so many numbers.
         - The bound `R: Drop` lets a call drop the reader at its end.
         - With `LINES` an empty line is an error. [Gaps](#gaps) says how to skip empty lines.
-        - The errors of streams have no `position()`: match them, as [`position_of`](../FILES.md#an-array-of-any-length)
-        does. A position in the stream is a `u64`; the error of a number, inside of `Number` and `Trailing`, holds a `usize`.""", """
+        - `position()` of an error of a stream is an `Option<u64>`: `None` if the reader failed. Each of these errors
+        becomes the next by `?`: `StreamError`, `FoldError`, `EnclosedFoldError`.""", """
         fold_stream NumberReader is_apart StreamRead StreamEnd FoldError EnclosedFoldError StreamError"""),
     "Pieces and blocks": ("""
         read_piece | Reads a list that goes on in the next piece
@@ -247,7 +254,7 @@ GROUPS = {
         write_number_of write_float_of write_integer_of | Write a number of a form
         write_plain write_usual write_exponent | Write digits and a power of ten""", """
         A call writes the text to the front of `out`, and returns its length. The bytes after the text stay as
-        they were. If `out` is too short, the call writes nothing, and the error has the length that is
+        they were: to align it at the right, [write it behind blanks](../WRITING.md#into-a-file-an-array-a-column). If `out` is too short, the call writes nothing, and the error has the length that is
         needed. `write_number` can't fail: pass it a `[0; MOST_ROOM]`. `Written` is any integer type;
         `AnyFloat` is `f64` or `f32`.
 
@@ -362,6 +369,7 @@ METHODS = {"NumberReader": """
     position | Returns the position of the first byte that no call has used
     unread | Returns the bytes from there on that the buffer holds
     pass_byte | Passes a byte, such as a bracket before or after the numbers
+    pass_blanks | Passes blanks, such as those after a bracket
     fold_numbers | Combines the numbers into one value
     fold_enclosed | Combines the numbers between two brackets into one value"""}
 # What an entry says beside the doc comment.
@@ -372,7 +380,7 @@ NOTES = {
         - Any `start`, radix and `n` are allowed. If `n` is 0, the number is 0, for any `start`.
         - Radix 0 has no digit, radix 1 only `0`, and a radix above 36 has the digits of radix 36.""",
     "read_at_most": "Like `read_exactly`, it takes any `start`, radix and `n`. If `n` is 0, it returns `Empty`.",
-    "count_digits": "For an empty text it returns 0.",
+    "count_digits": "For an empty text it returns `Ok(0)`.",
     "LiteralError": """
         The `read_` calls of integers return it. A whole text has a [`ParseError`](#parseerror), a literal of a
         language a [`LanguageError`](#languageerror).
@@ -396,17 +404,20 @@ NOTES = {
     "NumberReader": """
         - **The numbers are those of the whole stream**, however the reader cuts it into pieces, if [no byte of
         the gap can be in a number](#streams). `new` and `new_at` don't test that.
-        - **A number is final** once the next one came, or `finish` returned `Ok`: of a line `2x` you get 2, and
-        then `None`.
+        - **A number is final** once the next one came, `pass_byte` found the closing byte, or `finish` returned `Ok`: of a
+        line `2x` you get 2, and then `None`.
         - **After `None`** each call of `next_number` returns `None`, until `pass_byte` passes a byte, or
         `fold_enclosed` begins the next list.
         - **An error stays**, except `Trailing`: each later call returns it again. But after [`Read`](#streamerror) of `WouldBlock`
         or `TimedOut` the next call goes on. After `Interrupted` the call itself reads again.
-        - **The buffer** needs the longest number, the longest run of blanks after it, and one byte. Otherwise a
-        call returns [`NoRoom`](#streamerror). 4096 bytes are ample.
+        - **The buffer** needs the longest number, the blanks up to the byte that ends them, and one byte more. With `WHITESPACE` one blank ends a number.
+        If the buffer is too small, a call returns [`NoRoom`](#streamerror). 4096 bytes are ample.
         - **To go on with the reader afterwards**, pass `&mut reader` to `new`. The bytes of
         [`unread`](#numberreaderunread) have already been taken from it: use those first.""",
     "NumberReader::next_number": """
+        It uses the separator after the number, too, but not the blanks after that: after the 1 of `1, 20` by `COMMAS`,
+        [`position`](#numberreaderposition) is 2, and after [`pass_blanks`](#numberreaderpass_blanks) it is 3.
+
         | Gap | When it returns the 12 of `12`: once it has read |
         |---|---|
         | `LINES` | the line feed |
@@ -414,12 +425,26 @@ NOTES = {
         | `WHITESPACE` | one blank |
         | any | a byte that no number has and that is no blank of the gap, or the end of the stream |""",
     "NumberReader::finish": """
-        After `fold_enclosed` and `pass_byte` the blanks that follow do count. If a line feed is a blank of the
-        gap, `pass_byte(b'\\n')` passes them first ([an array of any
-        length](../FILES.md#an-array-of-any-length)).""",
+        After `fold_enclosed` and `pass_byte` the blanks that follow do count:
+        [`pass_blanks`](#numberreaderpass_blanks) passes them first.""",
     "NumberReader::fold_numbers": """
         After `Stopped` the value is lost. Its position isn't that of the number at which `step` returned `None`: it is
-        after that number and its separator, where the next call continues.""",
+        after that number and its separator, where the next call continues. To know where the number began, loop over
+        [`next_number`](#streams).""",
+    "NumberReader::position": """
+        After the 1 of `1  2` by [`WHITESPACE`](#whitespace) it is 2. After [`pass_blanks`](#numberreaderpass_blanks) it is 3, where
+        the next number begins.""",
+    "PriceError": """
+        With `Places` the position is where the number ends: 5 in `1.500`, and not 4.""",
+    "languages": "With `HEX_DIGITS` `10` is ten, and `0x10` 16. Where `017` is octal, `08` is 0, and ends at 1.",
+    "read_literal_as": """
+        A literal of C++, with `CXX14`: `1'000u` is 1000, and ends at 5; `017` is 15; `1''0` is 1, and ends at 1.""",
+    "read_decimal_from": """
+        An `e` begins an exponent, so `1EB` is `EmptyExponent(2)`. Before a unit call [`read_decimal_of`](#read_decimal_of) with
+        `forms::DECIMAL`, which has no exponent.""",
+    "parse_list": """
+        With a gap that may trail, blanks or a separator may follow the last number, also if the slice is full: `1 2 ` by
+        `SPACES_IN_LINE`, into two places, is `Ok(2)`.""",
     "is_form": """
         It returns `false` if
 
@@ -441,7 +466,11 @@ NOTES = {
         | `Prices::grouped` | `1,234.5` | `1234.5` |
         | `Prices::new` | `1,234.50` | `1234.50`, `1,234.5` |
         | [`Scaled`](#scaled), to compare | `1234.50`, `12.5` | `12.345` |""",
-    "read_number_of": "An incomplete part isn't read: of `1e` JSON reads the 1, and of `0xg` Rust the 0. A number never begins with a separator.",
+    "read_number_of": """
+        An incomplete part isn't read: of `1e` JSON reads the 1, and of `0xg` Rust the 0. A number never begins with a separator.
+
+        By `forms::RUST` a number ends before its suffix: `1.5_f64` at 4. `1f64` is the integer 1, and `1..2` ends at 1
+        ([with suffixes](../../CALLING.md#a-literal-of-source-code)).""",
     "name_end": "For a position after the end of the text it returns that position.",
     "write_list": "Room: for each number what [`write_number`](#writing) needs of its type, and one byte between two.",
     "DECIMAL": "It is no word: that of plain decimal numbers is [`STANDARD`](#standard).",
@@ -452,7 +481,11 @@ NOTES = {
 
         A `Layout` that you write by its fields has to be valid, and you prove that: a radix from 2 to 36, and no groups, or a separator that is neither 0 nor a digit. These methods do it for you.""",
     "write_fixed": "An `f32` is written by its exact `f64`, `f64::from(x)`.",
-    "Language": "Later 0.1.x may add fields: write one with `..`, from a language that is close.",
+    "Language": """
+        `decimal` may have any radix. With a hexadecimal word both `ff` and `0xff` are read; then set `binary` to `None`, or `0b1` is 1 ([an
+        example](../OWN.md#a-language)).
+
+        Later 0.1.x may add fields: write one with `..`, from a language that is close.""",
     "Special": "Later 0.1.x may add fields: write one with `..`.",
     "DigitSeparatorFlags": """
         | Flag | It skips the `_` of | With `consecutive` also those of |
@@ -473,7 +506,7 @@ TABLES = {"forms": " [A table of all](forms.md).",
 # What a caller proves, in words.
 CONDITIONS = {
     "IsTrue (is_supported word)": "the word is supported",
-    "IsDecimal word": "digits and exponent have radix 10",
+    "IsDecimal word": "the word is decimal",
     "start ≤ length text.now": "start ≤ text.len()",
     "at ≤ length text.now": "at ≤ text.len()",
     "end ≤ length text.now": "end ≤ text.len()",
@@ -492,7 +525,7 @@ CONDITIONS = {
     "before ≤ most": "`before` is at most `most`",
     "T.ROOM ≤ length out.old": "`out` has room for any number of the type",
     "IsTrue (is_supported kind.word)": "the kind's word is supported",
-    "IsDecimal kind.word": "digits and exponent have radix 10",
+    "IsDecimal kind.word": "the kind's word is decimal",
     "kind.places ≤ 38": "places ≤ 38",
     "IsTrue (are_apart (K.has_byte kind) gap)": "no byte of the gap may be in a number",
     "IsTrue (are_apart (is_pointed_byte word 46) gap)": "no byte of the gap may be in a number",
@@ -626,18 +659,18 @@ What is known only at run time you test first:
 | You prove | Test |
 |---|---|
 | the word is supported | `is_supported(word)` |
-| digits and exponent have radix 10 | `mantissa_radix()` and `exponent_radix()` of [`NumberFormat::new(word)`](#numberformat) |
+| the word is decimal: its digits and its exponent have radix 10 | that `mantissa_radix()` and `exponent_radix()` of [`NumberFormat::new(word)`](#numberformat) are 10 |
 | the form is valid | `is_form(form)` |
 | the words of the language are supported | `is_language(language)` |
 | the kind is valid: `Integers` | `is_supported(word)` |
-| the kind is valid: `Floats` | the same, and that digits and exponent have radix 10 |
+| the kind is valid: `Floats` | the same, and that the word is decimal |
 | the kind is valid: `Scaled`, `Prices` | the same as of `Floats`, and `places <= 38` |
 | the kind is valid: `OfForm`, `OfLanguage` | `is_form(form)`, `is_language(language)` |
 | the kind is valid: `Both`, `Enclosed` | what the kinds of their numbers need |
 | start, at, end ≤ text.len() | `start <= text.len()` |
 | places ≤ 38 | `places <= 38` |
 | `x` is finite | `x.is_finite()`, of a constant too |
-| `out` has room for any number of the type | `out.len() >= MOST_ROOM`; of a `[0; MOST_ROOM]` nothing |
+| `out` has room for any number of the type | `out.len() >= MOST_ROOM`, or the [bytes of the type](#writing); of an array of that length nothing |
 | the mantissa is one of this text | nothing, if `read_mantissa` returned it for the same text |
 | `before` is at most `most`, of `read_first_digits_from` | `before <= most` |
 
@@ -663,7 +696,7 @@ What is known only at run time you test first:
 | `parse_list` | [`ListError`](#listerror) |
 | `read_enclosed` | [`EnclosedError`](#enclosederror) |
 | `read_piece` | that of one number, in `PieceEnd::Fault` |
-| `next_number`, `finish`, `pass_byte` | [`StreamError`](#streamerror) |
+| `next_number`, `finish`, `pass_byte`, `pass_blanks` | [`StreamError`](#streamerror) |
 | `read_into` | [`StreamError`](#streamerror), in `StreamEnd::Fault` |
 | `fold_stream`, `fold_numbers` | [`FoldError`](#folderror) |
 | `fold_enclosed` | [`EnclosedFoldError`](#enclosedfolderror) |
@@ -687,6 +720,22 @@ Five texts, with `forms::JSON` for `parse_number_of` and `read_number_of`, and `
 | `Ok`: the number 1 and the position 1 |
 
 Of `3000000000` `parse_number::<i32>` and `read_number::<i32>` return `Overflow(9)`: without the digit at 9 the value fits, and with it it doesn't.
+
+The position is, by the variant:
+
+| Variant | What is at `position()` |
+|---|---|
+| `Empty`, `EmptyExponent` | the byte where a digit or a number is required, or the end of the text |
+| `Invalid` | the first byte that isn't part of the number or the list |
+| `Overflow`, `TooLarge` | the digit with which the value no longer fits |
+| `TooFine` | the first digit beyond the places that isn't 0 |
+| `Zero` | the first `0`, which the language refuses |
+| `Group` | the first digit of a group with a wrong length |
+| `Places` | the end of the number |
+| `NoRoom` of a list or a stream | the number for which the slice or the buffer has no room |
+| `NoOpening`, `NoClosing` | another byte than the bracket, or the end of the text |
+| `Trailing` | the first byte after the list |
+| `Stopped` | what follows the number that the closure refused, and its separator |
 
 What `Empty` says differs by the type of the error:
 

@@ -1,8 +1,12 @@
 """What README.md and the head of docs/SPEED.md say of the times beside other readers."""
+import statistics
+
 from cases import table
 from peers import LIBRARY, READ, Figures, lacks, slower_run
 from written import times
 
+# The rows whose times README.md has.
+EXAMPLES = ("f64, coordinates", "u64, 16 digits")
 # The readers that don't say where a number ends.
 WITHOUT_END = ("std", "lexical-core", "serde_json", "minimal-lexical")
 
@@ -69,21 +73,28 @@ long as the next one{f", in the other rows {others}" if slower else ""}.
 can't put it into its caller's loop."""
 
 
+def beside(row):
+    """The time of a row, and that of the fastest reader that does the same work, with its name."""
+    return slower_run(row, rows()[row], LIBRARY, lacks=lacks_end)
+
+
 def readme():
     """What README.md has between its comments: the picture, what you gain, and what you lose."""
-    found, worst = ratios(), times("%.6e, coordinates", "%.6e, 3 digits").split()[0]
+    found, worst = ratios(), times("%.6e, coordinates", "%.6e, 3 digits")
     below, above = ([it for it in found.values() if (it > 1) == is_above] for is_above in (False, True))
     integers = times("u64, 3 digits", "u64, 1 to", "u64, 8", "u64, 16", "u64, 20", "i32")
     floats = times("f64, ", "f64 with", "f32, ")
-    gain, most_gain = (round(100 * (1 - it)) for it in (max(below), min(below)))
+    median = round(100 * (1 - statistics.median(found.values())))
+    one, two = (f"{mine:.0f} ns, by {peer[1]} {peer[0]:.0f}" for mine, peer in map(beside, EXAMPLES))
     loss = " and ".join(f"{round(100 * (it - 1))} %" for it in sorted(above)) or "0 %"
     return f"""\
 ![Whole texts, and numbers whose end is needed, by what is read](docs/times.svg)
 
-- **You gain** when you read whole texts, or numbers of JSON: for {len(below)} of {len(found)} kinds of numbers a call takes {gain} to {most_gain} % \
-less time than by the fastest other library that does the same work, such as std, fast_float or simdjson; for the others {loss} more.
-- **You may lose** when you write: an integer takes {integers} times as long as by the fastest other library, and a float with the \
-fewest digits {floats} times.
+- **You gain** when you read whole texts, or numbers of JSON. A coordinate such as `-12.3456` takes {one}; an integer of 16 digits {two}. \
+For {len(below)} of {len(found)} kinds of numbers no library that does the same work is faster, and the other {len(above)} take {loss} more. The median of \
+the {len(found)} takes {median} % less.
+- **You may lose** when you need where a number ends: for {fastest(READ)} kinds no library is faster, and the others take up to {round(100 * (float(most(ratios(side=READ))) - 1))} % more. \
+And when you write: an integer takes {integers} times as long as by the fastest other library, and a float with the fewest digits {floats} times.
 - **You lose** with floats like `%.6e`, by `write_scientific`: a price takes {worst} times as long, and floats of random bits {float(times('%.6e').split()[-1]):.0f} times.
 
 [SPEED.md](docs/SPEED.md) has each kind of input, the libraries and their versions, what a call from C costs, and how to \

@@ -1,27 +1,31 @@
 //! What the pages for callers say that their own functions and a stream answer.
 
 use digit_uses::calling::{
-    COMMA_DIGITS, Field, SEMICOLONS, field_of, has_port, line_and_column, parse_either,
-    parse_price, parse_timeout, read_array, read_byte, read_cents, read_lexeme, read_rate,
-    sum_lengths,
+    COMMA_DIGITS, Field, SEMICOLONS, Value, field_of, has_port, line_and_column, mean_of,
+    parse_address, parse_colors, parse_duration, parse_either, parse_price, parse_size,
+    parse_timeout, read_array, read_cents, read_rate, read_value, sum_lengths, sum_timeouts,
 };
 use digit_uses::files::{
-    Entry, cents_of, check_entries, first_above, greatest_of, parse_entry, position_of,
-    print_column, read_all, sum_array, sum_bytes, sum_column, sum_of, sum_text,
+    Entry, SumError, cents_of, check_entries, column_sum, first_above, first_in_array, greatest_of,
+    parse_entry, print_column, read_all, sum_array, sum_bytes, sum_column, sum_of, sum_text,
+    sum_words,
 };
-use digit_uses::own::read_color;
+use digit_uses::own::{read_color, read_masks};
 use digit_uses::proving;
+use digit_uses::readme::parse_order;
 use digit_uses::sums::sum_list;
-use digit_uses::writing::{put_price, write_array, write_two_places};
-use digits::languages::RUST;
+use digit_uses::writing::{
+    put_array, put_float, put_price, put_row, write_array, write_two_places,
+};
+use digits::languages::{CXX14, RUST};
 use digits::words::PYTHON_LITERAL;
 use digits::{
     COMMAS, EnclosedFoldError, FloatError, Floats, FoldError, Integers, LINES, LanguageError,
-    ListError, LiteralError, Number, NumberError, NumberReader, ParseError, PriceError, STANDARD,
-    ScaledError, StreamError, WHITESPACE, floats_are_apart, fold_stream, forms, parse_float,
-    parse_list, parse_number, parse_number_from, parse_number_of, parse_scaled, read_exact_from,
-    read_float, read_grouped_from, read_literal_as, read_number, read_number_of, read_price_from,
-    read_scaled_from,
+    ListEnd, ListError, LiteralError, Number, NumberError, NumberReader, ParseError, PriceError,
+    SPACES_IN_LINE, STANDARD, ScaledError, StreamError, WHITESPACE, floats_are_apart, fold_stream,
+    forms, parse_float, parse_list, parse_number, parse_number_from, parse_number_of, parse_scaled,
+    read_decimal_from, read_decimal_of, read_exact_from, read_float, read_grouped_from,
+    read_literal_as, read_number, read_number_of, read_price_from, read_scaled_from,
 };
 use std::io::{BufRead, BufReader};
 
@@ -521,13 +525,22 @@ fn empty_lines(rt: HostRuntime) {
     assert!(rt; sum_of(b"1\n\n2\n".as_slice()) == Err(FoldError::Stream(fault)));
 }
 
+/// The position of the error of an array, if there is one.
+fn fault_of(stream: &[u8]) -> Option<u64> {
+    match sum_array(stream) {
+        Ok(_) => None,
+        Err(error) => error.position(),
+    }
+}
+
 /// Where the fault of an array is.
 #[test]
 fn a_fault_of_an_array(rt: HostRuntime) {
-    assert!(rt; sum_array(b"[1, 2.5".as_slice()).map_err(position_of) == Err(Some(7)));
-    assert!(rt; sum_array(b"[1, x]".as_slice()).map_err(position_of) == Err(Some(4)));
-    assert!(rt; sum_array(b"1".as_slice()).map_err(position_of) == Err(Some(0)));
-    assert!(rt; sum_array(b"[1] x".as_slice()).map_err(position_of) == Err(Some(4)));
+    assert!(rt; fault_of(b"[1, 2.5".as_slice()) == Some(7));
+    assert!(rt; fault_of(b"[1, x]".as_slice()) == Some(4));
+    assert!(rt; fault_of(b"1".as_slice()) == Some(0));
+    assert!(rt; fault_of(b"[1] x".as_slice()) == Some(4));
+    assert!(rt; fault_of(b"[1] \n".as_slice()).is_none());
 }
 
 /// An amount that is a number of JSON.
@@ -542,12 +555,37 @@ fn cents_of_json(rt: HostRuntime) {
     }
 }
 
-/// A literal with its suffix.
+/// Literals with a suffix, and without one.
 #[test]
-fn a_suffix(rt: HostRuntime) {
-    assert!(rt; read_byte(b"0x1F_u8", 0) == Ok((31, 7)));
-    assert!(rt; read_byte(b"1_u16", 0) == Err(2) && read_byte(b"=7;", 1) == Ok((7, 2)));
-    assert!(rt; read_byte(b"256", 0) == Err(2) && read_byte(b"x", 0) == Err(0));
+fn values(rt: HostRuntime) {
+    for (text, value, end) in [
+        ("1_000;", Value::Integer(1000), 5),
+        ("0xff+1", Value::Integer(255), 4),
+        ("1.5e3", Value::Double(1500.0), 5),
+        ("0x1F_u8", Value::Byte(31), 7),
+        ("1f64", Value::Double(1.0), 4),
+        ("1.5_f32)", Value::Single(1.5), 7),
+        ("1..2", Value::Integer(1), 1),
+        ("16777217f32", Value::Single(16777216.0), 11),
+    ] {
+        assert!(rt;
+            read_value(text.as_bytes(), 0) == Ok((value, end)),
+            "{text}"
+        );
+    }
+    assert!(rt; read_value(b"=7;", 1) == Ok((Value::Integer(7), 2)));
+    for (text, fault) in [
+        ("1_u16", 2),
+        ("256u8", 0),
+        ("1.5u8", 0),
+        ("12ab", 2),
+        ("0b12", 3),
+        ("0xfg", 3),
+        ("x", 0),
+        ("", 0),
+    ] {
+        assert!(rt; read_value(text.as_bytes(), 0) == Err(fault), "{text}");
+    }
 }
 
 /// A key, a number and a unit.
@@ -584,6 +622,10 @@ fn a_column_of_a_stream(rt: HostRuntime) {
     assert!(rt; cents_of(b"a,1.50,x", 1) == Some(150) && cents_of(b"a,1.50,x", 3) == None);
     assert!(rt; cents_of(b"a, 1.50", 1) == None);
     assert!(rt; print_column(rt, b"name,price\na,1.50\nb,2\n".as_slice(), 1).is_ok());
+    let sum = column_sum(rt, b"name,price\na,1.50\n\nb,2\n".as_slice(), 1);
+    assert!(rt; matches!(sum, Ok(Ok(350))));
+    let fault = column_sum(rt, b"name,price\na,1.50\nb\n".as_slice(), 1);
+    assert!(rt; matches!(fault, Ok(Err(3))));
     assert!(rt; print_column(rt, b"name,price\n\xff\n".as_slice(), 1).is_err());
     assert!(rt; first_line_is(&rt, b"1.50\r\n2\n", b"1.50").is_ok_and(|is| is));
 }
@@ -633,16 +675,225 @@ fn an_array_in_a_slice(rt: HostRuntime) {
     assert!(rt; write_array(&[], &mut []) == None);
 }
 
-/// A number of a language, and a letter after it.
+/// Parts of a duration, each of which may be missing.
 #[test]
-fn a_lexeme(rt: HostRuntime) {
-    for (text, end) in [("1_000;", 5), ("0xff+1", 4), ("1.5e3", 5)] {
+fn durations(rt: HostRuntime) {
+    assert_eq!(rt; parse_duration(b"1h30m5s"), Ok(5405));
+    assert_eq!(rt; parse_duration(b"30m"), Ok(1800));
+    assert_eq!(rt; parse_duration(b"4294967295h"), Ok(15461882262000));
+    for (text, fault) in [
+        ("", 0),
+        ("x", 0),
+        ("5", 0),
+        ("1h5x", 2),
+        ("5s1h", 2),
+        ("4294967296s", 9),
+    ] {
+        assert!(rt; parse_duration(text.as_bytes()) == Err(fault), "{text}");
+    }
+}
+
+/// A host, and a port that may be missing.
+#[test]
+fn addresses(rt: HostRuntime) {
+    assert_eq!(rt; parse_address(b"example.org:8080"), Ok((11, 8080)));
+    assert_eq!(rt; parse_address(b"example.org"), Ok((11, 443)));
+    assert_eq!(rt; parse_address(b""), Ok((0, 443)));
+    for (text, fault) in [
+        ("example.org:x", 12),
+        ("example.org:", 12),
+        ("a:0", 2),
+        ("a:65536", 6),
+        ("a:80/", 4),
+        ("[::]", 2),
+    ] {
+        assert!(rt; parse_address(text.as_bytes()) == Err(fault), "{text}");
+    }
+}
+
+/// Sizes with a unit and a fraction, which are exact.
+#[test]
+fn sizes(rt: HostRuntime) {
+    for (text, size) in [
+        ("512", 512),
+        ("4KiB", 4096),
+        ("1.5KiB", 1536),
+        ("1.5MB", 1500000),
+        ("0.000000001GB", 1),
+        ("18446744073709551615B", u64::MAX),
+    ] {
+        assert!(rt; parse_size(text.as_bytes()) == Ok(size), "{text}");
+    }
+    for (text, fault) in [
+        ("1.5B", 0),
+        ("18446744073709551616", 0),
+        ("1.5X", 3),
+        ("1EB", 1),
+        ("-1", 0),
+        ("", 0),
+    ] {
+        assert!(rt; parse_size(text.as_bytes()) == Err(fault), "{text}");
+    }
+    assert!(rt; read_decimal_from(b"1EB", STANDARD, 0) == Err(FloatError::EmptyExponent(2)));
+    assert!(rt; read_decimal_of(b"1EB", 0, forms::DECIMAL).is_ok_and(|read| read.1 == 1));
+}
+
+/// Colours, into a slice.
+#[test]
+fn colors(rt: HostRuntime) {
+    let mut out = [0; 2];
+    assert_eq!(rt; parse_colors(b" #ff8800, #00ff00\n", &mut out), Ok(2));
+    assert_eq!(rt; out, [0xff8800, 0x00ff00]);
+    assert_eq!(rt; parse_colors(b"#123456", &mut out), Ok(1));
+    for (text, fault) in [
+        ("", 0),
+        ("ff8800", 0),
+        ("#ff88", 5),
+        ("#ff8800 #00ff00", 8),
+        ("#ff8800,", 8),
+        ("#000001, #000002, #000003", 18),
+    ] {
         assert!(rt;
-            read_lexeme(text.as_bytes(), 0).is_ok_and(|read| read.1 == end),
+            parse_colors(text.as_bytes(), &mut out) == Err(fault),
             "{text}"
         );
     }
-    assert!(rt; read_lexeme(b"12ab", 0).is_err_and(|at| at == 2));
-    assert!(rt; read_lexeme(b"0xfg", 0).is_err_and(|at| at == 3));
-    assert!(rt; read_lexeme(b"=x", 1).is_err_and(|at| at == 1));
+}
+
+/// Literals of C++, whose separator is no byte of a name.
+#[test]
+#[tactic(auto, unfolding(digits::proofs::Literals::lexical_on_literals))]
+fn literals_of_cxx(rt: HostRuntime) {
+    for (text, value, end) in [
+        ("1'000u", 1000, 5),
+        ("017", 15, 3),
+        ("08", 0, 1),
+        ("0b1", 1, 3),
+        ("1''0", 1, 1),
+    ] {
+        assert!(rt;
+            read_literal_as::<u64>(text.as_bytes(), 0, CXX14) == Ok((value, end)),
+            "{text}"
+        );
+    }
+}
+
+/// A list that fills its slice, and has a blank after it.
+#[test]
+fn a_full_row(rt: HostRuntime) {
+    let mut out = [0; 2];
+    let kind = Integers::<u8>::new(STANDARD);
+    assert_eq!(rt; parse_list(kind, b"1 2 ", SPACES_IN_LINE, &mut out), Ok(2));
+    assert_eq!(rt; parse_list(kind, b"1 2  ", SPACES_IN_LINE, &mut out), Ok(2));
+    assert_eq!(rt;
+        parse_list(kind, b"1 2 3", SPACES_IN_LINE, &mut out),
+        Err(ListError::NoRoom(4))
+    );
+}
+
+/// The first number of an array above a limit.
+#[test]
+fn the_first_in_an_array(rt: HostRuntime) {
+    assert!(rt; first_in_array(b"[1, 2.5, 3]".as_slice(), 2.0) == Ok(Some((2.5, 4))));
+    assert!(rt; first_in_array(b" [1, 2.5 ] x".as_slice(), 2.0) == Ok(Some((2.5, 5))));
+    assert!(rt; first_in_array(b"[ ]".as_slice(), 2.0) == Ok(None));
+    assert!(rt; first_in_array(b"[1]".as_slice(), 2.0) == Ok(None));
+    for (text, fault) in [("1", 0), ("[1 2]", 3), ("[3x]", 2), ("[3, x]", 4), ("[", 1)] {
+        let found = first_in_array(text.as_bytes(), 2.0);
+        assert!(rt;
+            found.is_err_and(|error| error.position() == Some(fault)),
+            "{text}"
+        );
+    }
+}
+
+/// Lines with a key, a number and a unit.
+#[test]
+fn lines_of_timeouts(rt: HostRuntime) {
+    assert_eq!(rt;
+        sum_timeouts(b"timeout = 1 s\r\n\ntimeout = 250 ms\n"),
+        Ok(1250)
+    );
+    assert_eq!(rt;
+        sum_timeouts(b"timeout = 1 s\ntimeout = 250 h\n"),
+        Err((2, 15))
+    );
+    assert_eq!(rt;
+        sum_timeouts(b"timeout = 18446744073709551615ms\ntimeout=1ms"),
+        Err((2, 1))
+    );
+    assert_eq!(rt; sum_timeouts(b""), Ok(0));
+    assert!(rt; parse_timeout(b"timeout = 1 ms \t") == Ok(1));
+    assert!(rt; parse_timeout(b"timeout = 1 ms,") == Err(14));
+}
+
+/// A sum, and which number makes it too large.
+#[test]
+fn a_sum_of_words(rt: HostRuntime) {
+    assert_eq!(rt; sum_words(b" 1 20\n".as_slice()), Ok(21));
+    assert_eq!(rt; sum_words(b"".as_slice()), Ok(0));
+    assert_eq!(rt;
+        sum_words(b"2147483647  1".as_slice()),
+        Err(SumError::TooLarge(12))
+    );
+    let trailing = StreamError::Trailing(2, Some(LiteralError::Empty(2)));
+    assert_eq!(rt;
+        sum_words(b"1 x".as_slice()),
+        Err(SumError::Stream(trailing))
+    );
+    let large = StreamError::Number(LiteralError::Overflow(11));
+    assert_eq!(rt;
+        sum_words(b"1 2147483648 ".as_slice()),
+        Err(SumError::Stream(large))
+    );
+}
+
+/// The mean of a stream.
+#[test]
+fn a_mean(rt: HostRuntime) {
+    assert!(rt; mean_of(b"1\n2.5\n".as_slice()) == Ok(Some(1.75)));
+    assert!(rt; mean_of(b"".as_slice()) == Ok(None));
+    let fault = mean_of(b"1\n\n2\n".as_slice());
+    assert!(rt; fault.is_err_and(|error| error.position() == Some(2)));
+}
+
+/// A line of README.
+#[test]
+fn a_row_of_the_readme(rt: HostRuntime) {
+    assert!(rt; parse_order(b"17,12.50") == Ok((17, 1250)));
+    for (text, fault) in [
+        ("17,12.5x", 7),
+        ("17;1", 2),
+        ("x", 0),
+        ("17,", 3),
+        ("17,1.005", 7),
+    ] {
+        assert!(rt; parse_order(text.as_bytes()) == Err(fault), "{text}");
+    }
+}
+
+/// Hexadecimal digits, with a prefix and without one.
+#[test]
+fn masks(rt: HostRuntime) {
+    let mut out = [0; 4];
+    let list = read_masks(b"ff, 0x1f, 1'000, 0b1;", &mut out);
+    assert_eq!(rt; (list.count, list.end), (4, ListEnd::Over(20)));
+    assert_eq!(rt; out, [255, 31, 4096, 0xb1]);
+}
+
+/// An array, and a float at the right end of a column.
+#[test]
+fn into_a_write(rt: HostRuntime) {
+    let mut to = Vec::new(rt.alloc());
+    assert!(rt; matches!(put_array(&[1.5, 2.0], &mut to), Ok(true)));
+    assert!(rt; matches!(put_array(&[], &mut to), Ok(true)));
+    assert!(rt; matches!(put_array(&[1.0, f64::NAN], &mut to), Ok(false)));
+    assert!(rt; put_float(2.5, &mut to).is_ok() && put_float(f64::INFINITY, &mut to).is_ok());
+    assert!(rt; to.as_slice() == b"[1.5,2.0][]        2.50           -".as_slice());
+    let mut row = Vec::new(rt.alloc());
+    assert!(rt; matches!(put_row(17, 123450, 0.1, &mut row), Ok(true)));
+    assert!(rt; matches!(put_row(17, 123450, f64::NAN, &mut row), Ok(false)));
+    assert!(rt; row.as_slice() == b"17,\"1,234.50\",0.1\n".as_slice());
+    let mut wide = Vec::new(rt.alloc());
+    assert!(rt; put_float(-f64::MAX, &mut wide).is_ok() && wide.len() == 313);
 }

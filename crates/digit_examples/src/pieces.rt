@@ -3,11 +3,12 @@
 use digits::{
     Both, BothError, COMMAS, EnclosedFoldError, FloatError, Floats, FoldError,
     INTEGER_INTERNAL_DIGIT_SEPARATOR, Integers, LINES, ListError, LiteralError, Number,
-    NumberReader, PieceEnd, STANDARD, Scaled, StreamEnd, StreamError, block_start, end_in_text,
-    floats_are_apart, fold_stream, forms, integers_are_apart, is_apart, parse_list,
+    NumberReader, PieceEnd, STANDARD, Scaled, StreamEnd, StreamError, WHITESPACE, block_start,
+    end_in_text, floats_are_apart, fold_stream, forms, integers_are_apart, is_apart, parse_list,
     read_float_list_piece, read_list_piece, read_list_piece_of, read_piece, read_scaled_list_piece,
     sure_end,
 };
+use std::io::ErrorKind;
 
 /// Shows `read_list_piece`.
 #[test]
@@ -153,17 +154,20 @@ fn a_loop(rt: HostRuntime) {
     integers_are_apart::<u64>(STANDARD, LINES);
     let mut buffer = [0; 64];
     let kind = Integers::<u64>::new(STANDARD);
-    let stream = b"3\n12\n5\n".as_slice();
+    let stream = b"3\n 12\n5\n".as_slice();
     let mut numbers = NumberReader::new(stream, &mut buffer, kind, LINES);
-    let mut greatest = 0u64;
+    let mut greatest = (0u64, 0u64);
     for _ in 0..u64::MAX {
+        numbers.pass_blanks().expect(&rt, "a stream");
+        let at = numbers.position();
         match numbers.next_number() {
-            Some(number) => greatest = number.expect(&rt, "a number").max(greatest),
+            Some(number) => greatest = greatest.max((number.expect(&rt, "a number"), at)),
             None => break,
         }
     }
     assert_eq!(rt; numbers.finish(), Ok(()));
-    assert_eq!(rt; greatest, 12);
+    // the number 12, which begins at 3
+    assert_eq!(rt; greatest, (12, 3));
 }
 
 /// Shows `NumberReader`, `NumberReader::next_number`.
@@ -292,6 +296,43 @@ fn the_greatest_number_of_a_stream(rt: HostRuntime) {
     assert_eq!(rt; numbers.pass_byte(b';'), Ok(true));
 }
 
+/// Shows `NumberReader::pass_blanks`.
+#[test]
+fn the_blanks_after_an_array(rt: HostRuntime) {
+    integers_are_apart::<u32>(STANDARD, COMMAS);
+    let mut buffer = [0; 64];
+    let kind = Integers::<u32>::new(STANDARD);
+    let stream = b"[1] \n".as_slice();
+    let mut numbers = NumberReader::new(stream, &mut buffer, kind, COMMAS);
+    let add = |sum: u32, number: u32| sum.checked_add(number);
+    assert_eq!(rt; numbers.fold_enclosed(b'[', b']', 0, add), Ok(1));
+    assert_eq!(rt; numbers.position(), 3);
+    assert_eq!(rt; numbers.pass_blanks(), Ok(()));
+    assert_eq!(rt; numbers.position(), 5);
+    assert_eq!(rt; numbers.finish(), Ok(()));
+}
+
+/// Where the faults of a stream are.
+#[test]
+fn the_position_of_a_fault(rt: HostRuntime) {
+    let number = StreamError::Number(LiteralError::Empty(3));
+    assert_eq!(rt; number.position(), Some(3));
+    let trailing = StreamError::Trailing(5, Some(LiteralError::Empty(6)));
+    assert_eq!(rt; FoldError::from(trailing).position(), Some(5));
+    assert_eq!(rt; EnclosedFoldError::from(trailing).position(), Some(5));
+    let stopped: FoldError<LiteralError> = FoldError::Stopped(8);
+    assert_eq!(rt; stopped.position(), Some(8));
+    assert_eq!(rt; EnclosedFoldError::from(stopped).position(), Some(8));
+    let open: EnclosedFoldError<LiteralError> = EnclosedFoldError::NoClosing(7);
+    assert_eq!(rt; open.position(), Some(7));
+    let failed: StreamError<LiteralError> = StreamError::Read(ErrorKind::NotFound);
+    assert_eq!(rt; failed.position(), None);
+    let long: StreamError<LiteralError> = StreamError::TooLong;
+    assert_eq!(rt; long.position(), None);
+    let full: StreamError<LiteralError> = StreamError::NoRoom(9);
+    assert_eq!(rt; full.position(), Some(9));
+}
+
 /// Shows `NumberReader::fold_enclosed`.
 #[test]
 fn the_sums_of_arrays(rt: HostRuntime) {
@@ -307,4 +348,26 @@ fn the_sums_of_arrays(rt: HostRuntime) {
     let add = |sum: u32, number: u32| sum.checked_add(number);
     let sum = numbers.fold_enclosed(b'[', b']', 0, add);
     assert_eq!(rt; sum, Err(EnclosedFoldError::NoClosing(13)));
+}
+
+/// A separator is used with the number before it.
+#[test]
+fn a_separator_is_used(rt: HostRuntime) {
+    integers_are_apart::<u32>(STANDARD, COMMAS);
+    let mut buffer = [0; 64];
+    let kind = Integers::<u32>::new(STANDARD);
+    let mut numbers = NumberReader::new(b"1, 20".as_slice(), &mut buffer, kind, COMMAS);
+    assert_eq!(rt; numbers.next_number(), Some(Ok(1)));
+    assert_eq!(rt; numbers.position(), 2);
+    assert_eq!(rt; numbers.pass_blanks(), Ok(()));
+    assert_eq!(rt; numbers.position(), 3);
+    assert_eq!(rt; numbers.next_number(), Some(Ok(20)));
+    let mut buffer = [0; 64];
+    integers_are_apart::<u32>(STANDARD, WHITESPACE);
+    let mut numbers = NumberReader::new(b"1  2".as_slice(), &mut buffer, kind, WHITESPACE);
+    assert_eq!(rt; numbers.next_number(), Some(Ok(1)));
+    assert_eq!(rt; numbers.position(), 2);
+    assert_eq!(rt; numbers.pass_blanks(), Ok(()));
+    assert_eq!(rt; numbers.position(), 3);
+    assert_eq!(rt; numbers.next_number(), Some(Ok(2)));
 }

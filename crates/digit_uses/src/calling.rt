@@ -31,6 +31,29 @@ pub fn read_size(text: &[u8]) -> Result<(u32, u32, usize), SizeError> {
     Ok((width, height, end))
 }
 
+ghost use Rattle.std.specs.Prelude.{◌≤◌, IfOk, length};
+
+use digits::read_integer_from;
+
+/// Why there is no percentage.
+#[derive(Clone, Copy, Debug, PartialEq, Eq)]
+pub enum PercentError {
+    NoDigit(usize),
+    Above100(usize),
+}
+
+/// Reads the percentage at `start`, and returns where it ends: `75%` gives `(75, 2)`.
+pub fn read_percent(line: &[u8], start: usize) -> Result<(u8, usize), PercentError>
+    requires { start ≤ length line.now }
+    ensures { IfOk result (λ read. read.1 ≤ length line.now) }
+{
+    match read_integer_from(line, PYTHON_LITERAL, start, 100) {
+        Ok((percent, end)) => Ok((percent as u8, end)),
+        Err(LiteralError::Empty(at)) => Err(PercentError::NoDigit(at)),
+        Err(LiteralError::Overflow(at)) => Err(PercentError::Above100(at)),
+    }
+}
+
 use digits::{BLANKS, STANDARD, past_bytes};
 
 /// Reads a text as a number, with any blanks around it: ` 12\r\n` is 12.
@@ -67,24 +90,88 @@ pub fn parse_metres(text: &[u8]) -> Result<f64, LengthError> {
     }
 }
 
-use digits::expect_bytes;
+use digits::parse_number_from;
+
+/// Reads a text as an address: where its host ends, and the port, which is 443 if there is none.
+/// `[::]` isn't read: the host has no `:`. In `example.org:x` the fault is at 12.
+pub fn parse_address(text: &[u8]) -> Result<(usize, u16), usize> {
+    let Some(end) = text.iter().position(|byte| *byte == b':') else {
+        return Ok((text.len(), 443));
+    };
+    let start = expect_byte(text, end, b':')?;
+    let port = parse_number_from::<u16>(text, STANDARD, start).map_err(|error| error.position())?;
+    if port == 0 {
+        return Err(start);
+    }
+    Ok((end, port))
+}
+
+use digits::{SPACES, expect_bytes, name_end};
 
 /// Reads a line such as `timeout = 250 ms` as milliseconds, or returns the position of its first
 /// fault: in `timeout = 250 h` that is 14.
 pub fn parse_timeout(line: &[u8]) -> Result<u64, usize> {
-    let at = past_bytes(line, 0, BLANKS);
+    let at = past_bytes(line, 0, SPACES);
     let at = expect_bytes(line, at, b"timeout")?;
-    let at = past_bytes(line, at, BLANKS);
+    let at = past_bytes(line, at, SPACES);
     let at = expect_byte(line, at, b'=')?;
-    let at = past_bytes(line, at, BLANKS);
-    let number = read_number_from::<u64>(line, STANDARD, at);
+    let start = past_bytes(line, at, SPACES);
+    let number = read_number_from::<u64>(line, STANDARD, start);
     let (number, end) = number.map_err(|error| error.position())?;
-    let unit = past_bytes(line, end, BLANKS);
-    match &line[unit..] {
-        b"ms" => Ok(number),
-        b"s" => number.checked_mul(1000).ok_or(at),
-        _ => Err(unit),
+    let unit = past_bytes(line, end, SPACES);
+    let stop = name_end(line, unit);
+    let factor = match &line[unit..stop] {
+        b"ms" => 1,
+        b"s" => 1000,
+        _ => return Err(unit),
+    };
+    let rest = past_bytes(line, stop, SPACES);
+    if rest < line.len() {
+        return Err(rest);
     }
+    number.checked_mul(factor).ok_or(start)
+}
+
+/// Adds up such lines, and skips empty ones. The error is the line and the column of the first
+/// fault, both from 1: in `timeout = 1 s\ntimeout = 250 h\n` they are 2 and 15.
+pub fn sum_timeouts(text: &[u8]) -> Result<u64, (usize, usize)> {
+    let mut sum = 0u64;
+    for (line, number) in text.split(|byte| *byte == b'\n').zip(1usize..) {
+        let line = line.strip_suffix(b"\r").unwrap_or(line);
+        if line.is_empty() {
+            continue;
+        }
+        let time = parse_timeout(line).map_err(|at| (number, at.saturating_add(1)))?;
+        sum = sum.checked_add(time).ok_or((number, 1))?;
+    }
+    Ok(sum)
+}
+
+use digits::{Integers, has_byte, read_optional};
+
+/// Reads a number with this unit, and returns where the unit ends; without such a part it returns 0
+/// and `at`.
+fn read_part(text: &[u8], at: usize, unit: u8) -> Result<(u32, usize), usize>
+    requires { at ≤ length text.now }
+    ensures { IfOk result (λ part. part.1 ≤ length text.now) }
+{
+    let number = read_optional(Integers::<u32>::new(STANDARD), text, at);
+    match number.map_err(|error| error.position())? {
+        Some((value, end)) if has_byte(text, end, unit) => Ok((value, end + 1)),
+        _ => Ok((0, at)),
+    }
+}
+
+/// Reads a text as seconds: `1h30m5s` is 5405, and `30m` 1800. In `1h5x` the fault is at 2, where
+/// no part begins.
+pub fn parse_duration(text: &[u8]) -> Result<u64, usize> {
+    let (hours, at) = read_part(text, 0, b'h')?;
+    let (minutes, at) = read_part(text, at, b'm')?;
+    let (seconds, end) = read_part(text, at, b's')?;
+    if end == 0 || end < text.len() {
+        return Err(end);
+    }
+    Ok(u64::from(hours) * 3600 + u64::from(minutes) * 60 + u64::from(seconds))
 }
 
 use digits::read_scaled_from;
@@ -97,6 +184,26 @@ pub fn read_rate(text: &[u8]) -> Result<(u32, usize), usize> {
     let (rate, at) = rate.map_err(|error| error.position())?;
     let end = expect_bytes(text, at, b"%;")?;
     Ok((rate, end))
+}
+
+/// Reads a text as a number of bytes, exactly: `512`, `4KiB`, `1.5MB`, which is 1500000. In `1.5B`
+/// the fault is at 0: it is no whole number of bytes.
+pub fn parse_size(text: &[u8]) -> Result<u64, usize> {
+    // Nine places, so that any fraction of a unit up to `GB` is exact.
+    let amount = read_scaled_from::<u128>(text, STANDARD, 0, b'.', 9);
+    let (amount, end) = amount.map_err(|error| error.position())?;
+    let unit = match &text[end..] {
+        b"" | b"B" => 1u128,
+        b"KiB" => 1024,
+        b"MB" => 1_000_000,
+        b"GB" => 1_000_000_000,
+        _ => return Err(end),
+    };
+    let size = amount.checked_mul(unit).ok_or(0usize)?;
+    if size % 1_000_000_000 != 0 {
+        return Err(0);
+    }
+    u64::try_from(size / 1_000_000_000).map_err(|_| 0)
 }
 
 use digits::{
@@ -135,37 +242,41 @@ pub fn read_mask(text: &[u8]) -> Result<(u16, usize), LanguageError> {
     read_literal_as::<u16>(text, 0, RUST)
 }
 
-ghost use Rattle.std.specs.Prelude.{◌≤◌, length};
-
-use digits::name_end;
-
-/// Reads the Rust literal of a `u8` at `start`, with its suffix or without one, and returns where
-/// it ends: `0x1F_u8` gives `(31, 7)`. In `1_u16` the fault is at 2, where the suffix begins.
-pub fn read_byte(text: &[u8], start: usize) -> Result<(u8, usize), usize>
-    requires { start ≤ length text.now }
-{
-    let literal = read_literal_as::<u8>(text, start, RUST);
-    let (value, end) = literal.map_err(|error| error.position())?;
-    let stop = name_end(text, end);
-    match &text[end..stop] {
-        b"" | b"u8" => Ok((value, stop)),
-        _ => Err(end),
-    }
-}
-
 use digits::Number;
 
-/// Reads the number of a Rust-like language at `start`, and returns where it ends: `1_000`, `0xff`,
-/// `1.5e3`. In `12ab` the fault is at 2, where a letter follows the number.
-pub fn read_lexeme(text: &[u8], start: usize) -> Result<(Number<f64>, usize), usize>
+/// A literal of a Rust-like language.
+#[derive(Clone, Copy, Debug, PartialEq)]
+pub enum Value {
+    Integer(u128),
+    Byte(u8),
+    Double(f64),
+    Single(f32),
+}
+
+/// Reads the literal at `start`, with its suffix, and returns where it ends: `0x1F_u8` gives
+/// `(Byte(31), 7)`. The error is the position of the fault.
+pub fn read_value(text: &[u8], start: usize) -> Result<(Value, usize), usize>
     requires { start ≤ length text.now }
 {
     let number = read_number_of::<f64>(text, start, forms::RUST);
     let (number, end) = number.map_err(|error| error.position())?;
-    if name_end(text, end) > end {
-        return Err(end);
-    }
-    Ok((number, end))
+    let stop = name_end(text, end);
+    let value = match &text[end..stop] {
+        b"" => match number {
+            Number::Integer { magnitude, .. } => Value::Integer(magnitude),
+            Number::Float(x) => Value::Double(x),
+        },
+        b"u8" => Value::Byte(number.as_integer::<u8>().ok_or(start)?),
+        b"f64" => Value::Double(number.to_float()),
+        b"f32" => {
+            // An `f32` of the `f64` would be rounded twice.
+            let single = read_number_of::<f32>(text, start, forms::RUST);
+            let (single, _) = single.map_err(|error| error.position())?;
+            Value::Single(single.to_float())
+        }
+        _ => return Err(end),
+    };
+    Ok((value, stop))
 }
 
 /// What a field has. Each position is that of the fault.
@@ -203,7 +314,7 @@ pub fn line_and_column(text: &[u8], at: usize) -> (usize, usize) {
     (lines + 1, columns + 1)
 }
 
-use digits::{COMMAS, Integers, ListError, parse_list};
+use digits::{COMMAS, ListError, parse_list};
 
 /// Tests whether a text that lists at most 16 ports, such as `80, 443`, has this one.
 pub fn has_port(text: &[u8], port: u16) -> Result<bool, ListError<LiteralError>> {
@@ -218,6 +329,24 @@ use digits::{ListRead, read_list};
 /// many there are, and why there are no more.
 pub fn read_ports(text: &[u8], ports: &mut [u16]) -> ListRead<LiteralError> {
     read_list::<u16>(text, 0, STANDARD, COMMAS, ports)
+}
+
+use digits::{FloatError, Floats, FoldError, LINES, floats_are_apart, fold_stream};
+use std::io::Read;
+
+/// The mean of the floats of a stream, one in each line; `None` if it is empty. An empty line is a
+/// fault.
+pub fn mean_of<R: Read + Drop>(stream: R) -> Result<Option<f64>, FoldError<FloatError>> {
+    floats_are_apart(STANDARD, LINES);
+    let mut buffer = [0; 4096];
+    let kind = Floats::<f64>::new(STANDARD);
+    // The count is exact up to 2 to the power 53.
+    let add = |(sum, count): (f64, f64), number: f64| Some((sum + number, count + 1.0));
+    let (sum, count) = fold_stream(stream, &mut buffer, kind, LINES, (0.0, 0.0), add)?;
+    if count == 0.0 {
+        return Ok(None);
+    }
+    Ok(Some(sum / count))
 }
 
 use digits::{ByteSet, COMMAS_IN_LINE, Gap};
@@ -254,7 +383,7 @@ pub fn read_cents(text: &[u8], start: usize) -> Option<(i64, usize)>
     if at == end { Some((cents, end)) } else { None }
 }
 
-ghost use Rattle.std.specs.Prelude.{◌<◌, IfOk};
+ghost use Rattle.std.specs.Prelude.{◌<◌};
 
 use digits::byte_at;
 
@@ -290,27 +419,6 @@ pub fn read_array(
     )
 }
 
-use digits::read_integer_from;
-
-/// Why there is no percentage.
-#[derive(Clone, Copy, Debug, PartialEq, Eq)]
-pub enum PercentError {
-    NoDigit(usize),
-    Above100(usize),
-}
-
-/// Reads the percentage at `start`, and returns where it ends: `75%` gives `(75, 2)`.
-pub fn read_percent(line: &[u8], start: usize) -> Result<(u8, usize), PercentError>
-    requires { start ≤ length line.now }
-    ensures { IfOk result (λ read. read.1 ≤ length line.now) }
-{
-    match read_integer_from(line, PYTHON_LITERAL, start, 100) {
-        Ok((percent, end)) => Ok((percent as u8, end)),
-        Err(LiteralError::Empty(at)) => Err(PercentError::NoDigit(at)),
-        Err(LiteralError::Overflow(at)) => Err(PercentError::Above100(at)),
-    }
-}
-
 /// Adds up the lengths of a text, and skips their units: `10px 2.5em` gives 12.5.
 pub fn sum_lengths(text: &[u8]) -> Result<f64, NumberError> {
     let mut sum = 0.0;
@@ -328,4 +436,25 @@ pub fn sum_lengths(text: &[u8]) -> Result<f64, NumberError> {
         }
     }
     Ok(sum)
+}
+
+use digits::read_exactly;
+
+/// Reads a text that lists colours, such as `#ff8800, #00ff00`, into the front of a slice, and
+/// returns how many there are. If the slice is too short, the error is where the next one begins.
+pub fn parse_colors(text: &[u8], out: &mut [u32]) -> Result<usize, usize> {
+    let mut at = past_bytes(text, 0, BLANKS);
+    for (place, count) in out.iter_mut().zip(1usize..) {
+        let start = expect_byte(text, at, b'#')?;
+        let color = read_exactly::<u32>(text, start, 16, 6);
+        let (color, end) = color.map_err(|error| error.position())?;
+        *place = color;
+        let end = past_bytes(text, end, BLANKS);
+        if end == text.len() {
+            return Ok(count);
+        }
+        let start = expect_byte(text, end, b',')?;
+        at = past_bytes(text, start, BLANKS);
+    }
+    Err(at)
 }

@@ -91,7 +91,38 @@ pub fn sum_bytes(text: &[u8], start: usize) -> Result<(u64, u64), FoldError<Lite
     Ok((sum, numbers.position()))
 }
 
-use digits::StreamError;
+use digits::{StreamError, WHITESPACE};
+
+/// Why a stream has no sum.
+#[derive(Clone, Copy, Debug, PartialEq, Eq)]
+pub enum SumError {
+    Stream(StreamError<LiteralError>),
+    /// With the number that begins here the sum is too large.
+    TooLarge(u64),
+}
+
+/// Adds up the integers of a stream, which have blanks between them: `1 20\n` gives 21. For
+/// `2147483647  1` the error is `TooLarge(12)`.
+pub fn sum_words<R: Read + Drop>(stream: R) -> Result<i32, SumError> {
+    integers_are_apart::<i32>(STANDARD, WHITESPACE);
+    let mut buffer = [0; 4096];
+    let kind = Integers::<i32>::new(STANDARD);
+    let mut numbers = NumberReader::new(stream, &mut buffer, kind, WHITESPACE);
+    let mut sum = 0i32;
+    for _ in 0..u64::MAX {
+        numbers.pass_blanks().map_err(SumError::Stream)?;
+        let at = numbers.position();
+        match numbers.next_number() {
+            Some(number) => {
+                let number = number.map_err(SumError::Stream)?;
+                sum = sum.checked_add(number).ok_or(SumError::TooLarge(at))?;
+            }
+            None => break,
+        }
+    }
+    numbers.finish().map_err(SumError::Stream)?;
+    Ok(sum)
+}
 
 /// Finds the first float above a limit in a stream that has one float in each line.
 pub fn first_above<R: Read + Drop>(
@@ -199,13 +230,13 @@ pub fn cents_of(line: &[u8], column: usize) -> Option<i64> {
     parse_scaled::<i64>(field, STANDARD, b'.', 2).ok()
 }
 
-/// Prints the sum of a column of a CSV stream whose first line is a header, or which line is the
-/// first without an amount there.
-pub fn print_column<R: Read + Drop>(
+/// Adds up the cents of a column of a CSV stream whose first line is a header. `Ok(Err(line))`:
+/// that line, counted from 1, has no amount, or the sum is too large with it.
+pub fn column_sum<R: Read + Drop>(
     rt: HostRuntime,
     stream: R,
     column: usize,
-) -> std::io::Result<()> {
+) -> std::io::Result<Result<i64, usize>> {
     let mut sum = 0i64;
     let lines = BufReader::new(rt.alloc(), stream)?.lines(rt.alloc());
     for (line, number) in lines.zip(1usize..) {
@@ -216,10 +247,22 @@ pub fn print_column<R: Read + Drop>(
         let cents = cents_of(line.as_bytes(), column);
         match cents.and_then(|cents| sum.checked_add(cents)) {
             Some(next) => sum = next,
-            None => return println!(rt; "line {number} has no amount, or the sum is too large"),
+            None => return Ok(Err(number)),
         }
     }
-    println!(rt; "{sum} cents")
+    Ok(Ok(sum))
+}
+
+/// Prints that sum, or the line.
+pub fn print_column<R: Read + Drop>(
+    rt: HostRuntime,
+    stream: R,
+    column: usize,
+) -> std::io::Result<()> {
+    match column_sum(rt, stream, column)? {
+        Ok(sum) => println!(rt; "{sum} cents"),
+        Err(line) => println!(rt; "line {line} has no amount, or the sum is too large"),
+    }
 }
 
 /// Adds up the cents of a column, from 0, of a text whose lines are CSV, without quotes or
@@ -247,27 +290,44 @@ pub fn sum_array<R: Read + Drop>(stream: R) -> Result<f64, EnclosedFoldError<Num
     let mut numbers = NumberReader::new(stream, &mut buffer, kind, COMMAS);
     let add = |sum: f64, number: Number<f64>| Some(sum + number.to_float());
     let sum = numbers.fold_enclosed(b'[', b']', 0.0, add)?;
-    // `pass_byte` skips the blanks of the gap before it looks for its byte. `\n` is itself a blank
-    // of `COMMAS`, so all that this call does is to skip blanks.
-    numbers.pass_byte(b'\n').map_err(of_array)?;
-    numbers.finish().map_err(of_array)?;
+    numbers.pass_blanks()?;
+    numbers.finish()?;
     Ok(sum)
 }
 
-/// An error of the stream after the array.
-fn of_array(error: StreamError<NumberError>) -> EnclosedFoldError<NumberError> {
-    EnclosedFoldError::Fold(FoldError::Stream(error))
-}
-
-/// The position of a fault, if the error has one.
-pub fn position_of(error: EnclosedFoldError<NumberError>) -> Option<u64> {
-    match error {
-        EnclosedFoldError::NoOpening(at) | EnclosedFoldError::NoClosing(at) => Some(at),
-        EnclosedFoldError::Fold(FoldError::Stopped(at)) => Some(at),
-        EnclosedFoldError::Fold(FoldError::Stream(error)) => match error {
-            StreamError::Number(error) => Some(error.position() as u64),
-            StreamError::NoRoom(at) | StreamError::Trailing(at, _) => Some(at),
-            StreamError::Read(_) | StreamError::TooLong => None,
-        },
+/// Finds the first number above a limit in a JSON array, and where it begins: in `[1, 2.5, 3]` the
+/// first one above 2 is 2.5, at 4.
+pub fn first_in_array<R: Read + Drop>(
+    stream: R,
+    limit: f64,
+) -> Result<Option<(f64, u64)>, EnclosedFoldError<NumberError>> {
+    numbers_are_apart(forms::JSON, COMMAS);
+    let mut buffer = [0; 4096];
+    let kind = OfForm::<f64>::new(forms::JSON);
+    let mut numbers = NumberReader::new(stream, &mut buffer, kind, COMMAS);
+    if !numbers.pass_byte(b'[')? {
+        return Err(EnclosedFoldError::NoOpening(numbers.position()));
     }
+    if numbers.pass_byte(b']')? {
+        return Ok(None);
+    }
+    let mut found = None;
+    for _ in 0..u64::MAX {
+        numbers.pass_blanks()?;
+        let at = numbers.position();
+        let Some(number) = numbers.next_number() else {
+            break;
+        };
+        let number = number?.to_float();
+        if found.is_some() {
+            return Ok(found);
+        }
+        if number > limit {
+            found = Some((number, at));
+        }
+    }
+    if !numbers.pass_byte(b']')? {
+        return Err(EnclosedFoldError::NoClosing(numbers.position()));
+    }
+    Ok(found)
 }

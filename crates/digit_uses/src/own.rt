@@ -52,6 +52,25 @@ pub fn read_color(text: &[u8]) -> Result<(u32, usize), LanguageError> {
     read_literal_as::<u32>(text, 0, DECIMAL_OR_HEX)
 }
 
+use digits::languages::CXX14;
+use digits::words::CXX14_HEX_LITERAL;
+use digits::{COMMAS, FirstZero, ListRead, OfLanguage, read_list_by};
+
+/// Hexadecimal integers, with `0x` or without it, and with `'` between two digits.
+pub const ALWAYS_HEX: Language = Language {
+    decimal: CXX14_HEX_LITERAL,
+    binary: None,
+    octal: None,
+    first_zero: FirstZero::Plain,
+    ..CXX14
+};
+
+/// Reads the list of such integers at the front of a text into a slice: `ff, 0x1f, 1'000` has 255,
+/// 31 and 4096.
+pub fn read_masks(text: &[u8], out: &mut [u32]) -> ListRead<LanguageError> {
+    read_list_by(OfLanguage::<u32>::new(ALWAYS_HEX), text, 0, COMMAS, out)
+}
+
 use digits::{Form, Marks, NumberError, forms, parse_number_of};
 
 /// Floats with a comma in place of the point: `1,5e3`.

@@ -32,7 +32,46 @@ pub fn put_line<W: Write>(number: i64, to: &mut W) -> std::io::Result<()> {
     to.write_all(b"\n")
 }
 
+/// Writes a line of CSV, such as `17,"1,234.50",0.1`. `false`: the rate is infinite or NaN, and
+/// nothing was written.
+pub fn put_row<W: Write>(id: u32, cents: i64, rate: f64, to: &mut W) -> std::io::Result<bool> {
+    if !rate.is_finite() {
+        return Ok(false);
+    }
+    // 40 bytes, enough for each of the three: an id needs 10, a price 26, a float 24
+    let mut out = [0; MOST_ROOM];
+    let end = write_number(id, &mut out);
+    to.write_all(&out[..end])?;
+    to.write_all(b",\"")?;
+    let end = write_price(cents, b'.', 2, b',', &mut out).unwrap_or(0);
+    to.write_all(&out[..end])?;
+    to.write_all(b"\",")?;
+    let end = write_float(rate, FloatLayout::Usual, &mut out).unwrap_or(0);
+    to.write_all(&out[..end])?;
+    to.write_all(b"\n")?;
+    Ok(true)
+}
+
 use digits::{forms, write_float_of};
+
+/// Writes floats as a JSON array: `[1.5,2.0]`. `false`: one is infinite or NaN, and nothing was
+/// written.
+pub fn put_array<W: Write>(values: &[f64], to: &mut W) -> std::io::Result<bool> {
+    if !values.iter().all(|value| value.is_finite()) {
+        return Ok(false);
+    }
+    let mut out = [0; 328];
+    to.write_all(b"[")?;
+    for (value, number) in values.iter().zip(1usize..) {
+        if number > 1 {
+            to.write_all(b",")?;
+        }
+        let end = write_float_of(*value, forms::JSON, &mut out).unwrap_or(0);
+        to.write_all(&out[..end])?;
+    }
+    to.write_all(b"]")?;
+    Ok(true)
+}
 
 /// Writes floats as a JSON array, and returns its length: `[1.5,2.0]` has 9 bytes. `None`: `out` is
 /// too short, or a float is infinite or NaN.
@@ -57,6 +96,18 @@ pub fn put_price<W: Write>(cents: i64, to: &mut W) -> std::io::Result<()> {
     // 12 blanks, and 26 bytes: enough for every `i64` with two places, so this is never an error
     let mut out = [b' '; 38];
     let count = write_price(cents, b'.', 2, b',', &mut out[12..]).unwrap_or(26);
+    to.write_all(&out[count.min(12)..12 + count])
+}
+
+/// Writes a float with two places, at the right end of a column of 12 bytes: of an infinite one or
+/// a NaN a `-`.
+pub fn put_float<W: Write>(x: f64, to: &mut W) -> std::io::Result<()> {
+    if !x.is_finite() {
+        return to.write_all(b"           -");
+    }
+    // 12 blanks, and 313 bytes: enough for every `f64` with two places
+    let mut out = [b' '; 325];
+    let count = write_fixed(x, 2, &mut out[12..]).unwrap_or(313);
     to.write_all(&out[count.min(12)..12 + count])
 }
 
