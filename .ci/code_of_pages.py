@@ -17,7 +17,7 @@ PAGES = {"README.md": "readme", "CALLING.md": "calling", "docs/FILES.md": "files
 # import once.
 ALONE = ("README.md", "CALLING.md", "docs/FILES.md", "docs/WRITING.md", "docs/OWN.md")
 # The traits of which a block calls a method, and names nothing else.
-BY_METHOD = {"BufRead": ".lines("}
+BY_METHOD = {"BufRead": ".lines(", "NoNumber": ".fault_at("}
 # The crate of whoever pastes them, which here is digit_uses.
 CALLER = "my_parser"
 # The pages whose blocks of these languages are parts of proved files, and the crate that has these.

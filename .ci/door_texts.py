@@ -254,7 +254,7 @@ GROUPS = {
         write_number_of write_float_of write_integer_of | Write a number of a form
         write_plain write_usual write_exponent | Write digits and a power of ten""", """
         A call writes the text to the front of `out`, and returns its length. The bytes after the text stay as
-        they were: to align it at the right, [write it behind blanks](../WRITING.md#into-a-file-an-array-a-column). If `out` is too short, the call writes nothing, and the error has the length that is
+        they were: to align it at the left, fill `out` with blanks first; at the right, [write it behind blanks](../WRITING.md#into-a-file-an-array-a-column). If `out` is too short, the call writes nothing, and the error has the length that is
         needed. `write_number` can't fail: pass it a `[0; MOST_ROOM]`. `Written` is any integer type;
         `AnyFloat` is `f64` or `f32`.
 
@@ -436,7 +436,7 @@ NOTES = {
         the next number begins.""",
     "PriceError": """
         With `Places` the position is where the number ends: 5 in `1.500`, and not 4.""",
-    "languages": "With `HEX_DIGITS` `10` is ten, and `0x10` 16. Where `017` is octal, `08` is 0, and ends at 1.",
+    "languages": "With `HEX_DIGITS` `10` is ten, and `0x10` 16. Where `017` is octal, `08` is 0, and ends at 1. `JSON_NUMBER` reads the 1 of `1.5`, and ends at 1: every JSON number has `forms::JSON`.",
     "read_literal_as": """
         A literal of C++, with `CXX14`: `1'000u` is 1000, and ends at 5; `017` is 15; `1''0` is 1, and ends at 1.""",
     "read_decimal_from": """
@@ -455,7 +455,10 @@ NOTES = {
     "read_enclosed": """
         Any `start` is allowed. The gap's blanks may follow the opening byte and precede the closing one. For
         one number in brackets use the kind [`Enclosed`](#enclosed).""",
-    "Both": "The byte between the two mustn't be of the gap, also none of its blanks: a pair such as `3 4` needs a gap without spaces.",
+    "Both": """
+        The byte between the two may be any byte that isn't of the gap: `b'-'` reads `0-499`. In a list whose gap has it, the pair is read first, so
+        `1,2,3,4` by `COMMAS` is two pairs; in a stream `both_are_apart` refuses it.""",
+    "BothError": "`fault_at()` is its position ([`NoNumber`](#nonumber)).",
     "Enclosed": """
         `Enclosed` reads one number, and its error is `BracketError`. For a list in brackets call
         [`read_enclosed`](#read_enclosed), whose error is `EnclosedError`.""",
@@ -734,6 +737,7 @@ The position is, by the variant:
 | `Places` | the end of the number |
 | `NoRoom` of a list or a stream | the number for which the slice or the buffer has no room |
 | `NoOpening`, `NoClosing` | another byte than the bracket, or the end of the text |
+| `Between` | another byte than the one between two numbers, or the end of the text |
 | `Trailing` | the first byte after the list |
 | `Stopped` | what follows the number that the closure refused, and its separator |
 

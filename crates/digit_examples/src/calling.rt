@@ -2,8 +2,9 @@
 
 use digit_uses::calling::{
     COMMA_DIGITS, Field, SEMICOLONS, Value, field_of, has_port, line_and_column, mean_of,
-    parse_address, parse_colors, parse_duration, parse_either, parse_price, parse_size,
-    parse_timeout, read_array, read_cents, read_rate, read_value, sum_lengths, sum_timeouts,
+    parse_address, parse_colors, parse_duration, parse_either, parse_price, parse_ranges,
+    parse_size, parse_timeout, read_array, read_cents, read_rate, read_value, sum_lengths,
+    sum_timeouts,
 };
 use digit_uses::files::{
     Entry, SumError, cents_of, check_entries, column_sum, first_above, first_in_array, greatest_of,
@@ -20,12 +21,12 @@ use digit_uses::writing::{
 use digits::languages::{CXX14, RUST};
 use digits::words::PYTHON_LITERAL;
 use digits::{
-    COMMAS, EnclosedFoldError, FloatError, Floats, FoldError, Integers, LINES, LanguageError,
+    Both, COMMAS, EnclosedFoldError, FloatError, Floats, FoldError, Integers, LINES, LanguageError,
     ListEnd, ListError, LiteralError, Number, NumberError, NumberReader, ParseError, PriceError,
     SPACES_IN_LINE, STANDARD, ScaledError, StreamError, WHITESPACE, floats_are_apart, fold_stream,
     forms, parse_float, parse_list, parse_number, parse_number_from, parse_number_of, parse_scaled,
     read_decimal_from, read_decimal_of, read_exact_from, read_float, read_grouped_from,
-    read_literal_as, read_number, read_number_of, read_price_from, read_scaled_from,
+    read_list_by, read_literal_as, read_number, read_number_of, read_price_from, read_scaled_from,
 };
 use std::io::{BufRead, BufReader};
 
@@ -758,6 +759,38 @@ fn colors(rt: HostRuntime) {
             "{text}"
         );
     }
+}
+
+/// Ranges, which are pairs.
+#[test]
+fn ranges(rt: HostRuntime) {
+    let mut out = [(0, 0); 2];
+    assert_eq!(rt; parse_ranges(b"bytes=0-499,1000-1499", &mut out), Ok(2));
+    assert_eq!(rt; out, [(0, 499), (1000, 1499)]);
+    assert_eq!(rt; parse_ranges(b"bytes=1-2", &mut out), Ok(1));
+    for (text, fault) in [
+        ("", 0),
+        ("byte=1-2", 0),
+        ("bytes=1", 7),
+        ("bytes=1-x", 8),
+        ("bytes=1-2;", 9),
+        ("bytes=1-2,", 10),
+        ("bytes=1-2,3-4,5-6", 14),
+    ] {
+        assert!(rt;
+            parse_ranges(text.as_bytes(), &mut out) == Err(fault),
+            "{text}"
+        );
+    }
+    let side = Integers::<u64>::new(STANDARD);
+    let pairs = Both {
+        first: side,
+        between: b',',
+        second: side,
+    };
+    let list = read_list_by(pairs, b"1,2,3,4", 0, COMMAS, &mut out);
+    assert_eq!(rt; (list.count, list.end), (2, ListEnd::Over(7)));
+    assert_eq!(rt; out, [(1, 2), (3, 4)]);
 }
 
 /// Literals of C++, whose separator is no byte of a name.

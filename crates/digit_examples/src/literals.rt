@@ -20,6 +20,10 @@ fn a_literal(rt: HostRuntime) {
         read_literal(b"0b", 0, RUST, 255),
         Err(LanguageError::Empty(2))
     );
+    assert_eq!(rt;
+        read_literal(b"256", 0, RUST, 255),
+        Err(LanguageError::Overflow(2))
+    );
     let octal = Literal {
         value: 15,
         word: JAVA_OCTAL_LITERAL,

@@ -67,7 +67,7 @@ pub fn parse_trimmed(text: &[u8]) -> Result<i32, ParseError> {
     Ok(number)
 }
 
-use digits::{NumberError, forms, read_number_of};
+use digits::{NumberError, SPACES, forms, read_number_of};
 
 /// Why a text is no length.
 #[derive(Clone, Copy, Debug, PartialEq, Eq)]
@@ -77,16 +77,18 @@ pub enum LengthError {
     Unit(usize),
 }
 
-/// Reads a text as a length in metres: `1.5m` is 1.5, and `2km` 2000.0. In `1.5` the fault is
-/// `Unit(3)`.
+/// Reads a text as a length in metres: `1.5m` is 1.5, `2 km` 2000.0, and `5µm` 0.000005. In `1.5`
+/// the fault is `Unit(3)`.
 pub fn parse_metres(text: &[u8]) -> Result<f64, LengthError> {
     let number = read_number_of::<f64>(text, 0, forms::FLOAT);
     let (number, end) = number.map_err(LengthError::Value)?;
+    let unit = past_bytes(text, end, SPACES);
     let metres = number.to_float();
-    match &text[end..] {
+    match &text[unit..] {
         b"m" => Ok(metres),
         b"km" => Ok(metres * 1000.0),
-        _ => Err(LengthError::Unit(end)),
+        b"\xc2\xb5m" => Ok(metres / 1_000_000.0),
+        _ => Err(LengthError::Unit(unit)),
     }
 }
 
@@ -106,7 +108,7 @@ pub fn parse_address(text: &[u8]) -> Result<(usize, u16), usize> {
     Ok((end, port))
 }
 
-use digits::{SPACES, expect_bytes, name_end};
+use digits::{expect_bytes, name_end};
 
 /// Reads a line such as `timeout = 250 ms` as milliseconds, or returns the position of its first
 /// fault: in `timeout = 250 h` that is 14.
@@ -331,6 +333,26 @@ pub fn read_ports(text: &[u8], ports: &mut [u16]) -> ListRead<LiteralError> {
     read_list::<u16>(text, 0, STANDARD, COMMAS, ports)
 }
 
+use digits::{Both, COMMAS_IN_LINE, ListEnd, NoNumber, read_list_by};
+
+/// Reads a text as the ranges of a header, into the front of a slice, and returns how many there
+/// are: `bytes=0-499,1000-1499` has two. The error is the position of the fault.
+pub fn parse_ranges(text: &[u8], out: &mut [(u64, u64)]) -> Result<usize, usize> {
+    let start = expect_bytes(text, 0, b"bytes=")?;
+    let side = Integers::<u64>::new(STANDARD);
+    let kind = Both {
+        first: side,
+        between: b'-',
+        second: side,
+    };
+    let list = read_list_by(kind, text, start, COMMAS_IN_LINE, out);
+    match list.end {
+        ListEnd::Over(end) if end == text.len() => Ok(list.count),
+        ListEnd::Over(end) | ListEnd::Full(end) => Err(end),
+        ListEnd::Fault(error) => Err(error.fault_at()),
+    }
+}
+
 use digits::{FloatError, Floats, FoldError, LINES, floats_are_apart, fold_stream};
 use std::io::Read;
 
@@ -349,7 +371,7 @@ pub fn mean_of<R: Read + Drop>(stream: R) -> Result<Option<f64>, FoldError<Float
     Ok(Some(sum / count))
 }
 
-use digits::{ByteSet, COMMAS_IN_LINE, Gap};
+use digits::{ByteSet, Gap};
 
 /// One `;`, with any spaces and tabs around it: between the numbers of `12; 7;305`.
 pub const SEMICOLONS: Gap = Gap {
@@ -367,10 +389,20 @@ pub fn parse_amount(text: &[u8]) -> Result<f64, NumberError> {
     Ok(parse_number_of::<f64>(text, forms::JSON)?.to_float())
 }
 
-/// Reads a text as an id, a JSON integer that fits an `i64`: `-7` is -7, and `1.0` isn't one.
-pub fn parse_id(text: &[u8]) -> Option<i64> {
-    let number = parse_number_of::<f64>(text, forms::JSON).ok()?;
-    number.as_integer::<i64>()
+use digits::languages::JSON_NUMBER;
+use digits::read_literal;
+
+/// Reads a text as an id, a JSON integer from 1 to 2 to the power 53. In `01` the fault is at 0,
+/// and in `1.0` at 1.
+pub fn parse_id(text: &[u8]) -> Result<u64, usize> {
+    let id = read_literal(text, 0, JSON_NUMBER, 1 << 53).map_err(|error| error.position())?;
+    if id.end < text.len() {
+        return Err(id.end);
+    }
+    if id.value == 0 {
+        return Err(0);
+    }
+    Ok(id.value as u64)
 }
 
 /// Reads the JSON number at `start` as cents, and returns where it ends: `12.5,` gives

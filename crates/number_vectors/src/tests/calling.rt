@@ -8,7 +8,7 @@ use digit_literals::{
     LINES, ListEnd, LiteralError, ParseError, parse_number, parse_number_from, read_list,
     read_number,
 };
-use digit_numbers::{Number, NumberError, forms, read_number_of};
+use digit_numbers::{Number, NumberError, forms, parse_number_of, read_number_of};
 use digit_uses::calling::{
     LengthError, SizeError, parse_amount, parse_height, parse_id, parse_metres, parse_trimmed,
     read_mask, read_ports, read_size, read_token,
@@ -52,6 +52,11 @@ fn a_size_is_two_numbers(rt: HostRuntime) {
 #[test]
 fn a_length_has_its_unit(rt: HostRuntime) {
     assert!(rt; parse_metres(b"1.5m") == Ok(1.5));
+    assert!(rt; parse_metres(b"2 km") == Ok(2000.0));
+    assert!(rt; parse_metres(b"2\t km") == Ok(2000.0));
+    assert!(rt; parse_metres(b"5\xc2\xb5m") == Ok(0.000005));
+    assert!(rt; parse_metres(b"5\xb5m") == Err(LengthError::Unit(1)));
+    assert!(rt; parse_metres(b"5 ") == Err(LengthError::Unit(2)));
     assert!(rt; parse_metres(b"2km") == Ok(2000.0));
     assert!(rt; parse_metres(b"1.5") == Err(LengthError::Unit(3)));
     assert!(rt; parse_metres(b"1.5mm") == Err(LengthError::Unit(3)));
@@ -62,11 +67,32 @@ fn a_length_has_its_unit(rt: HostRuntime) {
 
 #[test]
 fn an_id_is_an_integer_of_json(rt: HostRuntime) {
-    assert!(rt; parse_id(b"-7") == Some(-7));
-    assert!(rt; parse_id(b"9223372036854775807") == Some(9223372036854775807));
-    assert!(rt; parse_id(b"9223372036854775808").is_none());
-    assert!(rt; parse_id(b"1.0").is_none());
-    assert!(rt; parse_id(b"01").is_none());
+    assert!(rt; parse_id(b"7") == Ok(7));
+    assert!(rt; parse_id(b"9007199254740992") == Ok(9007199254740992));
+    assert!(rt; parse_id(b"9007199254740993") == Err(15));
+    assert!(rt; parse_id(b"1.0") == Err(1));
+    assert!(rt; parse_id(b"01") == Err(0));
+    assert!(rt; parse_id(b"0") == Err(0));
+    assert!(rt; parse_id(b"-7") == Err(0));
+    assert!(rt; parse_id(b"") == Err(0));
+}
+
+/// The integer of a number of JSON, if it is one and fits.
+#[tactic(auto, unfolding(lexical_format::proofs::OnLiterals::lexical_on_literals))]
+fn signed_id(text: &[u8]) -> Option<i64> {
+    parse_number_of::<f64>(text, forms::JSON)
+        .ok()?
+        .as_integer::<i64>()
+}
+
+#[test]
+fn a_signed_id_is_an_integer_of_json(rt: HostRuntime) {
+    assert!(rt; signed_id(b"-7") == Some(-7));
+    assert!(rt; signed_id(b"9223372036854775807") == Some(9223372036854775807));
+    assert!(rt; signed_id(b"9223372036854775808").is_none());
+    assert!(rt; signed_id(b"1.0").is_none());
+    assert!(rt; signed_id(b"1e3").is_none());
+    assert!(rt; signed_id(b"01").is_none());
 }
 
 #[test]
