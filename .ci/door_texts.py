@@ -268,6 +268,7 @@ GROUPS = {
         | any number by `write_number_of`, `write_float_of` or `write_integer_of` | 328 |
         | an amount by `write_scaled` | 1 more than `write_number` needs, but at least `places` + 3: of an `i64` with 2 places 21 |
         | a price by `write_price` | what `write_scaled` needs, and one for each separator: of an `i64` with 2 places 26, of an `i128` 53 |
+        | an integer by `write_number_by`, without groups | the digits, which are at least those of `with_digits`, and 1 for a sign: of an `i64` with 16 hexadecimal digits 17 |
         | anything else | as many as the error says |
 
         `write_number` of one type needs these bytes:
@@ -433,7 +434,7 @@ NOTES = {
         [`next_number`](#streams).""",
     "NumberReader::position": """
         After the 1 of `1  2` by [`WHITESPACE`](#whitespace) it is 2. After [`pass_blanks`](#numberreaderpass_blanks) it is 3, where
-        the next number begins.""",
+        the next number begins. After `fold_enclosed` it is right after the closing byte. If the stream is a `&[u8]`, it fits a `usize`.""",
     "PriceError": """
         With `Places` the position is where the number ends: 5 in `1.500`, and not 4.""",
     "languages": "With `HEX_DIGITS` `10` is ten, and `0x10` 16. Where `017` is octal, `08` is 0, and ends at 1. `JSON_NUMBER` reads the 1 of `1.5`, and ends at 1: every JSON number has `forms::JSON`.",
@@ -456,8 +457,8 @@ NOTES = {
         Any `start` is allowed. The gap's blanks may follow the opening byte and precede the closing one. For
         one number in brackets use the kind [`Enclosed`](#enclosed).""",
     "Both": """
-        The byte between the two may be any byte that isn't of the gap: `b'-'` reads `0-499`. In a list whose gap has it, the pair is read first, so
-        `1,2,3,4` by `COMMAS` is two pairs; in a stream `both_are_apart` refuses it.""",
+        No blanks are read around the byte between the two: of `640 x 480` the error is `Between(3)`. It may be any byte, as the `-` of `0-499`. In a stream it mustn't be of
+        the gap, so `both_are_apart` refuses that. Of a slice the pair is read first: `1,2,3,4` by `COMMAS` is two pairs.""",
     "BothError": "`fault_at()` is its position ([`NoNumber`](#nonumber)).",
     "Enclosed": """
         `Enclosed` reads one number, and its error is `BracketError`. For a list in brackets call
@@ -479,11 +480,17 @@ NOTES = {
     "DECIMAL": "It is no word: that of plain decimal numbers is [`STANDARD`](#standard).",
     "NoNumber": "`BothError` and `BracketError` have no `position()`: call `fault_at()`.",
     "Layout": """
+        A negative number has a minus in every radix. For its bits write `u64::from_le_bytes(n.to_le_bytes())`. Of a constant radix the prover sees that `of_radix` is `Some`, too.
+
         `grouped` returns an `Option`. If its arguments are constants, the prover sees that it is `Some`, and you write
         `let Some(layout) = Layout::decimal().grouped(b',', 3) else { unreachable!() };`.
 
         A `Layout` that you write by its fields has to be valid, and you prove that: a radix from 2 to 36, and no groups, or a separator that is neither 0 nor a digit. These methods do it for you.""",
-    "write_fixed": "An `f32` is written by its exact `f64`, `f64::from(x)`.",
+    "read_scaled_up_to": "It reads what [`read_scaled_from`](#read_scaled_from) reads of an unsigned type: `12.` and `.5` too, and of `-1` the error is `Empty(0)`.",
+    "FirstZero": "A separator after the first `0` changes nothing: `0_1` is refused as `01` is.",
+    "write_fixed": """
+        An `f32` is written by its exact `f64`, `f64::from(x)`. [`parse_float`](#parse_float) reads the text back as the float that is nearest to it, which isn't always `x`.""",
+    "read_float_from": "A number needs nothing before it: from the 3 of `1.5.2` on the next call reads 0.2.",
     "Language": """
         `decimal` may have any radix. With a hexadecimal word both `ff` and `0xff` are read; then set `binary` to `None`, or `0b1` is 1 ([an
         example](../OWN.md#a-language)).

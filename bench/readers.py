@@ -1,12 +1,12 @@
 """What README.md and the head of docs/SPEED.md say of the times beside other readers."""
-import statistics
-
 from cases import table
 from peers import LIBRARY, READ, Figures, lacks, slower_run
+from written import lacks as lacks_of_writers
 from written import times
 
 # The rows whose times README.md has.
 EXAMPLES = ("f64, coordinates", "u64, 16 digits")
+LOST_EXAMPLES = ("%.6e, 3 digits and 2 places", "%.6e, random bits")
 # The readers that don't say where a number ends.
 WITHOUT_END = ("std", "lexical-core", "serde_json", "minimal-lexical")
 
@@ -78,24 +78,28 @@ def beside(row):
     return slower_run(row, rows()[row], LIBRARY, lacks=lacks_end)
 
 
+def told(mine, peer):
+    """A time, and that of the fastest other library, with its name."""
+    return f"{mine:,.0f} ns, by {peer[1]} {peer[0]:,.0f}"
+
+
 def readme():
     """What README.md has between its comments: the picture, what you gain, and what you lose."""
-    found, worst = ratios(), times("%.6e, coordinates", "%.6e, 3 digits")
+    found, written = ratios(), Figures("written-times.txt").rows
     below, above = ([it for it in found.values() if (it > 1) == is_above] for is_above in (False, True))
+    coordinate, integer = (told(*beside(row)) for row in EXAMPLES)
+    price, any_float = (told(*slower_run(row, written[row], lacks=lacks_of_writers)) for row in LOST_EXAMPLES)
     integers = times("u64, 3 digits", "u64, 1 to", "u64, 8", "u64, 16", "u64, 20", "i32")
-    floats = times("f64, ", "f64 with", "f32, ")
-    median = round(100 * (1 - statistics.median(found.values())))
-    one, two = (f"{mine:.0f} ns, by {peer[1]} {peer[0]:.0f}" for mine, peer in map(beside, EXAMPLES))
-    loss = " and ".join(f"{round(100 * (it - 1))} %" for it in sorted(above)) or "0 %"
+    floats, places = times("f64, ", "f64 with", "f32, "), times("%.2f")
+    loss = " and ".join(f"{round(100 * (it - 1))} %" for it in sorted(above))
     return f"""\
 ![Whole texts, and numbers whose end is needed, by what is read](docs/times.svg)
 
-- **You gain** when you read whole texts, or numbers of JSON. A coordinate such as `-12.3456` takes {one}; an integer of 16 digits {two}. \
-For {len(below)} of {len(found)} kinds of numbers no library that does the same work is faster, and the other {len(above)} take {loss} more. The median of \
-the {len(found)} takes {median} % less.
-- **You may lose** when you need where a number ends: for {fastest(READ)} kinds no library is faster, and the others take up to {round(100 * (float(most(ratios(side=READ))) - 1))} % more. \
-And when you write: an integer takes {integers} times as long as by the fastest other library, and a float with the fewest digits {floats} times.
-- **You lose** with floats like `%.6e`, by `write_scientific`: a price takes {worst} times as long, and floats of random bits {float(times('%.6e').split()[-1]):.0f} times.
+- **You gain** when you read whole texts, or numbers of JSON. A coordinate such as `-12.3456` takes {coordinate}; an integer of 16 digits {integer}. \
+For {len(below)} of {len(found)} kinds of numbers no library that does the same work is faster{f"; the others take {loss} longer than by the fastest one" if above else ""}.
+- **You may lose** when you need where a number ends: for {fastest(READ)} kinds no library is faster, and the others take up to {round(100 * (float(most(ratios(side=READ))) - 1))} % longer. \
+And when you write: an integer takes {integers} times as long as by the fastest other library, a float with the fewest digits {floats} times, and `%.2f` {places} times.
+- **You lose** with floats like C's `%.6e`, by `write_scientific`: a price takes {price}, and a float of random bits {any_float}.
 
 [SPEED.md](docs/SPEED.md) has each kind of input, the libraries and their versions, what a call from C costs, and how to \
 call so that it is fast."""

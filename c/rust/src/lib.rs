@@ -14,8 +14,8 @@
 //! let fault = parse::<i32>(b"10x").unwrap_err();
 //! assert_eq!((fault.status, fault.at), (statuses::INVALID, 2));
 //!
-//! let mut places = [0; rooms::F64];
-//! assert_eq!(write(0.1, &mut places), Some(&b"0.1"[..]));
+//! let mut out = [0; rooms::F64];
+//! assert_eq!(write(0.1, &mut out), Some(&b"0.1"[..]));
 //! # Ok::<(), digits_sys::Fault>(())
 //! ```
 //!

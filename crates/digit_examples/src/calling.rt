@@ -1,58 +1,26 @@
-//! What the pages for callers say that their own functions and a stream answer.
+//! What CALLING.md says that its functions answer, and a stream.
 
 use digit_uses::calling::{
     COMMA_DIGITS, Field, SEMICOLONS, Value, field_of, has_port, line_and_column, mean_of,
-    parse_address, parse_colors, parse_duration, parse_either, parse_price, parse_ranges,
-    parse_size, parse_timeout, read_array, read_cents, read_rate, read_value, sum_lengths,
-    sum_timeouts,
-};
-use digit_uses::files::{
-    Entry, SumError, cents_of, check_entries, column_sum, first_above, first_in_array, greatest_of,
-    parse_entry, print_column, read_all, sum_array, sum_bytes, sum_column, sum_of, sum_text,
-    sum_words,
+    parse_address, parse_colors, parse_duration, parse_either, parse_offset, parse_price,
+    parse_ranges, parse_size, parse_timeout, read_array, read_cents, read_rate, read_value,
+    sum_lengths, sum_timeouts,
 };
 use digit_uses::own::{read_color, read_masks};
 use digit_uses::proving;
 use digit_uses::readme::parse_order;
 use digit_uses::sums::sum_list;
-use digit_uses::writing::{
-    put_array, put_float, put_price, put_row, write_array, write_two_places,
-};
-use digits::languages::{CXX14, RUST};
+use digits::languages::{CXX14, RUST, TOML};
 use digits::words::PYTHON_LITERAL;
 use digits::{
-    Both, COMMAS, EnclosedFoldError, FloatError, Floats, FoldError, Integers, LINES, LanguageError,
-    ListEnd, ListError, LiteralError, Number, NumberError, NumberReader, ParseError, PriceError,
-    SPACES_IN_LINE, STANDARD, ScaledError, StreamError, WHITESPACE, floats_are_apart, fold_stream,
-    forms, parse_float, parse_list, parse_number, parse_number_from, parse_number_of, parse_scaled,
-    read_decimal_from, read_decimal_of, read_exact_from, read_float, read_grouped_from,
-    read_list_by, read_literal_as, read_number, read_number_of, read_price_from, read_scaled_from,
+    Both, BothError, COMMAS, FloatError, FoldError, Integers, LINES, LanguageError, ListEnd,
+    ListError, LiteralError, NoRoom, Number, NumberError, NumberReader, ParseError, PriceError,
+    SPACES_IN_LINE, STANDARD, ScaledError, StreamError, forms, parse_float, parse_list,
+    parse_number, parse_number_from, parse_number_of, parse_scaled, read_decimal_from,
+    read_decimal_of, read_exact_from, read_float, read_float_from, read_grouped_from, read_list_by,
+    read_literal_as, read_number, read_number_of, read_optional, read_price_from, read_scaled_from,
+    read_scaled_up_to,
 };
-use std::io::{BufRead, BufReader};
-
-/// A line with fields of several kinds.
-#[test]
-fn a_line(rt: HostRuntime) {
-    let entry = Entry {
-        year: 2026,
-        month: 11,
-        day: 30,
-        cents: 1250,
-        count: Some(-3),
-    };
-    let none = Entry {
-        count: None,
-        ..entry
-    };
-    assert!(rt; parse_entry(b"2026-11-30,12.50,-3") == Ok(entry));
-    assert!(rt; parse_entry(b"2026-11-30,12.50,") == Ok(none));
-    assert!(rt; parse_entry(b"2026-11-3,12.50,-3") == Err(9));
-    assert!(rt; parse_entry(b"2026-11-30,12.50") == Err(16));
-    assert!(rt; parse_entry(b"2026-11-30,12.5x,-3") == Err(15));
-    assert!(rt; parse_entry(b"2026-11-30,12.505,-3") == Err(16));
-    assert!(rt; parse_entry(b"2026-11-30,12.50,-") == Err(18));
-    assert!(rt; parse_entry(b"2026-11-30,12.50,x") == Err(17));
-}
 
 /// 65 numbers, and so a second turn.
 static MANY: &[u8] = b"1,1,1,1,1,1,1,1,1,1,1,1,1,1,1,1,1,1,1,1,1,1,1,1,1,1,1,1,1,1,1,1,1,\
@@ -73,18 +41,6 @@ fn a_list_in_an_array(rt: HostRuntime) {
     assert!(rt; proving::sum_list(b"1.5, 2, -3]", 0) == Ok((0.5, 10)));
     assert!(rt; proving::sum_list(b"[]", 1) == Err(FloatError::Empty(1)));
     assert!(rt; proving::sum_list(MANY, 0) == Ok((66.0, 129)));
-}
-
-/// A stream, by a fold and by a loop.
-#[test]
-fn a_stream(rt: HostRuntime) {
-    assert!(rt; sum_of(b"1.5\n-2\n".as_slice()) == Ok(-0.5));
-    assert!(rt; first_above(b"1\n2.5\n3\nx".as_slice(), 2.0) == Ok(Some(2.5)));
-    let sure = StreamError::Trailing(1, Some(FloatError::Empty(1)));
-    assert!(rt; first_above(b"3x".as_slice(), 2.0) == Err(sure));
-    assert!(rt; first_above(b"1\n2.5\n".as_slice(), 3.0) == Ok(None));
-    let trailing = StreamError::Trailing(2, Some(FloatError::Empty(2)));
-    assert!(rt; first_above(b"1\nx".as_slice(), 3.0) == Err(trailing));
 }
 
 /// Separators of a line.
@@ -384,37 +340,12 @@ fn a_price_and_a_port(rt: HostRuntime) {
     assert!(rt; has_port(ones, 443) == Err(ListError::NoRoom(32)));
 }
 
-/// A list of any length, without a slice for its numbers.
-#[test]
-fn a_sum_of_a_text(rt: HostRuntime) {
-    assert!(rt; sum_text(b"80, 443") == Ok(523));
-    let sum = sum_text(b"80, 443;");
-    assert!(rt; matches!(sum, Err(FoldError::Stream(StreamError::Trailing(7, _)))));
-    assert!(rt; sum_text(b"18446744073709551615,1") == Err(FoldError::Stopped(22)));
-}
-
 /// The line and the column of a position.
 #[test]
 fn a_line_and_a_column(rt: HostRuntime) {
     assert_eq!(rt; line_and_column(b"1\n2x", 3), (2, 2));
     assert_eq!(rt; line_and_column(b"1\n2x", 0), (1, 1));
     assert_eq!(rt; line_and_column(b"1\n2x\n", 5), (3, 1));
-}
-
-/// An array that is a whole stream.
-#[test]
-fn an_array_of_any_length(rt: HostRuntime) {
-    assert!(rt; sum_array(b"[1, 2.5]\n".as_slice()) == Ok(3.5));
-    assert!(rt; sum_array(b" [ ] ".as_slice()) == Ok(0.0));
-    let open = EnclosedFoldError::NoClosing(7);
-    assert!(rt; sum_array(b"[1, 2.5".as_slice()) == Err(open));
-    let sum = sum_array(b"[1] x".as_slice());
-    assert!(rt;
-        matches!(
-            sum,
-            Err(EnclosedFoldError::Fold(FoldError::Stream(StreamError::Trailing(4, _))))
-        )
-    );
 }
 
 /// The byte before a start is looked at.
@@ -444,16 +375,6 @@ fn a_rate(rt: HostRuntime) {
     assert!(rt; read_rate(b"race=12.5%;") == Err(0));
 }
 
-/// One column of a text, and the line of a fault.
-#[test]
-fn a_column(rt: HostRuntime) {
-    assert!(rt; sum_column(b"a,1.50\nb,2\n", 1) == Ok(350));
-    assert!(rt; sum_column(b"a,1.50\r\nb,2\r\n", 1) == Ok(350));
-    assert!(rt; sum_column(b"a,1.50\n\nb,2x\n", 1) == Err(3));
-    assert!(rt; sum_column(b"a,1.50\nb\n", 1) == Err(2));
-    assert!(rt; sum_column(b"", 0) == Ok(0));
-}
-
 /// A language of one's own, and prefixes without a digit.
 #[test]
 fn prefixes(rt: HostRuntime) {
@@ -463,85 +384,6 @@ fn prefixes(rt: HostRuntime) {
     assert!(rt; read_literal_as::<u8>(b"0xg", 0, RUST) == Err(LanguageError::Empty(2)));
     let read = read_number_of::<f64>(b"0xg", 0, forms::RUST);
     assert!(rt; read.map(|(number, end)| (number.as_integer::<u8>(), end)) == Ok((Some(0), 1)));
-}
-
-/// A float with two places.
-#[test]
-fn two_places(rt: HostRuntime) {
-    let mut out = [0; 8];
-    assert_eq!(rt; write_two_places(2.5, &mut out), Some(4));
-    assert_eq!(rt; &out[..4], b"2.50".as_slice());
-    assert_eq!(rt; write_two_places(-0.001, &mut out), Some(5));
-    assert_eq!(rt; &out[..5], b"-0.00".as_slice());
-    assert_eq!(rt; write_two_places(f64::NAN, &mut out), None);
-    assert_eq!(rt; write_two_places(123456.0, &mut out), None);
-}
-
-/// Prices in a column.
-#[test]
-fn a_column_of_prices(rt: HostRuntime) {
-    let mut out = Vec::new(rt.alloc());
-    assert!(rt; put_price(123450, &mut out).is_ok());
-    assert!(rt; out.as_slice() == b"    1,234.50".as_slice());
-    let mut out = Vec::new(rt.alloc());
-    assert!(rt; put_price(i64::MIN, &mut out).is_ok());
-    assert!(rt; out.as_slice() == b"-92,233,720,368,547,758.08".as_slice());
-}
-
-/// All numbers of a stream.
-#[test]
-fn all_numbers(rt: HostRuntime) {
-    let all = read_all(b"1\n2\n".as_slice(), rt.alloc());
-    assert!(rt; all.is_ok_and(|all| all.as_slice() == [1, 2].as_slice()));
-    let fault = StreamError::Trailing(3, Some(LiteralError::Empty(3)));
-    let all = read_all(b"1\n2x".as_slice(), rt.alloc());
-    assert!(rt; all.is_err_and(|error| error == FoldError::Stream(fault)));
-}
-
-/// Lines that are no text.
-#[test]
-fn lines_of_a_file(rt: HostRuntime) {
-    assert!(rt; check_entries(rt, b"date\n2026-11-30,12.50,-3\n".as_slice()).is_ok());
-    assert!(rt; check_entries(rt, b"date\n\xff\n".as_slice()).is_err());
-}
-
-/// Lines of two numbers.
-#[test]
-fn two_columns(rt: HostRuntime) {
-    assert!(rt; greatest_of(b"1,2.5\n2,3.5\n".as_slice()) == Ok(3.5));
-    assert!(rt; greatest_of(b"1,2.5\n2\n".as_slice()).is_err());
-}
-
-/// Lines that are empty.
-#[test]
-fn empty_lines(rt: HostRuntime) {
-    floats_are_apart(STANDARD, WHITESPACE);
-    let mut buffer = [0; 64];
-    let kind = Floats::<f64>::new(STANDARD);
-    let add = |sum: f64, number: f64| Some(sum + number);
-    let stream = b"\n1\n\n2 3\n".as_slice();
-    let sum = fold_stream(stream, &mut buffer, kind, WHITESPACE, 0.0, add);
-    assert!(rt; sum == Ok(6.0));
-    let fault = StreamError::Trailing(2, Some(FloatError::Empty(2)));
-    assert!(rt; sum_of(b"1\n\n2\n".as_slice()) == Err(FoldError::Stream(fault)));
-}
-
-/// The position of the error of an array, if there is one.
-fn fault_of(stream: &[u8]) -> Option<u64> {
-    match sum_array(stream) {
-        Ok(_) => None,
-        Err(error) => error.position(),
-    }
-}
-
-/// Where the fault of an array is.
-#[test]
-fn a_fault_of_an_array(rt: HostRuntime) {
-    assert!(rt; fault_of(b"[1, 2.5".as_slice()) == Some(7));
-    assert!(rt; fault_of(b"[1, x]".as_slice()) == Some(4));
-    assert!(rt; fault_of(b"1".as_slice()) == Some(0));
-    assert!(rt; fault_of(b"[1] x".as_slice()) == Some(4));
-    assert!(rt; fault_of(b"[1] \n".as_slice()).is_none());
 }
 
 /// An amount that is a number of JSON.
@@ -617,29 +459,6 @@ fn a_field(rt: HostRuntime) {
     }
 }
 
-/// A column of a stream.
-#[test]
-fn a_column_of_a_stream(rt: HostRuntime) {
-    assert!(rt; cents_of(b"a,1.50,x", 1) == Some(150) && cents_of(b"a,1.50,x", 3) == None);
-    assert!(rt; cents_of(b"a, 1.50", 1) == None);
-    assert!(rt; print_column(rt, b"name,price\na,1.50\nb,2\n".as_slice(), 1).is_ok());
-    let sum = column_sum(rt, b"name,price\na,1.50\n\nb,2\n".as_slice(), 1);
-    assert!(rt; matches!(sum, Ok(Ok(350))));
-    let fault = column_sum(rt, b"name,price\na,1.50\nb\n".as_slice(), 1);
-    assert!(rt; matches!(fault, Ok(Err(3))));
-    assert!(rt; print_column(rt, b"name,price\n\xff\n".as_slice(), 1).is_err());
-    assert!(rt; first_line_is(&rt, b"1.50\r\n2\n", b"1.50").is_ok_and(|is| is));
-}
-
-/// Whether std's `lines` gives this line first.
-fn first_line_is(rt: &HostRuntime, stream: &[u8], expected: &[u8]) -> std::io::Result<bool> {
-    let mut lines = BufReader::new(rt.alloc(), stream)?.lines(rt.alloc());
-    match lines.next() {
-        Some(line) => Ok(line?.as_bytes() == expected),
-        None => Ok(false),
-    }
-}
-
 /// Amounts with groups and without them.
 #[test]
 fn either_amount(rt: HostRuntime) {
@@ -649,31 +468,6 @@ fn either_amount(rt: HostRuntime) {
     for text in ["12,34.5", "1234,5.0", "1234.5x", "1,234.505", ""] {
         assert!(rt; parse_either(text.as_bytes()) == None, "{text}");
     }
-}
-
-/// A list in a text.
-#[test]
-fn a_list_within_a_text(rt: HostRuntime) {
-    assert!(rt; sum_bytes(b"x=de,ad;", 2) == Ok((395, 7)));
-    assert!(rt;
-        sum_bytes(b"x=;", 2) == Err(FoldError::Stream(StreamError::Number(LiteralError::Empty(2))))
-    );
-    let fault = LiteralError::Overflow(4);
-    let sum = sum_bytes(b"x=100,1", 2);
-    assert!(rt; sum == Err(FoldError::Stream(StreamError::Number(fault))));
-}
-
-/// An array that is written.
-#[test]
-fn an_array_in_a_slice(rt: HostRuntime) {
-    let mut out = [0; 9];
-    assert!(rt; write_array(&[1.5, 2.0], &mut out) == Some(9));
-    assert_eq!(rt; &out[..], b"[1.5,2.0]".as_slice());
-    assert!(rt; write_array(&[], &mut out) == Some(2));
-    assert_eq!(rt; &out[..2], b"[]".as_slice());
-    assert!(rt; write_array(&[1.5, -2.0], &mut out) == None);
-    assert!(rt; write_array(&[f64::NAN], &mut out) == None);
-    assert!(rt; write_array(&[], &mut []) == None);
 }
 
 /// Parts of a duration, each of which may be missing.
@@ -824,22 +618,6 @@ fn a_full_row(rt: HostRuntime) {
     );
 }
 
-/// The first number of an array above a limit.
-#[test]
-fn the_first_in_an_array(rt: HostRuntime) {
-    assert!(rt; first_in_array(b"[1, 2.5, 3]".as_slice(), 2.0) == Ok(Some((2.5, 4))));
-    assert!(rt; first_in_array(b" [1, 2.5 ] x".as_slice(), 2.0) == Ok(Some((2.5, 5))));
-    assert!(rt; first_in_array(b"[ ]".as_slice(), 2.0) == Ok(None));
-    assert!(rt; first_in_array(b"[1]".as_slice(), 2.0) == Ok(None));
-    for (text, fault) in [("1", 0), ("[1 2]", 3), ("[3x]", 2), ("[3, x]", 4), ("[", 1)] {
-        let found = first_in_array(text.as_bytes(), 2.0);
-        assert!(rt;
-            found.is_err_and(|error| error.position() == Some(fault)),
-            "{text}"
-        );
-    }
-}
-
 /// Lines with a key, a number and a unit.
 #[test]
 fn lines_of_timeouts(rt: HostRuntime) {
@@ -858,27 +636,6 @@ fn lines_of_timeouts(rt: HostRuntime) {
     assert_eq!(rt; sum_timeouts(b""), Ok(0));
     assert!(rt; parse_timeout(b"timeout = 1 ms \t") == Ok(1));
     assert!(rt; parse_timeout(b"timeout = 1 ms,") == Err(14));
-}
-
-/// A sum, and which number makes it too large.
-#[test]
-fn a_sum_of_words(rt: HostRuntime) {
-    assert_eq!(rt; sum_words(b" 1 20\n".as_slice()), Ok(21));
-    assert_eq!(rt; sum_words(b"".as_slice()), Ok(0));
-    assert_eq!(rt;
-        sum_words(b"2147483647  1".as_slice()),
-        Err(SumError::TooLarge(12))
-    );
-    let trailing = StreamError::Trailing(2, Some(LiteralError::Empty(2)));
-    assert_eq!(rt;
-        sum_words(b"1 x".as_slice()),
-        Err(SumError::Stream(trailing))
-    );
-    let large = StreamError::Number(LiteralError::Overflow(11));
-    assert_eq!(rt;
-        sum_words(b"1 2147483648 ".as_slice()),
-        Err(SumError::Stream(large))
-    );
 }
 
 /// The mean of a stream.
@@ -914,19 +671,52 @@ fn masks(rt: HostRuntime) {
     assert_eq!(rt; out, [255, 31, 4096, 0xb1]);
 }
 
-/// An array, and a float at the right end of a column.
+/// Literals with a sign.
 #[test]
-fn into_a_write(rt: HostRuntime) {
-    let mut to = Vec::new(rt.alloc());
-    assert!(rt; matches!(put_array(&[1.5, 2.0], &mut to), Ok(true)));
-    assert!(rt; matches!(put_array(&[], &mut to), Ok(true)));
-    assert!(rt; matches!(put_array(&[1.0, f64::NAN], &mut to), Ok(false)));
-    assert!(rt; put_float(2.5, &mut to).is_ok() && put_float(f64::INFINITY, &mut to).is_ok());
-    assert!(rt; to.as_slice() == b"[1.5,2.0][]        2.50           -".as_slice());
-    let mut row = Vec::new(rt.alloc());
-    assert!(rt; matches!(put_row(17, 123450, 0.1, &mut row), Ok(true)));
-    assert!(rt; matches!(put_row(17, 123450, f64::NAN, &mut row), Ok(false)));
-    assert!(rt; row.as_slice() == b"17,\"1,234.50\",0.1\n".as_slice());
-    let mut wide = Vec::new(rt.alloc());
-    assert!(rt; put_float(-f64::MAX, &mut wide).is_ok() && wide.len() == 313);
+fn offsets(rt: HostRuntime) {
+    for (text, value) in [
+        ("127", 127),
+        ("-128", -128),
+        ("-0x7f", -127),
+        ("0b1", 1),
+        ("-0", 0),
+    ] {
+        assert!(rt; parse_offset(text.as_bytes()) == Ok(value), "{text}");
+    }
+    for (text, fault) in [
+        ("128", 2),
+        ("-129", 3),
+        ("0xff", 3),
+        ("--1", 1),
+        ("-", 1),
+        ("", 0),
+        ("1_u8", 2),
+    ] {
+        assert!(rt; parse_offset(text.as_bytes()) == Err(fault), "{text}");
+    }
+}
+
+/// What the reference says beside its examples.
+#[test]
+#[tactic(auto, unfolding(digits::proofs::Literals::lexical_on_literals))]
+fn rare_texts(rt: HostRuntime) {
+    assert!(rt; read_literal_as::<u8>(b"0_1", 0, TOML) == Err(LanguageError::Zero(0)));
+    let toml = read_number_of::<f64>(b"-0x1f", 0, forms::TOML);
+    assert!(rt; toml.is_ok_and(|read| read.0.as_integer::<i8>() == Some(0) && read.1 == 2));
+    let side = Integers::<u64>::new(STANDARD);
+    let pair = Both {
+        first: side,
+        between: b'x',
+        second: side,
+    };
+    assert!(rt; read_optional(pair, b"640 x 480", 0) == Err(BothError::Between(3)));
+    for (text, amount, end) in [("12.", 120, 3), (".5", 5, 2), ("1.50", 15, 4)] {
+        let read = read_scaled_up_to(text.as_bytes(), STANDARD, 0, b'.', 1, 1000);
+        assert!(rt; read == Ok((amount, end)), "{text}");
+    }
+    let signed = read_scaled_up_to(b"-1", STANDARD, 0, b'.', 1, 1000);
+    assert!(rt; signed == Err(ScaledError::Empty(0)));
+    let text = b"3.5.2";
+    assert!(rt; read_float::<f64>(text, STANDARD) == Ok((3.5, 3)));
+    assert!(rt; read_float_from::<f64>(text, STANDARD, 3) == Ok((0.2, 5)));
 }

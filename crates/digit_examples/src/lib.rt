@@ -9,6 +9,8 @@ mod calling;
 #[cfg(test)]
 mod decimals;
 #[cfg(test)]
+mod files;
+#[cfg(test)]
 mod floats;
 #[cfg(test)]
 mod forms;
@@ -24,5 +26,7 @@ mod parts;
 mod pieces;
 #[cfg(test)]
 mod words;
+#[cfg(test)]
+mod writing;
 #[cfg(test)]
 mod written;

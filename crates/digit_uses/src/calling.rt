@@ -244,6 +244,22 @@ pub fn read_mask(text: &[u8]) -> Result<(u16, usize), LanguageError> {
     read_literal_as::<u16>(text, 0, RUST)
 }
 
+use digits::read_literal;
+
+/// Reads a text as a literal with a sign or without one: `-0xff` is -255. The error is the position
+/// of the fault: in `128` it is 2, since 128 is no `i8`, and `-128` is one.
+pub fn parse_offset(text: &[u8]) -> Result<i8, usize> {
+    let start = expect_byte(text, 0, b'-').unwrap_or(0);
+    let most = if start == 0 { 127 } else { 128 };
+    let literal = read_literal(text, start, RUST, most).map_err(|error| error.position())?;
+    if literal.end < text.len() {
+        return Err(literal.end);
+    }
+    let magnitude = i16::try_from(literal.value).map_err(|_| start)?;
+    let value = if start == 0 { magnitude } else { 0 - magnitude };
+    i8::try_from(value).map_err(|_| start)
+}
+
 use digits::Number;
 
 /// A literal of a Rust-like language.
@@ -390,7 +406,6 @@ pub fn parse_amount(text: &[u8]) -> Result<f64, NumberError> {
 }
 
 use digits::languages::JSON_NUMBER;
-use digits::read_literal;
 
 /// Reads a text as an id, a JSON integer from 1 to 2 to the power 53. In `01` the fault is at 0,
 /// and in `1.0` at 1.

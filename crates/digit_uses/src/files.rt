@@ -222,6 +222,28 @@ pub fn parse_row(line: &[u8], row: &mut [u32]) -> Result<usize, ListError<Litera
     parse_list(Integers::<u32>::new(STANDARD), line, COMMAS_IN_LINE, row)
 }
 
+use digits::SPACES_IN_LINE;
+
+/// Reads a stream that has three floats in each line, with blanks between them. `Ok(Err(line))`:
+/// that line, counted from 1, has others. Where memory is refused, it is an error of `std::io`.
+pub fn read_points<R: Read + Drop>(
+    rt: HostRuntime,
+    stream: R,
+) -> std::io::Result<Result<Vec<[f64; 3]>, usize>> {
+    let mut points = Vec::new(rt.alloc());
+    let lines = BufReader::new(rt.alloc(), stream)?.lines(rt.alloc());
+    for (line, number) in lines.zip(1usize..) {
+        let line = line?;
+        let mut point = [0.0; 3];
+        let kind = Floats::<f64>::new(STANDARD);
+        match parse_list(kind, line.as_bytes(), SPACES_IN_LINE, &mut point) {
+            Ok(3) => points.push(point)?,
+            _ => return Ok(Err(number)),
+        }
+    }
+    Ok(Ok(points))
+}
+
 use digits::parse_scaled;
 
 /// The cents in a column, from 0, of a CSV line without quotes: in column 1 of `a,1.50,x` are 150.

@@ -22,6 +22,7 @@ pub fn parse_order(line: &[u8]) -> Result<(u32, i64), usize> {
     let id = read_number::<u32>(line, STANDARD);
     let (id, at) = id.map_err(|error| error.position())?;
     let at = expect_byte(line, at, b',')?;
+    // The point, and two places: `12`, `12.5` and `12.50` are read.
     let cents = read_scaled_from::<i64>(line, STANDARD, at, b'.', 2);
     let (cents, end) = cents.map_err(|error| error.position())?;
     if end < line.len() {

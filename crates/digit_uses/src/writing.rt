@@ -120,3 +120,12 @@ pub fn write_grouped(number: i64, out: &mut [u8]) -> Result<usize, NoRoom> {
     };
     write_number_by(number, layout, out)
 }
+
+/// Writes the bits of a number as 16 hexadecimal digits: -1 gives `ffffffffffffffff`.
+pub fn write_bits(number: i64, out: &mut [u8]) -> Result<usize, NoRoom> {
+    let Some(hexadecimal) = Layout::of_radix(16) else {
+        unreachable!()
+    };
+    let bits = u64::from_le_bytes(number.to_le_bytes());
+    write_number_by(bits, hexadecimal.with_digits(16), out)
+}
