@@ -2,9 +2,9 @@
 
 use digit_uses::calling::{
     COMMA_DIGITS, Field, SEMICOLONS, Value, field_of, has_port, line_and_column, mean_of,
-    parse_address, parse_colors, parse_duration, parse_either, parse_offset, parse_price,
-    parse_ranges, parse_size, parse_timeout, read_array, read_cents, read_rate, read_value,
-    sum_lengths, sum_timeouts,
+    parse_address, parse_colors, parse_duration, parse_either, parse_offset, parse_path,
+    parse_price, parse_ranges, parse_size, parse_timeout, read_array, read_cents, read_point,
+    read_rate, read_value, sum_lengths, sum_timeouts,
 };
 use digit_uses::own::{read_color, read_masks};
 use digit_uses::proving;
@@ -693,6 +693,34 @@ fn offsets(rt: HostRuntime) {
         ("1_u8", 2),
     ] {
         assert!(rt; parse_offset(text.as_bytes()) == Err(fault), "{text}");
+    }
+}
+
+/// Points of a document.
+#[test]
+fn paths(rt: HostRuntime) {
+    assert!(rt; read_point(b"[1.5, 2] ", 0) == Ok(([1.5, 2.0], 9)));
+    let mut out = [[0.0; 2]; 2];
+    assert!(rt; parse_path(b"[[1.5, 2], [3, 4]]", &mut out) == Ok(2));
+    assert!(rt; out == [[1.5, 2.0], [3.0, 4.0]]);
+    assert!(rt; parse_path(b" [ [-1e3 ,0.5 ] ]\n", &mut out) == Ok(1));
+    assert!(rt; out == [[-1000.0, 0.5], [3.0, 4.0]]);
+    for (text, fault) in [
+        ("", 0),
+        ("[]", 1),
+        ("[[1,x]]", 4),
+        ("[[1]]", 3),
+        ("[[1,2,3]]", 5),
+        ("[[1,2] [3,4]]", 7),
+        ("[[1,2]] x", 8),
+        ("[[1,2],[3,4],[5,6]]", 13),
+        ("[[1,2]", 6),
+        ("[[01,2]]", 3),
+    ] {
+        assert!(rt;
+            parse_path(text.as_bytes(), &mut out) == Err(fault),
+            "{text}"
+        );
     }
 }
 

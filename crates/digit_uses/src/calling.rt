@@ -466,6 +466,51 @@ pub fn read_array(
     )
 }
 
+/// Passes a byte, and the blanks around it.
+fn pass(text: &[u8], at: usize, byte: u8) -> Result<usize, usize>
+    requires { at ≤ length text.now }
+    ensures { IfOk result (λ end. end ≤ length text.now) }
+{
+    let at = past_bytes(text, at, BLANKS);
+    let at = expect_byte(text, at, byte)?;
+    Ok(past_bytes(text, at, BLANKS))
+}
+
+/// Reads the point at `start`, and returns the position after it and the blanks there: `[1.5, 2] `
+/// gives `([1.5, 2.0], 9)`.
+pub fn read_point(text: &[u8], start: usize) -> Result<([f64; 2], usize), usize>
+    requires { start ≤ length text.now }
+    ensures { IfOk result (λ read. read.1 ≤ length text.now) }
+{
+    let at = pass(text, start, b'[')?;
+    let x = read_number_of::<f64>(text, at, forms::JSON);
+    let (x, at) = x.map_err(|error| error.position())?;
+    let at = pass(text, at, b',')?;
+    let y = read_number_of::<f64>(text, at, forms::JSON);
+    let (y, at) = y.map_err(|error| error.position())?;
+    Ok(([x.to_float(), y.to_float()], pass(text, at, b']')?))
+}
+
+/// Reads a text that is a JSON array of points, at least one, into the front of a slice, and
+/// returns how many there are: `[[1.5, 2], [3, 4]]` has two. The error is the position of the
+/// fault.
+pub fn parse_path(text: &[u8], out: &mut [[f64; 2]]) -> Result<usize, usize> {
+    let mut at = pass(text, 0, b'[')?;
+    for (place, count) in out.iter_mut().zip(1usize..) {
+        let (point, end) = read_point(text, at)?;
+        *place = point;
+        if byte_at(text, end) == Some(b']') {
+            let end = pass(text, end, b']')?;
+            if end < text.len() {
+                return Err(end);
+            }
+            return Ok(count);
+        }
+        at = pass(text, end, b',')?;
+    }
+    Err(at)
+}
+
 /// Adds up the lengths of a text, and skips their units: `10px 2.5em` gives 12.5.
 pub fn sum_lengths(text: &[u8]) -> Result<f64, NumberError> {
     let mut sum = 0.0;
