@@ -1,10 +1,10 @@
 //! What CALLING.md says that its functions answer, and a stream.
 
 use digit_uses::calling::{
-    COMMA_DIGITS, Field, SEMICOLONS, Value, field_of, has_port, line_and_column, mean_of,
-    parse_address, parse_colors, parse_duration, parse_either, parse_offset, parse_path,
-    parse_price, parse_ranges, parse_size, parse_timeout, read_array, read_cents, read_point,
-    read_rate, read_value, sum_lengths, sum_timeouts,
+    COMMA_DIGITS, Field, SEMICOLONS, Typed, field_of, has_port, line_and_column, mean_of,
+    parse_address, parse_colors, parse_either, parse_offset, parse_path, parse_price, parse_ranges,
+    parse_size, parse_span, parse_timeout, read_array, read_cents, read_point, read_rate,
+    read_suffixed, sum_lengths, sum_timeouts,
 };
 use digit_uses::own::{read_color, read_masks};
 use digit_uses::proving;
@@ -402,21 +402,21 @@ fn cents_of_json(rt: HostRuntime) {
 #[test]
 fn values(rt: HostRuntime) {
     for (text, value, end) in [
-        ("1_000;", Value::Integer(1000), 5),
-        ("0xff+1", Value::Integer(255), 4),
-        ("1.5e3", Value::Double(1500.0), 5),
-        ("0x1F_u8", Value::Byte(31), 7),
-        ("1f64", Value::Double(1.0), 4),
-        ("1.5_f32)", Value::Single(1.5), 7),
-        ("1..2", Value::Integer(1), 1),
-        ("16777217f32", Value::Single(16777216.0), 11),
+        ("1_000;", Typed::Integer(1000), 5),
+        ("0xff+1", Typed::Integer(255), 4),
+        ("1.5e3", Typed::Double(1500.0), 5),
+        ("0x1F_u8", Typed::Byte(31), 7),
+        ("1f64", Typed::Double(1.0), 4),
+        ("1.5_f32)", Typed::Single(1.5), 7),
+        ("1..2", Typed::Integer(1), 1),
+        ("16777217f32", Typed::Single(16777216.0), 11),
     ] {
         assert!(rt;
-            read_value(text.as_bytes(), 0) == Ok((value, end)),
+            read_suffixed(text.as_bytes(), 0) == Ok((value, end)),
             "{text}"
         );
     }
-    assert!(rt; read_value(b"=7;", 1) == Ok((Value::Integer(7), 2)));
+    assert!(rt; read_suffixed(b"=7;", 1) == Ok((Typed::Integer(7), 2)));
     for (text, fault) in [
         ("1_u16", 2),
         ("256u8", 0),
@@ -427,7 +427,7 @@ fn values(rt: HostRuntime) {
         ("x", 0),
         ("", 0),
     ] {
-        assert!(rt; read_value(text.as_bytes(), 0) == Err(fault), "{text}");
+        assert!(rt; read_suffixed(text.as_bytes(), 0) == Err(fault), "{text}");
     }
 }
 
@@ -473,9 +473,9 @@ fn either_amount(rt: HostRuntime) {
 /// Parts of a duration, each of which may be missing.
 #[test]
 fn durations(rt: HostRuntime) {
-    assert_eq!(rt; parse_duration(b"1h30m5s"), Ok(5405));
-    assert_eq!(rt; parse_duration(b"30m"), Ok(1800));
-    assert_eq!(rt; parse_duration(b"4294967295h"), Ok(15461882262000));
+    assert_eq!(rt; parse_span(b"1h30m5s"), Ok(5405));
+    assert_eq!(rt; parse_span(b"30m"), Ok(1800));
+    assert_eq!(rt; parse_span(b"4294967295h"), Ok(15461882262000));
     for (text, fault) in [
         ("", 0),
         ("x", 0),
@@ -484,7 +484,7 @@ fn durations(rt: HostRuntime) {
         ("5s1h", 2),
         ("4294967296s", 9),
     ] {
-        assert!(rt; parse_duration(text.as_bytes()) == Err(fault), "{text}");
+        assert!(rt; parse_span(text.as_bytes()) == Err(fault), "{text}");
     }
 }
 

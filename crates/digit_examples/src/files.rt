@@ -2,7 +2,7 @@
 
 use digit_uses::files::{
     Entry, SumError, cents_of, check_entries, column_sum, first_above, first_in_array, greatest_of,
-    parse_entry, print_column, read_all, read_points, sum_array, sum_bytes, sum_column, sum_of,
+    parse_entry, print_column, read_all, read_triples, sum_array, sum_bytes, sum_column, sum_of,
     sum_text, sum_words,
 };
 use digits::{
@@ -157,7 +157,7 @@ fn a_list_within_a_text(rt: HostRuntime) {
 /// Lines of three floats, into a vector.
 #[test]
 fn points(rt: HostRuntime) {
-    let read = read_points(rt, b"1 2.5 3\n4\t5 6 \n".as_slice());
+    let read = read_triples(rt, b"1 2.5 3\n4\t5 6 \n".as_slice());
     let expected = [[1.0, 2.5, 3.0], [4.0, 5.0, 6.0]];
     let all = read.is_ok_and(|read| read.is_ok_and(|all| all.as_slice() == expected.as_slice()));
     assert!(rt; all);
@@ -167,13 +167,13 @@ fn points(rt: HostRuntime) {
         ("1 2 3 4\n", 1),
         ("1 2 x\n", 1),
     ] {
-        let read = read_points(rt, text.as_bytes());
+        let read = read_triples(rt, text.as_bytes());
         assert!(rt;
             read.is_ok_and(|read| read.is_err_and(|line| line == fault)),
             "{text}"
         );
     }
-    assert!(rt; read_points(rt, b"\xff\n".as_slice()).is_err());
+    assert!(rt; read_triples(rt, b"\xff\n".as_slice()).is_err());
 }
 
 /// The first number of an array above a limit.

@@ -166,7 +166,7 @@ fn read_part(text: &[u8], at: usize, unit: u8) -> Result<(u32, usize), usize>
 
 /// Reads a text as seconds: `1h30m5s` is 5405, and `30m` 1800. In `1h5x` the fault is at 2, where
 /// no part begins.
-pub fn parse_duration(text: &[u8]) -> Result<u64, usize> {
+pub fn parse_span(text: &[u8]) -> Result<u64, usize> {
     let (hours, at) = read_part(text, 0, b'h')?;
     let (minutes, at) = read_part(text, at, b'm')?;
     let (seconds, end) = read_part(text, at, b's')?;
@@ -264,7 +264,7 @@ use digits::Number;
 
 /// A literal of a Rust-like language.
 #[derive(Clone, Copy, Debug, PartialEq)]
-pub enum Value {
+pub enum Typed {
     Integer(u128),
     Byte(u8),
     Double(f64),
@@ -273,7 +273,7 @@ pub enum Value {
 
 /// Reads the literal at `start`, with its suffix, and returns where it ends: `0x1F_u8` gives
 /// `(Byte(31), 7)`. The error is the position of the fault.
-pub fn read_value(text: &[u8], start: usize) -> Result<(Value, usize), usize>
+pub fn read_suffixed(text: &[u8], start: usize) -> Result<(Typed, usize), usize>
     requires { start ≤ length text.now }
 {
     let number = read_number_of::<f64>(text, start, forms::RUST);
@@ -281,16 +281,16 @@ pub fn read_value(text: &[u8], start: usize) -> Result<(Value, usize), usize>
     let stop = name_end(text, end);
     let value = match &text[end..stop] {
         b"" => match number {
-            Number::Integer { magnitude, .. } => Value::Integer(magnitude),
-            Number::Float(x) => Value::Double(x),
+            Number::Integer { magnitude, .. } => Typed::Integer(magnitude),
+            Number::Float(x) => Typed::Double(x),
         },
-        b"u8" => Value::Byte(number.as_integer::<u8>().ok_or(start)?),
-        b"f64" => Value::Double(number.to_float()),
+        b"u8" => Typed::Byte(number.as_integer::<u8>().ok_or(start)?),
+        b"f64" => Typed::Double(number.to_float()),
         b"f32" => {
             // An `f32` of the `f64` would be rounded twice.
             let single = read_number_of::<f32>(text, start, forms::RUST);
             let (single, _) = single.map_err(|error| error.position())?;
-            Value::Single(single.to_float())
+            Typed::Single(single.to_float())
         }
         _ => return Err(end),
     };

@@ -226,7 +226,7 @@ use digits::SPACES_IN_LINE;
 
 /// Reads a stream that has three floats in each line, with blanks between them. `Ok(Err(line))`:
 /// that line, counted from 1, has others. Where memory is refused, it is an error of `std::io`.
-pub fn read_points<R: Read + Drop>(
+pub fn read_triples<R: Read + Drop>(
     rt: HostRuntime,
     stream: R,
 ) -> std::io::Result<Result<Vec<[f64; 3]>, usize>> {
