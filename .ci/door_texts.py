@@ -79,7 +79,7 @@ GROUPS = {
         is_language | Tests a language of your own""", """
         To read a whole text, compare the end with `text.len()`, or call [`parse_number_of`](#parse_number_of)
         by the form of the language, such as `forms::RUST`, and then `as_integer`. `JULIA`, `ZIG`, `DIGITS` and `HEX_DIGITS` have no
-        form by name; for `C` it is `forms::C89` or `forms::C99`, and for `JSON_NUMBER` `forms::JSON`.""", """
+        form by name ([how to write those of Julia and Zig](forms.md)); for `C` it is `forms::C89` or `forms::C99`, and for `JSON_NUMBER` `forms::JSON`.""", """
         read_literal_as read_literal prefix_word languages is_language Literal Language FirstZero
         LanguageError"""),
     "Bytes between numbers": ("""
@@ -231,7 +231,7 @@ GROUPS = {
         so many numbers.
         - The bound `R: Drop` lets a call drop the reader at its end.
         - With `LINES` an empty line is an error. [Gaps](#gaps) says how to skip empty lines.
-        - `position()` of an error of a stream is an `Option<u64>`: `None` if the reader failed. Each of these errors
+        - `position()` of an error of a stream is an `Option<u64>`: `None` if the reader failed, or a position is above `u64::MAX`. Each of these errors
         becomes the next by `?`: `StreamError`, `FoldError`, `EnclosedFoldError`.""", """
         fold_stream NumberReader is_apart StreamRead StreamEnd FoldError EnclosedFoldError StreamError"""),
     "Pieces and blocks": ("""
@@ -664,7 +664,7 @@ attribute](../../CALLING.md#set-up) in your `lib.rt`: \
 - A closure may be called on everything if it can't panic: write `sum.checked_add(number)`, not \
 `sum + number`, unless these are floats.
 
-What is known only at run time you test first:
+What is known only at run time you test first, or you require it of your caller: `requires {{ IsForm form }}`, with `ghost use Rattle.digits.specs.Words.{{IsForm}}`, and so `IsLanguage` and `IsTrue (is_supported word)`:
 
 | You prove | Test |
 |---|---|

@@ -3,8 +3,8 @@
 use digit_uses::calling::{
     COMMA_DIGITS, Field, SEMICOLONS, Typed, field_of, has_port, line_and_column, mean_of,
     parse_address, parse_colors, parse_either, parse_offset, parse_path, parse_price, parse_ranges,
-    parse_size, parse_span, parse_timeout, read_array, read_cents, read_point, read_rate,
-    read_suffixed, sum_lengths, sum_timeouts,
+    parse_size, parse_span, parse_timeout, read_array, read_by_form, read_cents, read_point,
+    read_rate, read_suffixed, sum_lengths, sum_timeouts,
 };
 use digit_uses::own::{read_color, read_masks};
 use digit_uses::proving;
@@ -13,9 +13,9 @@ use digit_uses::sums::sum_list;
 use digits::languages::{CXX14, RUST, TOML};
 use digits::words::PYTHON_LITERAL;
 use digits::{
-    Both, BothError, COMMAS, FloatError, FoldError, Integers, LINES, LanguageError, ListEnd,
-    ListError, LiteralError, NoRoom, Number, NumberError, NumberReader, ParseError, PriceError,
-    SPACES_IN_LINE, STANDARD, ScaledError, StreamError, forms, parse_float, parse_list,
+    Both, BothError, COMMAS, FloatError, FoldError, Form, Integers, LINES, LanguageError, ListEnd,
+    ListError, LiteralError, Marks, NoRoom, Number, NumberError, NumberReader, ParseError,
+    PriceError, SPACES_IN_LINE, STANDARD, ScaledError, StreamError, forms, parse_float, parse_list,
     parse_number, parse_number_from, parse_number_of, parse_scaled, read_decimal_from,
     read_decimal_of, read_exact_from, read_float, read_float_from, read_grouped_from, read_list_by,
     read_literal_as, read_number, read_number_of, read_optional, read_price_from, read_scaled_from,
@@ -694,6 +694,23 @@ fn offsets(rt: HostRuntime) {
     ] {
         assert!(rt; parse_offset(text.as_bytes()) == Err(fault), "{text}");
     }
+}
+
+/// A form that only run time knows.
+#[test]
+fn by_any_form(rt: HostRuntime) {
+    let one = read_by_form(b"1_000u;", 0, forms::RUST);
+    assert!(rt; one.is_some_and(|read| read.0.as_integer::<u16>() == Some(1000)));
+    assert!(rt; one.is_some_and(|read| (read.1, read.2) == (5, 6)));
+    assert!(rt; read_by_form(b"x", 0, forms::RUST).is_none());
+    let no_form = Form {
+        marks: Marks {
+            point: b'1',
+            exponent: b'e',
+        },
+        ..forms::RUST
+    };
+    assert!(rt; read_by_form(b"1", 0, no_form).is_none());
 }
 
 /// Points of a document.

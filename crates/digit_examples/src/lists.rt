@@ -298,6 +298,15 @@ fn a_number_that_may_be_missing(rt: HostRuntime) {
     // an unsigned type has no sign
     let kind = Integers::<u32>::new(STANDARD);
     assert_eq!(rt; read_optional(kind, b"-1", 0), Ok(None));
+    // a field in quotes: none, and one that is empty
+    let quoted = Enclosed {
+        opening: b'"',
+        kind,
+        closing: b'"',
+    };
+    assert_eq!(rt; read_optional(quoted, b",", 0), Ok(None));
+    let empty = BracketError::Number(LiteralError::Empty(1));
+    assert_eq!(rt; read_optional(quoted, b"\"\"", 0), Err(empty));
 }
 
 /// The ends of lists that the reference tells.

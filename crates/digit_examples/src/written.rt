@@ -83,6 +83,8 @@ fn an_amount(rt: HostRuntime) {
     let mut out = [0; 16];
     assert_eq!(rt; write_scaled(-1250i64, b'.', 2, &mut out), Ok(6));
     assert!(rt; out.starts_with(b"-12.50"));
+    assert_eq!(rt; write_scaled(5i64, b'.', 2, &mut out), Ok(4));
+    assert!(rt; out.starts_with(b"0.05"));
 }
 
 /// Shows `write_price`.

@@ -246,7 +246,7 @@ pub fn read_mask(text: &[u8]) -> Result<(u16, usize), LanguageError> {
 
 use digits::read_literal;
 
-/// Reads a text as a literal with a sign or without one: `-0xff` is -255. The error is the position
+/// Reads a text as a literal with a sign or without one: `-0x7f` is -127. The error is the position
 /// of the fault: in `128` it is 2, since 128 is no `i8`, and `-128` is one.
 pub fn parse_offset(text: &[u8]) -> Result<i8, usize> {
     let start = expect_byte(text, 0, b'-').unwrap_or(0);
@@ -295,6 +295,21 @@ pub fn read_suffixed(text: &[u8], start: usize) -> Result<(Typed, usize), usize>
         _ => return Err(end),
     };
     Ok((value, stop))
+}
+
+use digits::{Form, is_form};
+
+/// Reads the number at `start` by any form, and returns where it ends, and where its suffix ends:
+/// `1_000u;` by `forms::RUST` gives 1000, 5 and 6. `None`: there is no number, or the form isn't
+/// valid.
+pub fn read_by_form(text: &[u8], start: usize, form: Form) -> Option<(Number<f64>, usize, usize)>
+    requires { start ≤ length text.now }
+{
+    if !is_form(form) {
+        return None;
+    }
+    let (number, end) = read_number_of::<f64>(text, start, form).ok()?;
+    Some((number, end, name_end(text, end)))
 }
 
 /// What a field has. Each position is that of the fault.
@@ -493,10 +508,13 @@ pub fn read_point(text: &[u8], start: usize) -> Result<([f64; 2], usize), usize>
 
 /// Reads a text that is a JSON array of points, at least one, into the front of a slice, and
 /// returns how many there are: `[[1.5, 2], [3, 4]]` has two. The error is the position of the
-/// fault.
+/// fault, or where the next point begins if the slice is full.
 pub fn parse_path(text: &[u8], out: &mut [[f64; 2]]) -> Result<usize, usize> {
     let mut at = pass(text, 0, b'[')?;
     for (place, count) in out.iter_mut().zip(1usize..) {
+        if at >= text.len() {
+            return Err(at);
+        }
         let (point, end) = read_point(text, at)?;
         *place = point;
         if byte_at(text, end) == Some(b']') {
