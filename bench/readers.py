@@ -88,7 +88,6 @@ def readme():
     found, written = ratios(), Figures("written-times.txt").rows
     below, above = ([it for it in found.values() if (it > 1) == is_above] for is_above in (False, True))
     coordinate, integer = (told(*beside(row)) for row in EXAMPLES)
-    ended = told(*slower_run(EXAMPLES[0], rows()[EXAMPLES[0]], READ, lacks=lacks_end))
     price, any_float = (told(*slower_run(row, written[row], lacks=lacks_of_writers)) for row in LOST_EXAMPLES)
     integers = times("u64, 3 digits", "u64, 1 to", "u64, 8", "u64, 16", "u64, 20", "i32")
     floats, places = times("f64, ", "f64 with", "f32, "), times("%.2f")
@@ -96,10 +95,10 @@ def readme():
     return f"""\
 ![Whole texts, and numbers whose end is needed, by what is read](docs/times.svg)
 
-- **You gain** when you read whole texts, or numbers of JSON. A coordinate such as `-12.3456` takes {coordinate}; an integer of 16 digits {integer}. \
-For {len(below)} of {len(found)} kinds of numbers no library that does the same work is faster{f"; the others take {loss} longer than by the fastest one" if above else ""}.
-- **You may lose** when you need where a number ends: a coordinate takes {ended}; for {fastest(READ)} kinds no library is faster, and the others take up to {round(100 * (float(most(ratios(side=READ))) - 1))} % longer. \
-And when you write: an integer takes {integers} times as long as by the fastest other library, a float with the fewest digits {floats} times, and `%.2f` {places} times.
+- **You gain** when you read whole texts, or numbers of JSON: for {len(below)} of {len(found)} kinds of numbers no library that does the same work is faster{f", and the others take {loss} longer than by the fastest one" if above else ""}. \
+A coordinate such as `-12.3456` takes {coordinate}; an integer of 16 digits {integer}.
+- **It is about even** when you also need where a number ends, which takes {least(ratios(side=READ))} to {most(ratios(side=READ))} times as long as by the fastest other library; and when you write: \
+integers {integers}, floats with the fewest digits {floats} times. `%.2f` takes {places} times.
 - **You lose** with floats like C's `%.6e`, by `write_scientific`: a price takes {price}, and a float of random bits {any_float}.
 
 [SPEED.md](docs/SPEED.md) has each kind of input, the libraries and their versions, what a call from C costs, and how to \
