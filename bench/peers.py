@@ -75,6 +75,15 @@ def cells(row, sides):
             ratio(mine[0], best(row, sides, lambda it: it[0], True))]
 
 
+# The readers that don't say where a number ends.
+WITHOUT_END = ("std", "lexical-core", "serde_json", "minimal-lexical")
+
+
+def lacks_end(row, side):
+    """What a side doesn't do where the end of a number is needed, too."""
+    return lacks(row, side) or ("no end" if side in WITHOUT_END else None)
+
+
 def slower_run(row, sides, side=LIBRARY, does_less=False, lacks=lacks):
     """A side's time, and the fastest peer that does the same work, or does less, in the run in which
     their ratio is greatest; or None."""
@@ -87,10 +96,11 @@ def timed(row, sides):
     """What the times say of a row."""
     mine, peer = slower_run(row, sides)
     # by a form the library's call is one that answers the end
-    by_read = slower_run(row, sides, READ if READ in sides else LIBRARY)
+    by_read = slower_run(row, sides, READ if READ in sides else LIBRARY, lacks=lacks_end)
     less = slower_run(row, sides, does_less=True)
     name = peer[1].partition(",")[0]
-    return [row, f"{mine:.1f}", f"{by_read[0]:.1f}" if READ in sides or row.startswith("JSON") else "–",
+    has_read = READ in sides or row.startswith("JSON")
+    return [row, f"{mine:.1f}", f"{by_read[0]:.1f} ({by_read[0] / by_read[1][0]:.2f})" if has_read else "–",
             f"{peer[0]:.1f} {name}", f"{mine / peer[0]:.2f}", ratio(less[0], less[1]) if less else "–"]
 
 

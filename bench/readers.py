@@ -1,23 +1,14 @@
 """What README.md and the head of docs/SPEED.md say of the times beside other readers."""
 from cases import table
-from peers import LIBRARY, READ, Figures, lacks, slower_run
+from peers import LIBRARY, READ, Figures, lacks, lacks_end, slower_run
 from written import lacks as lacks_of_writers
 from written import times
 
 # The rows whose times README.md has.
 EXAMPLES = ("f64, coordinates", "u64, 16 digits")
 LOST_EXAMPLES = ("%.6e, 3 digits and 2 places", "%.6e, random bits")
-# The readers that don't say where a number ends.
-WITHOUT_END = ("std", "lexical-core", "serde_json", "minimal-lexical")
-
-
 def rows():
     return Figures("times.txt").rows
-
-
-def lacks_end(row, side):
-    """What a side doesn't do where the end of a number is needed, too."""
-    return lacks(row, side) or ("no end" if side in WITHOUT_END else None)
 
 
 def ratios(start="", side=LIBRARY):
@@ -89,17 +80,15 @@ def readme():
     below, above = ([it for it in found.values() if (it > 1) == is_above] for is_above in (False, True))
     coordinate, integer = (told(*beside(row)) for row in EXAMPLES)
     price, any_float = (told(*slower_run(row, written[row], lacks=lacks_of_writers)) for row in LOST_EXAMPLES)
-    integers = times("u64, 3 digits", "u64, 1 to", "u64, 8", "u64, 16", "u64, 20", "i32")
-    floats, places = times("f64, ", "f64 with", "f32, "), times("%.2f")
+    floats = times("f64, ", "f64 with", "f32, ")
     loss = " and ".join(f"{round(100 * (it - 1))} %" for it in sorted(above))
     return f"""\
 ![Whole texts, and numbers whose end is needed, by what is read](docs/times.svg)
 
-- **You gain** when you read whole texts, or numbers of JSON: for {len(below)} of {len(found)} kinds of numbers no library that does the same work is faster{f", and the others take {loss} longer than by the fastest one" if above else ""}. \
-A coordinate such as `-12.3456` takes {coordinate}; an integer of 16 digits {integer}.
-- **It is about even** when you also need where a number ends, which takes {least(ratios(side=READ))} to {most(ratios(side=READ))} times as long as by the fastest other library; and when you write: \
-integers {integers}, floats with the fewest digits {floats} times. `%.2f` takes {places} times.
-- **You lose** with floats like C's `%.6e`, by `write_scientific`: a price takes {price}, and a float of random bits {any_float}.
+- **You gain** when you read whole texts, or numbers of JSON: for {len(below)} of {len(found)} kinds of numbers no library that does the same work is faster{f"; the other {len(above)} are {loss} slower than by the fastest one" if above else ""}. \
+A coordinate such as `-12.3456` takes {coordinate}; an integer of 16 digits {integer}. And when you write prices like `%.2f` ({times("%.2f, prices", "%.2f, 3 digits")} times as long as by the fastest other library), or integers that all have 8, 16 or 20 digits ({times("u64, 8", "u64, 16", "u64, 20")}).
+- **It is about even** when you also need where a number ends ({least(ratios(side=READ))} to {most(ratios(side=READ))} times as long), and when you write floats with the fewest digits ({floats}).
+- **You lose** when you write integers of 1 to 4 digits, or of any length by chance ({times("u64, 3 digits", "u64, 1 to")} times as long), `%.2f` of numbers up to 1e22 ({times("%.2f, in [0, 1e22)")}), and floats like `%.6e`: a price takes {price}, a float of random bits {any_float}. [All that is slower](docs/SPEED.md#where-you-lose).
 
 [SPEED.md](docs/SPEED.md) has each kind of input, the libraries and their versions, what a call from C costs, and how to \
 call so that it is fast."""
