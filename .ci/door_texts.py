@@ -436,7 +436,7 @@ NOTES = {
         After the 1 of `1  2` by [`WHITESPACE`](#whitespace) it is 2. After [`pass_blanks`](#numberreaderpass_blanks) it is 3, where
         the next number begins. After `fold_enclosed` it is right after the closing byte. If the stream is a `&[u8]`, it fits a `usize`.""",
     "PriceError": """
-        With `Places` the position is where the number ends: 5 in `1.500`, and not 4. Which of two faults is told: `TooFine` before `Group`, and `Group` before `Places`, as the [table](#amounts-and-prices) shows.""",
+        With `Places` the position is where the number ends: 5 in `1.500`, and not 4. `Group` is told before `Places`, as of `1234.5` in the [table](#amounts-and-prices).""",
     "languages": "With `HEX_DIGITS` `10` is ten, and `0x10` 16. Where `017` is octal, `08` is 0, and ends at 1. `JSON_NUMBER` reads the 1 of `1.5`, and ends at 1: every JSON number has `forms::JSON`.",
     "read_literal_as": """
         A literal of C++, with `CXX14`: `1'000u` is 1000, and ends at 5; `017` is 15; `1''0` is 1, and ends at 1.""",
