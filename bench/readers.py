@@ -6,6 +6,7 @@ from written import times
 
 # The rows whose times README.md has.
 EXAMPLES = ("f64, coordinates", "u64, 16 digits")
+FROM_C = f"{LIBRARY}, from C"
 LOST_EXAMPLES = ("%.6e, 3 digits and 2 places", "%.6e, random bits")
 def rows():
     return Figures("times.txt").rows
@@ -85,12 +86,12 @@ def readme():
     return f"""\
 ![Whole texts, and numbers whose end is needed, by what is read](docs/times.svg)
 
-- **You gain** when you read whole texts, or numbers of JSON: for {len(below)} of {len(found)} kinds of numbers no library that does the same work is faster{f"; the other {len(above)} are {loss} slower than by the fastest one" if above else ""}. \
-A coordinate such as `-12.3456` takes {coordinate}; an integer of 16 digits {integer}. And when you write prices like `%.2f` ({times("%.2f, prices", "%.2f, 3 digits")} times as long as by the fastest other library), or integers that all have 8, 16 or 20 digits ({times("u64, 8", "u64, 16", "u64, 20")}).
+- **You gain** when you read whole texts, or numbers of JSON: for {len(below)} of {len(found)} kinds of numbers no library that does the same work is faster{f"; the other {len(above)} are {loss} slower than by the fastest one" if above else ""}. Through the C library it is {fastest(FROM_C)}, \
+and the others take up to {most(ratios(side=FROM_C))} times as long. A coordinate such as `-12.3456` takes {coordinate}; an integer of 16 digits {integer}. And when you write prices like `%.2f` ({times("%.2f, prices", "%.2f, 3 digits")} times as long as by the fastest other library), or integers that all have 8, 16 or 20 digits ({times("u64, 8", "u64, 16", "u64, 20")}).
 - **It is about even** when you also need where a number ends ({least(ratios(side=READ))} to {most(ratios(side=READ))} times as long), and when you write floats with the fewest digits ({floats}).
-- **You lose** when you write integers of 1 to 4 digits, or of any length by chance ({times("u64, 3 digits", "u64, 1 to")} times as long), `%.2f` of numbers up to 1e22 ({times("%.2f, in [0, 1e22)")}), and floats like `%.6e`, by `write_scientific`: so written, a price takes {price}, a float of random bits {any_float}. [All that is slower](docs/SPEED.md#where-you-lose).
+- **You lose** when you write `u64`s of 1 to 4 digits, or of any length by chance ({times("u64, 3 digits", "u64, 1 to")} times as long), `%.2f` of numbers up to 1e22 ({times("%.2f, in [0, 1e22)")}), and floats like `%.6e`, by `write_scientific`: so written, a price takes {price}, a float of random bits {any_float}. [All that is slower](docs/SPEED.md#where-you-lose).
 
-[SPEED.md](docs/SPEED.md) has each kind of input, the libraries in their versions of Debian 12, what a call from C costs, and how to \
+[SPEED.md](docs/SPEED.md) has each kind of input, the libraries (of Debian 12: fast_float 3.9.0, lexical-core 0.7.6, serde_json 1.0.87), what a call from C costs, and how to \
 call so that it is fast."""
 
 

@@ -191,7 +191,7 @@ pub fn read_rate(text: &[u8]) -> Result<(u32, usize), usize> {
 /// Reads a text as a number of bytes, exactly: `512`, `4KiB`, `1.5MB`, which is 1500000. In `1.5B`
 /// the fault is at 0: it is no whole number of bytes.
 pub fn parse_size(text: &[u8]) -> Result<u64, usize> {
-    // Nine places, so that any fraction of a unit up to `GB` is exact.
+    // Nine places: any fraction of `MB` and `GB` is exact.
     let amount = read_scaled_from::<u128>(text, STANDARD, 0, b'.', 9);
     let (amount, end) = amount.map_err(|error| error.position())?;
     let unit = match &text[end..] {
