@@ -5,7 +5,7 @@ from written import lacks as lacks_of_writers
 from written import times
 
 # The rows whose times README.md has.
-EXAMPLES = ("f64, coordinates", "u64, 16 digits")
+EXAMPLE = "f64, coordinates"
 FROM_C = f"{LIBRARY}, from C"
 LOST_EXAMPLES = ("%.6e, 3 digits and 2 places", "%.6e, random bits")
 def rows():
@@ -78,20 +78,21 @@ def told(mine, peer):
 def readme():
     """What README.md has between its comments: the picture, what you gain, and what you lose."""
     found, written = ratios(), Figures("written-times.txt").rows
-    below, above = ([it for it in found.values() if (it > 1) == is_above] for is_above in (False, True))
-    coordinate, integer = (told(*beside(row)) for row in EXAMPLES)
+    below = [it for it in found.values() if it <= 1]
+    coordinate = told(*beside(EXAMPLE))
     price, any_float = (told(*slower_run(row, written[row], lacks=lacks_of_writers)) for row in LOST_EXAMPLES)
+    integers = times("u64, 3 digits", "u64, 1 to", "u64, 8", "u64, 16", "u64, 20", "i32")
     floats = times("f64, ", "f64 with", "f32, ")
-    loss = " and ".join(f"{round(100 * (it - 1))} %" for it in sorted(above))
     return f"""\
 ![Whole texts, and numbers whose end is needed, by what is read](docs/times.svg)
 
-- **You gain** when you read whole texts, or numbers of JSON: for {len(below)} of {len(found)} kinds of numbers no library that does the same work is faster{f"; the other {len(above)} are {loss} slower than by the fastest one" if above else ""}. Through the C library it is {fastest(FROM_C)}, \
-and the others take up to {most(ratios(side=FROM_C))} times as long. A coordinate such as `-12.3456` takes {coordinate}; an integer of 16 digits {integer}. And when you write prices like `%.2f` ({times("%.2f, prices", "%.2f, 3 digits")} times as long as by the fastest other library), or integers that all have 8, 16 or 20 digits ({times("u64, 8", "u64, 16", "u64, 20")}).
-- **It is about even** when you also need where a number ends ({least(ratios(side=READ))} to {most(ratios(side=READ))} times as long), and when you write floats with the fewest digits ({floats}).
-- **You lose** when you write `u64`s of 1 to 4 digits, or of any length by chance ({times("u64, 3 digits", "u64, 1 to")} times as long), `%.2f` of numbers up to 1e22 ({times("%.2f, in [0, 1e22)")}), and floats like `%.6e`, by `write_scientific`: so written, a price takes {price}, a float of random bits {any_float}. [All that is slower](docs/SPEED.md#where-you-lose).
+- **You gain** when you read whole texts, or numbers of JSON: for {len(below)} of {len(found)} kinds of numbers no library that does the same work is faster, and \
+through the C library for {fastest(FROM_C)}. A coordinate such as `-12.3456` takes {coordinate}.
+- **It depends** when you also need where a number ends ({least(ratios(side=READ))} to {most(ratios(side=READ))} times as long as by the fastest other library), and when you write \
+integers ({integers}) or floats with the fewest digits ({floats}).
+- **You lose** when you write floats like `%.6e`: a price takes {price}, and a float of random bits {any_float}.
 
-[SPEED.md](docs/SPEED.md) has each kind of input, the libraries (of Debian 12: fast_float 3.9.0, lexical-core 0.7.6, serde_json 1.0.87), what a call from C costs, and how to \
+[SPEED.md](docs/SPEED.md) has [all that is slower](docs/SPEED.md#where-you-lose), each kind of input, the libraries (of Debian 12: fast_float 3.9.0, lexical-core 0.7.6, serde_json 1.0.87), what a call from C costs, and how to \
 call so that it is fast."""
 
 
