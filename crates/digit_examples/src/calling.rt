@@ -3,8 +3,8 @@
 use digit_uses::calling::{
     COMMA_DIGITS, Field, SEMICOLONS, Typed, field_of, has_port, line_and_column, mean_of,
     parse_address, parse_colors, parse_either, parse_offset, parse_path, parse_price, parse_ranges,
-    parse_size, parse_span, parse_timeout, read_array, read_by_form, read_cents, read_point,
-    read_rate, read_suffixed, sum_lengths, sum_timeouts,
+    parse_size, parse_span, parse_timeout, read_array, read_by_form, read_cents, read_date,
+    read_point, read_rate, read_suffixed, read_time, sum_lengths, sum_nested, sum_timeouts,
 };
 use digit_uses::own::{read_color, read_masks};
 use digit_uses::proving;
@@ -693,6 +693,64 @@ fn offsets(rt: HostRuntime) {
         ("1_u8", 2),
     ] {
         assert!(rt; parse_offset(text.as_bytes()) == Err(fault), "{text}");
+    }
+}
+
+/// Dates, and times.
+#[test]
+fn dates_and_times(rt: HostRuntime) {
+    assert_eq!(rt; read_date(b"2026-11-30,", 0), Ok(((2026, 11, 30), 10)));
+    assert_eq!(rt; read_date(b"on 2024-02-29", 3), Ok(((2024, 2, 29), 13)));
+    assert_eq!(rt; read_date(b"2000-02-29", 0), Ok(((2000, 2, 29), 10)));
+    for (text, fault) in [
+        ("2026-13-01", 5),
+        ("2026-00-01", 5),
+        ("2026-02-29", 8),
+        ("1900-02-29", 8),
+        ("2026-04-31", 8),
+        ("2026-01-00", 8),
+        ("2026-1-01", 6),
+        ("2026/01/01", 4),
+        ("202", 3),
+    ] {
+        assert!(rt; read_date(text.as_bytes(), 0) == Err(fault), "{text}");
+    }
+    assert_eq!(rt; read_time(b"12:05:09", 0), Ok((43509, 8)));
+    assert_eq!(rt; read_time(b"T23:59:59Z", 1), Ok((86399, 9)));
+    for (text, fault) in [
+        ("12:60:00", 3),
+        ("24:00:00", 0),
+        ("1:00:00", 1),
+        ("12:00", 5),
+    ] {
+        assert!(rt; read_time(text.as_bytes(), 0) == Err(fault), "{text}");
+    }
+}
+
+/// Arrays in arrays.
+#[test]
+fn nested_arrays(rt: HostRuntime) {
+    for (text, sum) in [
+        ("[[1, 2.5], [], 3]", 6.5),
+        (" [ [ [1e1] ] ] \n", 10.0),
+        ("[]", 0.0),
+        ("7", 7.0),
+    ] {
+        assert!(rt; sum_nested(text.as_bytes()) == Ok(sum), "{text}");
+    }
+    for (text, fault) in [
+        ("", 0),
+        ("]", 0),
+        ("[1,]", 3),
+        ("[,1]", 1),
+        ("[1 2]", 3),
+        ("[[1]", 4),
+        ("[1]]", 3),
+        ("[1],2", 3),
+        ("[01]", 2),
+        ("[x]", 1),
+    ] {
+        assert!(rt; sum_nested(text.as_bytes()) == Err(fault), "{text}");
     }
 }
 

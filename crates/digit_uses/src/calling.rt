@@ -149,6 +149,54 @@ pub fn sum_timeouts(text: &[u8]) -> Result<u64, (usize, usize)> {
     Ok(sum)
 }
 
+use digits::read_exactly;
+
+/// Reads the date at `start`, and returns where it ends: `2026-11-30,` gives
+/// `((2026, 11, 30), 10)`. The error is the position of the fault. If there is no such month or
+/// day, that is where it begins: 5 in `2026-13-01`, and 8 in `2026-02-29`.
+pub fn read_date(text: &[u8], start: usize) -> Result<((u16, u8, u8), usize), usize> {
+    let year = read_exactly::<u16>(text, start, 10, 4);
+    let (year, at) = year.map_err(|error| error.position())?;
+    let month_at = expect_byte(text, at, b'-')?;
+    let month = read_exactly::<u8>(text, month_at, 10, 2);
+    let (month, at) = month.map_err(|error| error.position())?;
+    let day_at = expect_byte(text, at, b'-')?;
+    let day = read_exactly::<u8>(text, day_at, 10, 2);
+    let (day, end) = day.map_err(|error| error.position())?;
+    let is_leap = year % 4 == 0 && (year % 100 != 0 || year % 400 == 0);
+    let days = match month {
+        1 | 3 | 5 | 7 | 8 | 10 | 12 => 31,
+        4 | 6 | 9 | 11 => 30,
+        2 if is_leap => 29,
+        2 => 28,
+        _ => return Err(month_at),
+    };
+    if day == 0 || day > days {
+        return Err(day_at);
+    }
+    Ok(((year, month, day), end))
+}
+
+/// Reads two digits that are below a limit, and returns where they end.
+fn read_below(text: &[u8], start: usize, limit: u8) -> Result<(u8, usize), usize> {
+    let part = read_exactly::<u8>(text, start, 10, 2);
+    let (part, end) = part.map_err(|error| error.position())?;
+    if part >= limit {
+        return Err(start);
+    }
+    Ok((part, end))
+}
+
+/// Reads the time at `start`, in seconds after midnight, and returns where it ends: `12:05:09`
+/// gives `(43509, 8)`. In `12:60:00` the fault is at 3.
+pub fn read_time(text: &[u8], start: usize) -> Result<(u32, usize), usize> {
+    let (hour, at) = read_below(text, start, 24)?;
+    let (minute, at) = read_below(text, expect_byte(text, at, b':')?, 60)?;
+    let (second, end) = read_below(text, expect_byte(text, at, b':')?, 60)?;
+    let minutes = u32::from(hour) * 60 + u32::from(minute);
+    Ok((minutes * 60 + u32::from(second), end))
+}
+
 use digits::{Integers, has_byte, read_optional};
 
 /// Reads a number with this unit, and returns where the unit ends; without such a part it returns 0
@@ -529,6 +577,58 @@ pub fn parse_path(text: &[u8], out: &mut [[f64; 2]]) -> Result<usize, usize> {
     Err(at)
 }
 
+/// What may come next in a text.
+#[derive(Clone, Copy, PartialEq)]
+enum Next {
+    /// A number or a `[`.
+    Value,
+    /// The same, or a `]`, since a `[` is before it.
+    ValueOrEnd,
+    /// A `,` or a `]`, or the end of the text.
+    Rest,
+}
+
+/// Adds up the numbers of a JSON text of nested arrays: `[[1, 2.5], [], 3]` gives 6.5. The error is
+/// the position of the fault.
+pub fn sum_nested(text: &[u8]) -> Result<f64, usize> {
+    let (mut sum, mut depth, mut next) = (0.0, 0usize, Next::Value);
+    let mut at = past_bytes(text, 0, BLANKS);
+    for _ in text {
+        if at >= text.len() {
+            break;
+        }
+        let end = match next {
+            Next::Value | Next::ValueOrEnd if has_byte(text, at, b'[') => {
+                depth = depth.checked_add(1).ok_or(at)?;
+                next = Next::ValueOrEnd;
+                at + 1
+            }
+            Next::ValueOrEnd | Next::Rest if depth > 0 && has_byte(text, at, b']') => {
+                depth -= 1;
+                next = Next::Rest;
+                at + 1
+            }
+            Next::Rest if depth > 0 && has_byte(text, at, b',') => {
+                next = Next::Value;
+                at + 1
+            }
+            Next::Rest => return Err(at),
+            Next::Value | Next::ValueOrEnd => {
+                let number = read_number_of::<f64>(text, at, forms::JSON);
+                let (number, end) = number.map_err(|error| error.position())?;
+                sum += number.to_float();
+                next = Next::Rest;
+                end
+            }
+        };
+        at = past_bytes(text, end, BLANKS);
+    }
+    match next {
+        Next::Rest if depth == 0 => Ok(sum),
+        _ => Err(at),
+    }
+}
+
 /// Adds up the lengths of a text, and skips their units: `10px 2.5em` gives 12.5.
 pub fn sum_lengths(text: &[u8]) -> Result<f64, NumberError> {
     let mut sum = 0.0;
@@ -547,8 +647,6 @@ pub fn sum_lengths(text: &[u8]) -> Result<f64, NumberError> {
     }
     Ok(sum)
 }
-
-use digits::read_exactly;
 
 /// Reads a text that lists colours, such as `#ff8800, #00ff00`, into the front of a slice, and
 /// returns how many there are. If the slice is too short, the error is where the next one begins.
