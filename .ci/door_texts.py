@@ -486,6 +486,7 @@ NOTES = {
         `let Some(layout) = Layout::decimal().grouped(b',', 3) else { unreachable!() };`.
 
         A `Layout` that you write by its fields has to be valid, and you prove that: a radix from 2 to 36, and no groups, or a separator that is neither 0 nor a digit. These methods do it for you.""",
+    "parse_scaled": "It accepts what [`read_scaled_from`](#read_scaled_from) does, also `12.` and `.5`.",
     "read_scaled_up_to": "It reads what [`read_scaled_from`](#read_scaled_from) reads of an unsigned type: `12.` and `.5` too, and of `-1` the error is `Empty(0)`.",
     "FirstZero": "A separator after the first `0` changes nothing: `0_1` is refused as `01` is.",
     "write_fixed": """

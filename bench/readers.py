@@ -90,7 +90,7 @@ def readme():
 through the C library for {fastest(FROM_C)}. A coordinate such as `-12.3456` takes {coordinate}.
 - **It depends** when you also need where a number ends ({least(ratios(side=READ))} to {most(ratios(side=READ))} times as long as by the fastest other library), and when you write \
 integers ({integers}) or floats with the fewest digits ({floats}).
-- **You lose** when you write floats like `%.6e`: a price takes {price}, and a float of random bits {any_float}.
+- **You lose** when you write `%.2f` of numbers up to 1e22 ({times("%.2f, in [0, 1e22)")}), and floats like `%.6e`: a price takes {price}, and a float of random bits {any_float}.
 
 [SPEED.md](docs/SPEED.md) has [all that is slower](docs/SPEED.md#where-you-lose), each kind of input, the libraries (of Debian 12: fast_float 3.9.0, lexical-core 0.7.6, serde_json 1.0.87), what a call from C costs, and how to \
 call so that it is fast."""
